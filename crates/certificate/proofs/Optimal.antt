@@ -1,0 +1,118 @@
+-- A plan whose loads meet is optimal.
+use native.Mathlib.Numerals.{unary_clauses}
+use Rattle.std.proofs.Common.{◌≡◌, ℕ, ◌+◌, ◌*◌, ◌<◌, ◌≤◌, Bool, true, false, cond, List, [], ◌∷◌, length, get_or, drop, zero, suc, max, min, sum, sum_by, count_by, sym, refl, ap, ◌∙◌, inl, inr, arith}
+use Rattle.std.specs.List.{All}
+use Rattle.std.proofs.lemmas.Bool.{cases_eq, cases_order, cases_lt}
+use Rattle.std.proofs.lemmas.List.Sums.{sum_by-cons}
+use Rattle.std.proofs.lemmas.List.Elements.{All-head, All-tail}
+use Rattle.quorum_set.specs.Sets.{has, Ascends, IsSet}
+use Rattle.quorum_set.specs.Coteries.{QuorumSystem, IsCoterie}
+use Rattle.quorum_set.proofs.SetLemmas.{has-below, has-head, has-tail, Ascends-lower}
+use Rattle.std.proofs.Math.Nat.{mul-le-mul_left, mul-le-mul_right, le_of_mul-le-mul_right, mul_assoc, mul_comm}
+use Rattle.certificate.proofs.LoadLemmas.{least_of-le, greatest_below-le}
+use Rattle.quorum_set.specs.Counts.{greatest_below, count_of, busiest_of}
+use Rattle.certificate.specs.Loads.{weight_on, weight_within, least_of}
+use Rattle.certificate.specs.Certificates.{Weighted, IsCertificate, IsOptimal, cycle_len, voter_total, lightest_quorum, busiest_count}
+
+-- the sum of f over the n numbers from low on
+abbrev pub total_from : ℕ → ℕ → (ℕ → ℕ) → ℕ
+total_from low zero f = 0
+total_from low (suc n) f = f low + total_from (low + 1) n f
+
+total_from-same : (low n : ℕ) (f g : ℕ → ℕ) → ((i : ℕ) → low ≤ i → f i ≡ g i) → total_from low n f ≡ total_from low n g
+total_from-same low zero f g e = refl
+total_from-same low (suc n) f g e = let one = e low (omega arith) in let rest = total_from-same (low + 1) n f g (λ i h. e i (omega arith)) in cc
+
+total_from-zero : (low n : ℕ) → total_from low n (λ i. 0) ≡ 0
+total_from-zero low zero = refl
+total_from-zero low (suc n) = omega (arith, total_from-zero (low + 1) n)
+
+total_from-add : (low n : ℕ) (f g : ℕ → ℕ) → total_from low n (λ i. f i + g i) ≡ total_from low n f + total_from low n g
+total_from-add low zero f g = refl
+total_from-add low (suc n) f g = omega (arith, total_from-add (low + 1) n f g)
+
+-- the members' weights, summed over the quorum or over all numbers
+total_from-members : (low n high : ℕ) (f : ℕ → ℕ) (q : List ℕ) → low + n ≡ high → Ascends low high q → total_from low n (λ i. cond (has q i) (f i) 0) ≡ sum_by f q
+total_from-members low n high f [] e h = total_from-zero low n
+total_from-members low zero high f (x ∷ xs) e h = absurd (omega arith)
+total_from-members low (suc n) high f (x ∷ xs) e h =
+    elim (cases_eq low x) as (λ _. total_from low (suc n) (λ i. cond (has (x ∷ xs) i) (f i) 0) ≡ sum_by f (x ∷ xs)) [
+      | inl at ↦
+          let head = ap (λ b. cond b (f low) 0) (ap (has (x ∷ xs)) at ∙ has-head x xs) in
+          let tail = total_from-same (low + 1) n (λ i. cond (has (x ∷ xs) i) (f i) 0) (λ i. cond (has xs i) (f i) 0)
+          (λ i le. ap (λ b. cond b (f i) 0) (has-tail x xs i (λ same. omega arith))) in
+          let rest = total_from-members (low + 1) n high f xs (omega arith) (Ascends-lower (x + 1) (low + 1) high xs (omega arith) h.2) in
+          omega (arith, head, tail, rest, sum_by-cons f x xs, ap f at)
+      | inr off ↦
+          let above : Ascends (low + 1) high (x ∷ xs) = (omega arith, h.1, h.2) in
+          let none = ap (λ b. cond b (f low) 0) (has-below (low + 1) high (x ∷ xs) low above (omega arith)) in
+          omega (arith, none, total_from-members (low + 1) n high f (x ∷ xs) (omega arith) above)
+    ]
+
+-- a sum over a list is one over its places
+total_from-shift : (low n : ℕ) (f : ℕ → ℕ) → total_from (low + 1) n f ≡ total_from low n (λ i. f (i + 1))
+total_from-shift low zero f = refl
+total_from-shift low (suc n) f = ap (λ t. f (low + 1) + t) (total_from-shift (low + 1) n f)
+
+total_from-list : (b : List ℕ) → total_from 0 (length b) (λ i. get_or b i 0) ≡ sum b
+total_from-list [] = refl
+total_from-list (x ∷ xs) =
+    let shifted = total_from-shift 0 (length xs) (λ i. get_or (x ∷ xs) i 0) in
+    let same = total_from-same 0 (length xs) (λ i. get_or (x ∷ xs) (i + 1) 0) (λ i. get_or xs i 0) (λ i le. simp unary_clauses) in
+    omega (arith, shifted, same, total_from-list xs, sum_by-cons (λ y. y) x xs)
+
+Ascends-high : (low high n : ℕ) (q : List ℕ) → Ascends low high q → All (λ i. i < n) q → Ascends low n q
+Ascends-high low high n [] h small = tt
+Ascends-high low high n (x ∷ xs) h small = (h.0, All-head (λ i. i < n) x xs small, Ascends-high (x + 1) high n xs h.2 (All-tail (λ i. i < n) x xs small))
+
+-- each voter's weight as often as the list names the voter
+abbrev weighed : QuorumSystem → List ℕ → List ℕ → ℕ
+weighed s b list = total_from 0 s.voters (λ i. get_or b i 0 * count_of s i list)
+
+weighed-cons : (s : QuorumSystem) (b : List ℕ) (j : ℕ) (list : List ℕ) → IsCoterie s → j < length s.quorums → weighed s b (j ∷ list) ≡ weight_within b (get_or s.quorums j []) + weighed s b list
+weighed-cons s b j list h lt =
+    let q = get_or s.quorums j [] in
+    let up : Ascends 0 s.voters q = Ascends-high 0 64 s.voters q (h.sets j [] lt) (h.in_range j [] lt) in
+    let split = total_from-same 0 s.voters (λ i. get_or b i 0 * count_of s i (j ∷ list)) (λ i. cond (has q i) (get_or b i 0) 0 + get_or b i 0 * count_of s i list)
+    (λ i le. count_step (has q i) (get_or b i 0) (count_of s i (j ∷ list)) (count_of s i list) (sum_by-cons (λ k. cond (has (get_or s.quorums k []) i) 1 0) j list)) in
+    split ∙ total_from-add 0 s.voters (λ i. cond (has q i) (get_or b i 0) 0) (λ i. get_or b i 0 * count_of s i list)
+    ∙ ap (λ t. t + weighed s b list) (total_from-members 0 s.voters s.voters (λ i. get_or b i 0) q (omega arith) up)
+  where
+    count_step : (h : Bool) (w more less : ℕ) → more ≡ cond h 1 0 + less → w * more ≡ cond h w 0 + w * less
+    count_step true w more less e = rw e (omega arith)
+    count_step false w more less e = rw e (omega arith)
+
+-- each quorum of a list has at least the least weight
+least-weighed : (s : QuorumSystem) (b : List ℕ) (list : List ℕ) → IsCoterie s → All (λ j. j < length s.quorums) list → length list * least_of (weight_within b) s.quorums ≤ weighed s b list
+least-weighed s b [] h small = omega arith
+least-weighed s b (j ∷ list) h small =
+    let lt : j < length s.quorums = All-head (λ j. j < length s.quorums) j list small in
+    omega (arith, weighed-cons s b j list h lt, least_of-le (weight_within b) s.quorums j [] lt, least-weighed s b list h (All-tail (λ j. j < length s.quorums) j list small))
+
+-- a sum of products with factors of at most m
+total_from-bounded : (low n m : ℕ) (f c : ℕ → ℕ) → ((i : ℕ) → i < low + n → c i ≤ m) → total_from low n (λ i. f i * c i) ≤ total_from low n f * m
+total_from-bounded low zero m f c bound = omega arith
+total_from-bounded low (suc n) m f c bound =
+    omega (arith, mul-le-mul_left (f low) (bound low (omega arith)), total_from-bounded (low + 1) n m f c (λ i lt. bound i (omega arith)))
+
+weighed-greatest : (s : QuorumSystem) (b : List ℕ) (list : List ℕ) → length b ≡ s.voters → weighed s b list ≤ sum b * busiest_of s list
+weighed-greatest s b list e =
+    let bounded = total_from-bounded 0 s.voters (busiest_of s list) (λ i. get_or b i 0) (λ i. count_of s i list)
+    (λ i lt. greatest_below-le s.voters (λ i. count_of s i list) i (omega arith)) in
+    let all : total_from 0 s.voters (λ i. get_or b i 0) ≡ sum b = rw (← e) (total_from-list b) in
+    rw all at bounded
+
+-- N * t ≤ B * busiest and m * B = t * D give N * m ≤ busiest * D
+crossed : (n t b top m d : ℕ) → 0 < b → n * t ≤ b * top → m * b ≡ t * d → n * m ≤ top * d
+crossed n t b top m d some low equal =
+    let scaled : n * t * d ≤ b * top * d = mul-le-mul_right d low in
+    let left : n * m * b ≡ n * t * d = mul_assoc n m b ∙ ap (λ x. n * x) equal ∙ sym (mul_assoc n t d) in
+    let right : b * top * d ≡ top * d * b = mul_assoc b top d ∙ mul_comm b (top * d) in
+    le_of_mul-le-mul_right {k = b} (omega (arith, scaled, left, right)) some
+
+-- weights whose loads meet are optimal
+pub IsOptimal-certificate : (w : Weighted) → IsCertificate w → IsOptimal w
+IsOptimal-certificate w h list small =
+    let low = least-weighed w.system w.voter_weights list h.coterie small in
+    let high = weighed-greatest w.system w.voter_weights list h.voters in
+    crossed (length list) (lightest_quorum w) (voter_total w) (busiest_of w.system list) (busiest_count w) (cycle_len w) h.some_voter (omega (arith, low, high)) h.balanced

@@ -1,0 +1,65 @@
+-- Certificates: weights of quorums and of voters that show a plan to be optimal.
+use Rattle.std.specs.Prelude.{◌≡◌, ℕ, ◌+◌, ◌*◌, ◌<◌, ◌≤◌, Bool, not, ◌&&◌, ◌||◌, ◌==◌, nat_lt, if◌then◌else◌, List, [], ◌∷◌, length, sum, Option, None, Some, Result, Ok, Err}
+use Rattle.std.specs.List.{All}
+use Rattle.quorum_set.specs.Coteries.{QuorumSystem, IsCoterie}
+use Rattle.quorum_set.specs.Counts.{greatest_below, busiest_of}
+use Rattle.certificate.specs.Loads.{weight_on, weight_within, least_of}
+use Rattle.certificate.specs.declared.fault.PlanFault.{PlanFault}
+use Rattle.certificate.specs.declared.fault.PlanFault.TheVariants.{WrongLength, TooLarge, Empty, NotOptimal, OutOfMemory}
+
+-- a coterie, a weight for each quorum, and a weight for each voter
+pub record Weighted : Type 0 where
+  pub system : QuorumSystem
+  pub quorum_weights : List ℕ
+  pub voter_weights : List ℕ
+
+-- the length of a cycle: the sum of the quorums' weights
+abbrev pub cycle_len : Weighted → ℕ
+cycle_len w = sum w.quorum_weights
+
+-- the sum of the voters' weights
+abbrev pub voter_total : Weighted → ℕ
+voter_total w = sum w.voter_weights
+
+-- how often the busiest voter is named in a cycle: the greatest weight that lies on the quorums with one voter
+abbrev pub busiest_count : Weighted → ℕ
+busiest_count w = greatest_below w.system.voters (λ i. weight_on i w.system.quorums w.quorum_weights)
+
+-- the least weight of a quorum's members
+abbrev pub lightest_quorum : Weighted → ℕ
+lightest_quorum w = least_of (weight_within w.voter_weights) w.system.quorums
+
+-- the two loads meet
+pub record IsCertificate (w : Weighted) : Type 0 where
+  pub coterie : IsCoterie w.system
+  pub quorums : length w.quorum_weights ≡ length w.system.quorums
+  pub voters : length w.voter_weights ≡ w.system.voters
+  pub some_quorum : 0 < cycle_len w
+  pub few_quorums : cycle_len w ≤ 1000000
+  pub some_voter : 0 < voter_total w
+  pub few_voters : voter_total w ≤ 1000000
+  pub balanced : busiest_count w * voter_total w ≡ lightest_quorum w * cycle_len w
+
+-- what a plan keeps beside its weights
+abbrev pub IsKept : Weighted → ℕ → ℕ → Type 0
+IsKept w len top = IsCertificate w × (len ≡ cycle_len w) × (top ≡ busiest_count w)
+
+-- no list of quorum numbers names its busiest voter less often, for its length, than the cycle
+abbrev pub IsOptimal : Weighted → Type 0
+IsOptimal w = (list : List ℕ) → All (λ j. j < length w.system.quorums) list → length list * busiest_count w ≤ busiest_of w.system list * cycle_len w
+
+-- the first fault of the weights
+abbrev pub weights_fault : Weighted → Option PlanFault
+weights_fault w =
+    if not ((length w.quorum_weights == length w.system.quorums) && (length w.voter_weights == w.system.voters)) then Some WrongLength else
+    if nat_lt 1000000 (cycle_len w) || nat_lt 1000000 (voter_total w) then Some TooLarge else
+    if (cycle_len w == 0) || (voter_total w == 0) then Some Empty else
+    let most = busiest_count w in
+    let least = lightest_quorum w in
+    if not (most * voter_total w == least * cycle_len w) then Some (NotOptimal most (voter_total w) least (cycle_len w)) else None
+
+-- what was answered for the weights: a plan with them, the first fault, or want of memory where there is none
+abbrev pub AnswersPlan : Weighted → Result Weighted PlanFault → Type 0
+AnswersPlan w (Ok p) = (weights_fault w ≡ None) × (p ≡ w)
+AnswersPlan w (Err OutOfMemory) = weights_fault w ≡ None
+AnswersPlan w (Err e) = weights_fault w ≡ Some e

@@ -1,0 +1,3 @@
+pub mod Coteries
+pub mod Counts
+pub mod Sets

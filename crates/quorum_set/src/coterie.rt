@@ -1,0 +1,188 @@
+//! Coteries.
+ghost use Rattle.std.specs.Prelude.{◌≡◌, ◌==◌, ◌<◌, ◌+◌, ◌≤◌, length, None, Some, IfOk, IfNone, MatchResult, position, slice_index_or, slice_get, All};
+ghost use Rattle.quorum_set.specs.Sets.{IsSet};
+ghost use Rattle.quorum_set.specs.Coteries.{IsCoterie, first_outside, first_from, first_pair, are_disjoint, is_one_within, first_fault, coterie_of};
+
+use crate::fault::CoterieFault;
+use crate::qset::QSet;
+use std::alloc::{AllocError, Global};
+use std::marker::Model;
+
+/// A number of voters, and quorums over them.
+#[derive(Drop)]
+pub struct Coterie {
+    voters: usize,
+    quorums: Vec<QSet>,
+}
+
+impl Model for Coterie {
+    ghost use Rattle.quorum_set.specs.Coteries.{QuorumSystem, IsCoterie};
+
+    ghost Value = { QuorumSystem };
+
+    ghost view = { λ a. record { voters = a.voters; quorums = a.quorums.items } };
+
+    ghost invariant = { λ a. IsCoterie (record { voters = a.voters; quorums = a.quorums.items }) };
+}
+
+/// The first set with no members.
+fn first_empty(sets: &[QSet]) -> Option<usize>
+    ensures { result ≡ position (λ s. length s == 0) sets.now }
+{
+    sets.iter().position(|set| set.len() == 0)
+}
+
+/// The first member that is no voter's number.
+fn first_outsider(n: usize, set: &QSet) -> Option<u8>
+    ensures first { result ≡ first_from n set.now }
+    ensures set { IsSet set.now }
+{
+    let members = set.members();
+    for i in members.as_slice() {
+        if n <= usize::from(*i) {
+            return Some(*i);
+        }
+    }
+    None
+}
+
+/// The first set with a member that is no voter's number, and that member.
+fn first_stray(n: usize, sets: &[QSet]) -> Option<(usize, u8)>
+    ensures first { result ≡ first_outside n 0 sets.now }
+    ensures sets { IfNone result (All IsSet sets.now) }
+{
+    for (j, set) in sets.iter().enumerate() {
+        if let Some(i) = first_outsider(n, set) {
+            return Some((j, i));
+        }
+    }
+    None
+}
+
+/// The first of the later sets that has no member in common with this one.
+fn first_disjoint_from(set: &QSet, later: &[QSet]) -> Option<usize>
+    ensures { result ≡ position (are_disjoint set.now) later.now }
+{
+    later.iter().position(|other| !set.meets(other))
+}
+
+/// The first of the later sets of which one is within the other.
+fn first_contained_with(set: &QSet, later: &[QSet]) -> Option<usize>
+    ensures { result ≡ position (is_one_within set.now) later.now }
+{
+    later
+        .iter()
+        .position(|other| set.within(other) || other.within(set))
+}
+
+/// The first pair without a common member.
+fn first_disjoint(sets: &[QSet]) -> Option<(usize, usize)>
+    ensures { result ≡ first_pair are_disjoint 0 sets.now }
+{
+    for (j, set) in sets.iter().enumerate() {
+        if let Some(k) = first_disjoint_from(set, &sets[j + 1..]) {
+            return Some((j, j + 1 + k));
+        }
+    }
+    None
+}
+
+/// The first pair of which one is within the other.
+fn first_contained(sets: &[QSet]) -> Option<(usize, usize)>
+    ensures { result ≡ first_pair is_one_within 0 sets.now }
+{
+    for (j, set) in sets.iter().enumerate() {
+        if let Some(k) = first_contained_with(set, &sets[j + 1..]) {
+            return Some((j, j + 1 + k));
+        }
+    }
+    None
+}
+
+/// Whether the sets are a coterie, and else the first fault.
+fn fault_of(n: usize, sets: &[QSet]) -> Option<CoterieFault>
+    ensures first { result ≡ first_fault n sets.now }
+    ensures sets { IfNone result (All IsSet sets.now) }
+{
+    if n == 0 {
+        return Some(CoterieFault::NoVoters);
+    }
+    if n > 64 {
+        return Some(CoterieFault::TooManyVoters);
+    }
+    if sets.is_empty() {
+        return Some(CoterieFault::NoQuorums);
+    }
+    if sets.len() > 4096 {
+        return Some(CoterieFault::TooManyQuorums);
+    }
+    if let Some(j) = first_empty(sets) {
+        return Some(CoterieFault::EmptyQuorum(j));
+    }
+    if let Some((j, i)) = first_stray(n, sets) {
+        return Some(CoterieFault::VoterOutOfRange(j, i));
+    }
+    if let Some((j, k)) = first_disjoint(sets) {
+        return Some(CoterieFault::Disjoint(j, k));
+    }
+    if let Some((j, k)) = first_contained(sets) {
+        return Some(CoterieFault::Contained(j, k));
+    }
+    None
+}
+
+impl Coterie {
+    /// The coterie of these quorums, or the first fault.
+    pub fn of(n: usize, sets: Vec<QSet>) -> Result<Coterie, CoterieFault>
+        ensures { result ≡ coterie_of n sets.items }
+    {
+        match fault_of(n, sets.as_slice()) {
+            Some(fault) => Err(fault),
+            None => Ok(Coterie {
+                voters: n,
+                quorums: sets,
+            }),
+        }
+    }
+
+    /// The number of voters.
+    pub fn voters(&self) -> usize
+        ensures value { result ≡ self.now.voters }
+        ensures coterie { IsCoterie self.now }
+    {
+        self.voters
+    }
+
+    /// The number of quorums.
+    pub fn count(&self) -> usize
+        ensures value { result ≡ length self.now.quorums }
+        ensures coterie { IsCoterie self.now }
+    {
+        self.quorums.len()
+    }
+
+    /// The quorum with this number.
+    pub fn quorum(&self, j: usize) -> &QSet
+        requires { j < length self.now.quorums }
+        ensures value { slice_get self.now.quorums j ≡ Some result.now }
+        ensures set { IsSet result.now }
+        ensures members { All (λ i. i < self.now.voters) result.now }
+        ensures coterie { IsCoterie self.now }
+    {
+        &self.quorums[j]
+    }
+
+    /// An equal coterie.
+    pub fn copy(&self, alloc: Global) -> Result<Coterie, AllocError>
+        ensures value { IfOk result (λ c. c ≡ self.now) }
+    {
+        let mut quorums = Vec::with_capacity(alloc, self.quorums.len())?;
+        for set in self.quorums.as_slice() {
+            quorums.push(set.copy())?;
+        }
+        Ok(Coterie {
+            voters: self.voters,
+            quorums,
+        })
+    }
+}
