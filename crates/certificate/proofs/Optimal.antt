@@ -10,26 +10,10 @@ use Rattle.quorum_set.specs.Coteries.{QuorumSystem, IsCoterie}
 use Rattle.quorum_set.proofs.SetLemmas.{has-below, has-head, has-tail, Ascends-lower}
 use Rattle.std.proofs.Math.Nat.{mul-le-mul_left, mul-le-mul_right, le_of_mul-le-mul_right, mul_assoc, mul_comm}
 use Rattle.certificate.proofs.LoadLemmas.{least_of-le, greatest_below-le}
+use Rattle.certificate.proofs.Totals.{total_from, total_from-same, total_from-zero, total_from-add, total_from-list}
 use Rattle.quorum_set.specs.Counts.{greatest_below, count_of, busiest_of}
 use Rattle.certificate.specs.Loads.{weight_on, weight_within, least_of}
 use Rattle.certificate.specs.Certificates.{Weighted, IsCertificate, IsOptimal, cycle_len, voter_total, lightest_quorum, busiest_count}
-
--- the sum of f over the n numbers from low on
-abbrev pub total_from : ℕ → ℕ → (ℕ → ℕ) → ℕ
-total_from low zero f = 0
-total_from low (suc n) f = f low + total_from (low + 1) n f
-
-total_from-same : (low n : ℕ) (f g : ℕ → ℕ) → ((i : ℕ) → low ≤ i → f i ≡ g i) → total_from low n f ≡ total_from low n g
-total_from-same low zero f g e = refl
-total_from-same low (suc n) f g e = let one = e low (omega arith) in let rest = total_from-same (low + 1) n f g (λ i h. e i (omega arith)) in cc
-
-total_from-zero : (low n : ℕ) → total_from low n (λ i. 0) ≡ 0
-total_from-zero low zero = refl
-total_from-zero low (suc n) = omega (arith, total_from-zero (low + 1) n)
-
-total_from-add : (low n : ℕ) (f g : ℕ → ℕ) → total_from low n (λ i. f i + g i) ≡ total_from low n f + total_from low n g
-total_from-add low zero f g = refl
-total_from-add low (suc n) f g = omega (arith, total_from-add (low + 1) n f g)
 
 -- the members' weights, summed over the quorum or over all numbers
 total_from-members : (low n high : ℕ) (f : ℕ → ℕ) (q : List ℕ) → low + n ≡ high → Ascends low high q → total_from low n (λ i. cond (has q i) (f i) 0) ≡ sum_by f q
@@ -40,7 +24,7 @@ total_from-members low (suc n) high f (x ∷ xs) e h =
       | inl at ↦
           let head = ap (λ b. cond b (f low) 0) (ap (has (x ∷ xs)) at ∙ has-head x xs) in
           let tail = total_from-same (low + 1) n (λ i. cond (has (x ∷ xs) i) (f i) 0) (λ i. cond (has xs i) (f i) 0)
-          (λ i le. ap (λ b. cond b (f i) 0) (has-tail x xs i (λ same. omega arith))) in
+          (λ i le lt. ap (λ b. cond b (f i) 0) (has-tail x xs i (λ same. omega arith))) in
           let rest = total_from-members (low + 1) n high f xs (omega arith) (Ascends-lower (x + 1) (low + 1) high xs (omega arith) h.2) in
           omega (arith, head, tail, rest, sum_by-cons f x xs, ap f at)
       | inr off ↦
@@ -48,18 +32,6 @@ total_from-members low (suc n) high f (x ∷ xs) e h =
           let none = ap (λ b. cond b (f low) 0) (has-below (low + 1) high (x ∷ xs) low above (omega arith)) in
           omega (arith, none, total_from-members (low + 1) n high f (x ∷ xs) (omega arith) above)
     ]
-
--- a sum over a list is one over its places
-total_from-shift : (low n : ℕ) (f : ℕ → ℕ) → total_from (low + 1) n f ≡ total_from low n (λ i. f (i + 1))
-total_from-shift low zero f = refl
-total_from-shift low (suc n) f = ap (λ t. f (low + 1) + t) (total_from-shift (low + 1) n f)
-
-total_from-list : (b : List ℕ) → total_from 0 (length b) (λ i. get_or b i 0) ≡ sum b
-total_from-list [] = refl
-total_from-list (x ∷ xs) =
-    let shifted = total_from-shift 0 (length xs) (λ i. get_or (x ∷ xs) i 0) in
-    let same = total_from-same 0 (length xs) (λ i. get_or (x ∷ xs) (i + 1) 0) (λ i. get_or xs i 0) (λ i le. simp unary_clauses) in
-    omega (arith, shifted, same, total_from-list xs, sum_by-cons (λ y. y) x xs)
 
 Ascends-high : (low high n : ℕ) (q : List ℕ) → Ascends low high q → All (λ i. i < n) q → Ascends low n q
 Ascends-high low high n [] h small = tt
@@ -74,7 +46,7 @@ weighed-cons s b j list h lt =
     let q = get_or s.quorums j [] in
     let up : Ascends 0 s.voters q = Ascends-high 0 64 s.voters q (h.sets j [] lt) (h.in_range j [] lt) in
     let split = total_from-same 0 s.voters (λ i. get_or b i 0 * count_of s i (j ∷ list)) (λ i. cond (has q i) (get_or b i 0) 0 + get_or b i 0 * count_of s i list)
-    (λ i le. count_step (has q i) (get_or b i 0) (count_of s i (j ∷ list)) (count_of s i list) (sum_by-cons (λ k. cond (has (get_or s.quorums k []) i) 1 0) j list)) in
+    (λ i le lt. count_step (has q i) (get_or b i 0) (count_of s i (j ∷ list)) (count_of s i list) (sum_by-cons (λ k. cond (has (get_or s.quorums k []) i) 1 0) j list)) in
     split ∙ total_from-add 0 s.voters (λ i. cond (has q i) (get_or b i 0) 0) (λ i. get_or b i 0 * count_of s i list)
     ∙ ap (λ t. t + weighed s b list) (total_from-members 0 s.voters s.voters (λ i. get_or b i 0) q (omega arith) up)
   where

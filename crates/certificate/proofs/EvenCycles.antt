@@ -1,0 +1,56 @@
+-- Lists in which each quorum stands as often as its weight says.
+use native.Mathlib.Numerals.{unary_clauses}
+use Rattle.std.proofs.Common.{◌≡◌, ℕ, ◌+◌, ◌*◌, ◌<◌, ◌≤◌, Bool, true, false, cond, List, [], ◌∷◌, length, get_or, zero, suc, max, sym, refl, ap, ◌∙◌, inl, inr, arith}
+use Rattle.std.proofs.lemmas.Bool.{cases_lt}
+use Rattle.std.proofs.lemmas.List.{get_or_past}
+use Rattle.std.proofs.Math.Nat.{mul-le-mul_left}
+use Rattle.quorum_set.specs.Sets.{has}
+use Rattle.quorum_set.specs.Counts.{greatest_below, count_of, busiest_of, times}
+use Rattle.certificate.specs.Loads.{weight_on}
+use Rattle.certificate.specs.Certificates.{Weighted, busiest_count}
+use Rattle.certificate.proofs.Totals.{total_from, total_from-same, total_from-zero, total_from-shift, total_from-times, count_by-total}
+
+-- the weight on the quorums with a voter, summed quorum by quorum
+weight_on-total : (i : ℕ) (qs : List (List ℕ)) (ws : List ℕ) → length ws ≡ length qs → weight_on i qs ws ≡ total_from 0 (length qs) (λ j. cond (has (get_or qs j []) i) (get_or ws j 0) 0)
+weight_on-total i [] ws e = refl
+weight_on-total i (q ∷ qs) [] e = absurd (omega arith)
+weight_on-total i (q ∷ qs) (x ∷ ws) e =
+    let all : ℕ → ℕ = λ j. cond (has (get_or (q ∷ qs) j []) i) (get_or (x ∷ ws) j 0) 0 in
+    let shifted = total_from-shift 0 (length qs) all in
+    let same = total_from-same 0 (length qs) (λ j. all (j + 1)) (λ j. cond (has (get_or qs j []) i) (get_or ws j 0) 0) (λ j le lt. simp unary_clauses) in
+    omega (arith, shifted, same, weight_on-total i qs ws (omega arith))
+
+cond-times : (b : Bool) (k x y : ℕ) → x ≡ k * y → cond b x 0 ≡ k * cond b y 0
+cond-times true k x y e = e
+cond-times false k x y e = omega arith
+
+pub count_of-even : (w : Weighted) (k : ℕ) (list : List ℕ) → length w.quorum_weights ≡ length w.system.quorums → ((j : ℕ) → times j list ≡ k * get_or w.quorum_weights j 0)
+    → (i : ℕ) → count_of w.system i list ≡ k * weight_on i w.system.quorums w.quorum_weights
+count_of-even w k list e stands i =
+    let qs = w.system.quorums in
+    let ws = w.quorum_weights in
+    count_by-total (λ j. has (get_or qs j []) i) (length qs) (λ j past. ap (λ q. has q i) (get_or_past qs j [] past)) list
+    ∙ total_from-same 0 (length qs) (λ j. cond (has (get_or qs j []) i) (times j list) 0) (λ j. k * cond (has (get_or qs j []) i) (get_or ws j 0) 0)
+    (λ j le lt. cond-times (has (get_or qs j []) i) k (times j list) (get_or ws j 0) (stands j))
+    ∙ total_from-times 0 (length qs) k (λ j. cond (has (get_or qs j []) i) (get_or ws j 0) 0)
+    ∙ ap (λ t. k * t) (sym (weight_on-total i qs ws e))
+
+max-times : (k a b : ℕ) → max (k * a) (k * b) ≡ k * max a b
+max-times k a b =
+    elim (cases_lt a b) as (λ _. max (k * a) (k * b) ≡ k * max a b) [
+      | inl less ↦ let most : max a b ≡ b = omega arith in let le : k * a ≤ k * b = mul-le-mul_left k (omega arith) in rw most (omega arith)
+      | inr more ↦ let most : max a b ≡ a = omega arith in let le : k * b ≤ k * a = mul-le-mul_left k more in rw most (omega arith)
+    ]
+
+greatest_below-times : (n k : ℕ) (f g : ℕ → ℕ) → ((i : ℕ) → f i ≡ k * g i) → greatest_below n f ≡ k * greatest_below n g
+greatest_below-times zero k f g e = omega arith
+greatest_below-times (suc n) k f g e =
+    let rest = greatest_below-times n k f g e in
+    let last = e n in
+    let most = max-times k (greatest_below n g) (g n) in
+    cc
+
+pub busiest_of-even : (w : Weighted) (k : ℕ) (list : List ℕ) → length w.quorum_weights ≡ length w.system.quorums → ((j : ℕ) → times j list ≡ k * get_or w.quorum_weights j 0)
+    → busiest_of w.system list ≡ k * busiest_count w
+busiest_of-even w k list e stands =
+    greatest_below-times w.system.voters k (λ i. count_of w.system i list) (λ i. weight_on i w.system.quorums w.quorum_weights) (count_of-even w k list e stands)

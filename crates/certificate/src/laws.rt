@@ -1,0 +1,15 @@
+//! Laws of the definitions.
+ghost use Rattle.std.specs.Prelude.{◌≡◌, ◌*◌, ℕ, List, length, slice_index};
+ghost use Rattle.quorum_set.specs.Counts.{count_of, busiest_of, times};
+ghost use Rattle.certificate.specs.Certificates.{Weighted, busiest_count};
+ghost use Rattle.certificate.specs.Loads.{weight_on};
+
+/// A list in which each quorum stands k times its weight names each voter k times the weight on its
+/// quorums, and its busiest voter k times the busiest count.
+///
+/// With k = 1: the busiest count is the greatest count of a voter in any list in which each quorum
+/// stands as often as its weight.
+pub fn whole_cycles_are_even()
+    ensures counts { (w : Weighted) (k : ℕ) (list : List ℕ) → length w.quorum_weights ≡ length w.system.quorums → ((j : ℕ) → times j list ≡ k * slice_index w.quorum_weights j) → (i : ℕ) → count_of w.system i list ≡ k * weight_on i w.system.quorums w.quorum_weights }
+    ensures busiest { (w : Weighted) (k : ℕ) (list : List ℕ) → length w.quorum_weights ≡ length w.system.quorums → ((j : ℕ) → times j list ≡ k * slice_index w.quorum_weights j) → busiest_of w.system list ≡ k * busiest_count w }
+{}
