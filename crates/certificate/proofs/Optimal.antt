@@ -1,18 +1,17 @@
 -- A plan whose loads meet is optimal.
-use native.Mathlib.Numerals.{unary_clauses}
-use Rattle.std.proofs.Common.{◌≡◌, ℕ, ◌+◌, ◌*◌, ◌<◌, ◌≤◌, Bool, true, false, cond, List, [], ◌∷◌, length, get_or, drop, zero, suc, max, min, sum, sum_by, count_by, sym, refl, ap, ◌∙◌, inl, inr, arith}
+use Rattle.std.proofs.Common.{◌≡◌, ℕ, ◌+◌, ◌*◌, ◌<◌, ◌≤◌, Bool, true, false, cond, List, [], ◌∷◌, length, get_or, zero, suc, sum, sum_by, sym, ap, ◌∙◌, inl, inr, arith}
 use Rattle.std.specs.List.{All}
-use Rattle.std.proofs.lemmas.Bool.{cases_eq, cases_order, cases_lt}
+use Rattle.std.proofs.lemmas.Bool.{cases_eq}
 use Rattle.std.proofs.lemmas.List.Sums.{sum_by-cons}
 use Rattle.std.proofs.lemmas.List.Elements.{All-head, All-tail}
-use Rattle.quorum_set.specs.Sets.{has, Ascends, IsSet}
+use Rattle.quorum_set.specs.Sets.{has, Ascends}
 use Rattle.quorum_set.specs.Coteries.{QuorumSystem, IsCoterie}
 use Rattle.quorum_set.proofs.SetLemmas.{has-below, has-head, has-tail, Ascends-lower}
 use Rattle.std.proofs.Math.Nat.{mul-le-mul_left, mul-le-mul_right, le_of_mul-le-mul_right, mul_assoc, mul_comm}
 use Rattle.certificate.proofs.LoadLemmas.{least_of-le, greatest_below-le}
 use Rattle.certificate.proofs.Totals.{total_from, total_from-same, total_from-zero, total_from-add, total_from-list}
-use Rattle.quorum_set.specs.Counts.{greatest_below, count_of, busiest_of}
-use Rattle.certificate.specs.Loads.{weight_on, weight_within, least_of}
+use Rattle.quorum_set.specs.Counts.{count_of, busiest_of}
+use Rattle.certificate.specs.Loads.{weight_within, least_of}
 use Rattle.certificate.specs.Certificates.{Weighted, IsCertificate, IsOptimal, cycle_len, voter_total, lightest_quorum, busiest_count}
 
 -- the members' weights, summed over the quorum or over all numbers

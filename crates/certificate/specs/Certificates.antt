@@ -1,8 +1,9 @@
 -- Certificates: weights of quorums and of voters that show a plan to be optimal.
-use Rattle.std.specs.Prelude.{◌≡◌, ℕ, ◌+◌, ◌*◌, ◌<◌, ◌≤◌, Bool, not, ◌&&◌, ◌||◌, ◌==◌, nat_lt, if◌then◌else◌, List, [], ◌∷◌, length, sum, Option, None, Some, Result, Ok, Err}
+use Rattle.std.specs.Prelude.{◌≡◌, ℕ, ◌*◌, ◌<◌, ◌≤◌, not, ◌&&◌, ◌||◌, ◌==◌, nat_lt, if◌then◌else◌, List, length, sum, Option, None, Some, Result, Ok, Err}
 use Rattle.std.specs.List.{All}
 use Rattle.quorum_set.specs.Coteries.{QuorumSystem, IsCoterie}
 use Rattle.quorum_set.specs.Counts.{greatest_below, busiest_of}
+use Rattle.certificate.specs.Gcd.{lowest_terms}
 use Rattle.certificate.specs.Loads.{weight_on, weight_within, least_of}
 use Rattle.certificate.specs.declared.fault.PlanFault.{PlanFault}
 use Rattle.certificate.specs.declared.fault.PlanFault.TheVariants.{WrongLength, TooLarge, Empty, NotOptimal, OutOfMemory}
@@ -29,7 +30,9 @@ busiest_count w = greatest_below w.system.voters (λ i. weight_on i w.system.quo
 abbrev pub lightest_quorum : Weighted → ℕ
 lightest_quorum w = least_of (weight_within w.voter_weights) w.system.quorums
 
--- the two loads meet
+-- The weights show that a cycle is as even as can be: in any list of quorums each voter's count, weighed by the voters'
+-- weights, sums to at least the lightest quorum's weight for each quorum, and here the cycle reaches that bound. It is the
+-- duality of linear programs by which Naor and Wool (SIAM J. Comput. 27(2), 1998) determine the load, in whole numbers.
 pub record IsCertificate (w : Weighted) : Type 0 where
   pub coterie : IsCoterie w.system
   pub quorums : length w.quorum_weights ≡ length w.system.quorums
@@ -48,15 +51,18 @@ IsKept w len top = IsCertificate w × (len ≡ cycle_len w) × (top ≡ busiest_
 abbrev pub IsOptimal : Weighted → Type 0
 IsOptimal w = (list : List ℕ) → All (λ j. j < length w.system.quorums) list → length list * busiest_count w ≤ busiest_of w.system list * cycle_len w
 
+-- the load, in lowest terms: the part of a cycle's quorums that names the busiest voter
+abbrev pub load_of : Weighted → ℕ × ℕ
+load_of w = lowest_terms (busiest_count w) (cycle_len w)
+
 -- the first fault of the weights
 abbrev pub weights_fault : Weighted → Option PlanFault
 weights_fault w =
     if not ((length w.quorum_weights == length w.system.quorums) && (length w.voter_weights == w.system.voters)) then Some WrongLength else
     if nat_lt 1000000 (cycle_len w) || nat_lt 1000000 (voter_total w) then Some TooLarge else
     if (cycle_len w == 0) || (voter_total w == 0) then Some Empty else
-    let most = busiest_count w in
-    let least = lightest_quorum w in
-    if not (most * voter_total w == least * cycle_len w) then Some (NotOptimal most (voter_total w) least (cycle_len w)) else None
+    if not (busiest_count w * voter_total w == lightest_quorum w * cycle_len w)
+    then Some (NotOptimal (busiest_count w) (voter_total w) (lightest_quorum w) (cycle_len w)) else None
 
 -- what was answered for the weights: a plan with them, the first fault, or want of memory where there is none
 abbrev pub AnswersPlan : Weighted → Result Weighted PlanFault → Type 0

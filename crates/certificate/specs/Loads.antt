@@ -1,6 +1,5 @@
 -- Sums of weights: on the quorums with a voter, and within a quorum.
-use Rattle.std.specs.Prelude.{ℕ, ◌+◌, ◌*◌, ◌<◌, ◌≤◌, Bool, List, [], ◌∷◌, length, max, min, count_by, sum, sum_by, slice_index_or, slice_index, if◌then◌else◌, zero, suc}
-use Rattle.std.specs.List.{All}
+use Rattle.std.specs.Prelude.{ℕ, ◌+◌, List, [], ◌∷◌, min, sum_by, slice_index, if◌then◌else◌}
 use Rattle.quorum_set.specs.Sets.{has}
 
 -- the least value of f on the list, or 0

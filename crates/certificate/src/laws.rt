@@ -1,7 +1,8 @@
 //! Laws of the definitions.
-ghost use Rattle.std.specs.Prelude.{◌≡◌, ◌*◌, ℕ, List, length, slice_index};
+ghost use Rattle.std.specs.Prelude.{◌≡◌, ◌*◌, ◌↔◌, ℕ, List, None, length, slice_index};
+ghost use Rattle.quorum_set.specs.Coteries.{IsCoterie};
 ghost use Rattle.quorum_set.specs.Counts.{count_of, busiest_of, times};
-ghost use Rattle.certificate.specs.Certificates.{Weighted, busiest_count};
+ghost use Rattle.certificate.specs.Certificates.{Weighted, IsCertificate, weights_fault, busiest_count};
 ghost use Rattle.certificate.specs.Loads.{weight_on};
 
 /// A list in which each quorum stands k times its weight names each voter k times the weight on its
@@ -12,4 +13,9 @@ ghost use Rattle.certificate.specs.Loads.{weight_on};
 pub fn whole_cycles_are_even()
     ensures counts { (w : Weighted) (k : ℕ) (list : List ℕ) → length w.quorum_weights ≡ length w.system.quorums → ((j : ℕ) → times j list ≡ k * slice_index w.quorum_weights j) → (i : ℕ) → count_of w.system i list ≡ k * weight_on i w.system.quorums w.quorum_weights }
     ensures busiest { (w : Weighted) (k : ℕ) (list : List ℕ) → length w.quorum_weights ≡ length w.system.quorums → ((j : ℕ) → times j list ≡ k * slice_index w.quorum_weights j) → busiest_of w.system list ≡ k * busiest_count w }
+{}
+
+/// Weights of a coterie have no fault exactly where they are a certificate.
+pub fn certificates_have_no_fault()
+    ensures { (w : Weighted) → IsCoterie w.system → (weights_fault w ≡ None) ↔ IsCertificate w }
 {}

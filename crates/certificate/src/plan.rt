@@ -1,16 +1,17 @@
 //! Plans.
-ghost use Rattle.std.specs.Prelude.{◌≡◌, ◌==◌, ◌<◌, ◌+◌, ◌≤◌, length, None, Some, IfOk, IfNone, sum, sum_by, slice_get, slice_index, All, SomeIff};
-ghost use Rattle.quorum_set.specs.Coteries.{IsCoterie};
-ghost use Rattle.quorum_set.specs.Counts.{greatest_below};
-ghost use Rattle.certificate.specs.Loads.{weight_on, weight_within, least_of};
-ghost use Rattle.certificate.specs.Certificates.{IsCertificate, IsOptimal, AnswersPlan, cycle_len, busiest_count};
+ghost use Rattle.std.specs.Prelude.{◌≡◌, ◌*◌, ◌<◌, length, IfOk, slice_index};
+ghost use Rattle.std.specs.Int.{IsGcd};
+ghost use Rattle.certificate.specs.Certificates.{IsCertificate, IsOptimal, AnswersPlan, cycle_len, busiest_count, load_of};
 
+use crate::divisor::gcd;
 use crate::fault::PlanFault;
-use quorum_set::{Coterie, QSet};
+use crate::loads::{busiest_count, lightest_quorum, total};
+use quorum_set::Coterie;
 use std::alloc::{AllocError, Global};
 use std::marker::Model;
 
-/// A coterie with weights whose loads meet.
+/// A coterie with a weight for each quorum and, as a certificate that these are optimal, one for each voter.
+/// Contracts see the three.
 #[derive(Drop)]
 pub struct Plan {
     coterie: Coterie,
@@ -30,83 +31,12 @@ impl Model for Plan {
     ghost invariant = { λ p. IsKept (record { system = p.coterie; quorum_weights = p.quorum_weights.items; voter_weights = p.voter_weights.items }) p.cycle_len p.busiest };
 }
 
-const LARGEST: u64 = 1_000_000;
-
-/// The sum of the weights, where it is not too large.
-fn total(weights: &[u64]) -> Option<u64>
-    ensures { SomeIff result (sum weights.now ≤ 1000000) (sum weights.now) }
-{
-    let mut total = 0;
-    for weight in weights {
-        if *weight > LARGEST - total {
-            return None;
-        }
-        total += *weight;
-    }
-    Some(total)
-}
-
-/// The weight that lies on the quorums with this voter.
-fn load_of(coterie: &Coterie, weights: &[u64], voter: u8) -> u64
-    requires lengths { length weights.now ≡ length coterie.now.quorums }
-    requires small { sum weights.now ≤ 1000000 }
-    ensures load { result ≡ weight_on voter coterie.now.quorums weights.now }
-    ensures small { result ≤ sum weights.now }
-{
-    let mut load = 0;
-    for (j, weight) in weights.iter().enumerate() {
-        if coterie.quorum(j).has(voter) {
-            load += *weight;
-        }
-    }
-    load
-}
-
-/// The greatest load of a voter.
-fn greatest_load_of(coterie: &Coterie, weights: &[u64]) -> u64
-    requires lengths { length weights.now ≡ length coterie.now.quorums }
-    requires small { sum weights.now ≤ 1000000 }
-    ensures load { result ≡ greatest_below coterie.now.voters (λ i. weight_on i coterie.now.quorums weights.now) }
-    ensures small { result ≤ sum weights.now }
-{
-    let mut greatest = 0;
-    for voter in 0..coterie.voters() {
-        greatest = greatest.max(load_of(coterie, weights, voter as u8));
-    }
-    greatest
-}
-
-/// The weight of the members of a quorum.
-fn weight_in(quorum: &QSet, weights: &[u64]) -> u64
-    requires members { All (λ i. i < length weights.now) quorum.now }
-    requires small { sum weights.now ≤ 1000000 }
-    ensures weight { result ≡ weight_within weights.now quorum.now }
-    ensures small { result ≤ 64000000 }
-{
-    let members = quorum.members();
-    let mut weight = 0;
-    for i in members.as_slice() {
-        weight += weights[usize::from(*i)];
-    }
-    weight
-}
-
-/// The least weight of a quorum's members.
-fn least_weight_of(coterie: &Coterie, weights: &[u64]) -> u64
-    requires coterie { IsCoterie coterie.now }
-    requires lengths { length weights.now ≡ coterie.now.voters }
-    requires small { sum weights.now ≤ 1000000 }
-    ensures weight { result ≡ least_of (weight_within weights.now) coterie.now.quorums }
-    ensures small { result ≤ 64000000 }
-{
-    let mut least = weight_in(coterie.quorum(0), weights);
-    for j in 1..coterie.count() {
-        least = least.min(weight_in(coterie.quorum(j), weights));
-    }
-    least
-}
-
-/// The plan of these weights, or the first fault.
+/// Checks weights of the quorums against weights of the voters, and answers the plan that has both and a copy of
+/// the coterie.
+///
+/// Refused are, in this order: a list of another length than the coterie has quorums or voters (`WrongLength`); a
+/// sum above 1,000,000 (`TooLarge`); a sum of 0 (`Empty`); weights that are no certificate (`NotOptimal`). Want of
+/// memory comes last.
 pub fn check(
     alloc: Global,
     coterie: &Coterie,
@@ -136,16 +66,21 @@ fn plan_of(
     let Some(cycle_len) = total(&quorum_weights) else {
         return Err(PlanFault::TooLarge);
     };
-    let Some(voters_total) = total(&voter_weights) else {
+    let Some(voter_total) = total(&voter_weights) else {
         return Err(PlanFault::TooLarge);
     };
-    if cycle_len == 0 || voters_total == 0 {
+    if cycle_len == 0 || voter_total == 0 {
         return Err(PlanFault::Empty);
     }
-    let busiest = greatest_load_of(coterie, &quorum_weights);
-    let least = least_weight_of(coterie, &voter_weights);
-    if busiest * voters_total != least * cycle_len {
-        return Err(PlanFault::NotOptimal(busiest, voters_total, least, cycle_len));
+    let busiest_count = busiest_count(coterie, &quorum_weights);
+    let lightest_quorum = lightest_quorum(coterie, &voter_weights);
+    if busiest_count * voter_total != lightest_quorum * cycle_len {
+        return Err(PlanFault::NotOptimal {
+            busiest_count,
+            voter_total,
+            lightest_quorum,
+            cycle_len,
+        });
     }
     let Ok(coterie) = coterie.copy(alloc) else {
         return Err(PlanFault::OutOfMemory);
@@ -155,7 +90,7 @@ fn plan_of(
         quorum_weights,
         voter_weights,
         cycle_len,
-        busiest,
+        busiest: busiest_count,
     })
 }
 
@@ -168,7 +103,7 @@ impl Plan {
         &self.coterie
     }
 
-    /// The length of a cycle.
+    /// The length of a cycle: the sum of the quorums' weights, 1 to 1,000,000.
     pub fn cycle_len(&self) -> u64
         ensures value { result ≡ cycle_len self.now }
         ensures certificate { IsCertificate self.now }
@@ -176,20 +111,58 @@ impl Plan {
         self.cycle_len
     }
 
-    /// How often the busiest voter is in a cycle.
+    /// How often a cycle names its busiest voter.
     pub fn busiest(&self) -> u64
         ensures value { result ≡ busiest_count self.now }
         ensures certificate { IsCertificate self.now }
+        // No list of quorums names its busiest voter less often, for its length.
+        ensures optimal { IsOptimal self.now }
     {
         self.busiest
     }
 
-    /// The weight of a quorum.
+    /// The load: which part of a cycle's quorums names the busiest voter, as a numerator and a
+    /// denominator in lowest terms.
+    pub fn load(&self) -> (u64, u64)
+        ensures value { result ≡ load_of self.now }
+        ensures exact { result.0 * cycle_len self.now ≡ busiest_count self.now * result.1 }
+        ensures lowest { IsGcd result.0 result.1 1 }
+        ensures certificate { IsCertificate self.now }
+        ensures optimal { IsOptimal self.now }
+    {
+        let common = gcd(self.busiest, self.cycle_len);
+        (self.busiest / common, self.cycle_len / common)
+    }
+
+    /// The weight of a quorum: how often a cycle names it.
     pub fn weight(&self, j: usize) -> u64
         requires { j < length self.now.system.quorums }
         ensures value { result ≡ slice_index self.now.quorum_weights j }
         ensures certificate { IsCertificate self.now }
     {
         self.quorum_weights[j]
+    }
+
+    /// The weight of a voter in the certificate.
+    pub fn voter_weight(&self, i: u8) -> u64
+        requires { i < self.now.system.voters }
+        ensures value { result ≡ slice_index self.now.voter_weights i }
+        ensures certificate { IsCertificate self.now }
+    {
+        self.voter_weights[usize::from(i)]
+    }
+
+    /// An equal plan.
+    pub fn copy(&self, alloc: Global) -> Result<Plan, AllocError>
+        ensures value { IfOk result (λ p. p ≡ self.now) }
+        ensures certificate { IsCertificate self.now }
+    {
+        Ok(Plan {
+            coterie: self.coterie.copy(alloc)?,
+            quorum_weights: self.quorum_weights.as_slice().to_vec(alloc)?,
+            voter_weights: self.voter_weights.as_slice().to_vec(alloc)?,
+            cycle_len: self.cycle_len,
+            busiest: self.busiest,
+        })
     }
 }

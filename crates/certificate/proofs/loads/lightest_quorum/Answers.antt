@@ -1,8 +1,8 @@
-use Rattle.std.proofs.Common.{◌≡◌, [], ap, sym, ◌∙◌, arith, get_or}
+use Rattle.std.proofs.Common.{[], ap, arith}
 use Rattle.std.proofs.lemmas.Option.{get_or_from_slice_get}
 use Rattle.certificate.specs.Loads.{weight_within}
 use Rattle.certificate.proofs.LoadLemmas.{least_of_more}
-use Rattle.certificate.proofs.plan.least_weight_of.Goals as goal
+use Rattle.certificate.proofs.loads.lightest_quorum.Goals as goal
 
 pub loop-j-preserved : goal.loop-j-preserved
 loop-j-preserved c =

@@ -1,0 +1,98 @@
+-- Lemmas on the greatest common divisor.
+use Rattle.std.proofs.Common.{◌≡◌, ℕ, ◌+◌, ◌*◌, ◌/◌, ◌%◌, ◌<◌, ◌≤◌, Bool, true, false, cond, ◌&&◌, eqb, zero, suc, sym, refl, ap, subst, ◌∙◌, inl, inr, arith}
+use Rattle.std.proofs.lemmas.Bool.{cases_eq, cases_lt, eq-eqb, eqb-true, true≢false}
+use Rattle.std.specs.Int.{IsGcd, ◌∣◌}
+use Rattle.std.proofs.lemmas.Nat.Gcd.{dvd-zero, le_of_dvd, dvd_of_mod-eq-zero, mod-eq-zero_of_dvd, le_from_IsGcd}
+use Rattle.std.proofs.Math.Nat.{eq-zero_of_zero-dvd, one-dvd, mul-dvd-mul_left, dvd_of_mul-dvd-mul_left, mul-div_cancel', mul_assoc, mul_comm}
+use Rattle.certificate.specs.Gcd.{common_divisor_up_to, gcd_of}
+
+both_mod : (a b d : ℕ) → d ∣ a → d ∣ b → eqb (a % d) 0 && eqb (b % d) 0 ≡ true
+both_mod a b d da db = rw (eq-eqb _ 0 (mod-eq-zero_of_dvd d da), eq-eqb _ 0 (mod-eq-zero_of_dvd d db)) refl
+
+and_parts : (x y : Bool) → x && y ≡ true → (x ≡ true) × (y ≡ true)
+and_parts true y e = (refl, e)
+and_parts false y e = cc
+
+-- where the greatest common divisor is not above n, the search from n down finds it
+found_up_to : (n a b g : ℕ) → IsGcd a b g → 0 < g → g ≤ n → common_divisor_up_to n a b ≡ g
+unfolding common_divisor_up_to
+found_up_to zero a b g is some le = absurd (omega arith)
+found_up_to (suc n) a b g is some le = by (eqb (a % suc n) 0 && eqb (b % suc n) 0) refl (found_up_to n a b g is some)
+  where
+    by : (t : Bool) → eqb (a % suc n) 0 && eqb (b % suc n) 0 ≡ t → (g ≤ n → common_divisor_up_to n a b ≡ g) → cond t (suc n) (common_divisor_up_to n a b) ≡ g
+    by true e below =
+        let parts = and_parts (eqb (a % suc n) 0) (eqb (b % suc n) 0) e in
+        let most = le_from_IsGcd a b g (suc n) is some (dvd_of_mod-eq-zero (suc n) (eqb-true _ 0 parts.0)) (dvd_of_mod-eq-zero (suc n) (eqb-true _ 0 parts.1)) in
+        omega arith
+    by false e below =
+        elim (cases_eq g (suc n)) [
+          | inl at ↦ let passes = subst (λ d. eqb (a % d) 0 && eqb (b % d) 0 ≡ true) at (both_mod a b g is.0 is.1) in absurd (true≢false (sym passes ∙ e))
+          | inr off ↦ below (omega arith)
+        ]
+
+no_divisor : (a b : ℕ) → a ≡ 0 → b ≡ 0 → gcd_of a b ≡ 0
+unfolding gcd_of common_divisor_up_to
+no_divisor a b ea eb = rw (ea, eb) refl
+
+-- the greatest common divisor is the one number that divides both and that each common divisor divides
+pub gcd_of-IsGcd : (a b g : ℕ) → IsGcd a b g → g ≡ gcd_of a b
+unfolding gcd_of
+gcd_of-IsGcd a b g is =
+    elim (cases_eq g 0) [
+      | inl none ↦
+          let at_a : a ≡ 0 = eq-zero_of_zero-dvd (subst (λ d. d ∣ a) none is.0) in
+          let at_b : b ≡ 0 = eq-zero_of_zero-dvd (subst (λ d. d ∣ b) none is.1) in
+          none ∙ sym (no_divisor a b at_a at_b)
+      | inr some ↦ sym (found_up_to (a + b) a b g is (omega arith) (not_above a b g is (omega arith)))
+    ]
+  where
+    not_above : (a b g : ℕ) → IsGcd a b g → 0 < g → g ≤ a + b
+    not_above a b g is some =
+        elim (cases_lt 0 a) [
+          | inl pos ↦ let le = le_of_dvd pos is.0 in omega arith
+          | inr low ↦
+              elim (cases_lt 0 b) [
+                | inl pos ↦ let le = le_of_dvd pos is.1 in omega arith
+                | inr flat ↦
+                    let at_a : 0 ≡ a = omega arith in
+                    let at_b : 0 ≡ b = omega arith in
+                    let le = le_of_dvd some (is.2 (suc g) (subst (λ x. suc g ∣ x) at_a (dvd-zero (suc g))) (subst (λ x. suc g ∣ x) at_b (dvd-zero (suc g)))) in
+                    omega arith
+              ]
+        ]
+
+-- the greatest common divisor of a number that is not 0 is not 0
+pub gcd-some : (a b g : ℕ) → IsGcd a b g → 0 < b → 0 < g
+gcd-some a b g is some =
+    elim (cases_lt 0 g) [
+      | inl pos ↦ pos
+      | inr low ↦
+          let none : g ≡ 0 = omega arith in
+          let at_b : b ≡ 0 = eq-zero_of_zero-dvd (subst (λ d. d ∣ b) none is.1) in
+          omega arith
+    ]
+
+-- both numbers, divided by their greatest common divisor, have none but 1
+pub lowest-IsGcd : (a b g : ℕ) → IsGcd a b g → 0 < g → IsGcd (a / g) (b / g) 1
+lowest-IsGcd a b g is some = (
+  one-dvd (a / g),
+  one-dvd (b / g),
+  λ d da db.
+      let to_a = subst (λ x. g * d ∣ x) (mul-div_cancel' g is.0) (mul-dvd-mul_left d g da) in
+      let to_b = subst (λ x. g * d ∣ x) (mul-div_cancel' g is.1) (mul-dvd-mul_left d g db) in
+      let to_g = subst (λ x. g * d ∣ x) (sym (mul_one g)) (is.2 (g * d) to_a to_b) in
+      dvd_of_mul-dvd-mul_left d some to_g,
+)
+  where
+    mul_one : (g : ℕ) → g * 1 ≡ g
+    mul_one g = omega arith
+
+-- the quotients are in the numbers' ratio
+pub lowest-exact : (a b g : ℕ) → IsGcd a b g → (a / g) * b ≡ a * (b / g)
+lowest-exact a b g is =
+    let left : (a / g) * b ≡ (a / g) * (g * (b / g)) = ap (λ x. (a / g) * x) (sym (mul-div_cancel' g is.1)) in
+    let right : a * (b / g) ≡ (g * (a / g)) * (b / g) = ap (λ x. x * (b / g)) (sym (mul-div_cancel' g is.0)) in
+    left ∙ regroup (a / g) g (b / g) ∙ sym right
+  where
+    regroup : (x g y : ℕ) → x * (g * y) ≡ (g * x) * y
+    regroup x g y = sym (mul_assoc x g y) ∙ ap (λ t. t * y) (mul_comm x g)

@@ -1,0 +1,5 @@
+use Rattle.certificate.proofs.FaultLaws.{IsCertificate-weights_fault, weights_fault-IsCertificate}
+use Rattle.certificate.proofs.laws.certificates_have_no_fault.Goals as goal
+
+pub returns : goal.returns
+returns c = λ w coterie. (IsCertificate-weights_fault w coterie, weights_fault-IsCertificate w)

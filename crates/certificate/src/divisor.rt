@@ -1,0 +1,20 @@
+//! The greatest common divisor.
+ghost use Rattle.std.specs.Prelude.{◌≡◌};
+ghost use Rattle.std.specs.Int.{IsGcd};
+ghost use Rattle.certificate.specs.Gcd.{gcd_of};
+
+/// The greatest common divisor of two numbers, by Euclid's algorithm. `gcd(x, 0)` is `x`, also where `x` is 0.
+pub fn gcd(a: u64, b: u64) -> u64
+    ensures value { result ≡ gcd_of a b }
+    // It divides both, and each common divisor divides it.
+    ensures divisor { IsGcd a b result }
+{
+    let mut greater = a;
+    let mut less = b;
+    'steps: while less != 0 {
+        let rest = greater % less;
+        greater = less;
+        less = rest;
+    }
+    greater
+}

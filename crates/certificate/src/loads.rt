@@ -1,0 +1,84 @@
+//! Sums of weights: on the quorums with a voter, and within a quorum.
+ghost use Rattle.std.specs.Prelude.{◌≡◌, ◌<◌, ◌≤◌, length, sum, All, SomeIff};
+ghost use Rattle.quorum_set.specs.Coteries.{IsCoterie};
+ghost use Rattle.quorum_set.specs.Counts.{greatest_below};
+ghost use Rattle.certificate.specs.Loads.{weight_on, weight_within, least_of};
+
+use quorum_set::{Coterie, QSet};
+
+/// The greatest sum of weights, of the quorums' and of the voters'.
+const LARGEST: u64 = 1_000_000;
+
+/// The sum of the weights, where it is not too large.
+pub(crate) fn total(weights: &[u64]) -> Option<u64>
+    ensures { SomeIff result (sum weights.now ≤ 1000000) (sum weights.now) }
+{
+    let mut total = 0;
+    for weight in weights {
+        if *weight > LARGEST - total {
+            return None;
+        }
+        total += *weight;
+    }
+    Some(total)
+}
+
+/// The weight that lies on the quorums with this voter.
+fn weight_on(coterie: &Coterie, weights: &[u64], voter: u8) -> u64
+    requires lengths { length weights.now ≡ length coterie.now.quorums }
+    requires small { sum weights.now ≤ 1000000 }
+    ensures weight { result ≡ weight_on voter coterie.now.quorums weights.now }
+    ensures small { result ≤ sum weights.now }
+{
+    let mut weight = 0;
+    for (j, one) in weights.iter().enumerate() {
+        if coterie.quorum(j).has(voter) {
+            weight += *one;
+        }
+    }
+    weight
+}
+
+/// The greatest weight that lies on the quorums with one voter.
+pub(crate) fn busiest_count(coterie: &Coterie, weights: &[u64]) -> u64
+    requires lengths { length weights.now ≡ length coterie.now.quorums }
+    requires small { sum weights.now ≤ 1000000 }
+    ensures count { result ≡ greatest_below coterie.now.voters (λ i. weight_on i coterie.now.quorums weights.now) }
+    ensures small { result ≤ sum weights.now }
+{
+    let mut most = 0;
+    for voter in 0..coterie.voters() {
+        most = most.max(weight_on(coterie, weights, voter as u8));
+    }
+    most
+}
+
+/// The weight of a quorum's members.
+fn weight_within(quorum: &QSet, weights: &[u64]) -> u64
+    requires members { All (λ i. i < length weights.now) quorum.now }
+    requires small { sum weights.now ≤ 1000000 }
+    ensures weight { result ≡ weight_within weights.now quorum.now }
+    ensures small { result ≤ 64000000 }
+{
+    let members = quorum.members();
+    let mut weight = 0;
+    for i in members.as_slice() {
+        weight += weights[usize::from(*i)];
+    }
+    weight
+}
+
+/// The least weight of a quorum's members.
+pub(crate) fn lightest_quorum(coterie: &Coterie, weights: &[u64]) -> u64
+    requires coterie { IsCoterie coterie.now }
+    requires lengths { length weights.now ≡ coterie.now.voters }
+    requires small { sum weights.now ≤ 1000000 }
+    ensures weight { result ≡ least_of (weight_within weights.now) coterie.now.quorums }
+    ensures small { result ≤ 64000000 }
+{
+    let mut least = weight_within(coterie.quorum(0), weights);
+    for j in 1..coterie.count() {
+        least = least.min(weight_within(coterie.quorum(j), weights));
+    }
+    least
+}
