@@ -1,0 +1,190 @@
+-- What stands in a cycle, and how often.
+use Rattle.std.proofs.Common.{◌≡◌, ℕ, ◌+◌, ◌-◌, ◌<◌, ◌≤◌, Bool, true, false, cond, eqb, leb, List, [], ◌∷◌, ◌++◌, length, get_or, zero, suc, min, sum, sum_by, filter, sym, refl, ap, ◌∙◌, inl, inr, arith}
+use Rattle.std.specs.List.{flat_map, range_with_len}
+use Rattle.std.proofs.lemmas.Bool.{cases_Bool, cases_eq, cases_lt, eq-eqb, ne_eqb, le-leb, lt-leb, leb-true, false_from_ne_true, both_ways}
+use Rattle.std.proofs.lemmas.List.{get_or_past, append-nil, append_assoc}
+use Rattle.std.proofs.lemmas.List.Sums.{sum_by-cons, sum_by-append}
+use Rattle.quorum_set.specs.Counts.{greatest_below, times}
+use Rattle.dealer.specs.Cycles.{round_of, greatest_weight, cycle_of}
+use Rattle.dealer.proofs.Totals.{total-same, total-list, length-total}
+
+pub times-cons : (j x : ℕ) (xs : List ℕ) → times j (x ∷ xs) ≡ cond (eqb x j) 1 0 + times j xs
+times-cons j x xs = sum_by-cons (λ k. cond (eqb k j) 1 0) x xs
+
+pub times-append : (j : ℕ) (xs ys : List ℕ) → times j (xs ++ ys) ≡ times j xs + times j ys
+times-append j xs ys = sum_by-append (λ k. cond (eqb k j) 1 0) xs ys
+
+-- a number below a range is not among those of the range that pass
+times-filter_below : (p : ℕ → Bool) (a n j : ℕ) → j < a → times j (filter p (range_with_len a n)) ≡ 0
+times-filter_below p a zero j lt = refl
+times-filter_below p a (suc n) j lt =
+    let rest = times-filter_below p (a + 1) n j (omega arith) in
+    let off = ap (λ b. cond {A = ℕ} b 1 0) (ne_eqb a j (λ e. omega arith)) in
+    elim (p a) as (λ b. times j (cond b (a ∷ filter p (range_with_len (a + 1) n)) (filter p (range_with_len (a + 1) n))) ≡ 0) [
+      | true ↦ omega (arith, times-cons j a (filter p (range_with_len (a + 1) n)), off, rest)
+      | false ↦ rest
+    ]
+
+-- a number of a range is among those that pass once, if it passes
+times-filter : (p : ℕ → Bool) (a n j : ℕ) → a ≤ j → j < a + n → times j (filter p (range_with_len a n)) ≡ cond {A = ℕ} (p j) 1 0
+times-filter p a zero j le lt = absurd (omega arith)
+times-filter p a (suc n) j le lt =
+    let rest = filter p (range_with_len (a + 1) n) in
+    elim (cases_eq a j) as (λ _. times j (cond (p a) (a ∷ rest) rest) ≡ cond {A = ℕ} (p j) 1 0) [
+      | inl at ↦
+          ap (λ b. times j (cond b (a ∷ rest) rest)) (ap p at)
+          ∙ times_first (p j) a j rest (ap (λ b. cond {A = ℕ} b 1 0) (eq-eqb a j at)) (times-filter_below p (a + 1) n j (omega arith))
+      | inr off ↦
+          times_later (p a) a j rest (ap (λ b. cond {A = ℕ} b 1 0) (ne_eqb a j off))
+          ∙ times-filter p (a + 1) n j (omega arith) (omega arith)
+    ]
+  where
+    times_first : (b : Bool) (a j : ℕ) (rest : List ℕ) → cond {A = ℕ} (eqb a j) 1 0 ≡ 1 → times j rest ≡ 0 → times j (cond b (a ∷ rest) rest) ≡ cond {A = ℕ} b 1 0
+    times_first true a j rest here none = omega (arith, times-cons j a rest)
+    times_first false a j rest here none = none
+
+    times_later : (b : Bool) (a j : ℕ) (rest : List ℕ) → cond {A = ℕ} (eqb a j) 1 0 ≡ 0 → times j (cond b (a ∷ rest) rest) ≡ times j rest
+    times_later true a j rest off = omega (arith, times-cons j a rest)
+    times_later false a j rest off = refl
+
+-- no number past a range is among those that pass
+times-filter_above : (p : ℕ → Bool) (a n j : ℕ) → a + n ≤ j → times j (filter p (range_with_len a n)) ≡ 0
+times-filter_above p a zero j le = refl
+times-filter_above p a (suc n) j le =
+    let rest = times-filter_above p (a + 1) n j (omega arith) in
+    let off = ap (λ b. cond {A = ℕ} b 1 0) (ne_eqb a j (λ e. omega arith)) in
+    elim (p a) as (λ b. times j (cond b (a ∷ filter p (range_with_len (a + 1) n)) (filter p (range_with_len (a + 1) n))) ≡ 0) [
+      | true ↦ omega (arith, times-cons j a (filter p (range_with_len (a + 1) n)), off, rest)
+      | false ↦ rest
+    ]
+
+-- a round names each quorum once whose weight is at least the round's number, and no other
+pub times-round_of : (weights : List ℕ) (r j : ℕ) → 0 < r → times j (round_of weights r) ≡ cond (leb r (get_or weights j 0)) 1 0
+times-round_of weights r j some =
+    elim (cases_lt j (length weights)) [
+      | inl inside ↦ times-filter (λ k. leb r (get_or weights k 0)) 0 (length weights) j (omega arith) (omega arith)
+      | inr outside ↦
+          let small : get_or weights j 0 < r = omega (arith, get_or_past weights j 0 outside) in
+          times-filter_above (λ k. leb r (get_or weights k 0)) 0 (length weights) j (omega arith)
+          ∙ sym (ap (λ b. cond {A = ℕ} b 1 0) (lt-leb r (get_or weights j 0) small))
+    ]
+
+-- n rounds from round r on name a quorum as often as its weight, less r - 1, but at most n times
+pub times-rounds : (weights : List ℕ) (r n j : ℕ) → 0 < r → times j (flat_map (round_of weights) (range_with_len r n)) ≡ min n ((get_or weights j 0 + 1) - r)
+times-rounds weights r zero j some = omega arith
+times-rounds weights r (suc n) j some =
+    let both = times-append j (round_of weights r) (flat_map (round_of weights) (range_with_len (r + 1) n)) in
+    let rest = times-rounds weights (r + 1) n j (omega arith) in
+    let one = times-round_of weights r j some in
+    let weight = get_or weights j 0 in
+    elim (cases_lt weight r) [
+      | inl less ↦ let here = ap (λ b. cond {A = ℕ} b 1 0) (lt-leb r weight less) in omega (arith, both, rest, one, here)
+      | inr more ↦ let here = ap (λ b. cond {A = ℕ} b 1 0) (le-leb r weight more) in omega (arith, both, rest, one, here)
+    ]
+
+pub greatest_below-le : (n : ℕ) (f : ℕ → ℕ) (i : ℕ) → i < n → f i ≤ greatest_below n f
+greatest_below-le zero f i lt = absurd (omega arith)
+greatest_below-le (suc n) f i lt =
+    elim (cases_eq i n) as (λ _. f i ≤ greatest_below (suc n) f) [
+      | inl at ↦ let e : f i ≡ f n = ap f at in omega (arith, e)
+      | inr off ↦ omega (arith, greatest_below-le n f i (omega arith))
+    ]
+
+-- no weight is above the greatest
+weight-le : (weights : List ℕ) (j : ℕ) → get_or weights j 0 ≤ greatest_weight weights
+weight-le weights j =
+    elim (cases_lt j (length weights)) [
+      | inl inside ↦ greatest_below-le (length weights) (λ k. get_or weights k 0) j inside
+      | inr outside ↦ omega (arith, get_or_past weights j 0 outside)
+    ]
+
+-- each quorum stands in a cycle as often as its weight
+pub times-cycle_of : (weights : List ℕ) (j : ℕ) → times j (cycle_of weights) ≡ get_or weights j 0
+unfolding cycle_of
+times-cycle_of weights j =
+    omega (arith, times-rounds weights 1 (greatest_weight weights) j (omega arith), weight-le weights j)
+
+-- a list in which no number from n on stands
+pub count_above : (n : ℕ) (list : List ℕ) → ((j : ℕ) → n ≤ j → times j list ≡ 0) → sum_by (λ x. cond (leb n x) 1 0) list ≡ 0
+count_above n [] none = refl
+count_above n (x ∷ xs) none =
+    let rest = count_above n xs (λ j le. omega (arith, times-cons j x xs, none j le)) in
+    let count = sum_by-cons (λ z. cond (leb n z) 1 0) x xs in
+    elim (cases_lt x n) as (λ _. sum_by (λ z. cond (leb n z) 1 0) (x ∷ xs) ≡ 0) [
+      | inl below ↦ let here = ap (λ b. cond {A = ℕ} b 1 0) (lt-leb n x below) in omega (arith, count, here, rest)
+      | inr above ↦
+          let here = ap (λ b. cond {A = ℕ} b 1 0) (eq-eqb x x refl) in
+          absurd (omega (arith, none x above, times-cons x x xs, here))
+    ]
+
+-- a cycle is as long as its weights add up to
+pub length-cycle_of : (weights : List ℕ) → length (cycle_of weights) ≡ sum weights
+length-cycle_of weights =
+    let n = length weights in
+    let list = cycle_of weights in
+    let none = count_above n list (λ j le. times-cycle_of weights j ∙ get_or_past weights j 0 le) in
+    let each = total-same n (λ j. times j list) (λ j. get_or weights j 0) (λ j lt. times-cycle_of weights j) in
+    omega (arith, length-total n list, none, each, total-list (λ x. x) weights)
+
+-- what stands in a list stands there at least once
+pub times-get_or : (list : List ℕ) (i : ℕ) → i < length list → 0 < times (get_or list i 0) list
+times-get_or [] i lt = absurd (omega arith)
+times-get_or (x ∷ xs) zero lt =
+    omega (arith, times-cons x x xs, ap (λ b. cond {A = ℕ} b 1 0) (eq-eqb x x refl))
+times-get_or (x ∷ xs) (suc i) lt = omega (arith, times-cons (get_or xs i 0) x xs, times-get_or xs i (omega arith))
+
+-- a cycle names no quorum past the last
+pub cycle_of-lt : (weights : List ℕ) (i : ℕ) → i < sum weights → get_or (cycle_of weights) i 0 < length weights
+cycle_of-lt weights i lt =
+    let j = get_or (cycle_of weights) i 0 in
+    let some = times-get_or (cycle_of weights) i (omega (arith, length-cycle_of weights)) in
+    elim (cases_lt j (length weights)) as (λ _. j < length weights) [
+      | inl inside ↦ inside
+      | inr outside ↦ absurd (omega (arith, some, times-cycle_of weights j, get_or_past weights j 0 outside))
+    ]
+
+-- what passes each time is all
+filter-all : (p : ℕ → Bool) (xs : List ℕ) → ((x : ℕ) → p x ≡ true) → filter p xs ≡ xs
+filter-all p [] all = refl
+filter-all p (x ∷ xs) all = ap (λ b. cond b (x ∷ filter p xs) (filter p xs)) (all x) ∙ ap (λ ys. x ∷ ys) (filter-all p xs all)
+
+-- round 0 would name each quorum
+pub round_of-zero : (weights : List ℕ) → round_of weights 0 ≡ range_with_len 0 (length weights)
+round_of-zero weights =
+    filter-all (λ j. leb 0 (get_or weights j 0)) (range_with_len 0 (length weights)) (λ j. le-leb 0 (get_or weights j 0) (omega arith))
+
+filter-filter : (p q : ℕ → Bool) (xs : List ℕ) → ((x : ℕ) → q x ≡ true → p x ≡ true) → filter q (filter p xs) ≡ filter q xs
+filter-filter p q [] implies = refl
+filter-filter p q (x ∷ xs) implies =
+    let rest = filter-filter p q xs implies in
+    elim (cases_Bool (p x)) as (λ _. filter q (filter p (x ∷ xs)) ≡ filter q (x ∷ xs)) [
+      | inl passes ↦
+          ap (λ b. filter q (cond b (x ∷ filter p xs) (filter p xs))) passes
+          ∙ ap (λ ys. cond (q x) (x ∷ ys) ys) rest
+      | inr fails ↦
+          let off : q x ≡ false = false_from_ne_true (q x) (λ e. both_ways (p x) fails (implies x e)) in
+          ap (λ b. filter q (cond b (x ∷ filter p xs) (filter p xs))) fails
+          ∙ rest ∙ sym (ap (λ b. cond b (x ∷ filter q xs) (filter q xs)) off)
+    ]
+
+-- a round is made of quorums of the round before
+pub round_of-more : (weights : List ℕ) (r : ℕ) → filter (λ j. leb (r + 1) (get_or weights j 0)) (round_of weights r) ≡ round_of weights (r + 1)
+round_of-more weights r =
+    filter-filter (λ j. leb r (get_or weights j 0)) (λ j. leb (r + 1) (get_or weights j 0)) (range_with_len 0 (length weights))
+    (λ j passes. le-leb r (get_or weights j 0) (omega (arith, leb-true (r + 1) (get_or weights j 0) passes)))
+
+flat_map_range_more : (f : ℕ → List ℕ) (a n j : ℕ) → a + n ≡ j → flat_map f (range_with_len a (suc n)) ≡ flat_map f (range_with_len a n) ++ f j
+flat_map_range_more f a zero j e = let at : a ≡ j = omega arith in append-nil (f a) ∙ ap f at
+flat_map_range_more f a (suc n) j e =
+    ap (λ xs. f a ++ xs) (flat_map_range_more f (a + 1) n j (omega arith))
+    ∙ sym (append_assoc (f a) (flat_map f (range_with_len (a + 1) n)) (f j))
+
+-- one round more
+pub rounds-more : (weights : List ℕ) (r more : ℕ) → more ≡ r + 1 → flat_map (round_of weights) (range_with_len 1 more) ≡ flat_map (round_of weights) (range_with_len 1 r) ++ round_of weights more
+rounds-more weights r more e =
+    let next : more ≡ suc r = omega arith in
+    ap (λ n. flat_map (round_of weights) (range_with_len 1 n)) next ∙ flat_map_range_more (round_of weights) 1 r more (omega arith)
+
+pub cycle_of_rounds : (weights : List ℕ) → flat_map (round_of weights) (range_with_len 1 (greatest_weight weights)) ≡ cycle_of weights
+unfolding cycle_of
+cycle_of_rounds weights = refl

@@ -1,0 +1,8 @@
+use Rattle.certificate.specs.Loads.{weight_on}
+use Rattle.dealer.proofs.AccountLemmas.{values_below_more}
+use Rattle.dealer.proofs.account.counts_of_voters.Goals as goal
+
+pub loop-voter-preserved : goal.loop-voter-preserved
+loop-voter-preserved c =
+    values_below_more c.loop-voter.voter (λ i. weight_on i c.args.coterie.now.quorums c.args.counts.now) c.loop-voter.voters.items c.push.new.self.items c.count_of_voter.result
+    c.loop-voter.invariant c.count_of_voter.ensures c.in_ok-push.ensures.items

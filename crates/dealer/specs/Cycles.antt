@@ -1,0 +1,27 @@
+-- The cycle of a plan: the order in which its quorums are dealt, each as often as its weight.
+use Rattle.std.specs.Prelude.{◌≡◌, ℕ, ◌%◌, List, filter, length, nat_le, slice_index}
+use Rattle.std.specs.List.{flat_map, range_with_len}
+use Rattle.quorum_set.specs.Counts.{greatest_below}
+use Rattle.certificate.specs.Certificates.{Weighted, IsCertificate, IsOptimal, cycle_len}
+
+-- a round: the numbers of the quorums whose weight is at least r, in ascending order
+abbrev pub round_of : List ℕ → ℕ → List ℕ
+round_of weights r = filter (λ j. nat_le r (slice_index weights j)) (range_with_len 0 (length weights))
+
+-- the greatest weight, or 0
+abbrev pub greatest_weight : List ℕ → ℕ
+greatest_weight weights = greatest_below (length weights) (λ j. slice_index weights j)
+
+-- the cycle: round 1, round 2, and so on, to the greatest weight
+unfoldable pub cycle_of : List ℕ → List ℕ
+cycle_of weights = flat_map (round_of weights) (range_with_len 1 (greatest_weight weights))
+
+-- the quorum of a ticket: tickets go through the cycle in order, and begin again at its end
+abbrev pub quorum_of_ticket : Weighted → ℕ → ℕ
+quorum_of_ticket w ticket = slice_index (cycle_of w.quorum_weights) (ticket % cycle_len w)
+
+-- what a cycle keeps: an optimal plan, and the quorums in the order of its cycle
+pub record IsCycleOf (plan : Weighted) (quorums : List ℕ) : Type 0 where
+  pub certificate : IsCertificate plan
+  pub optimal : IsOptimal plan
+  pub in_order : quorums ≡ cycle_of plan.quorum_weights

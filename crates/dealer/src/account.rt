@@ -1,0 +1,66 @@
+//! Accounts of tickets.
+ghost use Rattle.std.specs.Prelude.{◌≡◌, ◌<◌, ◌^◌, length, slice_index, sum, IfOk};
+ghost use Rattle.quorum_set.specs.Counts.{greatest_below};
+ghost use Rattle.certificate.specs.Loads.{weight_on};
+ghost use Rattle.dealer.specs.Accounts.{values_below};
+
+use crate::counts::Counts;
+use quorum_set::Coterie;
+use std::alloc::{AllocError, Global};
+
+/// How often a list of tickets names each quorum and each voter.
+#[derive(Debug, Drop)]
+pub struct Account {
+    /// How many tickets there are.
+    pub drawn: u64,
+    /// How many of the tickets name each quorum, by the quorum's number.
+    pub quorums: Counts,
+    /// How many of the tickets name a quorum with each voter, by the voter's number.
+    pub voters: Counts,
+    /// The greatest count of a voter, or 0 where there is no ticket.
+    pub busiest: u64,
+}
+
+/// How often a voter is named, where each quorum is named as often as `counts` says.
+fn count_of_voter(coterie: &Coterie, counts: &[u64], voter: u8) -> u64
+    requires lengths { length counts.now ≡ length coterie.now.quorums }
+    requires fits { sum counts.now < 2 ^ 64 }
+    ensures { result ≡ weight_on voter coterie.now.quorums counts.now }
+{
+    let mut count = 0;
+    for (j, times) in counts.iter().enumerate() {
+        if coterie.quorum(j).has(voter) {
+            count += *times;
+        }
+    }
+    count
+}
+
+/// How often each voter is named, where each quorum is named as often as `counts` says.
+pub(crate) fn counts_of_voters(
+    alloc: Global,
+    coterie: &Coterie,
+    counts: &[u64],
+) -> Result<Vec<u64>, AllocError>
+    requires lengths { length counts.now ≡ length coterie.now.quorums }
+    requires fits { sum counts.now < 2 ^ 64 }
+    ensures { IfOk result (λ v. v.items
+        ≡ values_below coterie.now.voters (λ i. weight_on i coterie.now.quorums counts.now)) }
+{
+    let mut voters = Vec::with_capacity(alloc, coterie.voters())?;
+    for voter in 0..coterie.voters() {
+        voters.push(count_of_voter(coterie, counts, voter as u8))?;
+    }
+    Ok(voters)
+}
+
+/// The greatest of the numbers, or 0.
+pub(crate) fn greatest_of(numbers: &[u64]) -> u64
+    ensures { result ≡ greatest_below (length numbers.now) (λ j. slice_index numbers.now j) }
+{
+    let mut greatest = 0;
+    for number in numbers {
+        greatest = greatest.max(*number);
+    }
+    greatest
+}
