@@ -1,3 +1,4 @@
 pub mod Totals
 pub mod CycleLemmas
 pub mod AccountLemmas
+pub mod TurnLemmas

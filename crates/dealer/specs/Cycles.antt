@@ -1,7 +1,7 @@
 -- The cycle of a plan: the order in which its quorums are dealt, each as often as its weight.
-use Rattle.std.specs.Prelude.{◌≡◌, ℕ, ◌%◌, List, filter, length, nat_le, slice_index}
+use Rattle.std.specs.Prelude.{◌≡◌, ◌⊎◌, ℕ, ◌+◌, ◌%◌, ◌<◌, List, filter, length, nat_le, slice_index, take}
 use Rattle.std.specs.List.{flat_map, range_with_len}
-use Rattle.quorum_set.specs.Counts.{greatest_below}
+use Rattle.quorum_set.specs.Counts.{greatest_below, times}
 use Rattle.certificate.specs.Certificates.{Weighted, IsCertificate, IsOptimal, cycle_len}
 
 -- a round: the numbers of the quorums whose weight is at least r, in ascending order
@@ -15,6 +15,17 @@ greatest_weight weights = greatest_below (length weights) (λ j. slice_index wei
 -- the cycle: round 1, round 2, and so on, to the greatest weight
 unfoldable pub cycle_of : List ℕ → List ℕ
 cycle_of weights = flat_map (round_of weights) (range_with_len 1 (greatest_weight weights))
+
+-- how many times the quorum at a place of a list has been named, there and before
+abbrev pub turn_at : List ℕ → ℕ → ℕ
+turn_at list place = times (slice_index list place) (take (place + 1) list)
+
+-- the list goes by turns: each quorum's first turn comes before any second turn, and so on, and equal turns
+-- go by the quorums' numbers
+abbrev pub GoesByTurns : List ℕ → Type 0
+GoesByTurns list =
+    (place later : ℕ) → place < later → later < length list
+    → (turn_at list place < turn_at list later) ⊎ ((turn_at list place ≡ turn_at list later) × (slice_index list place < slice_index list later))
 
 -- the quorum of a ticket: tickets go through the cycle in order, and begin again at its end
 abbrev pub quorum_of_ticket : Weighted → ℕ → ℕ

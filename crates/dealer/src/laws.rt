@@ -3,15 +3,18 @@ ghost use Rattle.std.specs.Prelude.{◌≡◌, ◌*◌, ℕ, List, length, slice
 ghost use Rattle.quorum_set.specs.Counts.{count_of, busiest_of, times};
 ghost use Rattle.certificate.specs.Certificates.{Weighted, IsCertificate, busiest_count};
 ghost use Rattle.certificate.specs.Loads.{weight_on};
-ghost use Rattle.dealer.specs.Cycles.{cycle_of};
+ghost use Rattle.dealer.specs.Cycles.{cycle_of, GoesByTurns};
 ghost use Rattle.dealer.specs.Accounts.{account_of, quorums_named, IsWholeCycles};
 
 use certificate::whole_cycles_are_even;
 
-/// A cycle is as long as the weights add up to, and each quorum stands in it as often as its weight says.
+/// A cycle is as long as the weights add up to, and each quorum stands in it as often as its weight says. The cycle
+/// goes by turns: first each quorum once, in the order of their numbers, then each one a second time whose weight
+/// is 2 or more, and so on.
 pub fn cycles_follow_weights()
     ensures len { (weights : List ℕ) → length (cycle_of weights) ≡ sum weights }
     ensures shares { (weights : List ℕ) (j : ℕ) → times j (cycle_of weights) ≡ slice_index weights j }
+    ensures turns { (weights : List ℕ) → GoesByTurns (cycle_of weights) }
 {}
 
 /// Tickets name a voter as often as they name the quorums with it, taken together.
