@@ -1,13 +1,13 @@
 -- Lemmas on the first fault of a list of sets.
-use Rattle.std.proofs.Common.{◌≡◌, ℕ, ◌+◌, ◌<◌, ◌≤◌, Bool, true, false, cond, not, ◌||◌, eqb, ltb, leb, List, [], ◌∷◌, length, get_or, zero, suc, sym, refl, ap, ◌∙◌, inl, inr, arith, Option, None, Some}
+use Rattle.std.proofs.Common.{◌≡◌, ℕ, ◌+◌, ◌<◌, Bool, true, false, cond, eqb, ltb, leb, List, [], ◌∷◌, length, get_or, zero, suc, refl, inl, inr, arith, Option, None, Some}
 use Rattle.std.proofs.lemmas.Bool.{eqb-false, ltb-false, leb-false, not-false, or_parts, cond-true, lt-ltb, cases_lt}
 use Rattle.std.proofs.lemmas.List.Elements.{All-nil, All-cons}
 use Rattle.std.proofs.lemmas.List.Sums.{fails_before_first}
 use Rattle.std.specs.List.{All, AllPairs, position, position_or_len}
 use Rattle.std.specs.Option.{option_or, option_map}
-use Rattle.quorum_set.specs.Sets.{has, meet, within, IsSet}
+use Rattle.quorum_set.specs.Sets.{IsSet}
 use Rattle.quorum_set.specs.declared.fault.CoterieFault.TheVariants.{NoVoters, TooManyVoters, NoQuorums, TooManyQuorums, EmptyQuorum, VoterOutOfRange, Disjoint, Contained}
-use Rattle.quorum_set.specs.Coteries.{QuorumSystem, IsCoterie, first_from, first_outside, first_pair, are_disjoint, is_one_within, fault_if, first_fault}
+use Rattle.quorum_set.specs.Coteries.{IsCoterie, first_from, first_outside, first_pair, are_disjoint, is_one_within, fault_if, first_fault}
 
 option_or_none : {A : Type 0} (o p : Option A) → option_or o p ≡ None → (o ≡ None) × (p ≡ None)
 option_or_none None p e = (refl, e)

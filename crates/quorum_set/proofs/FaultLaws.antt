@@ -1,13 +1,12 @@
 -- Laws of the first fault: it is absent exactly at a coterie, and its pair is the least.
-use Rattle.std.proofs.Common.{◌≡◌, ℕ, ◌+◌, ◌<◌, ◌≤◌, ◌⊎◌, Bool, true, false, cond, not, ◌||◌, eqb, ltb, leb, List, [], ◌∷◌, length, get_or, zero, suc, sym, refl, ap, subst, ◌∙◌, inl, inr, arith, Option, None, Some}
+use Rattle.std.proofs.Common.{◌≡◌, ℕ, ◌+◌, ◌<◌, ◌≤◌, ◌⊎◌, Bool, true, false, cond, eqb, ltb, List, [], ◌∷◌, length, get_or, zero, suc, sym, refl, ap, subst, ◌∙◌, inl, inr, arith, Option, None, Some}
 use Rattle.std.proofs.lemmas.Bool.{cases_lt, true≢false, lt-leb, le-ltb, ne_eqb, not_from_true, or_from}
 use Rattle.std.proofs.lemmas.List.Elements.{All-head, All-tail}
 use Rattle.std.proofs.lemmas.List.Quantifiers.{position-Some}
-use Rattle.std.specs.List.{All, AllPairs, position, position_or_len}
+use Rattle.std.specs.List.{All, AllPairs, position}
 use Rattle.std.specs.Option.{option_or, option_map}
-use Rattle.quorum_set.specs.Sets.{has, meet, within, IsSet}
 use Rattle.quorum_set.specs.declared.fault.CoterieFault.TheVariants.{NoVoters, TooManyVoters, NoQuorums, TooManyQuorums, EmptyQuorum, VoterOutOfRange, Disjoint, Contained}
-use Rattle.quorum_set.specs.Coteries.{QuorumSystem, IsCoterie, first_from, first_outside, first_pair, are_disjoint, is_one_within, fault_if, first_fault, IsLeastPair}
+use Rattle.quorum_set.specs.Coteries.{IsCoterie, first_from, first_outside, first_pair, are_disjoint, is_one_within, fault_if, first_fault, IsLeastPair}
 use Rattle.quorum_set.proofs.CoterieLemmas.{position-None}
 
 -- with the pairs counted from d on

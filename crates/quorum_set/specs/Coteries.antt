@@ -1,7 +1,8 @@
--- Coteries: quorums of which any two have a common member and none lies within another.
-use Rattle.std.specs.Prelude.{◌⊎◌, ◌≡◌, ℕ, ◌+◌, ◌<◌, ◌≤◌, Bool, true, false, not, ◌||◌, ◌&&◌, List, [], ◌∷◌, length, ◌==◌, nat_lt, nat_le, if◌then◌else◌, slice_index_or, position, option_map}
+-- Coteries: quorums of which any two have a common member and none lies within another
+-- (Garcia-Molina and Barbara, JACM 32(4), 1985, section 2).
+use Rattle.std.specs.Prelude.{◌⊎◌, ◌≡◌, ℕ, ◌+◌, ◌<◌, ◌≤◌, Bool, true, false, not, ◌||◌, List, [], ◌∷◌, length, ◌==◌, nat_lt, nat_le, if◌then◌else◌, slice_index_or, position, option_map}
 use Rattle.std.specs.Option.{option_or}
-use Rattle.std.specs.List.{All, AllPairs, list_any}
+use Rattle.std.specs.List.{All, AllPairs}
 use Rattle.std.specs.Prelude.{Option, Result, Ok, Err, None, Some}
 use Rattle.quorum_set.specs.Sets.{has, meet, within, IsSet}
 use Rattle.quorum_set.specs.declared.fault.CoterieFault.{CoterieFault}
@@ -45,9 +46,17 @@ IsLeastPair test sets j k =
     (j < k) × (k < length sets) × (test (slice_index_or sets j []) (slice_index_or sets k []) ≡ true)
     × ((a b : ℕ) → a < b → b < length sets → test (slice_index_or sets a []) (slice_index_or sets b []) ≡ true → (j < a) ⊎ ((j ≡ a) × (k ≤ b)))
 
+-- the number is a member of the set at the place and not below n, and no earlier set, nor a lesser member of this one, has such a number
+abbrev pub IsLeastStray : ℕ → List (List ℕ) → ℕ → ℕ → Type 0
+IsLeastStray n sets j i =
+    (j < length sets) × (has (slice_index_or sets j []) i ≡ true) × (n ≤ i)
+    × ((a k : ℕ) → a < length sets → has (slice_index_or sets a []) k ≡ true → n ≤ k → (j < a) ⊎ ((j ≡ a) × (i ≤ k)))
+
+-- the sets have no common member
 abbrev pub are_disjoint : List ℕ → List ℕ → Bool
 are_disjoint s t = not (meet s t)
 
+-- one of the sets is within the other
 abbrev pub is_one_within : List ℕ → List ℕ → Bool
 is_one_within s t = within s t || within t s
 

@@ -1,4 +1,4 @@
-//! Coteries.
+//! Coteries, and the checks that a list of sets is one.
 ghost use Rattle.std.specs.Prelude.{◌≡◌, ◌==◌, ◌<◌, ◌+◌, ◌≤◌, length, None, Some, IfOk, IfNone, MatchResult, position, slice_index_or, slice_get, All};
 ghost use Rattle.quorum_set.specs.Sets.{IsSet};
 ghost use Rattle.quorum_set.specs.Coteries.{IsCoterie, first_outside, first_from, first_pair, are_disjoint, is_one_within, first_fault, coterie_of};
@@ -8,7 +8,9 @@ use crate::qset::QSet;
 use std::alloc::{AllocError, Global};
 use std::marker::Model;
 
-/// A number of voters, and quorums over them.
+/// Voters 0 to n - 1, 1 to 64 of them, and 1 to 4096 quorums over them: non-empty sets of voters of which
+/// any two have a common member and none lies within another. Contracts see a `QuorumSystem`: the number of
+/// voters, and each quorum as the ascending list of its members.
 #[derive(Drop)]
 pub struct Coterie {
     voters: usize,
@@ -132,7 +134,8 @@ fn fault_of(n: usize, sets: &[QSet]) -> Option<CoterieFault>
 }
 
 impl Coterie {
-    /// The coterie of these quorums, or the first fault.
+    /// The coterie of n voters and these quorums, or the first fault in the order of `CoterieFault`.
+    /// Takes no memory: the list is kept, or dropped with a refusal.
     pub fn of(n: usize, sets: Vec<QSet>) -> Result<Coterie, CoterieFault>
         ensures { result ≡ coterie_of n sets.items }
     {
@@ -145,7 +148,7 @@ impl Coterie {
         }
     }
 
-    /// The number of voters.
+    /// The number of voters, 1 to 64.
     pub fn voters(&self) -> usize
         ensures value { result ≡ self.now.voters }
         ensures coterie { IsCoterie self.now }
@@ -153,7 +156,7 @@ impl Coterie {
         self.voters
     }
 
-    /// The number of quorums.
+    /// The number of quorums, 1 to 4096.
     pub fn count(&self) -> usize
         ensures value { result ≡ length self.now.quorums }
         ensures coterie { IsCoterie self.now }
@@ -161,7 +164,7 @@ impl Coterie {
         self.quorums.len()
     }
 
-    /// The quorum with this number.
+    /// The quorum with this number, which has to be below the number of quorums.
     pub fn quorum(&self, j: usize) -> &QSet
         requires { j < length self.now.quorums }
         ensures value { slice_get self.now.quorums j ≡ Some result.now }
@@ -172,7 +175,7 @@ impl Coterie {
         &self.quorums[j]
     }
 
-    /// An equal coterie.
+    /// An equal coterie, or want of memory.
     pub fn copy(&self, alloc: Global) -> Result<Coterie, AllocError>
         ensures value { IfOk result (λ c. c ≡ self.now) }
     {
