@@ -87,36 +87,36 @@ IsUpTo-more weights list r is up_to =
     let long = length-append list round in
     record {
       by_turns = λ place later before lt.
-        elim (cases_lt later (length list)) [
-          | inl early ↦
-              let turn_place = turn_at-left list round place (omega arith) in
-              let turn_later = turn_at-left list round later early in
-              let at_place = get_or_append_left list round 0 place (omega arith) in
-              let at_later = get_or_append_left list round 0 later early in
-              elim (up_to.by_turns place later before early) [
-                | inl turn ↦ inl (omega arith)
-                | inr same ↦ inr (omega (arith, same.0), omega (arith, same.1))
-              ]
-          | inr late ↦
-              let j = later - length list in
-              let turn_later = turn_at-round weights list r j later is (omega arith) (omega arith) in
-              elim (cases_lt place (length list)) [
-                | inl early ↦
-                    let turn_place = turn_at-left list round place early in
-                    inl (omega (arith, up_to.turns place early))
-                | inr same ↦
-                    let i = place - length list in
-                    let turn_place = turn_at-round weights list r i place is (omega arith) (omega arith) in
-                    let at_place : get_or (list ++ round) place 0 ≡ get_or round i 0 = at_right list round place i (omega arith) in
-                    let at_later : get_or (list ++ round) later 0 ≡ get_or round j 0 = at_right list round later j (omega arith) in
-                    inr (omega arith, omega (arith, round_of-ascends weights (r + 1) i j (omega arith) (omega arith)))
-              ]
-        ];
+          elim (cases_lt later (length list)) [
+            | inl early ↦
+                let turn_place = turn_at-left list round place (omega arith) in
+                let turn_later = turn_at-left list round later early in
+                let at_place = get_or_append_left list round 0 place (omega arith) in
+                let at_later = get_or_append_left list round 0 later early in
+                elim (up_to.by_turns place later before early) [
+                  | inl turn ↦ inl (omega arith)
+                  | inr same ↦ inr (omega (arith, same.0), omega (arith, same.1))
+                ]
+            | inr late ↦
+                let j = later - length list in
+                let turn_later = turn_at-round weights list r j later is (omega arith) (omega arith) in
+                elim (cases_lt place (length list)) [
+                  | inl early ↦
+                      let turn_place = turn_at-left list round place early in
+                      inl (omega (arith, up_to.turns place early))
+                  | inr same ↦
+                      let i = place - length list in
+                      let turn_place = turn_at-round weights list r i place is (omega arith) (omega arith) in
+                      let at_place : get_or (list ++ round) place 0 ≡ get_or round i 0 = at_right list round place i (omega arith) in
+                      let at_later : get_or (list ++ round) later 0 ≡ get_or round j 0 = at_right list round later j (omega arith) in
+                      inr (omega arith, omega (arith, round_of-ascends weights (r + 1) i j (omega arith) (omega arith)))
+                ]
+          ];
       turns = λ place lt.
-        elim (cases_lt place (length list)) [
-          | inl early ↦ omega (arith, turn_at-left list round place early, up_to.turns place early)
-          | inr late ↦ omega (arith, turn_at-round weights list r (place - length list) place is (omega arith) (omega arith))
-        ];
+          elim (cases_lt place (length list)) [
+            | inl early ↦ omega (arith, turn_at-left list round place early, up_to.turns place early)
+            | inr late ↦ omega (arith, turn_at-round weights list r (place - length list) place is (omega arith) (omega arith))
+          ];
     }
   where
     at_right : (list more : List ℕ) (place i : ℕ) → place ≡ length list + i → get_or (list ++ more) place 0 ≡ get_or more i 0

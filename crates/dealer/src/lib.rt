@@ -5,6 +5,8 @@ mod account;
 mod counts;
 mod cycle;
 mod laws;
+#[cfg(test)]
+mod tests;
 
 pub use account::Account;
 pub use counts::Counts;

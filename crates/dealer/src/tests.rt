@@ -1,0 +1,93 @@
+use super::*;
+use certificate::{Plan, check};
+use quorum_set::{Coterie, QSet};
+use std::alloc::Global;
+use std::test::Fail;
+
+/// The plan of the wheel with three rims and these weights of its quorums.
+fn wheel(alloc: Global, quorum_weights: [u64; 4]) -> Result<Option<Plan>, Fail> {
+    let mut sets = Vec::new(alloc);
+    for members in [[0u8, 1, 1], [0, 2, 2], [0, 3, 3], [1, 2, 3]] {
+        let mut set = QSet::empty();
+        for i in members {
+            if i < 64 {
+                set.insert(i);
+            }
+        }
+        sets.push(set)?;
+    }
+    let Ok(coterie) = Coterie::of(4, sets) else {
+        return Ok(None);
+    };
+    let quorum_weights = quorum_weights.as_slice().to_vec(alloc)?;
+    let voter_weights = [2, 1, 1, 1].as_slice().to_vec(alloc)?;
+    Ok(check(alloc, &coterie, quorum_weights, voter_weights).ok())
+}
+
+/// The cycle of that plan.
+fn wheel_cycle(alloc: Global, quorum_weights: [u64; 4]) -> Result<Option<Cycle>, Fail> {
+    let Some(plan) = wheel(alloc, quorum_weights)? else {
+        return Ok(None);
+    };
+    match Cycle::of(alloc, plan) {
+        Ok(cycle) => Ok(Some(cycle)),
+        Err((_plan, error)) => Err(error.into()),
+    }
+}
+
+#[test]
+fn deals_round_by_round(rt: HostRuntime) -> Result<(), Fail> {
+    let alloc = rt.alloc();
+    let table = [
+        // The last ticket of all, 2^64 - 1, is at place 0 of the cycle of 5, and at place 5 of that of 10.
+        ([1u64, 1, 1, 2], [0usize, 1, 2, 3, 3, 0, 1, 2, 3, 3], 0usize),
+        ([2, 2, 2, 4], [0, 1, 2, 3, 0, 1, 2, 3, 3, 3], 1),
+    ];
+    for (quorum_weights, want, last) in table {
+        let Some(cycle) = wheel_cycle(alloc, quorum_weights)? else {
+            assert!(rt; false, "no plan");
+            return Ok(());
+        };
+        for (ticket, quorum) in want.iter().enumerate() {
+            assert_eq!(rt; cycle.quorum_at(ticket as u64), *quorum, "ticket {ticket}");
+        }
+        assert_eq!(rt; cycle.quorum_at(u64::MAX), last);
+    }
+    Ok(())
+}
+
+#[test]
+fn accounts_for_tickets_in_any_order(rt: HostRuntime) -> Result<(), Fail> {
+    let alloc = rt.alloc();
+    let Some(cycle) = wheel_cycle(alloc, [1, 1, 1, 2])? else {
+        assert!(rt; false, "no plan");
+        return Ok(());
+    };
+    assert_eq!(rt; cycle.plan().cycle_len(), 5);
+    let table = [
+        (0u64, [0u64, 0, 0, 0], [0u64, 0, 0, 0], 0u64),
+        (5, [1, 1, 1, 2], [3, 3, 3, 3], 3),
+        (7, [2, 2, 1, 2], [5, 4, 4, 3], 5),
+        (10, [2, 2, 2, 4], [6, 6, 6, 6], 6),
+    ];
+    for (count, quorums, voters, busiest) in table {
+        let mut tickets = Vec::new(alloc);
+        for ticket in (0..count).rev() {
+            tickets.push(ticket)?;
+        }
+        let account = cycle.account(alloc, &tickets)?;
+        assert_eq!(rt; account.drawn, count);
+        assert_eq!(rt;
+            account.quorums.as_slice(),
+            quorums.as_slice(),
+            "{count} tickets"
+        );
+        assert_eq!(rt;
+            account.voters.into_vec().as_slice(),
+            voters.as_slice(),
+            "{count} tickets"
+        );
+        assert_eq!(rt; account.busiest, busiest, "{count} tickets");
+    }
+    Ok(())
+}
