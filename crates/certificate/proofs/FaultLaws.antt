@@ -1,6 +1,6 @@
 -- Weights have no fault exactly where they are a certificate.
-use Rattle.std.proofs.Common.{◌≡◌, Bool, true, false, cond, ◌&&◌, refl, arith, Option, None, Some}
-use Rattle.std.proofs.lemmas.Bool.{eqb-true, eqb-false, eq-eqb, ne_eqb, ltb-false, le-ltb, not-false, or_parts, or_from}
+use Rattle.std.proofs.Common.{◌≡◌, Bool, true, false, cond, refl, arith, Option, None, Some}
+use Rattle.std.proofs.lemmas.Bool.{and_parts, eqb-true, eqb-false, eq-eqb, ne_eqb, ltb-false, le-ltb, not-false, or_parts, or_from}
 use Rattle.quorum_set.specs.Coteries.{IsCoterie}
 use Rattle.certificate.specs.Certificates.{Weighted, IsCertificate, weights_fault, cycle_len, voter_total}
 
@@ -8,10 +8,6 @@ use Rattle.certificate.specs.Certificates.{Weighted, IsCertificate, weights_faul
 passed : {F : Type 0} (b : Bool) (e : F) (rest : Option F) → cond b (Some e) rest ≡ None → (b ≡ false) × (rest ≡ None)
 passed true e rest h = cc
 passed false e rest h = (refl, h)
-
-both : (x y : Bool) → x && y ≡ true → (x ≡ true) × (y ≡ true)
-both true y e = (refl, e)
-both false y e = cc
 
 none_of_four : {F : Type 0} (a b c d : Bool) (w x y z : F) → a ≡ false → b ≡ false → c ≡ false → d ≡ false
     → cond a (Some w) (cond b (Some x) (cond c (Some y) (cond d (Some z) None))) ≡ None
@@ -23,7 +19,7 @@ IsCertificate-weights_fault w coterie none =
     let two = passed _ _ _ one.1 in
     let three = passed _ _ _ two.1 in
     let four = passed _ _ _ three.1 in
-    let lengths = both _ _ (not-false _ one.0) in
+    let lengths = and_parts _ _ (not-false _ one.0) in
     let small = or_parts _ _ two.0 in
     let some = or_parts _ _ three.0 in
     let some_quorum = eqb-false (cycle_len w) 0 some.0 in

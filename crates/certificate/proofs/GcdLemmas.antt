@@ -1,6 +1,6 @@
 -- Lemmas on the greatest common divisor.
 use Rattle.std.proofs.Common.{◌≡◌, ℕ, ◌+◌, ◌*◌, ◌/◌, ◌%◌, ◌<◌, ◌≤◌, Bool, true, false, cond, ◌&&◌, eqb, zero, suc, sym, refl, ap, subst, ◌∙◌, inl, inr, arith}
-use Rattle.std.proofs.lemmas.Bool.{cases_eq, cases_lt, eq-eqb, eqb-true, true≢false}
+use Rattle.std.proofs.lemmas.Bool.{and_parts, cases_eq, cases_lt, eq-eqb, eqb-true, true≢false}
 use Rattle.std.specs.Int.{IsGcd, ◌∣◌}
 use Rattle.std.proofs.lemmas.Nat.Gcd.{dvd-zero, le_of_dvd, dvd_of_mod-eq-zero, mod-eq-zero_of_dvd, le_from_IsGcd}
 use Rattle.std.proofs.Math.Nat.{eq-zero_of_zero-dvd, one-dvd, mul-dvd-mul_left, dvd_of_mul-dvd-mul_left, mul-div_cancel', mul_assoc, mul_comm}
@@ -8,10 +8,6 @@ use Rattle.certificate.specs.Gcd.{common_divisor_up_to, gcd_of}
 
 both_mod : (a b d : ℕ) → d ∣ a → d ∣ b → eqb (a % d) 0 && eqb (b % d) 0 ≡ true
 both_mod a b d da db = rw (eq-eqb _ 0 (mod-eq-zero_of_dvd d da), eq-eqb _ 0 (mod-eq-zero_of_dvd d db)) refl
-
-and_parts : (x y : Bool) → x && y ≡ true → (x ≡ true) × (y ≡ true)
-and_parts true y e = (refl, e)
-and_parts false y e = cc
 
 -- where the greatest common divisor is not above n, the search from n down finds it
 found_up_to : (n a b g : ℕ) → IsGcd a b g → 0 < g → g ≤ n → common_divisor_up_to n a b ≡ g

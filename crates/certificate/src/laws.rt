@@ -1,8 +1,10 @@
 //! Laws of the definitions.
-ghost use Rattle.std.specs.Prelude.{◌≡◌, ◌*◌, ◌↔◌, ℕ, List, None, length, slice_index};
+ghost use Rattle.std.specs.Prelude.{◌≡◌, ◌*◌, ◌↔◌, ◌<◌, ◌++◌, ℕ, List, [], None, Some, length, slice_index};
+ghost use Rattle.std.specs.Fmt.{decimal};
 ghost use Rattle.quorum_set.specs.Coteries.{IsCoterie};
 ghost use Rattle.quorum_set.specs.Counts.{count_of, busiest_of, times};
 ghost use Rattle.certificate.specs.Certificates.{Weighted, IsCertificate, weights_fault, busiest_count};
+ghost use Rattle.certificate.specs.PlanTexts.{plan_text, number_of};
 ghost use Rattle.certificate.specs.Loads.{weight_on};
 
 /// A list in which each quorum stands k times its weight names each voter k times the weight on its
@@ -18,4 +20,14 @@ pub fn whole_cycles_are_even()
 /// Weights of a coterie have no fault exactly where they are a certificate.
 pub fn certificates_have_no_fault()
     ensures { (w : Weighted) → IsCoterie w.system → (weights_fault w ≡ None) ↔ IsCertificate w }
+{}
+
+/// Bytes are a number exactly where they are its decimal text, of 1 to 7 digits.
+pub fn numbers_have_one_spelling()
+    ensures { (bytes : List ℕ) (n : ℕ) → (number_of bytes ≡ Some n) ↔ ((bytes ≡ decimal n) × (n < 10000000)) }
+{}
+
+/// No plan's text begins a longer one of a plan.
+pub fn plan_texts_end()
+    ensures { (v w : Weighted) (more : List ℕ) → IsCertificate v → IsCertificate w → plan_text v ++ more ≡ plan_text w → more ≡ [] }
 {}

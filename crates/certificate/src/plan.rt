@@ -152,6 +152,20 @@ impl Plan {
         self.voter_weights[usize::from(i)]
     }
 
+    /// The weight of each quorum.
+    pub(crate) fn quorum_weights(&self) -> &[u64]
+        ensures { result.now ≡ self.now.quorum_weights }
+    {
+        self.quorum_weights.as_slice()
+    }
+
+    /// The weight of each voter.
+    pub(crate) fn voter_weights(&self) -> &[u64]
+        ensures { result.now ≡ self.now.voter_weights }
+    {
+        self.voter_weights.as_slice()
+    }
+
     /// An equal plan.
     pub fn copy(&self, alloc: Global) -> Result<Plan, AllocError>
         ensures value { IfOk result (λ p. p ≡ self.now) }

@@ -1,0 +1,196 @@
+-- The laws of plan texts: what is read is spelled so, what is spelled so is read, and no spelling begins another.
+use Rattle.std.proofs.Common.{◌≡◌, ℕ, ◌<◌, ◌≤◌, Bool, true, false, cond, eqb, List, [], ◌∷◌, ◌++◌, length, sum, Option, None, Some, Result, Ok, Err, zero, suc, sym, refl, ap, subst, ◌∙◌, arith, append_assoc, rules}
+use Rattle.std.specs.Prelude.{codes, IfOk}
+use Rattle.std.specs.List.{AllByRecursion}
+use Rattle.std.specs.Option.{option_or}
+use Rattle.std.proofs.lemmas.Bool.{eqb-true, eq-eqb, and_parts, not-false}
+use Rattle.std.proofs.lemmas.List.{nil_from_length, append-nil}
+use Rattle.std.proofs.lemmas.List.Sums.{sum_by-cons}
+use Rattle.std.specs.Fmt.{decimal}
+use Rattle.std.proofs.Math.Nat.{div-le_self}
+use Rattle.quorum_set.specs.Coteries.{QuorumSystem}
+use Rattle.quorum_set.specs.Counts.{greatest_below}
+use Rattle.certificate.specs.declared.fault.PlanFault.{PlanFault}
+use Rattle.certificate.specs.declared.fault.PlanFault.TheVariants.{BadText}
+use Rattle.certificate.specs.Gcd.{gcd_of}
+use Rattle.certificate.specs.Loads.{weight_on}
+use Rattle.certificate.specs.Certificates.{Weighted, IsCertificate, cycle_len, busiest_count, load_of, weights_fault}
+use Rattle.certificate.specs.PlanTexts.{Telling, telling_of, title_line, load_line, cycle_line, weights_line, lines_of, text_of_lines, plan_text, read_title, read_load, read_cycle, read_weights, line_at, ◌>>=◌, telling_at, telling_fault, unless_fault, judged, weighted_by, plan_at, MemoryAside}
+use Rattle.certificate.proofs.FaultLaws.{weights_fault-IsCertificate}
+use Rattle.certificate.proofs.LoadLemmas.{weight_on-le}
+use Rattle.certificate.proofs.Spellings.{IsShort, title-Some, title-again, load-Some, load-again, cycle-Some, cycle-again, weights-Some, weights-again, Lacks-load, Lacks-cycle, Lacks-weights, line_at-Ok, line_at-append}
+
+bind_Ok : {A B : Type 0} (r : Result A PlanFault) (f : A → Result B PlanFault) (y : B) → (r >>= f) ≡ Ok y → (x : A) × (r ≡ Ok x) × (f x ≡ Ok y)
+bind_Ok (Ok x) f y e = (x, refl, e)
+bind_Ok (Err d) f y e = cc
+
+ended_Ok : {A : Type 0} (b : Bool) (d : PlanFault) (x y : A) → cond b (Ok x) (Err d) ≡ Ok y → (b ≡ true) × (x ≡ y)
+ended_Ok true d x y e = (refl, cc)
+ended_Ok false d x y e = cc
+
+-- what is told, where nothing follows
+abbrev told : ℕ × ℕ → ℕ → List ℕ → List ℕ × List ℕ → Result Telling PlanFault
+told l n q v = cond (eqb (length v.1) 0) (Ok (record { load = l; cycle = n; quorum_weights = q; voter_weights = v.0 })) (Err (BadText 6))
+
+-- what is told by a text is spelled so
+telling-Ok : (text : List ℕ) (t : Telling) → telling_at text ≡ Ok t → text ≡ text_of_lines (lines_of t)
+unfolding telling_at
+telling-Ok text t e =
+    let one = bind_Ok (line_at 1 read_title text) (λ title. line_at 2 read_load title.1 >>= λ load. line_at 3 read_cycle load.1 >>= λ cycle. line_at 4 (read_weights (codes "quorum ")) cycle.1 >>= λ quorums. line_at 5 (read_weights (codes "voter ")) quorums.1 >>= λ voters. told load.0 cycle.0 quorums.0 voters) t e in
+    let two = bind_Ok (line_at 2 read_load one.0.1) (λ load. line_at 3 read_cycle load.1 >>= λ cycle. line_at 4 (read_weights (codes "quorum ")) cycle.1 >>= λ quorums. line_at 5 (read_weights (codes "voter ")) quorums.1 >>= λ voters. told load.0 cycle.0 quorums.0 voters) t one.2 in
+    let three = bind_Ok (line_at 3 read_cycle two.0.1) (λ cycle. line_at 4 (read_weights (codes "quorum ")) cycle.1 >>= λ quorums. line_at 5 (read_weights (codes "voter ")) quorums.1 >>= λ voters. told two.0.0 cycle.0 quorums.0 voters) t two.2 in
+    let four = bind_Ok (line_at 4 (read_weights (codes "quorum ")) three.0.1) (λ quorums. line_at 5 (read_weights (codes "voter ")) quorums.1 >>= λ voters. told two.0.0 three.0.0 quorums.0 voters) t three.2 in
+    let five = bind_Ok (line_at 5 (read_weights (codes "voter ")) four.0.1) (λ voters. told two.0.0 three.0.0 four.0.0 voters) t four.2 in
+    let end = ended_Ok (eqb (length five.0.1) 0) (BadText 6) (record { load = two.0.0; cycle = three.0.0; quorum_weights = four.0.0; voter_weights = five.0.0 }) t five.2 in
+    let title = line_at-Ok 1 read_title text one.0 one.1 in
+    let load = line_at-Ok 2 read_load one.0.1 two.0 two.1 in
+    let cycle = line_at-Ok 3 read_cycle two.0.1 three.0 three.1 in
+    let quorums = line_at-Ok 4 (read_weights (codes "quorum ")) three.0.1 four.0 four.1 in
+    let voters = line_at-Ok 5 (read_weights (codes "voter ")) four.0.1 five.0 five.1 in
+    let rest5 : five.0.1 ≡ [] = nil_from_length five.0.1 (eqb-true _ _ end.0) in
+    let rest4 : four.0.1 ≡ text_of_lines (weights_line (codes "voter ") five.0.0 ∷ []) =
+    voters.1 ∙ ap (λ l. l ++ 10 ∷ five.0.1) (weights-Some (codes "voter ") voters.0 five.0.0 voters.2) ∙ ap (λ r. weights_line (codes "voter ") five.0.0 ++ 10 ∷ r) rest5 in
+    let rest3 : three.0.1 ≡ text_of_lines (weights_line (codes "quorum ") four.0.0 ∷ weights_line (codes "voter ") five.0.0 ∷ []) =
+    quorums.1 ∙ ap (λ l. l ++ 10 ∷ four.0.1) (weights-Some (codes "quorum ") quorums.0 four.0.0 quorums.2) ∙ ap (λ r. weights_line (codes "quorum ") four.0.0 ++ 10 ∷ r) rest4 in
+    let rest2 : two.0.1 ≡ text_of_lines (cycle_line three.0.0 ∷ weights_line (codes "quorum ") four.0.0 ∷ weights_line (codes "voter ") five.0.0 ∷ []) =
+    cycle.1 ∙ ap (λ l. l ++ 10 ∷ three.0.1) (cycle-Some cycle.0 three.0.0 cycle.2) ∙ ap (λ r. cycle_line three.0.0 ++ 10 ∷ r) rest3 in
+    let rest1 : one.0.1 ≡ text_of_lines (load_line two.0.0 ∷ cycle_line three.0.0 ∷ weights_line (codes "quorum ") four.0.0 ∷ weights_line (codes "voter ") five.0.0 ∷ []) =
+    load.1 ∙ ap (λ l. l ++ 10 ∷ two.0.1) (load-Some load.0 two.0.0 load.2) ∙ ap (λ r. load_line two.0.0 ++ 10 ∷ r) rest2 in
+    title.1 ∙ ap (λ l. l ++ 10 ∷ one.0.1) (title-Some title.0 one.0.0 title.2) ∙ ap (λ r. title_line ++ 10 ∷ r) rest1 ∙ ap (λ u. text_of_lines (lines_of u)) end.1
+
+-- what the lines tell has 1 to 7 digits each, and there is a quorum and a voter
+pub record IsSpelled (t : Telling) : Type 0 where
+  pub left : IsShort t.load.0
+  pub right : IsShort t.load.1
+  pub cycle : IsShort t.cycle
+  pub some_quorum : 0 < length t.quorum_weights
+  pub quorums : AllByRecursion IsShort t.quorum_weights
+  pub some_voter : 0 < length t.voter_weights
+  pub voters : AllByRecursion IsShort t.voter_weights
+
+-- the lines, and more behind them
+abbrev lines_and : List (List ℕ) → List ℕ → List ℕ
+lines_and [] more = more
+lines_and (line ∷ lines) more = line ++ 10 ∷ lines_and lines more
+
+text_of_lines-append : (lines : List (List ℕ)) (more : List ℕ) → text_of_lines lines ++ more ≡ lines_and lines more
+text_of_lines-append [] more = refl
+text_of_lines-append (line ∷ lines) more = append_assoc line (10 ∷ text_of_lines lines) more ∙ ap (λ r. line ++ 10 ∷ r) (text_of_lines-append lines more)
+
+-- what is spelled so is told, where nothing follows
+telling-again : (t : Telling) (more : List ℕ) → IsSpelled t → telling_at (text_of_lines (lines_of t) ++ more) ≡ cond (eqb (length more) 0) (Ok t) (Err (BadText 6))
+unfolding telling_at
+telling-again t more h =
+    let voters = weights_line (codes "voter ") t.voter_weights in
+    let quorums = weights_line (codes "quorum ") t.quorum_weights in
+    let five : line_at 5 (read_weights (codes "voter ")) (voters ++ 10 ∷ more) ≡ Ok (t.voter_weights, more) =
+    line_at-append 5 (read_weights (codes "voter ")) voters more t.voter_weights (weights-again (codes "voter ") t.voter_weights h.some_voter h.voters) (Lacks-weights (codes "voter ") t.voter_weights (search rules) h.voters) in
+    let rest4 = voters ++ 10 ∷ more in
+    let four : line_at 4 (read_weights (codes "quorum ")) (quorums ++ 10 ∷ rest4) ≡ Ok (t.quorum_weights, rest4) =
+    line_at-append 4 (read_weights (codes "quorum ")) quorums rest4 t.quorum_weights (weights-again (codes "quorum ") t.quorum_weights h.some_quorum h.quorums) (Lacks-weights (codes "quorum ") t.quorum_weights (search rules) h.quorums) in
+    let rest3 = quorums ++ 10 ∷ rest4 in
+    let three : line_at 3 read_cycle (cycle_line t.cycle ++ 10 ∷ rest3) ≡ Ok (t.cycle, rest3) =
+    line_at-append 3 read_cycle (cycle_line t.cycle) rest3 t.cycle (cycle-again t.cycle h.cycle) (Lacks-cycle t.cycle h.cycle) in
+    let rest2 = cycle_line t.cycle ++ 10 ∷ rest3 in
+    let two : line_at 2 read_load (load_line t.load ++ 10 ∷ rest2) ≡ Ok (t.load, rest2) =
+    line_at-append 2 read_load (load_line t.load) rest2 t.load (load-again t.load h.left h.right) (Lacks-load t.load h.left h.right) in
+    let rest1 = load_line t.load ++ 10 ∷ rest2 in
+    let one : line_at 1 read_title (title_line ++ 10 ∷ rest1) ≡ Ok (tt, rest1) =
+    line_at-append 1 read_title title_line rest1 tt title-again (search rules) in
+    ap telling_at (text_of_lines-append (lines_of t) more)
+    ∙ ap (λ r. r >>= λ title. line_at 2 read_load title.1 >>= λ load. line_at 3 read_cycle load.1 >>= λ cycle. line_at 4 (read_weights (codes "quorum ")) cycle.1 >>= λ quorums. line_at 5 (read_weights (codes "voter ")) quorums.1 >>= λ voters. told load.0 cycle.0 quorums.0 voters) one
+    ∙ ap (λ r. r >>= λ load. line_at 3 read_cycle load.1 >>= λ cycle. line_at 4 (read_weights (codes "quorum ")) cycle.1 >>= λ quorums. line_at 5 (read_weights (codes "voter ")) quorums.1 >>= λ voters. told load.0 cycle.0 quorums.0 voters) two
+    ∙ ap (λ r. r >>= λ cycle. line_at 4 (read_weights (codes "quorum ")) cycle.1 >>= λ quorums. line_at 5 (read_weights (codes "voter ")) quorums.1 >>= λ voters. told t.load cycle.0 quorums.0 voters) three
+    ∙ ap (λ r. r >>= λ quorums. line_at 5 (read_weights (codes "voter ")) quorums.1 >>= λ voters. told t.load t.cycle quorums.0 voters) four
+    ∙ ap (λ r. r >>= λ voters. told t.load t.cycle t.quorum_weights voters) five
+
+-- no fault, so the value
+unless_Ok : (o : Option PlanFault) (w p : Weighted) → unless_fault o w ≡ Ok p → (o ≡ None) × (w ≡ p)
+unless_Ok None w p e = (refl, cc)
+unless_Ok (Some d) w p e = cc
+
+or_None : (o p : Option PlanFault) → option_or o p ≡ None → (o ≡ None) × (p ≡ None)
+or_None None p e = (refl, e)
+or_None (Some d) p e = cc
+
+passed : (b : Bool) (e : PlanFault) (rest : Option PlanFault) → cond b (Some e) rest ≡ None → (b ≡ false) × (rest ≡ None)
+passed true e rest h = cc
+passed false e rest h = (refl, h)
+
+same_lines : (w : Weighted) (t : Telling) → telling_fault w t ≡ None → (load_line t.load ≡ load_line (load_of w)) × (cycle_line t.cycle ≡ cycle_line (cycle_len w))
+same_lines w t none =
+    let one = passed _ _ _ none in
+    let two = passed _ _ _ one.1 in
+    let load = and_parts _ _ (not-false _ one.0) in
+    let left : t.load.0 ≡ (load_of w).0 = sym (eqb-true _ _ load.0) in
+    let right : t.load.1 ≡ (load_of w).1 = sym (eqb-true _ _ load.1) in
+    let cycle : t.cycle ≡ cycle_len w = sym (eqb-true _ _ (not-false _ two.0)) in
+    (ap (λ x. codes "load " ++ (decimal x ++ 47 ∷ decimal t.load.1)) left ∙ ap (λ y. codes "load " ++ (decimal (load_of w).0 ++ 47 ∷ decimal y)) right, ap cycle_line cycle)
+
+-- what is read is spelled so
+pub plan_at-Ok : (s : QuorumSystem) (text : List ℕ) (p : Weighted) → plan_at s text ≡ Ok p → (p.system ≡ s) × (text ≡ plan_text p)
+unfolding plan_at
+plan_at-Ok s text p e =
+    let told = bind_Ok (telling_at text) (λ t. judged (weighted_by s t) t) p e in
+    let t = told.0 in
+    let w = weighted_by s t in
+    let judged = unless_Ok (option_or (weights_fault w) (telling_fault w t)) w p told.2 in
+    let none = or_None (weights_fault w) (telling_fault w t) judged.0 in
+    let same = same_lines w t none.1 in
+    let quorums = weights_line (codes "quorum ") t.quorum_weights in
+    let voters = weights_line (codes "voter ") t.voter_weights in
+    let respelled : text_of_lines (lines_of t) ≡ plan_text w =
+    ap (λ l. text_of_lines (title_line ∷ l ∷ cycle_line t.cycle ∷ quorums ∷ voters ∷ [])) same.0
+    ∙ ap (λ l. text_of_lines (title_line ∷ load_line (load_of w) ∷ l ∷ quorums ∷ voters ∷ [])) same.1 in
+    (ap (λ v. v.system) (sym judged.1), telling-Ok text t told.1 ∙ respelled ∙ ap plan_text judged.1)
+
+-- the numbers of a certificate have 1 to 7 digits
+greatest_below-small : (n m : ℕ) (f : ℕ → ℕ) → ((i : ℕ) → f i ≤ m) → greatest_below n f ≤ m
+greatest_below-small zero m f h = omega arith
+greatest_below-small (suc n) m f h = omega (arith, greatest_below-small n m f h, h n)
+
+small_weights : (ws : List ℕ) → sum ws ≤ 1000000 → AllByRecursion IsShort ws
+small_weights [] h = tt
+small_weights (x ∷ ws) h = (omega (arith, sum_by-cons (λ y. y) x ws), small_weights ws (omega (arith, sum_by-cons (λ y. y) x ws)))
+
+pub IsSpelled-certificate : (w : Weighted) → IsCertificate w → IsSpelled (telling_of w)
+IsSpelled-certificate w h =
+    let most : busiest_count w ≤ cycle_len w = greatest_below-small w.system.voters (cycle_len w) (λ i. weight_on i w.system.quorums w.quorum_weights) (λ i. weight_on-le i w.system.quorums w.quorum_weights) in
+    record {
+      left = omega (arith, div-le_self (busiest_count w) (gcd_of (busiest_count w) (cycle_len w)), most, h.few_quorums);
+      right = omega (arith, div-le_self (cycle_len w) (gcd_of (busiest_count w) (cycle_len w)), h.few_quorums);
+      cycle = omega (arith, h.few_quorums);
+      some_quorum = omega (arith, h.quorums, h.coterie.some_quorum);
+      quorums = small_weights w.quorum_weights h.few_quorums;
+      some_voter = omega (arith, h.voters, h.coterie.some_voter);
+      voters = small_weights w.voter_weights h.few_voters;
+    }
+
+told_again : (w : Weighted) → IsCertificate w → telling_at (plan_text w) ≡ Ok (telling_of w)
+told_again w h = ap telling_at (sym (append-nil (plan_text w))) ∙ telling-again (telling_of w) [] (IsSpelled-certificate w h)
+
+fits_itself : (w : Weighted) → telling_fault w (telling_of w) ≡ None
+fits_itself w = rw (eq-eqb (load_of w).0 (load_of w).0 refl, eq-eqb (load_of w).1 (load_of w).1 refl, eq-eqb (cycle_len w) (cycle_len w) refl) refl
+
+-- what is spelled so is read
+pub plan_at-plan_text : (w : Weighted) → IsCertificate w → plan_at w.system (plan_text w) ≡ Ok w
+unfolding plan_at
+plan_at-plan_text w h =
+    ap (λ r. r >>= λ t. judged (weighted_by w.system t) t) (told_again w h)
+    ∙ ap (λ o. unless_fault (option_or o (telling_fault w (telling_of w))) w) (weights_fault-IsCertificate w h)
+    ∙ ap (λ o. unless_fault o w) (fits_itself w)
+
+-- no spelling begins another
+pub plan_text-end : (v w : Weighted) (more : List ℕ) → IsCertificate v → IsCertificate w → plan_text v ++ more ≡ plan_text w → more ≡ []
+plan_text-end v w more hv hw e =
+    let one = sym (telling-again (telling_of v) more (IsSpelled-certificate v hv)) ∙ ap telling_at e ∙ told_again w hw in
+    nil_from_length more (eqb-true _ _ (ended_Ok (eqb (length more) 0) (BadText 6) (telling_of v) (telling_of w) one).0)
+
+-- what a call answered
+pub is_spelled : (s : QuorumSystem) (text : List ℕ) (r : Result Weighted PlanFault) → MemoryAside r (plan_at s text) → IfOk r (λ p. (p.system ≡ s) × (text ≡ plan_text p))
+is_spelled s text (Ok p) h = plan_at-Ok s text p h
+is_spelled s text (Err e) h = tt
+
+pub is_read : (s : QuorumSystem) (text : List ℕ) (r : Result Weighted PlanFault) (w : Weighted) → MemoryAside r (plan_at s text) → w.system ≡ s → IsCertificate w → text ≡ plan_text w → MemoryAside r (Ok w)
+is_read s text r w h same certificate e =
+    subst (λ wanted. MemoryAside r wanted) (ap (λ t. plan_at s t) e ∙ ap (λ s. plan_at s (plan_text w)) (sym same) ∙ plan_at-plan_text w certificate) h

@@ -1,0 +1,150 @@
+-- The lines of a plan: what is read of each is spelled so, and what is spelled so is read.
+use Rattle.std.proofs.Common.{◌≡◌, ℕ, ◌<◌, cond, eqb, List, [], ◌∷◌, ◌++◌, length, take, drop, map, Option, None, Some, Ok, sym, refl, ap, subst, ◌∙◌, arith, append_assoc, rules}
+use Rattle.std.specs.Prelude.{codes}
+use Rattle.std.specs.List.{slice_split, join_with_byte, AllByRecursion}
+use Rattle.std.specs.Option.{option_map, option_and_then, ok_or}
+use Rattle.std.specs.Str.{bytes_eq}
+use Rattle.std.specs.Fmt.{decimal}
+use Rattle.std.proofs.lemmas.Option.{cond_some}
+use Rattle.std.proofs.lemmas.List.{take_at, drop_at, take-append-drop}
+use Rattle.std.proofs.lemmas.List.Splits.{join_with_byte-slice_split}
+use Rattle.std.proofs.lemmas.Slice.Eq.{bytes_eq-Decides}
+use Rattle.certificate.specs.declared.fault.PlanFault.{PlanFault}
+use Rattle.certificate.specs.declared.fault.PlanFault.TheVariants.{BadText}
+use Rattle.certificate.specs.PlanTexts.{spaced, title_line, load_line, cycle_line, weights_line, cut_at, number_of, numbers_of, behind, read_title, read_pair, read_load, read_cycle, read_weights, line_at}
+use Rattle.certificate.proofs.Numbers.{number_of-Some, number_of-decimal}
+use Rattle.certificate.proofs.Cuts.{Lacks, Lacks-append, Lacks-decimal, Lacks-join, AllLack, cut_at-append, cut_at-Some, slice_split-join}
+
+-- one more number is written
+pub spaced-push : (ns : List ℕ) (n : ℕ) → 0 < length ns → spaced (ns ++ n ∷ []) ≡ spaced ns ++ 32 ∷ decimal n
+spaced-push [] n some = absurd (omega arith)
+spaced-push (x ∷ []) n some = refl
+spaced-push (x ∷ y ∷ ns) n some =
+    ap (λ t. decimal x ++ 32 ∷ t) (spaced-push (y ∷ ns) n (omega arith))
+    ∙ sym (append_assoc (decimal x) (32 ∷ spaced (y ∷ ns)) (32 ∷ decimal n))
+
+-- the number has 1 to 7 digits
+abbrev pub IsShort : ℕ → Type 0
+IsShort n = n < 10000000
+
+and_then_Some : {A B : Type 0} (f : A → Option B) (o : Option A) (y : B) → option_and_then f o ≡ Some y → (x : A) × (o ≡ Some x) × (f x ≡ Some y)
+and_then_Some f None y e = cc
+and_then_Some f (Some x) y e = (x, refl, e)
+
+map_Some : {A B : Type 0} (f : A → B) (o : Option A) (y : B) → option_map f o ≡ Some y → (x : A) × (o ≡ Some x) × (f x ≡ y)
+map_Some f None y e = cc
+map_Some f (Some x) y e = (x, refl, cc)
+
+-- words that are numbers are as they are written
+numbers_of-Some : (words : List (List ℕ)) (ns : List ℕ) → numbers_of words ≡ Some ns → words ≡ map decimal ns
+numbers_of-Some [] ns e = ap (map decimal) (nil ns e)
+  where
+    nil : (ns : List ℕ) → Some [] ≡ Some ns → [] ≡ ns
+    nil ns e = cc
+numbers_of-Some (word ∷ words) ns e =
+    let first = and_then_Some (λ n. option_map (λ ns. n ∷ ns) (numbers_of words)) (number_of word) ns e in
+    let others = map_Some (λ ms. first.0 ∷ ms) (numbers_of words) ns first.2 in
+    let word_is = number_of-Some word first.0 first.1 in
+    let words_are = numbers_of-Some words others.0 others.1 in
+    subst (λ ms. word ∷ words ≡ map decimal ms) others.2 (cc)
+
+numbers_of-decimal : (ns : List ℕ) → AllByRecursion IsShort ns → numbers_of (map decimal ns) ≡ Some ns
+numbers_of-decimal [] h = refl
+numbers_of-decimal (n ∷ ns) h = rw (number_of-decimal n h.0, numbers_of-decimal ns h.1) refl
+
+AllLack-decimal : (mark : ℕ) (ns : List ℕ) → mark < 48 → AllByRecursion IsShort ns → AllLack mark (map decimal ns)
+AllLack-decimal mark [] low h = tt
+AllLack-decimal mark (n ∷ ns) low h = (Lacks-decimal mark n low h.0, AllLack-decimal mark ns low h.1)
+
+-- a word and what follows it
+behind-Some : (word line rest : List ℕ) → behind word line ≡ Some rest → line ≡ word ++ rest
+behind-Some word line rest e =
+    let parts = cond_some (bytes_eq (take (length word) line) word) (drop (length word) line) rest e in
+    let same = (bytes_eq-Decides (take (length word) line) word).0 parts.0 in
+    sym (take-append-drop (length word) line) ∙ ap (λ t. t ++ drop (length word) line) same ∙ ap (λ t. word ++ t) parts.1
+
+behind-append : (word rest : List ℕ) → behind word (word ++ rest) ≡ Some rest
+behind-append word rest =
+    let same = (bytes_eq-Decides (take (length word) (word ++ rest)) word).1 (take_at word rest (length word) refl) in
+    ap (λ b. cond b (Some (drop (length word) (word ++ rest))) None) same ∙ ap Some (drop_at word rest (length word) refl)
+
+-- each line
+pub title-Some : (line : List ℕ) (x : Unit {0}) → read_title line ≡ Some x → line ≡ title_line
+title-Some line x e = (bytes_eq-Decides line title_line).0 (cond_some (bytes_eq line title_line) tt x e).0
+
+pub title-again : read_title title_line ≡ Some tt
+title-again = refl
+
+pair_is : (a b : ℕ) (p : ℕ × ℕ) → (a, b) ≡ p → (a ≡ p.0) × (b ≡ p.1)
+pair_is a b p e = (ap (λ x. x.0) e, ap (λ x. x.1) e)
+
+pub load-Some : (line : List ℕ) (x : ℕ × ℕ) → read_load line ≡ Some x → line ≡ load_line x
+load-Some line x e =
+    let word = and_then_Some (λ rest. option_and_then read_pair (cut_at 47 rest)) (behind (codes "load ") line) x e in
+    let sides = and_then_Some read_pair (cut_at 47 word.0) x word.2 in
+    let left = and_then_Some (λ p. option_map (λ q. (p, q)) (number_of sides.0.1)) (number_of sides.0.0) x sides.2 in
+    let right = map_Some (λ q. (left.0, q)) (number_of sides.0.1) x left.2 in
+    let parts = pair_is left.0 right.0 x right.2 in
+    behind-Some (codes "load ") line word.0 word.1
+    ∙ ap (λ t. codes "load " ++ t) (cut_at-Some 47 word.0 sides.0 sides.1
+    ∙ ap (λ t. t ++ 47 ∷ sides.0.1) (number_of-Some sides.0.0 left.0 left.1 ∙ ap decimal parts.0)
+    ∙ ap (λ t. decimal x.0 ++ 47 ∷ t) (number_of-Some sides.0.1 right.0 right.1 ∙ ap decimal parts.1))
+
+pub load-again : (x : ℕ × ℕ) → IsShort x.0 → IsShort x.1 → read_load (load_line x) ≡ Some x
+load-again x left right =
+    let cut = cut_at-append 47 (decimal x.0) (decimal x.1) (Lacks-decimal 47 x.0 (omega arith) left) in
+    ap (option_and_then (λ rest. option_and_then read_pair (cut_at 47 rest))) (behind-append (codes "load ") (decimal x.0 ++ 47 ∷ decimal x.1))
+    ∙ ap (option_and_then read_pair) cut ∙ rw (number_of-decimal x.0 left, number_of-decimal x.1 right) refl
+
+pub cycle-Some : (line : List ℕ) (n : ℕ) → read_cycle line ≡ Some n → line ≡ cycle_line n
+cycle-Some line n e =
+    let word = and_then_Some number_of (behind (codes "cycle ") line) n e in
+    behind-Some (codes "cycle ") line word.0 word.1 ∙ ap (λ t. codes "cycle " ++ t) (number_of-Some word.0 n word.2)
+
+pub cycle-again : (n : ℕ) → IsShort n → read_cycle (cycle_line n) ≡ Some n
+cycle-again n short = ap (option_and_then number_of) (behind-append (codes "cycle ") (decimal n)) ∙ number_of-decimal n short
+
+pub weights-Some : (word line ns : List ℕ) → read_weights word line ≡ Some ns → line ≡ weights_line word ns
+weights-Some word line ns e =
+    let rest = and_then_Some (λ rest. numbers_of (slice_split (λ b. eqb b 32) rest)) (behind word line) ns e in
+    behind-Some word line rest.0 rest.1
+    ∙ ap (λ t. word ++ t) (sym (join_with_byte-slice_split 32 rest.0) ∙ ap (join_with_byte 32) (numbers_of-Some (slice_split (λ b. eqb b 32) rest.0) ns rest.2))
+
+some_words : (ns : List ℕ) → 0 < length ns → 0 < length (map decimal ns)
+some_words [] some = absurd (omega arith)
+some_words (n ∷ ns) some = omega arith
+
+pub weights-again : (word ns : List ℕ) → 0 < length ns → AllByRecursion IsShort ns → read_weights word (weights_line word ns) ≡ Some ns
+weights-again word ns some short =
+    ap (option_and_then (λ rest. numbers_of (slice_split (λ b. eqb b 32) rest))) (behind-append word (spaced ns))
+    ∙ ap numbers_of (slice_split-join (map decimal ns) (some_words ns some) (AllLack-decimal 32 ns (omega arith) short))
+    ∙ numbers_of-decimal ns short
+
+-- no line has a newline in it
+pub Lacks-load : (x : ℕ × ℕ) → IsShort x.0 → IsShort x.1 → Lacks 10 (load_line x)
+Lacks-load x left right =
+    Lacks-append 10 (codes "load ") (decimal x.0 ++ 47 ∷ decimal x.1) (search rules)
+    (Lacks-append 10 (decimal x.0) (47 ∷ decimal x.1) (Lacks-decimal 10 x.0 (omega arith) left) (refl, Lacks-decimal 10 x.1 (omega arith) right))
+
+pub Lacks-cycle : (n : ℕ) → IsShort n → Lacks 10 (cycle_line n)
+Lacks-cycle n short = Lacks-append 10 (codes "cycle ") (decimal n) (search rules) (Lacks-decimal 10 n (omega arith) short)
+
+pub Lacks-weights : (word ns : List ℕ) → Lacks 10 word → AllByRecursion IsShort ns → Lacks 10 (weights_line word ns)
+Lacks-weights word ns one short = Lacks-append 10 word (spaced ns) one (Lacks-join (map decimal ns) (AllLack-decimal 10 ns (omega arith) short))
+
+-- a line at the front of a text
+ok_or_Ok : {A : Type 0} (o : Option A) (e : PlanFault) (x : A) → ok_or o e ≡ Ok x → o ≡ Some x
+ok_or_Ok None e x h = cc
+ok_or_Ok (Some y) e x h = cc
+
+pub line_at-Ok : {X : Type 0} (k : ℕ) (read : List ℕ → Option X) (text : List ℕ) (x : X × List ℕ) → line_at k read text ≡ Ok x → (line : List ℕ) × (text ≡ line ++ 10 ∷ x.1) × (read line ≡ Some x.0)
+line_at-Ok {X} k read text x e =
+    let some = ok_or_Ok (option_and_then (λ cut. option_map (λ y. (y, cut.1)) (read cut.0)) (cut_at 10 text)) (BadText k) x e in
+    let cut = and_then_Some (λ cut. option_map (λ y. (y, cut.1)) (read cut.0)) (cut_at 10 text) x some in
+    let told = map_Some (λ y. (y, cut.0.1)) (read cut.0.0) x cut.2 in
+    let same : told.0 ≡ x.0 = ap (λ p. p.0) told.2 in
+    let rest : cut.0.1 ≡ x.1 = ap (λ p. p.1) told.2 in
+    (cut.0.0, cut_at-Some 10 text cut.0 cut.1 ∙ ap (λ t. cut.0.0 ++ 10 ∷ t) rest, told.1 ∙ ap Some same)
+
+pub line_at-append : {X : Type 0} (k : ℕ) (read : List ℕ → Option X) (line rest : List ℕ) (x : X) → read line ≡ Some x → Lacks 10 line → line_at k read (line ++ 10 ∷ rest) ≡ Ok (x, rest)
+line_at-append k read line rest x is lacks = rw (cut_at-append 10 line rest lacks, is) refl

@@ -1,0 +1,22 @@
+use Rattle.std.proofs.Common.{◌≡◌, ap, refl, ◌∙◌}
+use Rattle.std.specs.Prelude.{string_bytes}
+use Rattle.certificate.specs.Certificates.{load_of, cycle_len}
+use Rattle.certificate.specs.PlanTexts.{spaced, plan_text}
+use Rattle.certificate.proofs.Written.{written_text, written_lines, is_text}
+use Rattle.certificate.proofs.writing.write_plan.Goals as goal
+
+pub returns : goal.returns
+returns c =
+    let load = c.load-numerator.result in
+    let len = c.cycle_len-cycle_len.result in
+    let quorums = string_bytes c.in_ok-quorum_weights.quorum_weights in
+    let voters = string_bytes c.in_ok-voter_weights.voter_weights in
+    let w = c.args.plan.now in
+    let quorums_are : quorums ≡ spaced w.quorum_weights = c.in_ok-quorum_weights.ensures ∙ ap spaced c.quorum_weights.ensures in
+    let voters_are : voters ≡ spaced w.voter_weights = c.in_ok-voter_weights.ensures ∙ ap spaced c.voter_weights.ensures in
+    let left : load.0 ≡ (load_of w).0 = ap (λ x. x.0) c.load-numerator.ensures.value in
+    let right : load.1 ≡ (load_of w).1 = ap (λ x. x.1) c.load-numerator.ensures.value in
+    let same : written_text load.0 load.1 len quorums voters ≡ written_text (load_of w).0 (load_of w).1 (cycle_len w) (spaced w.quorum_weights) (spaced w.voter_weights) =
+    rw (left, right, c.cycle_len-cycle_len.ensures.value, quorums_are, voters_are) refl in
+    is_text c.format.result (written_text load.0 load.1 len quorums voters) (plan_text w) c.format.ensures.ok
+    (same ∙ written_lines (load_of w).0 (load_of w).1 (cycle_len w) (spaced w.quorum_weights) (spaced w.voter_weights))

@@ -1,0 +1,155 @@
+-- The text of a plan: five lines, each with a newline at its end.
+--
+--     quorum-plan 1
+--     load P/Q             the load in lowest terms
+--     cycle D              the length of a cycle
+--     quorum A0 A1 ..      the weight of each quorum
+--     voter B0 B1 ..       the weight of each voter
+--
+-- A number has 1 to 7 decimal digits and no leading zero.
+use Rattle.std.specs.Prelude.{◌≡◌, ℕ, ◌+◌, Bool, not, ◌&&◌, ◌||◌, ◌==◌, nat_lt, if◌then◌else◌, List, [], ◌∷◌, ◌++◌, length, take, drop, map, position, slice_index, codes, Option, None, Some, Result, Ok, Err, option_map, option_and_then}
+use Rattle.std.specs.Option.{option_or, ok_or}
+use Rattle.std.specs.List.{list_all, slice_split, join_with_byte}
+use Rattle.std.specs.Char.{is_ascii_digit}
+use Rattle.std.specs.Str.{bytes_eq}
+use Rattle.std.specs.Str.Parse.{digits_value}
+use Rattle.std.specs.Fmt.{decimal}
+use Rattle.quorum_set.specs.Coteries.{QuorumSystem}
+use Rattle.certificate.specs.declared.fault.PlanFault.{PlanFault}
+use Rattle.certificate.specs.declared.fault.PlanFault.TheVariants.{BadText, WrongLoad, WrongCycle, OutOfMemory}
+use Rattle.certificate.specs.Certificates.{Weighted, cycle_len, load_of, weights_fault}
+
+-- what the lines tell
+pub record Telling : Type 0 where
+  pub load : ℕ × ℕ
+  pub cycle : ℕ
+  pub quorum_weights : List ℕ
+  pub voter_weights : List ℕ
+
+-- what the lines of a plan tell
+abbrev pub telling_of : Weighted → Telling
+telling_of w = record { load = load_of w; cycle = cycle_len w; quorum_weights = w.quorum_weights; voter_weights = w.voter_weights }
+
+-- Spelling
+
+abbrev pub title_line : List ℕ
+title_line = codes "quorum-plan 1"
+
+-- 47 is a slash
+abbrev pub load_line : ℕ × ℕ → List ℕ
+load_line load = codes "load " ++ (decimal load.0 ++ 47 ∷ decimal load.1)
+
+abbrev pub cycle_line : ℕ → List ℕ
+cycle_line n = codes "cycle " ++ decimal n
+
+-- the numbers, with a space between each two
+abbrev pub spaced : List ℕ → List ℕ
+spaced numbers = join_with_byte 32 (map decimal numbers)
+
+abbrev pub weights_line : List ℕ → List ℕ → List ℕ
+weights_line word weights = word ++ spaced weights
+
+abbrev pub lines_of : Telling → List (List ℕ)
+lines_of t = title_line ∷ load_line t.load ∷ cycle_line t.cycle ∷ weights_line (codes "quorum ") t.quorum_weights ∷ weights_line (codes "voter ") t.voter_weights ∷ []
+
+-- the lines, each with a newline at its end
+abbrev pub text_of_lines : List (List ℕ) → List ℕ
+text_of_lines [] = []
+text_of_lines (line ∷ lines) = line ++ 10 ∷ text_of_lines lines
+
+-- the one text of a plan
+abbrev pub plan_text : Weighted → List ℕ
+plan_text w = text_of_lines (lines_of (telling_of w))
+
+-- Reading
+
+-- what stands before and behind the first byte that is the mark, where there is one
+abbrev pub cut_at : ℕ → List ℕ → Option (List ℕ × List ℕ)
+cut_at mark bytes = option_map (λ place. (take place bytes, drop (place + 1) bytes)) (position (λ b. b == mark) bytes)
+
+-- whether the bytes are a number: 1 to 7 decimal digits, of several the first not 0
+abbrev pub is_number : List ℕ → Bool
+is_number bytes = nat_lt 0 (length bytes) && (nat_lt (length bytes) 8 && ((length bytes == 1 || not (slice_index bytes 0 == 48)) && list_all is_ascii_digit bytes))
+
+abbrev pub number_of : List ℕ → Option ℕ
+number_of bytes = if is_number bytes then Some (digits_value 10 bytes) else None
+
+-- the numbers that the words are, where each is one
+abbrev pub numbers_of : List (List ℕ) → Option (List ℕ)
+numbers_of [] = Some []
+numbers_of (word ∷ words) = option_and_then (λ n. option_map (λ ns. n ∷ ns) (numbers_of words)) (number_of word)
+
+-- what follows the word with which a line begins
+abbrev pub behind : List ℕ → List ℕ → Option (List ℕ)
+behind word line = if bytes_eq (take (length word) line) word then Some (drop (length word) line) else None
+
+abbrev pub read_title : List ℕ → Option (Unit {0})
+read_title line = if bytes_eq line title_line then Some tt else None
+
+-- two numbers with a slash between them
+abbrev pub read_pair : List ℕ × List ℕ → Option (ℕ × ℕ)
+read_pair sides = option_and_then (λ p. option_map (λ q. (p, q)) (number_of sides.1)) (number_of sides.0)
+
+abbrev pub read_load : List ℕ → Option (ℕ × ℕ)
+read_load line = option_and_then (λ rest. option_and_then read_pair (cut_at 47 rest)) (behind (codes "load ") line)
+
+abbrev pub read_cycle : List ℕ → Option ℕ
+read_cycle line = option_and_then number_of (behind (codes "cycle ") line)
+
+abbrev pub read_weights : List ℕ → List ℕ → Option (List ℕ)
+read_weights word line = option_and_then (λ rest. numbers_of (slice_split (λ b. b == 32) rest)) (behind word line)
+
+-- The line at the front of a text, as it is read, and what follows it. Else the line with this number is bad: it is
+-- missing, has no newline at its end, or is not spelled so.
+abbrev pub line_at : {X : Type 0} → ℕ → (List ℕ → Option X) → List ℕ → Result (X × List ℕ) PlanFault
+line_at number read text = ok_or (option_and_then (λ cut. option_map (λ x. (x, cut.1)) (read cut.0)) (cut_at 10 text)) (BadText number)
+
+infixl 10 ◌>>=◌
+abbrev pub ◌>>=◌ : {A B : Type 0} → Result A PlanFault → (A → Result B PlanFault) → Result B PlanFault
+(Ok x) >>= f = f x
+(Err e) >>= f = Err e
+
+-- what a text tells, or its first bad line
+unfoldable pub telling_at : List ℕ → Result Telling PlanFault
+telling_at text = do
+  title ← line_at 1 read_title text
+  load ← line_at 2 read_load title.1
+  cycle ← line_at 3 read_cycle load.1
+  quorums ← line_at 4 (read_weights (codes "quorum ")) cycle.1
+  voters ← line_at 5 (read_weights (codes "voter ")) quorums.1
+  if length voters.1 == 0 then Ok (record { load = load.0; cycle = cycle.0; quorum_weights = quorums.0; voter_weights = voters.0 }) else Err (BadText 6)
+
+-- the first fault of what was told of the load and of the cycle
+abbrev pub telling_fault : Weighted → Telling → Option PlanFault
+telling_fault w t =
+    if not (((load_of w).0 == t.load.0) && ((load_of w).1 == t.load.1)) then Some WrongLoad else
+    if not (cycle_len w == t.cycle) then Some WrongCycle else None
+
+-- the value, unless there is a fault
+abbrev pub unless_fault : Option PlanFault → Weighted → Result Weighted PlanFault
+unless_fault None w = Ok w
+unless_fault (Some e) w = Err e
+
+-- the plan of a coterie that was told, or the first fault
+abbrev pub judged : Weighted → Telling → Result Weighted PlanFault
+judged w t = unless_fault (option_or (weights_fault w) (telling_fault w t)) w
+
+abbrev pub weighted_by : QuorumSystem → Telling → Weighted
+weighted_by s t = record { system = s; quorum_weights = t.quorum_weights; voter_weights = t.voter_weights }
+
+-- the plan of a coterie that the text spells, or the first fault
+unfoldable pub plan_at : QuorumSystem → List ℕ → Result Weighted PlanFault
+plan_at s text = telling_at text >>= λ t. judged (weighted_by s t) t
+
+-- what was answered, seen by view, is this, unless memory ran out
+abbrev pub Fails : {Y : Type 0} → PlanFault → Result Y PlanFault → Type 0
+Fails OutOfMemory wanted = Unit {0}
+Fails e wanted = wanted ≡ Err e
+
+abbrev pub Gives : {X Y : Type 0} → (X → Y) → Result X PlanFault → Result Y PlanFault → Type 0
+Gives view (Ok x) wanted = wanted ≡ Ok (view x)
+Gives view (Err e) wanted = Fails e wanted
+
+-- what was answered is this, unless memory ran out
+abbrev pub MemoryAside : Result Weighted PlanFault → Result Weighted PlanFault → Type 0
+MemoryAside answered wanted = Gives (λ w. w) answered wanted

@@ -1,0 +1,250 @@
+//! Reading the text of a plan.
+ghost use Rattle.std.specs.Prelude.{◌≡◌, ◌++◌, ◌==◌, ℕ, IfOk, option_map, position};
+ghost use Rattle.std.specs.Option.{option_and_then};
+ghost use Rattle.std.specs.List.{slice_split, list_all};
+ghost use Rattle.std.specs.Char.{is_ascii_digit};
+ghost use Rattle.certificate.specs.Certificates.{Weighted, IsCertificate, IsOptimal};
+ghost use Rattle.certificate.specs.PlanTexts.{Telling, plan_text, cut_at, is_number, number_of, numbers_of, behind, read_title, read_pair, read_load, read_cycle, read_weights, line_at, telling_at, plan_at, Gives, MemoryAside};
+
+use crate::fault::PlanFault;
+use crate::plan::{Plan, check};
+use quorum_set::Coterie;
+use std::alloc::{AllocError, Global};
+
+/// What the lines of a text tell, before it is checked.
+#[derive(Drop)]
+struct LinesTold {
+    load: (u64, u64),
+    cycle: u64,
+    quorum_weights: Vec<u64>,
+    voter_weights: Vec<u64>,
+}
+
+/// The place of the first such byte.
+fn place_of(bytes: &[u8], mark: u8) -> Option<usize>
+    ensures { result ≡ position (λ b. b == mark) bytes.now }
+{
+    bytes.iter().position(|b| *b == mark)
+}
+
+/// What stands before and behind the first such byte.
+fn cut(bytes: &[u8], mark: u8) -> Option<(&[u8], &[u8])>
+    ensures { option_map (λ x. (x.0.now, x.1.now)) result ≡ cut_at mark bytes.now }
+{
+    match place_of(bytes, mark) {
+        Some(place) => Some((&bytes[..place], &bytes[place + 1..])),
+        None => None,
+    }
+}
+
+fn are_digits(bytes: &[u8]) -> bool
+    ensures { result ≡ list_all is_ascii_digit bytes.now }
+{
+    bytes.iter().all(|b| b.is_ascii_digit())
+}
+
+fn is_number(bytes: &[u8]) -> bool
+    ensures { result ≡ is_number bytes.now }
+{
+    !bytes.is_empty()
+        && bytes.len() < 8
+        && (bytes.len() == 1 || bytes[0] != b'0')
+        && are_digits(bytes)
+}
+
+/// The number that these digits are, all of them.
+fn number(bytes: &[u8]) -> Option<u64>
+    ensures { result ≡ number_of bytes.now }
+{
+    if !is_number(bytes) {
+        return None;
+    }
+    let mut value = 0;
+    for digit in bytes {
+        value = value * 10 + u64::from(*digit - b'0');
+    }
+    Some(value)
+}
+
+/// The numbers between the spaces, where each word is a number.
+fn numbers(alloc: Global, text: &[u8]) -> Result<Option<Vec<u64>>, AllocError>
+    ensures { IfOk result (λ found. option_map (λ v. v.items) found ≡ numbers_of (slice_split (λ b. b == 32) text.now)) }
+{
+    let mut found = Vec::new(alloc);
+    let mut rest = text;
+    'words: while let Some((word, after)) = cut(rest, b' ') {
+        let Some(n) = number(word) else {
+            return Ok(None);
+        };
+        found.push(n)?;
+        rest = after;
+    }
+    let Some(n) = number(rest) else {
+        return Ok(None);
+    };
+    found.push(n)?;
+    Ok(Some(found))
+}
+
+fn behind<'a>(word: &[u8], line: &'a [u8]) -> Option<&'a [u8]>
+    ensures { option_map (λ rest. rest.now) result ≡ behind word.now line.now }
+{
+    line.strip_prefix(word)
+}
+
+fn pair(before: &[u8], after: &[u8]) -> Option<(u64, u64)>
+    ensures { result ≡ read_pair (before.now, after.now) }
+{
+    match (number(before), number(after)) {
+        (Some(p), Some(q)) => Some((p, q)),
+        _ => None,
+    }
+}
+
+fn load(line: &[u8]) -> Option<(u64, u64)>
+    ensures { result ≡ read_load line.now }
+{
+    match behind(b"load ", line) {
+        Some(rest) => match cut(rest, b'/') {
+            Some((before, after)) => pair(before, after),
+            None => None,
+        },
+        None => None,
+    }
+}
+
+fn cycle(line: &[u8]) -> Option<u64>
+    ensures { result ≡ read_cycle line.now }
+{
+    match behind(b"cycle ", line) {
+        Some(rest) => number(rest),
+        None => None,
+    }
+}
+
+fn weights(alloc: Global, word: &[u8], line: &[u8]) -> Result<Option<Vec<u64>>, AllocError>
+    ensures { IfOk result (λ found. option_map (λ v. v.items) found ≡ read_weights word.now line.now) }
+{
+    match behind(word, line) {
+        Some(rest) => numbers(alloc, rest),
+        None => Ok(None),
+    }
+}
+
+/// The rest of a text behind its title.
+fn title_line(text: &[u8]) -> Result<&[u8], PlanFault>
+    ensures { Gives (λ rest. (tt, rest.now)) result (line_at 1 read_title text.now) }
+{
+    match cut(text, b'\n') {
+        Some((line, rest)) if line == b"quorum-plan 1".as_slice() => Ok(rest),
+        _ => Err(PlanFault::BadText { line: 1 }),
+    }
+}
+
+fn load_line(text: &[u8]) -> Result<((u64, u64), &[u8]), PlanFault>
+    ensures { Gives (λ x. (x.0, x.1.now)) result (line_at 2 read_load text.now) }
+{
+    let Some((line, rest)) = cut(text, b'\n') else {
+        return Err(PlanFault::BadText { line: 2 });
+    };
+    match load(line) {
+        Some(load) => Ok((load, rest)),
+        None => Err(PlanFault::BadText { line: 2 }),
+    }
+}
+
+fn cycle_line(text: &[u8]) -> Result<(u64, &[u8]), PlanFault>
+    ensures { Gives (λ x. (x.0, x.1.now)) result (line_at 3 read_cycle text.now) }
+{
+    let Some((line, rest)) = cut(text, b'\n') else {
+        return Err(PlanFault::BadText { line: 3 });
+    };
+    match cycle(line) {
+        Some(cycle) => Ok((cycle, rest)),
+        None => Err(PlanFault::BadText { line: 3 }),
+    }
+}
+
+fn weights_line<'a>(
+    alloc: Global,
+    number: usize,
+    word: &[u8],
+    text: &'a [u8],
+) -> Result<(Vec<u64>, &'a [u8]), PlanFault>
+    ensures { Gives (λ x. (x.0.items, x.1.now)) result (line_at number (read_weights word.now) text.now) }
+{
+    let Some((line, rest)) = cut(text, b'\n') else {
+        return Err(PlanFault::BadText { line: number });
+    };
+    match weights(alloc, word, line)? {
+        Some(weights) => Ok((weights, rest)),
+        None => Err(PlanFault::BadText { line: number }),
+    }
+}
+
+/// What the lines tell, or the first bad line.
+#[tactic(auto, unfolding(crate::specs::PlanTexts::telling_at))]
+fn read_lines(alloc: Global, text: &[u8]) -> Result<LinesTold, PlanFault>
+    ensures { Gives (λ t. record { load = t.load; cycle = t.cycle; quorum_weights = t.quorum_weights.items; voter_weights = t.voter_weights.items }) result (telling_at text.now) }
+{
+    let rest = title_line(text)?;
+    let (load, rest) = load_line(rest)?;
+    let (cycle, rest) = cycle_line(rest)?;
+    let (quorum_weights, rest) = weights_line(alloc, 4, b"quorum ", rest)?;
+    let (voter_weights, rest) = weights_line(alloc, 5, b"voter ", rest)?;
+    if !rest.is_empty() {
+        return Err(PlanFault::BadText { line: 6 });
+    }
+    Ok(LinesTold {
+        load,
+        cycle,
+        quorum_weights,
+        voter_weights,
+    })
+}
+
+/// The plan of a coterie that a text spells, or the first fault.
+#[tactic(auto, unfolding(crate::specs::PlanTexts::plan_at))]
+fn plan_of_text(alloc: Global, coterie: &Coterie, text: &[u8]) -> Result<Plan, PlanFault>
+    ensures exact { MemoryAside result (plan_at coterie.now text.now) }
+    ensures certificate { IfOk result IsCertificate }
+{
+    let told = read_lines(alloc, text)?;
+    let plan = check(alloc, coterie, told.quorum_weights, told.voter_weights)?;
+    if plan.load() != told.load {
+        return Err(PlanFault::WrongLoad);
+    }
+    if plan.cycle_len() != told.cycle {
+        return Err(PlanFault::WrongCycle);
+    }
+    Ok(plan)
+}
+
+/// Reads the plan of a coterie from its text.
+///
+/// The text has five lines, each ended by a newline; a number has 1 to 7 decimal digits and no leading zero:
+///
+/// ```text
+/// quorum-plan 1
+/// load P/Q
+/// cycle D
+/// quorum A0 A1 ..
+/// voter B0 B1 ..
+/// ```
+///
+/// Refused are, in this order: the first line that is missing or not spelled so, or text behind the fifth
+/// (`BadText`); weights that `check` refuses; a load that is not the weights' in lowest terms (`WrongLoad`); a
+/// cycle's length that is not the sum of the quorums' weights (`WrongCycle`). Want of memory may come at any point.
+pub fn read_plan(alloc: Global, coterie: &Coterie, text: &[u8]) -> Result<Plan, PlanFault>
+    // What is read is spelled so.
+    ensures spelled { IfOk result (λ p. (p.system ≡ coterie.now) × (text.now ≡ plan_text p)) }
+    // What is spelled so is read.
+    ensures read { (w : Weighted) → w.system ≡ coterie.now → IsCertificate w → text.now ≡ plan_text w → MemoryAside result (Ok w) }
+    // Which fault it is.
+    ensures exact { MemoryAside result (plan_at coterie.now text.now) }
+
+    ensures certificate { IfOk result IsCertificate }
+    ensures optimal { IfOk result IsOptimal }
+{
+    plan_of_text(alloc, coterie, text)
+}
