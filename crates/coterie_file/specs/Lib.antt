@@ -1,0 +1,6 @@
+pub mod Answers
+pub mod Lists
+pub mod Named
+pub mod Names
+pub mod Reading
+pub mod Writing

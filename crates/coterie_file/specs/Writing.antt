@@ -1,0 +1,23 @@
+-- The text that is written for a coterie.
+use Rattle.std.specs.Prelude.{ℕ, List, ◌++◌, map, flat_map, codes}
+use Rattle.std.specs.List.{join_by}
+use Rattle.coterie_file.specs.Named.{NamedSystem}
+use Rattle.coterie_file.specs.Names.{name_at}
+
+-- the name in quotation marks
+abbrev pub quoted : List ℕ → List ℕ
+quoted name = codes "\"" ++ (name ++ codes "\"")
+
+-- the names in brackets, with a comma and a space between each two
+abbrev pub name_list : List (List ℕ) → List ℕ
+name_list names = codes "[" ++ (join_by quoted (codes ", ") names ++ codes "]")
+
+-- the line of a quorum: its members' names in ascending order of their numbers
+abbrev pub quorum_line : List (List ℕ) → List ℕ → List ℕ
+quorum_line names members = codes "  " ++ (name_list (map (name_at names) members) ++ codes ",\n")
+
+-- the text of a coterie: the voters' names, and a line for each quorum
+abbrev pub coterie_text : NamedSystem → List ℕ
+coterie_text n =
+    codes "voters = " ++ (name_list n.names ++ (codes "\nquorums = [\n"
+    ++ (flat_map (quorum_line n.names) n.system.quorums ++ codes "]\n")))

@@ -1,0 +1,80 @@
+//! Coteries whose voters have names.
+ghost use Rattle.std.specs.Prelude.{◌≡◌, ◌<◌, None, Some, IfOk, map, length, slice_get, string_bytes, vec_len};
+ghost use Rattle.coterie_file.specs.Answers.{Gives};
+ghost use Rattle.coterie_file.specs.Named.{IsNamed, with_names, numbered_names};
+ghost use Rattle.coterie_file.specs.Names.{AreNames};
+
+use crate::fault::FileFault;
+use crate::names::voters_of;
+use quorum_set::Coterie;
+use std::alloc::{AllocError, Global};
+use std::marker::Model;
+
+/// A coterie with a name for each voter. A name has 1 to 64 bytes out of `A-Z`, `a-z`, `0-9`, `_`, `-`, `.` and `:`, and no two voters
+/// have the same name.
+#[derive(Drop)]
+pub struct Named {
+    coterie: Coterie,
+    names: Vec<String>,
+}
+
+impl Model for Named {
+    ghost use Rattle.std.specs.Prelude.{map, string_bytes};
+    ghost use Rattle.coterie_file.specs.Named.{NamedSystem, IsNamed};
+
+    ghost Value = { NamedSystem };
+
+    ghost view = { λ n. record { system = n.coterie; names = map string_bytes n.names.items } };
+
+    ghost invariant = { λ n. IsNamed (record { system = n.coterie; names = map string_bytes n.names.items }) };
+}
+
+impl Named {
+    /// The coterie with these names, one for each voter. It is refused by `BadName` for the first text that is no name, and then by
+    /// `RepeatedName` for the first name that an earlier voter has; `OutOfMemory` may come at any point.
+    pub fn of(alloc: Global, coterie: Coterie, names: Vec<String>) -> Result<Named, FileFault>
+        requires one_each { vec_len names ≡ coterie.voters }
+        ensures exact { Gives (λ n. n) result (with_names coterie (map string_bytes names.items)) }
+    {
+        voters_of(alloc, &names)?;
+        Ok(Named::with(coterie, names))
+    }
+
+    /// The coterie with names that are known to have no fault.
+    pub(crate) fn with(coterie: Coterie, names: Vec<String>) -> Named
+        requires one_each { vec_len names ≡ coterie.voters }
+        requires names { AreNames (map string_bytes names.items) }
+        ensures { result ≡ record { system = coterie; names = map string_bytes names.items } }
+    {
+        prove!(names.len() == coterie.voters());
+        Named { coterie, names }
+    }
+
+    /// The coterie with the names `v0`, `v1` and so on.
+    pub fn numbered(alloc: Global, coterie: Coterie) -> Result<Named, AllocError>
+        ensures exact { IfOk result (λ n. n ≡ record { system = coterie; names = numbered_names coterie.voters }) }
+    {
+        let mut names = Vec::with_capacity(alloc, coterie.voters())?;
+        for i in 0..coterie.voters() {
+            names.push(format!(in alloc; "v{i}")?)?;
+        }
+        Ok(Named::with(coterie, names))
+    }
+
+    /// The coterie.
+    pub fn coterie(&self) -> &Coterie
+        ensures value { result.now ≡ self.now.system }
+        ensures named { IsNamed self.now }
+    {
+        &self.coterie
+    }
+
+    /// The name of the voter with this number.
+    pub fn name(&self, i: usize) -> &str
+        requires { i < self.now.system.voters }
+        ensures value { slice_get self.now.names i ≡ Some result.now }
+        ensures named { IsNamed self.now }
+    {
+        self.names[i].as_str()
+    }
+}

@@ -1,0 +1,131 @@
+//! Reading of a coterie from its text.
+ghost use Rattle.std.specs.Prelude.{◌≡◌, ◌≤◌, [], length, map, not, IfOk, OnOk, position, is_some, string_bytes};
+ghost use Rattle.std.specs.List.{list_all};
+ghost use Rattle.coterie_file.specs.Answers.{Gives, unless};
+ghost use Rattle.coterie_file.specs.Lists.{listed};
+ghost use Rattle.coterie_file.specs.Names.{has_name, number_of, first_repeat, AreNames};
+ghost use Rattle.coterie_file.specs.Reading.{quorum_of, system_of, lists_fault, coterie_at};
+
+use crate::fault::FileFault;
+use crate::lists::NameLists;
+use crate::named::Named;
+use crate::names::{numbered, voters_of};
+use indexmap::IndexSet;
+use quorum_set::{Coterie, CoterieFault, QSet};
+use std::alloc::{AllocError, Global};
+
+/// Whether the name is a voter's.
+fn knows(voters: &IndexSet<&str>, name: &str) -> bool
+    ensures { result ≡ has_name (map (λ k. k.now) voters.now.keys) name.now }
+{
+    voters.contains(name)
+}
+
+/// Whether all these names are voters'.
+fn knows_all(voters: &IndexSet<&str>, members: &[String]) -> bool
+    ensures { result ≡ list_all (λ n. has_name (map (λ k. k.now) voters.now.keys) (string_bytes n)) members.now }
+{
+    members.iter().all(|name| knows(voters, name.as_str()))
+}
+
+/// The first quorum with a name that is no voter's.
+fn first_unknown(voters: &IndexSet<&str>, quorums: &[Vec<String>]) -> Option<usize>
+    ensures { result ≡ position (λ q. not (list_all (λ n. has_name (map (λ k. k.now) voters.now.keys) (string_bytes n)) q.items)) quorums.now }
+{
+    quorums
+        .iter()
+        .position(|members| !knows_all(voters, members.as_slice()))
+}
+
+/// Whether a name stands twice.
+fn repeats(alloc: Global, members: &[String]) -> Result<bool, AllocError>
+    ensures { IfOk result (λ r. r ≡ is_some (first_repeat [] (map string_bytes members.now))) }
+{
+    match numbered(alloc, members)? {
+        Ok(_) => Ok(false),
+        Err(_) => Ok(true),
+    }
+}
+
+/// The first quorum in which a name stands twice.
+fn first_repeated(alloc: Global, quorums: &[Vec<String>]) -> Result<Option<usize>, AllocError>
+    ensures { IfOk result (λ r. r ≡ position (λ q. is_some (first_repeat [] (map string_bytes q.items))) quorums.now) }
+{
+    for (j, members) in quorums.iter().enumerate() {
+        if repeats(alloc, members.as_slice())? {
+            return Ok(Some(j));
+        }
+    }
+    Ok(None)
+}
+
+/// The number of the voter with this name.
+fn number_in(voters: &IndexSet<&str>, name: &str) -> Option<usize>
+    ensures { result ≡ number_of (map (λ k. k.now) voters.now.keys) name.now }
+{
+    voters.get_index_of(name)
+}
+
+/// The set of the numbers of the members.
+fn set_of(voters: &IndexSet<&str>, members: &[String]) -> QSet
+    requires { length voters.now.keys ≤ 64 }
+    ensures { result ≡ quorum_of (map (λ k. k.now) voters.now.keys) (map string_bytes members.now) }
+{
+    let mut set = QSet::empty();
+    for name in members {
+        if let Some(number) = number_in(voters, name.as_str()) {
+            set.insert(number as u8);
+        }
+    }
+    set
+}
+
+/// The sets of the numbers of the quorums' members.
+fn sets_of(
+    alloc: Global,
+    voters: &IndexSet<&str>,
+    quorums: &[Vec<String>],
+) -> Result<Vec<QSet>, AllocError>
+    requires { length voters.now.keys ≤ 64 }
+    ensures { IfOk result (λ v. v.items ≡ map (λ q. quorum_of (map (λ k. k.now) voters.now.keys) (map string_bytes q.items)) quorums.now) }
+{
+    let mut sets = Vec::with_capacity(alloc, quorums.len())?;
+    for members in quorums {
+        sets.push(set_of(voters, members.as_slice()))?;
+    }
+    Ok(sets)
+}
+
+/// The coterie of the lists, or their first fault.
+fn coterie_of(
+    alloc: Global,
+    names: &[String],
+    quorums: &[Vec<String>],
+) -> Result<Coterie, FileFault>
+    ensures exact { Gives (λ c. c) result (unless (lists_fault (listed names.now quorums.now)) (system_of (listed names.now quorums.now))) }
+    ensures names { OnOk result (AreNames (map string_bytes names.now)) }
+{
+    let voters = voters_of(alloc, names)?;
+    if let Some(j) = first_unknown(&voters, quorums) {
+        return Err(FileFault::UnknownName(j));
+    }
+    if let Some(j) = first_repeated(alloc, quorums)? {
+        return Err(FileFault::RepeatedMember(j));
+    }
+    if voters.len() > 64 {
+        return Err(FileFault::Coterie(CoterieFault::TooManyVoters));
+    }
+    let sets = sets_of(alloc, &voters, quorums)?;
+    Ok(Coterie::of(names.len(), sets)?)
+}
+
+/// The coterie that a text spells. The text is a TOML document with two keys: `voters`, an array of names, and `quorums`, an array of
+/// arrays of these names. A voter's number is its place in `voters`. A text with a fault is refused by its first one; `OutOfMemory` may
+/// come at any point.
+pub fn read_coterie(alloc: Global, text: &str) -> Result<Named, FileFault>
+    ensures exact { Gives (λ n. n) result (coterie_at text.now) }
+{
+    let lists = NameLists::of(alloc, text)?;
+    let coterie = coterie_of(alloc, &lists.names, &lists.quorums)?;
+    Ok(Named::with(coterie, lists.names))
+}
