@@ -4,3 +4,4 @@ pub mod NameLemmas
 pub mod QuorumLemmas
 pub mod ReadingLemmas
 pub mod TableLemmas
+pub mod WritingLemmas

@@ -77,4 +77,12 @@ impl Named {
     {
         self.names[i].as_str()
     }
+
+    /// The names of the voters, by number.
+    pub(crate) fn names(&self) -> &[String]
+        ensures value { map string_bytes result.now ≡ self.now.names }
+        ensures named { IsNamed self.now }
+    {
+        self.names.as_slice()
+    }
 }

@@ -1,0 +1,60 @@
+//! Writing of a coterie's text.
+ghost use Rattle.std.specs.Prelude.{◌≡◌, ◌<◌, [], length, map, All, IfOk, slice_index_or, string_bytes};
+ghost use Rattle.coterie_file.specs.Names.{name_at};
+ghost use Rattle.coterie_file.specs.Writing.{name_list, quorum_line, coterie_text};
+
+use crate::named::Named;
+use quorum_set::QSet;
+use std::alloc::{AllocError, Global};
+use std::convert::AsStr;
+
+/// The names in brackets, each in quotation marks.
+fn list_of<S: AsStr>(alloc: Global, names: &[S]) -> Result<String, AllocError>
+    requires { 0 < length names.now }
+    ensures { IfOk result (λ t. string_bytes t ≡ name_list (map S.text names.now)) }
+{
+    let names = names.join(alloc, "\", \"")?;
+    format!(in alloc; "[\"{names}\"]")
+}
+
+/// The names of a quorum's members.
+fn members_of<'a>(
+    alloc: Global,
+    named: &'a Named,
+    quorum: &QSet,
+) -> Result<Vec<&'a str>, AllocError>
+    requires { All (λ i. i < named.now.system.voters) quorum.now }
+    ensures { IfOk result (λ v. map (λ n. n.now) v.items ≡ map (name_at named.now.names) quorum.now) }
+{
+    let members = quorum.members();
+    let mut names = Vec::with_capacity(alloc, members.len())?;
+    for i in members.as_slice() {
+        names.push(named.name(usize::from(*i)))?;
+    }
+    Ok(names)
+}
+
+/// The line of a quorum.
+fn line_of(alloc: Global, named: &Named, j: usize) -> Result<String, AllocError>
+    requires { j < length named.now.system.quorums }
+    ensures { IfOk result (λ t. string_bytes t ≡ quorum_line named.now.names (slice_index_or named.now.system.quorums j [])) }
+{
+    let names = members_of(alloc, named, named.coterie().quorum(j))?;
+    let list = list_of(alloc, &names)?;
+    format!(in alloc; "  {list},\n")
+}
+
+/// The text of a coterie: a TOML document that `read_coterie` reads back. The names stand in the order of their voters' numbers, each
+/// quorum on a line of its own, and its members in ascending order.
+pub fn write_coterie(alloc: Global, named: &Named) -> Result<String, AllocError>
+    ensures layout { IfOk result (λ t. string_bytes t ≡ coterie_text named.now) }
+{
+    let voters = list_of(alloc, named.names())?;
+    let mut text = format!(in alloc; "voters = {voters}\nquorums = [\n")?;
+    for j in 0..named.coterie().count() {
+        let line = line_of(alloc, named, j)?;
+        text.push_str(&line)?;
+    }
+    text.push_str("]\n")?;
+    Ok(text)
+}
