@@ -15,10 +15,10 @@ use Rattle.certificate.specs.declared.fault.PlanFault.TheVariants.{BadText}
 use Rattle.certificate.specs.Gcd.{gcd_of}
 use Rattle.certificate.specs.Loads.{weight_on}
 use Rattle.certificate.specs.Certificates.{Weighted, IsCertificate, cycle_len, busiest_count, load_of, weights_fault}
-use Rattle.certificate.specs.PlanTexts.{Telling, telling_of, title_line, load_line, cycle_line, weights_line, lines_of, text_of_lines, plan_text, read_title, read_load, read_cycle, read_weights, line_at, ◌>>=◌, telling_at, telling_fault, unless_fault, judged, weighted_by, plan_at, MemoryAside}
+use Rattle.certificate.specs.PlanTexts.{IsShort, Telling, telling_of, title_line, load_line, cycle_line, weights_line, lines_of, text_of_lines, plan_text, read_title, read_load, read_cycle, read_weights, line_at, ◌>>=◌, telling_at, telling_fault, unless_fault, judged, weighted_by, plan_at, MemoryAside}
 use Rattle.certificate.proofs.FaultLaws.{weights_fault-IsCertificate}
 use Rattle.certificate.proofs.LoadLemmas.{weight_on-le}
-use Rattle.certificate.proofs.Spellings.{IsShort, title-Some, title-again, load-Some, load-again, cycle-Some, cycle-again, weights-Some, weights-again, Lacks-load, Lacks-cycle, Lacks-weights, line_at-Ok, line_at-append}
+use Rattle.certificate.proofs.Spellings.{title-Some, title-again, load-Some, load-again, cycle-Some, cycle-again, weights-Some, weights-again, Lacks-load, Lacks-cycle, Lacks-weights, line_at-Ok, line_at-append}
 
 bind_Ok : {A B : Type 0} (r : Result A PlanFault) (f : A → Result B PlanFault) (y : B) → (r >>= f) ≡ Ok y → (x : A) × (r ≡ Ok x) × (f x ≡ Ok y)
 bind_Ok (Ok x) f y e = (x, refl, e)
@@ -32,31 +32,66 @@ ended_Ok false d x y e = cc
 abbrev told : ℕ × ℕ → ℕ → List ℕ → List ℕ × List ℕ → Result Telling PlanFault
 told l n q v = cond (eqb (length v.1) 0) (Ok (record { load = l; cycle = n; quorum_weights = q; voter_weights = v.0 })) (Err (BadText 6))
 
+-- a line that is read, before lines that are spelled so
+line_before : {X : Type 0} (k : ℕ) (read : List ℕ → Option X) (spell : X → List ℕ) (text rest : List ℕ) (x : X) → ((line : List ℕ) (y : X) → read line ≡ Some y → line ≡ spell y)
+    → line_at k read text ≡ Ok (x, rest) → (spelled : List ℕ) → rest ≡ spelled → text ≡ spell x ++ 10 ∷ spelled
+line_before k read spell text rest x is_so e spelled rest_is =
+    let line = line_at-Ok k read text (x, rest) e in
+    line.1 ∙ ap (λ l. l ++ 10 ∷ rest) (is_so line.0 x line.2) ∙ ap (λ r. spell x ++ 10 ∷ r) rest_is
+
+-- reading from the second line on, and so on
+abbrev from_voters : ℕ × ℕ → ℕ → List ℕ → List ℕ → Result Telling PlanFault
+from_voters l n q text = line_at 5 (read_weights (codes "voter ")) text >>= λ voters. told l n q voters
+
+abbrev from_quorums : ℕ × ℕ → ℕ → List ℕ → Result Telling PlanFault
+from_quorums l n text = line_at 4 (read_weights (codes "quorum ")) text >>= λ quorums. from_voters l n quorums.0 quorums.1
+
+abbrev from_cycle : ℕ × ℕ → List ℕ → Result Telling PlanFault
+from_cycle l text = line_at 3 read_cycle text >>= λ cycle. from_quorums l cycle.0 cycle.1
+
+abbrev from_load : List ℕ → Result Telling PlanFault
+from_load text = line_at 2 read_load text >>= λ load. from_cycle load.0 load.1
+
+voters-Ok : (l : ℕ × ℕ) (n : ℕ) (q text : List ℕ) (t : Telling) → from_voters l n q text ≡ Ok t → (text ≡ text_of_lines (weights_line (codes "voter ") t.voter_weights ∷ [])) × (l ≡ t.load) × (n ≡ t.cycle) × (q ≡ t.quorum_weights)
+voters-Ok l n q text t e =
+    let line = bind_Ok (line_at 5 (read_weights (codes "voter ")) text) (told l n q) t e in
+    let made : Telling = record { load = l; cycle = n; quorum_weights = q; voter_weights = line.0.0 } in
+    let end = ended_Ok (eqb (length line.0.1) 0) (BadText 6) made t line.2 in
+    let is : text ≡ weights_line (codes "voter ") line.0.0 ++ 10 ∷ [] =
+    line_before 5 (read_weights (codes "voter ")) (weights_line (codes "voter ")) text line.0.1 line.0.0 (weights-Some (codes "voter ")) line.1 [] (nil_from_length line.0.1 (eqb-true _ _ end.0)) in
+    (is ∙ ap (λ (u : Telling). weights_line (codes "voter ") u.voter_weights ++ 10 ∷ []) end.1, ap (λ (u : Telling). u.load) end.1, ap (λ (u : Telling). u.cycle) end.1, ap (λ (u : Telling). u.quorum_weights) end.1)
+
+quorums-Ok : (l : ℕ × ℕ) (n : ℕ) (text : List ℕ) (t : Telling) → from_quorums l n text ≡ Ok t → (text ≡ text_of_lines (weights_line (codes "quorum ") t.quorum_weights ∷ weights_line (codes "voter ") t.voter_weights ∷ [])) × (l ≡ t.load) × (n ≡ t.cycle)
+quorums-Ok l n text t e =
+    let line = bind_Ok (line_at 4 (read_weights (codes "quorum ")) text) (λ quorums. from_voters l n quorums.0 quorums.1) t e in
+    let rest = voters-Ok l n line.0.0 line.0.1 t line.2 in
+    let after = text_of_lines (weights_line (codes "voter ") t.voter_weights ∷ []) in (
+      line_before 4 (read_weights (codes "quorum ")) (weights_line (codes "quorum ")) text line.0.1 line.0.0 (weights-Some (codes "quorum ")) line.1 after rest.0
+          ∙ ap (λ q. weights_line (codes "quorum ") q ++ 10 ∷ after) rest.3,
+      rest.1,
+      rest.2,
+    )
+
+cycle-Ok : (l : ℕ × ℕ) (text : List ℕ) (t : Telling) → from_cycle l text ≡ Ok t → (text ≡ text_of_lines (cycle_line t.cycle ∷ weights_line (codes "quorum ") t.quorum_weights ∷ weights_line (codes "voter ") t.voter_weights ∷ [])) × (l ≡ t.load)
+cycle-Ok l text t e =
+    let line = bind_Ok (line_at 3 read_cycle text) (λ cycle. from_quorums l cycle.0 cycle.1) t e in
+    let rest = quorums-Ok l line.0.0 line.0.1 t line.2 in
+    let after = text_of_lines (weights_line (codes "quorum ") t.quorum_weights ∷ weights_line (codes "voter ") t.voter_weights ∷ []) in
+    (line_before 3 read_cycle cycle_line text line.0.1 line.0.0 cycle-Some line.1 after rest.0 ∙ ap (λ n. cycle_line n ++ 10 ∷ after) rest.2, rest.1)
+
+load-Ok : (text : List ℕ) (t : Telling) → from_load text ≡ Ok t → text ≡ text_of_lines (load_line t.load ∷ cycle_line t.cycle ∷ weights_line (codes "quorum ") t.quorum_weights ∷ weights_line (codes "voter ") t.voter_weights ∷ [])
+load-Ok text t e =
+    let line = bind_Ok (line_at 2 read_load text) (λ load. from_cycle load.0 load.1) t e in
+    let rest = cycle-Ok line.0.0 line.0.1 t line.2 in
+    let after = text_of_lines (cycle_line t.cycle ∷ weights_line (codes "quorum ") t.quorum_weights ∷ weights_line (codes "voter ") t.voter_weights ∷ []) in
+    line_before 2 read_load load_line text line.0.1 line.0.0 load-Some line.1 after rest.0 ∙ ap (λ l. load_line l ++ 10 ∷ after) rest.1
+
 -- what is told by a text is spelled so
 telling-Ok : (text : List ℕ) (t : Telling) → telling_at text ≡ Ok t → text ≡ text_of_lines (lines_of t)
 unfolding telling_at
 telling-Ok text t e =
-    let one = bind_Ok (line_at 1 read_title text) (λ title. line_at 2 read_load title.1 >>= λ load. line_at 3 read_cycle load.1 >>= λ cycle. line_at 4 (read_weights (codes "quorum ")) cycle.1 >>= λ quorums. line_at 5 (read_weights (codes "voter ")) quorums.1 >>= λ voters. told load.0 cycle.0 quorums.0 voters) t e in
-    let two = bind_Ok (line_at 2 read_load one.0.1) (λ load. line_at 3 read_cycle load.1 >>= λ cycle. line_at 4 (read_weights (codes "quorum ")) cycle.1 >>= λ quorums. line_at 5 (read_weights (codes "voter ")) quorums.1 >>= λ voters. told load.0 cycle.0 quorums.0 voters) t one.2 in
-    let three = bind_Ok (line_at 3 read_cycle two.0.1) (λ cycle. line_at 4 (read_weights (codes "quorum ")) cycle.1 >>= λ quorums. line_at 5 (read_weights (codes "voter ")) quorums.1 >>= λ voters. told two.0.0 cycle.0 quorums.0 voters) t two.2 in
-    let four = bind_Ok (line_at 4 (read_weights (codes "quorum ")) three.0.1) (λ quorums. line_at 5 (read_weights (codes "voter ")) quorums.1 >>= λ voters. told two.0.0 three.0.0 quorums.0 voters) t three.2 in
-    let five = bind_Ok (line_at 5 (read_weights (codes "voter ")) four.0.1) (λ voters. told two.0.0 three.0.0 four.0.0 voters) t four.2 in
-    let end = ended_Ok (eqb (length five.0.1) 0) (BadText 6) (record { load = two.0.0; cycle = three.0.0; quorum_weights = four.0.0; voter_weights = five.0.0 }) t five.2 in
-    let title = line_at-Ok 1 read_title text one.0 one.1 in
-    let load = line_at-Ok 2 read_load one.0.1 two.0 two.1 in
-    let cycle = line_at-Ok 3 read_cycle two.0.1 three.0 three.1 in
-    let quorums = line_at-Ok 4 (read_weights (codes "quorum ")) three.0.1 four.0 four.1 in
-    let voters = line_at-Ok 5 (read_weights (codes "voter ")) four.0.1 five.0 five.1 in
-    let rest5 : five.0.1 ≡ [] = nil_from_length five.0.1 (eqb-true _ _ end.0) in
-    let rest4 : four.0.1 ≡ text_of_lines (weights_line (codes "voter ") five.0.0 ∷ []) =
-    voters.1 ∙ ap (λ l. l ++ 10 ∷ five.0.1) (weights-Some (codes "voter ") voters.0 five.0.0 voters.2) ∙ ap (λ r. weights_line (codes "voter ") five.0.0 ++ 10 ∷ r) rest5 in
-    let rest3 : three.0.1 ≡ text_of_lines (weights_line (codes "quorum ") four.0.0 ∷ weights_line (codes "voter ") five.0.0 ∷ []) =
-    quorums.1 ∙ ap (λ l. l ++ 10 ∷ four.0.1) (weights-Some (codes "quorum ") quorums.0 four.0.0 quorums.2) ∙ ap (λ r. weights_line (codes "quorum ") four.0.0 ++ 10 ∷ r) rest4 in
-    let rest2 : two.0.1 ≡ text_of_lines (cycle_line three.0.0 ∷ weights_line (codes "quorum ") four.0.0 ∷ weights_line (codes "voter ") five.0.0 ∷ []) =
-    cycle.1 ∙ ap (λ l. l ++ 10 ∷ three.0.1) (cycle-Some cycle.0 three.0.0 cycle.2) ∙ ap (λ r. cycle_line three.0.0 ++ 10 ∷ r) rest3 in
-    let rest1 : one.0.1 ≡ text_of_lines (load_line two.0.0 ∷ cycle_line three.0.0 ∷ weights_line (codes "quorum ") four.0.0 ∷ weights_line (codes "voter ") five.0.0 ∷ []) =
-    load.1 ∙ ap (λ l. l ++ 10 ∷ two.0.1) (load-Some load.0 two.0.0 load.2) ∙ ap (λ r. load_line two.0.0 ++ 10 ∷ r) rest2 in
-    title.1 ∙ ap (λ l. l ++ 10 ∷ one.0.1) (title-Some title.0 one.0.0 title.2) ∙ ap (λ r. title_line ++ 10 ∷ r) rest1 ∙ ap (λ u. text_of_lines (lines_of u)) end.1
+    let line = bind_Ok (line_at 1 read_title text) (λ title. from_load title.1) t e in
+    line_before 1 read_title (λ _. title_line) text line.0.1 line.0.0 title-Some line.1 _ (load-Ok line.0.1 t line.2)
 
 -- what the lines tell has 1 to 7 digits each, and there is a quorum and a voter
 pub record IsSpelled (t : Telling) : Type 0 where
@@ -83,26 +118,16 @@ unfolding telling_at
 telling-again t more h =
     let voters = weights_line (codes "voter ") t.voter_weights in
     let quorums = weights_line (codes "quorum ") t.quorum_weights in
-    let five : line_at 5 (read_weights (codes "voter ")) (voters ++ 10 ∷ more) ≡ Ok (t.voter_weights, more) =
-    line_at-append 5 (read_weights (codes "voter ")) voters more t.voter_weights (weights-again (codes "voter ") t.voter_weights h.some_voter h.voters) (Lacks-weights (codes "voter ") t.voter_weights (search rules) h.voters) in
     let rest4 = voters ++ 10 ∷ more in
-    let four : line_at 4 (read_weights (codes "quorum ")) (quorums ++ 10 ∷ rest4) ≡ Ok (t.quorum_weights, rest4) =
-    line_at-append 4 (read_weights (codes "quorum ")) quorums rest4 t.quorum_weights (weights-again (codes "quorum ") t.quorum_weights h.some_quorum h.quorums) (Lacks-weights (codes "quorum ") t.quorum_weights (search rules) h.quorums) in
     let rest3 = quorums ++ 10 ∷ rest4 in
-    let three : line_at 3 read_cycle (cycle_line t.cycle ++ 10 ∷ rest3) ≡ Ok (t.cycle, rest3) =
-    line_at-append 3 read_cycle (cycle_line t.cycle) rest3 t.cycle (cycle-again t.cycle h.cycle) (Lacks-cycle t.cycle h.cycle) in
     let rest2 = cycle_line t.cycle ++ 10 ∷ rest3 in
-    let two : line_at 2 read_load (load_line t.load ++ 10 ∷ rest2) ≡ Ok (t.load, rest2) =
-    line_at-append 2 read_load (load_line t.load) rest2 t.load (load-again t.load h.left h.right) (Lacks-load t.load h.left h.right) in
     let rest1 = load_line t.load ++ 10 ∷ rest2 in
-    let one : line_at 1 read_title (title_line ++ 10 ∷ rest1) ≡ Ok (tt, rest1) =
-    line_at-append 1 read_title title_line rest1 tt title-again (search rules) in
     ap telling_at (text_of_lines-append (lines_of t) more)
-    ∙ ap (λ r. r >>= λ title. line_at 2 read_load title.1 >>= λ load. line_at 3 read_cycle load.1 >>= λ cycle. line_at 4 (read_weights (codes "quorum ")) cycle.1 >>= λ quorums. line_at 5 (read_weights (codes "voter ")) quorums.1 >>= λ voters. told load.0 cycle.0 quorums.0 voters) one
-    ∙ ap (λ r. r >>= λ load. line_at 3 read_cycle load.1 >>= λ cycle. line_at 4 (read_weights (codes "quorum ")) cycle.1 >>= λ quorums. line_at 5 (read_weights (codes "voter ")) quorums.1 >>= λ voters. told load.0 cycle.0 quorums.0 voters) two
-    ∙ ap (λ r. r >>= λ cycle. line_at 4 (read_weights (codes "quorum ")) cycle.1 >>= λ quorums. line_at 5 (read_weights (codes "voter ")) quorums.1 >>= λ voters. told t.load cycle.0 quorums.0 voters) three
-    ∙ ap (λ r. r >>= λ quorums. line_at 5 (read_weights (codes "voter ")) quorums.1 >>= λ voters. told t.load t.cycle quorums.0 voters) four
-    ∙ ap (λ r. r >>= λ voters. told t.load t.cycle t.quorum_weights voters) five
+    ∙ ap (λ r. r >>= λ title. from_load title.1) (line_at-append 1 read_title title_line rest1 tt title-again (search rules))
+    ∙ ap (λ r. r >>= λ load. from_cycle load.0 load.1) (line_at-append 2 read_load (load_line t.load) rest2 t.load (load-again t.load h.left h.right) (Lacks-load t.load h.left h.right))
+    ∙ ap (λ r. r >>= λ cycle. from_quorums t.load cycle.0 cycle.1) (line_at-append 3 read_cycle (cycle_line t.cycle) rest3 t.cycle (cycle-again t.cycle h.cycle) (Lacks-cycle t.cycle h.cycle))
+    ∙ ap (λ r. r >>= λ q. from_voters t.load t.cycle q.0 q.1) (line_at-append 4 (read_weights (codes "quorum ")) quorums rest4 t.quorum_weights (weights-again (codes "quorum ") t.quorum_weights h.some_quorum h.quorums) (Lacks-weights (codes "quorum ") t.quorum_weights (search rules) h.quorums))
+    ∙ ap (λ r. r >>= λ v. told t.load t.cycle t.quorum_weights v) (line_at-append 5 (read_weights (codes "voter ")) voters more t.voter_weights (weights-again (codes "voter ") t.voter_weights h.some_voter h.voters) (Lacks-weights (codes "voter ") t.voter_weights (search rules) h.voters))
 
 -- no fault, so the value
 unless_Ok : (o : Option PlanFault) (w p : Weighted) → unless_fault o w ≡ Ok p → (o ≡ None) × (w ≡ p)

@@ -1,18 +1,19 @@
 -- The lines of a plan: what is read of each is spelled so, and what is spelled so is read.
-use Rattle.std.proofs.Common.{◌≡◌, ℕ, ◌<◌, cond, eqb, List, [], ◌∷◌, ◌++◌, length, take, drop, map, Option, None, Some, Ok, sym, refl, ap, subst, ◌∙◌, arith, append_assoc, rules}
+use Rattle.std.proofs.Common.{suc, ◌≡◌, ℕ, ◌<◌, cond, eqb, List, [], ◌∷◌, ◌++◌, length, take, drop, map, Option, None, Some, Ok, sym, refl, ap, subst, ◌∙◌, arith, append_assoc, rules}
 use Rattle.std.specs.Prelude.{codes}
-use Rattle.std.specs.List.{slice_split, join_with_byte, AllByRecursion}
+use Rattle.std.specs.List.{All, slice_split, join_with_byte, AllByRecursion}
 use Rattle.std.specs.Option.{option_map, option_and_then, ok_or}
 use Rattle.std.specs.Str.{bytes_eq}
 use Rattle.std.specs.Fmt.{decimal}
 use Rattle.std.proofs.lemmas.Option.{cond_some}
 use Rattle.std.proofs.lemmas.List.{take_at, drop_at, take-append-drop}
-use Rattle.std.proofs.lemmas.List.Splits.{join_with_byte-slice_split}
+use Rattle.std.proofs.lemmas.List.Elements.{All-nil, All-cons, recursion_from_All}
+use Rattle.std.proofs.lemmas.List.Splits.{join_with_byte-slice_split, length-slice_split}
 use Rattle.std.proofs.lemmas.Slice.Eq.{bytes_eq-Decides}
 use Rattle.certificate.specs.declared.fault.PlanFault.{PlanFault}
 use Rattle.certificate.specs.declared.fault.PlanFault.TheVariants.{BadText}
-use Rattle.certificate.specs.PlanTexts.{spaced, title_line, load_line, cycle_line, weights_line, cut_at, number_of, numbers_of, behind, read_title, read_pair, read_load, read_cycle, read_weights, line_at}
-use Rattle.certificate.proofs.Numbers.{number_of-Some, number_of-decimal}
+use Rattle.certificate.specs.PlanTexts.{IsShort, spaced, title_line, load_line, cycle_line, weights_line, cut_at, number_of, numbers_of, behind, read_title, read_pair, read_load, read_cycle, read_weights, line_at}
+use Rattle.certificate.proofs.Numbers.{number_of-Some, number_of-small, number_of-decimal}
 use Rattle.certificate.proofs.Cuts.{Lacks, Lacks-append, Lacks-decimal, Lacks-join, AllLack, cut_at-append, cut_at-Some, slice_split-join}
 
 -- one more number is written
@@ -22,10 +23,6 @@ spaced-push (x ∷ []) n some = refl
 spaced-push (x ∷ y ∷ ns) n some =
     ap (λ t. decimal x ++ 32 ∷ t) (spaced-push (y ∷ ns) n (omega arith))
     ∙ sym (append_assoc (decimal x) (32 ∷ spaced (y ∷ ns)) (32 ∷ decimal n))
-
--- the number has 1 to 7 digits
-abbrev pub IsShort : ℕ → Type 0
-IsShort n = n < 10000000
 
 and_then_Some : {A B : Type 0} (f : A → Option B) (o : Option A) (y : B) → option_and_then f o ≡ Some y → (x : A) × (o ≡ Some x) × (f x ≡ Some y)
 and_then_Some f None y e = cc
@@ -148,3 +145,45 @@ line_at-Ok {X} k read text x e =
 
 pub line_at-append : {X : Type 0} (k : ℕ) (read : List ℕ → Option X) (line rest : List ℕ) (x : X) → read line ≡ Some x → Lacks 10 line → line_at k read (line ++ 10 ∷ rest) ≡ Ok (x, rest)
 line_at-append k read line rest x is lacks = rw (cut_at-append 10 line rest lacks, is) refl
+
+-- what is read has 1 to 7 digits
+pub load-short : (line : List ℕ) (x : ℕ × ℕ) → read_load line ≡ Some x → IsShort x.0 × IsShort x.1
+load-short line x e =
+    let word = and_then_Some (λ rest. option_and_then read_pair (cut_at 47 rest)) (behind (codes "load ") line) x e in
+    let sides = and_then_Some read_pair (cut_at 47 word.0) x word.2 in
+    let left = and_then_Some (λ p. option_map (λ q. (p, q)) (number_of sides.0.1)) (number_of sides.0.0) x sides.2 in
+    let right = map_Some (λ q. (left.0, q)) (number_of sides.0.1) x left.2 in
+    let parts = pair_is left.0 right.0 x right.2 in
+    (omega (arith, parts.0, number_of-small sides.0.0 left.0 left.1), omega (arith, parts.1, number_of-small sides.0.1 right.0 right.1))
+
+pub cycle-short : (line : List ℕ) (n : ℕ) → read_cycle line ≡ Some n → IsShort n
+cycle-short line n e =
+    let word = and_then_Some number_of (behind (codes "cycle ") line) n e in
+    number_of-small word.0 n word.2
+
+numbers-short : (words : List (List ℕ)) (ns : List ℕ) → numbers_of words ≡ Some ns → All IsShort ns × (length ns ≡ length words)
+numbers-short [] ns e = subst (λ ns. All IsShort ns × (length ns ≡ 0)) (nil ns e) (All-nil IsShort, refl)
+  where
+    nil : (ns : List ℕ) → Some [] ≡ Some ns → [] ≡ ns
+    nil ns e = cc
+numbers-short (word ∷ words) ns e =
+    let first = and_then_Some (λ n. option_map (λ ns. n ∷ ns) (numbers_of words)) (number_of word) ns e in
+    let others = map_Some (λ ms. first.0 ∷ ms) (numbers_of words) ns first.2 in
+    let rest = numbers-short words others.0 others.1 in
+    subst (λ ms. All IsShort ms × (length ms ≡ suc (length words))) others.2
+    (All-cons IsShort first.0 others.0 (number_of-small word first.0 first.1) rest.0, ap suc rest.1)
+
+pub weights-short : (word line ns : List ℕ) → read_weights word line ≡ Some ns → All IsShort ns × (0 < length ns)
+weights-short word line ns e =
+    let rest = and_then_Some (λ rest. numbers_of (slice_split (λ b. eqb b 32) rest)) (behind word line) ns e in
+    let short = numbers-short (slice_split (λ b. eqb b 32) rest.0) ns rest.2 in
+    (short.0, omega (arith, short.1, length-slice_split (λ b. eqb b 32) rest.0))
+
+pub load-spelled : (line : List ℕ) (x : ℕ × ℕ) → line ≡ load_line x → IsShort x.0 → IsShort x.1 → read_load line ≡ Some x
+load-spelled line x e left right = ap read_load e ∙ load-again x left right
+
+pub cycle-spelled : (line : List ℕ) (n : ℕ) → line ≡ cycle_line n → IsShort n → read_cycle line ≡ Some n
+cycle-spelled line n e short = ap read_cycle e ∙ cycle-again n short
+
+pub weights-spelled : (word line ns : List ℕ) → line ≡ weights_line word ns → All IsShort ns → 0 < length ns → read_weights word line ≡ Some ns
+weights-spelled word line ns e short some = ap (read_weights word) e ∙ weights-again word ns some (recursion_from_All IsShort ns short)

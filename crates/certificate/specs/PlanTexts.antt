@@ -7,7 +7,7 @@
 --     voter B0 B1 ..       the weight of each voter
 --
 -- A number has 1 to 7 decimal digits and no leading zero.
-use Rattle.std.specs.Prelude.{◌≡◌, ℕ, ◌+◌, Bool, not, ◌&&◌, ◌||◌, ◌==◌, nat_lt, if◌then◌else◌, List, [], ◌∷◌, ◌++◌, length, take, drop, map, position, slice_index, codes, Option, None, Some, Result, Ok, Err, option_map, option_and_then}
+use Rattle.std.specs.Prelude.{◌<◌, ◌≡◌, ℕ, ◌+◌, Bool, not, ◌&&◌, ◌||◌, ◌==◌, nat_lt, if◌then◌else◌, List, [], ◌∷◌, ◌++◌, length, take, drop, map, position, slice_index, codes, Option, None, Some, Result, Ok, Err, option_map, option_and_then}
 use Rattle.std.specs.Option.{option_or, ok_or}
 use Rattle.std.specs.List.{list_all, slice_split, join_with_byte}
 use Rattle.std.specs.Char.{is_ascii_digit}
@@ -31,6 +31,10 @@ abbrev pub telling_of : Weighted → Telling
 telling_of w = record { load = load_of w; cycle = cycle_len w; quorum_weights = w.quorum_weights; voter_weights = w.voter_weights }
 
 -- Spelling
+
+-- the number has 1 to 7 digits
+abbrev pub IsShort : ℕ → Type 0
+IsShort n = n < 10000000
 
 abbrev pub title_line : List ℕ
 title_line = codes "quorum-plan 1"

@@ -1,10 +1,11 @@
 //! Laws of the definitions.
 ghost use Rattle.std.specs.Prelude.{◌≡◌, ◌*◌, ◌↔◌, ◌<◌, ◌++◌, ℕ, List, [], None, Some, length, slice_index};
 ghost use Rattle.std.specs.Fmt.{decimal};
+ghost use Rattle.std.specs.List.{All};
 ghost use Rattle.quorum_set.specs.Coteries.{IsCoterie};
 ghost use Rattle.quorum_set.specs.Counts.{count_of, busiest_of, times};
 ghost use Rattle.certificate.specs.Certificates.{Weighted, IsCertificate, weights_fault, busiest_count};
-ghost use Rattle.certificate.specs.PlanTexts.{plan_text, number_of};
+ghost use Rattle.certificate.specs.PlanTexts.{IsShort, plan_text, number_of, load_line, cycle_line, weights_line, read_load, read_cycle, read_weights};
 ghost use Rattle.certificate.specs.Loads.{weight_on};
 
 /// A list in which each quorum stands k times its weight names each voter k times the weight on its
@@ -24,7 +25,14 @@ pub fn certificates_have_no_fault()
 
 /// Bytes are a number exactly where they are its decimal text, of 1 to 7 digits.
 pub fn numbers_have_one_spelling()
-    ensures { (bytes : List ℕ) (n : ℕ) → (number_of bytes ≡ Some n) ↔ ((bytes ≡ decimal n) × (n < 10000000)) }
+    ensures { (bytes : List ℕ) (n : ℕ) → (number_of bytes ≡ Some n) ↔ ((bytes ≡ decimal n) × IsShort n) }
+{}
+
+/// A line is read exactly where it is spelled so: a load, a cycle's length, or weights behind their word.
+pub fn lines_are_read_as_spelled()
+    ensures load { (line : List ℕ) (load : ℕ × ℕ) → (read_load line ≡ Some load) ↔ ((line ≡ load_line load) × (IsShort load.0 × IsShort load.1)) }
+    ensures cycle { (line : List ℕ) (n : ℕ) → (read_cycle line ≡ Some n) ↔ ((line ≡ cycle_line n) × IsShort n) }
+    ensures weights { (word line weights : List ℕ) → (read_weights word line ≡ Some weights) ↔ ((line ≡ weights_line word weights) × (All IsShort weights × (0 < length weights))) }
 {}
 
 /// No plan's text begins a longer one of a plan.
