@@ -31,7 +31,7 @@ impl Counts {
     pub fn as_slice(&self) -> &[u64]
         ensures { result.now ≡ self.now }
     {
-        self.counts.as_slice()
+        &self.counts
     }
 
     /// The counts as a `Vec`. Takes no memory.
