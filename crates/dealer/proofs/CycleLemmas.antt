@@ -3,10 +3,13 @@ use Rattle.std.proofs.Common.{◌≡◌, ℕ, ◌+◌, ◌-◌, ◌<◌, ◌≤�
 use Rattle.std.specs.List.{flat_map, range_with_len}
 use Rattle.std.proofs.lemmas.Bool.{cases_Bool, cases_eq, cases_lt, eq-eqb, ne_eqb, le-leb, lt-leb, leb-true, false_from_ne_true, both_ways}
 use Rattle.std.proofs.lemmas.List.{get_or_past, append-nil, append_assoc}
+use Rattle.std.specs.List.Sorted.{IsPermutation}
+use Rattle.std.proofs.lemmas.List.FromFn.{length-range_with_len}
+use Rattle.std.proofs.lemmas.List.Sorted.{sum_by-IsPermutation}
 use Rattle.std.proofs.lemmas.List.Sums.{sum_by-cons, sum_by-append}
 use Rattle.quorum_set.specs.Counts.{greatest_below, times}
 use Rattle.dealer.specs.Cycles.{round_of, greatest_weight, cycle_of}
-use Rattle.dealer.proofs.Totals.{total-same, total-list, length-total}
+use Rattle.dealer.proofs.Totals.{sum_by-one, total-same, total-list, length-total}
 
 pub times-cons : (j x : ℕ) (xs : List ℕ) → times j (x ∷ xs) ≡ cond (eqb x j) 1 0 + times j xs
 times-cons j x xs = sum_by-cons (λ k. cond (eqb k j) 1 0) x xs
@@ -188,3 +191,23 @@ rounds-more weights r more e =
 pub cycle_of_rounds : (weights : List ℕ) → flat_map (round_of weights) (range_with_len 1 (greatest_weight weights)) ≡ cycle_of weights
 unfolding cycle_of
 cycle_of_rounds weights = refl
+
+-- a number stands once among those below a bound above it
+times-range : (n j : ℕ) → j < n → times j (range_with_len 0 n) ≡ 1
+times-range n j lt =
+    ap (times j) (sym (filter-all (λ x. true) (range_with_len 0 n) (λ x. refl))) ∙ times-filter (λ x. true) 0 n j (omega arith) (omega arith)
+
+-- the same in any order
+pub times-permuted : (n j : ℕ) (list : List ℕ) → IsPermutation (range_with_len 0 n) list → j < n → times j list ≡ 1
+times-permuted n j list permuted lt =
+    sum_by-IsPermutation (λ k. cond (eqb k j) 1 0) (range_with_len 0 n) list permuted ∙ times-range n j lt
+
+pub length-permuted : (n : ℕ) (list : List ℕ) → IsPermutation (range_with_len 0 n) list → length list ≡ n
+length-permuted n list permuted =
+    omega (
+      arith,
+      sum_by-IsPermutation (λ k. 1) (range_with_len 0 n) list permuted,
+      sum_by-one list,
+      sum_by-one (range_with_len 0 n),
+      length-range_with_len 0 n,
+    )

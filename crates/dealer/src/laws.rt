@@ -1,35 +1,45 @@
 //! Laws of the definitions.
-ghost use Rattle.std.specs.Prelude.{◌≡◌, ◌*◌, ℕ, List, length, slice_index, sum};
+ghost use Rattle.std.specs.Prelude.{◌≡◌, ◌*◌, ℕ, List, IsPermutation, length, slice_index, sum};
+ghost use Rattle.std.specs.List.{range_with_len};
 ghost use Rattle.quorum_set.specs.Counts.{count_of, busiest_of, times};
-ghost use Rattle.certificate.specs.Certificates.{Weighted, IsCertificate, busiest_count};
+ghost use Rattle.certificate.specs.Certificates.{Weighted, IsCertificate, busiest_count, cycle_len};
 ghost use Rattle.certificate.specs.Loads.{weight_on};
 ghost use Rattle.dealer.specs.Cycles.{cycle_of, GoesByTurns};
 ghost use Rattle.dealer.specs.Accounts.{account_of, quorums_named, IsWholeCycles};
 
 use certificate::whole_cycles_are_even;
 
-/// A cycle is as long as the weights add up to, and each quorum stands in it as often as its weight says. The cycle
-/// goes by turns: first each quorum once, in the order of their numbers, then each one a second time whose weight
-/// is 2 or more, and so on.
+/// A cycle is as long as the weights add up to, and each quorum stands in it as often as its weight
+/// says. The cycle goes by turns: first each quorum once, in the order of their numbers, then each one
+/// a second time whose weight is 2 or more, and so on.
 pub fn cycles_follow_weights()
     ensures len { (weights : List ℕ) → length (cycle_of weights) ≡ sum weights }
     ensures shares { (weights : List ℕ) (j : ℕ) → times j (cycle_of weights) ≡ slice_index weights j }
     ensures turns { (weights : List ℕ) → GoesByTurns (cycle_of weights) }
 {}
 
+/// The numbers below k times the cycle's length are the tickets of k whole cycles, in any order.
+pub fn tickets_fill_cycles_in_any_order()
+    ensures { (w : Weighted) (k : ℕ) (tickets : List ℕ) →
+        IsPermutation (range_with_len 0 (k * cycle_len w)) tickets → IsWholeCycles w k tickets }
+{}
+
 /// Tickets name a voter as often as they name the quorums with it, taken together.
 pub fn voters_are_counted_by_quorum()
     ensures { (w : Weighted) (tickets : List ℕ) → IsCertificate w → (i : ℕ) →
-        count_of w.system i (quorums_named w tickets) ≡ weight_on i w.system.quorums (account_of w tickets).quorums }
+        count_of w.system i (quorums_named w tickets)
+        ≡ weight_on i w.system.quorums (account_of w tickets).quorums }
 {
     whole_cycles_are_even();
 }
 
-/// The tickets of k whole cycles name each quorum k times its weight, and their busiest voter k times the busiest count.
+/// The tickets of k whole cycles name each quorum k times its weight, and their busiest voter k times
+/// the busiest count.
 pub fn whole_cycles_follow_weights()
-    ensures shares { (w : Weighted) (k : ℕ) (tickets : List ℕ) → IsWholeCycles w k tickets → (j : ℕ) →
-        times j (quorums_named w tickets) ≡ k * slice_index w.quorum_weights j }
-    ensures even { (w : Weighted) (k : ℕ) (tickets : List ℕ) → IsCertificate w → IsWholeCycles w k tickets →
+    ensures shares { (w : Weighted) (k : ℕ) (tickets : List ℕ) → IsWholeCycles w k tickets →
+        (j : ℕ) → times j (quorums_named w tickets) ≡ k * slice_index w.quorum_weights j }
+    ensures even { (w : Weighted) (k : ℕ) (tickets : List ℕ) →
+        IsCertificate w → IsWholeCycles w k tickets →
         busiest_of w.system (quorums_named w tickets) ≡ k * busiest_count w }
 {
     whole_cycles_are_even();

@@ -1,12 +1,15 @@
 //! Dealing quorums by a plan.
 //!
-//! A plan's weights say how often each quorum is named in a cycle. [`Cycle`] lists the quorums of a cycle once: round 1
-//! has each quorum with a weight of 1 or more, in the order of their numbers, round 2 each one with 2 or more, and so on.
-//! A ticket is a number from 0 on, and names the quorum at its place in the cycle, which begins again at its end. So
-//! whoever hands out the tickets 0, 1, 2, .. deals the quorums in the plan's proportions. An [`Account`] says how often a
-//! list of tickets names each quorum and each voter. For whole cycles it is proved what it says: each quorum k times its
-//! weight, and a busiest voter than which no list of as many quorums has a less busy one (Naor and Wool, SIAM J. Comput.
-//! 27(2), 1998, section 2: the load of a strategy).
+//! A plan's weights say how often each quorum is named in a cycle. [`Cycle`] lists the quorums of a
+//! cycle once: round 1 has each quorum with a weight of 1 or more, in the order of their numbers, round
+//! 2 each one with 2 or more, and so on. A ticket is a number from 0 on, and names the quorum at its
+//! place in the cycle, which begins again at its end. So whoever hands out the tickets 0, 1, 2, ..
+//! deals the quorums in the plan's proportions.
+//!
+//! An [`Account`] says how often a list of tickets names each quorum and each voter. What whole cycles
+//! are for is proved of it: each quorum stands there k times its weight, and no list of as many quorums
+//! names its busiest voter less often (Naor and Wool, SIAM J. Comput. 27(2), 1998, section 2: the load
+//! of a strategy).
 //!
 //! Above `certificate`, whose [`Plan`](certificate::Plan) it consumes; below everything that draws quorums.
 //!
@@ -29,4 +32,7 @@ mod tests;
 pub use account::Account;
 pub use counts::Counts;
 pub use cycle::Cycle;
-pub use laws::{cycles_follow_weights, voters_are_counted_by_quorum, whole_cycles_follow_weights};
+pub use laws::{
+    cycles_follow_weights, tickets_fill_cycles_in_any_order, voters_are_counted_by_quorum,
+    whole_cycles_follow_weights,
+};
