@@ -1,5 +1,5 @@
 //! The cycle of a plan.
-ghost use Rattle.std.specs.Prelude.{◌≡◌, ◌<◌, ◌≤◌, ◌*◌, ℕ, List, filter, length, map, nat_le, slice_index, All, IfOk, IfErr};
+ghost use Rattle.std.specs.Prelude.{◌≡◌, ◌<◌, ◌*◌, ℕ, filter, length, map, nat_le, slice_index, IfOk, IfErr};
 ghost use Rattle.std.specs.List.{range_with_len};
 ghost use Rattle.quorum_set.specs.Counts.{times};
 ghost use Rattle.certificate.specs.Certificates.{IsCertificate, IsOptimal, busiest_count};
@@ -17,6 +17,7 @@ use std::marker::Model;
 #[derive(Drop)]
 pub struct Cycle {
     plan: Plan,
+    /// The number of the quorum at each place of the cycle.
     quorums: Vec<usize>,
 }
 
