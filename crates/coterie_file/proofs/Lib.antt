@@ -2,6 +2,8 @@ pub mod ListLemmas
 pub mod NameLaws
 pub mod NameLemmas
 pub mod QuorumLemmas
+pub mod ReadingLaws
 pub mod ReadingLemmas
+pub mod StringLaws
 pub mod TableLemmas
 pub mod WritingLemmas

@@ -3,7 +3,7 @@ use Rattle.std.proofs.Common.{◌≡◌, ◌≢◌, ℕ, ◌+◌, ◌<◌, ◌�
 use Rattle.std.specs.List.{All, position, position_or_len}
 use Rattle.std.specs.Option.{option_or, option_map}
 use Rattle.std.specs.Str.{bytes_eq}
-use Rattle.std.proofs.lemmas.Bool.{ltb-true, lt-ltb, leb-true, le-leb, not-false, cases_lt, cond-true, false≢true}
+use Rattle.std.proofs.lemmas.Bool.{ltb-true, lt-ltb, leb-true, le-leb, not-false, not_from_true, cases_lt, cond-true, false≢true}
 use Rattle.std.proofs.lemmas.Fmt.{decimal_is_IsNumeral, decimal_injective, length-decimal-le}
 use Rattle.std.proofs.lemmas.List.{length-append, get_or_default, take_more, take_all}
 use Rattle.std.proofs.Math.ListN.{get_or-append}
@@ -11,7 +11,7 @@ use Rattle.std.proofs.Math.Seq.{get_or-append_seam}
 use Rattle.std.proofs.lemmas.List.Folds.{Any-from_list_any, list_any_at}
 use Rattle.std.proofs.lemmas.List.Elements.{All-cons}
 use Rattle.std.proofs.lemmas.List.FromFn.{length-map-range_with_len, get_or-map-range_with_len, take-map-range_with_len}
-use Rattle.std.proofs.lemmas.List.Quantifiers.{all_pairs_push}
+use Rattle.std.proofs.lemmas.List.Quantifiers.{all_pairs_push, position-Some}
 use Rattle.std.proofs.lemmas.List.Sums.{AllPass-from_list_all, list_all-from_AllPass, fails_before_first}
 use Rattle.std.proofs.lemmas.Slice.Eq.{bytes_eq-Decides}
 use Rattle.std.proofs.lemmas.Str.Parse.{digit_at}
@@ -71,31 +71,58 @@ pub is_name-from_IsName : (name : List ℕ) → IsName name → is_name name ≡
 is_name-from_IsName name h = rw (lt-ltb 0 (length name) h.not_empty, le-leb (length name) 64 h.short, list_all-from_AllPass is_name_byte name h.bytes) refl
 
 -- names without a fault
-position-None : {A : Type 0} (p : A → Bool) (xs : List A) → position p xs ≡ None → All (λ x. p x ≡ false) xs
+pub position-None : {A : Type 0} (p : A → Bool) (xs : List A) → position p xs ≡ None → All (λ x. p x ≡ false) xs
 position-None p xs e k d lt =
     elim (cases_lt (position_or_len p xs) (length xs)) [
       | inl short ↦ let found : position p xs ≡ Some (position_or_len p xs) = cond-true (ltb (position_or_len p xs) (length xs)) (Some (position_or_len p xs)) None (lt-ltb _ _ short) in cc
       | inr long ↦ fails_before_first p xs k d (omega arith)
     ]
 
-option_or-None : {A : Type 0} (o p : Option A) → option_or o p ≡ None → (o ≡ None) × (p ≡ None)
+pub option_or-None : {A : Type 0} (o p : Option A) → option_or o p ≡ None → (o ≡ None) × (p ≡ None)
 option_or-None None p e = (refl, e)
 option_or-None (Some x) p e = cc
 
-option_map-None : {A B : Type 0} (f : A → B) (o : Option A) → option_map f o ≡ None → o ≡ None
+pub option_map-None : {A B : Type 0} (f : A → B) (o : Option A) → option_map f o ≡ None → o ≡ None
 option_map-None f None e = refl
 option_map-None f (Some x) e = cc
+
+-- names without a repeat all differ
+pub AllDiffer-from_no_repeat : (names : List (List ℕ)) → first_repeat [] names ≡ None → AllDiffer names
+AllDiffer-from_no_repeat names apart =
+    let means = first_repeat-means [] names (λ i j d lt l. absurd (omega arith)) in
+    rw apart at means
 
 pub AreNames-from_no_fault : (names : List (List ℕ)) → names_fault names ≡ None → AreNames names
 AreNames-from_no_fault names e =
     let parts = option_or-None (option_map BadName (position (λ n. not (is_name n)) names)) (option_map RepeatedName (first_repeat [] names)) e in
     let good = position-None (λ n. not (is_name n)) names (option_map-None BadName _ parts.0) in
-    let apart : first_repeat [] names ≡ None = option_map-None RepeatedName _ parts.1 in
-    let means = first_repeat-means [] names (λ i j d lt l. absurd (omega arith)) in
     record {
       named = λ k d lt. IsName-from_test (get_or names k d) (not-false _ (good k d lt));
-      different = rw apart at means;
+      different = AllDiffer-from_no_repeat names (option_map-None RepeatedName _ parts.1);
     }
+
+pub position-none : {A : Type 0} (p : A → Bool) (xs : List A) (d : A) → All (λ x. p x ≡ false) xs → position p xs ≡ None
+position-none p xs d all =
+    elim (position p xs) as (λ o. position p xs ≡ o → o ≡ None) [
+      | None ↦ λ e. refl
+      | Some i ↦ λ e.
+          let found = position-Some p xs i d e in
+          absurd (false≢true (sym (all i d found.0) ∙ found.1))
+    ] refl
+
+-- names that all differ have no repeat
+pub first_repeat-none : (names : List (List ℕ)) → AllDiffer names → first_repeat [] names ≡ None
+first_repeat-none names differ =
+    let means = first_repeat-means [] names (λ i j d lt l. absurd (omega arith)) in
+    elim (first_repeat [] names) as (λ o. MatchOption o (AllDiffer names) (IsLeastRepeat names) → o ≡ None) [
+      | None ↦ λ h. refl
+      | Some i ↦ λ h. absurd (differ h.repeated.0 i [] h.repeated.1 h.within h.repeated.2)
+    ] means
+
+pub names_fault-none : (names : List (List ℕ)) → AreNames names → names_fault names ≡ None
+names_fault-none names h =
+    let good : position (λ n. not (is_name n)) names ≡ None = position-none (λ n. not (is_name n)) names [] (λ k d lt. not_from_true _ (is_name-from_IsName (get_or names k d) (h.named k d lt))) in
+    rw (good, first_repeat-none names h.different) refl
 
 -- the names v0, v1, ..
 digit_is_name_byte : (b : ℕ) → 48 ≤ b → b ≤ 57 → is_name_byte b ≡ true

@@ -1,7 +1,8 @@
 -- The names that a TOML table lists under its two keys.
 use Rattle.std.specs.Prelude.{ℕ, ◌+◌, ◌==◌, if◌then◌else◌, List, [], ◌∷◌, map, String, Vec, string_bytes, Option, None, Some, Result, option_map, option_and_then, ok_or, codes}
 use Rattle.std.specs.declared.alloc.Global.{Global}
-use Rattle.toml.specs.Data.{Items, no_items, item, Members, no_members, member, get_member, as_str, as_array}
+use Rattle.toml.specs.Data.{Items, no_items, item, Members, no_members, member, string, get_member, as_str, as_array}
+use Rattle.toml.specs.View.{items_of}
 use Rattle.toml.specs.Parse.{parse_document}
 use Rattle.coterie_file.specs.Answers.{◌>>=◌}
 use Rattle.coterie_file.specs.declared.fault.FileFault.{FileFault}
@@ -58,3 +59,7 @@ table_at text = ok_or (parse_document text) NotToml
 -- the lists that a text spells
 abbrev pub lists_at : List ℕ → Result NameLists FileFault
 lists_at text = table_at text >>= lists_in
+
+-- the array of these strings
+abbrev pub strings : List (List ℕ) → Items
+strings texts = items_of (map string texts)

@@ -1,13 +1,13 @@
 -- The coterie that a text spells.
-use Rattle.std.specs.Prelude.{ℕ, Bool, false, not, ◌==◌, List, [], length, map, position, Option, None, Some, Result, option_map, is_some}
+use Rattle.std.specs.Prelude.{◌≡◌, ℕ, Bool, false, not, ◌==◌, List, [], length, map, position, Option, None, Some, Result, Ok, All, Contains, option_map, is_some}
 use Rattle.std.specs.List.{list_any, list_all}
 use Rattle.std.specs.Option.{option_or}
-use Rattle.quorum_set.specs.Coteries.{QuorumSystem, first_fault}
+use Rattle.quorum_set.specs.Coteries.{QuorumSystem, IsCoterie, first_fault}
 use Rattle.quorum_set.specs.Sets.{set_where}
 use Rattle.coterie_file.specs.Answers.{unless, ◌>>=◌}
 use Rattle.coterie_file.specs.Lists.{NameLists, lists_at}
 use Rattle.coterie_file.specs.Named.{NamedSystem}
-use Rattle.coterie_file.specs.Names.{has_name, number_of, first_repeat, names_fault}
+use Rattle.coterie_file.specs.Names.{has_name, number_of, first_repeat, names_fault, AllDiffer, AreNames}
 use Rattle.coterie_file.specs.declared.fault.FileFault.{FileFault}
 use Rattle.coterie_file.specs.declared.fault.FileFault.TheVariants.{UnknownName, RepeatedMember, Coterie}
 
@@ -39,3 +39,16 @@ coterie_in lists = unless (lists_fault lists) (record { system = system_of lists
 -- the coterie that a text spells, or the first fault
 abbrev pub coterie_at : List ℕ → Result NamedSystem FileFault
 coterie_at text = lists_at text >>= coterie_in
+
+-- what lists without a fault are: good names, quorums of voters' names that have no name twice, and these a coterie
+pub record ListsCoterie (lists : NameLists) : Type 0 where
+  pub names : AreNames lists.names
+  pub known : All (λ members. All (Contains lists.names) members) lists.quorums
+  pub once : All AllDiffer lists.quorums
+  pub coterie : IsCoterie (system_of lists)
+
+-- the text spells this coterie with these names
+abbrev pub Spells : List ℕ → NamedSystem → Type 0
+Spells text n =
+    (lists : NameLists) × (lists_at text ≡ Ok lists) × ListsCoterie lists
+    × (n ≡ record { system = system_of lists; names = lists.names })

@@ -1,14 +1,35 @@
-//! Coteries as texts.
+//! Coteries as texts: a coterie whose voters have names, read from TOML and written in one layout.
+//!
+//! A coterie (Garcia-Molina and Barbara, JACM 32(4), 1985) comes from `quorum_set` as sets of voters' numbers. Here its voters get
+//! names, and the text lists them: a voter's number is its place in `voters`, a quorum's number its place in `quorums`. What a text reads
+//! as is a function of the text, and `read_coterie` answers exactly that: the coterie, or the first fault of the text. The programs that
+//! plan, deal and run over a coterie start from this crate; it knows nothing of plans.
+//!
+//! ```text
+//! let text = "voters = ['a', 'b', 'c']\nquorums = [['a', 'b'], ['b', 'c'], ['a', 'c']]";
+//! let named = read_coterie(alloc, text)?;
+//! named.coterie().quorum(1)          // the set of 1 and 2
+//! named.name(2)                      // "c"
+//! write_coterie(alloc, &named)?      // the same coterie, a line for each quorum
+//! read_coterie(alloc, "voters = ['a', 'a']\nquorums = [['a']]")    // Err(FileFault::RepeatedName(1))
+//! ```
 #![tactic(auto)]
 
 mod fault;
+mod laws;
 mod lists;
 mod named;
 mod names;
 mod read;
+#[cfg(test)]
+mod tests;
 mod write;
 
 pub use fault::FileFault;
+pub use laws::{
+    first_repeat_is_least, lists_are_arrays_of_strings, names_have_no_fault,
+    quorums_have_the_listed_voters, texts_read_as_coteries,
+};
 pub use named::Named;
 pub use read::read_coterie;
 pub use write::write_coterie;

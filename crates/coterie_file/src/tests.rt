@@ -1,0 +1,169 @@
+use super::*;
+use quorum_set::{Coterie, QSet};
+use std::alloc::Global;
+use std::test::Fail;
+
+/// What a text is answered by: its fault, or the names and the quorums that were read, in the layout that is written.
+fn answer_to(alloc: Global, text: &str) -> Result<String, Fail> {
+    match read_coterie(alloc, text) {
+        Ok(named) => Ok(write_coterie(alloc, &named)?),
+        Err(fault) => Ok(fault.to_string(alloc)?),
+    }
+}
+
+#[test]
+fn first_faults(rt: HostRuntime) -> Result<(), Fail> {
+    let alloc = rt.alloc();
+    let table = [
+        ("voters = [", "F1 NotToml"),
+        ("voters = []\nvoters = []\nquorums = []", "F1 NotToml"),
+        ("", "F2 Keys"),
+        ("voters = ['a']", "F2 Keys"),
+        ("quorums = [['a']]", "F2 Keys"),
+        (
+            "voters = ['a']\nquorums = [['a']]\nweights = [1]",
+            "F2 Keys",
+        ),
+        ("voters = ['a']\nquorum = [['a']]", "F2 Keys"),
+        ("voters = 'a'\nquorums = [['a']]", "F2 Keys"),
+        ("voters = ['a', 1]\nquorums = [['a']]", "F2 Keys"),
+        ("voters = ['a']\nquorums = ['a']", "F2 Keys"),
+        ("voters = ['a']\nquorums = [['a', 1]]", "F2 Keys"),
+        ("voters = ['a b', 2]\nquorums = [['a']]", "F2 Keys"),
+        (
+            "voters = ['a b', 'c d']\nquorums = [['a b']]",
+            "F3 BadName 0",
+        ),
+        ("voters = ['a', '']\nquorums = [['a']]", "F3 BadName 1"),
+        (
+            "voters = ['a', 'a', 'é']\nquorums = [['a']]",
+            "F3 BadName 2",
+        ),
+        (
+            "voters = ['a', 'a']\nquorums = [['z']]",
+            "F4 RepeatedName 1",
+        ),
+        (
+            "voters = ['a', 'b', 'b', 'a']\nquorums = []",
+            "F4 RepeatedName 2",
+        ),
+        ("voters = ['a']\nquorums = [['z']]", "F5 UnknownName 0"),
+        (
+            "voters = ['a']\nquorums = [['a', 'a'], ['z']]",
+            "F5 UnknownName 1",
+        ),
+        (
+            "voters = ['a', 'A']\nquorums = [['A', 'a'], ['a', 'a']]",
+            "F6 RepeatedMember 1",
+        ),
+        (
+            "voters = ['a']\nquorums = [['a', 'a'], []]",
+            "F6 RepeatedMember 0",
+        ),
+        ("voters = []\nquorums = []", "E1 NoVoters"),
+        ("voters = ['a', 'b', 'c']\nquorums = []", "E3 NoQuorums"),
+        (
+            "voters = ['a', 'b', 'c']\nquorums = [[]]",
+            "E5 EmptyQuorum 0",
+        ),
+        (
+            "voters = ['a', 'b', 'c']\nquorums = [['a', 'b'], ['c']]",
+            "E7 Disjoint 0 1",
+        ),
+        (
+            "voters = ['a', 'b', 'c']\nquorums = [['a', 'b'], ['b', 'a']]",
+            "E8 Contained 0 1",
+        ),
+    ];
+    for (text, want) in &table {
+        assert_eq!(rt; answer_to(alloc, text)?.as_str(), *want, "{text}");
+    }
+    Ok(())
+}
+
+/// The coterie of three voters and their pairs, as it is written.
+const MAJORITY: &str = r#"voters = ["v0", "v1", "v2"]
+quorums = [
+  ["v0", "v1"],
+  ["v0", "v2"],
+  ["v1", "v2"],
+]
+"#;
+
+#[test]
+fn layouts_read_alike(rt: HostRuntime) -> Result<(), Fail> {
+    let alloc = rt.alloc();
+    let layouts = [
+        MAJORITY,
+        "quorums=[['v1','v0'],['v2','v0'],['v2','v1']]\nvoters=['v0','v1','v2']",
+        "# three voters\nvoters = [\n  'v0', # the first\n  'v1',\n  'v2',\n]\nquorums = [ ['v0', 'v1'], ['v0', 'v2'],\n  ['v1', # and\n 'v2'] ]\n",
+        "\"voters\" = [\"\\u0076\\u0030\", '''v1''', \"\"\"v2\"\"\"]\r\n'quorums' = [[\"v0\", \"v1\"], [\"v0\", \"v2\"], [\"v1\", \"v2\"]]\r\n",
+    ];
+    for text in &layouts {
+        assert_eq!(rt; answer_to(alloc, text)?.as_str(), MAJORITY, "{text}");
+    }
+    Ok(())
+}
+
+#[test]
+fn numbered_coterie_is_written(rt: HostRuntime) -> Result<(), Fail> {
+    let alloc = rt.alloc();
+    let mut sets = Vec::new(alloc);
+    for (i, j) in [(0u8, 1u8), (2, 0), (1, 2)] {
+        let mut set = QSet::empty();
+        set.insert(i);
+        set.insert(j);
+        sets.push(set)?;
+    }
+    let Ok(coterie) = Coterie::of(3, sets) else {
+        assert!(rt; false);
+        return Ok(());
+    };
+    let named = Named::numbered(alloc, coterie)?;
+    assert_eq!(rt; named.coterie().count(), 3);
+    assert_eq!(rt; named.name(2), "v2");
+    assert_eq!(rt; write_coterie(alloc, &named)?.as_str(), MAJORITY);
+    Ok(())
+}
+
+#[test]
+fn sizes_at_the_limits(rt: HostRuntime) -> Result<(), Fail> {
+    let alloc = rt.alloc();
+    let long = "n".repeat(alloc, 64)?;
+    let longer = "n".repeat(alloc, 65)?;
+    let mut names = String::new(alloc);
+    for i in 0..64 {
+        names.push_str(&format!(in alloc; "'n{i}',")?)?;
+    }
+    let many = "['n1'],".repeat(alloc, 4097)?;
+    let table = [
+        (
+            format!(in alloc; "voters=['{long}']\nquorums=[['{long}']]")?,
+            "voters = [",
+        ),
+        (
+            format!(in alloc; "voters=['{longer}']\nquorums=[['{longer}']]")?,
+            "F3 BadName 0",
+        ),
+        (
+            format!(in alloc; "voters=[{names}]\nquorums=[[{names}]]")?,
+            "voters = [",
+        ),
+        (
+            format!(in alloc; "voters=[{names}'m']\nquorums=[['n0']]")?,
+            "E2 TooManyVoters",
+        ),
+        (
+            format!(in alloc; "voters=[{names}'m']\nquorums=[['n0'],['m','m']]")?,
+            "F6 RepeatedMember 1",
+        ),
+        (
+            format!(in alloc; "voters=[{names}]\nquorums=[{many}]")?,
+            "E4 TooManyQuorums",
+        ),
+    ];
+    for (text, want) in &table {
+        assert!(rt; answer_to(alloc, text)?.starts_with(*want), "{want}");
+    }
+    Ok(())
+}
