@@ -176,7 +176,7 @@ round_of-more weights r =
     filter-filter (λ j. leb r (get_or weights j 0)) (λ j. leb (r + 1) (get_or weights j 0)) (range_with_len 0 (length weights))
     (λ j passes. le-leb r (get_or weights j 0) (omega (arith, leb-true (r + 1) (get_or weights j 0) passes)))
 
-flat_map_range_more : (f : ℕ → List ℕ) (a n j : ℕ) → a + n ≡ j → flat_map f (range_with_len a (suc n)) ≡ flat_map f (range_with_len a n) ++ f j
+pub flat_map_range_more : (f : ℕ → List ℕ) (a n j : ℕ) → a + n ≡ j → flat_map f (range_with_len a (suc n)) ≡ flat_map f (range_with_len a n) ++ f j
 flat_map_range_more f a zero j e = let at : a ≡ j = omega arith in append-nil (f a) ∙ ap f at
 flat_map_range_more f a (suc n) j e =
     ap (λ xs. f a ++ xs) (flat_map_range_more f (a + 1) n j (omega arith))

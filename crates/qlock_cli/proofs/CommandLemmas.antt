@@ -1,0 +1,37 @@
+-- Lemmas on the parts of an input.
+use Rattle.std.proofs.Common.{◌≡◌, ℕ, Bool, true, false, cond, List, Result, Ok, Err, ap, sym, refl, ◌∙◌}
+use Rattle.std.specs.Str.{IsUtf8, is_utf8}
+use Rattle.std.proofs.lemmas.Str.{IsUtf8-from_is_utf8, is_utf8-from_IsUtf8}
+use Rattle.coterie_file.specs.Answers as file_answers
+use Rattle.coterie_file.specs.Reading.{coterie_at}
+use Rattle.coterie_file.specs.declared.fault.FileFault.{FileFault}
+use Rattle.coterie_file.specs.declared.fault.FileFault.TheVariants as file
+use Rattle.certificate.specs.PlanTexts as plan_texts
+use Rattle.certificate.specs.declared.fault.PlanFault.{PlanFault}
+use Rattle.certificate.specs.declared.fault.PlanFault.TheVariants as plan
+use Rattle.qlock_cli.specs.Commands.{Refuses, coterie_part, refused_as}
+use Rattle.qlock_cli.specs.Faults.{file_refusal, plan_refusal}
+use Rattle.qlock_cli.specs.declared.fault.Fault.TheVariants.{File, Plan}
+
+is_no_text : (bytes : List ℕ) (b : Bool) → is_utf8 bytes ≡ b → (IsUtf8 bytes → ⊥) → b ≡ false
+is_no_text bytes true e none = absurd (none (IsUtf8-from_is_utf8 bytes e))
+is_no_text bytes false e none = refl
+
+-- bytes that are no text are no coterie
+pub part_refused : (bytes : List ℕ) → (IsUtf8 bytes → ⊥) → coterie_part bytes ≡ Err (File file.NotToml)
+unfolding coterie_part
+part_refused bytes none = ap (λ b. cond b (refused_as File (coterie_at bytes)) (Err (File file.NotToml))) (is_no_text bytes (is_utf8 bytes) refl none)
+
+-- and of a text they are what it spells
+pub part_read : (bytes text : List ℕ) → text ≡ bytes → IsUtf8 bytes → coterie_part bytes ≡ refused_as File (coterie_at text)
+unfolding coterie_part
+part_read bytes text same is_text = ap (λ b. cond b (refused_as File (coterie_at bytes)) (Err (File file.NotToml))) (is_utf8-from_IsUtf8 bytes is_text) ∙ ap (λ t. refused_as File (coterie_at t)) (sym same)
+
+-- a refusal of the file is one of the command
+pub file_refused : {Y : Type 0} (fault : FileFault) (wanted : Result Y FileFault) → file_answers.Refuses fault wanted → Refuses (file_refusal fault) (refused_as File wanted)
+file_refused file.OutOfMemory wanted e = tt
+file_refused fault wanted e = ap (refused_as File) e
+
+pub plan_refused : {Y : Type 0} (fault : PlanFault) (wanted : Result Y PlanFault) → plan_texts.Fails fault wanted → Refuses (plan_refusal fault) (refused_as Plan wanted)
+plan_refused plan.OutOfMemory wanted e = tt
+plan_refused fault wanted e = ap (refused_as Plan) e

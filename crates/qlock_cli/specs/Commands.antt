@@ -1,0 +1,124 @@
+-- What each command writes, as a function of its input.
+use Rattle.std.specs.Prelude.{◌≡◌, ℕ, ◌<◌, ◌≤◌, List, [], ◌∷◌, ◌++◌, length, codes, slice_index, Option, Result, Ok, Err, ⊤, IsOk, IsOkAnd, if◌then◌else◌}
+use Rattle.std.specs.List.{flat_map, range_with_len}
+use Rattle.std.specs.Fmt.{decimal}
+use Rattle.std.specs.Io.KnownBytes.{Appends}
+use Rattle.std.specs.Str.{is_utf8}
+use Rattle.quorum_set.specs.Coteries.{QuorumSystem}
+use Rattle.coterie_file.specs.Named.{NamedSystem}
+use Rattle.coterie_file.specs.Names.{name_at}
+use Rattle.coterie_file.specs.Reading.{coterie_at}
+use Rattle.coterie_file.specs.declared.fault.FileFault.{FileFault}
+use Rattle.coterie_file.specs.declared.fault.FileFault.TheVariants.{NotToml}
+use Rattle.certificate.specs.Certificates.{Weighted, cycle_len, load_of}
+use Rattle.certificate.specs.PlanTexts.{plan_at}
+use Rattle.certificate.specs.declared.fault.PlanFault.{PlanFault}
+use Rattle.dealer.specs.Cycles.{quorum_of_ticket}
+use Rattle.dealer.specs.Accounts.{account_of}
+use Rattle.dealer.specs.declared.account.Account.{Account}
+use Rattle.qlock_cli.specs.Parts.{split}
+use Rattle.qlock_cli.specs.declared.fault.Fault.{Fault}
+use Rattle.qlock_cli.specs.declared.fault.Fault.TheVariants.{TooLong, ReadFault, WriteFault, OutOfMemory, File, Plan}
+use Rattle.qlock_cli.specs.declared.answer.Planned.{Planned}
+use Rattle.qlock_cli.specs.declared.words.Command.{Command}
+use Rattle.qlock_cli.specs.declared.words.Command.TheVariants.{Check, Deal}
+
+-- Steps that may be refused
+
+infixl 10 ◌>>=◌
+abbrev pub ◌>>=◌ : {A B : Type 0} → Result A Fault → (A → Result B Fault) → Result B Fault
+(Ok x) >>= f = f x
+(Err e) >>= f = Err e
+
+-- the same answer, its refusal under another name
+abbrev pub refused_as : {A E : Type 0} → (E → Fault) → Result A E → Result A Fault
+refused_as name (Ok x) = Ok x
+refused_as name (Err e) = Err (name e)
+
+-- the fault is want of memory, or the wanted answer is this fault
+abbrev pub Refuses : {Y : Type 0} → Fault → Result Y Fault → Type 0
+Refuses OutOfMemory wanted = Unit {0}
+Refuses fault wanted = wanted ≡ Err fault
+
+-- the result, seen by view, is the wanted answer, memory aside
+abbrev pub Gives : {X Y : Type 0} → (X → Y) → Result X Fault → Result Y Fault → Type 0
+Gives view (Ok x) wanted = wanted ≡ Ok (view x)
+Gives view (Err fault) wanted = Refuses fault wanted
+
+-- Parts
+
+-- a coterie in bytes, which have to be UTF-8
+unfoldable pub coterie_part : List ℕ → Result NamedSystem Fault
+coterie_part bytes = if is_utf8 bytes then refused_as File (coterie_at bytes) else Err (File NotToml)
+
+unfoldable pub plan_part : QuorumSystem → List ℕ → Result Weighted Fault
+plan_part system bytes = refused_as Plan (plan_at system bytes)
+
+-- what an input of two parts spells: a coterie, and a plan of it
+unfoldable pub planned_in : List ℕ → Result Planned Fault
+planned_in input = do
+  parts ← split 2 input
+  named ← coterie_part parts.0
+  plan ← plan_part named.system parts.1
+  Ok (record { named = named; plan = plan })
+
+-- Lines
+
+-- 10 is a newline, 32 a space, 47 a slash
+abbrev pub ticket_line : Weighted → ℕ → List ℕ
+ticket_line w ticket = decimal ticket ++ (32 ∷ (decimal (quorum_of_ticket w ticket) ++ 10 ∷ []))
+
+abbrev pub voter_line : List ℕ → ℕ → List ℕ
+voter_line name count = codes "voter " ++ (name ++ (32 ∷ (decimal count ++ 10 ∷ [])))
+
+abbrev pub busiest_line : ℕ → List ℕ
+busiest_line count = codes "busiest " ++ (decimal count ++ 10 ∷ [])
+
+abbrev pub load_line : ℕ × ℕ → ℕ → List ℕ
+load_line load cycle = codes "load " ++ (decimal load.0 ++ (47 ∷ (decimal load.1 ++ (codes " cycle " ++ (decimal cycle ++ 10 ∷ [])))))
+
+-- Texts
+
+-- a line for each ticket below n
+abbrev pub ticket_lines : Weighted → ℕ → List ℕ
+ticket_lines w n = flat_map (ticket_line w) (range_with_len 0 n)
+
+-- a line for each voter, with its name and how often it was named
+abbrev pub voter_lines : List (List ℕ) → List ℕ → List ℕ
+voter_lines names counts = flat_map (λ i. voter_line (name_at names i) (slice_index counts i)) (range_with_len 0 (length names))
+
+-- the lines of an account
+abbrev pub account_text : List (List ℕ) → Account → List ℕ
+account_text names account = voter_lines names account.voters ++ busiest_line account.busiest
+
+-- the tickets below n with their quorums, and their account
+unfoldable pub deal_text : Planned → ℕ → List ℕ
+deal_text p n = ticket_lines p.plan n ++ account_text p.named.names (account_of p.plan (range_with_len 0 n))
+
+unfoldable pub check_text : Planned → List ℕ
+check_text p = load_line (load_of p.plan) (cycle_len p.plan)
+
+-- Commands
+
+abbrev pub check_answer_of : List ℕ → Result (List ℕ) Fault
+check_answer_of input = planned_in input >>= λ p. Ok (check_text p)
+
+abbrev pub deal_answer_of : ℕ → List ℕ → Result (List ℕ) Fault
+deal_answer_of n input = planned_in input >>= λ p. Ok (deal_text p n)
+
+-- what a command writes for an input, or why it refuses it
+abbrev pub answer_of : Command → List ℕ → Result (List ℕ) Fault
+answer_of Check input = check_answer_of input
+answer_of (Deal n) input = deal_answer_of n input
+
+-- the command's answer to the input was written behind what there was
+abbrev pub Answers : Command → List ℕ → Option (List ℕ) → Option (List ℕ) → Type 0
+Answers command input old new = (length input ≤ 16777216) × IsOkAnd (answer_of command input) (Appends old new)
+
+-- the fault is one that the input leads to: it is too long, or the command refuses it so; a device or memory may fail whatever the input is
+abbrev pub ComesOf : Command → List ℕ → Fault → Type 0
+ComesOf command input TooLong = 16777216 < length input
+ComesOf command input ReadFault = ⊤
+ComesOf command input WriteFault = IsOk (answer_of command input)
+ComesOf command input OutOfMemory = ⊤
+ComesOf command input fault = (length input ≤ 16777216) × (answer_of command input ≡ Err fault)

@@ -1,0 +1,5 @@
+pub mod Commands
+pub mod Devices
+pub mod Faults
+pub mod Parts
+pub mod Words

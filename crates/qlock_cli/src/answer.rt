@@ -1,0 +1,164 @@
+//! What each command writes for its input.
+ghost use Rattle.std.specs.Prelude.{◌≡◌, ◌≤◌, ◌<◌, ◌++◌, length, IfErr, IfOk, slice_index, string_bytes};
+ghost use Rattle.std.specs.List.{range_with_len};
+ghost use Rattle.coterie_file.specs.Named.{IsNamed};
+ghost use Rattle.certificate.specs.Certificates.{IsCertificate, cycle_len, load_of};
+ghost use Rattle.dealer.specs.Accounts.{account_of};
+ghost use Rattle.qlock_cli.specs.Commands.{Gives, account_text, answer_of, check_answer_of, check_text, coterie_part, deal_answer_of, deal_text, plan_part, planned_in};
+ghost use Rattle.qlock_cli.specs.Devices.{IsOwn};
+
+use crate::fault::Fault;
+use crate::parts::split_part;
+use crate::texts::{load_line_of, push_account, push_tickets};
+use crate::words::Command;
+use certificate::{Plan, read_plan};
+use coterie_file::{FileFault, Named, read_coterie};
+use dealer::{Account, Cycle};
+use quorum_set::Coterie;
+use std::alloc::{AllocError, Global};
+
+/// The coterie that a part spells.
+fn coterie_of(alloc: Global, part: &[u8]) -> Result<Named, Fault>
+    ensures exact { Gives (λ n. n) result (coterie_part part.now) }
+    ensures own { IfErr result IsOwn }
+{
+    let Ok(text) = std::str::from_utf8(part) else {
+        return Err(Fault::File(FileFault::NotToml));
+    };
+    match read_coterie(alloc, text) {
+        Ok(named) => Ok(named),
+        Err(fault) => Err(Fault::from(fault)),
+    }
+}
+
+/// The plan of a coterie that a part spells.
+fn plan_of(alloc: Global, coterie: &Coterie, part: &[u8]) -> Result<Plan, Fault>
+    ensures exact { Gives (λ p. p) result (plan_part coterie.now part.now) }
+    ensures own { IfErr result IsOwn }
+    ensures coterie { IfOk result (λ p. p.system ≡ coterie.now) }
+{
+    match read_plan(alloc, coterie, part) {
+        Ok(plan) => Ok(plan),
+        Err(fault) => Err(Fault::from(fault)),
+    }
+}
+
+/// A coterie with names, and a plan of it.
+#[derive(Drop)]
+pub struct Planned {
+    named: Named,
+    plan: Plan,
+}
+
+#[tactic(auto, unfolding(crate::specs::Commands::planned_in))]
+/// What an input of two parts spells: a coterie, and a plan of it.
+fn planned_of(alloc: Global, input: &[u8]) -> Result<Planned, Fault>
+    ensures exact { Gives (λ p. p) result (planned_in input.now) }
+    ensures own { IfErr result IsOwn }
+    ensures same { IfOk result (λ p. p.plan.system ≡ p.named.system) }
+{
+    let (first, last) = match split_part(input, 2) {
+        Ok(parts) => parts,
+        Err(fault) => return Err(fault),
+    };
+    let named = match coterie_of(alloc, first) {
+        Ok(named) => named,
+        Err(fault) => return Err(fault),
+    };
+    let plan = match plan_of(alloc, named.coterie(), last) {
+        Ok(plan) => plan,
+        Err(fault) => return Err(fault),
+    };
+    Ok(Planned { named, plan })
+}
+
+#[tactic(auto, unfolding(crate::specs::Commands::check_text))]
+/// What `check` writes.
+fn check_text_of(alloc: Global, planned: &Planned) -> Result<String, AllocError>
+    ensures { IfOk result (λ text. string_bytes text ≡ check_text planned.now) }
+{
+    load_line_of(alloc, planned.plan.load(), planned.plan.cycle_len())
+}
+
+/// The tickets below `count`.
+fn tickets_below(alloc: Global, count: u64) -> Result<Vec<u64>, AllocError>
+    ensures { IfOk result (λ tickets. tickets.items ≡ range_with_len 0 count) }
+{
+    (0..count).collect(alloc)
+}
+
+/// The account of the tickets below `count`.
+fn account_below(alloc: Global, cycle: &Cycle, count: u64) -> Result<Account, AllocError>
+    ensures value { IfOk result (λ account. account ≡ account_of cycle.now (range_with_len 0 count)) }
+    ensures one_each { IfOk result (λ account. length account.voters ≡ cycle.now.system.voters) }
+{
+    let tickets = tickets_below(alloc, count)?;
+    cycle.account(alloc, &tickets)
+}
+
+/// The cycle of a plan.
+fn cycle_of_plan(alloc: Global, plan: Plan) -> Result<Cycle, AllocError>
+    ensures { IfOk result (λ cycle. cycle ≡ plan) }
+{
+    match Cycle::of(alloc, plan) {
+        Ok(cycle) => Ok(cycle),
+        Err((_, error)) => Err(error),
+    }
+}
+
+#[tactic(auto, unfolding(crate::specs::Commands::deal_text))]
+/// What `deal` writes for the tickets below `count`.
+fn deal_text_of(alloc: Global, planned: Planned, count: u64) -> Result<String, AllocError>
+    requires { planned.plan.system ≡ planned.named.system }
+    ensures { IfOk result (λ text. string_bytes text ≡ deal_text planned count) }
+{
+    let Planned { named, plan } = planned;
+    let cycle = cycle_of_plan(alloc, plan)?;
+    let account = account_below(alloc, &cycle, count)?;
+    let _ = named.coterie();
+    let mut text = String::new(alloc);
+    push_tickets(alloc, &mut text, &cycle, count)?;
+    push_account(alloc, &mut text, &named, &account)?;
+    Ok(text)
+}
+
+/// What `check` writes for an input.
+fn check_answer(alloc: Global, input: &[u8]) -> Result<String, Fault>
+    ensures exact { Gives string_bytes result (check_answer_of input.now) }
+    ensures own { IfErr result IsOwn }
+{
+    let planned = match planned_of(alloc, input) {
+        Ok(planned) => planned,
+        Err(fault) => return Err(fault),
+    };
+    match check_text_of(alloc, &planned) {
+        Ok(text) => Ok(text),
+        Err(_) => Err(Fault::OutOfMemory),
+    }
+}
+
+/// What `deal` writes for an input.
+fn deal_answer(alloc: Global, count: u64, input: &[u8]) -> Result<String, Fault>
+    ensures exact { Gives string_bytes result (deal_answer_of count input.now) }
+    ensures own { IfErr result IsOwn }
+{
+    let planned = match planned_of(alloc, input) {
+        Ok(planned) => planned,
+        Err(fault) => return Err(fault),
+    };
+    match deal_text_of(alloc, planned, count) {
+        Ok(text) => Ok(text),
+        Err(_) => Err(Fault::OutOfMemory),
+    }
+}
+
+/// What the command writes for an input.
+pub fn answer(alloc: Global, command: &Command, input: &[u8]) -> Result<String, Fault>
+    ensures exact { Gives string_bytes result (answer_of command.now input.now) }
+    ensures own { IfErr result IsOwn }
+{
+    match command {
+        Command::Check => check_answer(alloc, input),
+        Command::Deal(count) => deal_answer(alloc, u64::from(*count), input),
+    }
+}

@@ -1,0 +1,50 @@
+//! Serving a command: the whole input is read, the whole answer is made, and then it is written.
+ghost use Rattle.std.specs.Prelude.{◌≡◌, false, IfErr, IfSome, OnOk};
+ghost use Rattle.qlock_cli.specs.Devices.{FailsAs, LeavesAlone};
+ghost use Rattle.qlock_cli.specs.Commands.{Answers, ComesOf};
+
+use crate::answer::answer;
+use crate::device::{read_input, write_output};
+use crate::fault::Fault;
+use crate::watched::Watched;
+use crate::words::Command;
+use std::alloc::Global;
+use std::io::{Read, Write};
+
+/// Serves a command: reads the input to its end, and writes the answer to it and nothing else.
+///
+/// Refusals come in this order: a read fault or an input of more than 16,777,216 bytes, whichever the reading meets
+/// first; a missing part; the parts from first to last; a write fault. `OutOfMemory` may come at any point before the
+/// first write. A refusal other than a write fault writes nothing.
+pub fn execute<R: Read, W: Write>(
+    alloc: Global,
+    command: &Command,
+    reader: &mut Watched<R>,
+    writer: &mut Watched<W>,
+) -> Result<(), Fault>
+    requires unread { reader.old.failed ≡ false }
+    requires unwritten { writer.old.failed ≡ false }
+
+    // What is written is a stated function of what is read.
+    ensures written { OnOk result (IfSome (R.remaining reader.old.inner) (λ input.
+        Answers command.now input (W.contents writer.old.inner) (W.contents writer.new.inner))) }
+
+    // A refusal comes only of an input that the command refuses so, or of a device or memory.
+    ensures refused { IfErr result (λ fault. IfSome (R.remaining reader.old.inner) (λ input. ComesOf command.now input fault)) }
+
+    // A refusal writes nothing, but for a write fault.
+    ensures alone { IfErr result (λ fault. LeavesAlone fault (W.contents writer.old.inner) (W.contents writer.new.inner)) }
+
+    // A read fault or write fault is answered exactly where that device failed.
+    ensures devices { FailsAs reader.new.failed writer.new.failed result }
+{
+    let input = match read_input(alloc, reader) {
+        Ok(input) => input,
+        Err(fault) => return Err(fault),
+    };
+    let output = match answer(alloc, command, input.as_slice()) {
+        Ok(output) => output,
+        Err(fault) => return Err(fault),
+    };
+    write_output(writer, output.as_bytes())
+}

@@ -1,0 +1,73 @@
+//! Why a command was refused.
+ghost use Rattle.std.specs.Prelude.{◌≡◌};
+ghost use Rattle.qlock_cli.specs.Faults.{file_refusal, plan_refusal};
+ghost use Rattle.qlock_cli.specs.declared.fault.Fault.TheVariants.{OutOfMemory};
+
+use certificate::PlanFault;
+use coterie_file::FileFault;
+use std::alloc::{AllocError, AllocFailed};
+use thiserror::Error;
+
+/// Why a command was refused. Its text is one line.
+#[derive(Clone, Copy, Debug, PartialEq, Eq, Error)]
+pub enum Fault {
+    /// The input has fewer parts than the command reads; the number of the first that is missing, from 1.
+    #[error("I1 MissingPart {0}")]
+    MissingPart(usize),
+    /// The input has more than 16,777,216 bytes.
+    #[error("I2 TooLong")]
+    TooLong,
+    /// A read failed.
+    #[error("I3 ReadFault")]
+    ReadFault,
+    /// A write failed, or took no byte.
+    #[error("I4 WriteFault")]
+    WriteFault,
+    /// The coterie was refused.
+    #[error(transparent)]
+    File(FileFault),
+    /// The plan was refused.
+    #[error(transparent)]
+    Plan(PlanFault),
+    /// Memory ran out.
+    #[error("O1 OutOfMemory")]
+    OutOfMemory,
+}
+
+impl From<AllocError> for Fault {
+    ghost from_gives = { λ _ e. e ≡ OutOfMemory };
+
+    fn from(_error: AllocError) -> Fault {
+        Fault::OutOfMemory
+    }
+}
+
+impl<T: Drop> From<AllocFailed<T>> for Fault {
+    ghost from_gives = { λ _ e. e ≡ OutOfMemory };
+
+    fn from(_error: AllocFailed<T>) -> Fault {
+        Fault::OutOfMemory
+    }
+}
+
+impl From<FileFault> for Fault {
+    ghost from_gives = { λ fault e. e ≡ file_refusal fault };
+
+    fn from(fault: FileFault) -> Fault {
+        match fault {
+            FileFault::OutOfMemory => Fault::OutOfMemory,
+            _ => Fault::File(fault),
+        }
+    }
+}
+
+impl From<PlanFault> for Fault {
+    ghost from_gives = { λ fault e. e ≡ plan_refusal fault };
+
+    fn from(fault: PlanFault) -> Fault {
+        match fault {
+            PlanFault::OutOfMemory => Fault::OutOfMemory,
+            _ => Fault::Plan(fault),
+        }
+    }
+}

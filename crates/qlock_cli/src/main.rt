@@ -1,0 +1,83 @@
+//! The program `qlock`: plans of coteries, and the lock that they serve, from the command line.
+//!
+//! `words` reads the command line, `execute` serves a command over a reader and a writer: `device` reads and writes,
+//! `parts` splits the input, `answer` makes the output, `texts` its lines.
+#![tactic(auto)]
+
+mod answer;
+mod device;
+mod execute;
+mod fault;
+mod parts;
+mod texts;
+mod watched;
+mod words;
+
+use execute::execute;
+use fault::Fault;
+use std::process::ExitCode;
+use std::{env, io};
+use watched::Watched;
+use words::{Command, Usage, read_words};
+
+/// The exit status of a fault: 3 for a device, 4 for memory, and else 1.
+fn status_of(fault: &Fault) -> u8 {
+    match fault {
+        Fault::ReadFault | Fault::WriteFault => 3,
+        Fault::OutOfMemory => 4,
+        _ => 1,
+    }
+}
+
+/// Says why the words name no command, and answers the exit status: 2, or 4 for memory.
+fn refuse_words(rt: &HostRuntime, usage: &Usage) -> u8 {
+    match usage {
+        Usage::Refused(error) => {
+            let _ = rt.eprint(error);
+            2
+        }
+        Usage::Arguments => {
+            let _ = rt.eprintln("I5 Arguments");
+            2
+        }
+        Usage::OutOfMemory => {
+            let _ = rt.eprintln(&Fault::OutOfMemory);
+            4
+        }
+    }
+}
+
+/// Serves the command over standard input and output, and answers the exit status.
+fn serve(rt: &HostRuntime, command: &Command) -> u8 {
+    let mut reader = Watched::of(rt.reader());
+    let mut writer = Watched::of(io::writer(rt));
+    match execute(rt.alloc(), command, &mut reader, &mut writer) {
+        Ok(()) => 0,
+        Err(fault) => {
+            let _ = rt.eprintln(&fault);
+            status_of(&fault)
+        }
+    }
+}
+
+/// The words of the command line, the program's name among them.
+fn words_of(rt: &HostRuntime) -> Result<Vec<String>, Usage> {
+    let Ok(words) = env::args(rt) else {
+        return Err(Usage::Arguments);
+    };
+    Ok(words.collect::<Vec<String>>(rt.alloc())?)
+}
+
+/// Serves the command that the words of the command line name.
+fn run(rt: &HostRuntime) -> Result<u8, Usage> {
+    let words = words_of(rt)?;
+    let command = read_words(rt.alloc(), words.as_slice())?;
+    Ok(serve(rt, &command))
+}
+
+fn main(rt: HostRuntime) -> ExitCode {
+    ExitCode::from(match run(&rt) {
+        Ok(status) => status,
+        Err(usage) => refuse_words(&rt, &usage),
+    })
+}

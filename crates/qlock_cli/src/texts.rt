@@ -1,0 +1,77 @@
+//! The lines that commands write.
+ghost use Rattle.std.specs.Prelude.{◌≡◌, ◌++◌, ◌<◌, ◌≤◌, ◌∷◌, ℕ, length, IfOk, OnOk, map, slice_index, string_bytes};
+ghost use Rattle.std.specs.List.{range_with_len};
+ghost use Rattle.coterie_file.specs.Named.{IsNamed};
+ghost use Rattle.coterie_file.specs.Names.{name_at};
+ghost use Rattle.dealer.specs.Accounts.{account_of};
+ghost use Rattle.qlock_cli.specs.Commands.{account_text, busiest_line, load_line, ticket_line, ticket_lines, voter_line, voter_lines};
+
+use coterie_file::Named;
+use dealer::{Account, Cycle};
+use std::alloc::{AllocError, Global};
+
+/// `TICKET QUORUM`
+fn ticket_line_of(alloc: Global, cycle: &Cycle, ticket: u64) -> Result<String, AllocError>
+    ensures { IfOk result (λ line. string_bytes line ≡ ticket_line cycle.now ticket) }
+{
+    let quorum = cycle.quorum_at(ticket);
+    format!(in alloc; "{ticket} {quorum}\n")
+}
+
+/// `voter NAME COUNT`
+fn voter_line_of(alloc: Global, name: &str, count: u64) -> Result<String, AllocError>
+    ensures { IfOk result (λ line. string_bytes line ≡ voter_line name.now count) }
+{
+    format!(in alloc; "voter {name} {count}\n")
+}
+
+/// `busiest COUNT`
+fn busiest_line_of(alloc: Global, count: u64) -> Result<String, AllocError>
+    ensures { IfOk result (λ line. string_bytes line ≡ busiest_line count) }
+{
+    format!(in alloc; "busiest {count}\n")
+}
+
+/// `load P/Q cycle D`
+pub fn load_line_of(alloc: Global, load: (u64, u64), cycle_len: u64) -> Result<String, AllocError>
+    ensures { IfOk result (λ line. string_bytes line ≡ load_line load cycle_len) }
+{
+    let (busiest, cycle) = load;
+    format!(in alloc; "load {busiest}/{cycle} cycle {cycle_len}\n")
+}
+
+/// Writes a line for each ticket below `count`.
+pub fn push_tickets(alloc: Global, text: &mut String, cycle: &Cycle, count: u64) -> Result<(), AllocError>
+    ensures { OnOk result (string_bytes text.new ≡ string_bytes text.old ++ ticket_lines cycle.now count) }
+{
+    for ticket in 0..count {
+        let line = ticket_line_of(alloc, cycle, ticket)?;
+        text.push_str(&line)?;
+    }
+    Ok(())
+}
+
+/// Writes a line for each voter, with how often it was named.
+fn push_voters(alloc: Global, text: &mut String, named: &Named, counts: &[u64]) -> Result<(), AllocError>
+    requires named { IsNamed named.now }
+    requires one_each { length counts.now ≡ named.now.system.voters }
+    ensures { OnOk result (string_bytes text.new ≡ string_bytes text.old ++ voter_lines named.now.names counts.now) }
+{
+    for (i, count) in counts.iter().enumerate() {
+        let line = voter_line_of(alloc, named.name(i), *count)?;
+        text.push_str(&line)?;
+    }
+    Ok(())
+}
+
+/// Writes the lines of an account.
+pub fn push_account(alloc: Global, text: &mut String, named: &Named, account: &Account) -> Result<(), AllocError>
+    requires named { IsNamed named.now }
+    requires one_each { length account.now.voters ≡ named.now.system.voters }
+    ensures { OnOk result (string_bytes text.new ≡ string_bytes text.old ++ account_text named.now.names account.now) }
+{
+    push_voters(alloc, text, named, account.voters.as_slice())?;
+    let line = busiest_line_of(alloc, account.busiest)?;
+    text.push_str(&line)?;
+    Ok(())
+}
