@@ -9,6 +9,8 @@ mod device;
 mod execute;
 mod fault;
 mod parts;
+#[cfg(test)]
+mod tests;
 mod texts;
 mod watched;
 mod words;

@@ -41,7 +41,12 @@ pub fn load_line_of(alloc: Global, load: (u64, u64), cycle_len: u64) -> Result<S
 }
 
 /// Writes a line for each ticket below `count`.
-pub fn push_tickets(alloc: Global, text: &mut String, cycle: &Cycle, count: u64) -> Result<(), AllocError>
+pub fn push_tickets(
+    alloc: Global,
+    text: &mut String,
+    cycle: &Cycle,
+    count: u64,
+) -> Result<(), AllocError>
     ensures { OnOk result (string_bytes text.new ≡ string_bytes text.old ++ ticket_lines cycle.now count) }
 {
     for ticket in 0..count {
@@ -52,7 +57,12 @@ pub fn push_tickets(alloc: Global, text: &mut String, cycle: &Cycle, count: u64)
 }
 
 /// Writes a line for each voter, with how often it was named.
-fn push_voters(alloc: Global, text: &mut String, named: &Named, counts: &[u64]) -> Result<(), AllocError>
+fn push_voters(
+    alloc: Global,
+    text: &mut String,
+    named: &Named,
+    counts: &[u64],
+) -> Result<(), AllocError>
     requires named { IsNamed named.now }
     requires one_each { length counts.now ≡ named.now.system.voters }
     ensures { OnOk result (string_bytes text.new ≡ string_bytes text.old ++ voter_lines named.now.names counts.now) }
@@ -65,7 +75,12 @@ fn push_voters(alloc: Global, text: &mut String, named: &Named, counts: &[u64]) 
 }
 
 /// Writes the lines of an account.
-pub fn push_account(alloc: Global, text: &mut String, named: &Named, account: &Account) -> Result<(), AllocError>
+pub fn push_account(
+    alloc: Global,
+    text: &mut String,
+    named: &Named,
+    account: &Account,
+) -> Result<(), AllocError>
     requires named { IsNamed named.now }
     requires one_each { length account.now.voters ≡ named.now.system.voters }
     ensures { OnOk result (string_bytes text.new ≡ string_bytes text.old ++ account_text named.now.names account.now) }

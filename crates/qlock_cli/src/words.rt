@@ -51,7 +51,9 @@ fn check_command<'a>(alloc: Global) -> clap::Command<'a>
     ensures app { app_of result ≡ check_app }
     ensures local { IsLocal result }
 {
-    clap::Command::new(alloc, "check").about("Check a plan: standard input has the coterie, a line %%, and the plan")
+    clap::Command::new(alloc, "check").about(
+        "Check a plan: standard input has the coterie, a line %%, and the plan",
+    )
 }
 
 /// `deal N`.
@@ -73,7 +75,9 @@ fn qlock_command<'a>(alloc: Global) -> Result<clap::Command<'a>, AllocError>
     ensures { IfOk result (λ c. app_of c ≡ qlock_app) }
 {
     clap::Command::new(alloc, "qlock")
-        .about("Plan quorums whose busiest voter is as idle as possible, and run the lock that they guard")
+        .about(
+            "Plan quorums whose busiest voter is as idle as possible, and run the lock that they guard",
+        )
         .subcommand_required(true)
         .subcommand(check_command(alloc))?
         .subcommand(deal_command(alloc)?)

@@ -1,0 +1,352 @@
+//! The worked inputs of the commands, and devices that fail.
+use crate::execute::execute;
+use crate::fault::Fault;
+use crate::watched::Watched;
+use crate::words::{Command, Usage, read_words};
+use std::alloc::{AllocError, Global};
+use std::io;
+use std::io::{Read, Write};
+use std::test::Fail;
+
+const MAJORITY: &str =
+    "voters = [\"v0\", \"v1\", \"v2\"]\nquorums = [\n  [\"v0\", \"v1\"],\n  [\"v0\", \"v2\"],\n  [\"v1\", \"v2\"],\n]\n";
+
+const WHEEL: &str =
+    "voters = [\"v0\", \"v1\", \"v2\", \"v3\"]\nquorums = [\n  [\"v0\", \"v1\"],\n  [\"v0\", \"v2\"],\n  [\"v0\", \"v3\"],\n  [\"v1\", \"v2\", \"v3\"],\n]\n";
+
+const WHEEL_PLAN: &str = "quorum-plan 1\nload 3/5\ncycle 5\nquorum 1 1 1 2\nvoter 2 1 1 1\n";
+
+/// What the command writes for a coterie and a plan with a separating line between them, or the text of its fault.
+fn answer_text(
+    alloc: Global,
+    command: Command,
+    coterie: &str,
+    plan: &str,
+) -> Result<String, AllocError> {
+    let input = format!(in alloc; "{coterie}%%\n{plan}")?;
+    text_for(alloc, command, input.as_bytes())
+}
+
+fn text_for(alloc: Global, command: Command, input: &[u8]) -> Result<String, AllocError> {
+    let mut written = Vec::new(alloc);
+    let mut reader = Watched::of(input);
+    let mut writer = Watched::of(&mut written);
+    match execute(alloc, &command, &mut reader, &mut writer) {
+        Ok(()) => match std::str::from_utf8(&written) {
+            Ok(text) => String::from_str(alloc, text),
+            Err(_) => String::from_str(alloc, "no text"),
+        },
+        Err(fault) => fault.to_string(alloc),
+    }
+}
+
+#[test]
+fn plans_are_checked(rt: HostRuntime) -> Result<(), Fail> {
+    let table = [
+        (
+            WHEEL,
+            "quorum-plan 1\nload 3/5\ncycle 5\nquorum 1 1 1 2\nvoter 2 1 1 1\n",
+            "load 3/5 cycle 5\n",
+        ),
+        (
+            WHEEL,
+            "quorum-plan 1\nload 3/5\ncycle 10\nquorum 2 2 2 4\nvoter 2 1 1 1\n",
+            "load 3/5 cycle 10\n",
+        ),
+        (
+            WHEEL,
+            "quorum-plan 1\nload 3/4\ncycle 4\nquorum 1 1 1 1\nvoter 2 1 1 1\n",
+            "P4 NotOptimal 3 5 3 4",
+        ),
+        (
+            WHEEL,
+            "quorum-plan 1\nload 1/1\ncycle 2\nquorum 1 1 0 0\nvoter 1 0 0 0\n",
+            "P4 NotOptimal 2 1 0 2",
+        ),
+        (
+            MAJORITY,
+            "quorum-plan 1\nload 2/3\ncycle 3\nquorum 1 1 1\nvoter 1 1 0\n",
+            "P4 NotOptimal 2 2 1 3",
+        ),
+        (
+            MAJORITY,
+            "quorum-plan 1\nload 2/3\ncycle 3\nquorum 1 1 1\nvoter 1 1 1\n",
+            "load 2/3 cycle 3\n",
+        ),
+        (WHEEL, "quorum-plan 1\nload 3/5\ncycle 5\n", "P5 BadText 4"),
+        (
+            WHEEL,
+            "quorum-plan 1\nload 0/1\ncycle 0\nquorum 0 0 0 0\nvoter 0 0 0 0\n",
+            "P3 Empty",
+        ),
+        (
+            WHEEL,
+            "quorum-plan 1\nload 6/10\ncycle 5\nquorum 1 1 1 2\nvoter 2 1 1 1\n",
+            "P6 WrongLoad",
+        ),
+        (
+            WHEEL,
+            "quorum-plan 1\nload 3/5\ncycle 10\nquorum 1 1 1 2\nvoter 2 1 1 1\n",
+            "P7 WrongCycle",
+        ),
+        (
+            WHEEL,
+            "quorum-plan 1\nload 3/5\ncycle 5\nquorum 1 1 1\nvoter 2 1 1 1\n",
+            "P1 WrongLength",
+        ),
+        (
+            WHEEL,
+            "quorum-plan 1\nload 3/5\ncycle 5\nquorum 1000001 1 1 2\nvoter 2 1 1 1\n",
+            "P2 TooLarge",
+        ),
+        (WHEEL, "", "P5 BadText 1"),
+    ];
+    for (coterie, plan, want) in &table {
+        assert_eq!(rt;
+            answer_text(rt.alloc(), Command::Check, coterie, plan)?.as_str(),
+            *want
+        );
+    }
+    Ok(())
+}
+
+#[test]
+fn coteries_are_refused(rt: HostRuntime) -> Result<(), Fail> {
+    let table = [
+        (
+            "voters = [\"a\", \"b\", \"c\"]\nquorums = [[\"a\", \"b\"], [\"c\"]]\n",
+            "E7 Disjoint 0 1",
+        ),
+        (
+            "voters = [\"a\", \"b\", \"c\"]\nquorums = [[\"a\", \"b\"], [\"a\", \"b\"]]\n",
+            "E8 Contained 0 1",
+        ),
+        ("voters = [\"a\"]\nquorums = []\n", "E3 NoQuorums"),
+        ("voters = [\"a\"]\nquorums = [[]]\n", "E5 EmptyQuorum 0"),
+        ("", "F2 Keys"),
+        ("voters = [\n", "F1 NotToml"),
+        (
+            "voters = [\"a b\", \"c\"]\nquorums = [[\"c\"]]\n",
+            "F3 BadName 0",
+        ),
+        (
+            "voters = [\"a\", \"a\"]\nquorums = [[\"a\"]]\n",
+            "F4 RepeatedName 1",
+        ),
+        (
+            "voters = [\"a\"]\nquorums = [[\"z\"]]\n",
+            "F5 UnknownName 0",
+        ),
+        (
+            "voters = [\"a\"]\nquorums = [[\"a\", \"a\"]]\n",
+            "F6 RepeatedMember 0",
+        ),
+    ];
+    for (coterie, want) in &table {
+        assert_eq!(rt;
+            answer_text(rt.alloc(), Command::Deal(5), coterie, WHEEL_PLAN)?.as_str(),
+            *want
+        );
+    }
+    assert_eq!(rt;
+        text_for(rt.alloc(), Command::Check, b"\xff%%\n")?.as_str(),
+        "I1 MissingPart 2"
+    );
+    assert_eq!(rt;
+        text_for(rt.alloc(), Command::Check, b"\xff\n%%\n")?.as_str(),
+        "F1 NotToml"
+    );
+    assert_eq!(rt;
+        text_for(rt.alloc(), Command::Check, WHEEL.as_bytes())?.as_str(),
+        "I1 MissingPart 2"
+    );
+    Ok(())
+}
+
+#[test]
+fn tickets_are_dealt(rt: HostRuntime) -> Result<(), Fail> {
+    let table = [
+        (
+            0,
+            "voter v0 0\nvoter v1 0\nvoter v2 0\nvoter v3 0\nbusiest 0\n",
+        ),
+        (
+            5,
+            "0 0\n1 1\n2 2\n3 3\n4 3\nvoter v0 3\nvoter v1 3\nvoter v2 3\nvoter v3 3\nbusiest 3\n",
+        ),
+        (
+            7,
+            "0 0\n1 1\n2 2\n3 3\n4 3\n5 0\n6 1\nvoter v0 5\nvoter v1 4\nvoter v2 4\nvoter v3 3\nbusiest 5\n",
+        ),
+    ];
+    for (count, want) in &table {
+        assert_eq!(rt;
+            answer_text(rt.alloc(), Command::Deal(*count), WHEEL, WHEEL_PLAN)?.as_str(),
+            *want
+        );
+    }
+    let ten = answer_text(rt.alloc(), Command::Deal(10), WHEEL, WHEEL_PLAN)?;
+    assert!(rt; ten.as_str().ends_with("busiest 6\n"));
+    Ok(())
+}
+
+fn command_text(alloc: Global, words: &[&str]) -> Result<String, AllocError> {
+    let mut given = Vec::new(alloc);
+    given.push(String::from_str(alloc, "qlock")?)?;
+    for word in words {
+        given.push(String::from_str(alloc, word)?)?;
+    }
+    match read_words(alloc, given.as_slice()) {
+        Ok(command) => format!(in alloc; "{command:?}"),
+        Err(Usage::Refused(_)) => String::from_str(alloc, "refused"),
+        Err(Usage::Arguments) => String::from_str(alloc, "I5 Arguments"),
+        Err(Usage::OutOfMemory) => String::from_str(alloc, "O1 OutOfMemory"),
+    }
+}
+
+#[test]
+fn words_name_commands(rt: HostRuntime) -> Result<(), Fail> {
+    let alloc = rt.alloc();
+    let table: [(&[&str], &str); 9] = [
+        (&["deal", "5"], "Deal(5)"),
+        (&["deal", "0"], "Deal(0)"),
+        (&["deal", "100000"], "Deal(100000)"),
+        (&["deal", "100001"], "refused"),
+        (&["deal", "five"], "refused"),
+        (&["deal"], "refused"),
+        (&["check"], "Check"),
+        (&["check", "5"], "refused"),
+        (&[], "refused"),
+    ];
+    for (words, want) in &table {
+        assert_eq!(rt; command_text(alloc, words)?.as_str(), *want);
+    }
+    Ok(())
+}
+
+/// Gives the bytes in pieces, and fails at the read with a number, counted from 1.
+#[derive(Drop)]
+struct Source<'a> {
+    bytes: &'a [u8],
+    piece: usize,
+    reads_left: usize,
+}
+
+impl<'a> Read for Source<'a> {
+    fn read(&mut self, buf: &mut [u8]) -> io::Result<usize> {
+        if self.reads_left == 0 {
+            return Err(io::Error::other("no more reads"));
+        }
+        self.reads_left -= 1;
+        let count = self.piece.min(self.bytes.len()).min(buf.len());
+        buf[..count].copy_from_slice(&self.bytes[..count]);
+        self.bytes = &self.bytes[count..];
+        Ok(count)
+    }
+}
+
+/// Takes the bytes in pieces, and fails at the write with a number, counted from 1, or takes nothing there.
+#[derive(Drop)]
+struct Sink {
+    bytes: Vec<u8>,
+    piece: usize,
+    writes_left: usize,
+    ends_in_silence: bool,
+}
+
+impl Write for Sink {
+    fn write(&mut self, buf: &[u8]) -> io::Result<usize> {
+        if self.writes_left == 0 {
+            if self.ends_in_silence {
+                return Ok(0);
+            }
+            return Err(io::Error::other("no more writes"));
+        }
+        self.writes_left -= 1;
+        let count = self.piece.min(buf.len());
+        self.bytes.extend_from_slice(&buf[..count])?;
+        Ok(count)
+    }
+
+    fn flush(&mut self) -> io::Result<()> {
+        Ok(())
+    }
+}
+
+#[test]
+fn devices_fail(rt: HostRuntime) -> Result<(), Fail> {
+    let alloc = rt.alloc();
+    let input = format!(in alloc; "{WHEEL}%%\n{WHEEL_PLAN}")?;
+    let want = text_for(alloc, Command::Deal(7), input.as_bytes())?;
+    // each read in turn fails, and one byte a read gives the usual answer
+    for reads_left in [0, 1, 40] {
+        let mut reader = Watched::of(Source {
+            bytes: input.as_bytes(),
+            piece: 1,
+            reads_left,
+        });
+        let mut written = Vec::new(alloc);
+        let mut writer = Watched::of(&mut written);
+        let result = execute(alloc, &Command::Deal(7), &mut reader, &mut writer);
+        assert_eq!(rt; result, Err(Fault::ReadFault));
+        assert!(rt; reader.failed() && !writer.failed());
+        assert!(rt; written.is_empty());
+    }
+    for (writes_left, piece, ends_in_silence) in [
+        (1, 50, false),
+        (1, 50, true),
+        (0, 1, false),
+        (80, 1, false),
+    ] {
+        let mut reader = Watched::of(input.as_bytes());
+        let mut sink = Sink {
+            bytes: Vec::new(alloc),
+            piece,
+            writes_left,
+            ends_in_silence,
+        };
+        let mut writer = Watched::of(&mut sink);
+        let result = execute(alloc, &Command::Deal(7), &mut reader, &mut writer);
+        assert_eq!(rt; result, Err(Fault::WriteFault));
+        assert!(rt; writer.failed() && !reader.failed());
+        assert!(rt; want.as_bytes().starts_with(&sink.bytes));
+        assert_eq!(rt;
+            sink.bytes.len(),
+            writes_left * piece
+        );
+    }
+    let mut reader = Watched::of(Source {
+        bytes: input.as_bytes(),
+        piece: 1,
+        reads_left: 1000,
+    });
+    let mut sink = Sink {
+        bytes: Vec::new(alloc),
+        piece: 1,
+        writes_left: 1000,
+        ends_in_silence: false,
+    };
+    let mut writer = Watched::of(&mut sink);
+    assert_eq!(rt;
+        execute(alloc, &Command::Deal(7), &mut reader, &mut writer),
+        Ok(())
+    );
+    assert_eq!(rt; sink.bytes.as_slice(), want.as_bytes());
+    Ok(())
+}
+
+#[test]
+fn the_longest_input(rt: HostRuntime) -> Result<(), Fail> {
+    let alloc = rt.alloc();
+    let mut input = vec![in alloc; b'\n'; 16_777_217]?;
+    assert_eq!(rt;
+        text_for(alloc, Command::Check, &input)?.as_str(),
+        "I2 TooLong"
+    );
+    input.pop();
+    assert_eq!(rt;
+        text_for(alloc, Command::Check, &input)?.as_str(),
+        "I1 MissingPart 2"
+    );
+    Ok(())
+}
