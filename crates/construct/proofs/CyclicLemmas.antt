@@ -1,0 +1,138 @@
+-- Shifted sets: that they are sets of voters, and repeats in a list.
+use Rattle.std.proofs.Common.{◌≡◌, ◌⊎◌, ℕ, ◌+◌, ◌%◌, ◌<◌, ◌≤◌, Bool, true, false, cond, ◌||◌, ◌&&◌, not, eqb, ltb, List, [], ◌∷◌, ◌++◌, length, get_or, map, take, drop, sym, refl, ap, ap₂, ◌∙◌, inl, inr, arith, Option, None, Some}
+use Rattle.std.specs.List.{All, list_any, list_all, range_with_len, position}
+use Rattle.std.specs.Option.{option_or, option_map}
+use Rattle.std.specs.Result.{IfErr}
+use Rattle.std.proofs.lemmas.Bool.{true≢false, eqb-true, eq-eqb, ne_eqb, eqb-false, le-ltb, or_cases, or_parts, or_from, not-false, cases_Bool, cases_eq}
+use Rattle.std.proofs.lemmas.Nat.{mod_below}
+use Rattle.std.proofs.lemmas.List.{take-append-drop}
+use Rattle.std.proofs.lemmas.List.Elements.{All-head, All-tail}
+use Rattle.std.proofs.lemmas.List.Quantifiers.{position-Some}
+use Rattle.std.proofs.lemmas.List.FromFn.{length-map-range_with_len}
+use Rattle.quorum_set.specs.Sets.{has, IsSet}
+use Rattle.quorum_set.specs.Coteries.{QuorumSystem, first_outside, first_pair, are_disjoint, is_one_within, fault_if, first_fault, coterie_or, coterie_of}
+use Rattle.quorum_set.specs.declared.fault.CoterieFault.TheVariants.{NoVoters, TooManyVoters, NoQuorums, TooManyQuorums, EmptyQuorum, VoterOutOfRange, Disjoint, Contained}
+use Rattle.quorum_set.proofs.SetLemmas.{has-append}
+use Rattle.quorum_set.proofs.StrayLaws.{IsLeastStray-first_outside}
+use Rattle.construct.specs.Cyclic.{shifted, cyclic_quorums, has_repeat, is_bad_base, as_construct, IsCyclicFault}
+use Rattle.construct.proofs.Quorums.{IsQuorum, IsQuorum-where, All-range}
+
+-- a place on the ring is below n
+moved_below : (n s : ℕ) (base : List ℕ) (v : ℕ) → 0 < n → list_any (λ x. eqb ((x + s) % n) v) base ≡ true → v < n
+moved_below n s [] v some e = absurd (true≢false (sym e))
+moved_below n s (x ∷ xs) v some e =
+    elim (or_cases (eqb ((x + s) % n) v) (list_any (λ y. eqb ((y + s) % n) v) xs) e) [
+      | inl at ↦ let same = eqb-true ((x + s) % n) v at in omega (arith, mod_below (x + s) n some)
+      | inr later ↦ moved_below n s xs v some later
+    ]
+
+IsQuorum-shifted : (n : ℕ) (base : List ℕ) (s : ℕ) → 0 < n → n ≤ 64 → (length base ≡ 0 → ⊥) → IsQuorum n (shifted n base s)
+IsQuorum-shifted n [] s some few full = absurd (full refl)
+IsQuorum-shifted n (x ∷ xs) s some few full =
+    IsQuorum-where n (λ v. list_any (λ y. eqb ((y + s) % n) v) (x ∷ xs)) ((x + s) % n) (omega (arith, mod_below (x + s) n some))
+    (ap (λ b. b || list_any (λ y. eqb ((y + s) % n) ((x + s) % n)) xs) (eq-eqb ((x + s) % n) ((x + s) % n) refl))
+    (λ v small passes. moved_below n s (x ∷ xs) v some passes)
+
+member_of-All : (P : ℕ → Type 0) (s : List ℕ) (i : ℕ) → All P s → has s i ≡ true → P i
+member_of-All P [] i all e = absurd (true≢false (sym e))
+member_of-All P (x ∷ xs) i all e =
+    elim (or_cases (eqb x i) (has xs i) e) [
+      | inl at ↦ rw (sym (eqb-true x i at)) (All-head P x xs all)
+      | inr later ↦ member_of-All P xs i (All-tail P x xs all) later
+    ]
+
+none_empty : (n : ℕ) (sets : List (List ℕ)) (o : Option ℕ) → All (IsQuorum n) sets → position (λ s. eqb (length s) 0) sets ≡ o → o ≡ None
+none_empty n sets None all e = refl
+none_empty n sets (Some j) all e =
+    let at = position-Some (λ s. eqb (length s) 0) sets j [] e in
+    absurd (let empty = eqb-true (length (get_or sets j [])) 0 at.1 in omega (arith, (all j [] at.0).not_empty))
+
+none_outside : (n : ℕ) (sets : List (List ℕ)) (o : Option (ℕ × ℕ)) → All (IsQuorum n) sets → first_outside n 0 sets ≡ o → o ≡ None
+none_outside n sets None all e = refl
+none_outside n sets (Some (j, i)) all e =
+    let stray = IsLeastStray-first_outside n sets j i (λ k d lt. (all k d lt).set) e in
+    absurd (let below = member_of-All (λ v. v < n) (get_or sets j []) i (all j [] stray.0).in_range stray.1 in omega (arith, below, stray.2))
+
+six_none : (F : Type 0) (a b c d e f rest : Option F) → a ≡ None → b ≡ None → c ≡ None → d ≡ None → e ≡ None → f ≡ None
+    → option_or a (option_or b (option_or c (option_or d (option_or e (option_or f rest))))) ≡ rest
+six_none F a b c d e f rest na nb nc nd ne nf = rw (na, nb, nc, nd, ne, nf) refl
+
+last_faults : (x y : Option (ℕ × ℕ)) (s : QuorumSystem)
+    → IfErr (as_construct (coterie_or (option_or (option_map (λ p. Disjoint p.0 p.1) x) (option_map (λ p. Contained p.0 p.1) y)) s)) IsCyclicFault
+last_faults None None s = tt
+last_faults None (Some p) s = tt
+last_faults (Some p) y s = tt
+
+-- sets of voters that are no coterie are so since two are disjoint, or one lies within another
+sets_fault : (n : ℕ) (sets : List (List ℕ)) → 0 < n → n ≤ 64 → 0 < length sets → length sets ≤ 4096 → All (IsQuorum n) sets → IfErr (as_construct (coterie_of n sets)) IsCyclicFault
+sets_fault n sets some few full short all =
+    let last = option_or (option_map (λ p. Disjoint p.0 p.1) (first_pair are_disjoint 0 sets)) (option_map (λ p. Contained p.0 p.1) (first_pair is_one_within 0 sets)) in
+    let e : first_fault n sets ≡ last =
+    six_none _ (fault_if (eqb n 0) NoVoters) (fault_if (ltb 64 n) TooManyVoters) (fault_if (eqb (length sets) 0) NoQuorums)
+    (fault_if (ltb 4096 (length sets)) TooManyQuorums) (option_map EmptyQuorum (position (λ s. eqb (length s) 0) sets))
+    (option_map (λ p. VoterOutOfRange p.0 p.1) (first_outside n 0 sets)) last
+    (ap (λ b. fault_if b NoVoters) (ne_eqb n 0 (λ e. omega arith))) (ap (λ b. fault_if b TooManyVoters) (le-ltb 64 n few))
+    (ap (λ b. fault_if b NoQuorums) (ne_eqb (length sets) 0 (λ e. omega arith))) (ap (λ b. fault_if b TooManyQuorums) (le-ltb 4096 (length sets) short))
+    (ap (option_map EmptyQuorum) (none_empty n sets _ all refl)) (ap (option_map (λ p. VoterOutOfRange p.0 p.1)) (none_outside n sets _ all refl)) in
+    rw e (last_faults (first_pair are_disjoint 0 sets) (first_pair is_one_within 0 sets) (record { voters = n; quorums = sets }))
+
+pub cyclic_fault : (n : ℕ) (base : List ℕ) → n ≤ 64 → is_bad_base n base ≡ false → IfErr (as_construct (coterie_of n (cyclic_quorums n base))) IsCyclicFault
+unfolding cyclic_quorums
+cyclic_fault n base few good =
+    let listed = (or_parts ((eqb n 0 || eqb (length base) 0) || not (list_all (λ x. ltb x n) base)) (has_repeat base) good).0 in
+    let (some_voter, some_member) = or_parts (eqb n 0) (eqb (length base) 0) (or_parts (eqb n 0 || eqb (length base) 0) (not (list_all (λ x. ltb x n) base)) listed).0 in
+    let full = eqb-false (length base) 0 some_member in
+    let off = eqb-false n 0 some_voter in
+    let some : 0 < n = omega arith in
+    let long = length-map-range_with_len (shifted n base) 0 n in
+    sets_fault n (cyclic_quorums n base) some few (omega (arith, long)) (omega (arith, long))
+    (All-range (IsQuorum n) (shifted n base) 0 n (λ s from lt. IsQuorum-shifted n base s some few full))
+
+pub length-cyclic_quorums : (n : ℕ) (base : List ℕ) → length (cyclic_quorums n base) ≡ n
+unfolding cyclic_quorums
+length-cyclic_quorums n base = length-map-range_with_len (shifted n base) 0 n
+
+-- repeats
+or_mixed : (a b c d : Bool) → ((a || (b || false)) || (c || d)) ≡ ((a || c) || (b || d))
+or_mixed true b c d = refl
+or_mixed false true true d = refl
+or_mixed false true false d = refl
+or_mixed false false c d = refl
+
+eqb_turn : (i j : ℕ) → eqb i j ≡ eqb j i
+eqb_turn i j = elim (cases_eq i j) as (λ _. eqb i j ≡ eqb j i) [
+  | inl at ↦ eq-eqb i j at ∙ sym (eq-eqb j i (sym at))
+  | inr off ↦ ne_eqb i j off ∙ sym (ne_eqb j i (λ e. off (sym e)))
+]
+
+pub has_repeat-push : (xs : List ℕ) (y : ℕ) → has_repeat (xs ++ y ∷ []) ≡ (has_repeat xs || has xs y)
+has_repeat-push [] y = refl
+has_repeat-push (x ∷ xs) y =
+    ap₂ (λ a b. a || b) (has-append xs (y ∷ []) x) (has_repeat-push xs y)
+    ∙ ap (λ b. (has xs x || (b || false)) || (has_repeat xs || has xs y)) (eqb_turn y x)
+    ∙ or_mixed (has xs x) (eqb x y) (has_repeat xs) (has xs y)
+
+has_repeat-longer : (xs ys : List ℕ) → has_repeat xs ≡ true → has_repeat (xs ++ ys) ≡ true
+has_repeat-longer [] ys e = absurd (true≢false (sym e))
+has_repeat-longer (x ∷ xs) ys e =
+    elim (or_cases (has xs x) (has_repeat xs) e) as (λ _. (has (xs ++ ys) x || has_repeat (xs ++ ys)) ≡ true) [
+      | inl here ↦ ap (λ b. b || has_repeat (xs ++ ys)) (has-append xs ys x ∙ ap (λ b. b || has ys x) here)
+      | inr later ↦ or_right_true (has (xs ++ ys) x) (has_repeat (xs ++ ys)) (has_repeat-longer xs ys later)
+    ]
+  where
+    or_right_true : (a b : Bool) → b ≡ true → (a || b) ≡ true
+    or_right_true true b e = refl
+    or_right_true false b e = e
+
+pub has_repeat-take : (n : ℕ) (xs : List ℕ) → has_repeat (take n xs) ≡ true → has_repeat xs ≡ true
+has_repeat-take n xs e = sym (ap has_repeat (take-append-drop n xs)) ∙ has_repeat-longer (take n xs) (drop n xs) e
+
+-- what has been seen, with one more number
+pub seen_more : (xs : List ℕ) (x q : ℕ) (b : Bool) → b ≡ has xs q → cond (eqb x q) true b ≡ has (xs ++ x ∷ []) q
+seen_more xs x q b e = or_turned (eqb x q) b ∙ ap (λ t. t || (eqb x q || false)) e ∙ sym (has-append xs (x ∷ []) q)
+  where
+    or_turned : (a b : Bool) → cond a true b ≡ (b || (a || false))
+    or_turned true true = refl
+    or_turned true false = refl
+    or_turned false true = refl
+    or_turned false false = refl

@@ -1,0 +1,44 @@
+-- Cyclic coteries: a base set of places on a ring, moved on place by place. A perfect difference set gives a finite projective plane
+-- (Maekawa, ACM TOCS 3(2), 1985, section 3).
+use Rattle.std.specs.Prelude.{ℕ, ◌+◌, ◌%◌, ◌==◌, ◌||◌, Bool, true, false, not, List, [], ◌∷◌, Result, Ok, Err, length, map, nat_lt}
+use Rattle.std.specs.List.{list_any, list_all, range_with_len}
+use Rattle.quorum_set.specs.Coteries.{QuorumSystem, coterie_of}
+use Rattle.quorum_set.specs.Sets.{has, set_where}
+use Rattle.quorum_set.specs.declared.fault.CoterieFault.{CoterieFault}
+use Rattle.quorum_set.specs.declared.fault.CoterieFault.TheVariants.{Disjoint, Contained}
+use Rattle.construct.specs.Answers.{sized}
+use Rattle.construct.specs.declared.fault.ConstructFault.{ConstructFault}
+use Rattle.construct.specs.declared.fault.ConstructFault.TheVariants.{Coterie}
+
+-- the base, moved on by s places round a ring of n
+abbrev pub shifted : ℕ → List ℕ → ℕ → List ℕ
+shifted n base s = set_where (λ v. list_any (λ x. (x + s) % n == v) base)
+
+-- the base at each place of the ring
+unfoldable pub cyclic_quorums : ℕ → List ℕ → List (List ℕ)
+cyclic_quorums n base = map (shifted n base) (range_with_len 0 n)
+
+-- a number stands twice in the list
+abbrev pub has_repeat : List ℕ → Bool
+has_repeat [] = false
+has_repeat (x ∷ xs) = has xs x || has_repeat xs
+
+-- there is no ring, or the base is no set of places on it
+abbrev pub is_bad_base : ℕ → List ℕ → Bool
+is_bad_base n base = (n == 0) || (length base == 0) || not (list_all (λ x. nat_lt x n) base) || has_repeat base
+
+-- the coterie of n voters and these sets, or their first fault
+abbrev pub as_construct : Result QuorumSystem CoterieFault → Result QuorumSystem ConstructFault
+as_construct (Ok s) = Ok s
+as_construct (Err fault) = Err (Coterie fault)
+
+-- the cyclic coterie of the base, or the fault of the numbers, or that of the shifted sets
+abbrev pub cyclic_at : ℕ → List ℕ → Result QuorumSystem ConstructFault
+cyclic_at n base = sized (is_bad_base n base) (nat_lt 64 n) (as_construct (coterie_of n (cyclic_quorums n base)))
+
+-- the fault is not one of sets: where it is, two of them are disjoint, or one lies within the other
+abbrev pub IsCyclicFault : ConstructFault → Type 0
+IsCyclicFault (Coterie (Disjoint j k)) = Unit {0}
+IsCyclicFault (Coterie (Contained j k)) = Unit {0}
+IsCyclicFault (Coterie fault) = ⊥
+IsCyclicFault fault = Unit {0}

@@ -1,0 +1,5 @@
+pub mod Answers
+pub mod Cyclic
+pub mod Grid
+pub mod Tree
+pub mod Wheel

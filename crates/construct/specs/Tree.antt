@@ -1,0 +1,36 @@
+-- Tree quorums (Agrawal and El Abbadi, ACM TOCS 9(1), 1991): a path from the root to a leaf, where a node that is left out is replaced by
+-- paths below both of its children.
+use Rattle.std.specs.Prelude.{ℕ, ◌+◌, ◌-◌, ◌*◌, ◌^◌, ◌==◌, ◌||◌, List, [], ◌∷◌, ◌++◌, Result, Ok, false, map, nat_lt, zero, suc}
+use Rattle.std.specs.List.{flat_map}
+use Rattle.quorum_set.specs.Coteries.{QuorumSystem}
+use Rattle.quorum_set.specs.Sets.{has, set_where}
+use Rattle.construct.specs.Answers.{sized}
+use Rattle.construct.specs.declared.fault.ConstructFault.{ConstructFault}
+
+-- the set with the node
+abbrev pub with_node : ℕ → List ℕ → List ℕ
+with_node i s = set_where (λ v. (v == i) || has s v)
+
+-- the members of both
+abbrev pub union : List ℕ → List ℕ → List ℕ
+union p q = set_where (λ v. has p v || has q v)
+
+-- the quorums of an inner node, from those of its children: the node with a left one, the node with a right one, and a left one with a right one
+abbrev pub node_quorums : ℕ → List (List ℕ) → List (List ℕ) → List (List ℕ)
+node_quorums i left right = map (with_node i) left ++ map (with_node i) right ++ flat_map (λ p. map (union p) right) left
+
+-- the quorums of the tree of height h under node i, whose children are the nodes 2 * i + 1 and 2 * i + 2
+unfoldable pub quorums_under : ℕ → ℕ → List (List ℕ)
+quorums_under zero i = set_where (λ v. v == i) ∷ []
+quorums_under (suc h) i = node_quorums i (quorums_under h (2 * i + 1)) (quorums_under h (2 * i + 2))
+
+-- the quorums of the tree of height h, whose root is node 0
+abbrev pub tree_quorums : ℕ → List (List ℕ)
+tree_quorums h = quorums_under h 0
+
+abbrev pub tree_system : ℕ → QuorumSystem
+tree_system h = record { voters = 2 ^ (h + 1) - 1; quorums = tree_quorums h }
+
+-- the tree of height h, or the fault of its size
+abbrev pub tree_at : ℕ → Result QuorumSystem ConstructFault
+tree_at h = sized false (nat_lt 3 h) (Ok (tree_system h))

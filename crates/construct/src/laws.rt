@@ -1,0 +1,43 @@
+//! Laws of the constructions: each is the contract of a function with an empty body, and holds for all sizes that it names.
+ghost use Rattle.std.specs.Prelude.{◌≡◌, ◌+◌, ◌*◌, ◌^◌, ◌<◌, ◌≤◌, ℕ, List, [], false, length, slice_index_or, IfErr};
+ghost use Rattle.quorum_set.specs.Coteries.{IsCoterie, coterie_of};
+ghost use Rattle.construct.specs.Cyclic.{cyclic_quorums, is_bad_base, as_construct, IsCyclicFault};
+ghost use Rattle.construct.specs.Tree.{tree_quorums, tree_system};
+ghost use Rattle.construct.specs.Grid.{row_with_column, grid_quorums, grid_system};
+ghost use Rattle.construct.specs.Wheel.{wheel_quorums, wheel_system};
+
+/// The quorums of a grid are a coterie: each row meets each column.
+pub fn grids_are_coteries()
+    ensures { (r c : ℕ) → 2 ≤ r → 2 ≤ c → r * c ≤ 64 → IsCoterie (grid_system r c) }
+{}
+
+/// A grid of r rows of c voters has r * c quorums, and quorum i * c + k is row i with column k.
+pub fn grids_have_a_quorum_for_each_voter()
+    ensures number { (r c : ℕ) → length (grid_quorums r c) ≡ r * c }
+    ensures place { (r c i k : ℕ) → i < r → k < c → slice_index_or (grid_quorums r c) (i * c + k) [] ≡ row_with_column r c i k }
+{}
+
+/// The quorums of a wheel are a coterie: spokes meet at the hub, and each meets the rim.
+pub fn wheels_are_coteries()
+    ensures { (k : ℕ) → 2 ≤ k → k ≤ 63 → IsCoterie (wheel_system k) }
+{}
+
+/// A wheel with k voters on its rim has k + 1 quorums.
+pub fn wheels_have_a_quorum_for_each_spoke()
+    ensures { (k : ℕ) → length (wheel_quorums k) ≡ k + 1 }
+{}
+
+/// The quorums of a tree are a coterie.
+pub fn trees_are_coteries()
+    ensures { (h : ℕ) → h ≤ 3 → IsCoterie (tree_system h) }
+{}
+
+/// A tree of height h has 2^(2^h) - 1 quorums: 1, 3, 15, 255 and so on.
+pub fn trees_double_their_exponent()
+    ensures { (h : ℕ) → length (tree_quorums h) + 1 ≡ 2 ^ (2 ^ h) }
+{}
+
+/// Sets that are shifted round a ring can only fail to be a coterie in that two of them are disjoint, or one lies within another.
+pub fn cyclic_sets_cross_or_not()
+    ensures { (n : ℕ) (base : List ℕ) → n ≤ 64 → is_bad_base n base ≡ false → IfErr (as_construct (coterie_of n (cyclic_quorums n base))) IsCyclicFault }
+{}

@@ -1,0 +1,30 @@
+//! Sets by a test, and coteries of sets that are one.
+ghost use Rattle.std.specs.Prelude.{◌≡◌, ◌<◌, ℕ, Bool, Ok};
+ghost use Rattle.quorum_set.specs.Sets.{set_where};
+ghost use Rattle.quorum_set.specs.Coteries.{IsCoterie};
+
+use crate::fault::ConstructFault;
+use quorum_set::{Coterie, QSet, coteries_have_no_fault};
+
+/// The set of the numbers below 64 that pass the test.
+pub(crate) fn set_where<F: Fn(u8) -> bool>(passes: F) -> QSet
+    requires { F.IsAlwaysCallable passes }
+    ensures { (p : ℕ → Bool) → ((i : ℕ) (b : Bool) → i < 64 → F.post passes i b → b ≡ p i) → result ≡ set_where p }
+{
+    let mut set = QSet::empty();
+    for i in 0..64 {
+        if passes(i) {
+            set.insert(i);
+        }
+    }
+    set
+}
+
+/// The coterie of n voters and these quorums, which have to be one.
+pub(crate) fn coterie_of(n: usize, quorums: Vec<QSet>) -> Result<Coterie, ConstructFault>
+    requires { IsCoterie (record { voters = n; quorums = quorums.items }) }
+    ensures { result ≡ Ok (record { voters = n; quorums = quorums.items }) }
+{
+    coteries_have_no_fault();
+    Ok(Coterie::of(n, quorums)?)
+}

@@ -1,0 +1,88 @@
+//! Cyclic coteries.
+ghost use Rattle.std.specs.Prelude.{◌≡◌, ◌==◌, ◌+◌, ◌%◌, ◌<◌, nat_lt, IfOk, IfErr};
+ghost use Rattle.std.specs.List.{list_all, list_any};
+ghost use Rattle.construct.specs.Answers.{Gives};
+ghost use Rattle.construct.specs.Cyclic.{shifted, cyclic_quorums, has_repeat, is_bad_base, cyclic_at, IsCyclicFault};
+
+use crate::fault::ConstructFault;
+use crate::laws::cyclic_sets_cross_or_not;
+use crate::set::set_where;
+use quorum_set::{Coterie, QSet};
+use std::alloc::{AllocError, Global};
+use std::collections::HashSet;
+
+/// Whether a member of the base comes to voter v when it moves on by s places round a ring of n.
+fn moves_to(n: u32, base: &[u32], s: u32, v: u8) -> bool
+    requires { 0 < n }
+    ensures { result ≡ list_any (λ x. (x + s) % n == v) base.now }
+{
+    let ring = u64::from(n);
+    let places = u64::from(s);
+    base.iter()
+        .any(|x| (u64::from(*x) + places) % ring == u64::from(v))
+}
+
+/// The base, moved on by s places round a ring of n.
+fn shifted(n: u32, base: &[u32], s: u32) -> QSet
+    requires { 0 < n }
+    ensures { result ≡ shifted n base.now s }
+{
+    set_where(|v| moves_to(n, base, s, v))
+}
+
+/// The base at each place of the ring.
+fn quorums_of(alloc: Global, n: u32, base: &[u32]) -> Result<Vec<QSet>, AllocError>
+    requires { 0 < n }
+    ensures { IfOk result (λ v. v.items ≡ cyclic_quorums n base.now) }
+{
+    (0..n).map(|s| shifted(n, base, s)).collect(alloc)
+}
+
+/// Whether a number stands twice.
+fn has_repeat(alloc: Global, base: &[u32]) -> Result<bool, AllocError>
+    ensures { IfOk result (λ b. b ≡ has_repeat base.now) }
+{
+    let mut seen = HashSet::new(alloc);
+    for x in base {
+        if !seen.insert(*x)? {
+            return Ok(true);
+        }
+    }
+    Ok(false)
+}
+
+/// Whether all numbers are below n.
+fn are_below(n: u32, base: &[u32]) -> bool
+    ensures { result ≡ list_all (λ x. nat_lt x n) base.now }
+{
+    base.iter().all(|x| *x < n)
+}
+
+/// Whether there is no ring, or the base is no set of places on it.
+fn is_bad_base(alloc: Global, n: u32, base: &[u32]) -> Result<bool, AllocError>
+    ensures { IfOk result (λ b. b ≡ is_bad_base n base.now) }
+{
+    if n == 0 || base.is_empty() || !are_below(n, base) {
+        return Ok(true);
+    }
+    has_repeat(alloc, base)
+}
+
+/// The cyclic coterie of a base set of voters on a ring of n: quorum s, for s below n, is the base moved on by s places, { (x + s) mod n, x in base }. Where the
+/// base is a perfect difference set, as 0, 1, 3 modulo 7, the quorums are the lines of a projective plane (Maekawa, ACM TOCS 3(2), 1985).
+/// `BadSize` where n is 0 or the base is empty, has a member that is not below n, or has one twice; `TooLarge` where n is
+/// above 64; then `Coterie(Disjoint)` or `Coterie(Contained)` for the least pair of quorums that are disjoint or of which one lies within the other.
+pub fn cyclic(alloc: Global, n: u32, base: &[u32]) -> Result<Coterie, ConstructFault>
+    ensures exact { Gives result (cyclic_at n base.now) }
+    ensures faults { IfErr result IsCyclicFault }
+{
+    if is_bad_base(alloc, n, base)? {
+        return Err(ConstructFault::BadSize);
+    }
+    if n > 64 {
+        return Err(ConstructFault::TooLarge);
+    }
+    cyclic_sets_cross_or_not();
+    let quorums = quorums_of(alloc, n, base)?;
+    Ok(Coterie::of(n as usize, quorums)?)
+}

@@ -1,0 +1,48 @@
+//! Grids.
+ghost use Rattle.std.specs.Prelude.{◌≡◌, ◌*◌, ◌/◌, ◌%◌, ◌<◌, ◌≤◌, map, IfOk};
+ghost use Rattle.construct.specs.Answers.{Gives};
+ghost use Rattle.construct.specs.Grid.{row_with_column, grid_quorums, grid_at};
+
+use crate::fault::ConstructFault;
+use crate::laws::grids_are_coteries;
+use crate::set::{coterie_of, set_where};
+use quorum_set::{Coterie, QSet};
+use std::alloc::{AllocError, Global};
+
+/// Row i and column k of r rows of c voters.
+fn row_with_column(r: u32, c: u32, i: u32, k: u32) -> QSet
+    requires some { 0 < c }
+    requires few { r * c ≤ 64 }
+    ensures { result ≡ row_with_column r c i k }
+{
+    let voters = r * c;
+    set_where(|v| { u32::from(v) < voters && (u32::from(v) / c == i || u32::from(v) % c == k) })
+}
+
+/// For each voter its row with its column.
+fn quorums_of(alloc: Global, r: u32, c: u32) -> Result<Vec<QSet>, AllocError>
+    requires some { 0 < c }
+    requires few { r * c ≤ 64 }
+    ensures { IfOk result (λ v. v.items ≡ grid_quorums r c) }
+{
+    (0..r * c)
+        .map(|j| row_with_column(r, c, j / c, j % c))
+        .collect(alloc)
+}
+
+/// The grid of r rows of c voters (Maekawa, ACM TOCS 3(2), 1985): row i has the voters i * c to i * c + c - 1, and quorum i * c + k is row i
+/// with column k. It has r * c quorums of r + c - 1 members each. `BadSize` where r or c is below 2; `TooLarge` where there are more
+/// than 64 voters.
+pub fn grid(alloc: Global, r: u32, c: u32) -> Result<Coterie, ConstructFault>
+    ensures exact { Gives result (grid_at r c) }
+{
+    if r < 2 || c < 2 {
+        return Err(ConstructFault::BadSize);
+    }
+    if u64::from(r) * u64::from(c) > 64 {
+        return Err(ConstructFault::TooLarge);
+    }
+    grids_are_coteries();
+    let quorums = quorums_of(alloc, r, c)?;
+    coterie_of((r * c) as usize, quorums)
+}

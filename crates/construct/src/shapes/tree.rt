@@ -1,0 +1,108 @@
+//! Trees.
+ghost use Rattle.std.specs.Prelude.{◌≡◌, ◌+◌, ◌*◌, ◌^◌, ◌<◌, ◌≤◌, ◌++◌, map, IfOk, OnOk};
+ghost use Rattle.std.specs.List.{flat_map};
+ghost use Rattle.construct.specs.Answers.{Gives};
+ghost use Rattle.construct.specs.Tree.{with_node, union, node_quorums, quorums_under, tree_at};
+
+use crate::fault::ConstructFault;
+use crate::laws::trees_are_coteries;
+use crate::set::{coterie_of, set_where};
+use quorum_set::{Coterie, QSet};
+use std::alloc::{AllocError, Global};
+
+/// The set with the node.
+fn with_node(i: u32, set: &QSet) -> QSet
+    ensures { result ≡ with_node i set.now }
+{
+    set_where(|v| u32::from(v) == i || set.has(v))
+}
+
+/// The members of both sets.
+fn union(left: &QSet, right: &QSet) -> QSet
+    ensures { result ≡ union left.now right.now }
+{
+    set_where(|v| left.has(v) || right.has(v))
+}
+
+/// Adds each of the sets, with the node.
+fn push_with_node(quorums: &mut Vec<QSet>, i: u32, sets: &[QSet]) -> Result<(), AllocError>
+    ensures { OnOk result (quorums.new.items ≡ quorums.old.items ++ map (with_node i) sets.now) }
+{
+    for set in sets {
+        quorums.push(with_node(i, set))?;
+    }
+    Ok(())
+}
+
+/// Adds the union of the set with each of the others.
+fn push_unions_with(quorums: &mut Vec<QSet>, set: &QSet, others: &[QSet]) -> Result<(), AllocError>
+    ensures { OnOk result (quorums.new.items ≡ quorums.old.items ++ map (union set.now) others.now) }
+{
+    for other in others {
+        quorums.push(union(set, other))?;
+    }
+    Ok(())
+}
+
+/// Adds the union of each left set with each right one.
+fn push_unions(quorums: &mut Vec<QSet>, left: &[QSet], right: &[QSet]) -> Result<(), AllocError>
+    ensures { OnOk result (quorums.new.items ≡ quorums.old.items ++ flat_map (λ p. map (union p) right.now) left.now) }
+{
+    for set in left {
+        push_unions_with(quorums, set, right)?;
+    }
+    Ok(())
+}
+
+/// The one quorum of a leaf.
+fn quorums_of_leaf(alloc: Global, i: u32) -> Result<Vec<QSet>, AllocError>
+    ensures { IfOk result (λ v. v.items ≡ quorums_under 0 i) }
+{
+    let mut quorums = Vec::with_capacity(alloc, 1)?;
+    quorums.push(set_where(|v| u32::from(v) == i))?;
+    Ok(quorums)
+}
+
+/// The quorums of an inner node, from those of its children.
+fn node_quorums(
+    alloc: Global,
+    i: u32,
+    left: &[QSet],
+    right: &[QSet],
+) -> Result<Vec<QSet>, AllocError>
+    ensures { IfOk result (λ v. v.items ≡ node_quorums i left.now right.now) }
+{
+    let mut quorums = Vec::new(alloc);
+    push_with_node(&mut quorums, i, left)?;
+    push_with_node(&mut quorums, i, right)?;
+    push_unions(&mut quorums, left, right)?;
+    Ok(quorums)
+}
+
+/// The quorums of the tree of height h under node i.
+fn quorums_under(alloc: Global, h: u32, i: u32) -> Result<Vec<QSet>, AllocError>
+    requires { (i + 2) * 2 ^ h ≤ 2 ^ 31 }
+    ensures { IfOk result (λ v. v.items ≡ quorums_under h i) }
+{
+    if h == 0 {
+        return quorums_of_leaf(alloc, i);
+    }
+    let left = quorums_under(alloc, h - 1, 2 * i + 1)?;
+    let right = quorums_under(alloc, h - 1, 2 * i + 2)?;
+    node_quorums(alloc, i, &left, &right)
+}
+
+/// The tree of height h (Agrawal and El Abbadi, ACM TOCS 9(1), 1991): a complete binary tree of 2^(h + 1) - 1 voters, whose root is voter 0 and
+/// where the children of voter i are 2 * i + 1 and 2 * i + 2. A leaf has one quorum, itself. The quorums of an inner node are, in this
+/// order: the node with each quorum of its left child, the node with each of its right child, and each quorum of the left child with
+/// each of the right one. `TooLarge` where h is above 3.
+pub fn tree(alloc: Global, h: u32) -> Result<Coterie, ConstructFault>
+    ensures exact { Gives result (tree_at h) }
+{
+    if h > 3 {
+        return Err(ConstructFault::TooLarge);
+    }
+    trees_are_coteries();
+    let quorums = quorums_under(alloc, h, 0)?;
+    coterie_of((1 << (h + 1)) - 1, quorums)
+}
