@@ -1,15 +1,15 @@
 -- Shifted sets: that they are sets of voters, and repeats in a list.
-use Rattle.std.proofs.Common.{◌≡◌, ◌⊎◌, ℕ, ◌+◌, ◌%◌, ◌<◌, ◌≤◌, Bool, true, false, cond, ◌||◌, ◌&&◌, not, eqb, ltb, List, [], ◌∷◌, ◌++◌, length, get_or, map, take, drop, sym, refl, ap, ap₂, ◌∙◌, inl, inr, arith, Option, None, Some}
-use Rattle.std.specs.List.{All, list_any, list_all, range_with_len, position}
+use Rattle.std.proofs.Common.{◌≡◌, ℕ, ◌+◌, ◌%◌, ◌<◌, ◌≤◌, Bool, true, false, cond, ◌||◌, not, eqb, ltb, List, [], ◌∷◌, ◌++◌, length, get_or, take, drop, sym, refl, ap, ap₂, ◌∙◌, inl, inr, arith, Option, None, Some}
+use Rattle.std.specs.List.{All, list_any, list_all, position}
 use Rattle.std.specs.Option.{option_or, option_map}
 use Rattle.std.specs.Result.{IfErr}
-use Rattle.std.proofs.lemmas.Bool.{true≢false, eqb-true, eq-eqb, ne_eqb, eqb-false, le-ltb, or_cases, or_parts, or_from, not-false, cases_Bool, cases_eq}
+use Rattle.std.proofs.lemmas.Bool.{true≢false, eqb-true, eq-eqb, ne_eqb, eqb-false, le-ltb, or_cases, or_parts, cases_eq}
 use Rattle.std.proofs.lemmas.Nat.{mod_below}
 use Rattle.std.proofs.lemmas.List.{take-append-drop}
 use Rattle.std.proofs.lemmas.List.Elements.{All-head, All-tail}
 use Rattle.std.proofs.lemmas.List.Quantifiers.{position-Some}
 use Rattle.std.proofs.lemmas.List.FromFn.{length-map-range_with_len}
-use Rattle.quorum_set.specs.Sets.{has, IsSet}
+use Rattle.quorum_set.specs.Sets.{has}
 use Rattle.quorum_set.specs.Coteries.{QuorumSystem, first_outside, first_pair, are_disjoint, is_one_within, fault_if, first_fault, coterie_or, coterie_of}
 use Rattle.quorum_set.specs.declared.fault.CoterieFault.TheVariants.{NoVoters, TooManyVoters, NoQuorums, TooManyQuorums, EmptyQuorum, VoterOutOfRange, Disjoint, Contained}
 use Rattle.quorum_set.proofs.SetLemmas.{has-append}

@@ -4,3 +4,5 @@ pub mod GridLemmas
 pub mod WheelLemmas
 pub mod CyclicLemmas
 pub mod TreeLemmas
+pub mod MajorityLemmas
+pub mod Combinations

@@ -1,5 +1,5 @@
 -- The quorums of a tree are a coterie.
-use Rattle.std.proofs.Common.{◌≡◌, ◌⊎◌, ℕ, ◌+◌, ◌-◌, ◌*◌, ◌/◌, ◌^◌, ◌<◌, ◌≤◌, Bool, true, false, ◌||◌, eqb, List, [], ◌∷◌, ◌++◌, length, get_or, map, zero, suc, sym, refl, ap, ap₂, ◌∙◌, inl, inr, arith, length-append}
+use Rattle.std.proofs.Common.{◌≡◌, ◌⊎◌, ℕ, ◌+◌, ◌-◌, ◌*◌, ◌/◌, ◌^◌, ◌<◌, ◌≤◌, true, false, ◌||◌, eqb, List, [], ◌∷◌, ◌++◌, length, get_or, map, zero, suc, sym, refl, ap, ap₂, ◌∙◌, inl, inr, arith, length-append}
 use Rattle.std.specs.List.{All, AllPairs, flat_map}
 use Rattle.std.proofs.Math.Nat.{pow-suc, pow-le-pow_right}
 use Rattle.std.proofs.lemmas.Bool.{true≢false, false_from_ne_true, eqb-true, eq-eqb, ne_eqb, or_cases, or_from, or_left, or_right, cases_lt, cases_order}
@@ -275,7 +275,7 @@ All-flat_map P f [] all = All-nil P
 All-flat_map P f (x ∷ xs) all =
     All-append P (f x) (flat_map f xs) (All-head (λ y. All P (f y)) x xs all) (All-flat_map P f xs (All-tail (λ y. All P (f y)) x xs all))
 
-AllPairs-map : {X Y : Type 0} (R : Y → Y → Type 0) (f : X → Y) (xs : List X) → AllPairs (λ x y. R (f x) (f y)) xs → AllPairs R (map f xs)
+pub AllPairs-map : {X Y : Type 0} (R : Y → Y → Type 0) (f : X → Y) (xs : List X) → AllPairs (λ x y. R (f x) (f y)) xs → AllPairs R (map f xs)
 AllPairs-map R f [] pairs = λ a b d before lt. absurd (omega arith)
 AllPairs-map R f (x ∷ xs) pairs =
     AllPairs-cons R (f x) (map f xs) (All-map (R (f x)) f xs (λ j d lt. pairs 0 (suc j) d (omega arith) (omega arith)))

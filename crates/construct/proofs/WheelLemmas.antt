@@ -1,7 +1,7 @@
 -- The quorums of a wheel are a coterie.
-use Rattle.std.proofs.Common.{◌≡◌, ℕ, ◌+◌, ◌<◌, ◌≤◌, Bool, true, false, ◌||◌, ◌&&◌, eqb, leb, List, [], ◌∷◌, ◌++◌, length, map, sym, refl, ap, ap₂, ◌∙◌, inl, inr, arith}
+use Rattle.std.proofs.Common.{◌≡◌, ℕ, ◌+◌, ◌<◌, ◌≤◌, true, false, ◌||◌, ◌&&◌, eqb, leb, [], ◌∷◌, length, map, sym, refl, ◌∙◌, inl, inr, arith}
 use Rattle.std.specs.List.{All, range_with_len}
-use Rattle.std.proofs.lemmas.Bool.{eqb-true, eq-eqb, ne_eqb, le-leb, lt-leb, leb-true, and_from, and_left, and_parts, or_cases, or_from, or_left, or_right, cases_eq}
+use Rattle.std.proofs.lemmas.Bool.{eqb-true, eq-eqb, ne_eqb, le-leb, leb-true, and_from, and_parts, or_cases, or_from, or_right, cases_eq}
 use Rattle.std.proofs.Common.{length-append}
 use Rattle.std.proofs.lemmas.List.Elements.{All-push}
 use Rattle.std.proofs.lemmas.List.FromFn.{length-map-range_with_len}
@@ -12,7 +12,6 @@ use Rattle.construct.specs.Wheel.{spoke, rim, wheel_quorums, wheel_system}
 use Rattle.construct.proofs.SetLemmas.{has-failed}
 use Rattle.construct.proofs.Quorums.{IsQuorum, IsCrossing, IsCoterie-from, IsCrossing-from, IsQuorum-where, All-range, AllPairs-range, AllPairs-append}
 use Rattle.std.proofs.lemmas.List.Elements.{All-cons, All-nil}
-use Rattle.std.proofs.lemmas.List.Kept.{AllPairs-cons}
 
 has-hub : (i : ℕ) → has (spoke i) 0 ≡ true
 has-hub i = has-set_where (λ v. eqb v 0 || eqb v i) 0 (omega arith)

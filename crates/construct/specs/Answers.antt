@@ -1,5 +1,5 @@
 -- What a construction answers.
-use Rattle.std.specs.Prelude.{◌≡◌, ◌||◌, Bool, if◌then◌else◌, Option, None, Some, Result, Ok, Err}
+use Rattle.std.specs.Prelude.{◌≡◌, Bool, if◌then◌else◌, Result, Ok, Err}
 use Rattle.quorum_set.specs.Coteries.{QuorumSystem}
 use Rattle.construct.specs.declared.fault.ConstructFault.{ConstructFault}
 use Rattle.construct.specs.declared.fault.ConstructFault.TheVariants.{BadSize, TooLarge, OutOfMemory}

@@ -1,6 +1,6 @@
 -- Cyclic coteries: a base set of places on a ring, moved on place by place. A perfect difference set gives a finite projective plane
 -- (Maekawa, ACM TOCS 3(2), 1985, section 3).
-use Rattle.std.specs.Prelude.{ℕ, ◌+◌, ◌%◌, ◌==◌, ◌||◌, Bool, true, false, not, List, [], ◌∷◌, Result, Ok, Err, length, map, nat_lt}
+use Rattle.std.specs.Prelude.{ℕ, ◌+◌, ◌%◌, ◌==◌, ◌||◌, Bool, false, not, List, [], ◌∷◌, Result, Ok, Err, length, map, nat_lt}
 use Rattle.std.specs.List.{list_any, list_all, range_with_len}
 use Rattle.quorum_set.specs.Coteries.{QuorumSystem, coterie_of}
 use Rattle.quorum_set.specs.Sets.{has, set_where}

@@ -1,5 +1,5 @@
 -- Wheels: a hub with each voter of the rim, and the rim (Naor and Wool, SIAM J. Comput. 27(2), 1998).
-use Rattle.std.specs.Prelude.{ℕ, ◌+◌, ◌==◌, ◌||◌, ◌&&◌, List, [], ◌∷◌, ◌++◌, Result, Ok, false, map, nat_le, nat_lt}
+use Rattle.std.specs.Prelude.{ℕ, ◌+◌, ◌==◌, ◌||◌, ◌&&◌, List, [], ◌∷◌, ◌++◌, Result, Ok, map, nat_le, nat_lt}
 use Rattle.std.specs.List.{range_with_len}
 use Rattle.quorum_set.specs.Coteries.{QuorumSystem}
 use Rattle.quorum_set.specs.Sets.{set_where}

@@ -2,6 +2,7 @@
 ghost use Rattle.std.specs.Prelude.{◌≡◌, ◌+◌, ◌*◌, ◌^◌, ◌<◌, ◌≤◌, ℕ, List, [], false, length, slice_index_or, IfErr};
 ghost use Rattle.quorum_set.specs.Coteries.{IsCoterie, coterie_of};
 ghost use Rattle.construct.specs.Cyclic.{cyclic_quorums, is_bad_base, as_construct, IsCyclicFault};
+ghost use Rattle.construct.specs.Majority.{sets_from, choose, majority_system};
 ghost use Rattle.construct.specs.Tree.{tree_quorums, tree_system};
 ghost use Rattle.construct.specs.Grid.{row_with_column, grid_quorums, grid_system};
 ghost use Rattle.construct.specs.Wheel.{wheel_quorums, wheel_system};
@@ -40,4 +41,19 @@ pub fn trees_double_their_exponent()
 /// Sets that are shifted round a ring can only fail to be a coterie in that two of them are disjoint, or one lies within another.
 pub fn cyclic_sets_cross_or_not()
     ensures { (n : ℕ) (base : List ℕ) → n ≤ 64 → is_bad_base n base ≡ false → IfErr (as_construct (coterie_of n (cyclic_quorums n base))) IsCyclicFault }
+{}
+
+/// The majorities of up to 14 voters are a coterie: two sets of more than half of the voters meet.
+pub fn majorities_are_coteries()
+    ensures { (n : ℕ) → 0 < n → n ≤ 14 → IsCoterie (majority_system n) }
+{}
+
+/// There are n over k sets of k of n numbers.
+pub fn majorities_are_combinations()
+    ensures { (low n k : ℕ) → length (sets_from low n k) ≡ choose n k }
+{}
+
+/// A cyclic list has a set for each of the n places of the ring.
+pub fn cyclic_coteries_have_a_quorum_for_each_shift()
+    ensures { (n : ℕ) (base : List ℕ) → length (cyclic_quorums n base) ≡ n }
 {}

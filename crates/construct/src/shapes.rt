@@ -1,5 +1,6 @@
 //! The constructions, a file each.
 pub mod cyclic;
 pub mod grid;
+pub mod majority;
 pub mod tree;
 pub mod wheel;

@@ -1,0 +1,61 @@
+//! Majorities.
+ghost use Rattle.std.specs.Prelude.{◌≡◌, ◌≤◌, [], IfOk, vec_len};
+ghost use Rattle.std.specs.List.{range_with_len};
+ghost use Rattle.itertools.specs.Odometer.{ways};
+ghost use Rattle.itertools.specs.Pool.{ascending_low, ascending_high, combination_can, combination_left};
+ghost use Rattle.quorum_set.specs.Sets.{has, set_where};
+ghost use Rattle.construct.specs.Answers.{Gives};
+ghost use Rattle.construct.specs.Majority.{sets_from, majority_at};
+
+use crate::fault::ConstructFault;
+use crate::laws::majorities_are_coteries;
+use crate::set::{coterie_of, set_where};
+use itertools::{Combinations, Itertools};
+use quorum_set::{Coterie, QSet};
+use std::alloc::{AllocError, Global};
+
+/// The set of these members.
+fn set_of(members: &[u8]) -> QSet
+    ensures { result ≡ set_where (has members.now) }
+{
+    set_where(|v| members.contains(&v))
+}
+
+/// The choices of k of the numbers below n.
+fn choices(alloc: Global, n: u8, k: usize) -> Result<Combinations<u8, Global>, AllocError>
+    ensures can { IfOk result combination_can }
+    ensures pool { IfOk result (λ c. c.pool.items ≡ range_with_len 0 n) }
+    ensures size { IfOk result (λ c. vec_len c.pool ≡ n) }
+    ensures left { IfOk result (λ c. combination_left c ≡ ways ascending_low (ascending_high (vec_len c.pool) k) k []) }
+{
+    (0..n).combinations(alloc, k)
+}
+
+/// The sets of k of the numbers below n, in lexicographic order.
+fn sets_of(alloc: Global, n: u8, k: usize) -> Result<Vec<QSet>, AllocError>
+    requires { n ≤ 64 }
+    ensures { IfOk result (λ v. v.items ≡ sets_from 0 n k) }
+{
+    let mut sets = Vec::new(alloc);
+    for members in choices(alloc, n, k)? {
+        sets.push(set_of(&members?))?;
+    }
+    Ok(sets)
+}
+
+/// The majorities of n voters: all sets of n / 2 + 1 voters, rounded down, in lexicographic order of their ascending members (Garcia-Molina and
+/// Barbara, JACM 32(4), 1985). There are n over n / 2 + 1 of them, at most 3003. `BadSize` where n is 0; `TooLarge` where it is
+/// above 14.
+pub fn majority(alloc: Global, n: u32) -> Result<Coterie, ConstructFault>
+    ensures exact { Gives result (majority_at n) }
+{
+    if n == 0 {
+        return Err(ConstructFault::BadSize);
+    }
+    if n > 14 {
+        return Err(ConstructFault::TooLarge);
+    }
+    majorities_are_coteries();
+    let quorums = sets_of(alloc, n as u8, n as usize / 2 + 1)?;
+    coterie_of(n as usize, quorums)
+}
