@@ -2,6 +2,9 @@
 use Rattle.std.proofs.Common.{◌≡◌, ℕ, Bool, true, false, cond, List, Result, Ok, Err, ap, sym, refl, ◌∙◌}
 use Rattle.std.specs.Str.{IsUtf8, is_utf8}
 use Rattle.std.proofs.lemmas.Str.{IsUtf8-from_is_utf8, is_utf8-from_IsUtf8}
+use Rattle.construct.specs.Answers as construct_answers
+use Rattle.construct.specs.declared.fault.ConstructFault.{ConstructFault}
+use Rattle.construct.specs.declared.fault.ConstructFault.TheVariants as construct
 use Rattle.coterie_file.specs.Answers as file_answers
 use Rattle.coterie_file.specs.Reading.{coterie_at}
 use Rattle.coterie_file.specs.declared.fault.FileFault.{FileFault}
@@ -9,9 +12,10 @@ use Rattle.coterie_file.specs.declared.fault.FileFault.TheVariants as file
 use Rattle.certificate.specs.PlanTexts as plan_texts
 use Rattle.certificate.specs.declared.fault.PlanFault.{PlanFault}
 use Rattle.certificate.specs.declared.fault.PlanFault.TheVariants as plan
+use Rattle.quorum_set.specs.Coteries.{QuorumSystem}
 use Rattle.qlock_cli.specs.Commands.{Refuses, coterie_part, refused_as}
-use Rattle.qlock_cli.specs.Faults.{file_refusal, plan_refusal}
-use Rattle.qlock_cli.specs.declared.fault.Fault.TheVariants.{File, Plan}
+use Rattle.qlock_cli.specs.Faults.{construct_refusal, file_refusal, plan_refusal}
+use Rattle.qlock_cli.specs.declared.fault.Fault.TheVariants.{Construct, File, Plan}
 
 is_no_text : (bytes : List ℕ) (b : Bool) → is_utf8 bytes ≡ b → (IsUtf8 bytes → ⊥) → b ≡ false
 is_no_text bytes true e none = absurd (none (IsUtf8-from_is_utf8 bytes e))
@@ -35,3 +39,7 @@ file_refused fault wanted e = ap (refused_as File) e
 pub plan_refused : {Y : Type 0} (fault : PlanFault) (wanted : Result Y PlanFault) → plan_texts.Fails fault wanted → Refuses (plan_refusal fault) (refused_as Plan wanted)
 plan_refused plan.OutOfMemory wanted e = tt
 plan_refused fault wanted e = ap (refused_as Plan) e
+
+pub construct_refused : (fault : ConstructFault) (wanted : Result QuorumSystem ConstructFault) → construct_answers.Refuses fault wanted → Refuses (construct_refusal fault) (refused_as Construct wanted)
+construct_refused construct.OutOfMemory wanted e = tt
+construct_refused fault wanted e = ap (refused_as Construct) e

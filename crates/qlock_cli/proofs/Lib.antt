@@ -3,3 +3,4 @@ pub mod DeviceLemmas
 pub mod ExecuteLemmas
 pub mod PartLemmas
 pub mod TextLemmas
+pub mod WordLemmas

@@ -1,11 +1,18 @@
 -- What each command writes, as a function of its input.
-use Rattle.std.specs.Prelude.{◌≡◌, ℕ, ◌<◌, ◌≤◌, List, [], ◌∷◌, ◌++◌, length, codes, slice_index, Option, Result, Ok, Err, ⊤, IsOk, IsOkAnd, if◌then◌else◌}
+use Rattle.std.specs.Prelude.{◌≡◌, ℕ, Bool, true, false, ◌<◌, ◌≤◌, List, [], ◌∷◌, ◌++◌, length, codes, slice_index, Option, Result, Ok, Err, ⊤, IsOk, IsOkAnd, if◌then◌else◌}
 use Rattle.std.specs.List.{flat_map, range_with_len}
 use Rattle.std.specs.Fmt.{decimal}
 use Rattle.std.specs.Io.KnownBytes.{Appends}
 use Rattle.std.specs.Str.{is_utf8}
 use Rattle.quorum_set.specs.Coteries.{QuorumSystem}
-use Rattle.coterie_file.specs.Named.{NamedSystem}
+use Rattle.construct.specs.Cyclic.{cyclic_at}
+use Rattle.construct.specs.Grid.{grid_at}
+use Rattle.construct.specs.Majority.{majority_at}
+use Rattle.construct.specs.Tree.{tree_at}
+use Rattle.construct.specs.Wheel.{wheel_at}
+use Rattle.construct.specs.declared.fault.ConstructFault.{ConstructFault}
+use Rattle.coterie_file.specs.Named.{NamedSystem, numbered_names}
+use Rattle.coterie_file.specs.Writing.{coterie_text}
 use Rattle.coterie_file.specs.Names.{name_at}
 use Rattle.coterie_file.specs.Reading.{coterie_at}
 use Rattle.coterie_file.specs.declared.fault.FileFault.{FileFault}
@@ -18,10 +25,12 @@ use Rattle.dealer.specs.Accounts.{account_of}
 use Rattle.dealer.specs.declared.account.Account.{Account}
 use Rattle.qlock_cli.specs.Parts.{split}
 use Rattle.qlock_cli.specs.declared.fault.Fault.{Fault}
-use Rattle.qlock_cli.specs.declared.fault.Fault.TheVariants.{TooLong, ReadFault, WriteFault, OutOfMemory, File, Plan}
+use Rattle.qlock_cli.specs.declared.fault.Fault.TheVariants.{TooLong, ReadFault, WriteFault, OutOfMemory, Construct, File, Plan}
 use Rattle.qlock_cli.specs.declared.answer.Planned.{Planned}
 use Rattle.qlock_cli.specs.declared.words.Command.{Command}
-use Rattle.qlock_cli.specs.declared.words.Command.TheVariants.{Check, Deal}
+use Rattle.qlock_cli.specs.declared.words.Command.TheVariants.{Check, Deal, Make}
+use Rattle.qlock_cli.specs.declared.words.Shape.{Shape}
+use Rattle.qlock_cli.specs.declared.words.Shape.TheVariants.{Cyclic, Grid, Majority, Tree, Wheel}
 
 -- Steps that may be refused
 
@@ -100,6 +109,21 @@ check_text p = load_line (load_of p.plan) (cycle_len p.plan)
 
 -- Commands
 
+-- the coterie of a shape and its sizes
+abbrev pub shape_at : Shape → Result QuorumSystem ConstructFault
+shape_at (Grid r c) = grid_at r c
+shape_at (Majority n) = majority_at n
+shape_at (Tree h) = tree_at h
+shape_at (Wheel k) = wheel_at k
+shape_at (Cyclic n base) = cyclic_at n base.items
+
+-- the text of a coterie whose voters are numbered
+abbrev pub numbered_text : QuorumSystem → List ℕ
+numbered_text system = coterie_text (record { system = system; names = numbered_names system.voters })
+
+abbrev pub make_answer_of : Shape → Result (List ℕ) Fault
+make_answer_of shape = refused_as Construct (shape_at shape) >>= λ system. Ok (numbered_text system)
+
 abbrev pub check_answer_of : List ℕ → Result (List ℕ) Fault
 check_answer_of input = planned_in input >>= λ p. Ok (check_text p)
 
@@ -108,17 +132,28 @@ deal_answer_of n input = planned_in input >>= λ p. Ok (deal_text p n)
 
 -- what a command writes for an input, or why it refuses it
 abbrev pub answer_of : Command → List ℕ → Result (List ℕ) Fault
+answer_of (Make shape) input = make_answer_of shape
 answer_of Check input = check_answer_of input
 answer_of (Deal n) input = deal_answer_of n input
 
+-- whether a command reads its input; `make` doesn't
+abbrev pub reads_input : Command → Bool
+reads_input (Make shape) = false
+reads_input Check = true
+reads_input (Deal n) = true
+
+-- the input is not too long, where the command reads it
+abbrev pub IsShortFor : Command → List ℕ → Type 0
+IsShortFor command input = reads_input command ≡ true → length input ≤ 16777216
+
 -- the command's answer to the input was written behind what there was
 abbrev pub Answers : Command → List ℕ → Option (List ℕ) → Option (List ℕ) → Type 0
-Answers command input old new = (length input ≤ 16777216) × IsOkAnd (answer_of command input) (Appends old new)
+Answers command input old new = IsShortFor command input × IsOkAnd (answer_of command input) (Appends old new)
 
 -- the fault is one that the input leads to: it is too long, or the command refuses it so; a device or memory may fail whatever the input is
 abbrev pub ComesOf : Command → List ℕ → Fault → Type 0
-ComesOf command input TooLong = 16777216 < length input
-ComesOf command input ReadFault = ⊤
+ComesOf command input TooLong = (reads_input command ≡ true) × (16777216 < length input)
+ComesOf command input ReadFault = reads_input command ≡ true
 ComesOf command input WriteFault = IsOk (answer_of command input)
 ComesOf command input OutOfMemory = ⊤
-ComesOf command input fault = (length input ≤ 16777216) × (answer_of command input ≡ Err fault)
+ComesOf command input fault = IsShortFor command input × (answer_of command input ≡ Err fault)

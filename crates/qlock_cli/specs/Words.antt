@@ -1,16 +1,34 @@
 -- The command line.
-use Rattle.std.specs.Prelude.{◌≡◌, ℕ, ◌≤◌, List, Option, None, Some, Ok, codes, true, false}
+use Rattle.std.specs.Prelude.{◌≡◌, ℕ, ◌≤◌, List, [], ◌∷◌, Option, None, Some, Ok, codes, true, false, unwrap_or, ⊤}
 use Rattle.std.specs.Str.Parse.{ParsesUnsigned}
-use Rattle.clap.specs.Words.{App, Row, Rule, Text, first_of, new_app, new_rule, with_rule, with_subcommand}
+use Rattle.clap.specs.Words.{App, Row, Rule, Text, all_of, first_of, new_app, new_rule, with_rule, with_subcommand}
 use Rattle.clap.specs.declared.builder.value_parser.ValueParser.TheVariants.{Unsigned}
+use Rattle.clap.specs.Lexer.{usize_max}
+use Rattle.clap.specs.declared.builder.range.ValueRange.{ValueRange}
 use Rattle.clap.specs.declared.builder.command.Command.{Command as Parser}
 use Rattle.clap.specs.declared.builder.command.Command.TheViews.{out-Command}
 use Rattle.qlock_cli.specs.declared.words.Command.{Command}
-use Rattle.qlock_cli.specs.declared.words.Command.TheVariants.{Check, Deal}
+use Rattle.qlock_cli.specs.declared.words.Command.TheVariants.{Check, Deal, Make}
+use Rattle.qlock_cli.specs.declared.words.Shape.{Shape}
+use Rattle.qlock_cli.specs.declared.words.Shape.TheVariants.{Cyclic, Grid, Majority, Tree, Wheel}
+
+-- any number of values, from none to the greatest number that a count can be
+abbrev pub any_count : ValueRange
+any_count = record { start_inclusive = 0; end_inclusive = usize_max }
 
 -- the command lines of the program: a subcommand, and for `deal` how many tickets
 abbrev pub tickets_rule : Rule
 tickets_rule = record (new_rule (codes "N")) { required = true; parser = Some (Unsigned 0 100000) }
+
+-- for `make` a shape, and behind it any number of sizes
+abbrev pub shape_rule : Rule
+shape_rule = record (new_rule (codes "SHAPE")) { required = true }
+
+abbrev pub sizes_rule : Rule
+sizes_rule = record (new_rule (codes "NUMBERS")) { range = Some any_count; parser = Some (Unsigned 0 9999) }
+
+abbrev pub make_app : App
+make_app = with_rule (with_rule (new_app (codes "make")) shape_rule) sizes_rule
 
 abbrev pub check_app : App
 check_app = new_app (codes "check")
@@ -22,15 +40,37 @@ abbrev pub required_subcommand : App → App
 required_subcommand a = record a { top = record a.top { subcommand_required = true } }
 
 abbrev pub qlock_app : App
-qlock_app = with_subcommand (with_subcommand (required_subcommand (new_app (codes "qlock"))) check_app.top) deal_app.top
+qlock_app = with_subcommand (with_subcommand (with_subcommand (required_subcommand (new_app (codes "qlock"))) make_app.top) check_app.top) deal_app.top
 
 -- the text is a numeral of n
 abbrev pub IsNumber : List ℕ → ℕ → Type 0
 IsNumber text n = ParsesUnsigned {E = ℕ} 32 10 text (Ok n)
 
+-- the texts are numerals of the sizes, which are at most 9999
+abbrev pub AreSizes : List Text → List ℕ → Type 0
+AreSizes [] [] = ⊤
+AreSizes [] (n ∷ sizes) = ⊥
+AreSizes (text ∷ texts) [] = ⊥
+AreSizes (text ∷ texts) (n ∷ sizes) = IsNumber text n × (n ≤ 9999) × AreSizes texts sizes
+
+-- the shape is the one with this name and these sizes
+abbrev pub IsShapeOf : Text → List ℕ → Shape → Type 0
+IsShapeOf name sizes (Grid r c) = (name ≡ codes "grid") × (sizes ≡ r ∷ c ∷ [])
+IsShapeOf name sizes (Majority n) = (name ≡ codes "majority") × (sizes ≡ n ∷ [])
+IsShapeOf name sizes (Tree h) = (name ≡ codes "tree") × (sizes ≡ h ∷ [])
+IsShapeOf name sizes (Wheel k) = (name ≡ codes "wheel") × (sizes ≡ k ∷ [])
+IsShapeOf name sizes (Cyclic n base) = (name ≡ codes "cyclic") × (sizes ≡ n ∷ base.items)
+
+-- the texts behind the shape
+abbrev pub size_texts : List Row → List Text
+size_texts rows = unwrap_or (all_of (codes "NUMBERS") rows) []
+
 -- the command is what the subcommand that was used and its values name
 abbrev pub IsNamedBy : Option (Text × List Row) → Command → Type 0
 IsNamedBy None command = ⊥
+IsNamedBy (Some used) (Make shape) =
+    (used.0 ≡ codes "make")
+    × ((name : List ℕ) × (first_of (codes "SHAPE") used.1 ≡ Some name) × ((sizes : List ℕ) × AreSizes (size_texts used.1) sizes × IsShapeOf name sizes shape))
 IsNamedBy (Some used) Check = used.0 ≡ codes "check"
 IsNamedBy (Some used) (Deal n) = (used.0 ≡ codes "deal") × ((text : List ℕ) × (first_of (codes "N") used.1 ≡ Some text) × IsNumber text n) × (n ≤ 100000)
 

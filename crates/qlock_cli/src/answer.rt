@@ -1,18 +1,20 @@
 //! What each command writes for its input.
 ghost use Rattle.std.specs.Prelude.{◌≡◌, ◌≤◌, ◌<◌, ◌++◌, length, IfErr, IfOk, slice_index, string_bytes};
 ghost use Rattle.std.specs.List.{range_with_len};
+ghost use Rattle.construct.specs.Answers as construct_answers;
 ghost use Rattle.coterie_file.specs.Named.{IsNamed};
 ghost use Rattle.certificate.specs.Certificates.{IsCertificate, cycle_len, load_of};
 ghost use Rattle.dealer.specs.Accounts.{account_of};
-ghost use Rattle.qlock_cli.specs.Commands.{Gives, account_text, answer_of, check_answer_of, check_text, coterie_part, deal_answer_of, deal_text, plan_part, planned_in};
+ghost use Rattle.qlock_cli.specs.Commands.{Gives, account_text, answer_of, check_answer_of, check_text, coterie_part, deal_answer_of, deal_text, make_answer_of, numbered_text, plan_part, planned_in, shape_at};
 ghost use Rattle.qlock_cli.specs.Devices.{IsOwn};
 
 use crate::fault::Fault;
 use crate::parts::split_part;
 use crate::texts::{load_line_of, push_account, push_tickets};
-use crate::words::Command;
+use crate::words::{Command, Shape};
 use certificate::{Plan, read_plan};
-use coterie_file::{FileFault, Named, read_coterie};
+use construct::{ConstructFault, cyclic, grid, majority, tree, wheel};
+use coterie_file::{FileFault, Named, read_coterie, write_coterie};
 use dealer::{Account, Cycle};
 use quorum_set::Coterie;
 use std::alloc::{AllocError, Global};
@@ -122,6 +124,42 @@ fn deal_text_of(alloc: Global, planned: Planned, count: u64) -> Result<String, A
     Ok(text)
 }
 
+/// The coterie of a shape and its sizes.
+fn shape_coterie(alloc: Global, shape: &Shape) -> Result<Coterie, ConstructFault>
+    ensures { construct_answers.Gives result (shape_at shape.now) }
+{
+    match shape {
+        Shape::Grid(rows, columns) => grid(alloc, *rows, *columns),
+        Shape::Majority(voters) => majority(alloc, *voters),
+        Shape::Tree(height) => tree(alloc, *height),
+        Shape::Wheel(rims) => wheel(alloc, *rims),
+        Shape::Cyclic(voters, base) => cyclic(alloc, *voters, base.as_slice()),
+    }
+}
+
+/// The text of a coterie whose voters are numbered.
+fn numbered_text_of(alloc: Global, coterie: Coterie) -> Result<String, AllocError>
+    ensures { IfOk result (λ text. string_bytes text ≡ numbered_text coterie) }
+{
+    let named = Named::numbered(alloc, coterie)?;
+    write_coterie(alloc, &named)
+}
+
+/// What `make` writes.
+fn make_answer(alloc: Global, shape: &Shape) -> Result<String, Fault>
+    ensures exact { Gives string_bytes result (make_answer_of shape.now) }
+    ensures own { IfErr result IsOwn }
+{
+    let coterie = match shape_coterie(alloc, shape) {
+        Ok(coterie) => coterie,
+        Err(fault) => return Err(Fault::from(fault)),
+    };
+    match numbered_text_of(alloc, coterie) {
+        Ok(text) => Ok(text),
+        Err(_) => Err(Fault::OutOfMemory),
+    }
+}
+
 /// What `check` writes for an input.
 fn check_answer(alloc: Global, input: &[u8]) -> Result<String, Fault>
     ensures exact { Gives string_bytes result (check_answer_of input.now) }
@@ -158,6 +196,7 @@ pub fn answer(alloc: Global, command: &Command, input: &[u8]) -> Result<String, 
     ensures own { IfErr result IsOwn }
 {
     match command {
+        Command::Make(shape) => make_answer(alloc, shape),
         Command::Check => check_answer(alloc, input),
         Command::Deal(count) => deal_answer(alloc, u64::from(*count), input),
     }

@@ -1,7 +1,7 @@
 //! Serving a command: the whole input is read, the whole answer is made, and then it is written.
-ghost use Rattle.std.specs.Prelude.{◌≡◌, false, IfErr, IfSome, OnOk};
-ghost use Rattle.qlock_cli.specs.Devices.{FailsAs, LeavesAlone};
-ghost use Rattle.qlock_cli.specs.Commands.{Answers, ComesOf};
+ghost use Rattle.std.specs.Prelude.{◌≡◌, true, false, IfErr, IfOk, IfSome, OnOk};
+ghost use Rattle.qlock_cli.specs.Devices.{FailsAs, IsOfReading, LeavesAlone};
+ghost use Rattle.qlock_cli.specs.Commands.{Answers, ComesOf, IsShortFor, reads_input};
 
 use crate::answer::answer;
 use crate::device::{read_input, write_output};
@@ -10,6 +10,21 @@ use crate::watched::Watched;
 use crate::words::Command;
 use std::alloc::Global;
 use std::io::{Read, Write};
+
+/// The input of a command: all of it, or nothing where the command doesn't read it.
+fn input_for<R: Read>(alloc: Global, command: &Command, reader: &mut Watched<R>) -> Result<Vec<u8>, Fault>
+    requires { reader.old.failed ≡ false }
+    ensures all { IfOk result (λ v. reads_input command.now ≡ true → IfSome (R.remaining reader.old.inner) (λ bytes. v.items ≡ bytes)) }
+    ensures short { IfOk result (λ v. IsShortFor command.now v.items) }
+    ensures refused { IfErr result (λ fault. (reads_input command.now ≡ true) × IsOfReading (R.remaining reader.old.inner) fault) }
+    ensures failed { FailsAs reader.new.failed false result }
+    ensures unread { reads_input command.now ≡ false → reader.new ≡ reader.old }
+{
+    match command {
+        Command::Make(_) => Ok(Vec::new(alloc)),
+        Command::Check | Command::Deal(_) => read_input(alloc, reader),
+    }
+}
 
 /// Serves a command: reads the input to its end, and writes the answer to it and nothing else.
 ///
@@ -35,10 +50,13 @@ pub fn execute<R: Read, W: Write>(
     // A refusal writes nothing, but for a write fault.
     ensures alone { IfErr result (λ fault. LeavesAlone fault (W.contents writer.old.inner) (W.contents writer.new.inner)) }
 
+    // What a command does not read is left in the reader.
+    ensures unread { reads_input command.now ≡ false → reader.new ≡ reader.old }
+
     // A read fault or write fault is answered exactly where that device failed.
     ensures devices { FailsAs reader.new.failed writer.new.failed result }
 {
-    let input = match read_input(alloc, reader) {
+    let input = match input_for(alloc, command, reader) {
         Ok(input) => input,
         Err(fault) => return Err(fault),
     };

@@ -1,9 +1,10 @@
 //! Why a command was refused.
 ghost use Rattle.std.specs.Prelude.{◌≡◌};
-ghost use Rattle.qlock_cli.specs.Faults.{file_refusal, plan_refusal};
+ghost use Rattle.qlock_cli.specs.Faults.{construct_refusal, file_refusal, plan_refusal};
 ghost use Rattle.qlock_cli.specs.declared.fault.Fault.TheVariants.{OutOfMemory};
 
 use certificate::PlanFault;
+use construct::ConstructFault;
 use coterie_file::FileFault;
 use std::alloc::{AllocError, AllocFailed};
 use thiserror::Error;
@@ -23,6 +24,9 @@ pub enum Fault {
     /// A write failed, or took no byte.
     #[error("I4 WriteFault")]
     WriteFault,
+    /// There is no coterie of this shape and these sizes.
+    #[error(transparent)]
+    Construct(ConstructFault),
     /// The coterie was refused.
     #[error(transparent)]
     File(FileFault),
@@ -47,6 +51,17 @@ impl<T: Drop> From<AllocFailed<T>> for Fault {
 
     fn from(_error: AllocFailed<T>) -> Fault {
         Fault::OutOfMemory
+    }
+}
+
+impl From<ConstructFault> for Fault {
+    ghost from_gives = { λ fault e. e ≡ construct_refusal fault };
+
+    fn from(fault: ConstructFault) -> Fault {
+        match fault {
+            ConstructFault::OutOfMemory => Fault::OutOfMemory,
+            _ => Fault::Construct(fault),
+        }
     }
 }
 

@@ -1,0 +1,13 @@
+use Rattle.std.proofs.Common.{◌≡◌, ◌<◌, ℕ, List, map, length, subst, arith, Bor}
+use Rattle.std.proofs.lemmas.List.{length-map}
+use Rattle.qlock_cli.specs.Words.{IsNumber}
+use Rattle.qlock_cli.proofs.WordLemmas.{AreSizes-more}
+use Rattle.qlock_cli.proofs.words.sizes_of.Goals as goal
+
+pub loop-i-preserved : goal.loop-i-preserved
+loop-i-preserved c =
+    let texts = map (λ t. t.now) c.args.texts.now in
+    let lt : c.loop-i.i < length texts = omega (arith, length-map {A = Bor (List ℕ)} {B = List ℕ} c.args.texts.now (λ t. t.now)) in
+    let number = subst (λ t. IsNumber t c.in-Some.size) c.text_at.ensures c.in-Some.ensures.0 in
+    let pushed = c.in_ok-push.ensures.items in
+    AreSizes-more texts c.loop-i.sizes.items c.push.new.self.items c.loop-i.i c.in-Some.size lt c.loop-i.invariant number c.in-Some.ensures.1 pushed

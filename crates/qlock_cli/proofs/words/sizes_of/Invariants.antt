@@ -1,0 +1,7 @@
+use Rattle.std.proofs.Common.{map, take}
+use Rattle.qlock_cli.specs.Words.{AreSizes}
+use Rattle.qlock_cli.proofs.words.sizes_of.Given as goal
+
+-- the sizes so far are those of the texts so far
+abbrev pub invariant-loop-i : goal.invariant-loop-i
+invariant-loop-i l = AreSizes (take l.i (map (λ t. t.now) l.texts)) l.sizes.items
