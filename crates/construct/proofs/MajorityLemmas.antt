@@ -1,9 +1,9 @@
 -- The majorities of n voters are a coterie.
-use Rattle.std.proofs.Common.{◌≡◌, ℕ, ◌+◌, ◌/◌, ◌<◌, ◌≤◌, true, false, eqb, leb, List, [], ◌∷◌, length, get_or, map, zero, suc, sym, refl, ◌∙◌, inl, inr, arith, length-append}
-use Rattle.std.specs.List.{All, AllPairs}
+use Rattle.std.proofs.Common.{ap, ◌++◌, ◌≡◌, ℕ, ◌+◌, ◌/◌, ◌<◌, ◌≤◌, true, false, eqb, leb, List, [], ◌∷◌, length, get_or, map, zero, suc, sym, refl, ◌∙◌, inl, inr, arith, length-append}
+use Rattle.std.specs.List.{All, AllPairs, Contains}
 use Rattle.std.proofs.lemmas.Bool.{true≢false, leb-true, or_right, cases_eq, cases_lt, agree_below_at}
-use Rattle.std.proofs.lemmas.List.{length-map}
-use Rattle.std.proofs.lemmas.List.Elements.{All-nil, All-cons, All-append, All-map}
+use Rattle.std.proofs.lemmas.List.{length-map, get_or-map}
+use Rattle.std.proofs.lemmas.List.Elements.{All-nil, All-cons, All-append, All-map, Contains-append_left, Contains-append_right}
 use Rattle.quorum_set.specs.Sets.{has, Ascends, IsSet}
 use Rattle.quorum_set.specs.Coteries.{IsCoterie}
 use Rattle.quorum_set.proofs.SetLemmas.{Ascends-lower, has-below, has-above, has-head, has-tail, length-Ascends}
@@ -44,6 +44,31 @@ choices low (suc n) (suc k) =
     All-append (IsChoice low (suc n) (suc k)) (map (λ s. low ∷ s) (sets_from (low + 1) n k)) (sets_from (low + 1) n (suc k))
     (All-map (IsChoice low (suc n) (suc k)) (λ s. low ∷ s) (sets_from (low + 1) n k) (λ j d lt. IsChoice-with low n k _ (choices (low + 1) n k j d lt)))
     (λ j d lt. IsChoice-without low n (suc k) _ (choices (low + 1) n (suc k) j d lt))
+
+-- each such list is among the sets
+Contains-map : (f : List ℕ → List ℕ) (xs : List (List ℕ)) (s : List ℕ) → Contains xs s → Contains (map f xs) (f s)
+Contains-map f xs s (k, lt, at) = (k, omega (arith, length-map xs f), get_or-map f xs k s (f s) lt ∙ ap f at)
+
+pub choices-all : (low n k : ℕ) (s : List ℕ) → Ascends low (low + n) s → length s ≡ k → Contains (sets_from low n k) s
+unfolding sets_from
+choices-all low n zero [] h long = (0, omega arith, refl)
+choices-all low n zero (x ∷ xs) h long = absurd (omega arith)
+choices-all low zero (suc k) [] h long = absurd (omega arith)
+choices-all low zero (suc k) (x ∷ xs) h long = absurd (omega (arith, h.0, h.1))
+choices-all low (suc n) (suc k) [] h long = absurd (omega arith)
+choices-all low (suc n) (suc k) (x ∷ xs) h long =
+    let up : low + suc n ≡ low + 1 + n = omega arith in
+    let with_low = map (λ s. low ∷ s) (sets_from (low + 1) n k) in
+    let without = sets_from (low + 1) n (suc k) in
+    elim (cases_eq x low) as (λ _. Contains (with_low ++ without) (x ∷ xs)) [
+      | inl first ↦
+          let rest : Ascends (low + 1) (low + 1 + n) xs = Ascends-lower (x + 1) (low + 1) (low + 1 + n) xs (omega arith) (rw up at h.2) in
+          Contains-append_left with_low without (x ∷ xs)
+          (rw first (Contains-map (λ s. low ∷ s) (sets_from (low + 1) n k) xs (choices-all (low + 1) n k xs rest (omega arith))))
+      | inr off ↦
+          Contains-append_right with_low without (x ∷ xs)
+          (choices-all (low + 1) n (suc k) (x ∷ xs) (rw up at (Ascends-after low (low + suc n) x xs off h)) long)
+    ]
 
 pub length-sets_from : (low n k : ℕ) → length (sets_from low n k) ≡ choose n k
 unfolding sets_from choose

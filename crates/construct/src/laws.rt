@@ -1,5 +1,6 @@
 //! Laws of the constructions: each is the contract of a function with an empty body, and holds for all sizes that it names.
-ghost use Rattle.std.specs.Prelude.{◌≡◌, ◌+◌, ◌*◌, ◌^◌, ◌<◌, ◌≤◌, ℕ, List, [], false, length, slice_index_or, IfErr};
+ghost use Rattle.std.specs.Prelude.{◌≡◌, ◌+◌, ◌*◌, ◌^◌, ◌<◌, ◌≤◌, ℕ, List, [], false, length, slice_index_or, All, Contains, IfErr};
+ghost use Rattle.quorum_set.specs.Sets.{Ascends};
 ghost use Rattle.quorum_set.specs.Coteries.{IsCoterie, coterie_of};
 ghost use Rattle.construct.specs.Cyclic.{cyclic_quorums, is_bad_base, as_construct, IsCyclicFault};
 ghost use Rattle.construct.specs.Majority.{sets_from, choose, majority_system};
@@ -46,6 +47,12 @@ pub fn cyclic_sets_cross_or_not()
 /// The majorities of up to 14 voters are a coterie: two sets of more than half of the voters meet.
 pub fn majorities_are_coteries()
     ensures { (n : ℕ) → 0 < n → n ≤ 14 → IsCoterie (majority_system n) }
+{}
+
+/// The list has exactly the sets of k of the n numbers from low on: each of its members is one, and each one is among its members.
+pub fn majorities_are_all_sets_of_their_size()
+    ensures listed { (low n k : ℕ) → All (λ s. Ascends low (low + n) s × (length s ≡ k)) (sets_from low n k) }
+    ensures complete { (low n k : ℕ) (s : List ℕ) → Ascends low (low + n) s → length s ≡ k → Contains (sets_from low n k) s }
 {}
 
 /// There are n over k sets of k of n numbers.

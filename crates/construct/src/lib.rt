@@ -29,9 +29,9 @@ mod tests;
 pub use fault::ConstructFault;
 pub use laws::{
     cyclic_coteries_have_a_quorum_for_each_shift, cyclic_sets_cross_or_not, grids_are_coteries,
-    grids_have_a_quorum_for_each_voter, majorities_are_combinations, majorities_are_coteries,
-    trees_are_coteries, trees_double_their_exponent, wheels_are_coteries,
-    wheels_have_a_quorum_for_each_spoke,
+    grids_have_a_quorum_for_each_voter, majorities_are_all_sets_of_their_size,
+    majorities_are_combinations, majorities_are_coteries, trees_are_coteries,
+    trees_double_their_exponent, wheels_are_coteries, wheels_have_a_quorum_for_each_spoke,
 };
 pub use shapes::cyclic::cyclic;
 pub use shapes::grid::grid;
