@@ -1,0 +1,36 @@
+-- Numbers as the code passes them, and what it forms of them.
+use Rattle.std.proofs.Common.{◌≡◌, ◌≢◌, ℤ, pos, ◌+ℤ◌, ◌-ℤ◌, ◌*ℤ◌, to_z, of_z, Result, Ok, Err, IsOk, IsErr, sym, subst, ap, ◌∙◌}
+use Rattle.std.specs.Int.{w128}
+use Rattle.std.proofs.lemmas.Bool.{true≢false}
+use Rattle.std.proofs.lemmas.Int.{to_z-of_z, fits_signed_from_abs}
+use Rattle.fraction.specs.declared.fault.FracFault.{FracFault}
+use Rattle.fraction.specs.Fractions.{Fits}
+use Rattle.fraction.proofs.Lowest.{product-some}
+
+-- a number as the code passes it
+pub passed : (z z' : ℤ) → Fits z → z ≡ z' → to_z w128 (of_z w128 z) ≡ z'
+passed z z' fits e = to_z-of_z w128 z (fits_signed_from_abs w128 z fits) ∙ e
+
+-- a product that was formed, as the code passes it
+pub passed-product : (z x y x' y' : ℤ) → x' ≡ x → y' ≡ y → (z ≡ x' *ℤ y') × Fits (x' *ℤ y') → to_z w128 (of_z w128 z) ≡ x *ℤ y
+passed-product z x y x' y' ex ey formed =
+    passed z (x' *ℤ y') (subst Fits (sym formed.0) formed.1) formed.0 ∙ ap (λ t. t *ℤ y') ex ∙ ap (λ t. x *ℤ t) ey
+
+pub passed_product-some : (z x y x' y' : ℤ) → x' ≡ x → y' ≡ y → (z ≡ x' *ℤ y') × Fits (x' *ℤ y') → x ≢ pos 0 → y ≢ pos 0 → to_z w128 (of_z w128 z) ≢ pos 0
+passed_product-some z x y x' y' ex ey formed some_x some_y = product-some x y _ some_x some_y (passed-product z x y x' y' ex ey formed)
+
+-- what does not fit as the code passes it does not fit
+
+pub product-unfit : (x y x' y' : ℤ) → x' ≡ x → y' ≡ y → ¬ Fits (x' *ℤ y') → ¬ Fits (x *ℤ y)
+product-unfit x y x' y' ex ey unfit fits = unfit (subst (λ t. Fits (t *ℤ y')) (sym ex) (subst (λ t. Fits (x *ℤ t)) (sym ey) fits))
+
+pub sum-unfit : (x y x' y' : ℤ) → x' ≡ x → y' ≡ y → ¬ Fits (x' +ℤ y') → ¬ Fits (x +ℤ y)
+sum-unfit x y x' y' ex ey unfit fits = unfit (subst (λ t. Fits (t +ℤ y')) (sym ex) (subst (λ t. Fits (x +ℤ t)) (sym ey) fits))
+
+pub difference-unfit : (x y x' y' : ℤ) → x' ≡ x → y' ≡ y → ¬ Fits (x' -ℤ y') → ¬ Fits (x -ℤ y)
+difference-unfit x y x' y' ex ey unfit fits = unfit (subst (λ t. Fits (t -ℤ y')) (sym ex) (subst (λ t. Fits (x -ℤ t)) (sym ey) fits))
+
+-- an answer that is a refusal, where what is wanted of an answer does not hold
+pub refused : {X : Type 0} (r : Result X FracFault) (P : Type 0) → IsErr r → ¬ P → (IsOk r → P) × (P → IsOk r)
+refused (Ok x) P err unmet = absurd (true≢false (sym err))
+refused (Err e) P err unmet = (λ ok. absurd (true≢false (sym ok)), λ p. absurd (unmet p))

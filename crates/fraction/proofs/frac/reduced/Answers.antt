@@ -1,0 +1,58 @@
+use Rattle.std.proofs.Common.{◌≡◌, ◌≢◌, ℕ, ◌/◌, ◌<◌, ◌≤◌, ◌^◌, ℤ, pos, unsigned_abs, to_z, of_z, sym, subst, ap, ◌∙◌, arith}
+use Rattle.std.specs.Int.{IsGcd, w128}
+use Rattle.std.specs.Int.Signed.{lt_z}
+use Rattle.std.specs.Bool.{beq}
+use Rattle.std.proofs.lemmas.Int.{to_z-of_z, to_z_pos, fits_signed_from_abs}
+use Rattle.std.proofs.Math.Nat.{div-le_self}
+use Rattle.fraction.specs.Fractions.{Fits, signed_of}
+use Rattle.fraction.proofs.Lowest.{IsDivided, divided-IsRatio, divided-IsReduced, abs-some, gcd-some}
+use Rattle.fraction.proofs.frac.reduced.Goals as goal
+
+-- what the calls answered, where the numbers are seen as the code passes them
+divided : (num den num' den' n n' d' : ℤ) (top bottom g : ℕ) → num' ≡ num → den' ≡ den → n' ≡ n → Fits den → top ≡ unsigned_abs num' → bottom ≡ unsigned_abs den' → IsGcd top bottom g → n ≡ signed_of (beq (lt_z num' (pos 0)) (lt_z den' (pos 0))) (top / g) → d' ≡ pos (bottom / g) → IsDivided num den g (record { num = n'; den = d' })
+divided num den num' den' n n' d' top bottom g num_is den_is n_is den_fits top_is bottom_is gcd signed d_is =
+    let at_top : top ≡ unsigned_abs num = top_is ∙ ap (λ z. unsigned_abs z) num_is in
+    let at_bottom : bottom ≡ unsigned_abs den = bottom_is ∙ ap (λ z. unsigned_abs z) den_is in
+    record {
+      divisor = subst (λ a. IsGcd a (unsigned_abs den) g) at_top (subst (λ b. IsGcd top b g) at_bottom gcd);
+      num_is = (cc);
+      den_is = (cc);
+    }
+
+-- the numbers as the code passes them
+as_passed : (z : ℤ) → Fits z → to_z w128 (of_z w128 z) ≡ z
+as_passed z fits = to_z-of_z w128 z (fits_signed_from_abs w128 z fits)
+
+below : (a b c : ℕ) → a ≤ b → b < c → a < c
+below a b c h k = omega arith
+
+is_divided : (c : goal.After-signed) → IsDivided c.args.num c.args.den c.gcd-common.result (record { num = to_z w128 (of_z w128 c.signed.result); den = to_z w128 (c.unsigned_abs-bottom.result / c.gcd-common.result) })
+is_divided c =
+    let num_is = as_passed c.args.num c.requires.num_fits in
+    let den_is = as_passed c.args.den c.requires.den_fits in
+    let bottom_is : c.unsigned_abs-bottom.result ≡ unsigned_abs c.args.den = c.unsigned_abs-bottom.ensures.value ∙ ap (λ z. unsigned_abs z) den_is in
+    let bottom_fits : c.unsigned_abs-bottom.result < 2 ^ 127 = subst (λ n. n < 2 ^ 127) (sym bottom_is) c.requires.den_fits in
+    divided _ _ _ _ c.signed.result _ _ c.unsigned_abs-top.result c.unsigned_abs-bottom.result _ num_is den_is
+    (to_z-of_z w128 c.signed.result (record { sfits = c.signed.type_inv }))
+    c.requires.den_fits c.unsigned_abs-top.ensures.value c.unsigned_abs-bottom.ensures.value c.gcd-common.ensures c.signed.ensures
+    (to_z_pos w128 _ (below _ _ _ (div-le_self c.unsigned_abs-bottom.result c.gcd-common.result) bottom_fits))
+
+some : (den den' : ℤ) (top bottom g : ℕ) → den' ≡ den → den ≢ pos 0 → bottom ≡ unsigned_abs den' → IsGcd top bottom g → 0 < g
+some den den' top bottom g den_is ne bottom_is gcd =
+    let at_bottom : unsigned_abs den ≡ bottom = ap (λ z. unsigned_abs z) (sym den_is) ∙ sym bottom_is in
+    gcd-some top bottom g gcd (subst (λ n. 0 < n) at_bottom (abs-some den ne))
+
+pub nonzero_div-top : goal.nonzero_div-top
+nonzero_div-top c = some c.args.den _ _ _ _ (as_passed c.args.den c.requires.den_fits) c.requires.divisor c.unsigned_abs-bottom.ensures.value c.gcd-common.ensures
+
+pub nonzero_div-result : goal.nonzero_div-result
+nonzero_div-result c = some c.args.den _ _ _ _ (as_passed c.args.den c.requires.den_fits) c.requires.divisor c.unsigned_abs-bottom.ensures.value c.gcd-common.ensures
+
+pub invariant_of-result : goal.invariant_of-result
+invariant_of-result c = divided-IsReduced _ _ _ _ (is_divided c) c.requires.divisor c.requires.num_fits c.requires.den_fits
+
+pub returns-clause-value : goal.returns-clause-value
+returns-clause-value c = divided-IsRatio _ _ _ _ (is_divided c)
+
+pub returns-clause-reduced : goal.returns-clause-reduced
+returns-clause-reduced c = divided-IsReduced _ _ _ _ (is_divided c) c.requires.divisor c.requires.num_fits c.requires.den_fits

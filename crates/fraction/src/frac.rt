@@ -1,0 +1,149 @@
+//! Fractions.
+ghost use Rattle.std.specs.Prelude.{◌≡◌, ◌≢◌, ◌↔◌, ◌<◌, ◌^◌, pos, ◌+ℤ◌, ◌-ℤ◌, ◌*ℤ◌, IsOk, IfOk, IfErr};
+ghost use Rattle.std.specs.Ordering.{int_cmp};
+ghost use Rattle.fraction.specs.Fractions.{signed_of, IsRatio, IsReduced, Fits, SumFits, DifferenceFits, ProductFits, QuotientFits, ComparisonFits};
+
+use crate::checked::{difference, fitting, product, sum};
+use crate::divisor::gcd;
+use crate::fault::FracFault;
+use std::cmp::Ordering;
+use std::marker::Model;
+
+/// A fraction in lowest terms: a numerator over a positive denominator, both of absolute value at most
+/// 2^127 - 1. Zero is 0/1. Contracts see the two.
+#[derive(Clone, Copy, Debug, PartialEq, Eq)]
+pub struct Frac {
+    num: i128,
+    den: i128,
+}
+
+impl Model for Frac {
+    ghost use Rattle.fraction.specs.Fractions.{Fraction, IsReduced};
+
+    ghost Value = { Fraction };
+
+    ghost view = { λ a. record { num = a.num; den = a.den } };
+
+    ghost invariant = { λ a. IsReduced (record { num = a.num; den = a.den }) };
+
+    ghost inverse = { λ f. record { num = f.num; den = f.den } };
+}
+
+/// The number of this absolute value that is at least 0, or the one that is at most 0.
+fn signed(is_positive: bool, size: u128) -> i128
+    requires { size < 2 ^ 127 }
+    ensures { result ≡ signed_of is_positive size }
+{
+    let number = size as i128;
+    if is_positive { number } else { -number }
+}
+
+/// The fraction num / den in lowest terms.
+fn reduced(num: i128, den: i128) -> Frac
+    requires divisor { den ≢ pos 0 }
+    requires num_fits { Fits num }
+    requires den_fits { Fits den }
+    ensures value { IsRatio num den result }
+    ensures reduced { IsReduced result }
+{
+    let top = num.unsigned_abs();
+    let bottom = den.unsigned_abs();
+    let common = gcd(top, bottom);
+    Frac {
+        num: signed((num < 0) == (den < 0), top / common),
+        den: (bottom / common) as i128,
+    }
+}
+
+impl Frac {
+    /// The fraction `num / den`. Refused are a denominator of 0 (`ZeroDivisor`), and then -2^127 as either number
+    /// (`Overflow`).
+    pub fn of(num: i128, den: i128) -> Result<Frac, FracFault>
+        ensures value { IfOk result (IsRatio num den) }
+        ensures reduced { IfOk result IsReduced }
+        ensures fits { IsOk result ↔ ((den ≢ pos 0) × Fits num × Fits den) }
+        ensures zero { (result ≡ Err FracFault.ZeroDivisor) ↔ (den ≡ pos 0) }
+    {
+        if den == 0 {
+            return Err(FracFault::ZeroDivisor);
+        }
+        Ok(reduced(fitting(num)?, fitting(den)?))
+    }
+
+    /// The numerator, in lowest terms.
+    pub fn num(self) -> i128
+        ensures value { result ≡ self.num }
+        ensures reduced { IsReduced self }
+    {
+        self.num
+    }
+
+    /// The denominator, in lowest terms; at least 1.
+    pub fn den(self) -> i128
+        ensures value { result ≡ self.den }
+        ensures reduced { IsReduced self }
+    {
+        self.den
+    }
+
+    /// The sum of `a/b` and `c/d`. Refused by `Overflow` exactly where `a * d`, `c * b`, `b * d` or
+    /// `a * d + c * b` does not fit.
+    pub fn add(self, other: Frac) -> Result<Frac, FracFault>
+        ensures value { IfOk result (IsRatio ((self.num *ℤ other.den) +ℤ (other.num *ℤ self.den)) (self.den *ℤ other.den)) }
+        ensures reduced { IfOk result IsReduced }
+        ensures fits { IsOk result ↔ SumFits self other }
+        ensures overflow { IfErr result (λ e. e ≡ FracFault.Overflow) }
+    {
+        let num = sum(product(self.num, other.den)?, product(other.num, self.den)?)?;
+        Ok(reduced(num, product(self.den, other.den)?))
+    }
+
+    /// The difference of `a/b` and `c/d`. Refused by `Overflow` exactly where `a * d`, `c * b`, `b * d` or
+    /// `a * d - c * b` does not fit.
+    pub fn sub(self, other: Frac) -> Result<Frac, FracFault>
+        ensures value { IfOk result (IsRatio ((self.num *ℤ other.den) -ℤ (other.num *ℤ self.den)) (self.den *ℤ other.den)) }
+        ensures reduced { IfOk result IsReduced }
+        ensures fits { IsOk result ↔ DifferenceFits self other }
+        ensures overflow { IfErr result (λ e. e ≡ FracFault.Overflow) }
+    {
+        let num = difference(product(self.num, other.den)?, product(other.num, self.den)?)?;
+        Ok(reduced(num, product(self.den, other.den)?))
+    }
+
+    /// The product of `a/b` and `c/d`. Refused by `Overflow` exactly where `a * c` or `b * d` does not fit.
+    pub fn mul(self, other: Frac) -> Result<Frac, FracFault>
+        ensures value { IfOk result (IsRatio (self.num *ℤ other.num) (self.den *ℤ other.den)) }
+        ensures reduced { IfOk result IsReduced }
+        ensures fits { IsOk result ↔ ProductFits self other }
+        ensures overflow { IfErr result (λ e. e ≡ FracFault.Overflow) }
+    {
+        let num = product(self.num, other.num)?;
+        Ok(reduced(num, product(self.den, other.den)?))
+    }
+
+    /// The quotient of `a/b` by `c/d`. Refused where `c` is 0 (`ZeroDivisor`), and then exactly where `a * d` or
+    /// `b * c` does not fit (`Overflow`).
+    pub fn div(self, other: Frac) -> Result<Frac, FracFault>
+        ensures value { IfOk result (IsRatio (self.num *ℤ other.den) (self.den *ℤ other.num)) }
+        ensures reduced { IfOk result IsReduced }
+        ensures fits { IsOk result ↔ ((other.num ≢ pos 0) × QuotientFits self other) }
+        ensures zero { (result ≡ Err FracFault.ZeroDivisor) ↔ (other.num ≡ pos 0) }
+    {
+        if other.num == 0 {
+            return Err(FracFault::ZeroDivisor);
+        }
+        let num = product(self.num, other.den)?;
+        Ok(reduced(num, product(self.den, other.num)?))
+    }
+
+    /// How `a/b` compares with `c/d`. Refused by `Overflow` exactly where `a * d` or `c * b` does not fit.
+    pub fn compare(self, other: Frac) -> Result<Ordering, FracFault>
+        ensures value { IfOk result (λ order. order ≡ int_cmp (self.num *ℤ other.den) (other.num *ℤ self.den)) }
+        ensures fits { IsOk result ↔ ComparisonFits self other }
+        ensures overflow { IfErr result (λ e. e ≡ FracFault.Overflow) }
+    {
+        let left = product(self.num, other.den)?;
+        let right = product(other.num, self.den)?;
+        Ok(left.cmp(&right))
+    }
+}

@@ -1,0 +1,24 @@
+//! Fractions of 128-bit numbers with exact answers: a call gives the exact value in lowest terms, or refuses.
+//!
+//! Nothing is rounded and nothing wraps. Where a number that a call forms on its way does not fit, the call
+//! answers `Overflow`; so whoever reckons with these fractions has the exact result or knows that there is none.
+//!
+//! This crate stands on no other. The simplex method above it reckons with these fractions.
+//!
+//! ```text
+//! let half = Frac::of(1, 2)?;
+//! let third = Frac::of(2, 6)?;
+//! assert_eq!(rt; half.add(third)?, Frac::of(5, 6)?);
+//! assert_eq!(rt; half.compare(third)?, Ordering::Greater);
+//! ```
+#![tactic(auto)]
+
+mod checked;
+mod divisor;
+mod fault;
+mod frac;
+#[cfg(test)]
+mod tests;
+
+pub use fault::FracFault;
+pub use frac::Frac;
