@@ -1,0 +1,28 @@
+//! Candidate weights for a coterie's quorums and voters, by the simplex method in exact fractions.
+//!
+//! How much to use each quorum, so that no voter is used more than once and the quorums are used as much as can
+//! be, is a linear program; its solution loads the busiest voter least, and the solution of its dual weighs the
+//! voters (Naor and Wool, SIAM J. Comput. 27(2), 1998). Here the program is solved by Dantzig's simplex method
+//! from the empty solution, and both solutions are scaled to whole numbers.
+//!
+//! Nothing is claimed of the numbers but how many there are: whether they are a certificate is decided by
+//! `certificate::check`, so nobody has to trust the method. This crate stands on `quorum_set` and `fraction`.
+//!
+//! ```text
+//! // Any two of three voters.
+//! let candidate = solve(alloc, &majority, 10_000)?;
+//! assert_eq!(rt; candidate.a.len(), 3);
+//! assert_eq!(rt; candidate.b.len(), 3);
+//! ```
+#![tactic(auto)]
+
+mod candidate;
+mod choice;
+mod fault;
+mod tableau;
+#[cfg(test)]
+mod tests;
+
+pub use candidate::{Candidate, solve, solve_by};
+pub use choice::Rule;
+pub use fault::SimplexFault;

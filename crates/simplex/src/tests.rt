@@ -1,0 +1,51 @@
+use super::*;
+use quorum_set::{Coterie, QSet};
+use std::alloc::{AllocError, Global};
+use std::test::Fail;
+
+fn set_of(members: &[u8]) -> QSet {
+    let mut set = QSet::empty();
+    for i in members {
+        if *i < 64 {
+            set.insert(*i);
+        }
+    }
+    set
+}
+
+/// A hub 0 and three rims: each spoke, and the rims.
+fn wheel(alloc: Global) -> Result<Coterie, Fail> {
+    let mut sets = Vec::new(alloc);
+    for spoke in [[0u8, 1], [0, 2], [0, 3]] {
+        sets.push(set_of(spoke.as_slice()))?;
+    }
+    sets.push(set_of([1u8, 2, 3].as_slice()))?;
+    Ok(Coterie::of(4, sets)?)
+}
+
+/// The numbers of a candidate, or the fault.
+fn shown(alloc: Global, answer: Result<Candidate, SimplexFault>) -> Result<String, AllocError> {
+    match answer {
+        Ok(c) => format!(in alloc; "{:?} {:?}", c.a, c.b),
+        Err(fault) => fault.to_string(alloc),
+    }
+}
+
+#[test]
+fn the_wheel_is_solved(rt: HostRuntime) -> Result<(), Fail> {
+    let alloc = rt.alloc();
+    let wheel = wheel(alloc)?;
+    assert_eq!(rt;
+        shown(alloc, solve(alloc, &wheel, 0))?.as_str(),
+        "S2 PivotLimit"
+    );
+    assert_eq!(rt;
+        shown(alloc, solve(alloc, &wheel, 10_000))?.as_str(),
+        "[1, 1, 1, 2] [2, 1, 1, 1]"
+    );
+    assert_eq!(rt;
+        shown(alloc, solve_by(alloc, &wheel, Rule::LeastPivot, 10_000))?.as_str(),
+        "[1, 1, 1, 2] [2, 1, 1, 1]"
+    );
+    Ok(())
+}
