@@ -1,0 +1,32 @@
+-- Uniform coteries, which all weights 1 certify.
+use Rattle.std.specs.Prelude.{◌≡◌, ℕ, ◌<◌, List, length, count_by, replicate}
+use Rattle.std.specs.List.{All}
+use Rattle.quorum_set.specs.Sets.{has}
+use Rattle.quorum_set.specs.Coteries.{QuorumSystem}
+use Rattle.certificate.specs.Certificates.{Weighted}
+use Rattle.planner.specs.declared.fault.PlannerFault.{PlannerFault}
+use Rattle.planner.specs.declared.fault.PlannerFault.TheVariants.{NoPlan, OutOfMemory}
+
+-- in how many quorums a voter stands
+abbrev pub degree_of : QuorumSystem → ℕ → ℕ
+degree_of s i = count_by (λ q. has q i) s.quorums
+
+-- All quorums have one size, and all voters stand in equally many quorums (Naor and Wool, SIAM J. Comput. 27(2), 1998, on fair systems).
+pub record IsUniform (s : QuorumSystem) : Type 0 where
+  pub size : ℕ
+  pub degree : ℕ
+  pub quorums : All (λ q. length q ≡ size) s.quorums
+  pub voters : (i : ℕ) → i < s.voters → degree_of s i ≡ degree
+
+-- the number 1, n times
+abbrev pub ones : ℕ → List ℕ
+ones n = replicate n 1
+
+-- all weights 1
+abbrev pub all_ones : QuorumSystem → Weighted
+all_ones s = record { system = s; quorum_weights = ones (length s.quorums); voter_weights = ones s.voters }
+
+-- there is no plan but where the coterie is not uniform
+abbrev pub IsWarranted : QuorumSystem → PlannerFault → Type 0
+IsWarranted s OutOfMemory = Unit {0}
+IsWarranted s (NoPlan cause) = ¬ IsUniform s

@@ -1,0 +1,119 @@
+use super::*;
+use certificate::write_plan;
+use quorum_set::{Coterie, QSet};
+use std::alloc::{AllocError, Global};
+use std::test::Fail;
+
+fn set_of(members: &[u8]) -> QSet {
+    let mut set = QSet::empty();
+    for i in members {
+        if *i < 64 {
+            set.insert(*i);
+        }
+    }
+    set
+}
+
+fn coterie_of(alloc: Global, voters: usize, quorums: &[&[u8]]) -> Result<Coterie, Fail> {
+    let mut sets = Vec::new(alloc);
+    for members in quorums {
+        sets.push(set_of(members))?;
+    }
+    Ok(Coterie::of(voters, sets)?)
+}
+
+/// The text of the plan, or of the fault.
+fn planned(alloc: Global, voters: usize, quorums: &[&[u8]]) -> Result<String, Fail> {
+    match plan(alloc, &coterie_of(alloc, voters, quorums)?) {
+        Ok(plan) => Ok(write_plan(alloc, &plan)?),
+        Err(fault) => Ok(fault.to_string(alloc)?),
+    }
+}
+
+#[test]
+fn wheels_are_planned(rt: HostRuntime) -> Result<(), Fail> {
+    let alloc = rt.alloc();
+    let three: [&[u8]; 4] = [&[0, 1], &[0, 2], &[0, 3], &[1, 2, 3]];
+    assert_eq!(rt;
+        planned(alloc, 4, three.as_slice())?.as_str(),
+        "quorum-plan 1\nload 3/5\ncycle 5\nquorum 1 1 1 2\nvoter 2 1 1 1\n"
+    );
+    let four: [&[u8]; 5] = [&[0, 1], &[0, 2], &[0, 3], &[0, 4], &[1, 2, 3, 4]];
+    assert_eq!(rt;
+        planned(alloc, 5, four.as_slice())?.as_str(),
+        "quorum-plan 1\nload 4/7\ncycle 7\nquorum 1 1 1 1 3\nvoter 3 1 1 1 1\n"
+    );
+    let dictator: [&[u8]; 1] = [&[0]];
+    assert_eq!(rt;
+        planned(alloc, 3, dictator.as_slice())?.as_str(),
+        "quorum-plan 1\nload 1/1\ncycle 1\nquorum 1\nvoter 1 0 0\n"
+    );
+    Ok(())
+}
+
+#[test]
+fn uniform_coteries_are_planned(rt: HostRuntime) -> Result<(), Fail> {
+    let alloc = rt.alloc();
+    let majority: [&[u8]; 3] = [&[0, 1], &[0, 2], &[1, 2]];
+    assert_eq!(rt;
+        planned(alloc, 3, majority.as_slice())?.as_str(),
+        "quorum-plan 1\nload 2/3\ncycle 3\nquorum 1 1 1\nvoter 1 1 1\n"
+    );
+    let one: [&[u8]; 1] = [&[0]];
+    assert_eq!(rt;
+        planned(alloc, 1, one.as_slice())?.as_str(),
+        "quorum-plan 1\nload 1/1\ncycle 1\nquorum 1\nvoter 1\n"
+    );
+    let cyclic: [&[u8]; 7] = [
+        &[0, 1, 3],
+        &[1, 2, 4],
+        &[2, 3, 5],
+        &[3, 4, 6],
+        &[0, 4, 5],
+        &[1, 5, 6],
+        &[0, 2, 6],
+    ];
+    assert_eq!(rt;
+        planned(alloc, 7, cyclic.as_slice())?.as_str(),
+        "quorum-plan 1\nload 3/7\ncycle 7\nquorum 1 1 1 1 1 1 1\nvoter 1 1 1 1 1 1 1\n"
+    );
+    let grid: [&[u8]; 4] = [&[0, 1, 2], &[0, 1, 3], &[0, 2, 3], &[1, 2, 3]];
+    assert_eq!(rt;
+        planned(alloc, 4, grid.as_slice())?.as_str(),
+        "quorum-plan 1\nload 3/4\ncycle 4\nquorum 1 1 1 1\nvoter 1 1 1 1\n"
+    );
+    Ok(())
+}
+
+#[test]
+fn the_tree_of_height_two_has_load_one_half(rt: HostRuntime) -> Result<(), Fail> {
+    let alloc = rt.alloc();
+    let tree: [&[u8]; 15] = [
+        &[0, 1, 3],
+        &[0, 1, 4],
+        &[0, 3, 4],
+        &[0, 2, 5],
+        &[0, 2, 6],
+        &[0, 5, 6],
+        &[1, 2, 3, 5],
+        &[1, 2, 3, 6],
+        &[1, 3, 5, 6],
+        &[1, 2, 4, 5],
+        &[1, 2, 4, 6],
+        &[1, 4, 5, 6],
+        &[2, 3, 4, 5],
+        &[2, 3, 4, 6],
+        &[3, 4, 5, 6],
+    ];
+    let plan = plan(alloc, &coterie_of(alloc, 7, tree.as_slice())?)?;
+    assert_eq!(rt; plan.load(), (1, 2));
+    Ok(())
+}
+
+#[test]
+fn causes_are_printed_by_their_codes(rt: HostRuntime) -> Result<(), Fail> {
+    let alloc = rt.alloc();
+    let fault = PlannerFault::NoPlan(Cause::PivotLimit);
+    assert_eq!(rt; fault.to_string(alloc)?.as_str(), "N1 NoPlan S2");
+    Ok(())
+}
