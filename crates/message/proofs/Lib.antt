@@ -1,0 +1,3 @@
+pub mod FieldLemmas
+pub mod LineEnds
+pub mod Numbers

@@ -1,0 +1,64 @@
+-- The one line of each message: its word, and then each of its numbers in decimal with a space before it.
+use Rattle.std.specs.Prelude.{ℕ, ◌≡◌, ◌<◌, ◌≤◌, ◌^◌, List, [], ◌∷◌, ◌++◌, codes}
+use Rattle.message.specs.declared.message.Message.{Message}
+use Rattle.message.specs.declared.message.Message.TheVariants as kinds
+use Rattle.message.specs.declared.message.VoterBody.{VoterBody}
+use Rattle.message.specs.declared.message.VoterBody.TheVariants as asks
+use Rattle.message.specs.declared.message.ClientBody.{ClientBody}
+use Rattle.message.specs.declared.message.ClientBody.TheVariants as tells
+use Rattle.message.specs.Fields.{fields}
+
+-- REQUEST, RELINQUISH and RELEASE, from a client to a voter
+abbrev pub voter_word : VoterBody → List ℕ
+voter_word (asks.Request stamp) = codes "request"
+voter_word (asks.Relinquish grant) = codes "relinquish"
+voter_word (asks.Release stamp) = codes "release"
+
+abbrev pub voter_number : VoterBody → ℕ
+voter_number (asks.Request stamp) = stamp
+voter_number (asks.Relinquish grant) = grant
+voter_number (asks.Release stamp) = stamp
+
+-- LOCKED, FAIL and INQUIRE, from a voter to a client
+abbrev pub client_word : ClientBody → List ℕ
+client_word (tells.Locked stamp grant) = codes "locked"
+client_word (tells.Fail stamp) = codes "fail"
+client_word (tells.Inquire grant) = codes "inquire"
+
+abbrev pub client_numbers : ClientBody → List ℕ
+client_numbers (tells.Locked stamp grant) = stamp ∷ grant ∷ []
+client_numbers (tells.Fail stamp) = stamp ∷ []
+client_numbers (tells.Inquire grant) = grant ∷ []
+
+abbrev pub word_of : Message → List ℕ
+word_of (kinds.ToVoter m) = voter_word m.body
+word_of (kinds.ToClient m) = client_word m.body
+
+-- the sender, the receiver, what the body has, and from a voter the highest stamp that it saw
+abbrev pub numbers_of : Message → List ℕ
+numbers_of (kinds.ToVoter m) = m.client ∷ m.voter ∷ voter_number m.body ∷ []
+numbers_of (kinds.ToClient m) = m.voter ∷ m.client ∷ client_numbers m.body ++ m.seen ∷ []
+
+-- the one line of a message, without its newline
+abbrev pub message_line : Message → List ℕ
+message_line m = word_of m ++ fields (numbers_of m)
+
+-- a stamp or a grant's number: from 1, and below 2^64
+abbrev pub IsCount : ℕ → Type 0
+IsCount n = (1 ≤ n) × (n < 2 ^ 64)
+
+abbrev pub AreCounts : ClientBody → Type 0
+AreCounts (tells.Locked stamp grant) = IsCount stamp × IsCount grant
+AreCounts (tells.Fail stamp) = IsCount stamp
+AreCounts (tells.Inquire grant) = IsCount grant
+
+-- a client or a voter is at most 63, and each stamp and grant is a count
+abbrev pub HasLine : Message → Type 0
+HasLine (kinds.ToVoter m) = (m.client ≤ 63) × (m.voter ≤ 63) × IsCount (voter_number m.body)
+HasLine (kinds.ToClient m) = (m.voter ≤ 63) × (m.client ≤ 63) × (m.seen < 2 ^ 64) × AreCounts m.body
+
+-- the message of this word and these numbers
+pub record IsMessageOf (m : Message) (word numbers : List ℕ) : Type 0 where
+  pub has_line : HasLine m
+  pub word_is : word ≡ word_of m
+  pub numbers_are : numbers ≡ numbers_of m

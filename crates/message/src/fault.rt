@@ -1,0 +1,10 @@
+//! What keeps a line from being a message's.
+use thiserror::Error;
+
+/// Why bytes are no message.
+#[derive(Clone, Copy, Debug, PartialEq, Eq, Error)]
+pub enum MessageFault {
+    /// The bytes are not the line of any message.
+    #[error("M1 BadLine")]
+    BadLine,
+}

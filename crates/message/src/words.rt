@@ -1,0 +1,96 @@
+//! Words and numbers of a line, with one space between each two.
+ghost use Rattle.std.specs.Prelude.{◌≡◌, ◌<◌, ◌≤◌, ◌^◌, ◌++◌, ◌∷◌, ◌==◌, ℕ, List, IfSome, MatchOption, length, position};
+ghost use Rattle.std.specs.Bool.{OnFalse, OnTrue};
+ghost use Rattle.std.specs.Fmt.{decimal};
+ghost use Rattle.std.specs.List.{position_or_len};
+ghost use Rattle.message.specs.Fields.{AllFit, HasNoSpace, IsBorder, IsPlain, fields};
+
+fn is_plain(digits: &[u8]) -> bool
+    ensures plain { OnTrue result (IsPlain digits.now) }
+    ensures other { OnFalse result (¬ (IsPlain digits.now)) }
+{
+    match digits {
+        [] | [b'+', ..] | [b'0', _, ..] => false,
+        _ => true,
+    }
+}
+
+/// The number that these bytes spell, all of them: in decimal, without a sign or a leading zero.
+pub fn number(digits: &[u8]) -> Option<u64>
+    // What is read is spelled so.
+    ensures spelled { IfSome result (λ n. digits.now ≡ decimal n) }
+    // What is spelled so is read.
+    ensures read { (n : ℕ) → n < 2 ^ 64 → digits.now ≡ decimal n → result ≡ Some n }
+{
+    if !is_plain(digits) {
+        return None;
+    }
+    match str::from_utf8(digits) {
+        Ok(text) => match text.parse::<u64>() {
+            Ok(n) => Some(n),
+            Err(_) => None,
+        },
+        Err(_) => None,
+    }
+}
+
+fn first_space(bytes: &[u8]) -> Option<usize>
+    ensures { result ≡ position (λ b. b == 32) bytes.now }
+{
+    bytes.iter().position(|b| *b == b' ')
+}
+
+fn word_len(bytes: &[u8]) -> usize
+    ensures place { result ≡ position_or_len (λ b. b == 32) bytes.now }
+    ensures bound { result ≤ length bytes.now }
+{
+    match first_space(bytes) {
+        Some(place) => place,
+        None => bytes.len(),
+    }
+}
+
+/// What stands before the first space, and the rest from that space on, which is nothing where there is no space.
+pub fn cut(bytes: &[u8]) -> (&[u8], &[u8])
+    ensures whole { bytes.now ≡ result.0.now ++ result.1.now }
+    ensures word { HasNoSpace result.0.now }
+    ensures border { IsBorder result.1.now }
+    ensures read { (word rest : List ℕ) → HasNoSpace word → IsBorder rest → bytes.now ≡ word ++ rest
+        → (result.0.now ≡ word) × (result.1.now ≡ rest) }
+{
+    bytes.split_at(word_len(bytes))
+}
+
+/// The number that stands at the front with a space before it, and what follows it.
+pub fn field(bytes: &[u8]) -> Option<(u64, &[u8])>
+    ensures spelled { IfSome result (λ x. bytes.now ≡ (32 ∷ decimal x.0) ++ x.1.now) }
+    ensures border { IfSome result (λ x. IsBorder x.1.now) }
+    ensures read { (n : ℕ) (rest : List ℕ) → n < 2 ^ 64 → IsBorder rest → bytes.now ≡ (32 ∷ decimal n) ++ rest
+        → MatchOption result ⊥ (λ x. (x.0 ≡ n) × (x.1.now ≡ rest)) }
+{
+    match bytes.split_first() {
+        Some((b' ', after)) => {
+            let (digits, rest) = cut(after);
+            match number(digits) {
+                Some(n) => Some((n, rest)),
+                None => None,
+            }
+        }
+        _ => None,
+    }
+}
+
+/// The numbers of exactly `N` fields, which are all of the bytes.
+pub fn fields<const N: usize>(bytes: &[u8]) -> Option<[u64; N]>
+    ensures spelled { IfSome result (λ ns. bytes.now ≡ fields ns) }
+    ensures read { (ns : List ℕ) → length ns ≡ N → AllFit ns → bytes.now ≡ fields ns → result ≡ Some ns }
+{
+    let mut numbers = [0; N];
+    let mut rest = bytes;
+    for place in 0..N {
+        let (n, after) = field(rest)?;
+        numbers[place] = n;
+        rest = after;
+    }
+    if rest.is_empty() { Some(numbers) } else { None }
+}
