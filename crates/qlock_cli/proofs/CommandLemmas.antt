@@ -13,9 +13,16 @@ use Rattle.certificate.specs.PlanTexts as plan_texts
 use Rattle.certificate.specs.declared.fault.PlanFault.{PlanFault}
 use Rattle.certificate.specs.declared.fault.PlanFault.TheVariants as plan
 use Rattle.quorum_set.specs.Coteries.{QuorumSystem}
-use Rattle.qlock_cli.specs.Commands.{Refuses, coterie_part, refused_as}
-use Rattle.qlock_cli.specs.Faults.{construct_refusal, file_refusal, plan_refusal}
+use Rattle.qlock_cli.specs.Commands.{IsRefusedBy, Refuses, coterie_part, refused_as}
+use Rattle.qlock_cli.specs.Faults.{IsOfFile, construct_refusal, file_refusal, plan_refusal, planner_refusal}
+use Rattle.planner.specs.Uniform.{IsWarranted}
+use Rattle.planner.specs.declared.fault.PlannerFault.{PlannerFault}
+use Rattle.planner.specs.declared.fault.PlannerFault.TheVariants as planner
+use Rattle.coterie_file.specs.Named.{NamedSystem}
+use Rattle.qlock_cli.specs.declared.fault.Fault.{Fault}
+use Rattle.qlock_cli.specs.declared.fault.Fault.TheVariants as faults
 use Rattle.qlock_cli.specs.declared.fault.Fault.TheVariants.{Construct, File, Plan}
+use Rattle.qlock_cli.specs.declared.words.Command.TheVariants as commands
 
 is_no_text : (bytes : List ℕ) (b : Bool) → is_utf8 bytes ≡ b → (IsUtf8 bytes → ⊥) → b ≡ false
 is_no_text bytes true e none = absurd (none (IsUtf8-from_is_utf8 bytes e))
@@ -43,3 +50,20 @@ plan_refused fault wanted e = ap (refused_as Plan) e
 pub construct_refused : (fault : ConstructFault) (wanted : Result QuorumSystem ConstructFault) → construct_answers.Refuses fault wanted → Refuses (construct_refusal fault) (refused_as Construct wanted)
 construct_refused construct.OutOfMemory wanted e = tt
 construct_refused fault wanted e = ap (refused_as Construct) e
+
+-- a refusal of the planner is one of the command `plan`
+pub planner_refused : (input : List ℕ) (named : NamedSystem) (fault : PlannerFault) → coterie_part input ≡ Ok named → IsWarranted named.system fault → IsRefusedBy commands.Plan input (planner_refusal fault)
+planner_refused input named planner.OutOfMemory e h = tt
+planner_refused input named (planner.NoPlan cause) e h = record { named = named; coterie = e; warranted = h; }
+
+-- a refusal of the coterie is one of the command `plan`
+pub coterie_refused : (input : List ℕ) (fault : Fault) → IsOfFile fault → Refuses fault (coterie_part input) → IsRefusedBy commands.Plan input fault
+coterie_refused input faults.OutOfMemory of h = tt
+coterie_refused input (faults.Planner fault) of h = absurd of
+coterie_refused input faults.TooLong of h = h
+coterie_refused input faults.ReadFault of h = h
+coterie_refused input faults.WriteFault of h = h
+coterie_refused input (faults.MissingPart k) of h = h
+coterie_refused input (faults.Construct fault) of h = h
+coterie_refused input (faults.File fault) of h = h
+coterie_refused input (faults.Plan fault) of h = h

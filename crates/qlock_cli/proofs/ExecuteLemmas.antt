@@ -1,14 +1,23 @@
--- Lemmas on what leads to a fault.
-use Rattle.std.proofs.Common.{◌≡◌, ℕ, Bool, true, false, List, Option, None, Some, Result, Ok, Err, subst, sym, refl}
-use Rattle.std.specs.Prelude.{IfSome, IsOk, IsOkAnd, ⊤}
+-- Lemmas on what leads to an answer or to a fault.
+use Rattle.std.proofs.Common.{◌≡◌, ℕ, Bool, true, false, List, Option, None, Some, Result, Ok, Err, subst, refl}
+use Rattle.std.specs.Prelude.{IfSome, ⊤}
 use Rattle.std.specs.Io.KnownBytes.{Appends}
-use Rattle.qlock_cli.specs.Commands.{Answers, ComesOf, IsShortFor, Refuses, answer_of, reads_input}
+use Rattle.qlock_cli.specs.Commands.{Answers, ComesOf, Gives, IsAnswer, IsAnswered, IsRefusal, IsRefusedBy, IsShortFor, reads_input}
 use Rattle.qlock_cli.specs.Devices.{FailsAs, IsOfReading, IsOwn, LeavesAlone}
 use Rattle.qlock_cli.specs.declared.fault.Fault.{Fault}
-use Rattle.qlock_cli.specs.declared.fault.Fault.TheVariants.{MissingPart, TooLong, ReadFault, WriteFault, Construct, File, Plan, OutOfMemory}
+use Rattle.qlock_cli.specs.declared.fault.Fault.TheVariants as faults
+use Rattle.qlock_cli.specs.declared.fault.Fault.TheVariants.{MissingPart, TooLong, ReadFault, WriteFault, Construct, File, Planner, OutOfMemory}
 use Rattle.qlock_cli.specs.declared.words.Command.{Command}
-use Rattle.qlock_cli.specs.declared.words.Command.TheVariants.{Check, Deal, Make}
+use Rattle.qlock_cli.specs.declared.words.Command.TheVariants.{Check, Deal, Make, Plan}
 use Rattle.qlock_cli.specs.declared.words.Shape.{Shape}
+
+-- a result that gives the wanted answer is the command's answer, where the wanted one is
+pub answered : {X : Type 0} (view : X → List ℕ) (command : Command) (input : List ℕ) (wanted : Result (List ℕ) Fault) (result : Result X Fault)
+    → ((output : List ℕ) → wanted ≡ Ok output → IsAnswer command input output) → ((fault : Fault) → wanted ≡ Err fault → IsRefusal command input fault)
+    → Gives view result wanted → IsAnswered view command input result
+answered view command input wanted (Ok x) ok err h = ok (view x) h
+answered view command input wanted (Err OutOfMemory) ok err h = tt
+answered view command input wanted (Err fault) ok err h = err fault h
 
 -- a fault of reading comes of what was read
 pub reading_comes : (command : Command) (bytes : Option (List ℕ)) (fault : Fault) → reads_input command ≡ true → IsOfReading bytes fault → IfSome bytes (λ input. ComesOf command input fault)
@@ -20,10 +29,11 @@ reading_comes command (Some input) WriteFault reads h = absurd h
 reading_comes command (Some input) (MissingPart k) reads h = absurd h
 reading_comes command (Some input) (Construct fault) reads h = absurd h
 reading_comes command (Some input) (File fault) reads h = absurd h
-reading_comes command (Some input) (Plan fault) reads h = absurd h
+reading_comes command (Some input) (faults.Plan fault) reads h = absurd h
+reading_comes command (Some input) (Planner fault) reads h = absurd h
 
 -- a fault of the command's own comes of the input
-pub own_comes : (command : Command) (input : List ℕ) (fault : Fault) → IsOwn fault → IsShortFor command input → Refuses fault (answer_of command input) → ComesOf command input fault
+own_comes : (command : Command) (input : List ℕ) (fault : Fault) → IsOwn fault → IsShortFor command input → IsRefusedBy command input fault → ComesOf command input fault
 own_comes command input TooLong own short h = absurd own
 own_comes command input ReadFault own short h = absurd own
 own_comes command input WriteFault own short h = absurd own
@@ -31,18 +41,8 @@ own_comes command input OutOfMemory own short h = tt
 own_comes command input (MissingPart k) own short h = (short, h)
 own_comes command input (Construct fault) own short h = (short, h)
 own_comes command input (File fault) own short h = (short, h)
-own_comes command input (Plan fault) own short h = (short, h)
-
--- no device has failed at a fault of the command's own
-pub own_fails : (fault : Fault) → IsOwn fault → FailsAs {A = Unit {0}} false false (Err fault)
-own_fails TooLong own = absurd own
-own_fails ReadFault own = absurd own
-own_fails WriteFault own = absurd own
-own_fails OutOfMemory own = (refl, refl)
-own_fails (MissingPart k) own = (refl, refl)
-own_fails (Construct fault) own = (refl, refl)
-own_fails (File fault) own = (refl, refl)
-own_fails (Plan fault) own = (refl, refl)
+own_comes command input (faults.Plan fault) own short h = (short, h)
+own_comes command input (Planner fault) own short h = (short, h)
 
 -- what holds of the input that was read holds of the known bytes
 of_known : (P : List ℕ → Type 0) (bytes : Option (List ℕ)) (input : List ℕ) → IfSome bytes (λ known. input ≡ known) → P input → IfSome bytes P
@@ -55,6 +55,7 @@ for_known : (P : Command → List ℕ → Type 0) (command : Command) (bytes : O
     → (reads_input command ≡ true → IfSome bytes (λ known. input ≡ known)) → P command input → IfSome bytes (P command)
 for_known P command None input idle same h = tt
 for_known P (Make shape) (Some known) input idle same h = idle shape input known h
+for_known P Plan (Some known) input idle same h = of_known (P Plan) (Some known) input (same refl) h
 for_known P Check (Some known) input idle same h = of_known (P Check) (Some known) input (same refl) h
 for_known P (Deal n) (Some known) input idle same h = of_known (P (Deal n)) (Some known) input (same refl) h
 
@@ -66,21 +67,22 @@ idle_fault OutOfMemory shape a b own h = tt
 idle_fault (MissingPart k) shape a b own h = (λ reads. cc, h.1)
 idle_fault (Construct fault) shape a b own h = (λ reads. cc, h.1)
 idle_fault (File fault) shape a b own h = (λ reads. cc, h.1)
-idle_fault (Plan fault) shape a b own h = (λ reads. cc, h.1)
+idle_fault (faults.Plan fault) shape a b own h = (λ reads. cc, h.1)
+idle_fault (Planner fault) shape a b own h = (λ reads. cc, h.1)
 
 -- a fault of the command's own comes of the known bytes
 pub own_comes_of_known : (command : Command) (bytes : Option (List ℕ)) (input : List ℕ) (fault : Fault) → (reads_input command ≡ true → IfSome bytes (λ known. input ≡ known))
-    → IsOwn fault → IsShortFor command input → Refuses fault (answer_of command input) → IfSome bytes (λ known. ComesOf command known fault)
+    → IsOwn fault → IsShortFor command input → IsRefusedBy command input fault → IfSome bytes (λ known. ComesOf command known fault)
 own_comes_of_known command bytes input fault same own short h =
     for_known (λ c i. ComesOf c i fault) command bytes input (λ shape a b. idle_fault fault shape a b own) same (own_comes command input fault own short h)
 
 -- a write fault comes of an input to which there is an answer
-pub writing_comes : (command : Command) (bytes : Option (List ℕ)) (input : List ℕ) → (reads_input command ≡ true → IfSome bytes (λ known. input ≡ known))
-    → IsOk (answer_of command input) → IfSome bytes (λ known. ComesOf command known WriteFault)
-writing_comes command bytes input same ok = for_known (λ c i. IsOk (answer_of c i)) command bytes input (λ shape a b h. h) same ok
+pub writing_comes : (command : Command) (bytes : Option (List ℕ)) (input output : List ℕ) → (reads_input command ≡ true → IfSome bytes (λ known. input ≡ known))
+    → IsAnswer command input output → IfSome bytes (λ known. ComesOf command known WriteFault)
+writing_comes command bytes input output same answer = for_known (λ c i. (out : List ℕ) × IsAnswer c i out) command bytes input (λ shape a b h. h) same (output, answer)
 
 -- what was written is the answer to the known bytes
 pub answers_known : (command : Command) (bytes old new : Option (List ℕ)) (input output : List ℕ) → (reads_input command ≡ true → IfSome bytes (λ known. input ≡ known))
-    → IsShortFor command input → answer_of command input ≡ Ok output → Appends old new output → IfSome bytes (λ known. Answers command known old new)
-answers_known command bytes old new input output same short e written =
-    for_known (λ c i. Answers c i old new) command bytes input (λ shape a b h. ((λ reads. cc), h.1)) same (short, subst (λ r. IsOkAnd r (Appends old new)) (sym e) written)
+    → IsShortFor command input → IsAnswer command input output → Appends old new output → IfSome bytes (λ known. Answers command known old new)
+answers_known command bytes old new input output same short answer written =
+    for_known (λ c i. Answers c i old new) command bytes input (λ shape a b h. ((λ reads. cc), h.1)) same (short, (output, answer, written))

@@ -1,5 +1,5 @@
 -- What each command writes, as a function of its input.
-use Rattle.std.specs.Prelude.{◌≡◌, ℕ, Bool, true, false, ◌<◌, ◌≤◌, List, [], ◌∷◌, ◌++◌, length, codes, slice_index, Option, Result, Ok, Err, ⊤, IsOk, IsOkAnd, if◌then◌else◌}
+use Rattle.std.specs.Prelude.{◌≡◌, ℕ, Bool, true, false, ◌<◌, ◌≤◌, List, [], ◌∷◌, ◌++◌, length, codes, slice_index, Option, Result, Ok, Err, ⊤, if◌then◌else◌}
 use Rattle.std.specs.List.{flat_map, range_with_len}
 use Rattle.std.specs.Fmt.{decimal}
 use Rattle.std.specs.Io.KnownBytes.{Appends}
@@ -17,18 +17,21 @@ use Rattle.coterie_file.specs.Names.{name_at}
 use Rattle.coterie_file.specs.Reading.{coterie_at}
 use Rattle.coterie_file.specs.declared.fault.FileFault.{FileFault}
 use Rattle.coterie_file.specs.declared.fault.FileFault.TheVariants.{NotToml}
-use Rattle.certificate.specs.Certificates.{Weighted, cycle_len, load_of}
-use Rattle.certificate.specs.PlanTexts.{plan_at}
+use Rattle.certificate.specs.Certificates.{Weighted, IsCertificate, IsOptimal, cycle_len, load_of}
+use Rattle.certificate.specs.PlanTexts.{plan_at, plan_text}
 use Rattle.certificate.specs.declared.fault.PlanFault.{PlanFault}
+use Rattle.planner.specs.Uniform.{IsWarranted}
+use Rattle.planner.specs.declared.fault.PlannerFault.{PlannerFault}
 use Rattle.dealer.specs.Cycles.{quorum_of_ticket}
 use Rattle.dealer.specs.Accounts.{account_of}
 use Rattle.dealer.specs.declared.account.Account.{Account}
 use Rattle.qlock_cli.specs.Parts.{split}
 use Rattle.qlock_cli.specs.declared.fault.Fault.{Fault}
-use Rattle.qlock_cli.specs.declared.fault.Fault.TheVariants.{TooLong, ReadFault, WriteFault, OutOfMemory, Construct, File, Plan}
+use Rattle.qlock_cli.specs.declared.fault.Fault.TheVariants as faults
+use Rattle.qlock_cli.specs.declared.fault.Fault.TheVariants.{TooLong, ReadFault, WriteFault, OutOfMemory, Construct, File, Planner}
 use Rattle.qlock_cli.specs.declared.answer.Planned.{Planned}
 use Rattle.qlock_cli.specs.declared.words.Command.{Command}
-use Rattle.qlock_cli.specs.declared.words.Command.TheVariants.{Check, Deal, Make}
+use Rattle.qlock_cli.specs.declared.words.Command.TheVariants.{Check, Deal, Make, Plan}
 use Rattle.qlock_cli.specs.declared.words.Shape.{Shape}
 use Rattle.qlock_cli.specs.declared.words.Shape.TheVariants.{Cyclic, Grid, Majority, Tree, Wheel}
 
@@ -61,7 +64,7 @@ unfoldable pub coterie_part : List ℕ → Result NamedSystem Fault
 coterie_part bytes = if is_utf8 bytes then refused_as File (coterie_at bytes) else Err (File NotToml)
 
 unfoldable pub plan_part : QuorumSystem → List ℕ → Result Weighted Fault
-plan_part system bytes = refused_as Plan (plan_at system bytes)
+plan_part system bytes = refused_as faults.Plan (plan_at system bytes)
 
 -- what an input of two parts spells: a coterie, and a plan of it
 unfoldable pub planned_in : List ℕ → Result Planned Fault
@@ -130,15 +133,55 @@ check_answer_of input = planned_in input >>= λ p. Ok (check_text p)
 abbrev pub deal_answer_of : ℕ → List ℕ → Result (List ℕ) Fault
 deal_answer_of n input = planned_in input >>= λ p. Ok (deal_text p n)
 
--- what a command writes for an input, or why it refuses it
-abbrev pub answer_of : Command → List ℕ → Result (List ℕ) Fault
-answer_of (Make shape) input = make_answer_of shape
-answer_of Check input = check_answer_of input
-answer_of (Deal n) input = deal_answer_of n input
+-- the text is that of some plan of the coterie that the input spells, and that plan is optimal
+pub record IsPlanText (input output : List ℕ) : Type 0 where
+  pub named : NamedSystem
+  pub coterie : coterie_part input ≡ Ok named
+  pub plan : Weighted
+  pub system : plan.system ≡ named.system
+  pub certificate : IsCertificate plan
+  pub optimal : IsOptimal plan
+  pub spelled : output ≡ plan_text plan
+
+-- the planner's fault comes of the coterie that the input spells
+pub record IsUnplanned (input : List ℕ) (fault : PlannerFault) : Type 0 where
+  pub named : NamedSystem
+  pub coterie : coterie_part input ≡ Ok named
+  pub warranted : IsWarranted named.system fault
+
+-- `plan` refuses the input so: it spells no coterie, or there is no plan of it
+abbrev pub RefusesToPlan : List ℕ → Fault → Type 0
+RefusesToPlan input (Planner fault) = IsUnplanned input fault
+RefusesToPlan input fault = coterie_part input ≡ Err fault
+
+-- the command writes this output for the input
+abbrev pub IsAnswer : Command → List ℕ → List ℕ → Type 0
+IsAnswer (Make shape) input output = make_answer_of shape ≡ Ok output
+IsAnswer Plan input output = IsPlanText input output
+IsAnswer Check input output = check_answer_of input ≡ Ok output
+IsAnswer (Deal n) input output = deal_answer_of n input ≡ Ok output
+
+-- the command refuses the input by this fault
+abbrev pub IsRefusal : Command → List ℕ → Fault → Type 0
+IsRefusal (Make shape) input fault = make_answer_of shape ≡ Err fault
+IsRefusal Plan input fault = RefusesToPlan input fault
+IsRefusal Check input fault = check_answer_of input ≡ Err fault
+IsRefusal (Deal n) input fault = deal_answer_of n input ≡ Err fault
+
+-- the fault is want of memory, or the command refuses the input by it
+abbrev pub IsRefusedBy : Command → List ℕ → Fault → Type 0
+IsRefusedBy command input OutOfMemory = Unit {0}
+IsRefusedBy command input fault = IsRefusal command input fault
+
+-- what was answered is the command's answer to the input, memory aside
+abbrev pub IsAnswered : {X : Type 0} → (X → List ℕ) → Command → List ℕ → Result X Fault → Type 0
+IsAnswered view command input (Ok x) = IsAnswer command input (view x)
+IsAnswered view command input (Err fault) = IsRefusedBy command input fault
 
 -- whether a command reads its input; `make` doesn't
 abbrev pub reads_input : Command → Bool
 reads_input (Make shape) = false
+reads_input Plan = true
 reads_input Check = true
 reads_input (Deal n) = true
 
@@ -148,12 +191,12 @@ IsShortFor command input = reads_input command ≡ true → length input ≤ 167
 
 -- the command's answer to the input was written behind what there was
 abbrev pub Answers : Command → List ℕ → Option (List ℕ) → Option (List ℕ) → Type 0
-Answers command input old new = IsShortFor command input × IsOkAnd (answer_of command input) (Appends old new)
+Answers command input old new = IsShortFor command input × ((output : List ℕ) × IsAnswer command input output × Appends old new output)
 
 -- the fault is one that the input leads to: it is too long, or the command refuses it so; a device or memory may fail whatever the input is
 abbrev pub ComesOf : Command → List ℕ → Fault → Type 0
 ComesOf command input TooLong = (reads_input command ≡ true) × (16777216 < length input)
 ComesOf command input ReadFault = reads_input command ≡ true
-ComesOf command input WriteFault = IsOk (answer_of command input)
+ComesOf command input WriteFault = (output : List ℕ) × IsAnswer command input output
 ComesOf command input OutOfMemory = ⊤
-ComesOf command input fault = IsShortFor command input × (answer_of command input ≡ Err fault)
+ComesOf command input fault = IsShortFor command input × IsRefusal command input fault

@@ -5,8 +5,10 @@ use Rattle.coterie_file.specs.declared.fault.FileFault.{FileFault}
 use Rattle.coterie_file.specs.declared.fault.FileFault.TheVariants as file
 use Rattle.certificate.specs.declared.fault.PlanFault.{PlanFault}
 use Rattle.certificate.specs.declared.fault.PlanFault.TheVariants as plan
+use Rattle.planner.specs.declared.fault.PlannerFault.{PlannerFault}
+use Rattle.planner.specs.declared.fault.PlannerFault.TheVariants as planner
 use Rattle.qlock_cli.specs.declared.fault.Fault.{Fault}
-use Rattle.qlock_cli.specs.declared.fault.Fault.TheVariants.{OutOfMemory, Construct, File, Plan}
+use Rattle.qlock_cli.specs.declared.fault.Fault.TheVariants.{OutOfMemory, Construct, File, Plan, Planner}
 
 abbrev pub construct_refusal : ConstructFault → Fault
 construct_refusal construct.OutOfMemory = OutOfMemory
@@ -19,3 +21,13 @@ file_refusal fault = File fault
 abbrev pub plan_refusal : PlanFault → Fault
 plan_refusal plan.OutOfMemory = OutOfMemory
 plan_refusal fault = Plan fault
+
+abbrev pub planner_refusal : PlannerFault → Fault
+planner_refusal planner.OutOfMemory = OutOfMemory
+planner_refusal fault = Planner fault
+
+-- the fault is of a coterie's text, or want of memory
+abbrev pub IsOfFile : Fault → Type 0
+IsOfFile OutOfMemory = Unit {0}
+IsOfFile (File fault) = Unit {0}
+IsOfFile fault = ⊥

@@ -8,7 +8,7 @@ use Rattle.clap.specs.declared.builder.range.ValueRange.{ValueRange}
 use Rattle.clap.specs.declared.builder.command.Command.{Command as Parser}
 use Rattle.clap.specs.declared.builder.command.Command.TheViews.{out-Command}
 use Rattle.qlock_cli.specs.declared.words.Command.{Command}
-use Rattle.qlock_cli.specs.declared.words.Command.TheVariants.{Check, Deal, Make}
+use Rattle.qlock_cli.specs.declared.words.Command.TheVariants.{Check, Deal, Make, Plan}
 use Rattle.qlock_cli.specs.declared.words.Shape.{Shape}
 use Rattle.qlock_cli.specs.declared.words.Shape.TheVariants.{Cyclic, Grid, Majority, Tree, Wheel}
 
@@ -30,6 +30,9 @@ sizes_rule = record (new_rule (codes "NUMBERS")) { range = Some any_count; parse
 abbrev pub make_app : App
 make_app = with_rule (with_rule (new_app (codes "make")) shape_rule) sizes_rule
 
+abbrev pub plan_app : App
+plan_app = new_app (codes "plan")
+
 abbrev pub check_app : App
 check_app = new_app (codes "check")
 
@@ -39,8 +42,11 @@ deal_app = with_rule (new_app (codes "deal")) tickets_rule
 abbrev pub required_subcommand : App → App
 required_subcommand a = record a { top = record a.top { subcommand_required = true } }
 
+abbrev pub planning_app : App
+planning_app = with_subcommand (with_subcommand (required_subcommand (new_app (codes "qlock"))) make_app.top) plan_app.top
+
 abbrev pub qlock_app : App
-qlock_app = with_subcommand (with_subcommand (with_subcommand (required_subcommand (new_app (codes "qlock"))) make_app.top) check_app.top) deal_app.top
+qlock_app = with_subcommand (with_subcommand planning_app check_app.top) deal_app.top
 
 -- the text is a numeral of n
 abbrev pub IsNumber : List ℕ → ℕ → Type 0
@@ -71,6 +77,7 @@ IsNamedBy None command = ⊥
 IsNamedBy (Some used) (Make shape) =
     (used.0 ≡ codes "make")
     × ((name : List ℕ) × (first_of (codes "SHAPE") used.1 ≡ Some name) × ((sizes : List ℕ) × AreSizes (size_texts used.1) sizes × IsShapeOf name sizes shape))
+IsNamedBy (Some used) Plan = used.0 ≡ codes "plan"
 IsNamedBy (Some used) Check = used.0 ≡ codes "check"
 IsNamedBy (Some used) (Deal n) = (used.0 ≡ codes "deal") × ((text : List ℕ) × (first_of (codes "N") used.1 ≡ Some text) × IsNumber text n) × (n ≤ 100000)
 

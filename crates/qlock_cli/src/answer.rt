@@ -5,17 +5,19 @@ ghost use Rattle.construct.specs.Answers as construct_answers;
 ghost use Rattle.coterie_file.specs.Named.{IsNamed};
 ghost use Rattle.certificate.specs.Certificates.{IsCertificate, cycle_len, load_of};
 ghost use Rattle.dealer.specs.Accounts.{account_of};
-ghost use Rattle.qlock_cli.specs.Commands.{Gives, account_text, answer_of, check_answer_of, check_text, coterie_part, deal_answer_of, deal_text, make_answer_of, numbered_text, plan_part, planned_in, shape_at};
+ghost use Rattle.qlock_cli.specs.Commands.{Gives, IsAnswered, account_text, check_answer_of, check_text, coterie_part, deal_answer_of, deal_text, make_answer_of, numbered_text, plan_part, planned_in, shape_at};
 ghost use Rattle.qlock_cli.specs.Devices.{IsOwn};
+ghost use Rattle.qlock_cli.specs.Faults.{IsOfFile};
 
 use crate::fault::Fault;
 use crate::parts::split_part;
 use crate::texts::{load_line_of, push_account, push_tickets};
 use crate::words::{Command, Shape};
-use certificate::{Plan, read_plan};
+use certificate::{Plan, read_plan, write_plan};
 use construct::{ConstructFault, cyclic, grid, majority, tree, wheel};
 use coterie_file::{FileFault, Named, read_coterie, write_coterie};
 use dealer::{Account, Cycle};
+use planner::plan;
 use quorum_set::Coterie;
 use std::alloc::{AllocError, Global};
 
@@ -23,6 +25,7 @@ use std::alloc::{AllocError, Global};
 fn coterie_of(alloc: Global, part: &[u8]) -> Result<Named, Fault>
     ensures exact { Gives (λ n. n) result (coterie_part part.now) }
     ensures own { IfErr result IsOwn }
+    ensures file { IfErr result IsOfFile }
 {
     let Ok(text) = std::str::from_utf8(part) else {
         return Err(Fault::File(FileFault::NotToml));
@@ -160,6 +163,25 @@ fn make_answer(alloc: Global, shape: &Shape) -> Result<String, Fault>
     }
 }
 
+/// What `plan` writes for an input: the text of a plan of the coterie that the input spells.
+fn plan_answer(alloc: Global, input: &[u8]) -> Result<String, Fault>
+    ensures exact { IsAnswered string_bytes Command.Plan input.now result }
+    ensures own { IfErr result IsOwn }
+{
+    let named = match coterie_of(alloc, input) {
+        Ok(named) => named,
+        Err(fault) => return Err(fault),
+    };
+    let plan = match plan(alloc, named.coterie()) {
+        Ok(plan) => plan,
+        Err(fault) => return Err(Fault::from(fault)),
+    };
+    match write_plan(alloc, &plan) {
+        Ok(text) => Ok(text),
+        Err(_) => Err(Fault::OutOfMemory),
+    }
+}
+
 /// What `check` writes for an input.
 fn check_answer(alloc: Global, input: &[u8]) -> Result<String, Fault>
     ensures exact { Gives string_bytes result (check_answer_of input.now) }
@@ -192,11 +214,12 @@ fn deal_answer(alloc: Global, count: u64, input: &[u8]) -> Result<String, Fault>
 
 /// What the command writes for an input.
 pub fn answer(alloc: Global, command: &Command, input: &[u8]) -> Result<String, Fault>
-    ensures exact { Gives string_bytes result (answer_of command.now input.now) }
+    ensures exact { IsAnswered string_bytes command.now input.now result }
     ensures own { IfErr result IsOwn }
 {
     match command {
         Command::Make(shape) => make_answer(alloc, shape),
+        Command::Plan => plan_answer(alloc, input),
         Command::Check => check_answer(alloc, input),
         Command::Deal(count) => deal_answer(alloc, u64::from(*count), input),
     }

@@ -22,7 +22,7 @@ fn input_for<R: Read>(alloc: Global, command: &Command, reader: &mut Watched<R>)
 {
     match command {
         Command::Make(_) => Ok(Vec::new(alloc)),
-        Command::Check | Command::Deal(_) => read_input(alloc, reader),
+        Command::Plan | Command::Check | Command::Deal(_) => read_input(alloc, reader),
     }
 }
 

@@ -1,11 +1,12 @@
 //! Why a command was refused.
 ghost use Rattle.std.specs.Prelude.{◌≡◌};
-ghost use Rattle.qlock_cli.specs.Faults.{construct_refusal, file_refusal, plan_refusal};
+ghost use Rattle.qlock_cli.specs.Faults.{construct_refusal, file_refusal, plan_refusal, planner_refusal};
 ghost use Rattle.qlock_cli.specs.declared.fault.Fault.TheVariants.{OutOfMemory};
 
 use certificate::PlanFault;
 use construct::ConstructFault;
 use coterie_file::FileFault;
+use planner::PlannerFault;
 use std::alloc::{AllocError, AllocFailed};
 use thiserror::Error;
 
@@ -33,6 +34,9 @@ pub enum Fault {
     /// The plan was refused.
     #[error(transparent)]
     Plan(PlanFault),
+    /// There is no plan.
+    #[error(transparent)]
+    Planner(PlannerFault),
     /// Memory ran out.
     #[error("O1 OutOfMemory")]
     OutOfMemory,
@@ -83,6 +87,17 @@ impl From<PlanFault> for Fault {
         match fault {
             PlanFault::OutOfMemory => Fault::OutOfMemory,
             _ => Fault::Plan(fault),
+        }
+    }
+}
+
+impl From<PlannerFault> for Fault {
+    ghost from_gives = { λ fault e. e ≡ planner_refusal fault };
+
+    fn from(fault: PlannerFault) -> Fault {
+        match fault {
+            PlannerFault::OutOfMemory => Fault::OutOfMemory,
+            _ => Fault::Planner(fault),
         }
     }
 }

@@ -1,7 +1,7 @@
 //! The command line: which command its words name.
 ghost use Rattle.std.specs.Prelude.{◌≡◌, ◌<◌, ◌≤◌, [], length, slice_index_or, false, IfOk, IfSome, Some, codes, map, string_bytes};
 ghost use Rattle.clap.specs.Words.{app_of, first_of, found_of, rows_of, rule_of, subcommand_of, subcommand_rows_of};
-ghost use Rattle.qlock_cli.specs.Words.{AreSizes, IsLocal, IsNamedBy, IsNumber, IsShapeOf, check_app, deal_app, make_app, qlock_app, shape_rule, size_texts, sizes_rule};
+ghost use Rattle.qlock_cli.specs.Words.{AreSizes, IsLocal, IsNamedBy, IsNumber, IsShapeOf, check_app, deal_app, make_app, plan_app, planning_app, qlock_app, shape_rule, size_texts, sizes_rule};
 
 use clap::builder::ValueParser;
 use clap::error::ErrorKind;
@@ -28,6 +28,8 @@ pub enum Shape {
 pub enum Command {
     /// Write the coterie of this shape.
     Make(Shape),
+    /// Find a plan of a coterie, and write it with its certificate.
+    Plan,
     /// Check a plan against its coterie, and say its load and the length of its cycle.
     Check,
     /// Deal this many tickets, 0 to 100,000, and count how often each voter was named.
@@ -98,6 +100,14 @@ fn make_command<'a>(alloc: Global) -> Result<clap::Command<'a>, AllocError>
         .arg(sizes_argument(alloc))
 }
 
+/// `plan`, which has no arguments.
+fn plan_command<'a>(alloc: Global) -> clap::Command<'a>
+    ensures app { app_of result ≡ plan_app }
+    ensures local { IsLocal result }
+{
+    clap::Command::new(alloc, "plan").about("Find a plan: standard input has a coterie")
+}
+
 /// `check`, which has no arguments.
 fn check_command<'a>(alloc: Global) -> clap::Command<'a>
     ensures app { app_of result ≡ check_app }
@@ -122,16 +132,22 @@ fn deal_command<'a>(alloc: Global) -> Result<clap::Command<'a>, AllocError>
         .arg(tickets)
 }
 
+/// The command line with the commands that make and plan.
+fn planning_command<'a>(alloc: Global) -> Result<clap::Command<'a>, AllocError>
+    ensures { IfOk result (λ c. app_of c ≡ planning_app) }
+{
+    clap::Command::new(alloc, "qlock")
+        .about("Plan quorums whose busiest voter is as idle as possible, and run the lock that they guard")
+        .subcommand_required(true)
+        .subcommand(make_command(alloc)?)?
+        .subcommand(plan_command(alloc))
+}
+
 /// The whole command line.
 fn qlock_command<'a>(alloc: Global) -> Result<clap::Command<'a>, AllocError>
     ensures { IfOk result (λ c. app_of c ≡ qlock_app) }
 {
-    clap::Command::new(alloc, "qlock")
-        .about(
-            "Plan quorums whose busiest voter is as idle as possible, and run the lock that they guard",
-        )
-        .subcommand_required(true)
-        .subcommand(make_command(alloc)?)?
+    planning_command(alloc)?
         .subcommand(check_command(alloc))?
         .subcommand(deal_command(alloc)?)
 }
@@ -238,6 +254,9 @@ fn deal_of(used: &ArgMatches) -> Result<Command, Usage>
 fn command_of(alloc: Global, matches: &ArgMatches) -> Result<Command, Usage>
     ensures { IfOk result (IsNamedBy (subcommand_rows_of matches.now)) }
 {
+    if matches.subcommand_matches("plan").is_some() {
+        return Ok(Command::Plan);
+    }
     if matches.subcommand_matches("check").is_some() {
         return Ok(Command::Check);
     }

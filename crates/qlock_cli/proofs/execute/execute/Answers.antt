@@ -1,6 +1,6 @@
-use Rattle.std.proofs.Common.{◌≡◌, ◌∙◌, List, ℕ, subst, sym, ap, string_bytes}
-use Rattle.qlock_cli.specs.Commands.{Refuses, answer_of}
-use Rattle.qlock_cli.proofs.ExecuteLemmas.{answers_known, own_comes_of_known, reading_comes, writing_comes}
+use Rattle.std.proofs.Common.{◌≡◌, List, ℕ, subst}
+use Rattle.qlock_cli.specs.Commands.{IsRefusedBy}
+use Rattle.qlock_cli.proofs.ExecuteLemmas.{own_comes_of_known, reading_comes}
 use Rattle.qlock_cli.proofs.execute.execute.Goals as goal
 
 pub returns-in-Err-clause-refused : goal.returns-in-Err-clause-refused
@@ -10,4 +10,4 @@ returns-in-Err-clause-refused g c =
 pub returns-in-Err-answer-clause-refused : goal.returns-in-Err-answer-clause-refused
 returns-in-Err-answer-clause-refused g c =
     own_comes_of_known c.args.command.now (g.R.Read.remaining c.args.reader.now.inner) c.in-Ok.input.items c.in-Err-answer.fault c.in-Ok.ensures.all c.in-Err-answer.ensures.own c.in-Ok.ensures.short
-    (subst (λ input. Refuses c.in-Err-answer.fault (answer_of c.args.command.now input)) c.as_slice.ensures.value c.in-Err-answer.ensures.exact)
+    (subst (λ input. IsRefusedBy c.args.command.now input c.in-Err-answer.fault) c.as_slice.ensures.value c.in-Err-answer.ensures.exact)
