@@ -9,7 +9,8 @@
 //! Which to choose is a matter of the load that the best plan puts on the busiest voter (Naor and Wool, SIAM J. Comput. 27(2), 1998), and of the
 //! members that a lock has to ask. Of n voters a grid of r rows of c asks r + c - 1, at a load of (r + c - 1) / n; a majority asks n / 2 + 1, at a load
 //! just above one half; a tree of height h asks h + 1 at best, at a load of 2 / (h + 2), and goes on without its root; a wheel of k voters on
-//! the rim asks 2 at best, at a load of k / (2 k - 1); and a perfect difference set of size c asks c, at the load c / n, which is least.
+//! the rim asks 2 at best, at a load of k / (2 k - 1); and a perfect difference set of size c asks c, at the load c / n. (The loads are
+//! known from the literature; nothing is proved of them here.)
 //!
 //! ```
 //! let grid = grid(alloc, 3, 3)?;            // 9 voters; quorum 0 is 0, 1, 2, 3, 6
