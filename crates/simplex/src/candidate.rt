@@ -92,14 +92,19 @@ fn quorum_weights(alloc: Global, tableau: &Tableau, zero: Frac) -> Result<Vec<Fr
 }
 
 /// The voters' weights: the slacks' improvements, with the other sign.
-fn voter_weights(alloc: Global, tableau: &Tableau, zero: Frac) -> Result<Vec<Frac>, SimplexFault>
+fn voter_weights(
+    alloc: Global,
+    tableau: &Tableau,
+    zero: Frac,
+    pivots: u32,
+) -> Result<Vec<Frac>, SimplexFault>
     ensures { IfOk result (λ v. vec_len v ≡ tableau.now.voters) }
 {
     let mut weights = Vec::with_capacity(alloc, tableau.voters())?;
     for voter in 0..tableau.voters() {
         let improvement = tableau.cell(tableau.voters(), tableau.quorums() + voter);
         let Ok(weight) = zero.sub(improvement) else {
-            return Err(SimplexFault::Overflow { pivots: 0 });
+            return Err(SimplexFault::Overflow { pivots });
         };
         weights.push(weight)?;
     }
@@ -168,7 +173,7 @@ pub fn solve_by(
     let mut tableau = Tableau::of(alloc, coterie)?;
     let made = improve(&mut tableau, rule, pivots)?;
     let quorum_weights = quorum_weights(alloc, &tableau, zero)?;
-    let voter_weights = voter_weights(alloc, &tableau, zero)?;
+    let voter_weights = voter_weights(alloc, &tableau, zero, made)?;
     Ok(Candidate {
         a: scaled(alloc, &quorum_weights, made)?,
         b: scaled(alloc, &voter_weights, made)?,
