@@ -1,0 +1,318 @@
+-- the contract of a voter
+use Rattle.std.proofs.Common.{◌≡◌, ◌≢◌, ℕ, ◌+◌, ◌<◌, ◌≤◌, Bool, true, false, cond, List, [], ◌∷◌, ◌++◌, Option, Some, None, refl, sym, ap, ◌∙◌, ◌⊎◌, inl, inr, arith, subst, eqb}
+use Rattle.std.specs.Prelude.{is_some, not, ◌&&◌, nat_lt, nat_le, ◌==◌, slice_index, if◌then◌else◌}
+use Rattle.std.specs.List.{AllByRecursion}
+use Rattle.std.specs.FinMap.{get, insert, remove}
+use Rattle.std.proofs.lemmas.Bool.Decides.{nat_tests}
+use Rattle.std.proofs.lemmas.Bool.{false≢true}
+use Rattle.std.proofs.lemmas.Option.{none-some, same_Some}
+use Rattle.message.specs.declared.request.Request.{Request}
+use Rattle.message.specs.declared.message.ToVoter.{ToVoter}
+use Rattle.message.specs.declared.message.ToClient.{ToClient}
+use Rattle.message.specs.declared.message.VoterBody.{VoterBody}
+use Rattle.message.specs.declared.message.VoterBody.TheVariants as asks
+use Rattle.message.specs.declared.message.ClientBody.{ClientBody}
+use Rattle.message.specs.declared.message.ClientBody.TheVariants as tells
+use Rattle.voter.specs.declared.state.Grant.{Grant}
+use Rattle.voter.specs.declared.state.VoterState.{VoterState}
+use Rattle.voter.specs.Waiting.{Waiting, front}
+use Rattle.voter.specs.VoteMoves.{GrantStays, GrantEnds, GrantIsNew, VoteMoves}
+use Rattle.voter.specs.VoterContract.{TellsVote, AllTell, Ends, IsEntry, Brings, MeetsContract}
+use Rattle.voter.specs.Steps.{Outcome, silent, and_then, reply, grant_to, grant_front, released, released_by, queued, queued_by, inquiry, fail_former, admitted, admitted_by, queue, freed, finish, withdraw, held_stamp, is_up_to, is_older, is_grant, standing, first_some, requested, requested_by, requested_beside, compared_by, again, again_by, relinquished, relinquished_by, put_back, see, outcome_of, ends_grant, step, unless_spent, effect_of, is_ended, remind, remind_of, inquiry_again, IsSound}
+use Rattle.voter.proofs.Front.{front_found}
+use Rattle.voter.proofs.Moves.{vote_moves, moves-admitted}
+use Rattle.voter.proofs.Soundness.{get_removed, get_inserted, sound_after}
+use Rattle.voter.proofs.Effects.{taken}
+
+-- A grant stays, or the message ends it.
+
+held_ends : (o : Option Grant) (c : ℕ) (g : Grant) → o ≡ Some g → is_some (held_stamp o c) ≡ true → (g.client ≡ c) × (held_stamp o c ≡ Some g.stamp)
+held_ends None c g is e = absurd (none-some g is)
+held_ends (Some h) c g is e =
+    let client = ap (λ (k : Grant). k.client) (same_Some h g is) in
+    let stamp = ap (λ (k : Grant). k.stamp) (same_Some h g is) in
+    (grind (arith, nat_tests), grind (arith, nat_tests))
+
+older_some : (o : Option ℕ) (s : ℕ) (b : Bool) → (b && is_older o s) ≡ true → is_some o ≡ true
+older_some None s b e = grind (arith, nat_tests)
+older_some (Some t) s b e = refl
+
+older_less : (o : Option ℕ) (s t : ℕ) (b : Bool) → o ≡ Some t → (b && is_older o s) ≡ true → t < s
+older_less None s t b is e = absurd (none-some t is)
+older_less (Some u) s t b is e = let same = same_Some u t is in grind (arith, nat_tests)
+
+up_to_some : (o : Option ℕ) (s : ℕ) → is_up_to o s ≡ true → is_some o ≡ true
+up_to_some None s e = e
+up_to_some (Some t) s e = refl
+
+up_to_le : (o : Option ℕ) (s t : ℕ) → o ≡ Some t → is_up_to o s ≡ true → t ≤ s
+up_to_le None s t is e = absurd (none-some t is)
+up_to_le (Some u) s t is e = let same = same_Some u t is in grind (arith, nat_tests)
+
+grant_ends : (o : Option Grant) (c n : ℕ) (g : Grant) → o ≡ Some g → is_grant o c n ≡ true → (g.client ≡ c) × (g.grant ≡ n)
+grant_ends None c n g is e = absurd (none-some g is)
+grant_ends (Some h) c n g is e =
+    let client = ap (λ (k : Grant). k.client) (same_Some h g is) in
+    let number = ap (λ (k : Grant). k.grant) (same_Some h g is) in
+    (grind (arith, nat_tests), grind (arith, nat_tests))
+
+ended : (v : VoterState) (c : ℕ) (b : VoterBody) (g : Grant) → v.held ≡ Some g → ends_grant v c b ≡ true → Ends c b g
+unfolding ends_grant
+ended v c (asks.Request s) g is e =
+    let own = held_ends v.held c g is (older_some (held_stamp v.held c) s _ e) in
+    (own.0, older_less (held_stamp v.held c) s g.stamp _ own.1 e)
+ended v c (asks.Relinquish n) g is e = grant_ends v.held c n g is e
+ended v c (asks.Release s) g is e =
+    let own = held_ends v.held c g is (up_to_some (held_stamp v.held c) s e) in
+    (own.0, up_to_le (held_stamp v.held c) s g.stamp own.1 e)
+
+kept_by : (e : Bool) (v w : VoterState) (E : Grant → Type 0) (g : Grant) → v.held ≡ Some g → (e ≡ true → E g) → VoteMoves e v w → (w.held ≡ Some g) ⊎ E g
+kept_by true v w E g is ends k = inr (ends refl)
+kept_by false v w E g is ends (inl k) = inl (k.held ∙ is)
+kept_by false v w E g is ends (inr k) = absurd (none-some g (sym k.0 ∙ is))
+
+pub grant_kept : (v : VoterState) (c : ℕ) (b : VoterBody) (g : Grant) → v.held ≡ Some g → ((outcome_of v c b).state.held ≡ Some g) ⊎ Ends c b g
+grant_kept v c b g is = kept_by (ends_grant v c b) v (outcome_of v c b).state (Ends c b) g is (ended v c b g is) (vote_moves v c b)
+
+-- Entries: what is so of the stamps that came is so of each that holds the vote or waits.
+
+pub record Stamps (P : ℕ → ℕ → Type 0) (v : VoterState) : Type 0 where
+  pub held : (g : Grant) → v.held ≡ Some g → P g.client g.stamp
+  pub waiting : (c s : ℕ) → get v.waiting c ≡ Some s → P c s
+
+module _ (P : ℕ → ℕ → Type 0) where
+  inserted : (w : Waiting) (c s : ℕ) → ((d t : ℕ) → get w d ≡ Some t → P d t) → P c s → (d t : ℕ) → get (insert w c s) d ≡ Some t → P d t
+  inserted w c s h p d t is = elim (eqb d c) as (λ b. eqb d c ≡ b → cond b (Some s) (get w d) ≡ Some t → P d t) [
+    | true ↦ λ e here. let same : c ≡ d = grind (arith, nat_tests) in subst (λ n. P d n) (same_Some s t here) (subst (λ n. P n s) same p)
+    | false ↦ λ e there. h d t there
+  ] refl (sym (get_inserted w c s d) ∙ is)
+
+  removed : (w : Waiting) (c : ℕ) → ((d t : ℕ) → get w d ≡ Some t → P d t) → (d t : ℕ) → get (remove w c) d ≡ Some t → P d t
+  removed w c h d t is = elim (eqb d c) as (λ b. cond b None (get w d) ≡ Some t → P d t) [
+    | true ↦ λ here. absurd (none-some t here)
+    | false ↦ λ there. h d t there
+  ] (sym (get_removed w c d) ∙ is)
+
+  stamps-grant_to : (v : VoterState) (o : Option Request) → front v.waiting ≡ o → Stamps P v → Stamps P (grant_to v o).state
+  stamps-grant_to v None is h = h
+  stamps-grant_to v (Some r) is h =
+      let p = h.waiting r.client r.stamp (front_found v.waiting r is) in
+      record {
+        held = λ g same. subst (λ (k : Grant). P k.client k.stamp) (same_Some _ g same) p;
+        waiting = removed v.waiting r.client h.waiting;
+      }
+
+  stamps-grant_front : (v : VoterState) → Stamps P v → Stamps P (grant_front v).state
+  unfolding grant_front
+  stamps-grant_front v h = stamps-grant_to v (front v.waiting) refl h
+
+  stamps-freed : (v : VoterState) → Stamps P v → Stamps P (freed v)
+  stamps-freed v h = record { held = λ g is. absurd (none-some g is); waiting = h.waiting }
+
+  stamps-queue : (v : VoterState) (c s : ℕ) → P c s → Stamps P v → Stamps P (queue v c s)
+  stamps-queue v c s p h = record { held = h.held; waiting = inserted v.waiting c s h.waiting p }
+
+  stamps-released_by : (holds waits : Bool) (v : VoterState) (c s : ℕ) → Stamps P v → Stamps P (released_by holds waits v c s).state
+  stamps-released_by true waits v c s h = stamps-grant_front (freed (finish v c s)) (record { held = λ g is. absurd (none-some g is); waiting = h.waiting })
+  stamps-released_by false true v c s h = record { held = h.held; waiting = removed v.waiting c h.waiting }
+  stamps-released_by false false v c s h = record { held = h.held; waiting = h.waiting }
+
+  stamps-released : (v : VoterState) (c s : ℕ) → Stamps P v → Stamps P (released v c s).state
+  unfolding released
+  stamps-released v c s h = stamps-released_by _ _ v c s h
+
+  stamps-queued_by : (waits granted : Bool) (v : VoterState) (g : Grant) (c s : ℕ) → P c s → Stamps P v → Stamps P (queued_by waits granted v g c s).state
+  stamps-queued_by true granted v g c s p h = stamps-queue v c s p h
+  stamps-queued_by false true v g c s p h = stamps-queue v c s p h
+  stamps-queued_by false false v g c s p h = let k = stamps-queue v c s p h in record { held = k.held; waiting = k.waiting }
+
+  stamps-admitted_by : (o : Option Grant) (v : VoterState) (c s : ℕ) → P c s → Stamps P v → Stamps P (admitted_by o v c s).state
+  unfolding queued
+  stamps-admitted_by None v c s p h = stamps-grant_front (queue v c s) (stamps-queue v c s p h)
+  stamps-admitted_by (Some g) v c s p h = stamps-queued_by _ _ v g c s p h
+
+  stamps-admitted : (v : VoterState) (c s : ℕ) → P c s → Stamps P v → Stamps P (admitted v c s).state
+  unfolding admitted
+  stamps-admitted v c s p h = stamps-admitted_by v.held v c s p h
+
+  stamps-compared_by : (less same : Bool) (v : VoterState) (c s t : ℕ) → P c s → Stamps P v → Stamps P (compared_by less same v c s t).state
+  stamps-compared_by true same v c s t p h = h
+  stamps-compared_by false true v c s t p h = h
+  stamps-compared_by false false v c s t p h = stamps-admitted (released v c t).state c s p (stamps-released v c t h)
+
+  stamps-beside : (v : VoterState) (c s : ℕ) (o : Option ℕ) → P c s → Stamps P v → Stamps P (requested_beside v c s o).state
+  unfolding requested_beside
+  stamps-beside v c s None p h = stamps-admitted v c s p h
+  stamps-beside v c s (Some t) p h = stamps-compared_by _ _ v c s t p h
+
+  stamps-requested_by : (done : Bool) (v : VoterState) (c s : ℕ) → P c s → Stamps P v → Stamps P (requested_by done v c s).state
+  stamps-requested_by true v c s p h = h
+  stamps-requested_by false v c s p h = stamps-beside v c s (standing v c) p h
+
+  stamps-put_back : (o : Option Grant) (v : VoterState) → v.held ≡ o → Stamps P v → Stamps P (put_back o v).state
+  stamps-put_back None v is h = h
+  stamps-put_back (Some g) v is h = stamps-grant_front (queue (freed v) g.client g.stamp) (stamps-queue (freed v) g.client g.stamp (h.held g is) (stamps-freed v h))
+
+  stamps-relinquished_by : (b : Bool) (v : VoterState) → Stamps P v → Stamps P (relinquished_by b v).state
+  stamps-relinquished_by true v h = stamps-put_back v.held v refl h
+  stamps-relinquished_by false v h = h
+
+  -- what a REQUEST tells is so
+  abbrev pub Tells : ℕ → VoterBody → Type 0
+  Tells c (asks.Request s) = P c s
+  Tells c (asks.Relinquish g) = Unit {0}
+  Tells c (asks.Release s) = Unit {0}
+
+  pub stamps_after : (v : VoterState) (c : ℕ) (b : VoterBody) → Tells c b → Stamps P v → Stamps P (outcome_of v c b).state
+  unfolding relinquished requested
+  stamps_after v c (asks.Request s) p h = stamps-requested_by _ (see v s) c s p (record { held = h.held; waiting = h.waiting })
+  stamps_after v c (asks.Relinquish n) p h = stamps-relinquished_by _ v h
+  stamps_after v c (asks.Release s) p h = stamps-released (see v s) c s (record { held = h.held; waiting = h.waiting })
+
+abbrev pub Came : VoterState → ℕ → VoterBody → ℕ → ℕ → Type 0
+Came v c b d t = IsEntry v d t ⊎ Brings c b d t
+
+brought : (v : VoterState) (c : ℕ) (b : VoterBody) → Tells (Came v c b) c b
+brought v c (asks.Request s) = inr (refl, refl)
+brought v c (asks.Relinquish n) = tt
+brought v c (asks.Release s) = tt
+
+came_before : (v : VoterState) (c : ℕ) (b : VoterBody) → Stamps (Came v c b) v
+came_before v c b = record { held = λ g is. inl (inl (g, is, refl, refl)); waiting = λ d t is. inl (inr is) }
+
+entry_of : (P : ℕ → ℕ → Type 0) (w : VoterState) → Stamps P w → (d t : ℕ) → IsEntry w d t → P d t
+entry_of P w h d t (inl e) = subst (λ n. P d n) e.3 (subst (λ n. P n e.0.stamp) e.2 (h.held e.0 e.1))
+entry_of P w h d t (inr e) = h.waiting d t e
+
+pub entries_after : (v : VoterState) (c : ℕ) (b : VoterBody) (d t : ℕ) → IsEntry (outcome_of v c b).state d t → IsEntry v d t ⊎ Brings c b d t
+entries_after v c b d t e = entry_of (Came v c b) (outcome_of v c b).state (stamps_after (Came v c b) v c b (brought v c b) (came_before v c b)) d t e
+
+-- Each LOCKED tells the vote as it stands.
+
+told-grant_to : (v : VoterState) (o : Option Request) → AllTell (grant_to v o).state.held (grant_to v o).replies
+told-grant_to v None = tt
+told-grant_to v (Some r) = (refl, tt)
+
+told-grant_front : (v : VoterState) → AllTell (grant_front v).state.held (grant_front v).replies
+unfolding grant_front
+told-grant_front v = told-grant_to v (front v.waiting)
+
+told-released_by : (holds waits : Bool) (v : VoterState) (c s : ℕ) → AllTell (released_by holds waits v c s).state.held (released_by holds waits v c s).replies
+told-released_by true waits v c s = told-grant_front (freed (finish v c s))
+told-released_by false true v c s = tt
+told-released_by false false v c s = tt
+
+told-released : (v : VoterState) (c s : ℕ) → AllTell (released v c s).state.held (released v c s).replies
+unfolding released
+told-released v c s = told-released_by _ _ v c s
+
+told_former : (v : VoterState) (held : Option Grant) (o : Option Request) → AllTell held (fail_former v o)
+told_former v held None = tt
+told_former v held (Some q) = (tt, tt)
+
+told_inquiry : (out : Bool) (v : VoterState) (held : Option Grant) (g : Grant) (o : Option Request) → AllTell held (inquiry out v g ++ fail_former v o)
+told_inquiry true v held g o = told_former v held o
+told_inquiry false v held g o = (tt, told_former v held o)
+
+-- nobody is told of a grant while another holds the vote
+told-queued_by : (waits granted : Bool) (v : VoterState) (g : Grant) (c s : ℕ) → AllTell (queued_by waits granted v g c s).state.held (queued_by waits granted v g c s).replies
+told-queued_by true granted v g c s = (tt, tt)
+told-queued_by false true v g c s = (tt, told_former v v.held (front v.waiting))
+told-queued_by false false v g c s = told_inquiry v.inquiring v v.held g (front v.waiting)
+
+told-admitted_by : (o : Option Grant) (v : VoterState) (c s : ℕ) → AllTell (admitted_by o v c s).state.held (admitted_by o v c s).replies
+unfolding queued
+told-admitted_by None v c s = told-grant_front (queue v c s)
+told-admitted_by (Some g) v c s = told-queued_by _ _ v g c s
+
+told-admitted : (v : VoterState) (c s : ℕ) → AllTell (admitted v c s).state.held (admitted v c s).replies
+unfolding admitted
+told-admitted v c s = told-admitted_by v.held v c s
+
+all_append : (held : Option Grant) (xs ys : List ToClient) → AllTell held xs → AllTell held ys → AllTell held (xs ++ ys)
+all_append held [] ys h k = k
+all_append held (x ∷ xs) ys h k = (h.0, all_append held xs ys h.1 k)
+
+-- what told the vote before a step that ends no grant tells it after
+still_one : (v w : VoterState) → VoteMoves false v w → (client : ℕ) (body : ClientBody) → TellsVote v.held client body → TellsVote w.held client body
+still_one v w (inl k) client (tells.Locked stamp grant) t = k.held ∙ t
+still_one v w (inr k) client (tells.Locked stamp grant) t = absurd (none-some _ (sym k.0 ∙ t))
+still_one v w k client (tells.Fail stamp) t = tt
+still_one v w k client (tells.Inquire grant) t = tt
+
+still_all : (v w : VoterState) → VoteMoves false v w → (rs : List ToClient) → AllTell v.held rs → AllTell w.held rs
+still_all v w k [] t = tt
+still_all v w k (r ∷ rs) t = (still_one v w k r.client r.body t.0, still_all v w k rs t.1)
+
+same_stamp : (o : Option Grant) (w : Option ℕ) (c : ℕ) (g : Grant) (s : ℕ) → o ≡ Some g → g.client ≡ c → first_some (held_stamp o c) w ≡ Some s → g.stamp ≡ s
+same_stamp None w c g s is own stands = absurd (none-some g is)
+same_stamp (Some h) w c g s is own stands =
+    let client = ap (λ (k : Grant). k.client) (same_Some h g is) in
+    let stamp = ap (λ (k : Grant). k.stamp) (same_Some h g is) in
+    grind (arith, nat_tests)
+
+told_again_by : (b : Bool) (v : VoterState) (g : Grant) (c s : ℕ) → (g.client == c) ≡ b → v.held ≡ Some g → standing v c ≡ Some s → AllTell v.held (again_by b v g c s)
+told_again_by true v g c s e is stands =
+    let own : g.client ≡ c = grind (arith, nat_tests) in
+    let same : g.stamp ≡ s = same_stamp v.held (get v.waiting c) c g s is own stands in
+    (is ∙ (λ i. Some (record { client = own i; stamp = same i; grant = g.grant })), tt)
+told_again_by false v g c s e is stands = (tt, tt)
+
+told_again : (o : Option Grant) (v : VoterState) (c s : ℕ) → v.held ≡ o → standing v c ≡ Some s → AllTell v.held (again v o c s)
+told_again None v c s is stands = (tt, tt)
+told_again (Some g) v c s is stands = told_again_by _ v g c s refl is stands
+
+told-compared_by : (less same : Bool) (v : VoterState) (c s t : ℕ) → (s == t) ≡ same → standing v c ≡ Some t → AllTell (compared_by less same v c s t).state.held (compared_by less same v c s t).replies
+told-compared_by true same v c s t e stands = tt
+told-compared_by false true v c s t e stands = let same : t ≡ s = grind (arith, nat_tests) in told_again v.held v c s refl (stands ∙ ap (λ (n : ℕ). Some n) same)
+told-compared_by false false v c s t e stands =
+    let w = (released v c t).state in
+    let a = admitted w c s in
+    all_append a.state.held (released v c t).replies a.replies (still_all w a.state (moves-admitted w c s) (released v c t).replies (told-released v c t)) (told-admitted w c s)
+
+told-beside : (v : VoterState) (c s : ℕ) (o : Option ℕ) → standing v c ≡ o → AllTell (requested_beside v c s o).state.held (requested_beside v c s o).replies
+unfolding requested_beside
+told-beside v c s None stands = told-admitted v c s
+told-beside v c s (Some t) stands = told-compared_by _ _ v c s t refl stands
+
+told-requested_by : (done : Bool) (v : VoterState) (c s : ℕ) → AllTell (requested_by done v c s).state.held (requested_by done v c s).replies
+told-requested_by true v c s = tt
+told-requested_by false v c s = told-beside v c s (standing v c) refl
+
+told-put_back : (o : Option Grant) (v : VoterState) → AllTell (put_back o v).state.held (put_back o v).replies
+told-put_back None v = tt
+told-put_back (Some g) v = told-grant_front (queue (freed v) g.client g.stamp)
+
+told-relinquished_by : (b : Bool) (v : VoterState) → AllTell (relinquished_by b v).state.held (relinquished_by b v).replies
+told-relinquished_by true v = told-put_back v.held v
+told-relinquished_by false v = tt
+
+pub told_after : (v : VoterState) (c : ℕ) (b : VoterBody) → AllTell (outcome_of v c b).state.held (outcome_of v c b).replies
+unfolding relinquished requested
+told_after v c (asks.Request s) = told-requested_by _ (see v s) c s
+told_after v c (asks.Relinquish n) = told-relinquished_by _ v
+told_after v c (asks.Release s) = told-released (see v s) c s
+
+told_again_all : (out : Bool) (v : VoterState) (held : Option Grant) (g : Grant) → AllTell held (inquiry_again out v g)
+told_again_all true v held g = (tt, tt)
+told_again_all false v held g = tt
+
+told_remind : (o : Option Grant) (v : VoterState) → AllTell o (remind_of o v)
+told_remind None v = tt
+told_remind (Some g) v = (refl, told_again_all v.inquiring v (Some g) g)
+
+pub reminders_tell : (v : VoterState) → AllTell v.held (remind v)
+unfolding remind
+reminders_tell v = told_remind v.held v
+
+-- The step.
+
+pub contract_met : (v : VoterState) (m : ToVoter) (o : Outcome) → step v m ≡ Some o → MeetsContract v m o
+contract_met v m o e =
+    let P : Outcome → Type 0 = λ p. MeetsContract v m p in
+    let met : MeetsContract v m (outcome_of v m.client m.body) = record {
+      kept = grant_kept v m.client m.body;
+      entries = entries_after v m.client m.body;
+      told = told_after v m.client m.body;
+    } in
+    subst P (taken v m o e).1 met

@@ -1,0 +1,7 @@
+pub mod Contract
+pub mod Effects
+pub mod Front
+pub mod Grants
+pub mod Moves
+pub mod Queues
+pub mod Soundness

@@ -1,0 +1,127 @@
+-- what a message does to the vote
+use Rattle.std.proofs.Common.{◌≡◌, ◌≢◌, ℕ, ◌+◌, ◌<◌, ◌≤◌, Bool, true, false, Option, Some, None, refl, sym, ap, ◌∙◌, ◌⊎◌, inl, inr, arith, subst}
+use Rattle.std.specs.Prelude.{is_some, not, ◌&&◌, nat_lt, nat_le, ◌==◌, slice_index}
+use Rattle.std.specs.FinMap.{get}
+use Rattle.std.proofs.lemmas.Bool.Decides.{nat_tests}
+use Rattle.std.proofs.lemmas.Option.{none-some, same_Some}
+use Rattle.message.specs.declared.request.Request.{Request}
+use Rattle.message.specs.declared.message.VoterBody.{VoterBody}
+use Rattle.message.specs.declared.message.VoterBody.TheVariants as asks
+use Rattle.voter.specs.declared.state.Grant.{Grant}
+use Rattle.voter.specs.declared.state.VoterState.{VoterState}
+use Rattle.voter.specs.Waiting.{front}
+use Rattle.voter.specs.VoteMoves.{GrantStays, GrantEnds, GrantIsNew, VoteMoves}
+use Rattle.voter.specs.Steps.{grant_to, grant_front, released, released_by, queued, queued_by, admitted, admitted_by, queue, freed, finish, held_stamp, is_up_to, is_older, standing, first_some, requested, requested_by, requested_beside, compared_by, relinquished, relinquished_by, put_back, see, outcome_of, ends_grant, is_grant, is_ended, names_grant}
+use Rattle.voter.proofs.Grants.{up_to_own}
+
+stays : (v w : VoterState) → w.granted ≡ v.granted → w.held ≡ v.held → VoteMoves false v w
+stays v w n h = inl (record { granted = n; held = h })
+
+-- the vote is free, and goes to the front
+moves_to : (v u : VoterState) (o : Option Request) → u.granted ≡ v.granted → u.held ≡ None → VoteMoves true v (grant_to u o).state
+moves_to v u None n free = inl (record { granted = n; held = free })
+moves_to v u (Some r) n free = inr (record { granted = ap (λ (k : ℕ). k + 1) n; grant = record { client = r.client; stamp = r.stamp; grant = u.granted + 1 }; held = refl; number = ap (λ (k : ℕ). k + 1) n })
+
+moves-grant_front : (v u : VoterState) → u.granted ≡ v.granted → u.held ≡ None → VoteMoves true v (grant_front u).state
+unfolding grant_front
+moves-grant_front v u n free = moves_to v u (front u.waiting) n free
+
+moves-released_by : (holds waits : Bool) (v : VoterState) (c s : ℕ) → VoteMoves holds v (released_by holds waits v c s).state
+moves-released_by true waits v c s = moves-grant_front v (freed (finish v c s)) refl refl
+moves-released_by false true v c s = inl (record { granted = refl; held = refl })
+moves-released_by false false v c s = inl (record { granted = refl; held = refl })
+
+moves-released : (v : VoterState) (c s : ℕ) → VoteMoves (is_up_to (held_stamp v.held c) s) v (released v c s).state
+unfolding released
+moves-released v c s = moves-released_by _ _ v c s
+
+moves-queued_by : (waits granted : Bool) (v : VoterState) (g : Grant) (c s : ℕ) → VoteMoves false v (queued_by waits granted v g c s).state
+moves-queued_by true granted v g c s = inl (record { granted = refl; held = refl })
+moves-queued_by false true v g c s = inl (record { granted = refl; held = refl })
+moves-queued_by false false v g c s = inl (record { granted = refl; held = refl })
+
+moves-queued : (v : VoterState) (g : Grant) (c s : ℕ) → VoteMoves false v (queued v g c s).state
+unfolding queued
+moves-queued v g c s = moves-queued_by _ _ v g c s
+
+-- a free vote stays free or is granted
+from_free : (v w : VoterState) → v.held ≡ None → VoteMoves true v w → VoteMoves false v w
+from_free v w free (inl k) = inl (record { granted = k.granted; held = k.held ∙ sym free })
+from_free v w free (inr k) = inr (free, k)
+
+moves-admitted_by : (o : Option Grant) (v : VoterState) (c s : ℕ) → v.held ≡ o → VoteMoves false v (admitted_by o v c s).state
+moves-admitted_by None v c s is = from_free v (grant_front (queue v c s)).state is (moves-grant_front v (queue v c s) refl is)
+moves-admitted_by (Some g) v c s is = moves-queued v g c s
+
+pub moves-admitted : (v : VoterState) (c s : ℕ) → VoteMoves false v (admitted v c s).state
+unfolding admitted
+moves-admitted v c s = moves-admitted_by v.held v c s refl
+
+-- one step, and then one that ends no grant
+both : (e : Bool) (u v w : VoterState) → VoteMoves e u v → VoteMoves false v w → VoteMoves e u w
+both true u v w (inl h) (inl k) = inl (record { granted = k.granted ∙ h.granted; held = k.held ∙ h.held })
+both true u v w (inl h) (inr k) = inr (record { granted = k.1.granted ∙ ap (λ (n : ℕ). n + 1) h.granted; grant = k.1.grant; held = k.1.held; number = k.1.number ∙ ap (λ (n : ℕ). n + 1) h.granted })
+both true u v w (inr h) (inl k) = inr (record { granted = k.granted ∙ h.granted; grant = h.grant; held = k.held ∙ h.held; number = h.number })
+both true u v w (inr h) (inr k) = absurd (none-some h.grant (sym k.0 ∙ h.held))
+both false u v w (inl h) (inl k) = inl (record { granted = k.granted ∙ h.granted; held = k.held ∙ h.held })
+both false u v w (inl h) (inr k) = inr (sym h.held ∙ k.0, record { granted = k.1.granted ∙ ap (λ (n : ℕ). n + 1) h.granted; grant = k.1.grant; held = k.1.held; number = k.1.number ∙ ap (λ (n : ℕ). n + 1) h.granted })
+both false u v w (inr h) (inl k) = inr (h.0, record { granted = k.granted ∙ h.1.granted; grant = h.1.grant; held = k.held ∙ h.1.held; number = h.1.number })
+both false u v w (inr h) (inr k) = absurd (none-some h.1.grant (sym k.0 ∙ h.1.held))
+
+older_own : (o w : Option ℕ) (s t : ℕ) → first_some o w ≡ Some t → is_older o s ≡ is_some o && nat_lt t s
+older_own None w s t e = refl
+older_own (Some u) w s t e = grind (arith, nat_tests)
+
+moves-compared_by : (less same : Bool) (v : VoterState) (c s t : ℕ) → nat_lt s t ≡ less → (s == t) ≡ same → standing v c ≡ Some t → VoteMoves (is_older (held_stamp v.held c) s) v (compared_by less same v c s t).state
+moves-compared_by true same v c s t l e stands =
+    let own = older_own (held_stamp v.held c) (get v.waiting c) s t stands in
+    let no : is_older (held_stamp v.held c) s ≡ false = grind (arith, nat_tests) in
+    subst (λ b. VoteMoves b v v) (sym no) (stays v v refl refl)
+moves-compared_by false true v c s t l e stands =
+    let own = older_own (held_stamp v.held c) (get v.waiting c) s t stands in
+    let no : is_older (held_stamp v.held c) s ≡ false = grind (arith, nat_tests) in
+    subst (λ b. VoteMoves b v v) (sym no) (stays v v refl refl)
+moves-compared_by false false v c s t l e stands =
+    let own = older_own (held_stamp v.held c) (get v.waiting c) s t stands in
+    let up = up_to_own (held_stamp v.held c) (get v.waiting c) t stands in
+    let same_test : is_up_to (held_stamp v.held c) t ≡ is_older (held_stamp v.held c) s = grind (arith, nat_tests) in
+    let w = (released v c t).state in
+    subst (λ b. VoteMoves b v (admitted w c s).state) same_test (both _ v w (admitted w c s).state (moves-released v c t) (moves-admitted w c s))
+
+none_older : (o w : Option ℕ) (s : ℕ) → first_some o w ≡ None → is_older o s ≡ false
+none_older None w s e = refl
+none_older (Some u) w s e = grind (arith, nat_tests)
+
+moves-beside : (v : VoterState) (c s : ℕ) (o : Option ℕ) → standing v c ≡ o → VoteMoves (is_older (held_stamp v.held c) s) v (requested_beside v c s o).state
+unfolding requested_beside
+moves-beside v c s None stands = subst (λ b. VoteMoves b v (admitted v c s).state) (sym (none_older (held_stamp v.held c) (get v.waiting c) s stands)) (moves-admitted v c s)
+moves-beside v c s (Some t) stands = moves-compared_by _ _ v c s t refl refl stands
+
+moves-requested_by : (done : Bool) (v : VoterState) (c s : ℕ) → nat_le s (slice_index v.finished c) ≡ done → VoteMoves (nat_lt (slice_index v.finished c) s && is_older (held_stamp v.held c) s) v (requested_by done v c s).state
+moves-requested_by true v c s e =
+    let no : (nat_lt (slice_index v.finished c) s && is_older (held_stamp v.held c) s) ≡ false = grind (arith, nat_tests) in
+    subst (λ b. VoteMoves b v v) (sym no) (stays v v refl refl)
+moves-requested_by false v c s e =
+    let same : is_older (held_stamp v.held c) s ≡ (nat_lt (slice_index v.finished c) s && is_older (held_stamp v.held c) s) = grind (arith, nat_tests) in
+    subst (λ b. VoteMoves b v (requested_beside v c s (standing v c)).state) same (moves-beside v c s (standing v c) refl)
+
+moves-put_back : (o : Option Grant) (v : VoterState) → v.held ≡ o → VoteMoves true v (put_back o v).state
+moves-put_back None v is = inl (record { granted = refl; held = is })
+moves-put_back (Some g) v is = moves-grant_front v (queue (freed v) g.client g.stamp) refl refl
+
+moves-relinquished_by : (b : Bool) (v : VoterState) → VoteMoves b v (relinquished_by b v).state
+moves-relinquished_by true v = moves-put_back v.held v refl
+moves-relinquished_by false v = inl (record { granted = refl; held = refl })
+
+-- what was seen is no matter
+unseen : (e : Bool) (v : VoterState) (s : ℕ) (w : VoterState) → VoteMoves e (see v s) w → VoteMoves e v w
+unseen true v s w (inl k) = inl (record { granted = k.granted; held = k.held })
+unseen true v s w (inr k) = inr (record { granted = k.granted; grant = k.grant; held = k.held; number = k.number })
+unseen false v s w (inl k) = inl (record { granted = k.granted; held = k.held })
+unseen false v s w (inr k) = inr (k.0, record { granted = k.1.granted; grant = k.1.grant; held = k.1.held; number = k.1.number })
+
+pub vote_moves : (v : VoterState) (c : ℕ) (b : VoterBody) → VoteMoves (ends_grant v c b) v (outcome_of v c b).state
+unfolding relinquished requested ends_grant
+vote_moves v c (asks.Request s) = unseen _ v s _ (moves-requested_by _ (see v s) c s refl)
+vote_moves v c (asks.Relinquish n) = moves-relinquished_by _ v
+vote_moves v c (asks.Release s) = unseen _ v s _ (moves-released (see v s) c s)

@@ -1,0 +1,187 @@
+-- what is so of every voter stays so
+use Rattle.std.proofs.Common.{◌≡◌, ◌≢◌, ℕ, ◌+◌, ◌<◌, ◌≤◌, ◌^◌, Bool, true, false, cond, Option, Some, None, refl, sym, ap, ◌∙◌, ◌⊎◌, inl, inr, arith, subst, eqb}
+use Rattle.std.specs.Prelude.{is_some, not, ◌&&◌, nat_lt, nat_le, ◌==◌, slice_index, if◌then◌else◌}
+use Rattle.std.specs.Ordering.{nat_cmp, eq_by_cmp}
+use Rattle.std.specs.Cmp.{nat_cmp_total}
+use Rattle.std.specs.FinMap.{get, insert, remove, empty, get-insert, get-remove, get-empty}
+use Rattle.std.proofs.lemmas.Bool.Decides.{nat_tests}
+use Rattle.std.proofs.lemmas.Bool.{false≢true}
+use Rattle.std.proofs.lemmas.Option.{none-some, same_Some}
+use Rattle.message.specs.declared.request.Request.{Request}
+use Rattle.message.specs.declared.message.ToVoter.{ToVoter}
+use Rattle.message.specs.declared.message.VoterBody.{VoterBody}
+use Rattle.message.specs.declared.message.VoterBody.TheVariants as asks
+use Rattle.voter.specs.declared.state.Grant.{Grant}
+use Rattle.voter.specs.declared.state.VoterState.{VoterState}
+use Rattle.voter.specs.Waiting.{Waiting, front}
+use Rattle.voter.specs.Steps.{grant_to, grant_front, released, released_by, queued, queued_by, admitted, admitted_by, queue, freed, finish, held_stamp, is_up_to, standing, first_some, requested, requested_by, requested_beside, compared_by, relinquished, relinquished_by, put_back, see, outcome_of, needs_grant, is_refused, IsSound, start}
+use Rattle.voter.proofs.Front.{front_found, none_waits, eq_by_nat}
+use Rattle.voter.proofs.Grants.{granted_after, kept, up_to_own}
+
+-- The map.
+
+pub get_removed : (w : Waiting) (c d : ℕ) → get (remove w c) d ≡ cond (eqb d c) None (get w d)
+get_removed w c d = get-remove nat_cmp_total w c d ∙ ap (λ b. cond b None (get w d)) (eq_by_nat d c)
+
+pub get_inserted : (w : Waiting) (c s d : ℕ) → get (insert w c s) d ≡ cond (eqb d c) (Some s) (get w d)
+get_inserted w c s d = get-insert nat_cmp_total w c s d ∙ ap (λ b. cond b (Some s) (get w d)) (eq_by_nat d c)
+
+removed_self : (w : Waiting) (c : ℕ) → get (remove w c) c ≡ None
+removed_self w c = get_removed w c c ∙ grind (arith, nat_tests)
+
+pub still_none : (w : Waiting) (c d : ℕ) → get w d ≡ None → get (remove w c) d ≡ None
+still_none w c d e = get_removed w c d ∙ grind (arith, nat_tests)
+
+other_inserted : (w : Waiting) (c s d : ℕ) → d ≢ c → get w d ≡ None → get (insert w c s) d ≡ None
+other_inserted w c s d ne e = get_inserted w c s d ∙ grind (arith, nat_tests)
+
+-- The vote and the queue.
+
+pub record IsOrderly (v : VoterState) : Type 0 where
+  pub numbered : (g : Grant) → v.held ≡ Some g → g.grant ≤ v.granted
+  pub apart : (g : Grant) → v.held ≡ Some g → get v.waiting g.client ≡ None
+  pub free : v.held ≡ None → (client : ℕ) → get v.waiting client ≡ None
+
+orderly-grant_to : (v : VoterState) (o : Option Request) → front v.waiting ≡ o → v.held ≡ None → IsOrderly (grant_to v o).state
+orderly-grant_to v None is free = record {
+  numbered = λ g held. absurd (none-some g (sym free ∙ held));
+  apart = λ g held. absurd (none-some g (sym free ∙ held));
+  free = λ _ c. none_waits v.waiting is c;
+}
+orderly-grant_to v (Some r) is free =
+    let new : Grant = record { client = r.client; stamp = r.stamp; grant = v.granted + 1 } in
+    record {
+      numbered = λ g held. let same = ap (λ (k : Grant). k.grant) (same_Some new g held) in omega arith;
+      apart = λ g held. ap (get (remove v.waiting r.client)) (sym (ap (λ (k : Grant). k.client) (same_Some new g held))) ∙ removed_self v.waiting r.client;
+      free = λ none. absurd (none-some new (sym none));
+    }
+
+orderly-grant_front : (v : VoterState) → v.held ≡ None → IsOrderly (grant_front v).state
+unfolding grant_front
+orderly-grant_front v free = orderly-grant_to v (front v.waiting) refl free
+
+orderly-released_by : (holds waits : Bool) (v : VoterState) (c s : ℕ) → IsOrderly v → IsOrderly (released_by holds waits v c s).state
+orderly-released_by true waits v c s h = orderly-grant_front (freed (finish v c s)) refl
+orderly-released_by false true v c s h = record {
+  numbered = h.numbered;
+  apart = λ g held. still_none v.waiting c g.client (h.apart g held);
+  free = λ none d. still_none v.waiting c d (h.free none d);
+}
+orderly-released_by false false v c s h = record { numbered = h.numbered; apart = h.apart; free = h.free }
+
+orderly-released : (v : VoterState) (c s : ℕ) → IsOrderly v → IsOrderly (released v c s).state
+unfolding released
+orderly-released v c s h = orderly-released_by _ _ v c s h
+
+not_holder : (o : Option Grant) (c : ℕ) (g : Grant) → held_stamp o c ≡ None → o ≡ Some g → g.client ≢ c
+not_holder None c g none is = absurd (none-some g is)
+not_holder (Some h) c g none is = λ e. let same = ap (λ (k : Grant). k.client) (same_Some h g is) in absurd (none-some h.stamp (sym none ∙ grind (arith, nat_tests)))
+
+orderly_queue : (v : VoterState) (g : Grant) (c s : ℕ) → v.held ≡ Some g → held_stamp v.held c ≡ None → IsOrderly v → IsOrderly (queue v c s)
+orderly_queue v g c s is away h = record {
+  numbered = h.numbered;
+  apart = λ k held. other_inserted v.waiting c s k.client (not_holder v.held c k away held) (h.apart k held);
+  free = λ none. absurd (none-some g (sym none ∙ is));
+}
+
+orderly-queued_by : (waits granted : Bool) (v : VoterState) (g : Grant) (c s : ℕ) → v.held ≡ Some g → held_stamp v.held c ≡ None → IsOrderly v → IsOrderly (queued_by waits granted v g c s).state
+orderly-queued_by true granted v g c s is away h = orderly_queue v g c s is away h
+orderly-queued_by false true v g c s is away h = orderly_queue v g c s is away h
+orderly-queued_by false false v g c s is away h = let k = orderly_queue v g c s is away h in record { numbered = k.numbered; apart = k.apart; free = k.free }
+
+orderly-admitted_by : (o : Option Grant) (v : VoterState) (c s : ℕ) → v.held ≡ o → held_stamp v.held c ≡ None → IsOrderly v → IsOrderly (admitted_by o v c s).state
+unfolding queued
+orderly-admitted_by None v c s is away h = orderly-grant_front (queue v c s) is
+orderly-admitted_by (Some g) v c s is away h = orderly-queued_by _ _ v g c s is away h
+
+orderly-admitted : (v : VoterState) (c s : ℕ) → held_stamp v.held c ≡ None → IsOrderly v → IsOrderly (admitted v c s).state
+unfolding admitted
+orderly-admitted v c s away h = orderly-admitted_by v.held v c s refl away h
+
+-- After its release a client does not hold the vote.
+
+away-grant_to : (v : VoterState) (o : Option Request) (c : ℕ) → front v.waiting ≡ o → v.held ≡ None → get v.waiting c ≡ None → held_stamp (grant_to v o).state.held c ≡ None
+away-grant_to v None c is free none = ap (λ (h : Option Grant). held_stamp h c) free
+away-grant_to v (Some r) c is free none =
+    elim (eqb r.client c) as (λ b. eqb r.client c ≡ b → cond b (Some r.stamp) None ≡ None) [
+      | true ↦ λ e. let same : r.client ≡ c = grind (arith, nat_tests) in absurd (none-some r.stamp (sym (ap (get v.waiting) same ∙ none) ∙ front_found v.waiting r is))
+      | false ↦ λ e. refl
+    ] refl
+
+away-grant_front : (v : VoterState) (c : ℕ) → v.held ≡ None → get v.waiting c ≡ None → held_stamp (grant_front v).state.held c ≡ None
+unfolding grant_front
+away-grant_front v c free none = away-grant_to v (front v.waiting) c refl free none
+
+none_of : (o : Option ℕ) → is_some o ≡ false → o ≡ None
+none_of None e = refl
+none_of (Some s) e = absurd (false≢true (sym e))
+
+holder_of : (o : Option Grant) (c : ℕ) → is_some (held_stamp o c) ≡ true → (g : Grant) × (o ≡ Some g) × (g.client ≡ c)
+holder_of None c e = absurd (false≢true e)
+holder_of (Some g) c e = (g, refl, grind (arith, nat_tests))
+
+away-released_by : (holds waits : Bool) (v : VoterState) (c t : ℕ) → is_up_to (held_stamp v.held c) t ≡ holds → standing v c ≡ Some t → IsOrderly v → held_stamp (released_by holds waits v c t).state.held c ≡ None
+away-released_by true waits v c t e stands h =
+    let own = holder_of v.held c (sym (up_to_own (held_stamp v.held c) (get v.waiting c) t stands) ∙ e) in
+    away-grant_front (freed (finish v c t)) c refl (ap (get v.waiting) (sym own.2) ∙ h.apart own.0 own.1)
+away-released_by false true v c t e stands h = none_of (held_stamp v.held c) (sym (up_to_own (held_stamp v.held c) (get v.waiting c) t stands) ∙ e)
+away-released_by false false v c t e stands h = none_of (held_stamp v.held c) (sym (up_to_own (held_stamp v.held c) (get v.waiting c) t stands) ∙ e)
+
+pub away-released : (v : VoterState) (c t : ℕ) → standing v c ≡ Some t → IsOrderly v → held_stamp (released v c t).state.held c ≡ None
+unfolding released
+away-released v c t stands h = away-released_by _ _ v c t refl stands h
+
+orderly-compared_by : (less same : Bool) (v : VoterState) (c s t : ℕ) → standing v c ≡ Some t → IsOrderly v → IsOrderly (compared_by less same v c s t).state
+orderly-compared_by true same v c s t stands h = h
+orderly-compared_by false true v c s t stands h = h
+orderly-compared_by false false v c s t stands h = orderly-admitted (released v c t).state c s (away-released v c t stands h) (orderly-released v c t h)
+
+away_none : (o w : Option ℕ) → first_some o w ≡ None → o ≡ None
+away_none None w e = refl
+away_none (Some s) w e = absurd (none-some s (sym e))
+
+orderly-beside : (v : VoterState) (c s : ℕ) (o : Option ℕ) → standing v c ≡ o → IsOrderly v → IsOrderly (requested_beside v c s o).state
+unfolding requested_beside
+orderly-beside v c s None stands h = orderly-admitted v c s (away_none (held_stamp v.held c) (get v.waiting c) stands) h
+orderly-beside v c s (Some t) stands h = orderly-compared_by _ _ v c s t stands h
+
+orderly-requested_by : (done : Bool) (v : VoterState) (c s : ℕ) → IsOrderly v → IsOrderly (requested_by done v c s).state
+orderly-requested_by true v c s h = h
+orderly-requested_by false v c s h = orderly-beside v c s (standing v c) refl h
+
+orderly-put_back : (o : Option Grant) (v : VoterState) → IsOrderly v → IsOrderly (put_back o v).state
+orderly-put_back None v h = h
+orderly-put_back (Some g) v h = orderly-grant_front (queue (freed v) g.client g.stamp) refl
+
+orderly-relinquished_by : (b : Bool) (v : VoterState) → IsOrderly v → IsOrderly (relinquished_by b v).state
+orderly-relinquished_by true v h = orderly-put_back v.held v h
+orderly-relinquished_by false v h = h
+
+orderly_see : (v : VoterState) (s : ℕ) → IsOrderly v → IsOrderly (see v s)
+orderly_see v s h = record { numbered = h.numbered; apart = h.apart; free = h.free }
+
+pub orderly_after : (v : VoterState) (c : ℕ) (b : VoterBody) → IsOrderly v → IsOrderly (outcome_of v c b).state
+unfolding relinquished requested
+orderly_after v c (asks.Request s) h = orderly-requested_by _ (see v s) c s (orderly_see v s h)
+orderly_after v c (asks.Relinquish n) h = orderly-relinquished_by _ v h
+orderly_after v c (asks.Release s) h = orderly-released (see v s) c s (orderly_see v s h)
+
+-- With the limit.
+
+pub sound_after : (v : VoterState) (m : ToVoter) → IsSound v → is_refused v m ≡ false → IsSound (outcome_of v m.client m.body).state
+sound_after v m sound enough =
+    let g = granted_after v m.client m.body in
+    let k = kept v m.client m.body in
+    let s = sound.granted in
+    let l = sound.limit in
+    let o = orderly_after v m.client m.body (record { numbered = sound.numbered; apart = sound.apart; free = sound.free }) in
+    record { limit = rw k.limit l; granted = (let same = k.limit in grind (arith, nat_tests)); numbered = o.numbered; apart = o.apart; free = o.free }
+
+pub sound_start : (id limit : ℕ) → limit ≤ 2 ^ 40 → IsSound (start id limit)
+sound_start id limit most = record {
+  limit = most;
+  granted = omega arith;
+  numbered = λ g held. absurd (none-some g held);
+  apart = λ g held. absurd (none-some g held);
+  free = λ _ c. get-empty nat_cmp c;
+}

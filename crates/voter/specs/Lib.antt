@@ -1,0 +1,4 @@
+pub mod Steps
+pub mod VoteMoves
+pub mod VoterContract
+pub mod Waiting

@@ -1,0 +1,295 @@
+-- The steps of a voter: what a message makes it reply, and what it is afterwards (Maekawa, ACM TOCS 3(2), 1985, with
+-- rules for repeated messages).
+use Rattle.std.specs.Prelude.{ℕ, ◌≡◌, ◌≤◌, ◌+◌, ◌==◌, ◌^◌, nat_lt, nat_le, Bool, true, false, ◌&&◌, ◌||◌, not, List, [], ◌∷◌, ◌++◌, Option, Some, None, if◌then◌else◌, slice_index, slice_set, replicate, max, is_none, is_some}
+use Rattle.std.specs.FinMap.{get, insert, remove, empty}
+use Rattle.message.specs.declared.request.Request.{Request}
+use Rattle.message.specs.declared.message.ToVoter.{ToVoter}
+use Rattle.message.specs.declared.message.ToClient.{ToClient}
+use Rattle.message.specs.declared.message.VoterBody.{VoterBody}
+use Rattle.message.specs.declared.message.VoterBody.TheVariants as asks
+use Rattle.message.specs.declared.message.ClientBody.{ClientBody}
+use Rattle.message.specs.declared.message.ClientBody.TheVariants as tells
+use Rattle.voter.specs.declared.state.Grant.{Grant}
+use Rattle.voter.specs.declared.state.VoterState.{VoterState}
+use Rattle.voter.specs.declared.state.Effect.{Effect}
+use Rattle.voter.specs.Waiting.{Waiting, precedes, front}
+
+-- the replies, in order, and the voter afterwards
+pub record Outcome : Type 0 where
+  pub replies : List ToClient
+  pub state : VoterState
+
+abbrev pub silent : VoterState → Outcome
+silent v = record { replies = []; state = v }
+
+-- one thing, and then another
+abbrev pub and_then : Outcome → Outcome → Outcome
+and_then a b = record { replies = a.replies ++ b.replies; state = b.state }
+
+-- a reply carries the highest stamp that the voter saw
+abbrev pub reply : VoterState → ℕ → ClientBody → ToClient
+reply v client body = record { voter = v.id; client = client; seen = v.seen; body = body }
+
+-- Granting
+
+-- the vote goes to this request, under the next number, and it waits no more
+abbrev pub granted_to : VoterState → Request → VoterState
+granted_to v r = record v {
+  held = Some (record { client = r.client; stamp = r.stamp; grant = v.granted + 1 });
+  inquiring = false;
+  waiting = remove v.waiting r.client;
+  granted = v.granted + 1;
+}
+
+-- and it is told so by LOCKED
+abbrev pub grant_to : VoterState → Option Request → Outcome
+grant_to v None = silent v
+grant_to v (Some r) = record {
+  replies = reply v r.client (tells.Locked r.stamp (v.granted + 1)) ∷ [];
+  state = granted_to v r;
+}
+
+-- the vote goes to the front of the queue, if a request waits
+unfoldable pub grant_front : VoterState → Outcome
+grant_front v = grant_to v (front v.waiting)
+
+-- the grant ends
+abbrev pub freed : VoterState → VoterState
+freed v = record v { held = None; inquiring = false }
+
+-- the stamp with which this client holds the vote
+abbrev pub held_stamp : Option Grant → ℕ → Option ℕ
+held_stamp None client = None
+held_stamp (Some g) client = if g.client == client then Some g.stamp else None
+
+-- the stamp of the client's request that holds the vote, or else waits
+abbrev pub first_some : Option ℕ → Option ℕ → Option ℕ
+first_some None o = o
+first_some (Some s) o = Some s
+
+abbrev pub standing : VoterState → ℕ → Option ℕ
+standing v client = first_some (held_stamp v.held client) (get v.waiting client)
+
+-- RELEASE
+
+-- there is a stamp, and it is at most this one
+abbrev pub is_up_to : Option ℕ → ℕ → Bool
+is_up_to None stamp = false
+is_up_to (Some s) stamp = nat_le s stamp
+
+-- the client's requests up to this stamp are finished
+abbrev pub finish : VoterState → ℕ → ℕ → VoterState
+finish v client stamp = record v { finished = slice_set v.finished client (max (slice_index v.finished client) stamp) }
+
+-- the client waits no more
+abbrev pub withdraw : VoterState → ℕ → VoterState
+withdraw v client = record v { waiting = remove v.waiting client }
+
+-- by whether the client holds the vote with a stamp of at most this one, and whether it waits with one
+abbrev pub released_by : Bool → Bool → VoterState → ℕ → ℕ → Outcome
+released_by true waits v client stamp = grant_front (freed (finish v client stamp))
+released_by false true v client stamp = silent (withdraw (finish v client stamp) client)
+released_by false false v client stamp = silent (finish v client stamp)
+
+unfoldable pub released : VoterState → ℕ → ℕ → Outcome
+released v client stamp = released_by (is_up_to (held_stamp v.held client) stamp) (is_up_to (get v.waiting client) stamp) v client stamp
+
+-- REQUEST
+
+-- the client waits with this stamp
+abbrev pub queue : VoterState → ℕ → ℕ → VoterState
+queue v client stamp = record v { waiting = insert v.waiting client stamp }
+
+-- INQUIRE to the holder, unless one is outstanding
+abbrev pub inquiry : Bool → VoterState → Grant → List ToClient
+inquiry true v g = []
+inquiry false v g = reply v g.client (tells.Inquire g.grant) ∷ []
+
+-- FAIL to the request that was first in the queue until now
+abbrev pub fail_former : VoterState → Option Request → List ToClient
+fail_former v None = []
+fail_former v (Some q) = reply v q.client (tells.Fail q.stamp) ∷ []
+
+-- A new request while another holds the vote, by whether one that waits precedes it, and whether the granted one does.
+-- Where none precedes it the holder is asked to give the vote back; where it is first in the queue, the former first
+-- one is told that another precedes it.
+abbrev pub queued_by : Bool → Bool → VoterState → Grant → ℕ → ℕ → Outcome
+queued_by true granted v g client stamp = record {
+  replies = reply v client (tells.Fail stamp) ∷ [];
+  state = queue v client stamp;
+}
+queued_by false true v g client stamp = record {
+  replies = reply v client (tells.Fail stamp) ∷ fail_former v (front v.waiting);
+  state = queue v client stamp;
+}
+queued_by false false v g client stamp = record {
+  replies = inquiry v.inquiring v g ++ fail_former v (front v.waiting);
+  state = record (queue v client stamp) { inquiring = true };
+}
+
+abbrev pub is_before : Option Request → Request → Bool
+is_before None r = false
+is_before (Some q) r = precedes q r
+
+unfoldable pub queued : VoterState → Grant → ℕ → ℕ → Outcome
+queued v g client stamp =
+    queued_by (is_before (front v.waiting) (record { stamp = stamp; client = client }))
+    (precedes (record { stamp = g.stamp; client = g.client }) (record { stamp = stamp; client = client }))
+    v g client stamp
+
+-- a new request, of a client that neither holds the vote nor waits, by who holds the vote
+abbrev pub admitted_by : Option Grant → VoterState → ℕ → ℕ → Outcome
+admitted_by None v client stamp = grant_front (queue v client stamp)
+admitted_by (Some g) v client stamp = queued v g client stamp
+
+unfoldable pub admitted : VoterState → ℕ → ℕ → Outcome
+admitted v client stamp = admitted_by v.held v client stamp
+
+-- the answer to a repeated request: LOCKED again to the holder, FAIL again to one that waits
+abbrev pub again_by : Bool → VoterState → Grant → ℕ → ℕ → List ToClient
+again_by true v g client stamp = reply v client (tells.Locked stamp g.grant) ∷ []
+again_by false v g client stamp = reply v client (tells.Fail stamp) ∷ []
+
+abbrev pub again : VoterState → Option Grant → ℕ → ℕ → List ToClient
+again v None client stamp = reply v client (tells.Fail stamp) ∷ []
+again v (Some g) client stamp = again_by (g.client == client) v g client stamp
+
+-- by whether the request is older than the client's one that stands, and whether it is that one; a newer request
+-- finishes the older one first
+abbrev pub compared_by : Bool → Bool → VoterState → ℕ → ℕ → ℕ → Outcome
+compared_by true same v client stamp s = silent v
+compared_by false true v client stamp s = record { replies = again v v.held client stamp; state = v }
+compared_by false false v client stamp s = and_then (released v client s) (admitted (released v client s).state client stamp)
+
+-- by the stamp of the client's request that stands
+unfoldable pub requested_beside : VoterState → ℕ → ℕ → Option ℕ → Outcome
+requested_beside v client stamp None = admitted v client stamp
+requested_beside v client stamp (Some s) = compared_by (nat_lt stamp s) (stamp == s) v client stamp s
+
+-- by whether the request is finished
+abbrev pub requested_by : Bool → VoterState → ℕ → ℕ → Outcome
+requested_by true v client stamp = silent v
+requested_by false v client stamp = requested_beside v client stamp (standing v client)
+
+unfoldable pub requested : VoterState → ℕ → ℕ → Outcome
+requested v client stamp = requested_by (nat_le stamp (slice_index v.finished client)) v client stamp
+
+-- RELINQUISH
+
+-- the grant is this client's, and has this number
+abbrev pub is_grant : Option Grant → ℕ → ℕ → Bool
+is_grant None client grant = false
+is_grant (Some g) client grant = g.client == client && g.grant == grant
+
+-- the granted request goes back into the queue, and the vote to the front
+abbrev pub put_back : Option Grant → VoterState → Outcome
+put_back None v = silent v
+put_back (Some g) v = grant_front (queue (freed v) g.client g.stamp)
+
+abbrev pub relinquished_by : Bool → VoterState → Outcome
+relinquished_by true v = put_back v.held v
+relinquished_by false v = silent v
+
+unfoldable pub relinquished : VoterState → ℕ → ℕ → Outcome
+relinquished v client grant = relinquished_by (is_grant v.held client grant) v
+
+-- Any message
+
+-- this stamp has been seen
+abbrev pub see : VoterState → ℕ → VoterState
+see v stamp = record v { seen = max v.seen stamp }
+
+-- what a message does, where enough grants are left
+abbrev pub outcome_of : VoterState → ℕ → VoterBody → Outcome
+outcome_of v client (asks.Request stamp) = requested (see v stamp) client stamp
+outcome_of v client (asks.Relinquish grant) = relinquished v client grant
+outcome_of v client (asks.Release stamp) = released (see v stamp) client stamp
+
+-- nothing, where more grants would have been given than the limit
+abbrev pub unless_spent : Bool → Outcome → Option Outcome
+unless_spent true o = None
+unless_spent false o = Some o
+
+-- one step: none where it would give more grants than the limit
+unfoldable pub step : VoterState → ToVoter → Option Outcome
+step v m = unless_spent (nat_lt v.limit (outcome_of v m.client m.body).state.granted) (outcome_of v m.client m.body)
+
+-- Reminders
+
+-- INQUIRE again, if one is outstanding
+abbrev pub inquiry_again : Bool → VoterState → Grant → List ToClient
+inquiry_again true v g = reply v g.client (tells.Inquire g.grant) ∷ []
+inquiry_again false v g = []
+
+abbrev pub remind_of : Option Grant → VoterState → List ToClient
+remind_of None v = []
+remind_of (Some g) v = reply v g.client (tells.Locked g.stamp g.grant) ∷ inquiry_again v.inquiring v g
+
+-- LOCKED again to the holder
+unfoldable pub remind : VoterState → List ToClient
+remind v = remind_of v.held v
+
+-- What a message would do
+
+-- the grant of this number holds the vote
+abbrev pub names_grant : Option Grant → ℕ → Bool
+names_grant None grant = false
+names_grant (Some g) grant = g.grant == grant
+
+-- a grant that was held is held no more
+abbrev pub is_ended : Option Grant → Option Grant → Bool
+is_ended None after = false
+is_ended (Some g) after = not (names_grant after g.grant)
+
+abbrev pub effect_by : VoterState → Option Outcome → Effect
+effect_by v None = record { frees = false; refused = true }
+effect_by v (Some o) = record { frees = is_ended v.held o.state.held; refused = false }
+
+-- whether the step would end the current grant, and whether it would be refused
+unfoldable pub effect_of : VoterState → ToVoter → Effect
+effect_of v m = effect_by v (step v m)
+
+-- The first state
+
+-- a voter that was told nothing
+abbrev pub start : ℕ → ℕ → VoterState
+start id limit = record { id = id; limit = limit; held = None; inquiring = false; waiting = empty; finished = replicate 64 0; granted = 0; seen = 0 }
+
+-- How the code looks ahead
+
+abbrev pub is_later : Option ℕ → ℕ → Bool
+is_later None stamp = true
+is_later (Some s) stamp = nat_lt s stamp
+
+-- a message needs a new grant
+unfoldable pub needs_grant : VoterState → ℕ → VoterBody → Bool
+needs_grant v client (asks.Request stamp) =
+    nat_lt (slice_index v.finished client) stamp && is_later (standing v client) stamp && (is_none v.held || is_some (held_stamp v.held client))
+needs_grant v client (asks.Relinquish grant) = is_grant v.held client grant
+needs_grant v client (asks.Release stamp) = is_up_to (held_stamp v.held client) stamp && is_some (front v.waiting)
+
+-- a message needs a new grant, and none is left
+abbrev pub is_refused : VoterState → ToVoter → Bool
+is_refused v m = needs_grant v m.client m.body && nat_le v.limit v.granted
+
+-- there is a stamp, and it is less than this one
+abbrev pub is_older : Option ℕ → ℕ → Bool
+is_older None stamp = false
+is_older (Some s) stamp = nat_lt s stamp
+
+-- a message ends the current grant
+unfoldable pub ends_grant : VoterState → ℕ → VoterBody → Bool
+ends_grant v client (asks.Request stamp) = nat_lt (slice_index v.finished client) stamp && is_older (held_stamp v.held client) stamp
+ends_grant v client (asks.Relinquish grant) = is_grant v.held client grant
+ends_grant v client (asks.Release stamp) = is_up_to (held_stamp v.held client) stamp
+
+-- what is so of every voter
+pub record IsSound (v : VoterState) : Type 0 where
+  pub limit : v.limit ≤ 2 ^ 40
+  pub granted : v.granted ≤ v.limit
+  -- a grant was given
+  pub numbered : (g : Grant) → v.held ≡ Some g → g.grant ≤ v.granted
+  -- a client that holds the vote does not wait
+  pub apart : (g : Grant) → v.held ≡ Some g → get v.waiting g.client ≡ None
+  -- while the vote is free, nobody waits
+  pub free : v.held ≡ None → (client : ℕ) → get v.waiting client ≡ None

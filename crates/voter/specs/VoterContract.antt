@@ -1,0 +1,78 @@
+-- The contract of a voter: all that proofs about many voters and clients need of its steps.
+use Rattle.std.specs.Prelude.{ℕ, ◌≡◌, ◌+◌, ◌<◌, ◌≤◌, List, Option, Some, None, Bool, true, false, max, length, count_by, ◌⊎◌}
+use Rattle.std.specs.List.{AllByRecursion}
+use Rattle.std.specs.FinMap.{get}
+use Rattle.message.specs.declared.message.ToVoter.{ToVoter}
+use Rattle.message.specs.declared.message.ToClient.{ToClient}
+use Rattle.message.specs.declared.message.VoterBody.{VoterBody}
+use Rattle.message.specs.declared.message.VoterBody.TheVariants as asks
+use Rattle.message.specs.declared.message.ClientBody.{ClientBody}
+use Rattle.message.specs.declared.message.ClientBody.TheVariants as tells
+use Rattle.voter.specs.declared.state.Grant.{Grant}
+use Rattle.voter.specs.declared.state.VoterState.{VoterState}
+use Rattle.voter.specs.Steps.{Outcome}
+
+-- a LOCKED names the vote
+abbrev pub TellsVote : Option Grant → ℕ → ClientBody → Type 0
+TellsVote held client (tells.Locked stamp grant) = held ≡ Some (record { client = client; stamp = stamp; grant = grant })
+TellsVote held client (tells.Fail stamp) = Unit {0}
+TellsVote held client (tells.Inquire grant) = Unit {0}
+
+abbrev pub AllTell : Option Grant → List ToClient → Type 0
+AllTell held replies = AllByRecursion (λ r. TellsVote held r.client r.body) replies
+
+-- The messages that end a grant: of its client a REQUEST with a greater stamp, a RELEASE with a stamp at least as
+-- great, and a RELINQUISH with its number.
+abbrev pub Ends : ℕ → VoterBody → Grant → Type 0
+Ends client (asks.Request stamp) g = (g.client ≡ client) × (g.stamp < stamp)
+Ends client (asks.Relinquish grant) g = (g.client ≡ client) × (g.grant ≡ grant)
+Ends client (asks.Release stamp) g = (g.client ≡ client) × (g.stamp ≤ stamp)
+
+-- this request of a client holds the vote, or waits
+abbrev pub IsEntry : VoterState → ℕ → ℕ → Type 0
+IsEntry v client stamp =
+    ((g : Grant) × (v.held ≡ Some g) × (g.client ≡ client) × (g.stamp ≡ stamp)) ⊎ (get v.waiting client ≡ Some stamp)
+
+-- the message is this request
+abbrev pub Brings : ℕ → VoterBody → ℕ → ℕ → Type 0
+Brings client (asks.Request stamp) c s = (c ≡ client) × (s ≡ stamp)
+Brings client (asks.Relinquish grant) c s = ⊥
+Brings client (asks.Release stamp) c s = ⊥
+
+pub record MeetsContract (v : VoterState) (m : ToVoter) (o : Outcome) : Type 0 where
+  -- a grant stays, or the message ends it
+  pub kept : (g : Grant) → v.held ≡ Some g → (o.state.held ≡ Some g) ⊎ Ends m.client m.body g
+  -- each entry was one before, or the message is its request
+  pub entries : (client stamp : ℕ) → IsEntry o.state client stamp → IsEntry v client stamp ⊎ Brings m.client m.body client stamp
+  -- each LOCKED tells the vote as it stands
+  pub told : AllTell o.state.held o.replies
+
+-- The replies carry what the voter is and what it saw.
+
+-- the highest stamp that was seen, with that of a REQUEST or a RELEASE
+abbrev pub seen_after : ℕ → VoterBody → ℕ
+seen_after seen (asks.Request stamp) = max seen stamp
+seen_after seen (asks.Relinquish grant) = seen
+seen_after seen (asks.Release stamp) = max seen stamp
+
+abbrev pub AllCarry : ℕ → ℕ → List ToClient → Type 0
+AllCarry id seen replies = AllByRecursion (λ r. (r.voter ≡ id) × (r.seen ≡ seen)) replies
+
+-- FAIL goes to a client that waits, with the stamp of its request; INQUIRE goes to the holder, with the number of its
+-- grant
+abbrev pub TellsState : VoterState → ℕ → ClientBody → Type 0
+TellsState v client (tells.Locked stamp grant) = v.held ≡ Some (record { client = client; stamp = stamp; grant = grant })
+TellsState v client (tells.Fail stamp) = get v.waiting client ≡ Some stamp
+TellsState v client (tells.Inquire grant) = (g : Grant) × (v.held ≡ Some g) × (g.client ≡ client) × (g.grant ≡ grant)
+
+abbrev pub AllTellState : VoterState → List ToClient → Type 0
+AllTellState v replies = AllByRecursion (λ r. TellsState v r.client r.body) replies
+
+abbrev pub is_locked : ClientBody → Bool
+is_locked (tells.Locked stamp grant) = true
+is_locked (tells.Fail stamp) = false
+is_locked (tells.Inquire grant) = false
+
+-- how many of the replies are LOCKED
+abbrev pub locked_count : List ToClient → ℕ
+locked_count replies = count_by (λ r. is_locked r.body) replies

@@ -1,0 +1,48 @@
+-- The waiting requests of a voter: a map from each waiting client to its stamp.
+use Rattle.std.specs.Prelude.{ℕ, ◌≡◌, ◌≢◌, ◌<◌, ◌==◌, nat_lt, Bool, true, not, ◌&&◌, ◌||◌, List, [], ◌∷◌, map, Option, Some, None, IsTrue, if◌then◌else◌}
+use Rattle.std.specs.Ordering.{nat_cmp}
+use Rattle.std.specs.List.{AllByRecursion, filter}
+use Rattle.std.specs.FinMap.{FinMap, entries, from_entries}
+use Rattle.message.specs.declared.request.Request.{Request}
+
+abbrev pub Waiting : Type 0
+Waiting = FinMap nat_cmp ℕ
+
+-- the smaller stamp, and then the smaller client, precedes
+abbrev pub precedes : Request → Request → Bool
+precedes a b = nat_lt a.stamp b.stamp || (a.stamp == b.stamp && nat_lt a.client b.client)
+
+abbrev pub request : ℕ × ℕ → Request
+request e = record { stamp = e.1; client = e.0 }
+
+abbrev pub first_of : Request → Option Request → Request
+first_of r None = r
+first_of r (Some q) = if precedes q r then q else r
+
+-- the one of these that precedes the others
+abbrev pub least : List (ℕ × ℕ) → Option Request
+least [] = None
+least (e ∷ es) = Some (first_of (request e) (least es))
+
+-- the request that precedes the others
+unfoldable pub front : Waiting → Option Request
+front w = least (entries w)
+
+-- how the code keeps them: in order
+abbrev pub entry : Request → ℕ × ℕ
+entry r = (r.client, r.stamp)
+
+unfoldable pub waiting_of : List Request → Waiting
+waiting_of rs = from_entries (map entry rs)
+
+pub record Follows (r q : Request) : Type 0 where
+  pub later : precedes r q ≡ true
+  pub other : r.client ≢ q.client
+
+abbrev pub IsQueue : List Request → Type 0
+IsQueue [] = Unit {0}
+IsQueue (r ∷ rs) = (r.client < 64) × AllByRecursion (Follows r) rs × IsQueue rs
+
+-- the requests of other clients
+abbrev pub without : ℕ → List Request → List Request
+without client rs = filter (λ r. not (r.client == client)) rs

@@ -1,0 +1,27 @@
+//! Laws of the definitions.
+ghost use Rattle.std.specs.Prelude.{◌≡◌, ◌≤◌, ◌^◌, ℕ, Some, length};
+ghost use Rattle.message.specs.declared.message.ToVoter.{ToVoter};
+ghost use Rattle.voter.specs.declared.state.VoterState.{VoterState};
+ghost use Rattle.voter.specs.Steps.{IsSound, Outcome, effect_of, remind, start, step};
+ghost use Rattle.voter.specs.VoteMoves.{VoteMoves};
+ghost use Rattle.voter.specs.VoterContract.{AllTell, MeetsContract};
+
+/// A grant stays until a message of its holder ends it, only requests that came hold the vote or wait, and each LOCKED
+/// tells the vote as it stands after the step; so does a reminder.
+pub fn voters_meet_the_contract()
+    ensures steps { (v : VoterState) (m : ToVoter) (o : Outcome) → step v m ≡ Some o → MeetsContract v m o }
+    ensures reminders { (v : VoterState) → AllTell v.held (remind v) }
+{}
+
+/// A message that ends the grant leaves no grant, or a new one with the next number. Any other leaves the grant and
+/// the number of grants, or gives the free vote under the next number.
+pub fn grants_are_numbered()
+    ensures { (v : VoterState) (m : ToVoter) (o : Outcome) → IsSound v → step v m ≡ Some o → VoteMoves (effect_of v m).frees v o.state }
+{}
+
+/// Of every voter: no client both holds the vote and waits, nobody waits for a free vote, a grant's number is at most
+/// the number of grants, and that is at most the limit.
+pub fn voters_stay_sound()
+    ensures first { (id limit : ℕ) → limit ≤ 2 ^ 40 → IsSound (start id limit) }
+    ensures steps { (v : VoterState) (m : ToVoter) (o : Outcome) → IsSound v → step v m ≡ Some o → IsSound o.state }
+{}

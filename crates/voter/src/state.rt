@@ -1,0 +1,403 @@
+//! What a voter knows, and its steps.
+ghost use Rattle.std.specs.Prelude.{◌≡◌, ◌<◌, ◌≤◌, ◌+◌, ◌^◌, ◌∷◌, ◌++◌, [], true};
+ghost use Rattle.arrayvec.specs.ArrayVec.{array_vec_len};
+ghost use Rattle.voter.specs.Steps.{admitted, again, ends_grant, grant_front, held_stamp, inquiry, is_before, is_grant, is_later, is_older, is_refused, is_up_to, needs_grant, outcome_of, queued, released, relinquished, remind, reply, requested, requested_beside, standing};
+
+use crate::queue::{Queue, precedes};
+use arrayvec::ArrayVec;
+use message::{ClientBody, Request, ToClient, ToVoter, VoterBody};
+
+/// The vote, as it was given to a request.
+#[derive(Clone, Copy, Debug, PartialEq, Eq)]
+pub struct Grant {
+    /// Who holds the vote.
+    pub client: u8,
+    /// The stamp of its request.
+    pub stamp: u64,
+    /// The number of the grant: the voter counts its grants from 1.
+    pub grant: u64,
+}
+
+/// What taking a message would do.
+#[derive(Clone, Copy, Debug, PartialEq, Eq)]
+pub struct Effect {
+    /// It would end the current grant. Not so where it would be refused.
+    pub frees: bool,
+    /// It would be refused: it needs a new grant, and as many as the limit were given.
+    pub refused: bool,
+}
+
+/// The replies of a voter to one message, or its reminders.
+pub type Replies = ArrayVec<ToClient, 3>;
+
+/// What a voter knows.
+#[derive(Drop)]
+pub struct VoterState {
+    /// The voter's number.
+    pub id: u8,
+    /// How many grants it may give.
+    pub limit: u64,
+    /// Who holds the vote.
+    pub held: Option<Grant>,
+    /// An INQUIRE about the current grant is outstanding.
+    pub inquiring: bool,
+    /// The requests that wait for the vote.
+    pub waiting: Queue,
+    /// For each client the highest stamp that it released, 0 at first.
+    pub finished: [u64; 64],
+    /// How many grants were given.
+    pub granted: u64,
+    /// The highest stamp that was seen, 0 at first.
+    pub seen: u64,
+}
+
+impl VoterState {
+    fn reply(&self, client: u8, body: ClientBody) -> ToClient
+        ensures { result ≡ reply self.now client body }
+    {
+        ToClient {
+            voter: self.id,
+            client,
+            seen: self.seen,
+            body,
+        }
+    }
+
+    #[tactic(auto, unfolding(crate::specs::Steps::grant_front))]
+    fn grant_front(&mut self, replies: &mut Replies)
+        requires room { array_vec_len replies.old < 3 }
+        requires few { self.old.granted < 2 ^ 63 }
+        ensures state { self.new ≡ (grant_front self.old).state }
+        ensures replies { replies.new.items ≡ replies.old.items ++ (grant_front self.old).replies }
+        ensures len { array_vec_len replies.new ≤ array_vec_len replies.old + 1 }
+        ensures granted { self.new.granted ≤ self.old.granted + 1 }
+    {
+        if let Some(Request { stamp, client }) = self.waiting.front() {
+            self.waiting.remove(client);
+            let grant = self.granted + 1;
+            self.granted = grant;
+            self.held = Some(Grant {
+                client,
+                stamp,
+                grant,
+            });
+            self.inquiring = false;
+            replies.push(self.reply(client, ClientBody::Locked { stamp, grant }));
+        }
+    }
+
+    fn held_stamp(&self, client: u8) -> Option<u64>
+        ensures { result ≡ held_stamp self.now.held client }
+    {
+        match self.held {
+            Some(grant) if grant.client == client => Some(grant.stamp),
+            _ => None,
+        }
+    }
+
+    #[tactic(auto, unfolding(crate::specs::Steps::released))]
+    fn release(&mut self, client: u8, stamp: u64, replies: &mut Replies)
+        requires client { client < 64 }
+        requires room { array_vec_len replies.old < 3 }
+        requires few { self.old.granted < 2 ^ 63 }
+        ensures state { self.new ≡ (released self.old client stamp).state }
+        ensures replies { replies.new.items ≡ replies.old.items ++ (released self.old client stamp).replies }
+        ensures len { array_vec_len replies.new ≤ array_vec_len replies.old + 1 }
+        ensures granted { self.new.granted ≤ self.old.granted + 1 }
+    {
+        let place = client as usize;
+        self.finished[place] = self.finished[place].max(stamp);
+        if is_up_to(self.held_stamp(client), stamp) {
+            self.held = None;
+            self.inquiring = false;
+            self.grant_front(replies);
+        } else if is_up_to(self.waiting.stamp_of(client), stamp) {
+            self.waiting.remove(client);
+        }
+    }
+
+    fn fail(&self, request: Request, replies: &mut Replies)
+        requires room { array_vec_len replies.old < 3 }
+        ensures replies { replies.new.items ≡ replies.old.items ++ reply self.now request.client (ClientBody.Fail request.stamp) ∷ [] }
+        ensures len { array_vec_len replies.new ≡ array_vec_len replies.old + 1 }
+    {
+        let stamp = request.stamp;
+        replies.push(self.reply(request.client, ClientBody::Fail { stamp }));
+    }
+
+    /// INQUIRE to the holder, unless one is outstanding.
+    fn inquire(&mut self, grant: Grant, replies: &mut Replies)
+        requires room { array_vec_len replies.old < 3 }
+        ensures state { self.new ≡ record self.old { inquiring = true } }
+        ensures replies { replies.new.items ≡ replies.old.items ++ inquiry self.old.inquiring self.old grant }
+        ensures len { array_vec_len replies.new ≤ array_vec_len replies.old + 1 }
+    {
+        if !self.inquiring {
+            replies.push(self.reply(grant.client, ClientBody::Inquire { grant: grant.grant }));
+            self.inquiring = true;
+        }
+    }
+
+    /// A new request, while another holds the vote.
+    #[tactic(auto, unfolding(crate::specs::Steps::queued))]
+    fn queue_behind(&mut self, grant: Grant, request: Request, replies: &mut Replies)
+        requires client { request.client < 64 }
+        requires room { array_vec_len replies.old < 2 }
+        ensures state { self.new ≡ (queued self.old grant request.client request.stamp).state }
+        ensures replies { replies.new.items ≡ replies.old.items ++ (queued self.old grant request.client request.stamp).replies }
+    {
+        let holder = Request {
+            stamp: grant.stamp,
+            client: grant.client,
+        };
+        let former = self.waiting.front();
+        self.waiting.insert(request);
+        if is_before(former, request) {
+            self.fail(request, replies);
+            return;
+        }
+        if precedes(holder, request) {
+            self.fail(request, replies);
+        } else {
+            self.inquire(grant, replies);
+        }
+        if let Some(former) = former {
+            self.fail(former, replies);
+        }
+    }
+
+    /// A new request, of a client that neither holds the vote nor waits.
+    #[tactic(auto, unfolding(crate::specs::Steps::admitted))]
+    fn admit(&mut self, request: Request, replies: &mut Replies)
+        requires client { request.client < 64 }
+        requires room { array_vec_len replies.old < 2 }
+        requires few { self.old.granted < 2 ^ 63 }
+        ensures state { self.new ≡ (admitted self.old request.client request.stamp).state }
+        ensures replies { replies.new.items ≡ replies.old.items ++ (admitted self.old request.client request.stamp).replies }
+    {
+        match self.held {
+            Some(grant) => self.queue_behind(grant, request, replies),
+            None => {
+                self.waiting.insert(request);
+                self.grant_front(replies);
+            }
+        }
+    }
+
+    /// The stamp of the client's request that holds the vote or waits.
+    fn standing(&self, client: u8) -> Option<u64>
+        ensures { result ≡ standing self.now client }
+    {
+        match self.held_stamp(client) {
+            Some(stamp) => Some(stamp),
+            None => self.waiting.stamp_of(client),
+        }
+    }
+
+    /// The answer to a request that stands already.
+    fn answer_again(&self, request: Request, replies: &mut Replies)
+        requires room { array_vec_len replies.old < 3 }
+        ensures replies { replies.new.items ≡ replies.old.items ++ again self.now self.now.held request.client request.stamp }
+    {
+        let stamp = request.stamp;
+        let body = match self.held {
+            Some(g) if g.client == request.client => ClientBody::Locked {
+                stamp,
+                grant: g.grant,
+            },
+            _ => ClientBody::Fail { stamp },
+        };
+        replies.push(self.reply(request.client, body));
+    }
+
+    #[tactic(auto, unfolding(crate::specs::Steps::requested_beside))]
+    fn request_beside(&mut self, request: Request, standing: Option<u64>, replies: &mut Replies)
+        requires client { request.client < 64 }
+        requires room { replies.old.items ≡ [] }
+        requires few { self.old.granted + 1 < 2 ^ 63 }
+        ensures state { self.new ≡ (requested_beside self.old request.client request.stamp standing).state }
+        ensures replies { replies.new.items ≡ (requested_beside self.old request.client request.stamp standing).replies }
+    {
+        match standing {
+            None => self.admit(request, replies),
+            Some(stamp) => {
+                if request.stamp == stamp {
+                    self.answer_again(request, replies);
+                } else if request.stamp > stamp {
+                    self.release(request.client, stamp, replies);
+                    self.admit(request, replies);
+                }
+            }
+        }
+    }
+
+    #[tactic(auto, unfolding(crate::specs::Steps::requested))]
+    fn request(&mut self, request: Request, replies: &mut Replies)
+        requires client { request.client < 64 }
+        requires room { replies.old.items ≡ [] }
+        requires few { self.old.granted + 1 < 2 ^ 63 }
+        ensures state { self.new ≡ (requested self.old request.client request.stamp).state }
+        ensures replies { replies.new.items ≡ (requested self.old request.client request.stamp).replies }
+    {
+        if request.stamp > self.finished[request.client as usize] {
+            let standing = self.standing(request.client);
+            self.request_beside(request, standing, replies);
+        }
+    }
+
+    #[tactic(auto, unfolding(crate::specs::Steps::relinquished))]
+    fn relinquish(&mut self, client: u8, grant: u64, replies: &mut Replies)
+        requires client { client < 64 }
+        requires room { array_vec_len replies.old < 3 }
+        requires few { self.old.granted < 2 ^ 63 }
+        ensures state { self.new ≡ (relinquished self.old client grant).state }
+        ensures replies { replies.new.items ≡ replies.old.items ++ (relinquished self.old client grant).replies }
+    {
+        if let Some(g) = self.held {
+            if g.client == client && g.grant == grant {
+                self.held = None;
+                self.inquiring = false;
+                self.waiting.insert(Request {
+                    stamp: g.stamp,
+                    client,
+                });
+                self.grant_front(replies);
+            }
+        }
+    }
+
+    /// Whether a message needs a new grant.
+    #[tactic(auto, unfolding(crate::specs::Steps::needs_grant))]
+    fn needs_grant(&self, message: &ToVoter) -> bool
+        requires client { message.now.client < 64 }
+        ensures { result ≡ needs_grant self.now message.now.client message.now.body }
+    {
+        let client = message.client;
+        match message.body {
+            VoterBody::Request { stamp } => {
+                stamp > self.finished[client as usize]
+                    && is_later(self.standing(client), stamp)
+                    && (self.held.is_none() || self.held_stamp(client).is_some())
+            }
+            VoterBody::Relinquish { grant } => is_grant(self.held, client, grant),
+            VoterBody::Release { stamp } => {
+                is_up_to(self.held_stamp(client), stamp) && self.waiting.front().is_some()
+            }
+        }
+    }
+
+    /// Whether a message needs a new grant, and none is left.
+    pub fn is_refused(&self, message: &ToVoter) -> bool
+        requires client { message.now.client < 64 }
+        ensures { result ≡ is_refused self.now message.now }
+    {
+        self.needs_grant(message) && self.granted >= self.limit
+    }
+
+    /// Whether a message ends the current grant.
+    #[tactic(auto, unfolding(crate::specs::Steps::ends_grant))]
+    pub fn ends_grant(&self, message: &ToVoter) -> bool
+        requires client { message.now.client < 64 }
+        ensures { result ≡ ends_grant self.now message.now.client message.now.body }
+    {
+        let client = message.client;
+        match message.body {
+            VoterBody::Request { stamp } => {
+                stamp > self.finished[client as usize] && is_older(self.held_stamp(client), stamp)
+            }
+            VoterBody::Relinquish { grant } => is_grant(self.held, client, grant),
+            VoterBody::Release { stamp } => is_up_to(self.held_stamp(client), stamp),
+        }
+    }
+
+    /// LOCKED again to the holder, and INQUIRE again if one is outstanding.
+    #[tactic(auto, unfolding(crate::specs::Steps::remind))]
+    pub fn remind(&self) -> Replies
+        ensures { result.items ≡ remind self.now }
+    {
+        let mut replies = ArrayVec::new();
+        if let Some(
+            Grant {
+                client,
+                stamp,
+                grant,
+            },
+        ) = self.held
+        {
+            replies.push(self.reply(client, ClientBody::Locked { stamp, grant }));
+            if self.inquiring {
+                replies.push(self.reply(client, ClientBody::Inquire { grant }));
+            }
+        }
+        replies
+    }
+
+    /// What a message does, where enough grants are left.
+    pub fn act(&mut self, message: &ToVoter) -> Replies
+        requires client { message.now.client < 64 }
+        requires few { self.old.granted + 1 < 2 ^ 63 }
+        ensures state { self.new ≡ (outcome_of self.old message.now.client message.now.body).state }
+        ensures replies { result.items ≡ (outcome_of self.old message.now.client message.now.body).replies }
+    {
+        let client = message.client;
+        let mut replies = ArrayVec::new();
+        match message.body {
+            VoterBody::Request { stamp } => {
+                self.seen = self.seen.max(stamp);
+                self.request(Request { stamp, client }, &mut replies);
+            }
+            VoterBody::Relinquish { grant } => self.relinquish(client, grant, &mut replies),
+            VoterBody::Release { stamp } => {
+                self.seen = self.seen.max(stamp);
+                self.release(client, stamp, &mut replies);
+            }
+        }
+        replies
+    }
+}
+
+fn is_later(standing: Option<u64>, stamp: u64) -> bool
+    ensures { result ≡ is_later standing stamp }
+{
+    match standing {
+        Some(standing) => standing < stamp,
+        None => true,
+    }
+}
+
+fn is_older(stamp: Option<u64>, limit: u64) -> bool
+    ensures { result ≡ is_older stamp limit }
+{
+    match stamp {
+        Some(stamp) => stamp < limit,
+        None => false,
+    }
+}
+
+fn is_grant(held: Option<Grant>, client: u8, grant: u64) -> bool
+    ensures { result ≡ is_grant held client grant }
+{
+    match held {
+        Some(held) => held.client == client && held.grant == grant,
+        None => false,
+    }
+}
+
+fn is_before(first: Option<Request>, request: Request) -> bool
+    ensures { result ≡ is_before first request }
+{
+    match first {
+        Some(first) => precedes(first, request),
+        None => false,
+    }
+}
+
+/// There is a stamp, and it is at most this one.
+fn is_up_to(stamp: Option<u64>, limit: u64) -> bool
+    ensures { result ≡ is_up_to stamp limit }
+{
+    match stamp {
+        Some(stamp) => stamp <= limit,
+        None => false,
+    }
+}

@@ -1,0 +1,95 @@
+//! A voter.
+ghost use Rattle.std.specs.Prelude.{◌≡◌, ◌<◌, ◌≤◌, ◌^◌, IfErr, IfOk, None, Option, Result, Some};
+ghost use Rattle.voter.specs.Steps.{IsSound, effect_of, remind, start, step};
+
+use crate::fault::VoterFault;
+use crate::queue::Queue;
+use crate::state::{Effect, Grant, Replies, VoterState};
+use message::ToVoter;
+use std::marker::Model;
+
+/// A voter: it has one vote, which it grants to one request at a time. Clauses see it as what it knows, a `VoterState`.
+#[derive(Drop)]
+pub struct Voter {
+    state: VoterState,
+}
+
+impl Model for Voter {
+    ghost use Rattle.std.specs.Ordering.{nat_cmp};
+    ghost use Rattle.voter.specs.declared.state.VoterState.{VoterState};
+    ghost use Rattle.voter.specs.Steps.{IsSound};
+    ghost use Rattle.voter.specs.contracts.state.VoterState as known;
+
+    ghost Value = { VoterState };
+
+    ghost coded = { known.the_row.coded };
+
+    ghost view = { λ a. a.state };
+
+    ghost invariant = { λ a. IsSound a.state };
+}
+
+impl Voter {
+    /// A voter of this number, from 0 to 63, that was told nothing and may give as many grants as the limit.
+    pub fn new(id: u8, limit: u64) -> Self
+        requires id { id < 64 }
+        requires least { 1 ≤ limit }
+        requires most { limit ≤ 2 ^ 40 }
+        ensures { result ≡ start id limit }
+    {
+        Voter {
+            state: VoterState {
+                id,
+                limit,
+                held: None,
+                inquiring: false,
+                waiting: Queue::new(),
+                finished: [0; 64],
+                granted: 0,
+                seen: 0,
+            },
+        }
+    }
+
+    /// Who holds the vote.
+    pub fn held(&self) -> Option<Grant>
+        ensures { result ≡ self.now.held }
+    {
+        self.state.held
+    }
+
+    /// Takes one message, and answers the replies, in order. Refused is a message that needs a new grant where as many
+    /// as the limit were given; the voter then knows nothing of it.
+    pub fn take(&mut self, message: &ToVoter) -> Result<Replies, VoterFault>
+        requires voter { message.now.voter ≡ self.old.id }
+        requires client { message.now.client < 64 }
+        ensures taken { IfOk result (λ replies. step self.old message.now ≡ Some (record { replies = replies.items; state = self.new })) }
+        ensures refused { IfErr result (λ _. (step self.old message.now ≡ None) × (self.new ≡ self.old)) }
+        ensures id { self.new.id ≡ self.old.id }
+    {
+        if self.state.is_refused(message) {
+            return Err(VoterFault::GrantsSpent);
+        }
+        Ok(self.state.act(message))
+    }
+
+    /// What `take` would do with this message.
+    pub fn effect(&self, message: &ToVoter) -> Effect
+        requires voter { message.now.voter ≡ self.now.id }
+        requires client { message.now.client < 64 }
+        ensures { result ≡ effect_of self.now message.now }
+    {
+        let refused = self.state.is_refused(message);
+        Effect {
+            frees: !refused && self.state.ends_grant(message),
+            refused,
+        }
+    }
+
+    /// What to tell the holder again, for messages that were lost: LOCKED, and INQUIRE if one is outstanding.
+    pub fn remind(&self) -> Replies
+        ensures { result.items ≡ remind self.now }
+    {
+        self.state.remind()
+    }
+}
