@@ -1,10 +1,8 @@
 -- the contract of a voter
-use Rattle.std.proofs.Common.{◌≡◌, ◌≢◌, ℕ, ◌+◌, ◌<◌, ◌≤◌, Bool, true, false, cond, List, [], ◌∷◌, ◌++◌, Option, Some, None, refl, sym, ap, ◌∙◌, ◌⊎◌, inl, inr, arith, subst, eqb}
-use Rattle.std.specs.Prelude.{is_some, not, ◌&&◌, nat_lt, nat_le, ◌==◌, slice_index, if◌then◌else◌}
-use Rattle.std.specs.List.{AllByRecursion}
+use Rattle.std.proofs.Common.{◌≡◌, ℕ, ◌<◌, ◌≤◌, Bool, true, false, cond, List, [], ◌∷◌, ◌++◌, Option, Some, None, refl, sym, ap, ◌∙◌, ◌⊎◌, inl, inr, arith, subst, eqb}
+use Rattle.std.specs.Prelude.{is_some, ◌&&◌, ◌==◌}
 use Rattle.std.specs.FinMap.{get, insert, remove}
 use Rattle.std.proofs.lemmas.Bool.Decides.{nat_tests}
-use Rattle.std.proofs.lemmas.Bool.{false≢true}
 use Rattle.std.proofs.lemmas.Option.{none-some, same_Some}
 use Rattle.message.specs.declared.request.Request.{Request}
 use Rattle.message.specs.declared.message.ToVoter.{ToVoter}
@@ -16,12 +14,12 @@ use Rattle.message.specs.declared.message.ClientBody.TheVariants as tells
 use Rattle.voter.specs.declared.state.Grant.{Grant}
 use Rattle.voter.specs.declared.state.VoterState.{VoterState}
 use Rattle.voter.specs.Waiting.{Waiting, front}
-use Rattle.voter.specs.VoteMoves.{GrantStays, GrantEnds, GrantIsNew, VoteMoves}
+use Rattle.voter.specs.VoteMoves.{VoteMoves}
 use Rattle.voter.specs.VoterContract.{TellsVote, AllTell, Ends, IsEntry, Brings, MeetsContract}
-use Rattle.voter.specs.Steps.{Outcome, silent, and_then, reply, grant_to, grant_front, released, released_by, queued, queued_by, inquiry, fail_former, admitted, admitted_by, queue, freed, finish, withdraw, held_stamp, is_up_to, is_older, is_grant, standing, first_some, requested, requested_by, requested_beside, compared_by, again, again_by, relinquished, relinquished_by, put_back, see, outcome_of, ends_grant, step, unless_spent, effect_of, is_ended, remind, remind_of, inquiry_again, IsSound}
+use Rattle.voter.specs.Steps.{Outcome, grant_to, grant_front, released, released_by, queued, queued_by, inquiry, fail_former, admitted, admitted_by, queue, freed, finish, held_stamp, is_up_to, is_older, is_grant, standing, first_some, requested, requested_by, requested_beside, compared_by, again, again_by, relinquished, relinquished_by, put_back, see, outcome_of, ends_grant, step, remind, remind_of, inquiry_again}
 use Rattle.voter.proofs.Front.{front_found}
 use Rattle.voter.proofs.Moves.{vote_moves, moves-admitted}
-use Rattle.voter.proofs.Soundness.{get_removed, get_inserted, sound_after}
+use Rattle.voter.proofs.Soundness.{get_removed, get_inserted}
 use Rattle.voter.proofs.Effects.{taken}
 
 -- A grant stays, or the message ends it.

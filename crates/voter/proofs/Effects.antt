@@ -1,16 +1,15 @@
 -- the step, and what it would do
-use Rattle.std.proofs.Common.{◌≡◌, ◌≢◌, ℕ, ◌+◌, ◌<◌, ◌≤◌, Bool, true, false, Option, Some, None, refl, sym, ap, ◌∙◌, ◌⊎◌, inl, inr, arith, subst}
-use Rattle.std.specs.Prelude.{is_some, not, ◌&&◌, nat_lt, nat_le, ◌==◌, slice_index}
+use Rattle.std.proofs.Common.{◌≡◌, ℕ, ◌<◌, Bool, true, false, Option, Some, None, refl, sym, ap, ◌∙◌, inl, inr, arith, subst}
+use Rattle.std.specs.Prelude.{is_some, ◌&&◌, nat_lt}
 use Rattle.std.proofs.lemmas.Bool.Decides.{nat_tests}
-use Rattle.std.proofs.lemmas.Bool.{false≢true}
 use Rattle.message.specs.declared.message.ToVoter.{ToVoter}
 use Rattle.message.specs.declared.message.VoterBody.{VoterBody}
 use Rattle.message.specs.declared.message.VoterBody.TheVariants as asks
 use Rattle.voter.specs.declared.state.Grant.{Grant}
 use Rattle.voter.specs.declared.state.Effect.{Effect}
 use Rattle.voter.specs.declared.state.VoterState.{VoterState}
-use Rattle.voter.specs.VoteMoves.{GrantStays, GrantEnds, GrantIsNew, VoteMoves}
-use Rattle.voter.specs.Steps.{Outcome, IsSound, step, unless_spent, outcome_of, needs_grant, is_refused, ends_grant, effect_of, effect_by, is_ended, names_grant, held_stamp, is_older, is_up_to, is_grant}
+use Rattle.voter.specs.VoteMoves.{VoteMoves}
+use Rattle.voter.specs.Steps.{Outcome, IsSound, step, unless_spent, outcome_of, is_refused, ends_grant, effect_of, effect_by, is_ended, held_stamp, is_older, is_up_to, is_grant}
 use Rattle.voter.proofs.Grants.{granted_after}
 use Rattle.voter.proofs.Moves.{vote_moves}
 use Rattle.voter.proofs.Soundness.{sound_after}

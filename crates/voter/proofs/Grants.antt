@@ -1,16 +1,16 @@
 -- how many grants a message takes
-use Rattle.std.proofs.Common.{◌≡◌, ◌≢◌, ℕ, ◌+◌, ◌<◌, ◌≤◌, Bool, true, false, cond, List, [], ◌∷◌, Option, Some, None, refl, sym, ap, subst, ◌∙◌, arith, eqb, ltb}
-use Rattle.std.specs.Prelude.{is_some, is_none, not, ◌&&◌, ◌||◌, nat_lt, nat_le, ◌==◌, slice_index, if◌then◌else◌}
-use Rattle.std.specs.FinMap.{get, insert, remove}
+use Rattle.std.proofs.Common.{◌≡◌, ℕ, ◌+◌, Bool, true, false, cond, Option, Some, None, refl, ap, ◌∙◌, arith}
+use Rattle.std.specs.Prelude.{is_some, is_none, not, ◌&&◌, ◌||◌, nat_lt, nat_le, ◌==◌, slice_index}
+use Rattle.std.specs.FinMap.{get}
 use Rattle.std.proofs.lemmas.Bool.Decides.{nat_tests}
 use Rattle.message.specs.declared.request.Request.{Request}
-use Rattle.message.specs.declared.message.ToVoter.{ToVoter}
 use Rattle.message.specs.declared.message.VoterBody.{VoterBody}
 use Rattle.message.specs.declared.message.VoterBody.TheVariants as asks
 use Rattle.voter.specs.declared.state.Grant.{Grant}
 use Rattle.voter.specs.declared.state.VoterState.{VoterState}
-use Rattle.voter.specs.Waiting.{Waiting, precedes, front}
-use Rattle.voter.specs.Steps.{Outcome, silent, grant_to, grant_front, released, released_by, queued, queued_by, admitted, admitted_by, queue, freed, finish, withdraw, held_stamp, is_up_to, standing, first_some, requested, requested_by, requested_beside, compared_by, relinquished, relinquished_by, put_back, is_before, see, outcome_of, needs_grant, is_later, is_grant, step}
+use Rattle.voter.specs.Waiting.{front}
+use Rattle.voter.specs.Steps.{grant_to, grant_front, released, released_by, queued, queued_by, admitted, admitted_by, queue, freed, finish, held_stamp, is_up_to, standing, first_some, requested, requested_by, requested_beside, compared_by, relinquished, relinquished_by, put_back, see, outcome_of, needs_grant, is_later, is_grant}
+use Rattle.voter.specs.Replies.{seen_after}
 use Rattle.voter.proofs.Queues.{front-insert}
 
 -- n, and one more where the test holds
@@ -47,7 +47,7 @@ granted_by : (o : Option Grant) (v : VoterState) (c s : ℕ) → (admitted_by o 
 granted_by None v c s = granted-grant_front (queue v c s) ∙ ap (λ b. more b v.granted) (front-insert v.waiting c s)
 granted_by (Some g) v c s = granted-queued v g c s
 
-granted-admitted : (v : VoterState) (c s : ℕ) → (admitted v c s).state.granted ≡ more (is_none v.held) v.granted
+pub granted-admitted : (v : VoterState) (c s : ℕ) → (admitted v c s).state.granted ≡ more (is_none v.held) v.granted
 unfolding admitted
 granted-admitted v c s = granted_by v.held v c s
 
@@ -77,7 +77,7 @@ first_none : (o w : Option ℕ) → first_some o w ≡ None → is_some o ≡ fa
 first_none None w e = refl
 first_none (Some u) w e = grind (arith, nat_tests)
 
-granted-compared_by : (less same : Bool) (v : VoterState) (c s t : ℕ) → nat_lt s t ≡ less → (s == t) ≡ same → standing v c ≡ Some t → (compared_by less same v c s t).state.granted ≡ more (nat_lt t s && (is_none v.held || is_some (held_stamp v.held c))) v.granted
+pub granted-compared_by : (less same : Bool) (v : VoterState) (c s t : ℕ) → nat_lt s t ≡ less → (s == t) ≡ same → standing v c ≡ Some t → (compared_by less same v c s t).state.granted ≡ more (nat_lt t s && (is_none v.held || is_some (held_stamp v.held c))) v.granted
 granted-compared_by true same v c s t l e stands = grind (arith, nat_tests)
 granted-compared_by false true v c s t l e stands = grind (arith, nat_tests)
 granted-compared_by false false v c s t l e stands =
@@ -121,40 +121,41 @@ granted_after v c (asks.Request s) = granted-requested (see v s) c s
 granted_after v c (asks.Relinquish n) = granted-relinquished_by _ v c n refl
 granted_after v c (asks.Release s) = granted-released (see v s) c s
 
--- The number of the voter and the limit stay.
+-- The number of the voter, the limit and what was seen stay.
 
 pub record Keeps (v w : VoterState) : Type 0 where
   pub id : w.id ≡ v.id
   pub limit : w.limit ≡ v.limit
+  pub seen : w.seen ≡ v.seen
 
 kept_to : (v : VoterState) (o : Option Request) → Keeps v (grant_to v o).state
-kept_to v None = record { id = refl; limit = refl }
-kept_to v (Some r) = record { id = refl; limit = refl }
+kept_to v None = record { id = refl; limit = refl; seen = refl }
+kept_to v (Some r) = record { id = refl; limit = refl; seen = refl }
 
 kept-grant_front : (v : VoterState) → Keeps v (grant_front v).state
 unfolding grant_front
 kept-grant_front v = kept_to v (front v.waiting)
 
 kept-released_by : (holds waits : Bool) (v : VoterState) (c s : ℕ) → Keeps v (released_by holds waits v c s).state
-kept-released_by true waits v c s = let k = kept-grant_front (freed (finish v c s)) in record { id = k.id; limit = k.limit }
-kept-released_by false true v c s = record { id = refl; limit = refl }
-kept-released_by false false v c s = record { id = refl; limit = refl }
+kept-released_by true waits v c s = let k = kept-grant_front (freed (finish v c s)) in record { id = k.id; limit = k.limit; seen = k.seen }
+kept-released_by false true v c s = record { id = refl; limit = refl; seen = refl }
+kept-released_by false false v c s = record { id = refl; limit = refl; seen = refl }
 
 pub kept-released : (v : VoterState) (c s : ℕ) → Keeps v (released v c s).state
 unfolding released
 kept-released v c s = kept-released_by _ _ v c s
 
 kept-queued_by : (waits granted : Bool) (v : VoterState) (g : Grant) (c s : ℕ) → Keeps v (queued_by waits granted v g c s).state
-kept-queued_by true granted v g c s = record { id = refl; limit = refl }
-kept-queued_by false true v g c s = record { id = refl; limit = refl }
-kept-queued_by false false v g c s = record { id = refl; limit = refl }
+kept-queued_by true granted v g c s = record { id = refl; limit = refl; seen = refl }
+kept-queued_by false true v g c s = record { id = refl; limit = refl; seen = refl }
+kept-queued_by false false v g c s = record { id = refl; limit = refl; seen = refl }
 
 kept-queued : (v : VoterState) (g : Grant) (c s : ℕ) → Keeps v (queued v g c s).state
 unfolding queued
 kept-queued v g c s = kept-queued_by _ _ v g c s
 
 kept-admitted_by : (o : Option Grant) (v : VoterState) (c s : ℕ) → Keeps v (admitted_by o v c s).state
-kept-admitted_by None v c s = let k = kept-grant_front (queue v c s) in record { id = k.id; limit = k.limit }
+kept-admitted_by None v c s = let k = kept-grant_front (queue v c s) in record { id = k.id; limit = k.limit; seen = k.seen }
 kept-admitted_by (Some g) v c s = kept-queued v g c s
 
 kept-admitted : (v : VoterState) (c s : ℕ) → Keeps v (admitted v c s).state
@@ -162,12 +163,12 @@ unfolding admitted
 kept-admitted v c s = kept-admitted_by v.held v c s
 
 kept-compared_by : (less same : Bool) (v : VoterState) (c s t : ℕ) → Keeps v (compared_by less same v c s t).state
-kept-compared_by true same v c s t = record { id = refl; limit = refl }
-kept-compared_by false true v c s t = record { id = refl; limit = refl }
+kept-compared_by true same v c s t = record { id = refl; limit = refl; seen = refl }
+kept-compared_by false true v c s t = record { id = refl; limit = refl; seen = refl }
 kept-compared_by false false v c s t =
     let r = kept-released v c t in
     let a = kept-admitted (released v c t).state c s in
-    record { id = a.id ∙ r.id; limit = a.limit ∙ r.limit }
+    record { id = a.id ∙ r.id; limit = a.limit ∙ r.limit; seen = a.seen ∙ r.seen }
 
 kept-beside : (v : VoterState) (c s : ℕ) (o : Option ℕ) → Keeps v (requested_beside v c s o).state
 unfolding requested_beside
@@ -175,19 +176,25 @@ kept-beside v c s None = kept-admitted v c s
 kept-beside v c s (Some t) = kept-compared_by _ _ v c s t
 
 kept-requested_by : (done : Bool) (v : VoterState) (c s : ℕ) → Keeps v (requested_by done v c s).state
-kept-requested_by true v c s = record { id = refl; limit = refl }
+kept-requested_by true v c s = record { id = refl; limit = refl; seen = refl }
 kept-requested_by false v c s = kept-beside v c s (standing v c)
 
 kept-put_back : (o : Option Grant) (v : VoterState) → Keeps v (put_back o v).state
-kept-put_back None v = record { id = refl; limit = refl }
-kept-put_back (Some g) v = let k = kept-grant_front (queue (freed v) g.client g.stamp) in record { id = k.id; limit = k.limit }
+kept-put_back None v = record { id = refl; limit = refl; seen = refl }
+kept-put_back (Some g) v = let k = kept-grant_front (queue (freed v) g.client g.stamp) in record { id = k.id; limit = k.limit; seen = k.seen }
 
 kept-relinquished_by : (b : Bool) (v : VoterState) → Keeps v (relinquished_by b v).state
 kept-relinquished_by true v = kept-put_back v.held v
-kept-relinquished_by false v = record { id = refl; limit = refl }
+kept-relinquished_by false v = record { id = refl; limit = refl; seen = refl }
 
-pub kept : (v : VoterState) (c : ℕ) (b : VoterBody) → Keeps v (outcome_of v c b).state
+-- and of what was seen only a stamp is new
+pub record KeepsBut (v : VoterState) (b : VoterBody) (w : VoterState) : Type 0 where
+  pub id : w.id ≡ v.id
+  pub limit : w.limit ≡ v.limit
+  pub seen : w.seen ≡ seen_after v.seen b
+
+pub kept : (v : VoterState) (c : ℕ) (b : VoterBody) → KeepsBut v b (outcome_of v c b).state
 unfolding relinquished requested
-kept v c (asks.Request s) = let k = kept-requested_by _ (see v s) c s in record { id = k.id; limit = k.limit }
-kept v c (asks.Relinquish n) = kept-relinquished_by _ v
-kept v c (asks.Release s) = let k = kept-released (see v s) c s in record { id = k.id; limit = k.limit }
+kept v c (asks.Request s) = let k = kept-requested_by _ (see v s) c s in record { id = k.id; limit = k.limit; seen = k.seen }
+kept v c (asks.Relinquish n) = let k = kept-relinquished_by _ v in record { id = k.id; limit = k.limit; seen = k.seen }
+kept v c (asks.Release s) = let k = kept-released (see v s) c s in record { id = k.id; limit = k.limit; seen = k.seen }

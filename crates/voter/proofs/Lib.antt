@@ -4,4 +4,5 @@ pub mod Front
 pub mod Grants
 pub mod Moves
 pub mod Queues
+pub mod ReplyLemmas
 pub mod Soundness

@@ -1,8 +1,8 @@
 -- requests kept in order, as a map
-use Rattle.std.proofs.Common.{◌≡◌, ◌≢◌, ℕ, ◌+◌, suc, ◌<◌, ◌≤◌, Bool, true, false, cond, List, [], ◌∷◌, ◌++◌, length, map, take, drop, Option, Some, None, refl, sym, ap, subst, ◌⊎◌, inl, inr, ◌∙◌, arith, eqb, ltb}
-use Rattle.std.specs.Ordering.{nat_cmp, eq_by_cmp, is_lt}
-use Rattle.std.specs.Prelude.{not, ◌==◌, ◌||◌, slice_get, is_some}
-use Rattle.std.specs.List.{AllByRecursion, filter, insert, position_or_len, IsDistinct, list_any}
+use Rattle.std.proofs.Common.{◌≡◌, ◌≢◌, ℕ, ◌+◌, suc, ◌<◌, Bool, true, false, cond, List, [], ◌∷◌, length, map, Option, Some, None, refl, sym, ap, ◌⊎◌, inl, inr, ◌∙◌, arith, eqb}
+use Rattle.std.specs.Ordering.{nat_cmp, eq_by_cmp}
+use Rattle.std.specs.Prelude.{not, ◌||◌, slice_get, is_some}
+use Rattle.std.specs.List.{AllByRecursion, insert, position_or_len, IsDistinct, list_any}
 use Rattle.std.proofs.lemmas.Map.Steps.{length-le_from_distinct_below}
 use Rattle.std.proofs.lemmas.Map.Keys.{IsDistinct-cons}
 use Rattle.std.proofs.lemmas.List.{length-map}
@@ -13,7 +13,6 @@ use Rattle.std.specs.FinMap.{get, get-from_entries, same_map, nat_cmp-IsAntisymm
 use Rattle.std.specs.FinMap.Entries.{find}
 use Rattle.std.proofs.lemmas.Bool.Decides.{nat_tests}
 use Rattle.std.proofs.lemmas.Option.{none-some}
-use Rattle.std.proofs.lemmas.Grind.{common_steps}
 use Rattle.message.specs.declared.request.Request.{Request}
 use Rattle.voter.specs.Waiting.{Waiting, precedes, front, entry, waiting_of, Follows, IsQueue, without}
 use Rattle.voter.proofs.Front.{eq_by_nat, find_head, front_is, front_none, front_some, precedes_once, precedes_not_self, precedes_trans}

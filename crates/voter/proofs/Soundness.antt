@@ -1,9 +1,9 @@
 -- what is so of every voter stays so
-use Rattle.std.proofs.Common.{◌≡◌, ◌≢◌, ℕ, ◌+◌, ◌<◌, ◌≤◌, ◌^◌, Bool, true, false, cond, Option, Some, None, refl, sym, ap, ◌∙◌, ◌⊎◌, inl, inr, arith, subst, eqb}
-use Rattle.std.specs.Prelude.{is_some, not, ◌&&◌, nat_lt, nat_le, ◌==◌, slice_index, if◌then◌else◌}
-use Rattle.std.specs.Ordering.{nat_cmp, eq_by_cmp}
+use Rattle.std.proofs.Common.{◌≡◌, ◌≢◌, ℕ, ◌+◌, ◌≤◌, ◌^◌, Bool, true, false, cond, Option, Some, None, refl, sym, ap, ◌∙◌, arith, eqb}
+use Rattle.std.specs.Prelude.{is_some}
+use Rattle.std.specs.Ordering.{nat_cmp}
 use Rattle.std.specs.Cmp.{nat_cmp_total}
-use Rattle.std.specs.FinMap.{get, insert, remove, empty, get-insert, get-remove, get-empty}
+use Rattle.std.specs.FinMap.{get, insert, remove, get-insert, get-remove, get-empty}
 use Rattle.std.proofs.lemmas.Bool.Decides.{nat_tests}
 use Rattle.std.proofs.lemmas.Bool.{false≢true}
 use Rattle.std.proofs.lemmas.Option.{none-some, same_Some}
@@ -14,7 +14,7 @@ use Rattle.message.specs.declared.message.VoterBody.TheVariants as asks
 use Rattle.voter.specs.declared.state.Grant.{Grant}
 use Rattle.voter.specs.declared.state.VoterState.{VoterState}
 use Rattle.voter.specs.Waiting.{Waiting, front}
-use Rattle.voter.specs.Steps.{grant_to, grant_front, released, released_by, queued, queued_by, admitted, admitted_by, queue, freed, finish, held_stamp, is_up_to, standing, first_some, requested, requested_by, requested_beside, compared_by, relinquished, relinquished_by, put_back, see, outcome_of, needs_grant, is_refused, IsSound, start}
+use Rattle.voter.specs.Steps.{grant_to, grant_front, released, released_by, queued, queued_by, admitted, admitted_by, queue, freed, finish, held_stamp, is_up_to, standing, first_some, requested, requested_by, requested_beside, compared_by, relinquished, relinquished_by, put_back, see, outcome_of, is_refused, IsSound, start}
 use Rattle.voter.proofs.Front.{front_found, none_waits, eq_by_nat}
 use Rattle.voter.proofs.Grants.{granted_after, kept, up_to_own}
 
@@ -26,7 +26,7 @@ get_removed w c d = get-remove nat_cmp_total w c d ∙ ap (λ b. cond b None (ge
 pub get_inserted : (w : Waiting) (c s d : ℕ) → get (insert w c s) d ≡ cond (eqb d c) (Some s) (get w d)
 get_inserted w c s d = get-insert nat_cmp_total w c s d ∙ ap (λ b. cond b (Some s) (get w d)) (eq_by_nat d c)
 
-removed_self : (w : Waiting) (c : ℕ) → get (remove w c) c ≡ None
+pub removed_self : (w : Waiting) (c : ℕ) → get (remove w c) c ≡ None
 removed_self w c = get_removed w c c ∙ grind (arith, nat_tests)
 
 pub still_none : (w : Waiting) (c d : ℕ) → get w d ≡ None → get (remove w c) d ≡ None
@@ -116,7 +116,7 @@ none_of : (o : Option ℕ) → is_some o ≡ false → o ≡ None
 none_of None e = refl
 none_of (Some s) e = absurd (false≢true (sym e))
 
-holder_of : (o : Option Grant) (c : ℕ) → is_some (held_stamp o c) ≡ true → (g : Grant) × (o ≡ Some g) × (g.client ≡ c)
+pub holder_of : (o : Option Grant) (c : ℕ) → is_some (held_stamp o c) ≡ true → (g : Grant) × (o ≡ Some g) × (g.client ≡ c)
 holder_of None c e = absurd (false≢true e)
 holder_of (Some g) c e = (g, refl, grind (arith, nat_tests))
 
@@ -157,7 +157,7 @@ orderly-relinquished_by : (b : Bool) (v : VoterState) → IsOrderly v → IsOrde
 orderly-relinquished_by true v h = orderly-put_back v.held v h
 orderly-relinquished_by false v h = h
 
-orderly_see : (v : VoterState) (s : ℕ) → IsOrderly v → IsOrderly (see v s)
+pub orderly_see : (v : VoterState) (s : ℕ) → IsOrderly v → IsOrderly (see v s)
 orderly_see v s h = record { numbered = h.numbered; apart = h.apart; free = h.free }
 
 pub orderly_after : (v : VoterState) (c : ℕ) (b : VoterBody) → IsOrderly v → IsOrderly (outcome_of v c b).state

@@ -1,3 +1,4 @@
+pub mod Replies
 pub mod Steps
 pub mod VoteMoves
 pub mod VoterContract

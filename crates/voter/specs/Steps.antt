@@ -12,7 +12,7 @@ use Rattle.message.specs.declared.message.ClientBody.TheVariants as tells
 use Rattle.voter.specs.declared.state.Grant.{Grant}
 use Rattle.voter.specs.declared.state.VoterState.{VoterState}
 use Rattle.voter.specs.declared.state.Effect.{Effect}
-use Rattle.voter.specs.Waiting.{Waiting, precedes, front}
+use Rattle.voter.specs.Waiting.{precedes, front}
 
 -- the replies, in order, and the voter afterwards
 pub record Outcome : Type 0 where

@@ -1,5 +1,5 @@
 -- The contract of a voter: all that proofs about many voters and clients need of its steps.
-use Rattle.std.specs.Prelude.{ℕ, ◌≡◌, ◌+◌, ◌<◌, ◌≤◌, List, Option, Some, None, Bool, true, false, max, length, count_by, ◌⊎◌}
+use Rattle.std.specs.Prelude.{ℕ, ◌≡◌, ◌<◌, ◌≤◌, List, Option, Some, ◌⊎◌}
 use Rattle.std.specs.List.{AllByRecursion}
 use Rattle.std.specs.FinMap.{get}
 use Rattle.message.specs.declared.message.ToVoter.{ToVoter}
@@ -46,33 +46,3 @@ pub record MeetsContract (v : VoterState) (m : ToVoter) (o : Outcome) : Type 0 w
   pub entries : (client stamp : ℕ) → IsEntry o.state client stamp → IsEntry v client stamp ⊎ Brings m.client m.body client stamp
   -- each LOCKED tells the vote as it stands
   pub told : AllTell o.state.held o.replies
-
--- The replies carry what the voter is and what it saw.
-
--- the highest stamp that was seen, with that of a REQUEST or a RELEASE
-abbrev pub seen_after : ℕ → VoterBody → ℕ
-seen_after seen (asks.Request stamp) = max seen stamp
-seen_after seen (asks.Relinquish grant) = seen
-seen_after seen (asks.Release stamp) = max seen stamp
-
-abbrev pub AllCarry : ℕ → ℕ → List ToClient → Type 0
-AllCarry id seen replies = AllByRecursion (λ r. (r.voter ≡ id) × (r.seen ≡ seen)) replies
-
--- FAIL goes to a client that waits, with the stamp of its request; INQUIRE goes to the holder, with the number of its
--- grant
-abbrev pub TellsState : VoterState → ℕ → ClientBody → Type 0
-TellsState v client (tells.Locked stamp grant) = v.held ≡ Some (record { client = client; stamp = stamp; grant = grant })
-TellsState v client (tells.Fail stamp) = get v.waiting client ≡ Some stamp
-TellsState v client (tells.Inquire grant) = (g : Grant) × (v.held ≡ Some g) × (g.client ≡ client) × (g.grant ≡ grant)
-
-abbrev pub AllTellState : VoterState → List ToClient → Type 0
-AllTellState v replies = AllByRecursion (λ r. TellsState v r.client r.body) replies
-
-abbrev pub is_locked : ClientBody → Bool
-is_locked (tells.Locked stamp grant) = true
-is_locked (tells.Fail stamp) = false
-is_locked (tells.Inquire grant) = false
-
--- how many of the replies are LOCKED
-abbrev pub locked_count : List ToClient → ℕ
-locked_count replies = count_by (λ r. is_locked r.body) replies

@@ -1,7 +1,8 @@
 //! Laws of the definitions.
-ghost use Rattle.std.specs.Prelude.{◌≡◌, ◌≤◌, ◌^◌, ℕ, Some, length};
+ghost use Rattle.std.specs.Prelude.{◌≡◌, ◌≤◌, ◌^◌, ℕ, Some};
 ghost use Rattle.message.specs.declared.message.ToVoter.{ToVoter};
 ghost use Rattle.voter.specs.declared.state.VoterState.{VoterState};
+ghost use Rattle.voter.specs.Replies.{AllCarry, AllTellPlace, AreAnswers, CarrySeen};
 ghost use Rattle.voter.specs.Steps.{IsSound, Outcome, effect_of, remind, start, step};
 ghost use Rattle.voter.specs.VoteMoves.{VoteMoves};
 ghost use Rattle.voter.specs.VoterContract.{AllTell, MeetsContract};
@@ -24,4 +25,18 @@ pub fn grants_are_numbered()
 pub fn voters_stay_sound()
     ensures first { (id limit : ℕ) → limit ≤ 2 ^ 40 → IsSound (start id limit) }
     ensures steps { (v : VoterState) (m : ToVoter) (o : Outcome) → IsSound v → step v m ≡ Some o → IsSound o.state }
+{}
+
+/// A message is answered by at most three replies, of which at most one is LOCKED. Each FAIL goes to a client that
+/// waits after the step, and each INQUIRE to the holder.
+pub fn replies_tell_the_state()
+    ensures steps { (v : VoterState) (m : ToVoter) (o : Outcome) → IsSound v → step v m ≡ Some o → AreAnswers o }
+    ensures reminders { (v : VoterState) → AllTellPlace v (remind v) }
+{}
+
+/// Each reply names the voter and carries the highest stamp that it saw, with that of the message; the voter's number
+/// and its limit stay.
+pub fn replies_carry_what_was_seen()
+    ensures steps { (v : VoterState) (m : ToVoter) (o : Outcome) → step v m ≡ Some o → CarrySeen v m o }
+    ensures reminders { (v : VoterState) → AllCarry v.id v.seen (remind v) }
 {}

@@ -1,4 +1,32 @@
-//! A voter of the voting lock.
+//! A voter of the voting lock: it has one vote, and grants it to one request at a time.
+//!
+//! A client that wants the lock asks every voter of a quorum for its vote, by REQUEST. A voter grants its vote to the
+//! request that precedes the others that it knows, and answers LOCKED; the others wait in a queue, and are told FAIL.
+//! Where a request comes that precedes the granted one, the voter asks the holder to give the vote back (INQUIRE); a
+//! holder that can't win does so (RELINQUISH), and goes on waiting. RELEASE ends a request. This is the arbiter of
+//! Maekawa, "A sqrt(N) algorithm for mutual exclusion in decentralized systems", ACM TOCS 3(2), 1985; messages may be
+//! repeated, lost and late, so grants are numbered and finished stamps are remembered.
+//!
+//! # Running a voter
+//!
+//! A [`Voter`] is a pure machine: it has no clock, no socket and no thread. Give each message to [`Voter::take`], one at
+//! a time, and send the replies in order, after the new state is safe where it has to outlive a crash. A refused message
+//! changed nothing. [`Voter::effect`] tells beforehand whether a message would end the current grant, for a board of
+//! votes that has to be settled first. [`Voter::remind`] may be sent at any time.
+//!
+//! # What is proved
+//!
+//! The steps are exactly the definition in `specs/Steps.antt`, whose state is a grant or none, a finite map from waiting
+//! client to stamp with its least request as the front, the finished stamps, the number of grants given and the highest
+//! stamp seen. The laws of this page say what many voters and clients may rest on.
+//!
+//! This crate stands on `message`. A world of voters and clients, and threads that run one, stand on it.
+//!
+//! ```
+//! let mut voter = Voter::new(0, 1000);
+//! let replies = voter.take(&ToVoter { client: 1, voter: 0, body: VoterBody::Request { stamp: 1 } })?;
+//! // replies: LOCKED for client 1, stamp 1, under grant number 1
+//! ```
 #![tactic(auto)]
 
 mod fault;
@@ -10,6 +38,9 @@ mod tests;
 mod voter;
 
 pub use fault::VoterFault;
-pub use laws::{grants_are_numbered, voters_meet_the_contract, voters_stay_sound};
+pub use laws::{
+    grants_are_numbered, replies_carry_what_was_seen, replies_tell_the_state,
+    voters_meet_the_contract, voters_stay_sound,
+};
 pub use state::{Effect, Grant, Replies};
 pub use voter::Voter;

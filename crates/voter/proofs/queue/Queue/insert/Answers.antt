@@ -1,7 +1,6 @@
-use Rattle.std.proofs.Common.{◌≡◌, ◌<◌, ◌≤◌, ap, sym, ◌∙◌, subst, lit<, arith, List, length}
+use Rattle.std.proofs.Common.{◌≡◌, ◌<◌, ap, sym, ◌∙◌, subst, lit<, length}
 use Rattle.std.specs.List.{insert, position_or_len}
 use Rattle.std.specs.Prelude.{not}
-use Rattle.message.specs.declared.request.Request.{Request}
 use Rattle.voter.specs.Waiting.{IsQueue, waiting_of, precedes, without}
 use Rattle.std.specs.FinMap as fin
 use Rattle.voter.proofs.Queues.{waiting-without, queue-without, waiting-placed, queue-placed, new-without, room_for, insert_placed, placed, insert-remove}

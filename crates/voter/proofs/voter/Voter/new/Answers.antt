@@ -1,6 +1,4 @@
-use Rattle.std.proofs.Common.{◌≡◌, sym, subst, ap}
-use Rattle.std.specs.FinMap.{empty}
-use Rattle.voter.specs.declared.state.VoterState.{VoterState}
+use Rattle.std.proofs.Common.{sym, subst}
 use Rattle.voter.specs.Waiting.{Waiting}
 use Rattle.voter.specs.Steps.{IsSound, start}
 use Rattle.voter.proofs.Soundness.{sound_start}

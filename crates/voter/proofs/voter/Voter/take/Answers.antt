@@ -1,6 +1,6 @@
-use Rattle.std.proofs.Common.{◌≡◌, ap, sym, ◌∙◌, refl, Some, subst}
+use Rattle.std.proofs.Common.{ap, sym, ◌∙◌, refl, Some, subst}
 use Rattle.voter.specs.declared.state.VoterState.{VoterState}
-use Rattle.voter.specs.Steps.{step, Outcome, IsSound}
+use Rattle.voter.specs.Steps.{step, IsSound}
 use Rattle.voter.proofs.Grants.{kept}
 use Rattle.voter.proofs.Effects.{step_refused, step_taken}
 use Rattle.voter.proofs.Soundness.{sound_after}

@@ -1,0 +1,405 @@
+-- what the replies of a step say
+use Rattle.std.proofs.Common.{◌≡◌, ℕ, ◌+◌, ◌≤◌, Bool, true, false, cond, List, [], ◌∷◌, ◌++◌, length, Option, Some, None, refl, sym, ap, ◌∙◌, arith, subst, eqb, zero-add}
+use Rattle.std.specs.Prelude.{nat_lt, ◌==◌}
+use Rattle.std.specs.FinMap.{get, insert}
+use Rattle.std.proofs.lemmas.Bool.Decides.{nat_tests}
+use Rattle.std.proofs.lemmas.Bool.{false≢true}
+use Rattle.std.proofs.lemmas.List.{length-append}
+use Rattle.std.proofs.lemmas.Option.{none-some, same_Some}
+use Rattle.message.specs.declared.request.Request.{Request}
+use Rattle.message.specs.declared.message.ToVoter.{ToVoter}
+use Rattle.message.specs.declared.message.ToClient.{ToClient}
+use Rattle.message.specs.declared.message.VoterBody.{VoterBody}
+use Rattle.message.specs.declared.message.VoterBody.TheVariants as asks
+use Rattle.message.specs.declared.message.ClientBody.{ClientBody}
+use Rattle.message.specs.declared.message.ClientBody.TheVariants as tells
+use Rattle.voter.specs.declared.state.Grant.{Grant}
+use Rattle.voter.specs.declared.state.VoterState.{VoterState}
+use Rattle.voter.specs.Waiting.{Waiting, front}
+use Rattle.voter.specs.Replies.{AllTellPlace, locked_in, locked_count, AllCarry, seen_after, AreAnswers, CarrySeen}
+use Rattle.voter.specs.Steps.{Outcome, grant_to, grant_front, released, released_by, queued, queued_by, inquiry, fail_former, admitted, admitted_by, queue, freed, finish, held_stamp, is_up_to, standing, first_some, requested, requested_by, requested_beside, compared_by, again, again_by, relinquished, relinquished_by, put_back, see, outcome_of, step, remind, remind_of, inquiry_again, IsSound}
+use Rattle.voter.proofs.Front.{front_found}
+use Rattle.voter.proofs.Grants.{granted-compared_by, granted-admitted, kept, kept-released, up_to_own, more}
+use Rattle.voter.proofs.Soundness.{IsOrderly, get_inserted, still_none, removed_self, holder_of, orderly_see}
+use Rattle.voter.proofs.Effects.{taken}
+
+-- FAIL goes to a client that waits, INQUIRE to the holder.
+
+-- the replies to a grant are LOCKED alone
+place-grant_to : (w v : VoterState) (o : Option Request) → AllTellPlace w (grant_to v o).replies
+place-grant_to w v None = tt
+place-grant_to w v (Some r) = (tt, tt)
+
+place-grant_front : (w v : VoterState) → AllTellPlace w (grant_front v).replies
+unfolding grant_front
+place-grant_front w v = place-grant_to w v (front v.waiting)
+
+place-released_by : (w : VoterState) (holds waits : Bool) (v : VoterState) (c s : ℕ) → AllTellPlace w (released_by holds waits v c s).replies
+place-released_by w true waits v c s = place-grant_front w (freed (finish v c s))
+place-released_by w false true v c s = tt
+place-released_by w false false v c s = tt
+
+place-released : (w v : VoterState) (c s : ℕ) → AllTellPlace w (released v c s).replies
+unfolding released
+place-released w v c s = place-released_by w _ _ v c s
+
+inserted_self : (w : Waiting) (c s : ℕ) → get (insert w c s) c ≡ Some s
+inserted_self w c s = get_inserted w c s c ∙ grind (arith, nat_tests)
+
+-- who waited still does, when another comes
+still_waits : (w : Waiting) (c s d t : ℕ) → get w c ≡ None → get w d ≡ Some t → get (insert w c s) d ≡ Some t
+still_waits w c s d t none is = elim (eqb d c) as (λ b. eqb d c ≡ b → cond b (Some s) (get w d) ≡ Some t → get (insert w c s) d ≡ Some t) [
+  | true ↦ λ e h. let same : d ≡ c = grind (arith, nat_tests) in absurd (none-some t (sym none ∙ ap (get w) (sym same) ∙ is))
+  | false ↦ λ e h. get_inserted w c s d ∙ ap (λ b. cond b (Some s) (get w d)) e ∙ is
+] refl (elim (eqb d c) as (λ b. eqb d c ≡ b → cond b (Some s) (get w d) ≡ Some t) [
+  | true ↦ λ e. let same : d ≡ c = grind (arith, nat_tests) in absurd (none-some t (sym none ∙ ap (get w) (sym same) ∙ is))
+  | false ↦ λ e. is
+] refl)
+
+place_former : (v w : VoterState) (o : Option Request) → ((q : Request) → o ≡ Some q → get w.waiting q.client ≡ Some q.stamp) → AllTellPlace w (fail_former v o)
+place_former v w None waits = tt
+place_former v w (Some q) waits = (waits q refl, tt)
+
+place_inquiry : (out : Bool) (v w : VoterState) (g : Grant) (o : Option Request) → w.held ≡ Some g → ((q : Request) → o ≡ Some q → get w.waiting q.client ≡ Some q.stamp) → AllTellPlace w (inquiry out v g ++ fail_former v o)
+place_inquiry true v w g o is waits = place_former v w o waits
+place_inquiry false v w g o is waits = ((g, is, refl, refl), place_former v w o waits)
+
+front_waits : (v : VoterState) (c s : ℕ) → get v.waiting c ≡ None → (q : Request) → front v.waiting ≡ Some q → get (insert v.waiting c s) q.client ≡ Some q.stamp
+front_waits v c s none q is = still_waits v.waiting c s q.client q.stamp none (front_found v.waiting q is)
+
+place-queued_by : (waits granted : Bool) (v : VoterState) (g : Grant) (c s : ℕ) → v.held ≡ Some g → get v.waiting c ≡ None → AllTellPlace (queued_by waits granted v g c s).state (queued_by waits granted v g c s).replies
+place-queued_by true granted v g c s is none = (inserted_self v.waiting c s, tt)
+place-queued_by false true v g c s is none = (inserted_self v.waiting c s, place_former v (queue v c s) (front v.waiting) (front_waits v c s none))
+place-queued_by false false v g c s is none = place_inquiry v.inquiring v (record (queue v c s) { inquiring = true }) g (front v.waiting) is (front_waits v c s none)
+
+place-admitted_by : (o : Option Grant) (v : VoterState) (c s : ℕ) → v.held ≡ o → get v.waiting c ≡ None → AllTellPlace (admitted_by o v c s).state (admitted_by o v c s).replies
+unfolding queued
+place-admitted_by None v c s is none = place-grant_front (grant_front (queue v c s)).state (queue v c s)
+place-admitted_by (Some g) v c s is none = place-queued_by _ _ v g c s is none
+
+place-admitted : (v : VoterState) (c s : ℕ) → get v.waiting c ≡ None → AllTellPlace (admitted v c s).state (admitted v c s).replies
+unfolding admitted
+place-admitted v c s none = place-admitted_by v.held v c s refl none
+
+waits_free : (o : Option Grant) (w : Option ℕ) (c s : ℕ) → o ≡ None → first_some (held_stamp o c) w ≡ Some s → w ≡ Some s
+waits_free None w c s free stands = stands
+waits_free (Some g) w c s free stands = absurd (none-some g (sym free))
+
+waits_beside : (o : Option Grant) (w : Option ℕ) (c : ℕ) (g : Grant) (s : ℕ) → o ≡ Some g → (g.client == c) ≡ false → first_some (held_stamp o c) w ≡ Some s → w ≡ Some s
+waits_beside None w c g s is other stands = absurd (none-some g is)
+waits_beside (Some h) w c g s is other stands = let client = ap (λ (k : Grant). k.client) (same_Some h g is) in grind (arith, nat_tests)
+
+place_again_by : (b : Bool) (v : VoterState) (g : Grant) (c s : ℕ) → (g.client == c) ≡ b → v.held ≡ Some g → standing v c ≡ Some s → AllTellPlace v (again_by b v g c s)
+place_again_by true v g c s e is stands = (tt, tt)
+place_again_by false v g c s e is stands = (waits_beside v.held (get v.waiting c) c g s is e stands, tt)
+
+place_again : (o : Option Grant) (v : VoterState) (c s : ℕ) → v.held ≡ o → standing v c ≡ Some s → AllTellPlace v (again v o c s)
+place_again None v c s is stands = (waits_free v.held (get v.waiting c) c s is stands, tt)
+place_again (Some g) v c s is stands = place_again_by _ v g c s refl is stands
+
+all_append : (w : VoterState) (xs ys : List ToClient) → AllTellPlace w xs → AllTellPlace w ys → AllTellPlace w (xs ++ ys)
+all_append w [] ys h k = k
+all_append w (x ∷ xs) ys h k = (h.0, all_append w xs ys h.1 k)
+
+-- after its release a client does not wait
+
+gone-grant_to : (v : VoterState) (o : Option Request) (c : ℕ) → get v.waiting c ≡ None → get (grant_to v o).state.waiting c ≡ None
+gone-grant_to v None c none = none
+gone-grant_to v (Some r) c none = still_none v.waiting r.client c none
+
+gone-grant_front : (v : VoterState) (c : ℕ) → get v.waiting c ≡ None → get (grant_front v).state.waiting c ≡ None
+unfolding grant_front
+gone-grant_front v c none = gone-grant_to v (front v.waiting) c none
+
+gone_by : (o w : Option ℕ) (t : ℕ) → first_some o w ≡ Some t → is_up_to o t ≡ false → is_up_to w t ≡ false → w ≡ None
+gone_by None w t stands held waits = absurd (false≢true (sym waits ∙ ap (λ x. is_up_to x t) stands ∙ grind (arith, nat_tests)))
+gone_by (Some u) w t stands held waits = let same = same_Some u t stands in absurd (false≢true (sym held ∙ grind (arith, nat_tests)))
+
+gone-released_by : (holds waits : Bool) (v : VoterState) (c t : ℕ) → is_up_to (held_stamp v.held c) t ≡ holds → is_up_to (get v.waiting c) t ≡ waits → standing v c ≡ Some t → IsOrderly v → get (released_by holds waits v c t).state.waiting c ≡ None
+gone-released_by true waits v c t e f stands h =
+    let own = holder_of v.held c (sym (up_to_own (held_stamp v.held c) (get v.waiting c) t stands) ∙ e) in
+    gone-grant_front (freed (finish v c t)) c (ap (get v.waiting) (sym own.2) ∙ h.apart own.0 own.1)
+gone-released_by false true v c t e f stands h = removed_self v.waiting c
+gone-released_by false false v c t e f stands h = gone_by (held_stamp v.held c) (get v.waiting c) t stands e f
+
+gone-released : (v : VoterState) (c t : ℕ) → standing v c ≡ Some t → IsOrderly v → get (released v c t).state.waiting c ≡ None
+unfolding released
+gone-released v c t stands h = gone-released_by _ _ v c t refl refl stands h
+
+place-compared_by : (less same : Bool) (v : VoterState) (c s t : ℕ) → (s == t) ≡ same → standing v c ≡ Some t → IsOrderly v → AllTellPlace (compared_by less same v c s t).state (compared_by less same v c s t).replies
+place-compared_by true same v c s t e stands h = tt
+place-compared_by false true v c s t e stands h = let same : t ≡ s = grind (arith, nat_tests) in place_again v.held v c s refl (stands ∙ ap (λ (n : ℕ). Some n) same)
+place-compared_by false false v c s t e stands h =
+    let w = (released v c t).state in
+    let a = admitted w c s in
+    all_append a.state (released v c t).replies a.replies (place-released a.state v c t) (place-admitted w c s (gone-released v c t stands h))
+
+none_waits : (o w : Option ℕ) → first_some o w ≡ None → w ≡ None
+none_waits None w e = e
+none_waits (Some s) w e = absurd (none-some s (sym e))
+
+place-beside : (v : VoterState) (c s : ℕ) (o : Option ℕ) → standing v c ≡ o → IsOrderly v → AllTellPlace (requested_beside v c s o).state (requested_beside v c s o).replies
+unfolding requested_beside
+place-beside v c s None stands h = place-admitted v c s (none_waits (held_stamp v.held c) (get v.waiting c) stands)
+place-beside v c s (Some t) stands h = place-compared_by _ _ v c s t refl stands h
+
+place-requested_by : (done : Bool) (v : VoterState) (c s : ℕ) → IsOrderly v → AllTellPlace (requested_by done v c s).state (requested_by done v c s).replies
+place-requested_by true v c s h = tt
+place-requested_by false v c s h = place-beside v c s (standing v c) refl h
+
+place-put_back : (o : Option Grant) (v : VoterState) → AllTellPlace (put_back o v).state (put_back o v).replies
+place-put_back None v = tt
+place-put_back (Some g) v = place-grant_front (grant_front (queue (freed v) g.client g.stamp)).state (queue (freed v) g.client g.stamp)
+
+place-relinquished_by : (b : Bool) (v : VoterState) → AllTellPlace (relinquished_by b v).state (relinquished_by b v).replies
+place-relinquished_by true v = place-put_back v.held v
+place-relinquished_by false v = tt
+
+place_after : (v : VoterState) (c : ℕ) (b : VoterBody) → IsOrderly v → AllTellPlace (outcome_of v c b).state (outcome_of v c b).replies
+unfolding relinquished requested
+place_after v c (asks.Request s) h = place-requested_by _ (see v s) c s (orderly_see v s h)
+place_after v c (asks.Relinquish n) h = place-relinquished_by _ v
+place_after v c (asks.Release s) h = place-released (released (see v s) c s).state (see v s) c s
+
+-- At most three replies, and at most one LOCKED.
+
+pub record IsFew (most : ℕ) (v : VoterState) (o : Outcome) : Type 0 where
+  pub few : length o.replies ≤ most
+  pub locked : v.granted + locked_count o.replies ≡ o.state.granted
+
+count_append : (xs ys : List ToClient) → locked_count (xs ++ ys) ≡ locked_count xs + locked_count ys
+count_append [] ys = sym (zero-add (locked_count ys))
+count_append (x ∷ xs) ys = let rest = count_append xs ys in omega arith
+
+one_at_most : (b : ClientBody) → locked_in b ≤ 1
+one_at_most (tells.Locked stamp grant) = omega arith
+one_at_most (tells.Fail stamp) = omega arith
+one_at_most (tells.Inquire grant) = omega arith
+
+count_le : (xs : List ToClient) → locked_count xs ≤ length xs
+count_le [] = omega arith
+count_le (x ∷ xs) = let one = one_at_most x.body in let rest = count_le xs in omega arith
+
+few-grant_to : (v : VoterState) (o : Option Request) → IsFew 1 v (grant_to v o)
+few-grant_to v None = record { few = omega arith; locked = omega arith }
+few-grant_to v (Some r) = record { few = omega arith; locked = refl }
+
+few-grant_front : (v : VoterState) → IsFew 1 v (grant_front v)
+unfolding grant_front
+few-grant_front v = few-grant_to v (front v.waiting)
+
+few-released_by : (holds waits : Bool) (v : VoterState) (c s : ℕ) → IsFew 1 v (released_by holds waits v c s)
+few-released_by true waits v c s = let k = few-grant_front (freed (finish v c s)) in record { few = k.few; locked = k.locked }
+few-released_by false true v c s = record { few = omega arith; locked = omega arith }
+few-released_by false false v c s = record { few = omega arith; locked = omega arith }
+
+few-released : (v : VoterState) (c s : ℕ) → IsFew 1 v (released v c s)
+unfolding released
+few-released v c s = few-released_by _ _ v c s
+
+record IsQuiet (most : ℕ) (replies : List ToClient) : Type 0 where
+  few : length replies ≤ most
+  locked : locked_count replies ≡ 0
+
+quiet_former : (v : VoterState) (o : Option Request) → IsQuiet 1 (fail_former v o)
+quiet_former v None = record { few = omega arith; locked = refl }
+quiet_former v (Some q) = record { few = omega arith; locked = refl }
+
+quiet_inquiry : (out : Bool) (v : VoterState) (g : Grant) (o : Option Request) → IsQuiet 2 (inquiry out v g ++ fail_former v o)
+quiet_inquiry true v g o = let k = quiet_former v o in let n = k.few in record { few = omega arith; locked = k.locked }
+quiet_inquiry false v g o = let k = quiet_former v o in let n = k.few in let l = k.locked in record { few = omega arith; locked = omega arith }
+
+few-queued_by : (waits granted : Bool) (v : VoterState) (g : Grant) (c s : ℕ) → IsFew 2 v (queued_by waits granted v g c s)
+few-queued_by true granted v g c s = record { few = omega arith; locked = omega arith }
+few-queued_by false true v g c s = let k = quiet_former v (front v.waiting) in let n = k.few in let l = k.locked in record { few = omega arith; locked = grind (arith, nat_tests) }
+few-queued_by false false v g c s = let k = quiet_inquiry v.inquiring v g (front v.waiting) in let n = k.few in let l = k.locked in record { few = n; locked = grind (arith, nat_tests) }
+
+few-admitted_by : (o : Option Grant) (v : VoterState) (c s : ℕ) → IsFew 2 v (admitted_by o v c s)
+unfolding queued
+few-admitted_by None v c s = let k = few-grant_front (queue v c s) in let n = k.few in record { few = omega arith; locked = k.locked }
+few-admitted_by (Some g) v c s = few-queued_by _ _ v g c s
+
+few-admitted : (v : VoterState) (c s : ℕ) → IsFew 2 v (admitted v c s)
+unfolding admitted
+few-admitted v c s = few-admitted_by v.held v c s
+
+-- few replies, of which at most one is LOCKED
+record IsBrief (replies : List ToClient) : Type 0 where
+  few : length replies ≤ 3
+  locked : locked_count replies ≤ 1
+
+brief_none : IsBrief []
+brief_none = record { few = omega arith; locked = omega arith }
+
+brief_few : (b : Bool) (v : VoterState) (o : Outcome) → IsFew 2 v o → o.state.granted ≡ more b v.granted → IsBrief o.replies
+brief_few true v o k g = let n = k.few in let l = k.locked in record { few = omega arith; locked = omega arith }
+brief_few false v o k g = let n = k.few in let l = k.locked in record { few = omega arith; locked = omega arith }
+
+brief_one : (v : VoterState) (o : Outcome) → IsFew 1 v o → IsBrief o.replies
+brief_one v o k = let n = k.few in record { few = omega arith; locked = omega (arith, count_le o.replies) }
+
+brief_again_by : (b : Bool) (v : VoterState) (g : Grant) (c s : ℕ) → IsBrief (again_by b v g c s)
+brief_again_by true v g c s = record { few = omega arith; locked = omega arith }
+brief_again_by false v g c s = record { few = omega arith; locked = omega arith }
+
+brief_again : (o : Option Grant) (v : VoterState) (c s : ℕ) → IsBrief (again v o c s)
+brief_again None v c s = record { few = omega arith; locked = omega arith }
+brief_again (Some g) v c s = brief_again_by _ v g c s
+
+both_brief : (b : Bool) (v w : VoterState) (r a : List ToClient) (n : ℕ) → length r ≤ 1 → length a ≤ 2 → v.granted + locked_count r ≡ w.granted → w.granted + locked_count a ≡ n → n ≡ more b v.granted → IsBrief (r ++ a)
+both_brief true v w r a n fr fa lr la g = let c = count_append r a in let l = length-append r a in record { few = omega arith; locked = omega arith }
+both_brief false v w r a n fr fa lr la g = let c = count_append r a in let l = length-append r a in record { few = omega arith; locked = omega arith }
+
+brief-compared_by : (less same : Bool) (v : VoterState) (c s t : ℕ) → nat_lt s t ≡ less → (s == t) ≡ same → standing v c ≡ Some t → IsBrief (compared_by less same v c s t).replies
+brief-compared_by true same v c s t l e stands = brief_none
+brief-compared_by false true v c s t l e stands = brief_again v.held v c s
+brief-compared_by false false v c s t l e stands =
+    let w = (released v c t).state in
+    let r = few-released v c t in
+    let a = few-admitted w c s in
+    both_brief _ v w (released v c t).replies (admitted w c s).replies (admitted w c s).state.granted r.few a.few r.locked a.locked (granted-compared_by false false v c s t l e stands)
+
+brief-beside : (v : VoterState) (c s : ℕ) (o : Option ℕ) → standing v c ≡ o → IsBrief (requested_beside v c s o).replies
+unfolding requested_beside
+brief-beside v c s None stands = brief_few _ v (admitted v c s) (few-admitted v c s) (granted-admitted v c s)
+brief-beside v c s (Some t) stands = brief-compared_by _ _ v c s t refl refl stands
+
+brief-requested_by : (done : Bool) (v : VoterState) (c s : ℕ) → IsBrief (requested_by done v c s).replies
+brief-requested_by true v c s = brief_none
+brief-requested_by false v c s = brief-beside v c s (standing v c) refl
+
+brief-put_back : (o : Option Grant) (v : VoterState) → IsBrief (put_back o v).replies
+brief-put_back None v = brief_none
+brief-put_back (Some g) v = brief_one (queue (freed v) g.client g.stamp) (grant_front (queue (freed v) g.client g.stamp)) (few-grant_front (queue (freed v) g.client g.stamp))
+
+brief-relinquished_by : (b : Bool) (v : VoterState) → IsBrief (relinquished_by b v).replies
+brief-relinquished_by true v = brief-put_back v.held v
+brief-relinquished_by false v = brief_none
+
+brief_after : (v : VoterState) (c : ℕ) (b : VoterBody) → IsBrief (outcome_of v c b).replies
+unfolding relinquished requested
+brief_after v c (asks.Request s) = brief-requested_by _ (see v s) c s
+brief_after v c (asks.Relinquish n) = brief-relinquished_by _ v
+brief_after v c (asks.Release s) = brief_one (see v s) (released (see v s) c s) (few-released (see v s) c s)
+
+-- The replies carry the voter's number and what it saw.
+
+carry-grant_to : (v : VoterState) (o : Option Request) → AllCarry v.id v.seen (grant_to v o).replies
+carry-grant_to v None = tt
+carry-grant_to v (Some r) = ((refl, refl), tt)
+
+carry-grant_front : (v : VoterState) → AllCarry v.id v.seen (grant_front v).replies
+unfolding grant_front
+carry-grant_front v = carry-grant_to v (front v.waiting)
+
+carry-released_by : (holds waits : Bool) (v : VoterState) (c s : ℕ) → AllCarry v.id v.seen (released_by holds waits v c s).replies
+carry-released_by true waits v c s = carry-grant_front (freed (finish v c s))
+carry-released_by false true v c s = tt
+carry-released_by false false v c s = tt
+
+carry-released : (v : VoterState) (c s : ℕ) → AllCarry v.id v.seen (released v c s).replies
+unfolding released
+carry-released v c s = carry-released_by _ _ v c s
+
+carry_former : (v : VoterState) (o : Option Request) → AllCarry v.id v.seen (fail_former v o)
+carry_former v None = tt
+carry_former v (Some q) = ((refl, refl), tt)
+
+carry_inquiry : (out : Bool) (v : VoterState) (g : Grant) (o : Option Request) → AllCarry v.id v.seen (inquiry out v g ++ fail_former v o)
+carry_inquiry true v g o = carry_former v o
+carry_inquiry false v g o = ((refl, refl), carry_former v o)
+
+carry-queued_by : (waits granted : Bool) (v : VoterState) (g : Grant) (c s : ℕ) → AllCarry v.id v.seen (queued_by waits granted v g c s).replies
+carry-queued_by true granted v g c s = ((refl, refl), tt)
+carry-queued_by false true v g c s = ((refl, refl), carry_former v (front v.waiting))
+carry-queued_by false false v g c s = carry_inquiry v.inquiring v g (front v.waiting)
+
+carry-admitted_by : (o : Option Grant) (v : VoterState) (c s : ℕ) → AllCarry v.id v.seen (admitted_by o v c s).replies
+unfolding queued
+carry-admitted_by None v c s = carry-grant_front (queue v c s)
+carry-admitted_by (Some g) v c s = carry-queued_by _ _ v g c s
+
+carry-admitted : (v : VoterState) (c s : ℕ) → AllCarry v.id v.seen (admitted v c s).replies
+unfolding admitted
+carry-admitted v c s = carry-admitted_by v.held v c s
+
+carry_again_by : (b : Bool) (v : VoterState) (g : Grant) (c s : ℕ) → AllCarry v.id v.seen (again_by b v g c s)
+carry_again_by true v g c s = ((refl, refl), tt)
+carry_again_by false v g c s = ((refl, refl), tt)
+
+carry_again : (o : Option Grant) (v : VoterState) (c s : ℕ) → AllCarry v.id v.seen (again v o c s)
+carry_again None v c s = ((refl, refl), tt)
+carry_again (Some g) v c s = carry_again_by _ v g c s
+
+carry_append : (id seen : ℕ) (xs ys : List ToClient) → AllCarry id seen xs → AllCarry id seen ys → AllCarry id seen (xs ++ ys)
+carry_append id seen [] ys h k = k
+carry_append id seen (x ∷ xs) ys h k = (h.0, carry_append id seen xs ys h.1 k)
+
+carry-compared_by : (less same : Bool) (v : VoterState) (c s t : ℕ) → AllCarry v.id v.seen (compared_by less same v c s t).replies
+carry-compared_by true same v c s t = tt
+carry-compared_by false true v c s t = carry_again v.held v c s
+carry-compared_by false false v c s t =
+    let w = (released v c t).state in
+    let k = kept-released v c t in
+    let a = (admitted w c s).replies in
+    carry_append v.id v.seen (released v c t).replies a (carry-released v c t) (subst (λ i. AllCarry i v.seen a) k.id (subst (λ n. AllCarry w.id n a) k.seen (carry-admitted w c s)))
+
+carry-beside : (v : VoterState) (c s : ℕ) (o : Option ℕ) → AllCarry v.id v.seen (requested_beside v c s o).replies
+unfolding requested_beside
+carry-beside v c s None = carry-admitted v c s
+carry-beside v c s (Some t) = carry-compared_by _ _ v c s t
+
+carry-requested_by : (done : Bool) (v : VoterState) (c s : ℕ) → AllCarry v.id v.seen (requested_by done v c s).replies
+carry-requested_by true v c s = tt
+carry-requested_by false v c s = carry-beside v c s (standing v c)
+
+carry-put_back : (o : Option Grant) (v : VoterState) → AllCarry v.id v.seen (put_back o v).replies
+carry-put_back None v = tt
+carry-put_back (Some g) v = carry-grant_front (queue (freed v) g.client g.stamp)
+
+carry-relinquished_by : (b : Bool) (v : VoterState) → AllCarry v.id v.seen (relinquished_by b v).replies
+carry-relinquished_by true v = carry-put_back v.held v
+carry-relinquished_by false v = tt
+
+carry_after : (v : VoterState) (c : ℕ) (b : VoterBody) → AllCarry v.id (seen_after v.seen b) (outcome_of v c b).replies
+unfolding relinquished requested
+carry_after v c (asks.Request s) = carry-requested_by _ (see v s) c s
+carry_after v c (asks.Relinquish n) = carry-relinquished_by _ v
+carry_after v c (asks.Release s) = carry-released (see v s) c s
+
+-- The step.
+
+pub answers_tell : (v : VoterState) (m : ToVoter) (o : Outcome) → IsSound v → step v m ≡ Some o → AreAnswers o
+answers_tell v m o sound e =
+    let brief = brief_after v m.client m.body in
+    let met : AreAnswers (outcome_of v m.client m.body) = record {
+      place = place_after v m.client m.body (record { numbered = sound.numbered; apart = sound.apart; free = sound.free });
+      few = brief.few;
+      locked = brief.locked;
+    } in
+    subst AreAnswers (taken v m o e).1 met
+
+pub answers_carry : (v : VoterState) (m : ToVoter) (o : Outcome) → step v m ≡ Some o → CarrySeen v m o
+answers_carry v m o e =
+    let k = kept v m.client m.body in
+    let P : Outcome → Type 0 = λ p. CarrySeen v m p in
+    let met : CarrySeen v m (outcome_of v m.client m.body) = record { carried = carry_after v m.client m.body; seen = k.seen; id = k.id; limit = k.limit } in
+    subst P (taken v m o e).1 met
+
+-- A reminder.
+
+remind_again : (out : Bool) (v : VoterState) (g : Grant) → v.held ≡ Some g → AllTellPlace v (inquiry_again out v g) × AllCarry v.id v.seen (inquiry_again out v g)
+remind_again true v g is = (((g, is, refl, refl), tt), ((refl, refl), tt))
+remind_again false v g is = (tt, tt)
+
+remind_by : (o : Option Grant) (v : VoterState) → v.held ≡ o → AllTellPlace v (remind_of o v) × AllCarry v.id v.seen (remind_of o v)
+remind_by None v is = (tt, tt)
+remind_by (Some g) v is = let k = remind_again v.inquiring v g is in ((tt, k.0), ((refl, refl), k.1))
+
+pub reminders_place : (v : VoterState) → AllTellPlace v (remind v)
+unfolding remind
+reminders_place v = (remind_by v.held v refl).0
+
+pub reminders_carry : (v : VoterState) → AllCarry v.id v.seen (remind v)
+unfolding remind
+reminders_carry v = (remind_by v.held v refl).1
