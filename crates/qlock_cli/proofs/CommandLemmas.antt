@@ -54,7 +54,7 @@ construct_refused fault wanted e = ap (refused_as Construct) e
 -- a refusal of the planner is one of the command `plan`
 pub planner_refused : (input : List ℕ) (named : NamedSystem) (fault : PlannerFault) → coterie_part input ≡ Ok named → IsWarranted named.system fault → IsRefusedBy commands.Plan input (planner_refusal fault)
 planner_refused input named planner.OutOfMemory e h = tt
-planner_refused input named (planner.NoPlan cause) e h = record { named = named; coterie = e; warranted = h; }
+planner_refused input named (planner.NoPlan cause) e h = record { named = named; coterie = e; warranted = h }
 
 -- a refusal of the coterie is one of the command `plan`
 pub coterie_refused : (input : List ℕ) (fault : Fault) → IsOfFile fault → Refuses fault (coterie_part input) → IsRefusedBy commands.Plan input fault

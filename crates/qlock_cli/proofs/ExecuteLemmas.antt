@@ -1,9 +1,9 @@
 -- Lemmas on what leads to an answer or to a fault.
-use Rattle.std.proofs.Common.{◌≡◌, ℕ, Bool, true, false, List, Option, None, Some, Result, Ok, Err, subst, refl}
-use Rattle.std.specs.Prelude.{IfSome, ⊤}
+use Rattle.std.proofs.Common.{◌≡◌, ℕ, true, List, Option, None, Some, Result, Ok, Err, subst, refl}
+use Rattle.std.specs.Prelude.{IfSome}
 use Rattle.std.specs.Io.KnownBytes.{Appends}
 use Rattle.qlock_cli.specs.Commands.{Answers, ComesOf, Gives, IsAnswer, IsAnswered, IsRefusal, IsRefusedBy, IsShortFor, reads_input}
-use Rattle.qlock_cli.specs.Devices.{FailsAs, IsOfReading, IsOwn, LeavesAlone}
+use Rattle.qlock_cli.specs.Devices.{IsOfReading, IsOwn}
 use Rattle.qlock_cli.specs.declared.fault.Fault.{Fault}
 use Rattle.qlock_cli.specs.declared.fault.Fault.TheVariants as faults
 use Rattle.qlock_cli.specs.declared.fault.Fault.TheVariants.{MissingPart, TooLong, ReadFault, WriteFault, Construct, File, Planner, OutOfMemory}

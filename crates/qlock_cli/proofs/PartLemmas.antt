@@ -1,5 +1,5 @@
 -- Lemmas on the search for the first separating line.
-use Rattle.std.proofs.Common.{◌≡◌, ℕ, ◌+◌, ◌-◌, ◌<◌, Bool, true, false, cond, Option, Some, None, zero, suc, refl, ap, sym, ◌∙◌, arith}
+use Rattle.std.proofs.Common.{◌≡◌, ℕ, ◌+◌, ◌-◌, ◌<◌, Bool, true, false, cond, Some, None, zero, suc, ap, ◌∙◌, arith}
 use Rattle.qlock_cli.specs.Parts.{least_from}
 
 -- the least number is the first, or is sought behind it

@@ -15,11 +15,9 @@ use Rattle.coterie_file.specs.Named.{NamedSystem, numbered_names}
 use Rattle.coterie_file.specs.Writing.{coterie_text}
 use Rattle.coterie_file.specs.Names.{name_at}
 use Rattle.coterie_file.specs.Reading.{coterie_at}
-use Rattle.coterie_file.specs.declared.fault.FileFault.{FileFault}
 use Rattle.coterie_file.specs.declared.fault.FileFault.TheVariants.{NotToml}
 use Rattle.certificate.specs.Certificates.{Weighted, IsCertificate, IsOptimal, cycle_len, load_of}
 use Rattle.certificate.specs.PlanTexts.{plan_at, plan_text}
-use Rattle.certificate.specs.declared.fault.PlanFault.{PlanFault}
 use Rattle.planner.specs.Uniform.{IsWarranted}
 use Rattle.planner.specs.declared.fault.PlannerFault.{PlannerFault}
 use Rattle.dealer.specs.Cycles.{quorum_of_ticket}

@@ -1,5 +1,5 @@
 -- The parts of an input: texts with a line `%%` between them.
-use Rattle.std.specs.Prelude.{◌≡◌, ℕ, ◌+◌, ◌-◌, ◌==◌, ◌||◌, ◌&&◌, Bool, List, [], ◌∷◌, length, take, drop, Option, None, Some, Result, Ok, Err, nat_eq, slice_index, find, if◌then◌else◌, zero, suc}
+use Rattle.std.specs.Prelude.{ℕ, ◌+◌, ◌-◌, ◌==◌, ◌||◌, ◌&&◌, Bool, List, [], ◌∷◌, length, take, drop, Option, None, Some, Result, Ok, Err, nat_eq, slice_index, if◌then◌else◌, zero, suc}
 use Rattle.std.specs.List.{starts_with}
 use Rattle.qlock_cli.specs.declared.fault.Fault.{Fault}
 use Rattle.qlock_cli.specs.declared.fault.Fault.TheVariants.{MissingPart}

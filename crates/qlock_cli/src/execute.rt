@@ -12,7 +12,11 @@ use std::alloc::Global;
 use std::io::{Read, Write};
 
 /// The input of a command: all of it, or nothing where the command doesn't read it.
-fn input_for<R: Read>(alloc: Global, command: &Command, reader: &mut Watched<R>) -> Result<Vec<u8>, Fault>
+fn input_for<R: Read>(
+    alloc: Global,
+    command: &Command,
+    reader: &mut Watched<R>,
+) -> Result<Vec<u8>, Fault>
     requires { reader.old.failed ≡ false }
     ensures all { IfOk result (λ v. reads_input command.now ≡ true → IfSome (R.remaining reader.old.inner) (λ bytes. v.items ≡ bytes)) }
     ensures short { IfOk result (λ v. IsShortFor command.now v.items) }

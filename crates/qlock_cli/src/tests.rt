@@ -2,7 +2,8 @@
 use crate::execute::execute;
 use crate::fault::Fault;
 use crate::watched::Watched;
-use crate::words::{Command, Usage, read_words};
+use crate::words::{Command, Shape, Usage, read_words};
+use coterie_file::{read_coterie, write_coterie};
 use std::alloc::{AllocError, Global};
 use std::io;
 use std::io::{Read, Write};
@@ -207,13 +208,29 @@ fn command_text(alloc: Global, words: &[&str]) -> Result<String, AllocError> {
 #[test]
 fn words_name_commands(rt: HostRuntime) -> Result<(), Fail> {
     let alloc = rt.alloc();
-    let table: [(&[&str], &str); 9] = [
+    let table: [(&[&str], &str); 22] = [
         (&["deal", "5"], "Deal(5)"),
         (&["deal", "0"], "Deal(0)"),
         (&["deal", "100000"], "Deal(100000)"),
         (&["deal", "100001"], "refused"),
         (&["deal", "five"], "refused"),
         (&["deal"], "refused"),
+        (&["make", "grid", "2", "3"], "Make(Grid(2, 3))"),
+        (&["make", "majority", "3"], "Make(Majority(3))"),
+        (&["make", "tree", "0"], "Make(Tree(0))"),
+        (&["make", "wheel", "9999"], "Make(Wheel(9999))"),
+        (
+            &["make", "cyclic", "7", "0", "1", "3"],
+            "Make(Cyclic(7, [0, 1, 3]))",
+        ),
+        (&["make", "cyclic", "7"], "Make(Cyclic(7, []))"),
+        (&["make", "grid", "2"], "I5 Arguments"),
+        (&["make", "grid"], "I5 Arguments"),
+        (&["make", "cyclic"], "I5 Arguments"),
+        (&["make", "Grid", "2", "3"], "I5 Arguments"),
+        (&["make", "grid", "2", "10000"], "refused"),
+        (&["make"], "refused"),
+        (&["plan"], "Plan"),
         (&["check"], "Check"),
         (&["check", "5"], "refused"),
         (&[], "refused"),
@@ -221,6 +238,144 @@ fn words_name_commands(rt: HostRuntime) -> Result<(), Fail> {
     for (words, want) in &table {
         assert_eq!(rt; command_text(alloc, words)?.as_str(), *want);
     }
+    Ok(())
+}
+
+/// The shape that the words name.
+fn shape_named(alloc: Global, words: &[&str]) -> Result<Option<Shape>, AllocError> {
+    let mut given = Vec::new(alloc);
+    given.push(String::from_str(alloc, "qlock")?)?;
+    given.push(String::from_str(alloc, "make")?)?;
+    for word in words {
+        given.push(String::from_str(alloc, word)?)?;
+    }
+    match read_words(alloc, given.as_slice()) {
+        Ok(Command::Make(shape)) => Ok(Some(shape)),
+        _ => Ok(None),
+    }
+}
+
+/// What `make` writes for these words, or the text of its fault.
+fn made(alloc: Global, words: &[&str]) -> Result<String, AllocError> {
+    match shape_named(alloc, words)? {
+        Some(shape) => text_for(alloc, Command::Make(shape), b"is not read"),
+        None => String::from_str(alloc, "no shape"),
+    }
+}
+
+#[test]
+fn shapes_are_made(rt: HostRuntime) -> Result<(), Fail> {
+    let alloc = rt.alloc();
+    assert_eq!(rt; made(alloc, &["majority", "3"])?.as_str(), MAJORITY);
+    assert_eq!(rt; made(alloc, &["wheel", "3"])?.as_str(), WHEEL);
+    let refused: [(&[&str], &str); 6] = [
+        (&["grid", "1", "5"], "G1 BadSize"),
+        (&["majority", "15"], "G2 TooLarge"),
+        (&["tree", "4"], "G2 TooLarge"),
+        (&["cyclic", "4", "0", "2"], "E7 Disjoint 0 1"),
+        (&["cyclic", "2", "0", "1"], "E8 Contained 0 1"),
+        (&["cyclic", "7"], "G1 BadSize"),
+    ];
+    for (words, want) in &refused {
+        assert_eq!(rt; made(alloc, words)?.as_str(), *want);
+    }
+    let lines: [(&[&str], usize); 7] = [
+        (&["grid", "2", "2"], 7),
+        (&["grid", "8", "8"], 67),
+        (&["majority", "14"], 3006),
+        (&["tree", "3"], 258),
+        (&["wheel", "63"], 67),
+        (&["cyclic", "7", "0", "1", "3"], 10),
+        (&["cyclic", "13", "0", "1", "3", "9"], 16),
+    ];
+    for (words, want) in &lines {
+        // what is written reads back as what was written
+        let text = made(alloc, words)?;
+        assert_eq!(rt; text.as_str().lines().count(), *want);
+        match read_coterie(alloc, text.as_str()) {
+            Ok(named) => assert_eq!(rt; write_coterie(alloc, &named)?.as_str(), text.as_str()),
+            Err(_) => assert!(rt; false),
+        }
+    }
+    Ok(())
+}
+
+#[test]
+fn certificates_of_shapes(rt: HostRuntime) -> Result<(), Fail> {
+    let alloc = rt.alloc();
+    let table: [(&[&str], &str, &str); 3] = [
+        (
+            &["grid", "2", "2"],
+            "quorum-plan 1\nload 3/4\ncycle 4\nquorum 1 1 1 1\nvoter 1 1 1 1\n",
+            "load 3/4 cycle 4\n",
+        ),
+        (
+            &["tree", "2"],
+            "quorum-plan 1\nload 1/2\ncycle 12\nquorum 1 1 1 1 1 1 2 0 0 0 2 0 0 0 2\nvoter 2 1 1 1 1 1 1\n",
+            "load 1/2 cycle 12\n",
+        ),
+        (
+            &["cyclic", "13", "0", "1", "3", "9"],
+            "quorum-plan 1\nload 4/13\ncycle 13\nquorum 1 1 1 1 1 1 1 1 1 1 1 1 1\nvoter 1 1 1 1 1 1 1 1 1 1 1 1 1\n",
+            "load 4/13 cycle 13\n",
+        ),
+    ];
+    for (words, plan, want) in &table {
+        let coterie = made(alloc, words)?;
+        assert_eq!(rt;
+            answer_text(alloc, Command::Check, coterie.as_str(), plan)?.as_str(),
+            *want
+        );
+    }
+    Ok(())
+}
+
+#[test]
+fn plans_are_found(rt: HostRuntime) -> Result<(), Fail> {
+    let alloc = rt.alloc();
+    let table: [(&[&str], &str); 6] = [
+        (
+            &["majority", "3"],
+            "quorum-plan 1\nload 2/3\ncycle 3\nquorum 1 1 1\nvoter 1 1 1\n",
+        ),
+        (&["wheel", "3"], WHEEL_PLAN),
+        (
+            &["wheel", "4"],
+            "quorum-plan 1\nload 4/7\ncycle 7\nquorum 1 1 1 1 3\nvoter 3 1 1 1 1\n",
+        ),
+        (
+            &["cyclic", "7", "0", "1", "3"],
+            "quorum-plan 1\nload 3/7\ncycle 7\nquorum 1 1 1 1 1 1 1\nvoter 1 1 1 1 1 1 1\n",
+        ),
+        (
+            &["grid", "2", "2"],
+            "quorum-plan 1\nload 3/4\ncycle 4\nquorum 1 1 1 1\nvoter 1 1 1 1\n",
+        ),
+        (
+            &["tree", "0"],
+            "quorum-plan 1\nload 1/1\ncycle 1\nquorum 1\nvoter 1\n",
+        ),
+    ];
+    for (words, want) in &table {
+        let coterie = made(alloc, words)?;
+        assert_eq!(rt;
+            text_for(alloc, Command::Plan, coterie.as_bytes())?.as_str(),
+            *want
+        );
+    }
+    let single = "voters = [\"a\", \"b\", \"c\"]\nquorums = [[\"a\"]]\n";
+    assert_eq!(rt;
+        text_for(alloc, Command::Plan, single.as_bytes())?.as_str(),
+        "quorum-plan 1\nload 1/1\ncycle 1\nquorum 1\nvoter 1 0 0\n"
+    );
+    let tree = made(alloc, &["tree", "2"])?;
+    assert_eq!(rt;
+        text_for(alloc, Command::Plan, tree.as_bytes())?
+            .as_str()
+            .lines()
+            .nth(1),
+        Some("load 1/2")
+    );
     Ok(())
 }
 
@@ -310,10 +465,7 @@ fn devices_fail(rt: HostRuntime) -> Result<(), Fail> {
         assert_eq!(rt; result, Err(Fault::WriteFault));
         assert!(rt; writer.failed() && !reader.failed());
         assert!(rt; want.as_bytes().starts_with(&sink.bytes));
-        assert_eq!(rt;
-            sink.bytes.len(),
-            writes_left * piece
-        );
+        assert_eq!(rt; sink.bytes.len(), writes_left * piece);
     }
     let mut reader = Watched::of(Source {
         bytes: input.as_bytes(),

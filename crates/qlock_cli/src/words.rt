@@ -137,7 +137,9 @@ fn planning_command<'a>(alloc: Global) -> Result<clap::Command<'a>, AllocError>
     ensures { IfOk result (λ c. app_of c ≡ planning_app) }
 {
     clap::Command::new(alloc, "qlock")
-        .about("Plan quorums whose busiest voter is as idle as possible, and run the lock that they guard")
+        .about(
+            "Plan quorums whose busiest voter is as idle as possible, and run the lock that they guard",
+        )
         .subcommand_required(true)
         .subcommand(make_command(alloc)?)?
         .subcommand(plan_command(alloc))

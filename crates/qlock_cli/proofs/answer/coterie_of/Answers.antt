@@ -1,6 +1,6 @@
-use Rattle.std.proofs.Common.{◌≡◌, ap, subst, sym, ◌∙◌}
+use Rattle.std.proofs.Common.{ap, ◌∙◌}
 use Rattle.coterie_file.specs.Reading.{coterie_at}
-use Rattle.qlock_cli.specs.Commands.{Refuses, refused_as}
+use Rattle.qlock_cli.specs.Commands.{refused_as}
 use Rattle.qlock_cli.specs.declared.fault.Fault.TheVariants.{File}
 use Rattle.qlock_cli.proofs.CommandLemmas.{file_refused, part_read, part_refused}
 use Rattle.qlock_cli.proofs.answer.coterie_of.Goals as goal

@@ -1,4 +1,4 @@
-use Rattle.std.proofs.Common.{◌≡◌, ap}
+use Rattle.std.proofs.Common.{ap}
 use Rattle.certificate.specs.PlanTexts.{plan_at}
 use Rattle.qlock_cli.specs.Commands.{plan_part, refused_as}
 use Rattle.qlock_cli.specs.declared.fault.Fault.TheVariants.{Plan}

@@ -1,4 +1,4 @@
-use Rattle.std.proofs.Common.{◌≡◌, ◌≤◌, ◌-◌, ◌+◌, length, false}
+use Rattle.std.proofs.Common.{◌≡◌, ◌≤◌, ◌-◌, length, false}
 use Rattle.std.specs.Io.KnownBytes.{Consumes}
 use Rattle.qlock_cli.proofs.device.read_input.Given as goal
 

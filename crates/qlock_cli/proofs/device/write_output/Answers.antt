@@ -1,4 +1,4 @@
-use Rattle.std.proofs.Common.{◌≡◌, ◌+◌, ◌-◌, ◌<◌, ◌≤◌, ◌∙◌, arith, length, drop, take, inr}
+use Rattle.std.proofs.Common.{◌+◌, ◌≤◌, ◌∙◌, arith, length, drop, inr}
 use Rattle.std.proofs.lemmas.List.{take_rest, length-drop}
 use Rattle.qlock_cli.proofs.DeviceLemmas.{Appends-more}
 use Rattle.qlock_cli.proofs.device.write_output.Goals as goal

@@ -1,4 +1,4 @@
-use Rattle.std.proofs.Common.{◌≡◌, List, ℕ, subst}
+use Rattle.std.proofs.Common.{subst}
 use Rattle.qlock_cli.specs.Commands.{IsRefusedBy}
 use Rattle.qlock_cli.proofs.ExecuteLemmas.{own_comes_of_known, reading_comes}
 use Rattle.qlock_cli.proofs.execute.execute.Goals as goal

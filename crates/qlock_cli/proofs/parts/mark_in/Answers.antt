@@ -1,6 +1,6 @@
 use Rattle.std.proofs.Common.{◌≡◌, ◌-◌, ap, sym, ◌∙◌, arith, length}
 use Rattle.qlock_cli.specs.Parts.{first_mark, is_mark, least_from}
-use Rattle.qlock_cli.proofs.PartLemmas.{least_here, least_later}
+use Rattle.qlock_cli.proofs.PartLemmas.{least_later}
 use Rattle.qlock_cli.proofs.parts.mark_in.Goals as goal
 
 pub loop-place-init : goal.loop-place-init

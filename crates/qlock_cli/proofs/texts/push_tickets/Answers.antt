@@ -1,4 +1,4 @@
-use Rattle.std.proofs.Common.{◌≡◌, ◌++◌, ap, sym, ◌∙◌, string_bytes}
+use Rattle.std.proofs.Common.{◌++◌, ap, sym, ◌∙◌, string_bytes}
 use Rattle.std.proofs.lemmas.List.{append-nil}
 use Rattle.qlock_cli.specs.Commands.{ticket_line}
 use Rattle.qlock_cli.proofs.TextLemmas.{lines_more}

@@ -1,4 +1,4 @@
-use Rattle.std.proofs.Common.{◌≡◌, ◌≤◌, ◌∙◌, sym, refl, codes, arith}
+use Rattle.std.proofs.Common.{◌∙◌, sym, refl, codes, arith}
 use Rattle.clap.specs.Words.{found_of}
 use Rattle.clap.proofs.WalkLemmas.{first_value-rows}
 use Rattle.qlock_cli.proofs.words.deal_of.Goals as goal

@@ -1,4 +1,4 @@
-use Rattle.std.proofs.Common.{◌≡◌, ◌∙◌, sym, refl, codes}
+use Rattle.std.proofs.Common.{◌∙◌, sym, refl, codes}
 use Rattle.clap.specs.Words.{found_of}
 use Rattle.clap.proofs.WalkLemmas.{first_value-rows}
 use Rattle.qlock_cli.proofs.words.make_of.Goals as goal

@@ -1,4 +1,4 @@
-use Rattle.std.proofs.Common.{◌≡◌, ◌<◌, ℕ, List, map, length, subst, arith, Bor}
+use Rattle.std.proofs.Common.{◌<◌, ℕ, List, map, length, subst, arith, Bor}
 use Rattle.std.proofs.lemmas.List.{length-map}
 use Rattle.qlock_cli.specs.Words.{IsNumber}
 use Rattle.qlock_cli.proofs.WordLemmas.{AreSizes-more}
