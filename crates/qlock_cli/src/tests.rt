@@ -379,6 +379,101 @@ fn plans_are_found(rt: HostRuntime) -> Result<(), Fail> {
     Ok(())
 }
 
+#[test]
+fn plans_have_the_known_loads(rt: HostRuntime) -> Result<(), Fail> {
+    let alloc = rt.alloc();
+    let table: [(&[&str], &str); 14] = [
+        (&["cyclic", "7", "0", "1", "3"], "load 3/7"),
+        (&["cyclic", "13", "0", "1", "3", "9"], "load 4/13"),
+        (&["grid", "2", "2"], "load 3/4"),
+        (&["grid", "3", "3"], "load 5/9"),
+        (&["grid", "3", "5"], "load 7/15"),
+        (&["grid", "8", "8"], "load 15/64"),
+        (&["majority", "3"], "load 2/3"),
+        (&["majority", "7"], "load 4/7"),
+        (&["tree", "1"], "load 2/3"),
+        (&["tree", "2"], "load 1/2"),
+        (&["tree", "3"], "load 2/5"),
+        (&["wheel", "3"], "load 3/5"),
+        (&["wheel", "7"], "load 7/13"),
+        (&["wheel", "31"], "load 31/61"),
+    ];
+    for (words, want) in &table {
+        let coterie = made(alloc, words)?;
+        let plan = text_for(alloc, Command::Plan, coterie.as_bytes())?;
+        assert_eq!(rt; plan.as_str().lines().nth(1), Some(*want));
+        assert!(rt;
+            answer_text(alloc, Command::Check, coterie.as_str(), plan.as_str())?
+                .as_str()
+                .starts_with(*want)
+        );
+    }
+    Ok(())
+}
+
+/// A coterie's text from its voters, a letter each, and its quorums, a word each.
+fn coterie_of_letters(alloc: Global, voters: &str, quorums: &str) -> Result<String, AllocError> {
+    let mut text = String::from_str(alloc, "voters = [")?;
+    push_letters(&mut text, voters)?;
+    text.push_str("]\nquorums = [\n")?;
+    for quorum in quorums.split(' ') {
+        text.push_str("  [")?;
+        push_letters(&mut text, quorum)?;
+        text.push_str("],\n")?;
+    }
+    text.push_str("]\n")?;
+    Ok(text)
+}
+
+/// Writes each letter in quotation marks, with a comma behind it.
+fn push_letters(text: &mut String, letters: &str) -> Result<(), AllocError> {
+    for letter in letters.chars() {
+        text.push('"')?;
+        text.push(letter)?;
+        text.push_str("\", ")?;
+    }
+    Ok(())
+}
+
+#[test]
+fn other_families_have_the_known_loads(rt: HostRuntime) -> Result<(), Fail> {
+    let alloc = rt.alloc();
+    // a wall of rows of 1, 2 and 3; two weighted majorities; a nucleus system; majorities of majorities
+    let table = [
+        (
+            "abcdef",
+            "abd abe abf acd ace acf bcd bce bcf def",
+            "load 1/2",
+        ),
+        (
+            "abcdefg",
+            "abc abd abe abf abg acde acdf acdg acef aceg acfg adef adeg adfg aefg bcdef bcdeg bcdfg bcefg bdefg",
+            "load 3/5",
+        ),
+        (
+            "abcdefghij",
+            "ab ac ade adf adgh adgi adgj adhij aefgh aefgi aefgj aefhij bcde bcdf bcdgh bcdgi bcdgj bcdhij bcefgh bcefgi bcefgj bcefhij",
+            "load 27/53",
+        ),
+        (
+            "abcdefghijklmnop",
+            "abcd abce abcf abde abdf abef acde acdf acef adef bcde bcdf bcef bdef cdef abcg abdh abei abfj acdk acel acfm aden adfo aefp bcdp bceo bcfn bdem bdfl befk cdej cdfi cefh defg",
+            "load 1/2",
+        ),
+        (
+            "abcdefghi",
+            "abde abdf abef acde acdf acef bcde bcdf bcef abgh abgi abhi acgh acgi achi bcgh bcgi bchi degh degi dehi dfgh dfgi dfhi efgh efgi efhi",
+            "load 4/9",
+        ),
+    ];
+    for (voters, quorums, want) in &table {
+        let coterie = coterie_of_letters(alloc, voters, quorums)?;
+        let plan = text_for(alloc, Command::Plan, coterie.as_bytes())?;
+        assert_eq!(rt; plan.as_str().lines().nth(1), Some(*want));
+    }
+    Ok(())
+}
+
 /// Gives the bytes in pieces, and fails at the read with a number, counted from 1.
 #[derive(Drop)]
 struct Source<'a> {
