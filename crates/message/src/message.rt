@@ -1,5 +1,5 @@
 //! The messages of the voting lock: three kinds from a client to a voter, and three back.
-ghost use Rattle.std.specs.Prelude.{◌↔◌, IsTrue};
+ghost use Rattle.std.specs.Prelude.{◌≡◌, ◌↔◌, IsTrue};
 
 /// What a client tells a voter.
 #[derive(Clone, Copy, Debug, PartialEq, Eq)]
@@ -36,7 +36,9 @@ impl VoterBody {
 
 impl Default for VoterBody {
     /// A blank for the unused places of an array; no line spells it.
-    fn default() -> Self {
+    fn default() -> Self
+        ensures { result ≡ VoterBody.Request 0 }
+    {
         Self::Request { stamp: 0 }
     }
 }
@@ -90,7 +92,9 @@ impl ClientBody {
 
 impl Default for ClientBody {
     /// A blank for the unused places of an array; no line spells it.
-    fn default() -> Self {
+    fn default() -> Self
+        ensures { result ≡ ClientBody.Fail 0 }
+    {
         Self::Fail { stamp: 0 }
     }
 }
