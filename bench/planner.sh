@@ -39,7 +39,7 @@ for file in "$folder"/*.toml; do
     quorums=$(awk '/^quorum / { print NF - 1 }' "$work/out")
     plain=$(seconds glpsol --lp "$work/lp" -o "$work/solution")
     optimum=$(awk '/^Objective/ { print $4 }' "$work/solution")
-    exact=$(seconds timeout 60 glpsol --exact --lp "$work/lp" -o "$work/solution")
+    exact=$(seconds timeout 20 glpsol --exact --lp "$work/lp" -o "$work/solution")
     ratio=$(awk -v a="$qlock" -v b="$plain" 'BEGIN { printf "%.1f", a / (b > 0 ? b : 0.001) }')
     printf '%-28s %6s %8s %12s %10s %8s %8s %8s %7s\n' "$(basename "$file" .toml)" "${voters:--}" "${quorums:--}" "${load:-none}" "$optimum" "$qlock" "$plain" "$exact" "$ratio"
 done
