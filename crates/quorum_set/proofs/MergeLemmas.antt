@@ -1,5 +1,5 @@
 -- Lemmas on a walk along two ascending lists.
-use Rattle.std.proofs.Common.{◌≡◌, ℕ, ◌+◌, ◌<◌, ◌≤◌, Bool, true, false, ◌||◌, ◌&&◌, List, [], ◌∷◌, length, get_or, drop, zero, suc, sym, refl, ap, ap₂, ◌∙◌, arith}
+use Rattle.std.proofs.Common.{◌≡◌, ℕ, ◌+◌, ◌<◌, Bool, true, false, ◌||◌, ◌&&◌, List, [], ◌∷◌, length, get_or, drop, zero, suc, sym, refl, ap, ap₂, ◌∙◌, arith}
 use Rattle.std.proofs.lemmas.List.{drop_more}
 use Rattle.quorum_set.specs.Sets.{has, meet, within, Ascends, IsSet}
 use Rattle.quorum_set.proofs.SetLemmas.{Ascends-lower, has-below, has-head, has-tail}
