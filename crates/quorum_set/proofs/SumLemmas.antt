@@ -1,11 +1,13 @@
 -- Sums of a function over a list, where one value of the list changes, and sums over the numbers below one.
-use Rattle.std.proofs.Common.{◌≡◌, ◌≢◌, ℕ, zero, suc, ◌+◌, ◌<◌, ◌≤◌, List, [], ◌∷◌, length, get_or, set, sym, refl, ap, ◌∙◌, arith, add-one, cond, ltb}
+use Rattle.std.proofs.Common.{◌≡◌, ◌≢◌, ℕ, zero, suc, ◌+◌, ◌<◌, ◌≤◌, List, [], ◌∷◌, length, get_or, set, sym, refl, ap, ◌∙◌, arith, add-one, cond, ltb, eqb, inl, inr}
 use Rattle.std.specs.Prelude.{All}
 use Rattle.std.specs.List.{sum_by}
+use Rattle.std.proofs.lemmas.Bool.{cases_eq, eq-eqb, ne_eqb}
 use Rattle.std.proofs.lemmas.Bool.Decides.{nat_tests}
 use Rattle.std.proofs.lemmas.List.Sums.{sum_by-cons}
 use mathlib.Core.Option.{some, some-injective, some-ne-none}
 use lib.ListN.{get_elem?}
+use Rattle.quorum_set.specs.Counts.{times}
 use Rattle.quorum_set.specs.Sums.{sum_below, AreAllBelow}
 
 module _ {A : Type 0} (f : A → ℕ) where
@@ -106,3 +108,30 @@ All-from_late n list none = λ k d lt. below_from_late n (get_or list k d) (zero
 -- a list of all numbers below n is of length n
 pub length-AreAllBelow : (list : List ℕ) (n : ℕ) → AreAllBelow list n → length list ≡ n
 length-AreAllBelow list n all = sym (sum_one list) ∙ all (λ _. 1) ∙ sum_below-one n
+
+-- its numbers are below n
+pub below_AreAllBelow : (list : List ℕ) (n : ℕ) → AreAllBelow list n → All (λ i. i < n) list
+below_AreAllBelow list n all = All-from_late n list (all (late n) ∙ sum_below-late n n (omega arith))
+
+-- the weight 1 at one number and 0 elsewhere
+sum_below-off : (i n : ℕ) → n ≤ i → sum_below (λ k. cond (eqb k i) 1 0) n ≡ 0
+sum_below-off i zero le = refl
+sum_below-off i (suc n) le =
+    let here = ap (λ b. cond {A = ℕ} b 1 0) (ne_eqb n i (λ same. omega arith)) in
+    omega (arith, sum_below-off i n (omega arith), here)
+
+sum_below-at : (i n : ℕ) → i < n → sum_below (λ k. cond (eqb k i) 1 0) n ≡ 1
+sum_below-at i zero lt = absurd (omega arith)
+sum_below-at i (suc n) lt =
+    elim (cases_eq n i) as (λ _. sum_below (λ k. cond (eqb k i) 1 0) (suc n) ≡ 1) [
+      | inl last ↦
+          let here = ap (λ b. cond {A = ℕ} b 1 0) (eq-eqb n i last) in
+          omega (arith, sum_below-off i n (omega arith), here)
+      | inr earlier ↦
+          let here = ap (λ b. cond {A = ℕ} b 1 0) (ne_eqb n i earlier) in
+          omega (arith, sum_below-at i n (omega arith), here)
+    ]
+
+-- each number below n stands once
+pub times-AreAllBelow : (list : List ℕ) (n i : ℕ) → AreAllBelow list n → i < n → times i list ≡ 1
+times-AreAllBelow list n i all lt = all (λ k. cond (eqb k i) 1 0) ∙ sum_below-at i n lt
