@@ -1,2 +1,4 @@
 pub mod Cycles
 pub mod Accounts
+pub mod Offices
+pub mod Tickets

@@ -2,12 +2,14 @@
 ghost use Rattle.std.specs.Prelude.{◌≡◌, ◌*◌, ℕ, List, IsPermutation, length, slice_index, sum};
 ghost use Rattle.std.specs.List.{range_with_len};
 ghost use Rattle.quorum_set.specs.Counts.{count_of, busiest_of, times};
+ghost use Rattle.quorum_set.specs.Sums.{AreAllBelow};
 ghost use Rattle.certificate.specs.Certificates.{Weighted, IsCertificate, busiest_count, cycle_len};
 ghost use Rattle.certificate.specs.Loads.{weight_on};
 ghost use Rattle.dealer.specs.Cycles.{cycle_of, GoesByTurns};
 ghost use Rattle.dealer.specs.Accounts.{account_of, quorums_named, IsWholeCycles};
 
 use certificate::whole_cycles_are_even;
+use quorum_set::all_below_stand_once;
 
 /// A cycle is as long as the weights add up to, and each quorum stands in it as often as its weight
 /// says. The cycle goes by turns: first each quorum once, in the order of their numbers, then each one
@@ -23,6 +25,14 @@ pub fn tickets_fill_cycles_in_any_order()
     ensures { (w : Weighted) (k : ℕ) (tickets : List ℕ) →
         IsPermutation (range_with_len 0 (k * cycle_len w)) tickets → IsWholeCycles w k tickets }
 {}
+
+/// So are they where they are told by sums, as of the tickets of an office.
+pub fn tickets_below_fill_cycles()
+    ensures { (w : Weighted) (k : ℕ) (tickets : List ℕ) →
+        AreAllBelow tickets (k * cycle_len w) → IsWholeCycles w k tickets }
+{
+    all_below_stand_once();
+}
 
 /// Tickets name a voter as often as they name the quorums with it, taken together.
 pub fn voters_are_counted_by_quorum()

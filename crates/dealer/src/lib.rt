@@ -23,16 +23,25 @@
 #![tactic(auto)]
 
 mod account;
+mod clerk;
 mod counts;
 mod cycle;
+mod fault;
 mod laws;
+mod office;
+mod receipt;
 #[cfg(test)]
 mod tests;
+mod tickets;
 
 pub use account::Account;
+pub use clerk::Clerk;
 pub use counts::Counts;
 pub use cycle::Cycle;
+pub use fault::{CloseFault, DealFault, Unclosed};
 pub use laws::{
-    cycles_follow_weights, tickets_fill_cycles_in_any_order, voters_are_counted_by_quorum,
-    whole_cycles_follow_weights,
+    cycles_follow_weights, tickets_below_fill_cycles, tickets_fill_cycles_in_any_order,
+    voters_are_counted_by_quorum, whole_cycles_follow_weights,
 };
+pub use office::Office;
+pub use receipt::Receipt;

@@ -1,0 +1,199 @@
+//! Offices: tickets for the clerks of any number of threads.
+ghost use Rattle.std.specs.Prelude.{◌≡◌, ℕ, ◌+◌, ◌-◌, ◌*◌, ◌^◌, ◌<◌, ◌≤◌, [], ◌∷◌, ◌++◌, length, map, IfOk, IfErr};
+ghost use Rattle.std.specs.List.{All};
+ghost use Rattle.quorum_set.specs.Counts.{times};
+ghost use Rattle.quorum_set.specs.Sums.{AreAllBelow};
+ghost use Rattle.certificate.specs.Certificates.{busiest_count, cycle_len};
+ghost use Rattle.dealer.specs.Accounts.{account_of, IsWholeCycles, IsLeastBusiest};
+ghost use Rattle.dealer.specs.Offices.{receipt_of, tickets_of, share_of, AreByCycle, RefusesTicket, RefusesAccount};
+
+use crate::account::Account;
+use crate::clerk::Clerk;
+use crate::cycle::Cycle;
+use crate::fault::{CloseFault, DealFault, Unclosed};
+use crate::laws::tickets_below_fill_cycles;
+use crate::receipt::Receipt;
+use crate::tickets::{Sheet, TicketTable, end, take_ticket};
+use quorum_set::all_below_stand_once;
+use std::alloc::{AllocError, Global};
+use std::marker::{Brand, Model};
+
+/// Deals the tickets 0, 1, 2, .. of a cycle, in the order of the draws, to clerks in any number of threads. A draw is
+/// one atomic addition: no clerk waits for another.
+///
+/// Contracts see its name, which its clerks bear, and its quota.
+#[derive(Drop)]
+pub struct Office {
+    pub(crate) table: TicketTable,
+    sheet: Sheet,
+}
+
+impl Model for Office {
+    ghost use Rattle.std.specs.Prelude.{◌≡◌, ◌≤◌, ◌^◌};
+    ghost use Rattle.dealer.specs.Offices.{OfficeState};
+
+    ghost Value = { OfficeState };
+
+    ghost view = { λ o. record {
+        name = record { table = o.table.shared.table_id; cycle = o.sheet.cycle };
+        quota = o.sheet.quota;
+    } };
+
+    ghost invariant = { λ o. (o.table.shared.key ≡ o.sheet)
+        × (o.table.shared.table_id.words ≡ 1) × (o.table.shared.table_id.slots ≡ 0) };
+}
+
+/// The tickets of receipts.
+fn ticket_numbers(alloc: Global, receipts: &[Receipt]) -> Result<Vec<u64>, AllocError>
+    ensures { IfOk result (λ v. v.items ≡ tickets_of receipts.now) }
+{
+    receipts.iter().map(|receipt| receipt.ticket).collect(alloc)
+}
+
+/// The account of all tickets of an office.
+fn account_of_all(alloc: Global, cycle: &Cycle, receipts: &[Receipt]) -> Result<Account, AllocError>
+    requires { AreAllBelow (tickets_of receipts.now) (length receipts.now) }
+    ensures value { IfOk result (λ account. account ≡ account_of cycle.now (tickets_of receipts.now)) }
+    ensures shares { (k : ℕ) → length receipts.now ≡ k * cycle_len cycle.now →
+        IfOk result (λ account. account.quorums ≡ map (λ weight. k * weight) cycle.now.quorum_weights) }
+    ensures even { (k : ℕ) → length receipts.now ≡ k * cycle_len cycle.now →
+        IfOk result (λ account. account.busiest ≡ k * busiest_count cycle.now) }
+    ensures least { (k : ℕ) → length receipts.now ≡ k * cycle_len cycle.now →
+        IfOk result (λ account. IsLeastBusiest cycle.now account.drawn account.busiest) }
+{
+    tickets_below_fill_cycles();
+    let tickets = ticket_numbers(alloc, receipts)?;
+    cycle.account(alloc, &tickets)
+}
+
+impl Office {
+    /// An office that deals at most `quota` tickets of the cycle, and the clerk that may draw them all. A refusal, for
+    /// want of memory alone, hands the cycle back.
+    pub fn new(
+        alloc: Global,
+        cycle: Cycle,
+        quota: u64,
+    ) -> Result<(Office, Clerk), (Cycle, AllocError)>
+        requires { quota ≤ 2 ^ 63 }
+        ensures cycle { IfOk result (λ made. made.0.name.cycle ≡ cycle) }
+        ensures quota { IfOk result (λ made. made.0.quota ≡ quota) }
+        ensures clerk { IfOk result (λ made. made.1
+            ≡ record { office = made.0.name; rest = quota; receipts = [] }) }
+        ensures err { IfErr result (λ refusal. refusal.0 ≡ cycle) }
+    {
+        let sheet = Sheet { cycle, quota };
+        match TicketTable::of_words(alloc, &[0], &sheet) {
+            Ok((table, seat)) => {
+                let office = Office { table, sheet };
+                let clerk = Clerk {
+                    seat,
+                    rest: quota,
+                    receipts: Vec::new(alloc),
+                };
+                Ok((office, clerk))
+            }
+            Err(error) => Err((sheet.cycle, error)),
+        }
+    }
+
+    /// The cycle that the tickets go through.
+    pub fn cycle(&self) -> &Cycle
+        ensures { result.now ≡ self.now.name.cycle }
+    {
+        &self.sheet.cycle
+    }
+
+    /// Draws the next ticket, for a clerk of this office. The clerk keeps the receipt, and may draw one ticket less.
+    ///
+    /// Refused by `QuotaSpent` exactly where the clerk's rest is 0, and otherwise for want of memory alone: room for the
+    /// receipt is made before the ticket is taken, so that a refused draw takes none.
+    pub fn draw(&self, clerk: &mut Clerk) -> Result<Receipt, DealFault>
+        requires { clerk.old.office ≡ self.now.name }
+        ensures quorum { IfOk result (λ r. r ≡ receipt_of self.now.name.cycle r.ticket) }
+        ensures in_range { IfOk result (λ r.
+            r.quorum < length self.now.name.cycle.system.quorums) }
+
+        // The ticket is above all that the clerk has, and the next number where no other clerk has a share.
+        ensures above { IfOk result (λ r. All (λ t. t < r.ticket) (tickets_of clerk.old.receipts)) }
+        ensures below { IfOk result (λ r. r.ticket < self.now.quota) }
+        ensures next { share_of clerk.old ≡ self.now.quota →
+            IfOk result (λ r. r.ticket ≡ length clerk.old.receipts) }
+
+        ensures kept { IfOk result (λ r. clerk.new ≡ record clerk.old {
+            rest = clerk.old.rest - 1;
+            receipts = clerk.old.receipts ++ r ∷ [];
+        }) }
+        ensures some { IfOk result (λ _. 0 < clerk.old.rest) }
+        ensures err { IfErr result (RefusesTicket clerk.old.rest) }
+        ensures unchanged { IfErr result (λ _. clerk.new ≡ clerk.old) }
+        ensures office { clerk.new.office ≡ clerk.old.office }
+    {
+        if clerk.rest == 0 {
+            return Err(DealFault::QuotaSpent);
+        }
+        if clerk.receipts.reserve(1).is_err() {
+            return Err(DealFault::OutOfMemory);
+        }
+        let ticket = take_ticket::<Brand>(&self.table, &mut clerk.seat);
+        let quorum = self.sheet.cycle.quorum_at(ticket);
+        let receipt = Receipt { ticket, quorum };
+        clerk.rest -= 1;
+        clerk.receipts.push_reserved(receipt);
+        Ok(receipt)
+    }
+
+    /// Closes the office with its last clerk, and answers the account of all tickets and the clerk's receipts.
+    ///
+    /// Refused by `ClerksOut` exactly where the clerk's receipts and its rest are short of the quota, so that another
+    /// clerk has a share or had one; and otherwise for want of memory alone. The receipts come back with a refusal.
+    pub fn close(self, alloc: Global, clerk: Clerk) -> Result<(Account, Vec<Receipt>), Unclosed>
+        requires { clerk.office ≡ self.name }
+        ensures receipts { IfOk result (λ closed. closed.1.items ≡ clerk.receipts) }
+        ensures share { IfOk result (λ _. share_of clerk ≡ self.quota) }
+
+        // The tickets are the numbers from 0 on, each once and none left out, and each names the quorum at its place.
+        ensures tickets { IfOk result (λ _.
+            AreAllBelow (tickets_of clerk.receipts) (length clerk.receipts)) }
+        ensures each_once { IfOk result (λ _. (ticket : ℕ) → ticket < length clerk.receipts →
+            times ticket (tickets_of clerk.receipts) ≡ 1) }
+        ensures quorums { IfOk result (λ _. AreByCycle self.name.cycle clerk.receipts) }
+        ensures account { IfOk result (λ closed.
+            closed.0 ≡ account_of self.name.cycle (tickets_of clerk.receipts)) }
+
+        // Where k whole cycles were dealt, each quorum was named k times its weight, ..
+        ensures shares { (k : ℕ) → length clerk.receipts ≡ k * cycle_len self.name.cycle →
+            IfOk result (λ closed.
+            closed.0.quorums ≡ map (λ weight. k * weight) self.name.cycle.quorum_weights) }
+        // .. and the busiest voter k times the busiest count: no list of as many quorums does better.
+        ensures even { (k : ℕ) → length clerk.receipts ≡ k * cycle_len self.name.cycle →
+            IfOk result (λ closed. closed.0.busiest ≡ k * busiest_count self.name.cycle) }
+        ensures least { (k : ℕ) → length clerk.receipts ≡ k * cycle_len self.name.cycle →
+            IfOk result (λ closed.
+            IsLeastBusiest self.name.cycle closed.0.drawn closed.0.busiest) }
+
+        ensures err { IfErr result (λ unclosed.
+            RefusesAccount self.quota (share_of clerk) unclosed.fault) }
+        ensures returned { IfErr result (λ unclosed. unclosed.receipts.items ≡ clerk.receipts) }
+    {
+        all_below_stand_once();
+        let Office { table, sheet } = self;
+        let Clerk {
+            seat,
+            rest,
+            receipts,
+        } = clerk;
+        end(table, seat);
+        let out = sheet.quota - (receipts.len() as u64 + rest);
+        if out > 0 {
+            let fault = CloseFault::ClerksOut(out);
+            return Err(Unclosed { receipts, fault });
+        }
+        match account_of_all(alloc, &sheet.cycle, &receipts) {
+            Ok(account) => Ok((account, receipts)),
+            Err(_) => Err(Unclosed {
+                receipts,
+                fault: CloseFault::OutOfMemory,
+            }),
+        }
+    }
+}
