@@ -28,9 +28,9 @@ impl Model for Clerk {
     ghost Value = { ClerkState };
 
     ghost view = { λ c. record {
-        office = record { table = c.seat.table_id; cycle = c.seat.me.0.cycle };
-        rest = c.rest;
-        receipts = c.receipts.items;
+      office = record { table = c.seat.table_id; cycle = c.seat.me.0.cycle };
+      rest = c.rest;
+      receipts = c.receipts.items;
     } };
 
     ghost invariant = { λ c. (c.seat.me.0.rest ≡ c.rest)
@@ -78,8 +78,8 @@ impl Clerk {
         requires office { self.old.office ≡ office.now.name }
         requires other { other.office ≡ office.now.name }
         ensures ok { IfOk result (λ _. self.new ≡ record self.old {
-            rest = self.old.rest + other.rest;
-            receipts = self.old.receipts ++ other.receipts;
+          rest = self.old.rest + other.rest;
+          receipts = self.old.receipts ++ other.receipts;
         }) }
         ensures err { IfErr result (λ refusal. refusal.0 ≡ other) }
         ensures unchanged { IfErr result (λ _. self.new ≡ self.old) }

@@ -11,8 +11,6 @@
 //! names its busiest voter less often (Naor and Wool, SIAM J. Comput. 27(2), 1998, section 2: the load
 //! of a strategy).
 //!
-//! Above `certificate`, whose [`Plan`](certificate::Plan) it consumes; below everything that draws quorums.
-//!
 //! ```text
 //! // The wheel with three rims, quorums {0,1}, {0,2}, {0,3}, {1,2,3} with the weights 1, 1, 1, 2:
 //! let Ok(cycle) = Cycle::of(alloc, plan) else { .. };
@@ -20,6 +18,30 @@
 //! let account = cycle.account(alloc, &[4, 0, 3, 1, 2])?;
 //! account.voters.as_slice();                 // [3, 3, 3, 3]
 //! ```
+//!
+//! # Many threads
+//!
+//! An [`Office`] hands out the tickets of a cycle to any number of threads. Each thread draws by a
+//! [`Clerk`] of its own, which may draw a part of the office's quota and keeps a [`Receipt`] for each
+//! draw. A draw is one atomic addition and waits for nobody. Clerks are split off one another and
+//! joined again, and the last one closes the office:
+//!
+//! ```text
+//! let Ok((office, mut root)) = Office::new(alloc, cycle, 2000) else { .. };
+//! let mut clerk = root.split(&office, 1000); // move it to another thread, with &office
+//! let receipt = office.draw(&mut clerk)?;    // receipt.quorum is whom to ask
+//! root.join(&office, clerk)?;                // the receipts follow the own ones
+//! let (account, receipts) = office.close(alloc, root)?;
+//! ```
+//!
+//! Proved, whatever the threads do: a ticket is above all that its clerk drew before, and names the
+//! quorum at its place; `QuotaSpent` comes exactly where the clerk's rest is 0; `ClerksOut` comes
+//! exactly where the last clerk hasn't the whole quota; and otherwise the receipts at the close are
+//! those of the tickets 0, 1, 2, .. with none twice and none left out, so that the account of whole
+//! cycles is as even as the plan promises. Not said: in which order threads draw, and that memory for
+//! a receipt is found; where it isn't, no ticket is taken.
+//!
+//! Above `certificate`, whose [`Plan`](certificate::Plan) it consumes; below everything that draws quorums.
 #![tactic(auto)]
 
 mod account;
@@ -29,6 +51,8 @@ mod cycle;
 mod fault;
 mod laws;
 mod office;
+#[cfg(test)]
+mod office_tests;
 mod receipt;
 #[cfg(test)]
 mod tests;

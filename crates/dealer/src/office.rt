@@ -35,8 +35,8 @@ impl Model for Office {
     ghost Value = { OfficeState };
 
     ghost view = { λ o. record {
-        name = record { table = o.table.shared.table_id; cycle = o.sheet.cycle };
-        quota = o.sheet.quota;
+      name = record { table = o.table.shared.table_id; cycle = o.sheet.cycle };
+      quota = o.sheet.quota;
     } };
 
     ghost invariant = { λ o. (o.table.shared.key ≡ o.sheet)
@@ -120,8 +120,8 @@ impl Office {
             IfOk result (λ r. r.ticket ≡ length clerk.old.receipts) }
 
         ensures kept { IfOk result (λ r. clerk.new ≡ record clerk.old {
-            rest = clerk.old.rest - 1;
-            receipts = clerk.old.receipts ++ r ∷ [];
+          rest = clerk.old.rest - 1;
+          receipts = clerk.old.receipts ++ r ∷ [];
         }) }
         ensures some { IfOk result (λ _. 0 < clerk.old.rest) }
         ensures err { IfErr result (RefusesTicket clerk.old.rest) }

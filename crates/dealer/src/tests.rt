@@ -1,38 +1,47 @@
 use super::*;
-use certificate::{Plan, check};
+use certificate::check;
 use quorum_set::{Coterie, QSet};
 use std::alloc::Global;
 use std::test::Fail;
 
-/// The plan of the wheel with three rims and these weights of its quorums.
-fn wheel(alloc: Global, quorum_weights: [u64; 4]) -> Result<Option<Plan>, Fail> {
+/// The cycle of a plan, where the weights are a plan's of these quorums. A quorum of two lists its last member twice.
+fn cycle_of(
+    alloc: Global,
+    quorums: &[[u8; 3]],
+    quorum_weights: &[u64],
+    voter_weights: &[u64],
+) -> Result<Option<Cycle>, Fail> {
     let mut sets = Vec::new(alloc);
-    for members in [[0u8, 1, 1], [0, 2, 2], [0, 3, 3], [1, 2, 3]] {
+    for members in quorums {
         let mut set = QSet::empty();
         for i in members {
-            if i < 64 {
-                set.insert(i);
+            if *i < 64 {
+                set.insert(*i);
             }
         }
         sets.push(set)?;
     }
-    let Ok(coterie) = Coterie::of(4, sets) else {
+    let Ok(coterie) = Coterie::of(voter_weights.len(), sets) else {
         return Ok(None);
     };
-    let quorum_weights = quorum_weights.as_slice().to_vec(alloc)?;
-    let voter_weights = [2, 1, 1, 1].as_slice().to_vec(alloc)?;
-    Ok(check(alloc, &coterie, quorum_weights, voter_weights).ok())
+    let quorum_weights = quorum_weights.to_vec(alloc)?;
+    let voter_weights = voter_weights.to_vec(alloc)?;
+    let Ok(plan) = check(alloc, &coterie, quorum_weights, voter_weights) else {
+        return Ok(None);
+    };
+    Ok(Cycle::of(alloc, plan).ok())
 }
 
-/// The cycle of that plan.
-fn wheel_cycle(alloc: Global, quorum_weights: [u64; 4]) -> Result<Option<Cycle>, Fail> {
-    let Some(plan) = wheel(alloc, quorum_weights)? else {
-        return Ok(None);
-    };
-    match Cycle::of(alloc, plan) {
-        Ok(cycle) => Ok(Some(cycle)),
-        Err((_plan, error)) => Err(error.into()),
-    }
+/// The cycle of the wheel with three rims and these weights of its quorums.
+pub(crate) fn wheel_cycle(alloc: Global, quorum_weights: [u64; 4]) -> Result<Option<Cycle>, Fail> {
+    let quorums = [[0, 1, 1], [0, 2, 2], [0, 3, 3], [1, 2, 3]];
+    cycle_of(alloc, &quorums, &quorum_weights, &[2, 1, 1, 1])
+}
+
+/// The cycle of the majorities of three voters.
+pub(crate) fn majority_cycle(alloc: Global) -> Result<Option<Cycle>, Fail> {
+    let quorums = [[0, 1, 1], [0, 2, 2], [1, 2, 2]];
+    cycle_of(alloc, &quorums, &[1, 1, 1], &[1, 1, 1])
 }
 
 #[test]

@@ -104,8 +104,11 @@ pub(crate) fn take_ticket<Q: Amount>(table: &TicketTable, seat: &mut Seat<(), Ha
     requires table { seat.old.table_id ≡ table.now.shared.table_id }
     requires word { 0 < table.now.shared.table_id.words }
     requires rest { 0 < seat.old.me.0.rest }
-    ensures drawn { seat.new.me ≡ (hand seat.old.me.0.cycle (seat.old.me.0.rest - 1)
-        (seat.old.me.0.drawn ++ result ∷ []), seat.old.me.1) }
+    ensures drawn { seat.new.me ≡ (
+      hand seat.old.me.0.cycle (seat.old.me.0.rest - 1)
+          (seat.old.me.0.drawn ++ result ∷ []),
+      seat.old.me.1,
+    ) }
     ensures above { All (λ t. t < result) seat.old.me.0.drawn }
     ensures below { result < table.now.shared.key.quota }
     ensures next { length seat.old.me.0.drawn + seat.old.me.0.rest ≡ table.now.shared.key.quota →
@@ -125,8 +128,11 @@ pub(crate) fn split_off<Q: Amount>(
     requires table { seat.old.table_id ≡ table.now.shared.table_id }
     requires word { 0 < table.now.shared.table_id.words }
     requires rest { amount ≤ seat.old.me.0.rest }
-    ensures kept { seat.new.me ≡ (hand seat.old.me.0.cycle (seat.old.me.0.rest - amount)
-        seat.old.me.0.drawn, seat.old.me.1) }
+    ensures kept { seat.new.me ≡ (
+      hand seat.old.me.0.cycle (seat.old.me.0.rest - amount)
+          seat.old.me.0.drawn,
+      seat.old.me.1,
+    ) }
     ensures given { result.me ≡ (hand seat.old.me.0.cycle amount [], []) }
     ensures table { seat.new.table_id ≡ seat.old.table_id }
     ensures given_table { result.table_id ≡ seat.old.table_id }

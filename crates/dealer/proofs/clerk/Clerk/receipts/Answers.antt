@@ -1,4 +1,3 @@
-use Rattle.std.proofs.Common.{subst}
 use Rattle.dealer.proofs.ReceiptLemmas.{AreByCycle-map}
 use Rattle.dealer.proofs.clerk.Clerk.receipts.Goals as goal
 
