@@ -1,0 +1,9 @@
+pub mod Words
+pub mod Meetings
+pub mod Votes
+pub mod Register
+pub mod Giving
+pub mod RootFields
+pub mod Ends
+pub mod VoterFields
+pub mod KeptLaws

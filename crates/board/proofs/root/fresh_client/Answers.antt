@@ -1,0 +1,17 @@
+use Rattle.std.proofs.Common.{ℕ, ◌≤◌, [], None, sym, ◌∙◌, subst, arith}
+use Rattle.std.specs.Prelude.{All}
+use Rattle.std.proofs.lemmas.List.{length-replicate, get_or-replicate}
+use Rattle.board.specs.Words.{nobody}
+use Rattle.board.specs.Views.{client_view}
+use Rattle.board.proofs.root.fresh_client.Goals as goal
+
+small : All (λ g. g ≤ 1099511627776) nobody
+small k d lt = let zero_there = get_or-replicate {A = ℕ} 64 k 0 d (omega (arith, length-replicate {A = ℕ} 64 0)) in omega arith
+
+pub invariant_of-result : goal.invariant_of-result
+invariant_of-result c = (
+  c.requires.0 ∙ (λ i. (client_view c.args.client (sym c.no_votes.ensures i) None (sym c.new.ensures.items i), [])),
+  c.requires.1,
+  subst (λ l. All (λ g. g ≤ 1099511627776) l) (sym c.no_votes.ensures) small,
+  tt,
+)

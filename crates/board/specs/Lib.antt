@@ -1,0 +1,9 @@
+pub mod Quorums
+pub mod Seats
+pub mod Words
+pub mod Views
+pub mod Rule
+pub mod Moves
+pub mod Roots
+pub mod Faults
+pub mod VotesKept

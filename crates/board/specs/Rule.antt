@@ -1,0 +1,45 @@
+-- The rule that the words of the votes, the register and all seats keep between any two steps, as sums over the seats: how often a fact holds of a seat, all seats together.
+use Rattle.std.specs.Prelude.{◌≡◌, ◌⊎◌, ℕ, ◌+◌, ◌/◌, ◌%◌, ◌^◌, ◌<◌, ◌≤◌, List, [], length, slice_index, IfSome}
+use Rattle.std.specs.List.{sum_by}
+use mathlib.Core.Option.{some}
+use lib.ListN.{get_elem?}
+use Rattle.atomic_table.specs.Table.{State}
+use Rattle.board.specs.declared.table.View.{View}
+use Rattle.board.specs.Seats.{Setting}
+use Rattle.board.specs.Quorums.{quorum_at, HoldsAll}
+use Rattle.board.specs.Words.{name_of, taken, is}
+use Rattle.quorum_set.specs.Sums.{sum_below}
+
+-- 1 where the seat stands for voter v and knows the current grant of this name, or none where the name is 0
+abbrev pub stands : ℕ → ℕ → View → ℕ
+stands v name u = is (slice_index u.voters v) (name + 1)
+
+-- 1 where the seat holds the vote of voter v by the grant of this name
+abbrev pub holds_vote : ℕ → ℕ → View → ℕ
+holds_vote v name u = is (name_of u.client (slice_index u.held v)) name
+
+-- One seat stands for v, and it knows the grant that the word names. One seat holds v's vote where the word says so, by that grant, and else none does
+pub record IsVote (v word : ℕ) (views : List View) : Type 0 where
+  pub shape : (word ≡ 0) ⊎ ((64 ≤ word / 4) × (1 ≤ word % 4))
+  pub current : (name : ℕ) → sum_by (stands v name) views ≡ is (word / 4) name
+  pub held : (name : ℕ) → 64 ≤ name → sum_by (holds_vote v name) views ≡ is word (taken name)
+
+-- where the seat has a reading, it holds the votes of the quorum that it read for, and the number is the register's
+abbrev pub IsReading : Setting → ℕ → View → Type 0
+IsReading b register u = IfSome u.reading (λ r. (r.0 < length b.quorums) × HoldsAll (quorum_at b.quorums r.0) u.held × (r.1 ≡ register))
+
+-- The pass numbers of all seats are those below the register, each once. Of all seats none is lost, and one that stands for no seat has no passes
+pub record IsKept (b : Setting) (words : List ℕ) (views : List View) : Type 0 where
+  pub long : length words ≡ b.voters + 1
+  pub votes : (v : ℕ) → v < b.voters → IsVote v (slice_index words v) views
+  pub readings : (i : ℕ) (u : View) → get_elem? views i ≡ some u → IsReading b (slice_index words b.voters) u
+  pub passes : (h : ℕ → ℕ) → sum_by (λ u. sum_by h u.passes) views ≡ sum_below h (slice_index words b.voters)
+  pub parts : sum_by (λ u. u.parts) views ≡ b.voters + b.clients + 1
+  pub idle : (i : ℕ) (u : View) → get_elem? views i ≡ some u → u.parts ≡ 0 → u.passes ≡ []
+  pub client : (i : ℕ) (u : View) → get_elem? views i ≡ some u → u.client < 64
+  pub limit : slice_index words b.voters ≤ b.limit
+  pub small : b.limit ≤ 2 ^ 63
+  pub few : b.voters + b.clients ≤ 128
+
+abbrev pub Kept : Setting → State (Unit {0}) View → Type 0
+Kept b s = IsKept b s.words s.views

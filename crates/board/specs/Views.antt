@@ -1,0 +1,37 @@
+-- What each seat knows.
+use Rattle.std.specs.Prelude.{ℕ, ◌+◌, ◌-◌, ◌++◌, List, [], Option, None, Some, replicate, slice_set}
+use Rattle.board.specs.declared.table.View.{View}
+use Rattle.board.specs.Words.{name_of, nobody}
+
+-- the name of the current grant, or 0
+abbrev pub current_name : Option (ℕ × ℕ) → ℕ
+current_name None = 0
+current_name (Some x) = name_of x.0 x.1
+
+abbrev pub voter_view : ℕ → Option (ℕ × ℕ) → View
+voter_view v current = record { parts = 1; voters = slice_set nobody v (current_name current + 1); client = 0; held = []; reading = None; passes = [] }
+
+abbrev pub client_view : ℕ → List ℕ → Option (ℕ × ℕ) → List ℕ → View
+client_view client held reading passes = record { parts = 1; voters = nobody; client = client; held = held; reading = reading; passes = passes }
+
+-- the first seat stands for all seats, and for itself
+abbrev pub root_view : ℕ → ℕ → View
+root_view voters clients = record { parts = voters + clients + 1; voters = replicate 64 1; client = 0; held = []; reading = None; passes = [] }
+
+-- a seat that was joined
+abbrev pub spent_view : View
+spent_view = record { parts = 0; voters = nobody; client = 0; held = []; reading = None; passes = [] }
+
+-- the root without the seat of voter n, or without a client's
+abbrev pub without_voter : ℕ → View → View
+without_voter n u = record u { parts = u.parts - 1; voters = slice_set u.voters n 0 }
+
+abbrev pub without_client : View → View
+without_client u = record u { parts = u.parts - 1 }
+
+-- the root with voter n's seat again, or with a client's and its passes
+abbrev pub with_voter : ℕ → View → View → View
+with_voter n u w = record u { parts = u.parts + w.parts; voters = slice_set u.voters n 1 }
+
+abbrev pub with_client : View → View → View
+with_client u w = record u { parts = u.parts + w.parts; passes = u.passes ++ w.passes }

@@ -1,0 +1,150 @@
+//! The board that all seats step on.
+ghost use Rattle.std.specs.Prelude.{◌≡◌, ℕ, ◌+◌, ◌-◌, ◌<◌, ◌≤◌, ◌^◌, [], true, false, IfOk, IfErr, map, nat_lt, length, replicate, slice_index_or};
+ghost use Rattle.std.specs.List.{sum_by};
+ghost use Rattle.quorum_set.specs.Sums.{AreAllBelow};
+ghost use Rattle.board.specs.Quorums.{AllMeet};
+ghost use Rattle.board.specs.Roots.{weight};
+ghost use Rattle.board.specs.Seats.{BoardState, RootState};
+
+use crate::fault::BoardFault;
+use crate::laws::coteries_meet;
+use crate::root::BoardRoot;
+use crate::table::{Sheet, VoteTable};
+use quorum_set::{Coterie, QSet};
+use std::alloc::{AllocError, Global};
+use std::marker::Model;
+
+/// One word for each voter's vote and one for the register, for all threads through a `&`. Contracts see a `BoardState`.
+#[derive(Drop)]
+pub struct Board {
+    pub(crate) table: VoteTable,
+    pub(crate) sheet: Sheet,
+}
+
+impl Model for Board {
+    ghost use Rattle.std.specs.Prelude.{◌≡◌, ◌+◌, ◌≤◌, ◌^◌};
+    ghost use Rattle.board.specs.Quorums.{AllMeet};
+    ghost use Rattle.board.specs.Seats.{BoardState};
+
+    ghost Value = { BoardState };
+
+    ghost view = { λ b. record { table = b.table.shared.table_id; voters = b.sheet.voters; quorums = b.sheet.quorums; clients = b.sheet.clients; limit = b.sheet.limit } };
+
+    ghost invariant = { λ b. (b.table.shared.key ≡ b.sheet) × (b.table.shared.table_id.words ≡ b.sheet.voters + 1) × (b.table.shared.table_id.slots ≡ 0) × (b.sheet.limit ≤ 2 ^ 63) × (b.sheet.clients ≤ 64) × (b.sheet.voters ≤ 64) × AllMeet b.sheet.voters b.sheet.quorums };
+}
+
+impl Board {
+    /// A board of a coterie's voters, all of whose votes are free, for 1 to 64 clients, with the register at 0 and its
+    /// limit from 1 to 2^63; and the root that has all seats.
+    pub fn new(
+        alloc: Global,
+        coterie: &Coterie,
+        clients: u8,
+        limit: u64,
+    ) -> Result<(Board, BoardRoot), AllocError>
+        requires some_client { 1 ≤ clients }
+        requires few_clients { clients ≤ 64 }
+        requires some_number { 1 ≤ limit }
+        requires limit { limit ≤ 2 ^ 63 }
+        ensures coterie { IfOk result (λ r. (r.0.voters ≡ coterie.now.voters) × (r.0.quorums ≡ coterie.now.quorums)) }
+        ensures clients { IfOk result (λ r. r.0.clients ≡ clients) }
+        ensures limit { IfOk result (λ r. r.0.limit ≡ limit) }
+        ensures root { IfOk result (λ r. (r.1.table ≡ r.0.table) × (r.1.seats ≡ coterie.now.voters + clients) × (r.1.passes ≡ [])) }
+        ensures voter_seats { IfOk result (λ r. (v : ℕ) → slice_index_or r.1.voters v false ≡ nat_lt v coterie.now.voters) }
+        ensures client_seats { IfOk result (λ r. (c : ℕ) → slice_index_or r.1.clients c false ≡ nat_lt c clients) }
+    {
+        coteries_meet();
+        let voters = coterie.voters();
+        let words = zeros(alloc, voters + 1)?;
+        let sheet = Sheet {
+            voters,
+            quorums: quorums_of(alloc, coterie)?,
+            clients,
+            limit,
+        };
+        let (table, seat) = VoteTable::of_words(alloc, words.as_slice(), &sheet)?;
+        let board = Board { table, sheet };
+        let root = BoardRoot {
+            seat,
+            seats: voters as u64 + u64::from(clients),
+            voters: first(voters as u64),
+            clients: first(u64::from(clients)),
+            passes: Vec::new(alloc),
+        };
+        Ok((board, root))
+    }
+
+    /// The register and all passes. `SeatsOut` where seats are given and not joined, with their number. Takes no memory.
+    pub fn close(self, root: BoardRoot) -> Result<Total, BoardFault>
+        requires { root.table ≡ self.table }
+        ensures joined { IfOk result (λ _. root.seats ≡ self.voters + self.clients) }
+        ensures register { IfOk result (λ t. t.register ≡ length root.passes) }
+        ensures passes { IfOk result (λ t. t.passes.items ≡ root.passes) }
+        ensures once { IfOk result (λ t. AreAllBelow (map (λ p. p.1) root.passes) t.register) }
+        ensures out { IfErr result (λ e. (root.seats < self.voters + self.clients) × (e ≡ BoardFault.SeatsOut (self.voters + self.clients - root.seats))) }
+    {
+        let Board { table, sheet } = self;
+        let BoardRoot {
+            seat,
+            seats,
+            voters: _,
+            clients: _,
+            passes,
+        } = root;
+        let closed = table.close_with(seat);
+        let register = closed.word(sheet.voters());
+        closed.free();
+        let count = sheet.voters() as u64 + u64::from(sheet.clients()) - seats;
+        if count > 0 {
+            return Err(BoardFault::SeatsOut(count));
+        }
+        Ok(Total { register, passes })
+    }
+}
+
+/// What a board has at its end.
+#[derive(Debug, Drop)]
+pub struct Total {
+    /// The number of all passes.
+    pub register: u64,
+    /// Each pass by its client and its number, from 0 on, by the order in which the seats were joined.
+    pub passes: Vec<(u8, u64)>,
+}
+
+/// The sets of members of a coterie's quorums.
+fn quorums_of(alloc: Global, coterie: &Coterie) -> Result<Vec<QSet>, AllocError>
+    ensures { IfOk result (λ v. v.items ≡ coterie.now.quorums) }
+{
+    let mut quorums = Vec::with_capacity(alloc, coterie.count())?;
+    for j in 0..coterie.count() {
+        quorums.push(coterie.quorum(j).copy())?;
+    }
+    Ok(quorums)
+}
+
+/// True for the first so many numbers below 64.
+fn first(count: u64) -> [bool; 64]
+    requires { count ≤ 64 }
+    ensures first { (k : ℕ) → slice_index_or result k false ≡ nat_lt k count }
+    ensures sum { sum_by weight result ≡ count }
+{
+    let mut flags = none();
+    for i in 0..count {
+        flags[i as usize] = true;
+    }
+    flags
+}
+
+/// False for each number below 64.
+fn none() -> [bool; 64]
+    ensures { result ≡ replicate 64 false }
+{
+    [false; 64]
+}
+
+/// So many zeros.
+fn zeros(alloc: Global, count: usize) -> Result<Vec<u64>, AllocError>
+    ensures { IfOk result (λ v. v.items ≡ replicate count 0) }
+{
+    Vec::from_elem(alloc, 0, count)
+}

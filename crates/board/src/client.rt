@@ -1,0 +1,175 @@
+//! The seat of a client: it takes votes and gives them back, and reads and writes the register.
+ghost use Rattle.std.specs.Prelude.{◌≡◌, ◌≢◌, ◌⊎◌, ℕ, ◌+◌, ◌<◌, ◌≤◌, ◌^◌, ◌++◌, ◌∷◌, [], length, None, Some, Err, IsSome, MatchBool, MatchOption, IfOk, IfErr, IfSome, slice_index, slice_set};
+ghost use Rattle.std.specs.List.{All};
+ghost use mathlib.Core.Option.{none};
+ghost use Rattle.atomic_table.specs.Table.{step};
+ghost use Rattle.board.specs.Moves.{Read};
+ghost use Rattle.board.specs.Quorums.{quorum_at, HoldsAll};
+ghost use Rattle.board.specs.Seats.{BoardState, ClientState};
+
+use crate::board::Board;
+use crate::fault::BoardFault;
+use crate::table::{GiveBack, Number, ReadFor, Take, View, VoteTable, Write};
+use atomic_table::Seat;
+use std::marker::{Brand, Model};
+
+/// The one right to take votes for a client. It may be moved to a thread. Contracts see a `ClientState`.
+#[derive(Drop)]
+pub struct ClientSeat {
+    pub(crate) seat: Seat<(), View>,
+    pub(crate) client: u8,
+    /// For each voter the grant by which its vote is held, or 0.
+    pub(crate) held: [u64; 64],
+    pub(crate) reading: Option<(usize, u64)>,
+    pub(crate) passes: Vec<u64>,
+}
+
+impl Model for ClientSeat {
+    ghost use Rattle.std.specs.Prelude.{◌≡◌, ◌<◌, ◌≤◌, ◌^◌, [], IfSome};
+    ghost use Rattle.std.specs.List.{All};
+    ghost use Rattle.board.specs.Seats.{ClientState};
+    ghost use Rattle.board.specs.Views.{client_view};
+
+    ghost Value = { ClientState };
+
+    ghost view = { λ s. record { table = s.seat.table_id; client = s.client; held = s.held; reading = s.reading; passes = s.passes.items } };
+
+    ghost invariant = { λ s. (s.seat.me ≡ (client_view s.client s.held s.reading s.passes.items, [])) × (s.client < 64) × All (λ g. g ≤ 2 ^ 40) s.held × IfSome s.reading (λ r. r.1 ≤ 2 ^ 63) };
+}
+
+impl ClientSeat {
+    /// The client's number.
+    pub fn client(&self) -> u8
+        ensures { result ≡ self.now.client }
+    {
+        self.client
+    }
+
+    /// The number of the grant by which it holds the voter's vote, or none.
+    pub fn held(&self, voter: u8) -> Option<u64>
+        ensures { MatchOption result (slice_index self.now.held voter ≡ 0) (λ g. (slice_index self.now.held voter ≡ g) × (0 < g)) }
+    {
+        match self.held.get(usize::from(voter)) {
+            Some(grant) if *grant > 0 => Some(*grant),
+            _ => None,
+        }
+    }
+
+    /// The quorum and the number of the last read, where it still counts.
+    pub fn reading(&self) -> Option<(usize, u64)>
+        ensures { result ≡ self.now.reading }
+    {
+        self.reading
+    }
+
+    /// The numbers by which it passed, in order.
+    pub fn passes(&self) -> &[u64]
+        ensures { result.now ≡ self.now.passes }
+    {
+        &self.passes
+    }
+
+    /// Takes the vote that is offered to this client by this grant, from 1 to 2^40. True exactly where it then holds it.
+    /// False changes nothing. The vote must not be held already.
+    pub fn take(&mut self, board: &Board, voter: u8, grant: u64) -> bool
+        requires table { self.old.table ≡ board.now.table }
+        requires voter { voter < board.now.voters }
+        requires free { slice_index self.old.held voter ≡ 0 }
+        requires grant { 1 ≤ grant }
+        requires fits { grant ≤ 2 ^ 40 }
+        ensures taken { MatchBool result (self.new ≡ record self.old { held = slice_set self.old.held voter grant }) (self.new ≡ self.old) }
+        ensures holds { MatchBool result (slice_index self.new.held voter ≡ grant) (slice_index self.new.held voter ≡ 0) }
+        ensures table { self.new.table ≡ self.old.table }
+    {
+        let name = 64 * grant + u64::from(self.client);
+        let word = usize::from(voter);
+        let offered = 4 * name + 1;
+        let found = board
+            .table
+            .shared
+            .compare_exchange::<Take>(&mut self.seat, word, offered, 4 * name + 2);
+        if found == offered {
+            self.held[word] = grant;
+            return true;
+        }
+        false
+    }
+
+    /// Gives a vote back that it holds. What it read of the register counts no longer.
+    pub fn give_back(&mut self, board: &Board, voter: u8)
+        requires table { self.old.table ≡ board.now.table }
+        requires voter { voter < board.now.voters }
+        requires held { slice_index self.old.held voter ≢ 0 }
+        ensures given { self.new ≡ record self.old { held = slice_set self.old.held voter 0; reading = None } }
+        ensures table { self.new.table ≡ self.old.table }
+    {
+        let word = usize::from(voter);
+        let name = 64 * self.held[word] + u64::from(self.client);
+        board
+            .table
+            .shared
+            .swap::<GiveBack>(&mut self.seat, word, 4 * name + 3);
+        self.held[word] = 0;
+        self.reading = None;
+    }
+
+    /// Reads the register, for a quorum of which it holds every member's vote: it is inside. The number is above every
+    /// number that it keeps, and stays the register's while the reading counts.
+    pub fn read_register(&mut self, board: &Board, quorum: usize) -> u64
+        requires table { self.old.table ≡ board.now.table }
+        requires quorum { quorum < length board.now.quorums }
+        requires held { HoldsAll (quorum_at board.now.quorums quorum) self.old.held }
+        ensures read { self.new ≡ record self.old { reading = Some (quorum, result) } }
+        ensures above { All (λ x. x < result) self.old.passes }
+        ensures table { self.new.table ≡ self.old.table }
+    {
+        let word = board.sheet.voters();
+        let number = read::<Brand>(&board.table, &mut self.seat, word, quorum);
+        self.reading = Some((quorum, number));
+        number
+    }
+
+    /// Passes: writes one more than it read, keeps the number that it read, and answers it. There has to be a reading,
+    /// which counts no longer then. `RegisterFull` where the number is the board's limit, and else want of memory for one
+    /// more number; a refusal changes nothing.
+    pub fn write_register(&mut self, board: &Board) -> Result<u64, BoardFault>
+        requires table { self.old.table ≡ board.now.table }
+        requires reading { IsSome self.old.reading }
+        ensures passed { IfOk result (λ x. IfSome self.old.reading (λ r. r.1 ≡ x) × (x ≢ board.now.limit) × (self.new ≡ record self.old { reading = None; passes = self.old.passes ++ x ∷ [] })) }
+        ensures limit { IfSome self.old.reading (λ r. r.1 ≡ board.now.limit) → result ≡ Err BoardFault.RegisterFull }
+        ensures full { IfErr result (λ e. e ≡ BoardFault.RegisterFull → IfSome self.old.reading (λ r. r.1 ≡ board.now.limit)) }
+        ensures faults { IfErr result (λ e. (e ≡ BoardFault.RegisterFull) ⊎ (e ≡ BoardFault.OutOfMemory)) }
+        ensures kept { IfErr result (λ _. self.new ≡ self.old) }
+        ensures table { self.new.table ≡ self.old.table }
+    {
+        let Some((_, number)) = self.reading else {
+            unreachable!()
+        };
+        let limit = board.sheet.limit();
+        if number == limit {
+            return Err(BoardFault::RegisterFull);
+        }
+        if self.passes.reserve(1).is_err() {
+            return Err(BoardFault::OutOfMemory);
+        }
+        let word = board.sheet.voters();
+        board
+            .table
+            .shared
+            .store::<Write>(&mut self.seat, word, number + 1);
+        self.passes.push_reserved(number);
+        self.reading = None;
+        Ok(number)
+    }
+}
+
+/// Reads the register, which is this word, for a quorum.
+fn read<J: Number>(table: &VoteTable, seat: &mut Seat<(), View>, word: usize, quorum: usize) -> u64
+    requires pick { quorum ≡ J.number }
+    requires table { (seat.old.table_id ≡ table.now.shared.table_id) × (word < table.now.shared.table_id.words) × (word ≡ table.now.shared.key.voters) }
+    requires quorum { (quorum < length table.now.shared.key.quorums) × HoldsAll (quorum_at table.now.shared.key.quorums quorum) seat.old.me.0.held }
+    ensures table { seat.new.table_id ≡ seat.old.table_id }
+    ensures seat { Read quorum (step 0 0 0 0 none) seat.old.me result seat.new.me }
+{
+    table.shared.load::<ReadFor<J>>(seat, word)
+}

@@ -1,0 +1,110 @@
+//! The seat of a voter: it grants its vote, and settles the grant.
+ghost use Rattle.std.specs.Prelude.{◌≡◌, ◌⊎◌, ℕ, ◌+◌, ◌<◌, ◌≤◌, ◌^◌, [], None, Some, IsSome, MatchBool};
+ghost use Rattle.board.specs.Roots.{IsCurrent};
+ghost use Rattle.board.specs.Seats.{BoardState, VoterState};
+ghost use Rattle.board.specs.Views.{voter_view};
+
+use crate::board::Board;
+use crate::table::{Grant, Settle, View, VoteTable};
+use atomic_table::Seat;
+use std::marker::Model;
+
+/// The one right to grant a voter's vote. It may be moved to a thread. Contracts see a `VoterState`.
+#[derive(Drop)]
+pub struct VoterSeat {
+    pub(crate) seat: Seat<(), View>,
+    pub(crate) voter: u8,
+    pub(crate) current: Option<(u8, u64)>,
+    pub(crate) last: u64,
+}
+
+impl Model for VoterSeat {
+    ghost use Rattle.std.specs.Prelude.{◌≡◌, ◌+◌, ◌<◌, []};
+    ghost use Rattle.board.specs.Roots.{IsCurrent};
+    ghost use Rattle.board.specs.Seats.{VoterState};
+    ghost use Rattle.board.specs.Views.{voter_view};
+
+    ghost Value = { VoterState };
+
+    ghost view = { λ s. record { table = s.seat.table_id; voter = s.voter; current = s.current; last = s.last } };
+
+    ghost invariant = { λ s. (s.seat.me ≡ (voter_view s.voter s.current, [])) × (s.voter < 64) × IsCurrent s.current s.last × (s.voter + 1 < s.seat.table_id.words) };
+}
+
+impl VoterSeat {
+    /// The voter's number.
+    pub fn voter(&self) -> u8
+        ensures { result ≡ self.now.voter }
+    {
+        self.voter
+    }
+
+    /// The current grant, by its client and its number, or none.
+    pub fn current(&self) -> Option<(u8, u64)>
+        ensures { result ≡ self.now.current }
+    {
+        self.current
+    }
+
+    /// Offers the vote to a client, by a grant with a number above the last one's and at most 2^40. There has to be no
+    /// current grant.
+    pub fn grant(&mut self, board: &Board, client: u8, grant: u64)
+        requires table { self.old.table ≡ board.now.table }
+        requires free { self.old.current ≡ None }
+        requires client { client < board.now.clients }
+        requires above { self.old.last < grant }
+        requires fits { grant ≤ 2 ^ 40 }
+        ensures granted { self.new ≡ record self.old { current = Some (client, grant); last = grant } }
+        ensures table { self.new.table ≡ self.old.table }
+    {
+        let name = 64 * grant + u64::from(client);
+        board
+            .table
+            .shared
+            .swap::<Grant>(&mut self.seat, usize::from(self.voter), 4 * name + 1);
+        self.current = Some((client, grant));
+        self.last = grant;
+    }
+
+    /// Ends the current grant where its vote was given back, or else where it is still only offered. True exactly where
+    /// the grant ended. False changes nothing: the vote was taken. There has to be a current grant.
+    pub fn settle(&mut self, board: &Board) -> bool
+        requires table { self.old.table ≡ board.now.table }
+        requires current { IsSome self.old.current }
+        ensures ended { MatchBool result (self.new ≡ record self.old { current = None }) (self.new ≡ self.old) }
+        ensures table { self.new.table ≡ self.old.table }
+    {
+        let Some(current) = self.current else {
+            unreachable!()
+        };
+        let table = &board.table;
+        let ended = frees(table, &mut self.seat, self.voter, current, 3)
+            || frees(table, &mut self.seat, self.voter, current, 1);
+        if ended {
+            self.current = None;
+        }
+        ended
+    }
+}
+
+/// Ends the grant where its word is in this state: 1 is offered, and 3 given back.
+fn frees(
+    table: &VoteTable,
+    seat: &mut Seat<(), View>,
+    voter: u8,
+    current: (u8, u64),
+    state: u64,
+) -> bool
+    requires table { (seat.old.table_id ≡ table.now.shared.table_id) × (table.now.shared.table_id.words ≡ table.now.shared.key.voters + 1) }
+    requires voter { (voter < table.now.shared.key.voters) × (voter < 64) }
+    requires seat { (seat.old.me ≡ (voter_view voter (Some current), [])) × IsCurrent (Some current) (2 ^ 40) }
+    requires state { (state ≡ 1) ⊎ (state ≡ 3) }
+    ensures table { seat.new.table_id ≡ seat.old.table_id }
+    ensures seat { MatchBool result (seat.new.me ≡ (voter_view voter None, [])) (seat.new.me ≡ seat.old.me) }
+{
+    let word = 4 * (64 * current.1 + u64::from(current.0)) + state;
+    table
+        .shared
+        .compare_exchange::<Settle>(seat, usize::from(voter), word, 0)
+        == word
+}
