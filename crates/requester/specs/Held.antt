@@ -1,0 +1,26 @@
+-- Which votes a step takes and gives back: for whoever keeps a board of the votes beside the client.
+use Rattle.std.specs.Prelude.{ℕ, ◌≡◌, ◌↔◌, true, false, List, slice_set, slice_index}
+use Rattle.std.specs.List.{Contains}
+use Rattle.message.specs.declared.message.ToVoter.{ToVoter}
+use Rattle.message.specs.declared.message.ClientBody.{ClientBody}
+use Rattle.message.specs.declared.message.ClientBody.TheVariants as tells
+use Rattle.message.specs.declared.message.VoterBody.TheVariants as asks
+use Rattle.requester.specs.declared.state.ClientState.{ClientState}
+use Rattle.requester.specs.Words.{held_of, holds}
+use Rattle.requester.specs.Steps.{Outcome, tell}
+
+-- the vote that a LOCKED names, and no other, is held besides
+abbrev pub HoldsBesides : ClientState → ℕ → ClientBody → ClientState → Type 0
+HoldsBesides x voter (tells.Locked stamp grant) y = y.held ≡ slice_set x.held voter grant
+HoldsBesides x voter (tells.Fail stamp) y = ⊥
+HoldsBesides x voter (tells.Inquire grant) y = ⊥
+
+-- a vote is held as before, or it was held, is not any more, and its RELINQUISH is sent
+abbrev pub IsKeptOrGiven : ClientState → Outcome → ℕ → Type 0
+IsKeptOrGiven x o voter =
+    (held_of o.state voter ≡ held_of x voter)
+    ⊎ ((holds x voter ≡ true) × (held_of o.state voter ≡ 0) × Contains o.out (tell x voter (asks.Relinquish (held_of x voter))))
+
+-- no vote is held
+abbrev pub HoldsNothing : ClientState → Type 0
+HoldsNothing x = (v : ℕ) → held_of x v ≡ 0

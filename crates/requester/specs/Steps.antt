@@ -1,0 +1,272 @@
+-- The steps of a client: what a call or a message makes it send, what it sees, and what it is afterwards (Maekawa, ACM
+-- TOCS 3(2), 1985, with grant numbers for messages that are repeated, lost or late).
+use Rattle.std.specs.Prelude.{ℕ, ◌≡◌, ◌+◌, ◌==◌, nat_lt, Bool, true, false, ◌&&◌, not, List, [], ◌∷◌, ◌++◌, map, filter, max, replicate, slice_set, Result, Ok, Err}
+use Rattle.std.specs.List.{flat_map}
+use Rattle.message.specs.declared.message.ToVoter.{ToVoter}
+use Rattle.message.specs.declared.message.ToClient.{ToClient}
+use Rattle.message.specs.declared.message.VoterBody.{VoterBody}
+use Rattle.message.specs.declared.message.VoterBody.TheVariants as asks
+use Rattle.message.specs.declared.message.ClientBody.{ClientBody}
+use Rattle.message.specs.declared.message.ClientBody.TheVariants as tells
+use Rattle.requester.specs.declared.fault.ClientFault.{ClientFault}
+use Rattle.requester.specs.declared.fault.ClientFault.TheVariants.{Busy, NotInside, NotAsking, StampsSpent}
+use Rattle.requester.specs.declared.state.Phase.{Phase}
+use Rattle.requester.specs.declared.state.Phase.TheVariants.{Idle, Asking, Inside}
+use Rattle.requester.specs.declared.state.Seen.{Seen}
+use Rattle.requester.specs.declared.state.Seen.TheVariants.{Nothing, Entered, Left}
+use Rattle.requester.specs.declared.state.ClientState.{ClientState}
+use Rattle.requester.specs.Words.{members, is_member, is_current, is_asking, is_idle, is_spent, held_of, holds, holds_under, is_covered, last_of, is_relinquished, is_inquired, is_hindered}
+
+-- what is sent, in order, what is seen, and the client afterwards
+pub record Outcome : Type 0 where
+  pub out : List ToVoter
+  pub seen : Seen
+  pub state : ClientState
+
+abbrev pub silent : ClientState → Outcome
+silent x = record { out = []; seen = Nothing; state = x }
+
+abbrev pub tell : ClientState → ℕ → VoterBody → ToVoter
+tell x voter body = record { client = x.id; voter = voter; body = body }
+
+-- the same to each member of the quorum, in ascending order
+abbrev pub tell_members : ClientState → VoterBody → List ToVoter
+tell_members x body = map (λ v. tell x v body) (members x)
+
+-- no vote is held, and no voter is marked
+abbrev pub cleared : ClientState → ClientState
+cleared x = record x {
+  held = replicate 64 0;
+  failed = replicate 64 false;
+  relinquished = replicate 64 false;
+  inquired = replicate 64 false;
+}
+
+-- Asking
+
+-- a new request, whose stamp is the next one of the clock
+abbrev pub begun : ClientState → List ℕ → ClientState
+begun x quorum = record (cleared x) {
+  clock = x.clock + 1;
+  stamp = x.clock + 1;
+  phase = Asking;
+  quorum = record { items = quorum };
+}
+
+-- REQUEST to each member
+abbrev pub asked : ClientState → List ℕ → Outcome
+asked x quorum = record {
+  out = tell_members (begun x quorum) (asks.Request (x.clock + 1));
+  seen = Nothing;
+  state = begun x quorum;
+}
+
+abbrev pub ask_unless : Bool → ClientState → List ℕ → Result Outcome ClientFault
+ask_unless true x quorum = Err StampsSpent
+ask_unless false x quorum = Ok (asked x quorum)
+
+abbrev pub ask_in : Phase → ClientState → List ℕ → Result Outcome ClientFault
+ask_in Idle x quorum = ask_unless (is_spent x) x quorum
+ask_in Asking x quorum = Err Busy
+ask_in Inside x quorum = Err Busy
+
+-- a client asks a quorum
+unfoldable pub ask : ClientState → List ℕ → Result Outcome ClientFault
+ask x quorum = ask_in x.phase x quorum
+
+-- Giving votes back
+
+-- A vote that is held goes back to its voter: RELINQUISH with its grant, which is then the last one given back.
+abbrev pub relinquish_if : Bool → ClientState → ℕ → Outcome
+relinquish_if false x voter = silent x
+relinquish_if true x voter = record {
+  out = tell x voter (asks.Relinquish (held_of x voter)) ∷ [];
+  seen = Nothing;
+  state = record x {
+    held = slice_set x.held voter 0;
+    last = slice_set x.last voter (held_of x voter);
+    inquired = slice_set x.inquired voter false;
+    relinquished = slice_set x.relinquished voter true;
+  };
+}
+
+unfoldable pub relinquish : ClientState → ℕ → Outcome
+relinquish x voter = relinquish_if (holds x voter) x voter
+
+-- each of these votes, in order
+abbrev pub relinquish_each : ClientState → List ℕ → Outcome
+relinquish_each x [] = silent x
+relinquish_each x (v ∷ vs) = record {
+  out = (relinquish x v).out ++ (relinquish_each (relinquish x v).state vs).out;
+  seen = Nothing;
+  state = (relinquish_each (relinquish x v).state vs).state;
+}
+
+-- the votes of those of these voters that are marked inquired
+abbrev pub relinquish_inquired : ClientState → List ℕ → Outcome
+relinquish_inquired x voters = relinquish_each x (filter (is_inquired x) voters)
+
+-- LOCKED
+
+-- a grant that counts: a member's, whose vote is not held, and newer than the last that was given back
+abbrev pub is_fresh : ClientState → ℕ → ℕ → Bool
+is_fresh x voter grant = is_member x voter && not (holds x voter) && nat_lt (last_of x voter) grant
+
+-- the vote is held under this grant, and its voter is marked no more
+abbrev pub hold : ClientState → ℕ → ℕ → ClientState
+hold x voter grant = record x {
+  held = slice_set x.held voter grant;
+  failed = slice_set x.failed voter false;
+  relinquished = slice_set x.relinquished voter false;
+  inquired = slice_set x.inquired voter false;
+}
+
+-- the client is inside once the vote of each member is held
+abbrev pub enter_if : Bool → ClientState → Outcome
+enter_if false x = silent x
+enter_if true x = record { out = []; seen = Entered; state = record x { phase = Inside } }
+
+-- By whether the request of this stamp runs, and whether the grant counts. A vote for any other request is given back
+-- by RELEASE.
+abbrev pub locked_by : Bool → Bool → ClientState → ℕ → ℕ → ℕ → Outcome
+locked_by false fresh x voter stamp grant = record { out = tell x voter (asks.Release stamp) ∷ []; seen = Nothing; state = x }
+locked_by true false x voter stamp grant = silent x
+locked_by true true x voter stamp grant = enter_if (is_covered (hold x voter grant)) (hold x voter grant)
+
+unfoldable pub locked : ClientState → ℕ → ℕ → ℕ → Outcome
+locked x voter stamp grant = locked_by (is_current x stamp) (is_fresh x voter grant) x voter stamp grant
+
+-- FAIL
+
+abbrev pub fail : ClientState → ℕ → ClientState
+fail x voter = record x { failed = slice_set x.failed voter true }
+
+-- by whether the message counts: the request can't win yet, so votes that were asked for are given back
+abbrev pub failed_by : Bool → ClientState → ℕ → Outcome
+failed_by false x voter = silent x
+failed_by true x voter = relinquish_inquired (fail x voter) (members x)
+
+-- it counts while asking under this stamp, from a member whose vote is not held
+unfoldable pub failed : ClientState → ℕ → ℕ → Outcome
+failed x voter stamp = failed_by (is_asking x.phase && stamp == x.stamp && is_member x voter && not (holds x voter)) x voter
+
+-- INQUIRE
+
+abbrev pub inquire : ClientState → ℕ → ClientState
+inquire x voter = record x { inquired = slice_set x.inquired voter true }
+
+-- By whether the message counts, and whether the request can't win yet. The vote is given back, or kept while the
+-- request may still win. To a client that is inside the voter gets its answer by the RELEASE when it leaves.
+abbrev pub inquired_by : Bool → Bool → ClientState → ℕ → Outcome
+inquired_by false hindered x voter = silent x
+inquired_by true false x voter = silent (inquire x voter)
+inquired_by true true x voter = relinquish x voter
+
+-- it counts while asking, of a vote that is held under this grant
+unfoldable pub inquired : ClientState → ℕ → ℕ → Outcome
+inquired x voter grant = inquired_by (is_asking x.phase && holds_under x voter grant) (is_hindered x) x voter
+
+-- Any message
+
+-- the clock is not behind this stamp
+abbrev pub see : ClientState → ℕ → ClientState
+see x stamp = record x { clock = max x.clock stamp }
+
+abbrev pub take_body : ClientState → ℕ → ClientBody → Outcome
+take_body x voter (tells.Locked stamp grant) = locked x voter stamp grant
+take_body x voter (tells.Fail stamp) = failed x voter stamp
+take_body x voter (tells.Inquire grant) = inquired x voter grant
+
+-- a message comes
+unfoldable pub take : ClientState → ToClient → Outcome
+take x m = take_body (see x m.seen) m.voter m.body
+
+abbrev pub would_hold_body : ClientState → ℕ → ClientBody → Bool
+would_hold_body x voter (tells.Locked stamp grant) = is_current x stamp && is_fresh x voter grant
+would_hold_body x voter (tells.Fail stamp) = false
+would_hold_body x voter (tells.Inquire grant) = false
+
+-- the message is a LOCKED that counts
+unfoldable pub would_hold : ClientState → ToClient → Bool
+would_hold x m = would_hold_body x m.voter m.body
+
+-- Leaving and giving up
+
+-- RELEASE to each member, and the request is over
+abbrev pub released : ClientState → Seen → Outcome
+released x seen = record {
+  out = tell_members x (asks.Release x.stamp);
+  seen = seen;
+  state = record (cleared x) { phase = Idle };
+}
+
+abbrev pub leave_in : Phase → ClientState → Result Outcome ClientFault
+leave_in Idle x = Err NotInside
+leave_in Asking x = Err NotInside
+leave_in Inside x = Ok (released x Left)
+
+-- a client that is inside leaves
+unfoldable pub leave : ClientState → Result Outcome ClientFault
+leave x = leave_in x.phase x
+
+abbrev pub give_up_in : Phase → ClientState → Result Outcome ClientFault
+give_up_in Idle x = Err NotAsking
+give_up_in Asking x = Ok (released x Nothing)
+give_up_in Inside x = Err NotAsking
+
+-- a client that asks gives its request up
+unfoldable pub give_up : ClientState → Result Outcome ClientFault
+give_up x = give_up_in x.phase x
+
+-- One step
+
+-- what makes a client take a step: one of three calls, or a message
+pub data Cause : Type 0 where
+  Asks : List ℕ → Cause
+  Takes : ToClient → Cause
+  Leaves : Cause
+  GivesUp : Cause
+
+unfoldable pub step : ClientState → Cause → Result Outcome ClientFault
+step x (Asks quorum) = ask x quorum
+step x (Takes m) = Ok (take x m)
+step x Leaves = leave x
+step x GivesUp = give_up x
+
+-- Reminders
+
+-- by whether the member's vote is held, and whether it was given back
+abbrev pub remind_by : Bool → Bool → ClientState → ℕ → List ToVoter
+remind_by true given_back x voter = []
+remind_by false false x voter = tell x voter (asks.Request x.stamp) ∷ []
+remind_by false true x voter = tell x voter (asks.Relinquish (last_of x voter)) ∷ tell x voter (asks.Request x.stamp) ∷ []
+
+abbrev pub remind_member : ClientState → ℕ → List ToVoter
+remind_member x voter = remind_by (holds x voter) (is_relinquished x voter) x voter
+
+abbrev pub remind_in : Phase → ClientState → List ToVoter
+remind_in Idle x = []
+remind_in Asking x = flat_map (remind_member x) (members x)
+remind_in Inside x = []
+
+-- what to tell again, for messages that were lost
+unfoldable pub remind : ClientState → List ToVoter
+remind x = remind_in x.phase x
+
+-- The first state
+
+-- a client that asked for nothing and was told nothing
+abbrev pub start : ℕ → ℕ → ClientState
+start id limit = record {
+  id = id;
+  limit = limit;
+  clock = 0;
+  phase = Idle;
+  stamp = 0;
+  quorum = record { items = [] };
+  held = replicate 64 0;
+  last = replicate 64 0;
+  failed = replicate 64 false;
+  relinquished = replicate 64 false;
+  inquired = replicate 64 false;
+}

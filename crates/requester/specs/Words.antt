@@ -1,0 +1,86 @@
+-- What a client knows of its request, of each voter's vote and of each voter, in words.
+use Rattle.std.specs.Prelude.{ℕ, ◌≡◌, ◌≤◌, nat_lt, nat_le, ◌==◌, Bool, true, false, ◌&&◌, not, List, Option, Some, None, slice_index, slice_index_or}
+use Rattle.std.specs.List.{list_all, list_any}
+use Rattle.quorum_set.specs.Sets.{has}
+use Rattle.requester.specs.declared.state.Phase.{Phase}
+use Rattle.requester.specs.declared.state.Phase.TheVariants.{Idle, Asking, Inside}
+use Rattle.requester.specs.declared.state.ClientState.{ClientState}
+
+-- The request
+
+abbrev pub is_idle : Phase → Bool
+is_idle Idle = true
+is_idle Asking = false
+is_idle Inside = false
+
+abbrev pub is_asking : Phase → Bool
+is_asking Idle = false
+is_asking Asking = true
+is_asking Inside = false
+
+abbrev pub is_inside : Phase → Bool
+is_inside Idle = false
+is_inside Asking = false
+is_inside Inside = true
+
+-- the members of the quorum of the current or last request, in ascending order
+abbrev pub members : ClientState → List ℕ
+members x = x.quorum.items
+
+abbrev pub is_member : ClientState → ℕ → Bool
+is_member x voter = has (members x) voter
+
+-- a request runs, and this is its stamp
+abbrev pub is_current : ClientState → ℕ → Bool
+is_current x stamp = not (is_idle x.phase) && stamp == x.stamp
+
+-- no stamp is left
+abbrev pub is_spent : ClientState → Bool
+is_spent x = nat_le x.limit x.clock
+
+-- Votes: a map from voter to the number of the grant under which its vote is held. Grants count from 1, and the state
+-- keeps 0 for a vote that is not held.
+
+abbrev pub held_of : ClientState → ℕ → ℕ
+held_of x voter = slice_index x.held voter
+
+abbrev pub holds : ClientState → ℕ → Bool
+holds x voter = nat_lt 0 (held_of x voter)
+
+-- the vote is held under this grant
+abbrev pub holds_under : ClientState → ℕ → ℕ → Bool
+holds_under x voter grant = holds x voter && held_of x voter == grant
+
+abbrev pub grant_if : Bool → ℕ → Option ℕ
+grant_if false grant = None
+grant_if true grant = Some grant
+
+-- the grant under which the vote is held
+abbrev pub grant_of : ClientState → ℕ → Option ℕ
+grant_of x voter = grant_if (holds x voter) (held_of x voter)
+
+-- the vote of each member is held
+abbrev pub is_covered : ClientState → Bool
+is_covered x = list_all (holds x) (members x)
+
+-- the last grant of the voter that was given back, 0 if none was
+abbrev pub last_of : ClientState → ℕ → ℕ
+last_of x voter = slice_index x.last voter
+
+-- Voters: three sets
+
+-- the voter said that another request precedes this one
+abbrev pub is_failed : ClientState → ℕ → Bool
+is_failed x voter = slice_index_or x.failed voter false
+
+-- the voter's vote was given back
+abbrev pub is_relinquished : ClientState → ℕ → Bool
+is_relinquished x voter = slice_index_or x.relinquished voter false
+
+-- the voter asked whether its vote may come back
+abbrev pub is_inquired : ClientState → ℕ → Bool
+is_inquired x voter = slice_index_or x.inquired voter false
+
+-- a member failed, or has its vote back: the request can't win yet
+abbrev pub is_hindered : ClientState → Bool
+is_hindered x = list_any (λ v. is_failed x v || is_relinquished x v) (members x)

@@ -1,0 +1,46 @@
+//! Laws of the definitions.
+ghost use Rattle.std.specs.Prelude.{◌≡◌, ◌<◌, ◌≤◌, ◌^◌, ℕ, Ok, List, true, false};
+ghost use Rattle.message.specs.declared.message.ToClient.{ToClient};
+ghost use Rattle.requester.specs.declared.state.ClientState.{ClientState};
+ghost use Rattle.requester.specs.Held.{HoldsBesides, HoldsNothing, IsKeptOrGiven};
+ghost use Rattle.requester.specs.RequesterContract.{Accepts, AllInRange, AllRepeat, ComesInRange, MeetsContract, RemindersInRange};
+ghost use Rattle.requester.specs.Soundness.{IsSound};
+ghost use Rattle.requester.specs.Steps.{Cause, Outcome, ask, give_up, leave, remind, start, step, take, would_hold};
+ghost use Rattle.requester.specs.Words.{holds, is_idle, is_inside, is_member};
+
+/// A client never goes back behind a stamp that it released or a grant that it gave back, holds only votes that a LOCKED
+/// told it for the request that runs, and speaks of each as it stands after the step.
+pub fn requesters_meet_the_contract()
+    ensures steps { (x : ClientState) (cause : Cause) (o : Outcome) → IsSound x → Accepts x cause → step x cause ≡ Ok o → MeetsContract x cause o }
+    ensures reminders { (x : ClientState) → AllRepeat x (remind x) }
+{}
+
+/// Of every client: a vote that is held belongs to the request that runs, and is one of its quorum; who is inside holds
+/// the vote of each member; stamps are from 1 to the limit.
+pub fn requesters_stay_sound()
+    ensures first { (id limit : ℕ) → id < 64 → 1 ≤ limit → limit ≤ 2 ^ 40 → IsSound (start id limit) }
+    ensures steps { (x : ClientState) (cause : Cause) (o : Outcome) → IsSound x → Accepts x cause → step x cause ≡ Ok o → IsSound o.state }
+{}
+
+/// Messages go to voters below 64 that are members or are answered; their stamps are from 1 to the limit, where those
+/// that come are, and their grants are at least 1.
+pub fn messages_are_in_range()
+    ensures steps { (x : ClientState) (cause : Cause) (o : Outcome) → IsSound x → Accepts x cause → ComesInRange x.limit cause → step x cause ≡ Ok o → AllInRange cause o.state o.out }
+    ensures reminders { (x : ClientState) → IsSound x → RemindersInRange x (remind x) }
+{}
+
+/// A message that would be held makes its vote held besides, and no other; any other message makes no vote held, and
+/// what is then held no longer is exactly what is relinquished.
+pub fn messages_move_votes()
+    ensures would_hold { (x : ClientState) (m : ToClient) → IsSound x → would_hold x m ≡ true → HoldsBesides x m.voter m.body (take x m).state }
+    ensures others { (x : ClientState) (m : ToClient) → IsSound x → would_hold x m ≡ false → (v : ℕ) → IsKeptOrGiven x (take x m) v }
+{}
+
+/// Who is idle holds nothing; who is inside holds the vote of each member.
+pub fn phases_tell_votes()
+    ensures idle { (x : ClientState) → IsSound x → is_idle x.phase ≡ true → HoldsNothing x }
+    ensures inside { (x : ClientState) (v : ℕ) → IsSound x → is_inside x.phase ≡ true → is_member x v ≡ true → holds x v ≡ true }
+    ensures asked { (x : ClientState) (quorum : List ℕ) (o : Outcome) → ask x quorum ≡ Ok o → HoldsNothing o.state }
+    ensures left { (x : ClientState) (o : Outcome) → leave x ≡ Ok o → HoldsNothing o.state }
+    ensures given_up { (x : ClientState) (o : Outcome) → give_up x ≡ Ok o → HoldsNothing o.state }
+{}

@@ -1,0 +1,359 @@
+//! What a client knows, and its steps.
+ghost use Rattle.std.specs.Prelude.{◌≡◌, ◌<◌, ◌≤◌, ◌+◌, ◌^◌, ◌++◌, []};
+ghost use Rattle.std.specs.List.{AllByRecursion};
+ghost use Rattle.arrayvec.specs.ArrayVec.{array_vec_len};
+ghost use Rattle.quorum_set.specs.Sets.{IsSet};
+ghost use Rattle.requester.specs.Words.{holds, holds_under, is_covered, is_current, is_hindered, is_member};
+ghost use Rattle.requester.specs.Steps.{asked, cleared, failed, hold, inquired, is_fresh, locked, relinquish, relinquish_inquired, released, remind, remind_member, take, tell, tell_members, would_hold};
+
+use arrayvec::ArrayVec;
+use message::{ClientBody, ToClient, ToVoter, VoterBody};
+use quorum_set::QSet;
+
+/// Where a client stands.
+#[derive(Clone, Copy, Debug, PartialEq, Eq)]
+pub enum Phase {
+    /// It wants nothing.
+    Idle,
+    /// It asked a quorum, and waits for votes.
+    Asking,
+    /// It holds the vote of each member of its quorum: it has the lock.
+    Inside,
+}
+
+/// What is seen of a step.
+#[derive(Clone, Copy, Debug, PartialEq, Eq)]
+pub enum Seen {
+    /// Nothing.
+    Nothing,
+    /// The client got the lock.
+    Entered,
+    /// The client gave the lock up.
+    Left,
+}
+
+/// The voters of a quorum, in ascending order.
+pub type Members = ArrayVec<u8, 64>;
+
+/// The messages of a step.
+pub type Messages = ArrayVec<ToVoter, 64>;
+
+/// The messages of a reminder.
+pub type Reminders = ArrayVec<ToVoter, 128>;
+
+/// What a client knows. The arrays have a place for each voter.
+#[derive(Drop)]
+pub struct ClientState {
+    /// The client's number.
+    pub id: u8,
+    /// How far its stamps may go.
+    pub limit: u64,
+    /// The highest stamp that it saw or gave, 0 at first.
+    pub clock: u64,
+    /// Where it stands.
+    pub phase: Phase,
+    /// The stamp of the current or last request, 0 at first.
+    pub stamp: u64,
+    /// The quorum of the current or last request, empty at first.
+    pub quorum: Members,
+    /// The grant under which the vote is held, 0 if it is not.
+    pub held: [u64; 64],
+    /// The last grant that was given back, over all requests, 0 at first.
+    pub last: [u64; 64],
+    /// For the current request the voter said FAIL.
+    pub failed: [bool; 64],
+    /// For the current request the voter's vote was given back.
+    pub relinquished: [bool; 64],
+    /// The voter asked for the vote that is held.
+    pub inquired: [bool; 64],
+}
+
+impl ClientState {
+    fn tell(&self, voter: u8, body: VoterBody) -> ToVoter
+        ensures { result ≡ tell self.now voter body }
+    {
+        ToVoter {
+            client: self.id,
+            voter,
+            body,
+        }
+    }
+
+    fn tell_members(&self, body: VoterBody) -> Messages
+        requires few { array_vec_len self.now.quorum ≤ 64 }
+        ensures { result.items ≡ tell_members self.now body }
+    {
+        let mut out = ArrayVec::new();
+        for v in self.quorum.as_slice() {
+            out.push(self.tell(*v, body));
+        }
+        out
+    }
+
+    fn is_member(&self, voter: u8) -> bool
+        ensures { result ≡ is_member self.now voter }
+    {
+        self.quorum.as_slice().contains(&voter)
+    }
+
+    fn is_current(&self, stamp: u64) -> bool
+        ensures { result ≡ is_current self.now stamp }
+    {
+        self.phase != Phase::Idle && stamp == self.stamp
+    }
+
+    fn holds(&self, voter: u8) -> bool
+        requires { voter < 64 }
+        ensures { result ≡ holds self.now voter }
+    {
+        self.held[voter as usize] > 0
+    }
+
+    fn holds_under(&self, voter: u8, grant: u64) -> bool
+        requires { voter < 64 }
+        ensures { result ≡ holds_under self.now voter grant }
+    {
+        self.holds(voter) && self.held[voter as usize] == grant
+    }
+
+    fn is_fresh(&self, voter: u8, grant: u64) -> bool
+        requires { voter < 64 }
+        ensures { result ≡ is_fresh self.now voter grant }
+    {
+        self.is_member(voter) && !self.holds(voter) && grant > self.last[voter as usize]
+    }
+
+    fn is_covered(&self) -> bool
+        requires members { IsSet self.now.quorum.items }
+        ensures { result ≡ is_covered self.now }
+    {
+        for v in self.quorum.as_slice() {
+            if !self.holds(*v) {
+                return false;
+            }
+        }
+        true
+    }
+
+    fn is_hindered(&self) -> bool
+        requires members { IsSet self.now.quorum.items }
+        ensures { result ≡ is_hindered self.now }
+    {
+        for v in self.quorum.as_slice() {
+            if self.failed[*v as usize] || self.relinquished[*v as usize] {
+                return true;
+            }
+        }
+        false
+    }
+
+    /// No vote is held, and no voter is marked.
+    fn clear(&mut self)
+        ensures { self.new ≡ cleared self.old }
+    {
+        self.held = [0; 64];
+        self.failed = [false; 64];
+        self.relinquished = [false; 64];
+        self.inquired = [false; 64];
+    }
+
+    /// A new request, of this quorum, under the next stamp.
+    pub fn begin(&mut self, quorum: &QSet) -> Messages
+        requires clock { self.old.clock < 2 ^ 63 }
+        ensures state { self.new ≡ (asked self.old quorum.now).state }
+        ensures out { result.items ≡ (asked self.old quorum.now).out }
+    {
+        self.clear();
+        self.clock += 1;
+        self.stamp = self.clock;
+        self.phase = Phase::Asking;
+        self.quorum = quorum.members();
+        self.tell_members(VoterBody::Request { stamp: self.stamp })
+    }
+
+    /// Gives a vote back, if it is held.
+    #[tactic(auto, unfolding(crate::specs::Steps::relinquish))]
+    fn relinquish(&mut self, voter: u8, out: &mut Messages)
+        requires voter { voter < 64 }
+        requires room { array_vec_len out.old < 64 }
+        ensures state { self.new ≡ (relinquish self.old voter).state }
+        ensures out { out.new.items ≡ out.old.items ++ (relinquish self.old voter).out }
+        ensures len { array_vec_len out.new ≤ array_vec_len out.old + 1 }
+    {
+        if self.holds(voter) {
+            let place = voter as usize;
+            let grant = self.held[place];
+            self.held[place] = 0;
+            self.last[place] = grant;
+            self.inquired[place] = false;
+            self.relinquished[place] = true;
+            out.push(self.tell(voter, VoterBody::Relinquish { grant }));
+        }
+    }
+
+    /// Gives the vote of each member back that is marked inquired.
+    fn relinquish_inquired(&mut self, out: &mut Messages)
+        requires members { IsSet self.old.quorum.items }
+        requires room { out.old.items ≡ [] }
+        ensures state { self.new ≡ (relinquish_inquired self.old self.old.quorum.items).state }
+        ensures out { out.new.items ≡ (relinquish_inquired self.old self.old.quorum.items).out }
+    {
+        for i in 0..self.quorum.len() {
+            let voter = self.quorum[i];
+            if self.inquired[voter as usize] {
+                self.relinquish(voter, out);
+            }
+        }
+    }
+
+    fn hold(&mut self, voter: u8, grant: u64)
+        requires { voter < 64 }
+        ensures { self.new ≡ hold self.old voter grant }
+    {
+        let place = voter as usize;
+        self.held[place] = grant;
+        self.failed[place] = false;
+        self.relinquished[place] = false;
+        self.inquired[place] = false;
+    }
+
+    #[tactic(auto, unfolding(crate::specs::Steps::locked))]
+    fn locked(&mut self, voter: u8, stamp: u64, grant: u64, out: &mut Messages) -> Seen
+        requires voter { voter < 64 }
+        requires members { IsSet self.old.quorum.items }
+        requires room { out.old.items ≡ [] }
+        ensures state { self.new ≡ (locked self.old voter stamp grant).state }
+        ensures out { out.new.items ≡ (locked self.old voter stamp grant).out }
+        ensures seen { result ≡ (locked self.old voter stamp grant).seen }
+    {
+        if !self.is_current(stamp) {
+            out.push(self.tell(voter, VoterBody::Release { stamp }));
+            return Seen::Nothing;
+        }
+        if self.is_fresh(voter, grant) {
+            self.hold(voter, grant);
+            if self.is_covered() {
+                self.phase = Phase::Inside;
+                return Seen::Entered;
+            }
+        }
+        Seen::Nothing
+    }
+
+    #[tactic(auto, unfolding(crate::specs::Steps::failed))]
+    fn failed(&mut self, voter: u8, stamp: u64, out: &mut Messages)
+        requires voter { voter < 64 }
+        requires members { IsSet self.old.quorum.items }
+        requires room { out.old.items ≡ [] }
+        ensures state { self.new ≡ (failed self.old voter stamp).state }
+        ensures out { out.new.items ≡ (failed self.old voter stamp).out }
+    {
+        if self.phase == Phase::Asking
+            && stamp == self.stamp
+            && self.is_member(voter)
+            && !self.holds(voter)
+        {
+            self.failed[voter as usize] = true;
+            self.relinquish_inquired(out);
+        }
+    }
+
+    #[tactic(auto, unfolding(crate::specs::Steps::inquired))]
+    fn inquired(&mut self, voter: u8, grant: u64, out: &mut Messages)
+        requires voter { voter < 64 }
+        requires members { IsSet self.old.quorum.items }
+        requires room { out.old.items ≡ [] }
+        ensures state { self.new ≡ (inquired self.old voter grant).state }
+        ensures out { out.new.items ≡ (inquired self.old voter grant).out }
+    {
+        if self.phase == Phase::Asking && self.holds_under(voter, grant) {
+            if self.is_hindered() {
+                self.relinquish(voter, out);
+            } else {
+                self.inquired[voter as usize] = true;
+            }
+        }
+    }
+
+    /// A message comes.
+    #[tactic(auto, unfolding(crate::specs::Steps::take))]
+    pub fn take(&mut self, message: &ToClient, out: &mut Messages) -> Seen
+        requires voter { message.now.voter < 64 }
+        requires members { IsSet self.old.quorum.items }
+        requires room { out.old.items ≡ [] }
+        ensures state { self.new ≡ (take self.old message.now).state }
+        ensures out { out.new.items ≡ (take self.old message.now).out }
+        ensures seen { result ≡ (take self.old message.now).seen }
+    {
+        self.clock = self.clock.max(message.seen);
+        match message.body {
+            ClientBody::Locked { stamp, grant } => self.locked(message.voter, stamp, grant, out),
+            ClientBody::Fail { stamp } => {
+                self.failed(message.voter, stamp, out);
+                Seen::Nothing
+            }
+            ClientBody::Inquire { grant } => {
+                self.inquired(message.voter, grant, out);
+                Seen::Nothing
+            }
+        }
+    }
+
+    /// Whether a message is a LOCKED that counts.
+    #[tactic(auto, unfolding(crate::specs::Steps::would_hold))]
+    pub fn would_hold(&self, message: &ToClient) -> bool
+        requires voter { message.now.voter < 64 }
+        ensures { result ≡ would_hold self.now message.now }
+    {
+        match message.body {
+            ClientBody::Locked { stamp, grant } => {
+                self.is_current(stamp) && self.is_fresh(message.voter, grant)
+            }
+            ClientBody::Fail { .. } | ClientBody::Inquire { .. } => false,
+        }
+    }
+
+    /// The request is over: RELEASE to each member.
+    pub fn release(&mut self) -> Messages
+        requires few { array_vec_len self.old.quorum ≤ 64 }
+        ensures state { self.new ≡ (released self.old Seen.Nothing).state }
+        ensures out { result.items ≡ (released self.old Seen.Nothing).out }
+    {
+        let out = self.tell_members(VoterBody::Release { stamp: self.stamp });
+        self.clear();
+        self.phase = Phase::Idle;
+        out
+    }
+
+    fn remind_member(&self, voter: u8, out: &mut Reminders)
+        requires voter { voter < 64 }
+        requires room { array_vec_len out.old < 127 }
+        ensures out { out.new.items ≡ out.old.items ++ remind_member self.now voter }
+        ensures len { array_vec_len out.new ≤ array_vec_len out.old + 2 }
+    {
+        if self.holds(voter) {
+            return;
+        }
+        let place = voter as usize;
+        if self.relinquished[place] {
+            let grant = self.last[place];
+            out.push(self.tell(voter, VoterBody::Relinquish { grant }));
+        }
+        out.push(self.tell(voter, VoterBody::Request { stamp: self.stamp }));
+    }
+
+    /// What to tell the members again, while asking.
+    #[tactic(auto, unfolding(crate::specs::Steps::remind))]
+    pub fn remind(&self) -> Reminders
+        requires members { IsSet self.now.quorum.items }
+        ensures { result.items ≡ remind self.now }
+    {
+        let mut out = ArrayVec::new();
+        if self.phase == Phase::Asking {
+            for v in self.quorum.as_slice() {
+                self.remind_member(*v, &mut out);
+            }
+        }
+        out
+    }
+}
