@@ -51,7 +51,7 @@ pub record IsLater (x y : ClientState) : Type 0 where
 -- a LOCKED of this voter with this stamp and grant may still count
 pub record IsLive (x : ClientState) (voter stamp grant : ℕ) : Type 0 where
   pub busy : is_idle x.phase ≡ false
-  pub stamp : stamp ≡ x.stamp
+  pub current : stamp ≡ x.stamp
   pub fresh : last_of x voter < grant
 
 -- what is seen of a step between these phases

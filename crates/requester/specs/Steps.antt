@@ -102,6 +102,14 @@ relinquish_each x (v ∷ vs) = record {
   state = (relinquish_each (relinquish x v).state vs).state;
 }
 
+-- a vote whose voter is marked inquired
+abbrev pub relinquish_marked_if : Bool → ClientState → ℕ → Outcome
+relinquish_marked_if false x voter = silent x
+relinquish_marked_if true x voter = relinquish x voter
+
+abbrev pub relinquish_marked : ClientState → ℕ → Outcome
+relinquish_marked x voter = relinquish_marked_if (is_inquired x voter) x voter
+
 -- the votes of those of these voters that are marked inquired
 abbrev pub relinquish_inquired : ClientState → List ℕ → Outcome
 relinquish_inquired x voters = relinquish_each x (filter (is_inquired x) voters)

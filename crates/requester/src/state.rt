@@ -1,10 +1,9 @@
 //! What a client knows, and its steps.
-ghost use Rattle.std.specs.Prelude.{◌≡◌, ◌<◌, ◌≤◌, ◌+◌, ◌^◌, ◌++◌, []};
-ghost use Rattle.std.specs.List.{AllByRecursion};
+ghost use Rattle.std.specs.Prelude.{◌≡◌, ◌<◌, ◌≤◌, ◌+◌, ◌^◌, ◌++◌, [], eqb};
+ghost use Rattle.std.specs.List.{AllByRecursion, IsDistinct};
 ghost use Rattle.arrayvec.specs.ArrayVec.{array_vec_len};
-ghost use Rattle.quorum_set.specs.Sets.{IsSet};
 ghost use Rattle.requester.specs.Words.{holds, holds_under, is_covered, is_current, is_hindered, is_member};
-ghost use Rattle.requester.specs.Steps.{asked, cleared, failed, hold, inquired, is_fresh, locked, relinquish, relinquish_inquired, released, remind, remind_member, take, tell, tell_members, would_hold};
+ghost use Rattle.requester.specs.Steps.{asked, cleared, failed, hold, inquired, is_fresh, locked, relinquish, relinquish_inquired, relinquish_marked, released, remind, remind_member, take, tell, tell_members, would_hold};
 
 use arrayvec::ArrayVec;
 use message::{ClientBody, ToClient, ToVoter, VoterBody};
@@ -124,7 +123,7 @@ impl ClientState {
     }
 
     fn is_covered(&self) -> bool
-        requires members { IsSet self.now.quorum.items }
+        requires voters { AllByRecursion (λ v. v < 64) self.now.quorum.items }
         ensures { result ≡ is_covered self.now }
     {
         for v in self.quorum.as_slice() {
@@ -136,7 +135,7 @@ impl ClientState {
     }
 
     fn is_hindered(&self) -> bool
-        requires members { IsSet self.now.quorum.items }
+        requires voters { AllByRecursion (λ v. v < 64) self.now.quorum.items }
         ensures { result ≡ is_hindered self.now }
     {
         for v in self.quorum.as_slice() {
@@ -191,18 +190,31 @@ impl ClientState {
         }
     }
 
+    /// Gives a vote back whose voter is marked inquired.
+    fn relinquish_marked(&mut self, voter: u8, out: &mut Messages)
+        requires voter { voter < 64 }
+        requires room { array_vec_len out.old < 64 }
+        ensures state { self.new ≡ (relinquish_marked self.old voter).state }
+        ensures out { out.new.items ≡ out.old.items ++ (relinquish_marked self.old voter).out }
+        ensures len { array_vec_len out.new ≤ array_vec_len out.old + 1 }
+    {
+        if self.inquired[voter as usize] {
+            self.relinquish(voter, out);
+        }
+    }
+
     /// Gives the vote of each member back that is marked inquired.
     fn relinquish_inquired(&mut self, out: &mut Messages)
-        requires members { IsSet self.old.quorum.items }
+        requires voters { AllByRecursion (λ v. v < 64) self.old.quorum.items }
+        requires apart { IsDistinct eqb self.old.quorum.items }
         requires room { out.old.items ≡ [] }
+        requires few { array_vec_len self.old.quorum ≤ 64 }
         ensures state { self.new ≡ (relinquish_inquired self.old self.old.quorum.items).state }
         ensures out { out.new.items ≡ (relinquish_inquired self.old self.old.quorum.items).out }
     {
         for i in 0..self.quorum.len() {
             let voter = self.quorum[i];
-            if self.inquired[voter as usize] {
-                self.relinquish(voter, out);
-            }
+            self.relinquish_marked(voter, out);
         }
     }
 
@@ -220,7 +232,7 @@ impl ClientState {
     #[tactic(auto, unfolding(crate::specs::Steps::locked))]
     fn locked(&mut self, voter: u8, stamp: u64, grant: u64, out: &mut Messages) -> Seen
         requires voter { voter < 64 }
-        requires members { IsSet self.old.quorum.items }
+        requires voters { AllByRecursion (λ v. v < 64) self.old.quorum.items }
         requires room { out.old.items ≡ [] }
         ensures state { self.new ≡ (locked self.old voter stamp grant).state }
         ensures out { out.new.items ≡ (locked self.old voter stamp grant).out }
@@ -243,8 +255,10 @@ impl ClientState {
     #[tactic(auto, unfolding(crate::specs::Steps::failed))]
     fn failed(&mut self, voter: u8, stamp: u64, out: &mut Messages)
         requires voter { voter < 64 }
-        requires members { IsSet self.old.quorum.items }
+        requires voters { AllByRecursion (λ v. v < 64) self.old.quorum.items }
+        requires apart { IsDistinct eqb self.old.quorum.items }
         requires room { out.old.items ≡ [] }
+        requires few { array_vec_len self.old.quorum ≤ 64 }
         ensures state { self.new ≡ (failed self.old voter stamp).state }
         ensures out { out.new.items ≡ (failed self.old voter stamp).out }
     {
@@ -261,7 +275,7 @@ impl ClientState {
     #[tactic(auto, unfolding(crate::specs::Steps::inquired))]
     fn inquired(&mut self, voter: u8, grant: u64, out: &mut Messages)
         requires voter { voter < 64 }
-        requires members { IsSet self.old.quorum.items }
+        requires voters { AllByRecursion (λ v. v < 64) self.old.quorum.items }
         requires room { out.old.items ≡ [] }
         ensures state { self.new ≡ (inquired self.old voter grant).state }
         ensures out { out.new.items ≡ (inquired self.old voter grant).out }
@@ -279,8 +293,10 @@ impl ClientState {
     #[tactic(auto, unfolding(crate::specs::Steps::take))]
     pub fn take(&mut self, message: &ToClient, out: &mut Messages) -> Seen
         requires voter { message.now.voter < 64 }
-        requires members { IsSet self.old.quorum.items }
+        requires voters { AllByRecursion (λ v. v < 64) self.old.quorum.items }
+        requires apart { IsDistinct eqb self.old.quorum.items }
         requires room { out.old.items ≡ [] }
+        requires few { array_vec_len self.old.quorum ≤ 64 }
         ensures state { self.new ≡ (take self.old message.now).state }
         ensures out { out.new.items ≡ (take self.old message.now).out }
         ensures seen { result ≡ (take self.old message.now).seen }
@@ -327,7 +343,7 @@ impl ClientState {
 
     fn remind_member(&self, voter: u8, out: &mut Reminders)
         requires voter { voter < 64 }
-        requires room { array_vec_len out.old < 127 }
+        requires room { array_vec_len out.old + 2 ≤ 128 }
         ensures out { out.new.items ≡ out.old.items ++ remind_member self.now voter }
         ensures len { array_vec_len out.new ≤ array_vec_len out.old + 2 }
     {
@@ -345,7 +361,8 @@ impl ClientState {
     /// What to tell the members again, while asking.
     #[tactic(auto, unfolding(crate::specs::Steps::remind))]
     pub fn remind(&self) -> Reminders
-        requires members { IsSet self.now.quorum.items }
+        requires voters { AllByRecursion (λ v. v < 64) self.now.quorum.items }
+        requires few { array_vec_len self.now.quorum ≤ 64 }
         ensures { result.items ≡ remind self.now }
     {
         let mut out = ArrayVec::new();
