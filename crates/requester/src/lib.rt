@@ -49,5 +49,5 @@ pub use laws::{
     messages_are_in_range, messages_move_votes, phases_tell_votes, requesters_meet_the_contract,
     requesters_stay_sound,
 };
-pub use requester::{Reply, Requester};
-pub use state::{Members, Messages, Phase, Reminders, Seen};
+pub use requester::Requester;
+pub use state::{Members, Messages, Phase, Reminders, Reply, Seen};

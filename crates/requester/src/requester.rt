@@ -5,20 +5,11 @@ ghost use Rattle.requester.specs.Words.{grant_of, is_spent};
 ghost use Rattle.requester.specs.Steps.{ask, give_up, leave, remind, start, take, would_hold};
 
 use crate::fault::ClientFault;
-use crate::state::{ClientState, Messages, Phase, Reminders, Seen};
+use crate::state::{ClientState, Phase, Reminders, Reply};
 use arrayvec::ArrayVec;
 use message::ToClient;
 use quorum_set::QSet;
 use std::marker::Model;
-
-/// What a step makes a client do.
-#[derive(Drop)]
-pub struct Reply {
-    /// The messages to send, in order.
-    pub out: Messages,
-    /// What is seen of the step.
-    pub seen: Seen,
-}
 
 /// A client of the voting lock: it runs one request at a time. Clauses see it as what it knows, a `ClientState`.
 #[derive(Drop)]
@@ -124,16 +115,7 @@ impl Requester {
         ensures id { self.new.id ≡ self.old.id }
         ensures limit { self.new.limit ≡ self.old.limit }
     {
-        if self.state.phase != Phase::Idle {
-            return Err(ClientFault::Busy);
-        }
-        if self.state.clock >= self.state.limit {
-            return Err(ClientFault::StampsSpent);
-        }
-        Ok(Reply {
-            out: self.state.begin(quorum),
-            seen: Seen::Nothing,
-        })
+        self.state.ask(quorum)
     }
 
     /// Takes a message that names this client and a voter below 64.
@@ -144,9 +126,7 @@ impl Requester {
         ensures id { self.new.id ≡ self.old.id }
         ensures limit { self.new.limit ≡ self.old.limit }
     {
-        let mut out = ArrayVec::new();
-        let seen = self.state.take(message, &mut out);
-        Reply { out, seen }
+        self.state.take(message)
     }
 
     /// Whether `take` would hold a vote for this message: it is a LOCKED that counts.
@@ -165,13 +145,7 @@ impl Requester {
         ensures id { self.new.id ≡ self.old.id }
         ensures limit { self.new.limit ≡ self.old.limit }
     {
-        if self.state.phase != Phase::Inside {
-            return Err(ClientFault::NotInside);
-        }
-        Ok(Reply {
-            out: self.state.release(),
-            seen: Seen::Left,
-        })
+        self.state.leave()
     }
 
     /// Gives the request up: RELEASE to each member, in ascending order. Refused with C3 unless the client asks.
@@ -181,13 +155,7 @@ impl Requester {
         ensures id { self.new.id ≡ self.old.id }
         ensures limit { self.new.limit ≡ self.old.limit }
     {
-        if self.state.phase != Phase::Asking {
-            return Err(ClientFault::NotAsking);
-        }
-        Ok(Reply {
-            out: self.state.release(),
-            seen: Seen::Nothing,
-        })
+        self.state.give_up()
     }
 
     /// What to tell again while asking, for messages that were lost: to each member whose vote is not held, in ascending

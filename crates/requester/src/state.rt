@@ -1,10 +1,11 @@
 //! What a client knows, and its steps.
-ghost use Rattle.std.specs.Prelude.{◌≡◌, ◌<◌, ◌≤◌, ◌+◌, ◌^◌, ◌++◌, [], eqb};
+ghost use Rattle.std.specs.Prelude.{◌≡◌, ◌<◌, ◌≤◌, ◌+◌, ◌^◌, ◌++◌, [], eqb, Err, IfErr, IfOk, Ok};
 ghost use Rattle.std.specs.List.{AllByRecursion, IsDistinct};
 ghost use Rattle.arrayvec.specs.ArrayVec.{array_vec_len};
 ghost use Rattle.requester.specs.Words.{holds, holds_under, is_covered, is_current, is_hindered, is_member};
-ghost use Rattle.requester.specs.Steps.{asked, cleared, failed, hold, inquired, is_fresh, locked, relinquish, relinquish_inquired, relinquish_marked, released, remind, remind_member, take, tell, tell_members, would_hold};
+ghost use Rattle.requester.specs.Steps.{ask, cleared, failed, give_up, hold, inquired, is_fresh, leave, locked, relinquish, relinquish_inquired, relinquish_marked, released, remind, remind_member, take, take_body, tell, tell_members, would_hold};
 
+use crate::fault::ClientFault;
 use arrayvec::ArrayVec;
 use message::{ClientBody, ToClient, ToVoter, VoterBody};
 use quorum_set::QSet;
@@ -39,6 +40,15 @@ pub type Messages = ArrayVec<ToVoter, 64>;
 
 /// The messages of a reminder.
 pub type Reminders = ArrayVec<ToVoter, 128>;
+
+/// What a step makes a client do.
+#[derive(Drop)]
+pub struct Reply {
+    /// The messages to send, in order.
+    pub out: Messages,
+    /// What is seen of the step.
+    pub seen: Seen,
+}
 
 /// What a client knows. The arrays have a place for each voter.
 #[derive(Drop)]
@@ -157,17 +167,27 @@ impl ClientState {
     }
 
     /// A new request, of this quorum, under the next stamp.
-    pub fn begin(&mut self, quorum: &QSet) -> Messages
-        requires clock { self.old.clock < 2 ^ 63 }
-        ensures state { self.new ≡ (asked self.old quorum.now).state }
-        ensures out { result.items ≡ (asked self.old quorum.now).out }
+    #[tactic(auto, unfolding(crate::specs::Steps::ask))]
+    pub fn ask(&mut self, quorum: &QSet) -> Result<Reply, ClientFault>
+        requires few { self.old.limit < 2 ^ 63 }
+        ensures asked { IfOk result (λ r. ask self.old quorum.now ≡ Ok (record { out = r.out.items; seen = r.seen; state = self.new })) }
+        ensures refused { IfErr result (λ fault. (ask self.old quorum.now ≡ Err fault) × (self.new ≡ self.old)) }
     {
+        if self.phase != Phase::Idle {
+            return Err(ClientFault::Busy);
+        }
+        if self.clock >= self.limit {
+            return Err(ClientFault::StampsSpent);
+        }
         self.clear();
         self.clock += 1;
         self.stamp = self.clock;
         self.phase = Phase::Asking;
         self.quorum = quorum.members();
-        self.tell_members(VoterBody::Request { stamp: self.stamp })
+        Ok(Reply {
+            out: self.tell_members(VoterBody::Request { stamp: self.stamp }),
+            seen: Seen::Nothing,
+        })
     }
 
     /// Gives a vote back, if it is held.
@@ -289,30 +309,42 @@ impl ClientState {
         }
     }
 
-    /// A message comes.
-    #[tactic(auto, unfolding(crate::specs::Steps::take))]
-    pub fn take(&mut self, message: &ToClient, out: &mut Messages) -> Seen
-        requires voter { message.now.voter < 64 }
+    fn take_body(&mut self, voter: u8, body: ClientBody, out: &mut Messages) -> Seen
+        requires voter { voter < 64 }
         requires voters { AllByRecursion (λ v. v < 64) self.old.quorum.items }
         requires apart { IsDistinct eqb self.old.quorum.items }
         requires room { out.old.items ≡ [] }
         requires few { array_vec_len self.old.quorum ≤ 64 }
-        ensures state { self.new ≡ (take self.old message.now).state }
-        ensures out { out.new.items ≡ (take self.old message.now).out }
-        ensures seen { result ≡ (take self.old message.now).seen }
+        ensures state { self.new ≡ (take_body self.old voter body).state }
+        ensures out { out.new.items ≡ (take_body self.old voter body).out }
+        ensures seen { result ≡ (take_body self.old voter body).seen }
     {
-        self.clock = self.clock.max(message.seen);
-        match message.body {
-            ClientBody::Locked { stamp, grant } => self.locked(message.voter, stamp, grant, out),
+        match body {
+            ClientBody::Locked { stamp, grant } => self.locked(voter, stamp, grant, out),
             ClientBody::Fail { stamp } => {
-                self.failed(message.voter, stamp, out);
+                self.failed(voter, stamp, out);
                 Seen::Nothing
             }
             ClientBody::Inquire { grant } => {
-                self.inquired(message.voter, grant, out);
+                self.inquired(voter, grant, out);
                 Seen::Nothing
             }
         }
+    }
+
+    /// A message comes.
+    #[tactic(auto, unfolding(crate::specs::Steps::take))]
+    pub fn take(&mut self, message: &ToClient) -> Reply
+        requires voter { message.now.voter < 64 }
+        requires voters { AllByRecursion (λ v. v < 64) self.old.quorum.items }
+        requires apart { IsDistinct eqb self.old.quorum.items }
+        requires few { array_vec_len self.old.quorum ≤ 64 }
+        ensures { take self.old message.now ≡ record { out = result.out.items; seen = result.seen; state = self.new } }
+    {
+        self.clock = self.clock.max(message.seen);
+        let mut out = ArrayVec::new();
+        let seen = self.take_body(message.voter, message.body, &mut out);
+        Reply { out, seen }
     }
 
     /// Whether a message is a LOCKED that counts.
@@ -330,15 +362,40 @@ impl ClientState {
     }
 
     /// The request is over: RELEASE to each member.
-    pub fn release(&mut self) -> Messages
+    fn release(&mut self, seen: Seen) -> Reply
         requires few { array_vec_len self.old.quorum ≤ 64 }
-        ensures state { self.new ≡ (released self.old Seen.Nothing).state }
-        ensures out { result.items ≡ (released self.old Seen.Nothing).out }
+        ensures { released self.old seen ≡ record { out = result.out.items; seen = result.seen; state = self.new } }
     {
         let out = self.tell_members(VoterBody::Release { stamp: self.stamp });
         self.clear();
         self.phase = Phase::Idle;
-        out
+        Reply { out, seen }
+    }
+
+    /// Leaves, from inside.
+    #[tactic(auto, unfolding(crate::specs::Steps::leave))]
+    pub fn leave(&mut self) -> Result<Reply, ClientFault>
+        requires few { array_vec_len self.old.quorum ≤ 64 }
+        ensures left { IfOk result (λ r. leave self.old ≡ Ok (record { out = r.out.items; seen = r.seen; state = self.new })) }
+        ensures refused { IfErr result (λ fault. (leave self.old ≡ Err fault) × (self.new ≡ self.old)) }
+    {
+        if self.phase != Phase::Inside {
+            return Err(ClientFault::NotInside);
+        }
+        Ok(self.release(Seen::Left))
+    }
+
+    /// Gives the request up, while asking.
+    #[tactic(auto, unfolding(crate::specs::Steps::give_up))]
+    pub fn give_up(&mut self) -> Result<Reply, ClientFault>
+        requires few { array_vec_len self.old.quorum ≤ 64 }
+        ensures given_up { IfOk result (λ r. give_up self.old ≡ Ok (record { out = r.out.items; seen = r.seen; state = self.new })) }
+        ensures refused { IfErr result (λ fault. (give_up self.old ≡ Err fault) × (self.new ≡ self.old)) }
+    {
+        if self.phase != Phase::Asking {
+            return Err(ClientFault::NotAsking);
+        }
+        Ok(self.release(Seen::Nothing))
     }
 
     fn remind_member(&self, voter: u8, out: &mut Reminders)

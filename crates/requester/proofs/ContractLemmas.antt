@@ -1,0 +1,257 @@
+-- The contract of a client.
+use Rattle.std.proofs.Common.{◌≡◌, ◌≢◌, ℕ, ◌+◌, ◌<◌, ◌≤◌, Bool, true, false, ◌&&◌, not, ltb, eqb, List, [], ◌∷◌, ◌++◌, refl, sym, ap, subst, ◌∙◌, ◌⊎◌, inl, inr, arith, Result, Ok, Err}
+use Rattle.std.specs.Prelude.{◌==◌}
+use Rattle.std.specs.List.{AllByRecursion}
+use Rattle.std.proofs.lemmas.Bool.{cases_eq}
+use Rattle.std.proofs.lemmas.Bool.Decides.{nat_tests}
+use Rattle.message.specs.declared.message.ToVoter.{ToVoter}
+use Rattle.message.specs.declared.message.ToClient.{ToClient}
+use Rattle.message.specs.declared.message.VoterBody.{VoterBody}
+use Rattle.message.specs.declared.message.VoterBody.TheVariants as asks
+use Rattle.message.specs.declared.message.ClientBody.{ClientBody}
+use Rattle.message.specs.declared.message.ClientBody.TheVariants as tells
+use Rattle.requester.specs.declared.state.Phase.{Phase}
+use Rattle.requester.specs.declared.state.Phase.TheVariants.{Idle, Asking, Inside}
+use Rattle.requester.specs.declared.state.Seen.{Seen}
+use Rattle.requester.specs.declared.state.Seen.TheVariants.{Nothing, Entered, Left}
+use Rattle.requester.specs.declared.state.ClientState.{ClientState}
+use Rattle.requester.specs.Words.{is_idle, is_asking, is_inside, members, is_current, held_of, holds, holds_under, is_covered, last_of}
+use Rattle.requester.specs.Soundness.{IsSound}
+use Rattle.requester.specs.RequesterContract.{Accepts, IsLater, IsLive, IsLocked, Locks, Sees, KeepsQuorum, Says, AllSay, MeetsContract, Repeats, AllRepeat}
+use Rattle.requester.specs.Steps.{Outcome, silent, cleared, begun, asked, ask, tell, is_fresh, hold, enter_if, locked, locked_by, failed, failed_by, inquire, inquired, inquired_by, see, take_body, take, released, leave, give_up, Cause, Asks, Takes, Leaves, GivesUp, step, remind, remind_in, remind_by, remind_member}
+use Rattle.requester.proofs.Members.{clash, both, all_weaker, all_told, all_told_each, nothing_at}
+use Rattle.requester.proofs.Giving.{GivesBack, IsGiving, Kept, Given, gives_nothing, gives_one}
+use Rattle.requester.proofs.SoundSteps.{Counts, counts, current_busy, holds_more, not_inside, gives-failed, asking_outside, asking_failed, sound-see, same_Ok, ask_done, leave_done, give_up_done}
+
+-- Steps that give votes back
+
+under : (x : ClientState) (v g : ℕ) → holds_under x v g ≡ true → (holds x v ≡ true) × (held_of x v ≡ g)
+under x v g e = let p = both (holds x v) (held_of x v == g) e in (p.0, grind (arith, nat_tests))
+
+under_of : (x : ClientState) (v g : ℕ) → holds x v ≡ true → held_of x v ≡ g → holds_under x v g ≡ true
+under_of x v g h e = grind (arith, nat_tests)
+
+same_under : (x y : ClientState) (v g : ℕ) → held_of y v ≡ held_of x v → holds_under y v g ≡ true → holds_under x v g ≡ true
+same_under x y v g same h = ap (λ n. ltb 0 n && eqb n g) (sym same) ∙ h
+
+given_free : (x y : ClientState) (v : ℕ) → Given x y v → holds y v ≡ false
+given_free x y v g = ap (ltb 0) g.gone
+
+says_given : (x : ClientState) (cause : Cause) (y : ClientState) (m : ToVoter) → IsGiving x y m → (m.client ≡ x.id) × Says x cause y m.voter m.body
+says_given x cause y m g = (
+  g.client,
+  subst (λ b. Says x cause y m.voter b) (sym g.body) (sym g.vote.last, under_of x m.voter (held_of x m.voter) g.vote.was refl, given_free x y m.voter g.vote),
+)
+
+last_rises : (x y : ClientState) (v : ℕ) → IsSound x → Given x y v → last_of x v ≤ last_of y v
+last_rises x y v s g = let fresh = (s.held v g.was).fresh in let last = g.last in omega arith
+
+pub met_by_giving : (x : ClientState) (m : ToClient) (o : Outcome) → IsSound x → GivesBack x o → MeetsContract x (Takes m) o
+met_by_giving x m o s k = record {
+  id = k.id;
+  limit = k.limit;
+  later = record {
+    stamp = let stamp = k.stamp in omega arith;
+    last = λ v. elim (k.votes v) [
+      | inl kept ↦ let last = kept.last in omega arith
+      | inr given ↦ last_rises x o.state v s given.0
+    ];
+    idle = λ _ idle. ap is_idle k.phase ∙ idle;
+  };
+  held = λ v g h. elim (k.votes v) [
+    | inl kept ↦ inl (same_under x o.state v g kept.held h, k.stamp)
+    | inr given ↦ clash (holds o.state v) (under o.state v g h).0 (given_free x o.state v given.0)
+  ];
+  last = λ v. elim (k.votes v) [
+    | inl kept ↦ inl kept.last
+    | inr given ↦ inr (under_of x v (last_of o.state v) given.0.was (sym given.0.last))
+  ];
+  out = all_weaker (IsGiving x o.state) (λ n. (n.client ≡ x.id) × Says x (Takes m) o.state n.voter n.body) (says_given x (Takes m) o.state) o.out k.out;
+  seen = subst (λ (seen : Seen). Sees x.phase seen o.state.phase) (sym k.seen) (ap is_inside (sym k.phase));
+  quorum = (ap (λ q. q.items) k.quorum, ap is_idle k.phase);
+}
+
+-- a step after which the same is held, and nothing is sent
+met_silent : (x : ClientState) (m : ToClient) → IsSound x → MeetsContract x (Takes m) (silent x)
+met_silent x m s = met_by_giving x m (silent x) s (gives_nothing x s.places)
+
+-- LOCKED
+
+not_current : (p : Phase) (s t : ℕ) → (not (is_idle p) && s == t) ≡ false → (is_idle p ≡ true) ⊎ (s ≢ t)
+not_current Idle s t e = inl refl
+not_current Asking s t e = inr (λ same. grind (arith, nat_tests))
+not_current Inside s t e = inr (λ same. grind (arith, nat_tests))
+
+met-enter : (b : Bool) (x : ClientState) (m : ToClient) (t g : ℕ) → m.body ≡ tells.Locked t g → IsSound x → Counts x m.voter g → is_idle x.phase ≡ false → t ≡ x.stamp
+    → MeetsContract x (Takes m) (enter_if b (hold x m.voter g))
+met-enter b x m t g body s c busy current = elim b as (λ b. MeetsContract x (Takes m) (enter_if b (hold x m.voter g))) [
+  | true ↦ record {
+    id = refl;
+    limit = refl;
+    later = record { stamp = omega arith; last = λ v. omega arith; idle = λ _ idle. clash (is_idle x.phase) idle busy };
+    held = held Inside refl;
+    last = λ v. inl refl;
+    out = tt;
+    seen = (not_inside x m.voter g s c, refl);
+    quorum = (refl, sym busy);
+  }
+  | false ↦ record {
+    id = refl;
+    limit = refl;
+    later = record { stamp = omega arith; last = λ v. omega arith; idle = λ _ idle. idle };
+    held = held x.phase busy;
+    last = λ v. inl refl;
+    out = tt;
+    seen = refl;
+    quorum = (refl, refl);
+  }
+]
+  where
+    locks : (v h : ℕ) → v ≡ m.voter → h ≡ g → IsLocked (Takes m) v x.stamp h
+    locks v h voter grant = subst (λ b. Locks m.voter b v x.stamp h) (sym body) (voter, sym current, grant)
+    held : (p : Phase) → is_idle p ≡ false → (v h : ℕ) → holds_under (hold x m.voter g) v h ≡ true
+        → ((holds_under x v h ≡ true) × (x.stamp ≡ x.stamp)) ⊎ (IsLocked (Takes m) v x.stamp h × IsLive (record (hold x m.voter g) { phase = p }) v x.stamp h)
+    held p runs v h e = elim (cases_eq v m.voter) [
+      | inl same ↦
+          let more = holds_more x m.voter g s.places c.place in
+          let now : h ≡ g = sym (under (hold x m.voter g) v h e).1 ∙ ap (held_of (hold x m.voter g)) same ∙ more.held in
+          let newer = c.newer in
+          let last : last_of x v ≡ last_of x m.voter = ap (last_of x) same in
+          inr (locks v h same now, record { busy = runs; current = refl; fresh = omega arith })
+      | inr other ↦
+          let more = holds_more x m.voter g s.places c.place in
+          inl (same_under x (hold x m.voter g) v h (more.other_held v other) e, refl)
+    ]
+
+met-locked_by : (current fresh : Bool) (x : ClientState) (m : ToClient) (t g : ℕ) → m.body ≡ tells.Locked t g → IsSound x → is_current x t ≡ current → is_fresh x m.voter g ≡ fresh
+    → MeetsContract x (Takes m) (locked_by current fresh x m.voter t g)
+met-locked_by false fresh x m t g body s c f = record {
+  id = refl;
+  limit = refl;
+  later = record { stamp = omega arith; last = λ v. omega arith; idle = λ _ idle. idle };
+  held = λ v h e. inl (e, refl);
+  last = λ v. inl refl;
+  out = ((refl, inr ((g, subst (λ b. Locks m.voter b m.voter t g) (sym body) (refl, refl, refl)), not_current x.phase t x.stamp c)), tt);
+  seen = refl;
+  quorum = (refl, refl);
+}
+met-locked_by true false x m t g body s c f = met_silent x m s
+met-locked_by true true x m t g body s c f = let k = current_busy x t c in met-enter _ x m t g body s (counts x m.voter g s f) k.0 k.1
+
+-- FAIL and INQUIRE
+
+met-failed_by : (b : Bool) (x : ClientState) (m : ToClient) → IsSound x → MeetsContract x (Takes m) (failed_by b x m.voter)
+met-failed_by false x m s = met_silent x m s
+met-failed_by true x m s = met_by_giving x m (failed_by true x m.voter) s (gives-failed x m.voter s.places)
+
+met-inquired_by : (b hindered : Bool) (x : ClientState) (m : ToClient) → IsSound x → MeetsContract x (Takes m) (inquired_by b hindered x m.voter)
+met-inquired_by false hindered x m s = met_silent x m s
+met-inquired_by true false x m s = record {
+  id = refl;
+  limit = refl;
+  later = record { stamp = omega arith; last = λ v. omega arith; idle = λ _ idle. idle };
+  held = λ v h e. inl (e, refl);
+  last = λ v. inl refl;
+  out = tt;
+  seen = refl;
+  quorum = (refl, refl);
+}
+met-inquired_by true true x m s = met_by_giving x m (inquired_by true true x m.voter) s (gives_one x m.voter s.places)
+
+-- Any message
+
+met-body : (x : ClientState) (m : ToClient) (b : ClientBody) → m.body ≡ b → IsSound x → MeetsContract x (Takes m) (take_body x m.voter b)
+unfolding locked failed inquired
+met-body x m (tells.Locked t g) body s = met-locked_by _ _ x m t g body s refl refl
+met-body x m (tells.Fail t) body s = met-failed_by _ x m s
+met-body x m (tells.Inquire g) body s = met-inquired_by _ _ x m s
+
+met-take : (x : ClientState) (m : ToClient) → IsSound x → MeetsContract x (Takes m) (take x m)
+unfolding take
+met-take x m s =
+    let y = see x m.seen in
+    let k = met-body y m m.body refl (sound-see x m.seen s) in
+    let l = k.later in
+    record {
+      id = k.id;
+      limit = k.limit;
+      later = record { stamp = l.stamp; last = l.last; idle = l.idle };
+      held = k.held;
+      last = k.last;
+      out = all_weaker (λ n. (n.client ≡ y.id) × Says y (Takes m) (take_body y m.voter m.body).state n.voter n.body)
+          (λ n. (n.client ≡ x.id) × Says x (Takes m) (take_body y m.voter m.body).state n.voter n.body)
+          (λ n p. (p.0, says_seen (take_body y m.voter m.body).state n.voter n.body p.1)) (take_body y m.voter m.body).out k.out;
+      seen = k.seen;
+      quorum = k.quorum;
+    }
+  where
+    says_seen : (z : ClientState) (v : ℕ) (b : VoterBody) → Says (see x m.seen) (Takes m) z v b → Says x (Takes m) z v b
+    says_seen z v (asks.Request t) p = p
+    says_seen z v (asks.Relinquish g) p = p
+    says_seen z v (asks.Release t) p = p
+
+-- Calls
+
+free_cleared : {A : Type 0} (x : ClientState) (v g : ℕ) → holds_under (cleared x) v g ≡ true → A
+free_cleared x v g h = clash (holds (cleared x) v) (under (cleared x) v g h).0 (ap (ltb 0) (nothing_at 64 v))
+
+idle_outside : (p : Phase) → is_idle p ≡ true → is_inside p ≡ false
+idle_outside Idle e = refl
+idle_outside Asking e = refl
+idle_outside Inside e = sym e
+
+met-asked : (x : ClientState) (q : List ℕ) → IsSound x → is_idle x.phase ≡ true → MeetsContract x (Asks q) (asked x q)
+met-asked x q s idle =
+    let clock = s.clock in
+    record {
+      id = refl;
+      limit = refl;
+      later = record { stamp = omega arith; last = λ v. omega arith; idle = λ same _. absurd (omega arith) };
+      held = λ v g h. free_cleared x v g h;
+      last = λ v. inl refl;
+      out = all_told (λ m. (m.client ≡ x.id) × Says x (Asks q) (begun x q) m.voter m.body) (λ v. tell (begun x q) v (asks.Request (x.clock + 1))) q (λ v _. (refl, refl));
+      seen = idle_outside x.phase idle;
+      quorum = refl;
+    }
+
+-- the request is over
+met-released : (x : ClientState) (seen : Seen) (cause : Cause) → Sees x.phase seen Idle → KeepsQuorum x cause (released x seen).state → MeetsContract x cause (released x seen)
+met-released x seen cause sees keeps =
+    let y = (released x seen).state in
+    record {
+      id = refl;
+      limit = refl;
+      later = record { stamp = omega arith; last = λ v. omega arith; idle = λ _ _. refl };
+      held = λ v g h. free_cleared x v g h;
+      last = λ v. inl refl;
+      out = all_told (λ m. (m.client ≡ x.id) × Says x cause y m.voter m.body) (λ v. tell x v (asks.Release x.stamp)) (members x) (λ v _. (refl, inl (refl, refl)));
+      seen = sees;
+      quorum = keeps;
+    }
+
+pub met-step : (x : ClientState) (cause : Cause) (o : Outcome) → IsSound x → Accepts x cause → step x cause ≡ Ok o → MeetsContract x cause o
+unfolding step
+met-step x (Asks q) o s accepts e = let k = ask_done x q o e in subst (λ (p : Outcome). MeetsContract x (Asks q) p) k.2 (met-asked x q s k.0)
+met-step x (Takes m) o s accepts e = subst (λ (p : Outcome). MeetsContract x (Takes m) p) (same_Ok (take x m) o e) (met-take x m s)
+met-step x Leaves o s accepts e =
+    let k = leave_done x o e in
+    subst (λ (p : Outcome). MeetsContract x Leaves p) k.1 (met-released x Left Leaves (k.0, refl) (refl, refl))
+met-step x GivesUp o s accepts e =
+    let k = give_up_done x o e in
+    subst (λ (p : Outcome). MeetsContract x GivesUp p) k.1 (met-released x Nothing GivesUp (asking_outside x.phase k.0) (refl, refl))
+
+-- Reminders
+
+repeats_by : (held given : Bool) (x : ClientState) (v : ℕ) → AllRepeat x (remind_by held given x v)
+repeats_by true given x v = tt
+repeats_by false false x v = ((refl, refl), tt)
+repeats_by false true x v = ((refl, refl), ((refl, refl), tt))
+
+repeats_in : (p : Phase) (x : ClientState) → AllRepeat x (remind_in p x)
+repeats_in Idle x = tt
+repeats_in Asking x = all_told_each (λ m. (m.client ≡ x.id) × Repeats x m.voter m.body) (remind_member x) (members x) (λ v _. repeats_by _ _ x v)
+repeats_in Inside x = tt
+
+pub reminders_repeat : (x : ClientState) → AllRepeat x (remind x)
+unfolding remind
+reminders_repeat x = repeats_in x.phase x

@@ -1,0 +1,90 @@
+-- Facts on the members of a quorum, and on lists with a place for each voter.
+use Rattle.std.proofs.Common.{◌≡◌, ◌≢◌, ℕ, zero, suc, ◌+◌, ◌<◌, ◌≤◌, Bool, true, false, ◌&&◌, ◌||◌, cond, not, map, eqb, ltb, List, [], ◌∷◌, ◌++◌, length, get_or, set, replicate, refl, sym, ap, subst, ◌∙◌, ◌⊎◌, inl, inr, arith}
+use Rattle.std.specs.List.{AllByRecursion, IsDistinct, list_all, list_any, flat_map}
+use Rattle.std.proofs.lemmas.Bool.{false≢true, cases_lt, cases_eq, ne_eqb}
+use Rattle.std.proofs.lemmas.Bool.Decides.{nat_tests}
+use Rattle.std.proofs.lemmas.Map.Keys.{IsDistinct-cons}
+use Rattle.std.proofs.lemmas.List.{get_or_past, get_or-set_same, get_or-set_other}
+use Rattle.quorum_set.specs.Sets.{has, Ascends, IsSet}
+use Rattle.quorum_set.proofs.SetLemmas.{Ascends-lower, has-above, length-Ascends}
+
+pub clash : {A : Type 0} → (b : Bool) → b ≡ true → b ≡ false → A
+clash b t f = absurd (false≢true (sym f ∙ t))
+
+pub both : (a b : Bool) → a && b ≡ true → (a ≡ true) × (b ≡ true)
+both a b h = (grind (arith, nat_tests), grind (arith, nat_tests))
+
+pub negated : (a : Bool) → not a ≡ true → a ≡ false
+negated a h = grind (arith, nat_tests)
+
+-- Sets
+
+pub voters_below : (low : ℕ) (s : List ℕ) → Ascends low 64 s → AllByRecursion (λ v. v < 64) s
+voters_below low [] h = tt
+voters_below low (v ∷ vs) h = (h.1, voters_below (v + 1) vs h.2)
+
+all_other : (low v : ℕ) (s : List ℕ) → Ascends low 64 s → v < low → AllByRecursion (λ u. eqb v u ≡ false) s
+all_other low v [] h lt = tt
+all_other low v (u ∷ us) h lt =
+    let differ : v ≡ u → ⊥ = λ e. omega arith in
+    (ne_eqb v u differ, all_other (u + 1) v us h.2 (omega arith))
+
+pub voters_apart : (low : ℕ) (s : List ℕ) → Ascends low 64 s → IsDistinct eqb s
+unfolding IsDistinct
+voters_apart low [] h = tt
+voters_apart low (v ∷ vs) h = IsDistinct-cons eqb v vs (all_other (v + 1) v vs h.2 (omega arith)) (voters_apart (v + 1) vs h.2)
+
+pub few_voters : (s : List ℕ) → IsSet s → length s ≤ 64
+few_voters s h = let most = length-Ascends 0 64 s (omega arith) h in omega arith
+
+pub member_below : (s : List ℕ) (v : ℕ) → IsSet s → has s v ≡ true → v < 64
+member_below s v h member = elim (cases_lt v 64) [
+  | inl less ↦ less
+  | inr above ↦ clash (has s v) member (has-above 0 64 s v h above)
+]
+
+pub all_any : (p : ℕ → Bool) (v : ℕ) (vs : List ℕ) → list_all p vs ≡ true → has vs v ≡ true → p v ≡ true
+all_any p v [] a b = absurd (false≢true b)
+all_any p v (u ∷ us) a b =
+    let parts = both (p u) (list_all p us) a in
+    elim (eqb u v) as (λ t. eqb u v ≡ t → (t || has us v) ≡ true → p v ≡ true) [
+      | true ↦ λ e _. let same : u ≡ v = grind (arith, nat_tests) in subst (λ n. p n ≡ true) same parts.0
+      | false ↦ λ _ rest. all_any p v us parts.1 rest
+    ] refl b
+
+-- Lists of messages
+
+pub all_append : {A : Type 0} (P : A → Type 0) (xs ys : List A) → AllByRecursion P xs → AllByRecursion P ys → AllByRecursion P (xs ++ ys)
+all_append P [] ys h k = k
+all_append P (x ∷ xs) ys h k = (h.0, all_append P xs ys h.1 k)
+
+pub all_weaker : {A : Type 0} (P Q : A → Type 0) → ((x : A) → P x → Q x) → (xs : List A) → AllByRecursion P xs → AllByRecursion Q xs
+all_weaker P Q f [] h = tt
+all_weaker P Q f (x ∷ xs) h = (f x h.0, all_weaker P Q f xs h.1)
+
+-- what is said of each member
+pub all_told : {A : Type 0} (P : A → Type 0) (f : ℕ → A) (vs : List ℕ) → ((v : ℕ) → has vs v ≡ true → P (f v)) → AllByRecursion P (map f vs)
+all_told P f [] h = tt
+all_told P f (v ∷ vs) h = (h v (grind (arith, nat_tests)), all_told P f vs (λ u member. h u (grind (arith, nat_tests))))
+
+pub all_told_each : {A : Type 0} (P : A → Type 0) (f : ℕ → List A) (vs : List ℕ) → ((v : ℕ) → has vs v ≡ true → AllByRecursion P (f v)) → AllByRecursion P (flat_map f vs)
+all_told_each P f [] h = tt
+all_told_each P f (v ∷ vs) h = all_append P (f v) (flat_map f vs) (h v (grind (arith, nat_tests))) (all_told_each P f vs (λ u member. h u (grind (arith, nat_tests))))
+
+-- Places
+
+pub nothing_at : (n v : ℕ) → get_or {A = ℕ} (replicate n 0) v 0 ≡ 0
+nothing_at zero v = refl
+nothing_at (suc n) zero = refl
+nothing_at (suc n) (suc v) = nothing_at n v
+
+pub unmarked_at : (n v : ℕ) → get_or (replicate n false) v false ≡ false
+unmarked_at zero v = refl
+unmarked_at (suc n) zero = refl
+unmarked_at (suc n) (suc v) = unmarked_at n v
+
+pub some_place : (xs : List ℕ) (v : ℕ) → ltb 0 (get_or xs v 0) ≡ true → v < length xs
+some_place xs v h = elim (cases_lt v (length xs)) [
+  | inl less ↦ less
+  | inr past ↦ let none = get_or_past xs v 0 past in clash (ltb 0 (get_or xs v 0)) h (ap (ltb 0) none)
+]

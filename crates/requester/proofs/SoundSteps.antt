@@ -1,0 +1,432 @@
+-- Every step keeps what is so of every client.
+use Rattle.std.proofs.Common.{◌≡◌, ◌≢◌, ℕ, ◌+◌, ◌<◌, ◌≤◌, ◌^◌, Bool, true, false, ◌&&◌, not, ltb, nat_lt, List, [], ◌∷◌, length, filter, get_or, set, max, refl, sym, ap, subst, ◌∙◌, ◌⊎◌, inl, inr, arith, Result, Ok, Err}
+use Rattle.std.specs.Prelude.{◌==◌}
+use Rattle.std.specs.List.{AllByRecursion}
+use Rattle.std.specs.Result.{is_err, result_ok}
+use Rattle.std.proofs.lemmas.Bool.{cases_eq}
+use Rattle.std.proofs.lemmas.Option.{same_Some}
+use Rattle.std.proofs.lemmas.Bool.Decides.{nat_tests}
+use Rattle.std.proofs.lemmas.List.{get_or-set_other, get_or-set_same, length-set}
+use Rattle.quorum_set.specs.Sets.{has, IsSet}
+use Rattle.message.specs.declared.message.ToClient.{ToClient}
+use Rattle.message.specs.declared.message.ClientBody.{ClientBody}
+use Rattle.message.specs.declared.message.ClientBody.TheVariants as tells
+use Rattle.requester.specs.declared.fault.ClientFault.{ClientFault}
+use Rattle.requester.specs.declared.state.Phase.{Phase}
+use Rattle.requester.specs.declared.state.Phase.TheVariants.{Idle, Asking, Inside}
+use Rattle.requester.specs.declared.state.Seen.{Seen}
+use Rattle.requester.specs.declared.state.Seen.TheVariants.{Nothing, Left}
+use Rattle.requester.specs.declared.state.ClientState.{ClientState}
+use Rattle.requester.specs.Words.{is_idle, is_asking, is_inside, members, is_member, is_current, held_of, holds, holds_under, is_covered, last_of, is_relinquished, is_inquired, is_hindered, is_spent}
+use Rattle.requester.specs.Soundness.{IsHeldWell, HasPlaces, IsSound}
+use Rattle.requester.specs.RequesterContract.{Accepts}
+use Rattle.requester.specs.Steps.{Outcome, silent, cleared, begun, asked, ask, ask_in, ask_unless, relinquish_each, is_fresh, hold, enter_if, locked, locked_by, fail, failed, failed_by, inquire, inquired, inquired_by, see, take_body, take, released, leave, leave_in, give_up, give_up_in, Cause, Asks, Takes, Leaves, GivesUp, step, start}
+use Rattle.requester.proofs.Members.{clash, both, all_weaker, negated, member_below, all_any, nothing_at, unmarked_at}
+use Rattle.requester.proofs.Giving.{GivesBack, IsGiving, Kept, Given, gives_nothing, gives_one, gives_each}
+
+-- Asking is neither idle nor inside.
+
+pub asking_busy : (p : Phase) → is_asking p ≡ true → is_idle p ≡ false
+asking_busy Idle e = sym e
+asking_busy Asking e = refl
+asking_busy Inside e = refl
+
+pub asking_outside : (p : Phase) → is_asking p ≡ true → is_inside p ≡ false
+asking_outside Idle e = refl
+asking_outside Asking e = refl
+asking_outside Inside e = sym e
+
+-- Giving back, while not inside
+
+sound_held : (x : ClientState) (o : Outcome) → IsSound x → GivesBack x o → (v : ℕ) → Kept x o.state v → holds o.state v ≡ true → IsHeldWell o.state v
+sound_held x o s k v kept h =
+    let held = kept.held in
+    let last = kept.last in
+    let w = s.held v (ap (ltb 0) (sym held) ∙ h) in
+    let fresh = w.fresh in
+    record {
+      busy = ap is_idle k.phase ∙ w.busy;
+      member = ap (λ q. has q.items v) k.quorum ∙ w.member;
+      fresh = omega arith;
+    }
+
+given_gone : {A : Type 0} (x y : ClientState) (v : ℕ) → Given x y v → holds y v ≡ true → A
+given_gone x y v g h = clash (holds y v) h (ap (ltb 0) g.gone)
+
+pub sound_given : (x : ClientState) (o : Outcome) → IsSound x → is_inside x.phase ≡ false → GivesBack x o → IsSound o.state
+sound_given x o s outside k =
+    let id = k.id in
+    let limit = k.limit in
+    let clock = k.clock in
+    let stamp = k.stamp in
+    let s_id = s.id in
+    let s_some = s.some in
+    let s_limit = s.limit in
+    let s_stamp = s.stamp in
+    let s_clock = s.clock in
+    let before : is_idle o.state.phase ≡ false → is_idle x.phase ≡ false = λ busy. ap is_idle (sym k.phase) ∙ busy in
+    record {
+      id = omega arith;
+      some = omega arith;
+      limit = omega arith;
+      places = k.places;
+      stamp = omega arith;
+      clock = omega arith;
+      stamped = λ busy. let some = s.stamped (before busy) in omega arith;
+      quorum = subst (λ q. IsSet q.items) (sym k.quorum) s.quorum;
+      asked = λ busy. subst (λ q. 1 ≤ length q.items) (sym k.quorum) (s.asked (before busy));
+      held = λ v h. elim (k.votes v) [
+        | inl kept ↦ sound_held x o s k v kept h
+        | inr given ↦ given_gone x o.state v given.0 h
+      ];
+      inside = λ inside. clash (is_inside x.phase) (ap is_inside (sym k.phase) ∙ inside) outside;
+      inquired = λ v h. elim (k.votes v) [
+        | inl kept ↦ ap (ltb 0) kept.held ∙ s.inquired v (sym kept.inquired ∙ h)
+        | inr given ↦ clash (is_inquired o.state v) h given.0.inquired
+      ];
+      relinquished = λ v h. elim (k.votes v) [
+        | inl kept ↦ let last = kept.last in let some = s.relinquished v (sym kept.relinquished ∙ h) in omega arith
+        | inr given ↦ let last = given.0.last in let some : 1 ≤ held_of x v = grind (arith, nat_tests) in omega arith
+      ];
+    }
+
+-- LOCKED
+
+pub record Counts (x : ClientState) (v g : ℕ) : Type 0 where
+  pub member : is_member x v ≡ true
+  pub free : holds x v ≡ false
+  pub newer : last_of x v < g
+  pub place : v < 64
+
+pub counts : (x : ClientState) (v g : ℕ) → IsSound x → is_fresh x v g ≡ true → Counts x v g
+counts x v g s e =
+    let p = both (is_member x v && not (holds x v)) (nat_lt (last_of x v) g) e in
+    let q = both (is_member x v) (not (holds x v)) p.0 in
+    record {
+      member = q.0;
+      free = negated (holds x v) q.1;
+      newer = grind (arith, nat_tests);
+      place = member_below (members x) v s.quorum q.0;
+    }
+
+pub current_busy : (x : ClientState) (s : ℕ) → is_current x s ≡ true → (is_idle x.phase ≡ false) × (s ≡ x.stamp)
+current_busy x s e =
+    let p = both (not (is_idle x.phase)) (s == x.stamp) e in
+    (negated (is_idle x.phase) p.0, grind (arith, nat_tests))
+
+-- what is held besides
+pub record HoldsMore (x y : ClientState) (v g : ℕ) : Type 0 where
+  pub held : held_of y v ≡ g
+  pub inquired : is_inquired y v ≡ false
+  pub relinquished : is_relinquished y v ≡ false
+  pub other_held : (u : ℕ) → u ≢ v → held_of y u ≡ held_of x u
+  pub other_inquired : (u : ℕ) → u ≢ v → is_inquired y u ≡ is_inquired x u
+  pub other_relinquished : (u : ℕ) → u ≢ v → is_relinquished y u ≡ is_relinquished x u
+
+pub holds_more : (x : ClientState) (v g : ℕ) → HasPlaces x → v < 64 → HoldsMore x (hold x v g) v g
+holds_more x v g places lt =
+    let h = places.held in
+    let i = places.inquired in
+    let r = places.relinquished in
+    record {
+      held = get_or-set_same x.held v g 0 (omega arith);
+      inquired = get_or-set_same x.inquired v false false (omega arith);
+      relinquished = get_or-set_same x.relinquished v false false (omega arith);
+      other_held = λ u other. get_or-set_other x.held v u g 0 other;
+      other_inquired = λ u other. get_or-set_other x.inquired v u false false other;
+      other_relinquished = λ u other. get_or-set_other x.relinquished v u false false other;
+    }
+
+places-hold : (x : ClientState) (v g : ℕ) → HasPlaces x → HasPlaces (hold x v g)
+places-hold x v g places = record {
+  held = length-set x.held v g ∙ places.held;
+  last = places.last;
+  failed = length-set x.failed v false ∙ places.failed;
+  relinquished = length-set x.relinquished v false ∙ places.relinquished;
+  inquired = length-set x.inquired v false ∙ places.inquired;
+}
+
+-- the phase may be another one, so long as a request runs
+held-hold : (x : ClientState) (p : Phase) (v g : ℕ) → IsSound x → Counts x v g → is_idle x.phase ≡ false → is_idle p ≡ false
+    → (u : ℕ) → holds (hold x v g) u ≡ true → IsHeldWell (record (hold x v g) { phase = p }) u
+held-hold x p v g s c busy runs u h = elim (cases_eq u v) [
+  | inl same ↦
+      let newer = c.newer in
+      let held = (holds_more x v g s.places c.place).held in
+      let there : IsHeldWell (record (hold x v g) { phase = p }) v = record { busy = runs; member = c.member; fresh = omega arith } in
+      subst (IsHeldWell (record (hold x v g) { phase = p })) (sym same) there
+  | inr other ↦
+      let held = (holds_more x v g s.places c.place).other_held u other in
+      let w = s.held u (ap (ltb 0) (sym held) ∙ h) in
+      let fresh = w.fresh in
+      record { busy = runs; member = w.member; fresh = omega arith }
+]
+
+sound-hold : (x : ClientState) (p : Phase) (v g : ℕ) → IsSound x → Counts x v g → is_idle x.phase ≡ false → is_idle p ≡ false
+    → (is_inside p ≡ true → is_covered (hold x v g) ≡ true) → IsSound (record (hold x v g) { phase = p })
+sound-hold x p v g s c busy runs inside =
+    let m = holds_more x v g s.places c.place in
+    let y = hold x v g in
+    record {
+      id = s.id;
+      some = s.some;
+      limit = s.limit;
+      places = let k = places-hold x v g s.places in record { held = k.held; last = k.last; failed = k.failed; relinquished = k.relinquished; inquired = k.inquired };
+      stamp = s.stamp;
+      clock = s.clock;
+      stamped = λ _. s.stamped busy;
+      quorum = s.quorum;
+      asked = λ _. s.asked busy;
+      held = held-hold x p v g s c busy runs;
+      inside = inside;
+      inquired = λ u h. elim (cases_eq u v) [
+        | inl same ↦ clash (is_inquired y v) (ap (is_inquired y) (sym same) ∙ h) m.inquired
+        | inr other ↦ ap (ltb 0) (m.other_held u other) ∙ s.inquired u (sym (m.other_inquired u other) ∙ h)
+      ];
+      relinquished = λ u h. elim (cases_eq u v) [
+        | inl same ↦ clash (is_relinquished y v) (ap (is_relinquished y) (sym same) ∙ h) m.relinquished
+        | inr other ↦ s.relinquished u (sym (m.other_relinquished u other) ∙ h)
+      ];
+    }
+
+-- who does not hold a member's vote is not inside
+pub not_inside : (x : ClientState) (v g : ℕ) → IsSound x → Counts x v g → is_inside x.phase ≡ false
+not_inside x v g s c = elim (is_inside x.phase) as (λ b. is_inside x.phase ≡ b → b ≡ false) [
+  | true ↦ λ inside. clash (holds x v) (all_any (holds x) v (members x) (s.inside inside) c.member) c.free
+  | false ↦ λ _. refl
+] refl
+
+sound-enter : (b : Bool) (x : ClientState) (v g : ℕ) → IsSound x → Counts x v g → is_idle x.phase ≡ false → is_covered (hold x v g) ≡ b → IsSound (enter_if b (hold x v g)).state
+sound-enter false x v g s c busy e = sound-hold x x.phase v g s c busy busy (λ inside. clash (is_inside x.phase) inside (not_inside x v g s c))
+sound-enter true x v g s c busy e = sound-hold x Inside v g s c busy refl (λ _. e)
+
+sound-locked_by : (current fresh : Bool) (x : ClientState) (v t g : ℕ) → IsSound x → is_current x t ≡ current → is_fresh x v g ≡ fresh → IsSound (locked_by current fresh x v t g).state
+sound-locked_by false fresh x v t g s c f = s
+sound-locked_by true false x v t g s c f = s
+sound-locked_by true true x v t g s c f = sound-enter _ x v g s (counts x v g s f) (current_busy x t c).0 refl
+
+-- FAIL and INQUIRE
+
+pub gives-failed : (x : ClientState) (v : ℕ) → HasPlaces x → GivesBack x (failed_by true x v)
+gives-failed x v places =
+    let y = fail x v in
+    let there : HasPlaces y = record {
+      held = places.held;
+      last = places.last;
+      failed = length-set x.failed v true ∙ places.failed;
+      relinquished = places.relinquished;
+      inquired = places.inquired;
+    } in
+    let k = gives_each y (filter (is_inquired y) (members y)) there in
+    let o = failed_by true x v in
+    record {
+      id = k.id;
+      limit = k.limit;
+      clock = k.clock;
+      phase = k.phase;
+      stamp = k.stamp;
+      quorum = k.quorum;
+      places = k.places;
+      seen = k.seen;
+      votes = λ u. elim (k.votes u) [
+        | inl kept ↦ inl (record { held = kept.held; last = kept.last; inquired = kept.inquired; relinquished = kept.relinquished })
+        | inr given ↦ inr (record { was = given.0.was; gone = given.0.gone; last = given.0.last; inquired = given.0.inquired }, given.1)
+      ];
+      out = all_weaker (IsGiving y o.state) (IsGiving x o.state)
+          (λ m p. let g = p.vote in record { client = p.client; vote = record { was = g.was; gone = g.gone; last = g.last; inquired = g.inquired }; body = p.body }) o.out k.out;
+    }
+
+sound-failed_by : (b : Bool) (x : ClientState) (v : ℕ) → IsSound x → (b ≡ true → is_asking x.phase ≡ true) → IsSound (failed_by b x v).state
+sound-failed_by false x v s asking = s
+sound-failed_by true x v s asking = sound_given x (failed_by true x v) s (asking_outside x.phase (asking refl)) (gives-failed x v s.places)
+
+pub asking_failed : (x : ClientState) (v t : ℕ) → (is_asking x.phase && t == x.stamp && is_member x v && not (holds x v)) ≡ true → is_asking x.phase ≡ true
+asking_failed x v t e = grind (arith, nat_tests)
+
+under_holds : (x : ClientState) (v g : ℕ) → holds_under x v g ≡ true → holds x v ≡ true
+under_holds x v g e = (both (holds x v) (held_of x v == g) e).0
+
+sound-inquire : (x : ClientState) (v : ℕ) → IsSound x → holds x v ≡ true → IsSound (inquire x v)
+sound-inquire x v s h =
+    let p = s.places in
+    record {
+      id = s.id;
+      some = s.some;
+      limit = s.limit;
+      places = record { held = p.held; last = p.last; failed = p.failed; relinquished = p.relinquished; inquired = length-set x.inquired v true ∙ p.inquired };
+      stamp = s.stamp;
+      clock = s.clock;
+      stamped = s.stamped;
+      quorum = s.quorum;
+      asked = s.asked;
+      held = λ u e. let w = s.held u e in record { busy = w.busy; member = w.member; fresh = w.fresh };
+      inside = s.inside;
+      inquired = λ u e. elim (cases_eq u v) [
+        | inl same ↦ ap (holds x) same ∙ h
+        | inr other ↦ s.inquired u (sym (get_or-set_other x.inquired v u true false other) ∙ e)
+      ];
+      relinquished = s.relinquished;
+    }
+
+sound-inquired_by : (b hindered : Bool) (x : ClientState) (v g : ℕ) → IsSound x → (is_asking x.phase && holds_under x v g) ≡ b → IsSound (inquired_by b hindered x v).state
+sound-inquired_by false hindered x v g s e = s
+sound-inquired_by true false x v g s e = sound-inquire x v s (under_holds x v g (both (is_asking x.phase) (holds_under x v g) e).1)
+sound-inquired_by true true x v g s e = sound_given x (inquired_by true true x v) s (asking_outside x.phase (both (is_asking x.phase) (holds_under x v g) e).0) (gives_one x v s.places)
+
+-- Any message
+
+sound-body : (x : ClientState) (v : ℕ) (b : ClientBody) → IsSound x → IsSound (take_body x v b).state
+unfolding locked failed inquired
+sound-body x v (tells.Locked t g) s = sound-locked_by _ _ x v t g s refl refl
+sound-body x v (tells.Fail t) s = sound-failed_by _ x v s (asking_failed x v t)
+sound-body x v (tells.Inquire g) s = sound-inquired_by _ _ x v g s refl
+
+pub sound-see : (x : ClientState) (t : ℕ) → IsSound x → IsSound (see x t)
+sound-see x t s =
+    let clock = s.clock in
+    let p = s.places in
+    record {
+      id = s.id;
+      some = s.some;
+      limit = s.limit;
+      places = record { held = p.held; last = p.last; failed = p.failed; relinquished = p.relinquished; inquired = p.inquired };
+      stamp = s.stamp;
+      clock = omega arith;
+      stamped = s.stamped;
+      quorum = s.quorum;
+      asked = s.asked;
+      held = λ u e. let w = s.held u e in record { busy = w.busy; member = w.member; fresh = w.fresh };
+      inside = s.inside;
+      inquired = s.inquired;
+      relinquished = s.relinquished;
+    }
+
+pub sound-take : (x : ClientState) (m : ToClient) → IsSound x → IsSound (take x m).state
+unfolding take
+sound-take x m s = sound-body (see x m.seen) m.voter m.body (sound-see x m.seen s)
+
+-- Calls
+
+pub places-cleared : (x : ClientState) → HasPlaces x → HasPlaces (cleared x)
+places-cleared x p = record { held = refl; last = p.last; failed = refl; relinquished = refl; inquired = refl }
+
+nothing_held : {A : Type 0} (x : ClientState) (v : ℕ) → holds (cleared x) v ≡ true → A
+nothing_held x v h = clash (holds (cleared x) v) h (ap (ltb 0) (nothing_at 64 v))
+
+nothing_marked : {A : Type 0} (x : ClientState) (v : ℕ) → is_inquired (cleared x) v ≡ true → A
+nothing_marked x v h = clash (is_inquired (cleared x) v) h (unmarked_at 64 v)
+
+sound-asked : (x : ClientState) (q : List ℕ) → IsSound x → IsSet q → 1 ≤ length q → x.clock < x.limit → IsSound (begun x q)
+sound-asked x q s set some room =
+    let p = places-cleared x s.places in
+    record {
+      id = s.id;
+      some = s.some;
+      limit = s.limit;
+      places = record { held = p.held; last = p.last; failed = p.failed; relinquished = p.relinquished; inquired = p.inquired };
+      stamp = omega arith;
+      clock = omega arith;
+      stamped = λ _. omega arith;
+      quorum = set;
+      asked = λ _. some;
+      held = λ v h. nothing_held x v h;
+      inside = λ inside. clash false inside refl;
+      inquired = λ v h. nothing_marked x v h;
+      relinquished = λ v h. nothing_marked x v h;
+    }
+
+sound-released : (x : ClientState) (seen : Seen) → IsSound x → IsSound (released x seen).state
+sound-released x seen s =
+    let p = places-cleared x s.places in
+    record {
+      id = s.id;
+      some = s.some;
+      limit = s.limit;
+      places = record { held = p.held; last = p.last; failed = p.failed; relinquished = p.relinquished; inquired = p.inquired };
+      stamp = s.stamp;
+      clock = s.clock;
+      stamped = λ busy. clash true refl busy;
+      quorum = s.quorum;
+      asked = λ busy. clash true refl busy;
+      held = λ v h. nothing_held x v h;
+      inside = λ inside. clash false inside refl;
+      inquired = λ v h. nothing_marked x v h;
+      relinquished = λ v h. nothing_marked x v h;
+    }
+
+-- An answered call
+
+pub same_Ok : {A E : Type 0} (a b : A) → ◌≡◌ {A = Result A E} (Ok a) (Ok b) → a ≡ b
+same_Ok a b e = same_Some a b (ap result_ok e)
+
+not_Ok : {A E B : Type 0} (f : E) (b : B) → ◌≡◌ {A = Result B E} (Err f) (Ok b) → A
+not_Ok f b e = clash true refl (ap is_err e)
+
+ask_room : (b : Bool) (x : ClientState) (q : List ℕ) (o : Outcome) → ask_unless b x q ≡ Ok o → (b ≡ false) × (asked x q ≡ o)
+ask_room true x q o e = not_Ok _ o e
+ask_room false x q o e = (refl, same_Ok (asked x q) o e)
+
+ask_idle : (p : Phase) (x : ClientState) (q : List ℕ) (o : Outcome) → ask_in p x q ≡ Ok o → (is_idle p ≡ true) × (is_spent x ≡ false) × (asked x q ≡ o)
+ask_idle Idle x q o e = let k = ask_room (is_spent x) x q o e in (refl, k.0, k.1)
+ask_idle Asking x q o e = not_Ok _ o e
+ask_idle Inside x q o e = not_Ok _ o e
+
+-- an ask that is not refused
+pub ask_done : (x : ClientState) (q : List ℕ) (o : Outcome) → ask x q ≡ Ok o → (is_idle x.phase ≡ true) × (x.clock < x.limit) × (asked x q ≡ o)
+unfolding ask
+ask_done x q o e = let k = ask_idle x.phase x q o e in let spent = k.1 in (k.0, grind (arith, nat_tests), k.2)
+
+leave_inside : (p : Phase) (x : ClientState) (o : Outcome) → leave_in p x ≡ Ok o → (is_inside p ≡ true) × (released x Left ≡ o)
+leave_inside Idle x o e = not_Ok _ o e
+leave_inside Asking x o e = not_Ok _ o e
+leave_inside Inside x o e = (refl, same_Ok (released x Left) o e)
+
+pub leave_done : (x : ClientState) (o : Outcome) → leave x ≡ Ok o → (is_inside x.phase ≡ true) × (released x Left ≡ o)
+unfolding leave
+leave_done x o e = leave_inside x.phase x o e
+
+give_up_asking : (p : Phase) (x : ClientState) (o : Outcome) → give_up_in p x ≡ Ok o → (is_asking p ≡ true) × (released x Nothing ≡ o)
+give_up_asking Idle x o e = not_Ok _ o e
+give_up_asking Asking x o e = (refl, same_Ok (released x Nothing) o e)
+give_up_asking Inside x o e = not_Ok _ o e
+
+pub give_up_done : (x : ClientState) (o : Outcome) → give_up x ≡ Ok o → (is_asking x.phase ≡ true) × (released x Nothing ≡ o)
+unfolding give_up
+give_up_done x o e = give_up_asking x.phase x o e
+
+pub sound-ask : (x : ClientState) (q : List ℕ) (o : Outcome) → IsSound x → IsSet q → 1 ≤ length q → ask x q ≡ Ok o → IsSound o.state
+sound-ask x q o s set some e =
+    let k = ask_done x q o e in
+    subst (λ (p : Outcome). IsSound p.state) k.2 (sound-asked x q s set some k.1)
+
+pub sound-leave : (x : ClientState) (o : Outcome) → IsSound x → leave x ≡ Ok o → IsSound o.state
+sound-leave x o s e = subst (λ (p : Outcome). IsSound p.state) (leave_done x o e).1 (sound-released x Left s)
+
+pub sound-give_up : (x : ClientState) (o : Outcome) → IsSound x → give_up x ≡ Ok o → IsSound o.state
+sound-give_up x o s e = subst (λ (p : Outcome). IsSound p.state) (give_up_done x o e).1 (sound-released x Nothing s)
+
+pub sound-step : (x : ClientState) (cause : Cause) (o : Outcome) → IsSound x → Accepts x cause → step x cause ≡ Ok o → IsSound o.state
+unfolding step
+sound-step x (Asks q) o s accepts e = sound-ask x q o s accepts.0 accepts.1 e
+sound-step x (Takes m) o s accepts e = subst (λ (p : Outcome). IsSound p.state) (same_Ok (take x m) o e) (sound-take x m s)
+sound-step x Leaves o s accepts e = sound-leave x o s e
+sound-step x GivesUp o s accepts e = sound-give_up x o s e
+
+pub sound-start : (id limit : ℕ) → id < 64 → 1 ≤ limit → limit ≤ 2 ^ 40 → IsSound (start id limit)
+sound-start id limit small some most =
+    let x = start id limit in
+    record {
+      id = small;
+      some = some;
+      limit = most;
+      places = record { held = refl; last = refl; failed = refl; relinquished = refl; inquired = refl };
+      stamp = omega arith;
+      clock = omega arith;
+      stamped = λ busy. clash true refl busy;
+      quorum = tt;
+      asked = λ busy. clash true refl busy;
+      held = λ v h. clash (holds x v) h (ap (ltb 0) (nothing_at 64 v));
+      inside = λ inside. clash false inside refl;
+      inquired = λ v h. clash (is_inquired x v) h (unmarked_at 64 v);
+      relinquished = λ v h. clash (is_relinquished x v) h (unmarked_at 64 v);
+    }
