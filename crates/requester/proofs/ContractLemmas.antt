@@ -166,7 +166,7 @@ met-body x m (tells.Locked t g) body s = met-locked_by _ _ x m t g body s refl r
 met-body x m (tells.Fail t) body s = met-failed_by _ x m s
 met-body x m (tells.Inquire g) body s = met-inquired_by _ _ x m s
 
-met-take : (x : ClientState) (m : ToClient) → IsSound x → MeetsContract x (Takes m) (take x m)
+pub met-take : (x : ClientState) (m : ToClient) → IsSound x → MeetsContract x (Takes m) (take x m)
 unfolding take
 met-take x m s =
     let y = see x m.seen in

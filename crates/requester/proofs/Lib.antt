@@ -1,3 +1,4 @@
+pub mod Calls
 pub mod ContractLemmas
 pub mod Giving
 pub mod Members

@@ -2,6 +2,7 @@
 ghost use Rattle.std.specs.Prelude.{◌≡◌, ◌<◌, ◌≤◌, ◌+◌, ◌^◌, ◌++◌, [], eqb, Err, IfErr, IfOk, Ok};
 ghost use Rattle.std.specs.List.{AllByRecursion, IsDistinct};
 ghost use Rattle.arrayvec.specs.ArrayVec.{array_vec_len};
+ghost use Rattle.quorum_set.specs.Sets.{IsSet};
 ghost use Rattle.requester.specs.Words.{holds, holds_under, is_covered, is_current, is_hindered, is_member};
 ghost use Rattle.requester.specs.Steps.{ask, cleared, failed, give_up, hold, inquired, is_fresh, leave, locked, relinquish, relinquish_inquired, relinquish_marked, released, remind, remind_member, take, take_body, tell, tell_members, would_hold};
 
@@ -172,6 +173,7 @@ impl ClientState {
         requires few { self.old.limit < 2 ^ 63 }
         ensures asked { IfOk result (λ r. ask self.old quorum.now ≡ Ok (record { out = r.out.items; seen = r.seen; state = self.new })) }
         ensures refused { IfErr result (λ fault. (ask self.old quorum.now ≡ Err fault) × (self.new ≡ self.old)) }
+        ensures set { IfOk result (λ _. IsSet quorum.now) }
     {
         if self.phase != Phase::Idle {
             return Err(ClientFault::Busy);
