@@ -1,5 +1,5 @@
 //! Fractions.
-ghost use Rattle.std.specs.Prelude.{◌≡◌, ◌≢◌, ◌↔◌, ◌<◌, ◌^◌, pos, ◌+ℤ◌, ◌-ℤ◌, ◌*ℤ◌, IsOk, IfOk, IfErr};
+ghost use Rattle.std.specs.Prelude.{◌≡◌, ◌≢◌, ◌↔◌, ◌<◌, ◌^◌, ◌/◌, pos, ◌+ℤ◌, ◌-ℤ◌, ◌*ℤ◌, IsOk, IfOk, IfErr};
 ghost use Rattle.std.specs.Ordering.{int_cmp};
 ghost use Rattle.fraction.specs.Fractions.{signed_of, IsRatio, IsReduced, Fits, SumFits, DifferenceFits, ProductFits, QuotientFits, ComparisonFits};
 
@@ -38,6 +38,18 @@ fn signed(is_positive: bool, size: u128) -> i128
     if is_positive { number } else { -number }
 }
 
+/// The quotient of two numbers, for which nothing is divided by 1.
+fn quotient(number: u128, divisor: u128) -> u128
+    requires { divisor ≢ 0 }
+    ensures { result ≡ number / divisor }
+{
+    if divisor == 1 {
+        number
+    } else {
+        number / divisor
+    }
+}
+
 /// The fraction num / den in lowest terms.
 fn reduced(num: i128, den: i128) -> Frac
     requires divisor { den ≢ pos 0 }
@@ -50,8 +62,8 @@ fn reduced(num: i128, den: i128) -> Frac
     let bottom = den.unsigned_abs();
     let common = gcd(top, bottom);
     Frac {
-        num: signed((num < 0) == (den < 0), top / common),
-        den: (bottom / common) as i128,
+        num: signed((num < 0) == (den < 0), quotient(top, common)),
+        den: quotient(bottom, common) as i128,
     }
 }
 
