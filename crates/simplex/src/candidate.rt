@@ -1,10 +1,11 @@
 //! Candidates, and the method that finds them.
 ghost use Rattle.std.specs.Prelude.{◌≡◌, ◌+◌, ◌≤◌, length, vec_len, IfOk};
-ghost use Rattle.simplex.specs.Shapes.{SameShape};
 
-use crate::choice::{Rule, entering, first_entering, leaving};
+use crate::choice::{Rule, entering, first_entering};
 use crate::fault::SimplexFault;
+use crate::method::Method;
 use crate::tableau::Tableau;
+use crate::whole::{units, with_denominator};
 use fraction::{Frac, FracFault};
 use quorum_set::Coterie;
 use std::alloc::Global;
@@ -34,21 +35,23 @@ enum Step {
 }
 
 /// Makes one pivot, where one is needed: by the rule, or by Bland's rule after 2n pivots in a row that stalled.
-fn make_step(tableau: &mut Tableau, rule: Rule, stalled: usize) -> Result<Step, FracFault>
-    ensures { SameShape tableau.old tableau.new }
+fn make_step(method: &mut Method, rule: Rule, stalled: usize) -> Result<Step, FracFault>
+    ensures { method.new.coterie ≡ method.old.coterie }
 {
-    let entering = if stalled < 2 * tableau.voters() {
-        entering(tableau, rule)?
+    method.read_prices()?;
+    let entering = if stalled < 2 * method.tableau().voters() {
+        entering(method, rule)?
     } else {
-        first_entering(tableau)
+        first_entering(method)?
     };
     let Some(column) = entering else {
         return Ok(Step::Best);
     };
-    let Some(exit) = leaving(tableau, column)? else {
+    method.read_column(column)?;
+    let Some(exit) = method.leaving()? else {
         return Ok(Step::NoRow);
     };
-    tableau.pivot(exit.row, column)?;
+    method.pivot(exit.row, column)?;
     Ok(if exit.ratio.num() == 0 {
         Step::Stalled
     } else {
@@ -56,14 +59,22 @@ fn make_step(tableau: &mut Tableau, rule: Rule, stalled: usize) -> Result<Step, 
     })
 }
 
+/// Whether no column improves the solution.
+fn is_best(method: &mut Method) -> Result<bool, FracFault>
+    ensures { method.new.coterie ≡ method.old.coterie }
+{
+    method.read_prices()?;
+    Ok(first_entering(method)?.is_none())
+}
+
 /// Pivots until no column improves the solution, and answers how many pivots were made.
-fn improve(tableau: &mut Tableau, rule: Rule, pivots: u32) -> Result<u32, SimplexFault>
-    ensures shape { SameShape tableau.old tableau.new }
+fn improve(method: &mut Method, rule: Rule, pivots: u32) -> Result<u32, SimplexFault>
+    ensures coterie { method.new.coterie ≡ method.old.coterie }
     ensures limit { IfOk result (λ made. made ≤ pivots) }
 {
     let mut stalled = 0usize;
     for made in 0..pivots {
-        match make_step(tableau, rule, stalled) {
+        match make_step(method, rule, stalled) {
             Ok(Step::Best) => return Ok(made),
             Ok(Step::NoRow) => return Err(SimplexFault::NoRow),
             Ok(Step::Stalled) => stalled = stalled.saturating_add(1),
@@ -71,21 +82,27 @@ fn improve(tableau: &mut Tableau, rule: Rule, pivots: u32) -> Result<u32, Simple
             Err(_) => return Err(SimplexFault::Overflow { pivots: made }),
         }
     }
-    match first_entering(tableau) {
-        Some(_) => Err(SimplexFault::PivotLimit),
-        None => Ok(pivots),
+    match is_best(method) {
+        Ok(true) => Ok(pivots),
+        Ok(false) => Err(SimplexFault::PivotLimit),
+        Err(_) => Err(SimplexFault::Overflow { pivots }),
     }
 }
 
 /// The quorums' weights: the right side of the row that is solved for a quorum, and else 0.
-fn quorum_weights(alloc: Global, tableau: &Tableau, zero: Frac) -> Result<Vec<Frac>, SimplexFault>
-    ensures { IfOk result (λ v. vec_len v ≡ tableau.now.quorums) }
+fn quorum_weights(
+    alloc: Global,
+    tableau: &Tableau,
+    quorums: usize,
+    zero: Frac,
+) -> Result<Vec<Frac>, SimplexFault>
+    ensures { IfOk result (λ v. vec_len v ≡ quorums) }
 {
-    let mut weights = vec![in alloc; zero; tableau.quorums()]?;
+    let mut weights = vec![in alloc; zero; quorums]?;
     for row in 0..tableau.voters() {
         let column = tableau.basis(row);
         if column < weights.len() {
-            weights[column] = tableau.cell(row, tableau.columns());
+            weights[column] = tableau.right_side(row);
         }
     }
     Ok(weights)
@@ -102,8 +119,7 @@ fn voter_weights(
 {
     let mut weights = Vec::with_capacity(alloc, tableau.voters())?;
     for voter in 0..tableau.voters() {
-        let improvement = tableau.cell(tableau.voters(), tableau.quorums() + voter);
-        let Ok(weight) = zero.sub(improvement) else {
+        let Ok(weight) = zero.sub(tableau.cell(tableau.voters(), voter)) else {
             return Err(SimplexFault::Overflow { pivots });
         };
         weights.push(weight)?;
@@ -111,32 +127,33 @@ fn voter_weights(
     Ok(weights)
 }
 
-/// The least common multiple of the denominators.
-fn common_denominator(weights: &[Frac]) -> Option<i128> {
+/// The least common denominator of the weights.
+fn common_denominator(weights: &[Frac]) -> Result<i128, FracFault> {
     let mut common = 1i128;
     for weight in weights {
-        let missing = Frac::of(common, weight.den()).ok()?;
-        common = common.checked_mul(missing.den())?;
+        common = with_denominator(common, *weight)?;
     }
-    Some(common)
+    Ok(common)
 }
 
 /// A weight in units of which `common` make 1, where it is a whole number that fits.
-fn units(weight: Frac, common: i128) -> Option<u64> {
-    let unit = Frac::of(common, weight.den()).ok()?;
-    u64::try_from(weight.num().checked_mul(unit.num())?).ok()
+fn weight_in(weight: Frac, common: i128) -> Option<u64> {
+    match units(weight, common) {
+        Ok(number) => u64::try_from(number).ok(),
+        Err(_) => None,
+    }
 }
 
 /// The weights as whole numbers in the same ratios.
 fn scaled(alloc: Global, weights: &[Frac], pivots: u32) -> Result<Vec<u64>, SimplexFault>
     ensures { IfOk result (λ v. vec_len v ≡ length weights.now) }
 {
-    let Some(common) = common_denominator(weights) else {
+    let Ok(common) = common_denominator(weights) else {
         return Err(SimplexFault::Overflow { pivots });
     };
     let mut numbers = Vec::with_capacity(alloc, weights.len())?;
     for weight in weights {
-        let Some(number) = units(*weight, common) else {
+        let Some(number) = weight_in(*weight, common) else {
             return Err(SimplexFault::Overflow { pivots });
         };
         numbers.push(number)?;
@@ -170,10 +187,10 @@ pub fn solve_by(
     let Ok(zero) = Frac::of(0, 1) else {
         return Err(SimplexFault::Overflow { pivots: 0 });
     };
-    let mut tableau = Tableau::of(alloc, coterie)?;
-    let made = improve(&mut tableau, rule, pivots)?;
-    let quorum_weights = quorum_weights(alloc, &tableau, zero)?;
-    let voter_weights = voter_weights(alloc, &tableau, zero, made)?;
+    let mut method = Method::of(alloc, coterie)?;
+    let made = improve(&mut method, rule, pivots)?;
+    let quorum_weights = quorum_weights(alloc, method.tableau(), coterie.count(), zero)?;
+    let voter_weights = voter_weights(alloc, method.tableau(), zero, made)?;
     Ok(Candidate {
         a: scaled(alloc, &quorum_weights, made)?,
         b: scaled(alloc, &voter_weights, made)?,

@@ -1,9 +1,7 @@
-//! Which column enters the basis, and which row it takes.
-ghost use Rattle.std.specs.Prelude.{◌≡◌, ◌+◌, ◌<◌, ◌≤◌, IfOk, IfSome};
-ghost use Rattle.std.specs.Option.{ForSome};
-ghost use Rattle.simplex.specs.Shapes.{SameShape};
+//! Which column enters the basis.
+ghost use Rattle.std.specs.Prelude.{◌≡◌, ◌+◌, ◌<◌, length, IfOk, IfSome};
 
-use crate::tableau::Tableau;
+use crate::method::Method;
 use fraction::{Frac, FracFault};
 use std::cmp::Ordering;
 
@@ -17,19 +15,6 @@ pub enum Rule {
     LeastPivot,
 }
 
-/// The row that a column takes.
-#[derive(Clone, Copy)]
-pub(crate) struct Exit {
-    /// The row's number.
-    pub(crate) row: usize,
-    /// The column that the row is solved for.
-    basis: usize,
-    /// The row's entry in the column.
-    entry: Frac,
-    /// The row's right side over its entry in the column.
-    pub(crate) ratio: Frac,
-}
-
 /// A column that may enter, as `Rule::LeastPivot` sees it.
 #[derive(Clone, Copy)]
 struct Choice {
@@ -38,18 +23,6 @@ struct Choice {
     entry: Frac,
     /// By how much the pivot improves the solution.
     improvement: Frac,
-}
-
-/// Whether a row gives way before another: by the lesser ratio, and then by the lesser basis column.
-fn gives_way(exit: &Exit, best: &Option<Exit>) -> Result<bool, FracFault> {
-    let Some(best) = best else {
-        return Ok(true);
-    };
-    Ok(match exit.ratio.compare(best.ratio)? {
-        Ordering::Less => true,
-        Ordering::Equal => exit.basis < best.basis,
-        Ordering::Greater => false,
-    })
 }
 
 /// Whether a column enters before another.
@@ -68,100 +41,63 @@ fn enters(choice: &Choice, best: &Option<Choice>) -> Result<bool, FracFault> {
     })
 }
 
-/// The improvement by a unit of a column.
-fn unit_improvement(tableau: &Tableau, column: usize) -> Frac
-    requires { column < tableau.now.quorums + tableau.now.voters }
+/// The lowest column that improves the solution (Bland's rule).
+pub(crate) fn first_entering(method: &Method) -> Result<Option<usize>, FracFault>
+    ensures { IfOk result (λ o. IfSome o (λ j. j < length method.now.coterie.now.quorums + method.now.coterie.now.voters)) }
 {
-    tableau.cell(tableau.voters(), column)
+    for column in 0..method.columns() {
+        if method.price(column)? > 0 {
+            return Ok(Some(column));
+        }
+    }
+    Ok(None)
 }
 
-/// The row that limits a column, if any does: of those with a positive entry the one with the least ratio of the
-/// right side to the entry, and on ties the one solved for the lowest column.
-pub(crate) fn leaving(tableau: &Tableau, column: usize) -> Result<Option<Exit>, FracFault>
-    requires { column < tableau.now.quorums + tableau.now.voters }
-    ensures { IfOk result (λ o. IfSome o (λ e. e.row < tableau.now.voters)) }
+/// The column of the greatest improvement by a unit.
+fn greatest_entering(method: &Method) -> Result<Option<usize>, FracFault>
+    ensures { IfOk result (λ o. IfSome o (λ j. j < length method.now.coterie.now.quorums + method.now.coterie.now.voters)) }
 {
-    let mut best: Option<Exit> = None;
-    for row in 0..tableau.voters() {
-        let entry = tableau.cell(row, column);
-        if entry.num() > 0 {
-            let exit = Exit {
-                row,
-                basis: tableau.basis(row),
-                entry,
-                ratio: tableau.cell(row, tableau.columns()).div(entry)?,
-            };
-            if gives_way(&exit, &best)? {
-                best = Some(exit);
-            }
+    let mut best = None;
+    let mut most = 0i128;
+    for column in 0..method.columns() {
+        let price = method.price(column)?;
+        if price > most {
+            best = Some(column);
+            most = price;
         }
     }
     Ok(best)
 }
 
-/// The lowest column that improves the solution (Bland's rule).
-pub(crate) fn first_entering(tableau: &Tableau) -> Option<usize>
-    ensures { IfSome result (λ j. j < tableau.now.quorums + tableau.now.voters) }
-{
-    for column in 0..tableau.columns() {
-        if unit_improvement(tableau, column).num() > 0 {
-            return Some(column);
-        }
-    }
-    None
-}
-
-/// Whether a unit of this column improves the solution more than one of the best so far.
-fn improves_more(improvement: Frac, best: &Option<(usize, Frac)>) -> Result<bool, FracFault> {
-    match best {
-        None => Ok(improvement.num() > 0),
-        Some((_, most)) => Ok(improvement.compare(*most)? == Ordering::Greater),
-    }
-}
-
-/// The column of the greatest improvement by a unit.
-fn greatest_entering(tableau: &Tableau) -> Result<Option<usize>, FracFault>
-    ensures { IfOk result (λ o. IfSome o (λ j. j < tableau.now.quorums + tableau.now.voters)) }
-{
-    let mut best: Option<(usize, Frac)> = None;
-    for column in 0..tableau.columns() {
-        let improvement = unit_improvement(tableau, column);
-        if improves_more(improvement, &best)? {
-            best = Some((column, improvement));
-        }
-    }
-    match best {
-        Some((column, _)) => Ok(Some(column)),
-        None => Ok(None),
-    }
-}
-
 /// A column with the row that it takes, where it improves the solution and a row limits it.
-fn choice_of(tableau: &Tableau, column: usize) -> Result<Option<Choice>, FracFault>
-    requires { column < tableau.now.quorums + tableau.now.voters }
-    ensures { IfOk result (λ o. IfSome o (λ e. e.column ≡ column)) }
+fn choice_of(method: &mut Method, column: usize) -> Result<Option<Choice>, FracFault>
+    requires { column < length method.old.coterie.now.quorums + method.old.coterie.now.voters }
+    ensures coterie { method.new.coterie ≡ method.old.coterie }
+    ensures column { IfOk result (λ o. IfSome o (λ e. e.column ≡ column)) }
 {
-    let improvement = unit_improvement(tableau, column);
-    if improvement.num() <= 0 {
+    let price = method.price(column)?;
+    if price <= 0 {
         return Ok(None);
     }
-    let Some(exit) = leaving(tableau, column)? else {
+    method.read_column(column)?;
+    let Some(exit) = method.leaving()? else {
         return Ok(None);
     };
     Ok(Some(Choice {
         column,
         entry: exit.entry,
-        improvement: improvement.mul(exit.ratio)?,
+        improvement: method.improvement(price, exit.ratio)?,
     }))
 }
 
 /// The column of the least pivot entry. A column that no row limits is left out.
-fn least_entering(tableau: &Tableau) -> Result<Option<usize>, FracFault>
-    ensures { IfOk result (λ o. IfSome o (λ j. j < tableau.now.quorums + tableau.now.voters)) }
+fn least_entering(method: &mut Method) -> Result<Option<usize>, FracFault>
+    ensures coterie { method.new.coterie ≡ method.old.coterie }
+    ensures column { IfOk result (λ o. IfSome o (λ j. j < length method.old.coterie.now.quorums + method.old.coterie.now.voters)) }
 {
     let mut best: Option<Choice> = None;
-    for column in 0..tableau.columns() {
-        if let Some(choice) = choice_of(tableau, column)? {
+    for column in 0..method.columns() {
+        if let Some(choice) = choice_of(method, column)? {
             if enters(&choice, &best)? {
                 best = Some(choice);
             }
@@ -174,11 +110,12 @@ fn least_entering(tableau: &Tableau) -> Result<Option<usize>, FracFault>
 }
 
 /// The column that enters, or none where the solution is the best.
-pub(crate) fn entering(tableau: &Tableau, rule: Rule) -> Result<Option<usize>, FracFault>
-    ensures { IfOk result (λ o. IfSome o (λ j. j < tableau.now.quorums + tableau.now.voters)) }
+pub(crate) fn entering(method: &mut Method, rule: Rule) -> Result<Option<usize>, FracFault>
+    ensures coterie { method.new.coterie ≡ method.old.coterie }
+    ensures column { IfOk result (λ o. IfSome o (λ j. j < length method.old.coterie.now.quorums + method.old.coterie.now.voters)) }
 {
     match rule {
-        Rule::GreatestImprovement => greatest_entering(tableau),
-        Rule::LeastPivot => least_entering(tableau),
+        Rule::GreatestImprovement => greatest_entering(method),
+        Rule::LeastPivot => least_entering(method),
     }
 }

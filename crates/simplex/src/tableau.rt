@@ -1,26 +1,26 @@
-//! The tableau of the simplex method.
+//! The tableau of the revised simplex method.
 ghost use Rattle.std.specs.Prelude.{◌≡◌, ◌+◌, ◌*◌, ◌<◌, ◌≤◌, length, vec_len, IfOk};
-ghost use Rattle.quorum_set.specs.Coteries.{IsCoterie};
 
 use crate::fault::SimplexFault;
 use fraction::{Frac, FracFault};
 use quorum_set::Coterie;
 use std::alloc::{AllocError, Global};
 
-/// A row for each voter and one for the objective; a column for each quorum, one for each voter's slack, and the
-/// right side. A voter's row says that the quorums with the voter and the slack sum to the right side. The objective's
-/// row has each column's improvement: by how much the sum of all quorums grows for each unit of the column.
+/// A row for each voter and one for the objective; a column for each voter's slack, and the right side. A voter's row
+/// says that the quorums with the voter and the slack sum to the right side. The objective's row has each slack's
+/// improvement: by how much the sum of all quorums grows for each unit of it.
+///
+/// The columns of the quorums are not kept: a quorum's entry in a voter's row is the sum of its members' slacks there, and
+/// in the objective's row it is 1 more than that sum.
 #[derive(Drop)]
 pub(crate) struct Tableau {
     voters: usize,
-    quorums: usize,
     /// The cells, row by row.
     cells: Vec<Frac>,
-    /// The column that each voter's row is solved for.
+    /// The column that each voter's row is solved for: a quorum's number, or behind the quorums a voter's slack.
     basis: Vec<usize>,
     ghost few_voters: { voters ≤ 64 },
-    ghost few_quorums: { quorums ≤ 4096 },
-    ghost sized: { vec_len cells ≡ (voters + 1) * (quorums + voters + 1) },
+    ghost sized: { vec_len cells ≡ (voters + 1) * (voters + 1) },
     ghost based: { vec_len basis ≡ voters },
 }
 
@@ -50,23 +50,14 @@ impl Tableau {
         requires voters { voters ≤ 64 }
         requires quorums { quorums ≤ 4096 }
         ensures voters { IfOk result (λ t. t.voters ≡ voters) }
-        ensures quorums { IfOk result (λ t. t.quorums ≡ quorums) }
     {
-        let cells = vec![in alloc; zero; (voters + 1) * (quorums + voters + 1)]?;
+        let cells = vec![in alloc; zero; (voters + 1) * (voters + 1)]?;
         let basis = slacks(alloc, quorums, voters)?;
         Ok(Tableau {
             voters,
-            quorums,
             cells,
             basis,
         })
-    }
-
-    /// The number of columns that may be entered: all but the right side.
-    pub(crate) fn columns(&self) -> usize
-        ensures { result ≡ self.now.quorums + self.now.voters }
-    {
-        self.quorums + self.voters
     }
 
     pub(crate) fn voters(&self) -> usize
@@ -76,35 +67,36 @@ impl Tableau {
         self.voters
     }
 
-    pub(crate) fn quorums(&self) -> usize
-        ensures value { result ≡ self.now.quorums }
-        ensures few { result ≤ 4096 }
-    {
-        self.quorums
-    }
-
     /// The place of a cell.
-    fn place(&self, row: usize, column: usize) -> usize
+    fn place(&self, row: usize, slack: usize) -> usize
         requires row { row ≤ self.now.voters }
-        requires column { column ≤ self.now.quorums + self.now.voters }
+        requires slack { slack ≤ self.now.voters }
         ensures { result < vec_len self.now.cells }
     {
-        row * (self.quorums + self.voters + 1) + column
+        row * (self.voters + 1) + slack
     }
 
-    pub(crate) fn cell(&self, row: usize, column: usize) -> Frac
+    /// A row's entry in the column of a voter's slack.
+    pub(crate) fn cell(&self, row: usize, slack: usize) -> Frac
         requires row { row ≤ self.now.voters }
-        requires column { column ≤ self.now.quorums + self.now.voters }
+        requires slack { slack ≤ self.now.voters }
     {
-        self.cells[self.place(row, column)]
+        self.cells[self.place(row, slack)]
     }
 
-    fn set_cell(&mut self, row: usize, column: usize, value: Frac)
+    /// The right side of a row.
+    pub(crate) fn right_side(&self, row: usize) -> Frac
+        requires { row ≤ self.now.voters }
+    {
+        self.cell(row, self.voters)
+    }
+
+    fn set_cell(&mut self, row: usize, slack: usize, value: Frac)
         requires row { row ≤ self.old.voters }
-        requires column { column ≤ self.old.quorums + self.old.voters }
+        requires slack { slack ≤ self.old.voters }
         ensures { SameShape self.old self.new }
     {
-        let place = self.place(row, column);
+        let place = self.place(row, slack);
         self.cells[place] = value;
     }
 
@@ -115,74 +107,45 @@ impl Tableau {
         self.basis[row]
     }
 
-    /// The row of a voter: the voter's quorums and slack sum to 1.
-    fn fill_row(&mut self, coterie: &Coterie, voter: usize, one: Frac)
-        requires voter { voter < self.old.voters }
-        requires quorums { self.old.quorums ≡ length coterie.now.quorums }
-        ensures { SameShape self.old self.new }
-    {
-        for quorum in 0..coterie.count() {
-            if coterie.quorum(quorum).has(voter as u8) {
-                self.set_cell(voter, quorum, one);
-            }
-        }
-        self.set_cell(voter, self.quorums + voter, one);
-        self.set_cell(voter, self.quorums + self.voters, one);
-    }
-
-    /// The objective's row: the sum of all quorums.
-    fn fill_objective(&mut self, one: Frac)
-        ensures { SameShape self.old self.new }
-    {
-        for quorum in 0..self.quorums {
-            self.set_cell(self.voters, quorum, one);
-        }
-    }
-
-    /// The tableau of a coterie before the first pivot: no quorum is used.
+    /// The tableau of a coterie before the first pivot: no quorum is used, and each voter's slack is 1.
     pub(crate) fn of(alloc: Global, coterie: &Coterie) -> Result<Tableau, SimplexFault>
-        ensures voters { IfOk result (λ t. t.voters ≡ coterie.now.voters) }
-        ensures quorums { IfOk result (λ t. t.quorums ≡ length coterie.now.quorums) }
+        ensures { IfOk result (λ t. t.voters ≡ coterie.now.voters) }
     {
         let (Ok(zero), Ok(one)) = (Frac::of(0, 1), Frac::of(1, 1)) else {
             return Err(SimplexFault::Overflow { pivots: 0 });
         };
         let mut tableau = Tableau::blank(alloc, coterie.voters(), coterie.count(), zero)?;
         for voter in 0..coterie.voters() {
-            tableau.fill_row(coterie, voter, one);
+            tableau.set_cell(voter, voter, one);
+            tableau.set_cell(voter, coterie.voters(), one);
         }
-        tableau.fill_objective(one);
         Ok(tableau)
     }
 
-    /// Divides a row by its entry in a column.
-    fn divide(&mut self, row: usize, column: usize) -> Result<(), FracFault>
-        requires row { row < self.old.voters }
-        requires column { column < self.old.quorums + self.old.voters }
+    /// Divides a row by its entry in the column that enters.
+    fn divide(&mut self, row: usize, entry: Frac) -> Result<(), FracFault>
+        requires { row < self.old.voters }
         ensures { SameShape self.old self.new }
     {
-        let pivot = self.cell(row, column);
-        for place in 0..self.columns() + 1 {
+        for place in 0..self.voters + 1 {
             let cell = self.cell(row, place);
             if cell.num() != 0 {
-                self.set_cell(row, place, cell.div(pivot)?);
+                self.set_cell(row, place, cell.div(entry)?);
             }
         }
         Ok(())
     }
 
-    /// Takes the pivot's row from another so often that the other has 0 in the pivot's column.
-    fn eliminate(&mut self, row: usize, pivot_row: usize, column: usize) -> Result<(), FracFault>
+    /// Takes the pivot's row from another so often that the other has 0 in the column that enters.
+    fn eliminate(&mut self, row: usize, pivot_row: usize, factor: Frac) -> Result<(), FracFault>
         requires row { row ≤ self.old.voters }
         requires pivot_row { pivot_row < self.old.voters }
-        requires column { column < self.old.quorums + self.old.voters }
         ensures { SameShape self.old self.new }
     {
-        let factor = self.cell(row, column);
         if factor.num() == 0 {
             return Ok(());
         }
-        for place in 0..self.columns() + 1 {
+        for place in 0..self.voters + 1 {
             let above = self.cell(pivot_row, place);
             if above.num() != 0 {
                 let cell = self.cell(row, place).sub(factor.mul(above)?)?;
@@ -192,16 +155,22 @@ impl Tableau {
         Ok(())
     }
 
-    /// Solves a voter's row for a column, and the others with it. After an overflow the tableau is good for nothing.
-    pub(crate) fn pivot(&mut self, row: usize, column: usize) -> Result<(), FracFault>
+    /// Solves a voter's row for a column with these entries, the objective's last, and the other rows with it. After
+    /// an overflow the tableau is good for nothing.
+    pub(crate) fn pivot(
+        &mut self,
+        row: usize,
+        column: usize,
+        entries: &[Frac],
+    ) -> Result<(), FracFault>
         requires row { row < self.old.voters }
-        requires column { column < self.old.quorums + self.old.voters }
+        requires entries { length entries.now ≡ self.old.voters + 1 }
         ensures { SameShape self.old self.new }
     {
-        self.divide(row, column)?;
-        for other in 0..self.voters + 1 {
+        self.divide(row, entries[row])?;
+        for (other, factor) in entries.iter().enumerate() {
             if other != row {
-                self.eliminate(other, row, column)?;
+                self.eliminate(other, row, *factor)?;
             }
         }
         self.basis[row] = column;

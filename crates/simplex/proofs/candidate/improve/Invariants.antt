@@ -1,5 +1,5 @@
-use Rattle.simplex.specs.Shapes.{SameShape}
+use Rattle.std.proofs.Common.{◌≡◌}
 use Rattle.simplex.proofs.candidate.improve.Given as goal
 
 abbrev pub invariant-loop-made : goal.invariant-loop-made
-invariant-loop-made l = SameShape l.initial.tableau l.tableau
+invariant-loop-made l = l.method.coterie ≡ l.initial.method.coterie

@@ -1,5 +1,0 @@
-use Rattle.std.proofs.Common.{◌<◌, IfSome}
-use Rattle.simplex.proofs.choice.leaving.Given as goal
-
-abbrev pub invariant-loop-row : goal.invariant-loop-row
-invariant-loop-row l = IfSome l.best (λ e. e.row < l.tableau.voters)
