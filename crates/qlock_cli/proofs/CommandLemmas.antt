@@ -22,7 +22,7 @@ use Rattle.coterie_file.specs.Named.{NamedSystem}
 use Rattle.qlock_cli.specs.declared.fault.Fault.{Fault}
 use Rattle.qlock_cli.specs.declared.fault.Fault.TheVariants as faults
 use Rattle.qlock_cli.specs.declared.fault.Fault.TheVariants.{Construct, File, Plan}
-use Rattle.qlock_cli.specs.declared.words.Command.TheVariants as commands
+use Rattle.command_line.specs.declared.command.Command.TheVariants as commands
 
 is_no_text : (bytes : List ℕ) (b : Bool) → is_utf8 bytes ≡ b → (IsUtf8 bytes → ⊥) → b ≡ false
 is_no_text bytes true e none = absurd (none (IsUtf8-from_is_utf8 bytes e))

@@ -7,9 +7,9 @@ use Rattle.qlock_cli.specs.Devices.{IsOfReading, IsOwn}
 use Rattle.qlock_cli.specs.declared.fault.Fault.{Fault}
 use Rattle.qlock_cli.specs.declared.fault.Fault.TheVariants as faults
 use Rattle.qlock_cli.specs.declared.fault.Fault.TheVariants.{MissingPart, TooLong, ReadFault, WriteFault, Construct, File, Planner, OutOfMemory}
-use Rattle.qlock_cli.specs.declared.words.Command.{Command}
-use Rattle.qlock_cli.specs.declared.words.Command.TheVariants.{Check, Deal, Make, Plan}
-use Rattle.qlock_cli.specs.declared.words.Shape.{Shape}
+use Rattle.command_line.specs.declared.command.Command.{Command}
+use Rattle.command_line.specs.declared.command.Command.TheVariants.{Check, Deal, Make, Plan}
+use Rattle.command_line.specs.declared.command.Shape.{Shape}
 
 -- a result that gives the wanted answer is the command's answer, where the wanted one is
 pub answered : {X : Type 0} (view : X → List ℕ) (command : Command) (input : List ℕ) (wanted : Result (List ℕ) Fault) (result : Result X Fault)

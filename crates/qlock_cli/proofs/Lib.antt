@@ -3,4 +3,3 @@ pub mod DeviceLemmas
 pub mod ExecuteLemmas
 pub mod PartLemmas
 pub mod TextLemmas
-pub mod WordLemmas

@@ -28,10 +28,10 @@ use Rattle.qlock_cli.specs.declared.fault.Fault.{Fault}
 use Rattle.qlock_cli.specs.declared.fault.Fault.TheVariants as faults
 use Rattle.qlock_cli.specs.declared.fault.Fault.TheVariants.{TooLong, ReadFault, WriteFault, OutOfMemory, Construct, File, Planner}
 use Rattle.qlock_cli.specs.declared.answer.Planned.{Planned}
-use Rattle.qlock_cli.specs.declared.words.Command.{Command}
-use Rattle.qlock_cli.specs.declared.words.Command.TheVariants.{Check, Deal, Make, Plan}
-use Rattle.qlock_cli.specs.declared.words.Shape.{Shape}
-use Rattle.qlock_cli.specs.declared.words.Shape.TheVariants.{Cyclic, Grid, Majority, Tree, Wheel}
+use Rattle.command_line.specs.declared.command.Command.{Command}
+use Rattle.command_line.specs.declared.command.Command.TheVariants.{Check, Deal, Make, Plan}
+use Rattle.command_line.specs.declared.command.Shape.{Shape}
+use Rattle.command_line.specs.declared.command.Shape.TheVariants.{Cyclic, Grid, Majority, Tree, Wheel}
 
 -- Steps that may be refused
 

@@ -2,4 +2,3 @@ pub mod Commands
 pub mod Devices
 pub mod Faults
 pub mod Parts
-pub mod Words

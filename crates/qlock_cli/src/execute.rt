@@ -7,7 +7,7 @@ use crate::answer::answer;
 use crate::device::{read_input, write_output};
 use crate::fault::Fault;
 use crate::watched::Watched;
-use crate::words::Command;
+use command_line::Command;
 use std::alloc::Global;
 use std::io::{Read, Write};
 

@@ -1,6 +1,6 @@
 //! The program `qlock`: plans of coteries, and the lock that they serve, from the command line.
 //!
-//! `words` reads the command line, `execute` serves a command over a reader and a writer: `device` reads and writes,
+//! `command_line` reads the words, `execute` serves a command over a reader and a writer: `device` reads and writes,
 //! `parts` splits the input, `answer` makes the output, `texts` its lines.
 #![tactic(auto)]
 
@@ -13,14 +13,13 @@ mod parts;
 mod tests;
 mod texts;
 mod watched;
-mod words;
 
+use command_line::{Command, Usage, read_words};
 use execute::execute;
 use fault::Fault;
 use std::process::ExitCode;
 use std::{env, io};
 use watched::Watched;
-use words::{Command, Usage, read_words};
 
 /// The exit status of a fault: 3 for a device, 4 for memory, and else 1.
 fn status_of(fault: &Fault) -> u8 {

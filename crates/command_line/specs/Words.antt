@@ -7,10 +7,10 @@ use Rattle.clap.specs.Lexer.{usize_max}
 use Rattle.clap.specs.declared.builder.range.ValueRange.{ValueRange}
 use Rattle.clap.specs.declared.builder.command.Command.{Command as Parser}
 use Rattle.clap.specs.declared.builder.command.Command.TheViews.{out-Command}
-use Rattle.qlock_cli.specs.declared.words.Command.{Command}
-use Rattle.qlock_cli.specs.declared.words.Command.TheVariants.{Check, Deal, Make, Plan}
-use Rattle.qlock_cli.specs.declared.words.Shape.{Shape}
-use Rattle.qlock_cli.specs.declared.words.Shape.TheVariants.{Cyclic, Grid, Majority, Tree, Wheel}
+use Rattle.command_line.specs.declared.command.Command.{Command}
+use Rattle.command_line.specs.declared.command.Command.TheVariants.{Check, Deal, Make, Plan}
+use Rattle.command_line.specs.declared.command.Shape.{Shape}
+use Rattle.command_line.specs.declared.command.Shape.TheVariants.{Cyclic, Grid, Majority, Tree, Wheel}
 
 -- any number of values, from none to the greatest number that a count can be
 abbrev pub any_count : ValueRange

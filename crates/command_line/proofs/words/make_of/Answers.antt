@@ -1,7 +1,7 @@
 use Rattle.std.proofs.Common.{◌∙◌, sym, refl, codes}
 use Rattle.clap.specs.Words.{found_of}
 use Rattle.clap.proofs.WalkLemmas.{first_value-rows}
-use Rattle.qlock_cli.proofs.words.make_of.Goals as goal
+use Rattle.command_line.proofs.words.make_of.Goals as goal
 
 pub returns-in-Some-shape_of : goal.returns-in-Some-shape_of
 returns-in-Some-shape_of c =

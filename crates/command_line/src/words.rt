@@ -1,66 +1,13 @@
 //! The command line: which command its words name.
 ghost use Rattle.std.specs.Prelude.{◌≡◌, ◌<◌, ◌≤◌, [], length, slice_index_or, false, IfOk, IfSome, Some, codes, map, string_bytes};
 ghost use Rattle.clap.specs.Words.{app_of, first_of, found_of, rows_of, rule_of, subcommand_of, subcommand_rows_of};
-ghost use Rattle.qlock_cli.specs.Words.{AreSizes, IsLocal, IsNamedBy, IsNumber, IsShapeOf, check_app, deal_app, make_app, plan_app, planning_app, qlock_app, shape_rule, size_texts, sizes_rule};
+ghost use Rattle.command_line.specs.Words.{AreSizes, IsLocal, IsNamedBy, IsNumber, IsShapeOf, check_app, deal_app, make_app, plan_app, planning_app, qlock_app, shape_rule, size_texts, sizes_rule};
 
+use crate::command::{Command, Shape};
+use crate::usage::Usage;
 use clap::builder::ValueParser;
-use clap::error::ErrorKind;
 use clap::{Arg, ArgMatches};
 use std::alloc::{AllocError, Global};
-
-/// Which coterie is made, with its sizes. `construct` says what each is.
-#[derive(Debug, Drop)]
-pub enum Shape {
-    /// Rows and columns.
-    Grid(u32, u32),
-    /// The number of voters.
-    Majority(u32),
-    /// The height.
-    Tree(u32),
-    /// The number of rims.
-    Wheel(u32),
-    /// The number of voters, and the base.
-    Cyclic(u32, Vec<u32>),
-}
-
-/// What the program is asked to do, with the numbers that stand on the command line.
-#[derive(Debug, Drop)]
-pub enum Command {
-    /// Write the coterie of this shape.
-    Make(Shape),
-    /// Find a plan of a coterie, and write it with its certificate.
-    Plan,
-    /// Check a plan against its coterie, and say its load and the length of its cycle.
-    Check,
-    /// Deal this many tickets, 0 to 100,000, and count how often each voter was named.
-    Deal(u32),
-}
-
-/// Why the words name no command.
-#[derive(Drop)]
-pub enum Usage {
-    /// The words are no command line of the program, or ask for help: the text for the user.
-    Refused(clap::Error),
-    /// The command's arguments are not what it takes.
-    Arguments,
-    /// Memory ran out.
-    OutOfMemory,
-}
-
-impl From<AllocError> for Usage {
-    fn from(_error: AllocError) -> Usage {
-        Usage::OutOfMemory
-    }
-}
-
-impl From<clap::Error> for Usage {
-    fn from(error: clap::Error) -> Usage {
-        match error.kind() {
-            ErrorKind::OutOfMemory => Usage::OutOfMemory,
-            _ => Usage::Refused(error),
-        }
-    }
-}
 
 /// The most tickets that one call deals.
 const MOST_TICKETS: u64 = 100_000;

@@ -3,9 +3,9 @@ use Rattle.std.specs.Prelude.{IfSome}
 use Rattle.std.proofs.lemmas.Result.{IfOk-weaker}
 use Rattle.clap.specs.Words.{found_of, rows_of}
 use Rattle.clap.proofs.WalkLemmas.{raw_values-rows}
-use Rattle.qlock_cli.specs.Words.{AreSizes, size_texts}
-use Rattle.qlock_cli.proofs.WordLemmas.{sizes_none, sizes_some}
-use Rattle.qlock_cli.proofs.words.sizes_given.Goals as goal
+use Rattle.command_line.specs.Words.{AreSizes, size_texts}
+use Rattle.command_line.proofs.WordLemmas.{sizes_none, sizes_some}
+use Rattle.command_line.proofs.words.sizes_given.Goals as goal
 
 pub returns-in-None : goal.returns-in-None
 returns-in-None c =

@@ -1,8 +1,8 @@
 use Rattle.std.proofs.Common.{◌<◌, ℕ, List, map, length, subst, arith, Bor}
 use Rattle.std.proofs.lemmas.List.{length-map}
-use Rattle.qlock_cli.specs.Words.{IsNumber}
-use Rattle.qlock_cli.proofs.WordLemmas.{AreSizes-more}
-use Rattle.qlock_cli.proofs.words.sizes_of.Goals as goal
+use Rattle.command_line.specs.Words.{IsNumber}
+use Rattle.command_line.proofs.WordLemmas.{AreSizes-more}
+use Rattle.command_line.proofs.words.sizes_of.Goals as goal
 
 pub loop-i-preserved : goal.loop-i-preserved
 loop-i-preserved c =

@@ -1,6 +1,6 @@
 use Rattle.std.proofs.Common.{map, take}
-use Rattle.qlock_cli.specs.Words.{AreSizes}
-use Rattle.qlock_cli.proofs.words.sizes_of.Given as goal
+use Rattle.command_line.specs.Words.{AreSizes}
+use Rattle.command_line.proofs.words.sizes_of.Given as goal
 
 -- the sizes so far are those of the texts so far
 abbrev pub invariant-loop-i : goal.invariant-loop-i

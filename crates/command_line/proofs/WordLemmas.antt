@@ -2,7 +2,7 @@
 use Rattle.std.proofs.Common.{◌≡◌, ℕ, ◌+◌, ◌<◌, ◌≤◌, List, [], ◌∷◌, ◌++◌, length, get_or, take, zero, suc, ap, sym, subst, ◌∙◌, arith, codes, Option, Some, None}
 use Rattle.std.specs.Prelude.{IfSome, unwrap_or}
 use Rattle.clap.specs.Words.{Row, Text, all_of}
-use Rattle.qlock_cli.specs.Words.{AreSizes, IsNumber, size_texts}
+use Rattle.command_line.specs.Words.{AreSizes, IsNumber, size_texts}
 
 -- one size more
 are_more : (texts : List Text) (sizes : List ℕ) (i n : ℕ) → i < length texts → AreSizes (take i texts) sizes → IsNumber (get_or texts i []) n → n ≤ 9999 → AreSizes (take (suc i) texts) (sizes ++ n ∷ [])
