@@ -1,19 +1,17 @@
 -- What the rule means: from sums over all seats to facts about each.
-use Rattle.std.proofs.Common.{◌≡◌, ◌≢◌, ◌⊎◌, inl, inr, ⊎_elim, ℕ, zero, suc, ◌+◌, ◌-◌, ◌/◌, ◌%◌, ◌<◌, ◌≤◌, List, [], ◌∷◌, length, refl, sym, ap, ◌∙◌, subst, arith, Some}
-use Rattle.std.specs.Prelude.{slice_index, flat_map, Option, IfSome, ◌↔◌}
+use Rattle.std.proofs.Common.{◌≡◌, ◌⊎◌, inl, inr, ⊎_elim, ℕ, zero, suc, ◌+◌, ◌-◌, ◌/◌, ◌%◌, ◌<◌, ◌≤◌, List, [], ◌∷◌, length, refl, ◌∙◌, subst, arith, Some}
+use Rattle.std.specs.Prelude.{slice_index, flat_map, Option, ◌↔◌}
 use Rattle.std.specs.List.{sum_by}
 use Rattle.std.proofs.lemmas.List.Sums.{sum_by-cons, sum_by-append}
 use mathlib.Core.Logic.{dite}
 use mathlib.Core.Option.{some}
 use native.Mathlib.Decide.{ℕ_discrete, dec_le}
 use lib.ListN.{get_elem?}
-use Rattle.quorum_set.specs.Sums.{AreAllBelow}
-use Rattle.quorum_set.proofs.SumLemmas.{sum_at}
 use Rattle.board.specs.declared.table.View.{View}
 use Rattle.board.specs.Seats.{Setting}
 use Rattle.board.specs.Quorums.{quorum_at, HoldsAll}
 use Rattle.board.specs.Words.{name_of, offered, taken, returned, is}
-use Rattle.board.specs.Rule.{stands, holds_vote, IsVote, IsReading, IsKept, Kept}
+use Rattle.board.specs.Rule.{stands, holds_vote, IsVote, IsReading, Kept}
 use Rattle.board.specs.VotesKept.{IsWordOf, OneStandsFor, Holds, KeepsVotes}
 use Rattle.board.proofs.Words.{is-same, is-one}
 use Rattle.board.proofs.Votes.{S, stands_here, holds_here}

@@ -74,6 +74,31 @@ impl Board {
         Ok((board, root))
     }
 
+    /// The number of voters, 1 to 64.
+    pub fn voters(&self) -> usize
+        ensures value { result ≡ self.now.voters }
+        ensures few { self.now.voters ≤ 64 }
+        ensures meet { AllMeet self.now.voters self.now.quorums }
+    {
+        self.sheet.voters()
+    }
+
+    /// The number of clients, 1 to 64.
+    pub fn clients(&self) -> u8
+        ensures value { result ≡ self.now.clients }
+        ensures few { self.now.clients ≤ 64 }
+    {
+        self.sheet.clients()
+    }
+
+    /// The highest number of the register, 1 to 2^63.
+    pub fn limit(&self) -> u64
+        ensures value { result ≡ self.now.limit }
+        ensures fits { self.now.limit ≤ 2 ^ 63 }
+    {
+        self.sheet.limit()
+    }
+
     /// The register and all passes. `SeatsOut` where seats are given and not joined, with their number. Takes no memory.
     pub fn close(self, root: BoardRoot) -> Result<Total, BoardFault>
         requires { root.table ≡ self.table }

@@ -40,14 +40,17 @@ impl Model for ClientSeat {
 impl ClientSeat {
     /// The client's number.
     pub fn client(&self) -> u8
-        ensures { result ≡ self.now.client }
+        ensures value { result ≡ self.now.client }
+        ensures few { self.now.client < 64 }
     {
         self.client
     }
 
     /// The number of the grant by which it holds the voter's vote, or none.
     pub fn held(&self, voter: u8) -> Option<u64>
-        ensures { MatchOption result (slice_index self.now.held voter ≡ 0) (λ g. (slice_index self.now.held voter ≡ g) × (0 < g)) }
+        ensures value { MatchOption result (slice_index self.now.held voter ≡ 0) (λ g. (slice_index self.now.held voter ≡ g) × (0 < g)) }
+        ensures voters { length self.now.held ≡ 64 }
+        ensures small { All (λ g. g ≤ 2 ^ 40) self.now.held }
     {
         match self.held.get(usize::from(voter)) {
             Some(grant) if *grant > 0 => Some(*grant),

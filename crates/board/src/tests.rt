@@ -1,4 +1,6 @@
-ghost use Rattle.std.specs.Prelude.{◌≡◌, ◌∷◌, [], IfOk};
+ghost use Rattle.std.specs.Prelude.{◌≡◌, ◌≢◌, ◌<◌, ◌∷◌, [], length, Some, IsSome, IfOk, MatchResult, slice_index};
+ghost use Rattle.board.specs.Quorums.{quorum_at, HoldsAll};
+ghost use Rattle.board.specs.Seats.{BoardState, ClientState, VoterState};
 
 use super::*;
 use quorum_set::{Coterie, QSet};
@@ -50,7 +52,9 @@ fn offered_vote_is_settled(rt: HostRuntime) -> Result<(), Fail> {
 #[test]
 fn seats_are_given_once(rt: HostRuntime) -> Result<(), Fail> {
     let (board, mut root) = Board::new(rt.alloc(), &one(rt.alloc())?, 1, 1)?;
-    assert!(rt; root.has_voter(0) && !root.has_voter(1) && root.has_client(0) && !root.has_client(1));
+    assert!(rt;
+        root.has_voter(0) && !root.has_voter(1) && root.has_client(0) && !root.has_client(1)
+    );
     let client = root.client(&board, 0);
     let voter = root.voter(&board, 0);
     assert!(rt; client.client() == 0 && voter.voter() == 0);
@@ -130,5 +134,68 @@ fn passes_come_back(rt: HostRuntime) -> Result<(), Fail> {
         panic!(rt; "not closed")
     };
     assert!(rt; total.register == 1 && total.passes.as_slice() == [(0, 0)].as_slice());
+    Ok(())
+}
+
+/// The client inside by quorum 0 passes, and gives the vote of voter 0 back.
+fn pass_once(board: &Board, mut client: ClientSeat) -> ClientSeat
+    requires table { client.table ≡ board.now.table }
+    requires voter { 0 < board.now.voters }
+    requires quorum { 0 < length board.now.quorums }
+    requires inside { HoldsAll (quorum_at board.now.quorums 0) client.held }
+    requires held { slice_index client.held 0 ≢ 0 }
+    ensures { result.table ≡ client.table }
+{
+    let _number = client.read_register(board, 0);
+    let _passed = client.write_register(board);
+    client.give_back(board, 0);
+    client
+}
+
+/// Settles the current grant, once its vote came back, and offers the vote to client 1.
+fn offer_next(board: &Board, mut voter: VoterSeat) -> Result<VoterSeat, VoterSeat>
+    requires table { voter.table ≡ board.now.table }
+    requires client { 1 < board.now.clients }
+    requires current { IsSome voter.current }
+    requires last { voter.last < 2 }
+    ensures { MatchResult result (λ v. v ≡ record voter { current = Some (1, 2); last = 2 }) (λ v. v ≡ voter) }
+{
+    for _ in 0..1000 {
+        if voter.settle(board) {
+            voter.grant(board, 1, 2);
+            return Ok(voter);
+        }
+    }
+    Err(voter)
+}
+
+#[test]
+fn two_threads_pass_a_vote_on(rt: HostRuntime) -> Result<(), Fail> {
+    let (board, mut root) = Board::new(rt.alloc(), &one(rt.alloc())?, 2, 9)?;
+    let mut voter = root.voter(&board, 0);
+    let mut first = root.client(&board, 0);
+    let mut second = root.client(&board, 1);
+    voter.grant(&board, 0, 1);
+    if !first.take(&board, 0, 1) {
+        panic!(rt; "the vote was not taken");
+    }
+    let shared = &board;
+    let (first, offered) = thread::join(
+        &rt,
+        move ||
+            requires { (first.table ≡ shared.now.table) × (0 < shared.now.voters) × (0 < length shared.now.quorums) × HoldsAll (quorum_at shared.now.quorums 0) first.held × (slice_index first.held 0 ≢ 0) }
+            ensures { result.table ≡ shared.entry.now.table }
+        { pass_once(shared, first) },
+        move ||
+            requires { (voter.table ≡ shared.now.table) × (1 < shared.now.clients) × IsSome voter.current × (voter.last < 2) }
+            ensures { MatchResult result (λ v. v.table ≡ shared.entry.now.table) (λ v. (v.table ≡ shared.entry.now.table) × IsSome v.current × (v.last < 2)) }
+        { offer_next(shared, voter) },
+    );
+    let done = match offered {
+        Ok(_) => true,
+        Err(voter) => offer_next(&board, voter).is_ok(),
+    };
+    let took = second.take(&board, 0, 2);
+    assert!(rt; done && took && first.passes() == [0].as_slice());
     Ok(())
 }

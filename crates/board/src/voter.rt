@@ -34,14 +34,16 @@ impl Model for VoterSeat {
 impl VoterSeat {
     /// The voter's number.
     pub fn voter(&self) -> u8
-        ensures { result ≡ self.now.voter }
+        ensures value { result ≡ self.now.voter }
+        ensures few { self.now.voter < 64 }
     {
         self.voter
     }
 
     /// The current grant, by its client and its number, or none.
     pub fn current(&self) -> Option<(u8, u64)>
-        ensures { result ≡ self.now.current }
+        ensures value { result ≡ self.now.current }
+        ensures grant { IsCurrent self.now.current self.now.last }
     {
         self.current
     }
