@@ -1,5 +1,5 @@
 -- What callers rest on after a call.
-use Rattle.std.proofs.Common.{◌≡◌, ℕ, ◌≤◌, Bool, true, false, List, [], ◌∷◌, length, refl, sym, ap, subst, ◌∙◌, Result, Ok, Err}
+use Rattle.std.proofs.Common.{◌≡◌, ℕ, ◌≤◌, Bool, true, false, List, [], ◌∷◌, length, refl, sym, ap, subst, Result, Ok, Err}
 use Rattle.std.specs.Prelude.{IfOk, IfErr}
 use Rattle.quorum_set.specs.Sets.{IsSet}
 use Rattle.message.specs.declared.message.ToClient.{ToClient}
@@ -7,7 +7,7 @@ use Rattle.requester.specs.declared.fault.ClientFault.{ClientFault}
 use Rattle.requester.specs.declared.state.Reply.{Reply}
 use Rattle.requester.specs.declared.state.Seen.TheVariants.{Nothing}
 use Rattle.requester.specs.declared.state.ClientState.{ClientState}
-use Rattle.requester.specs.Words.{holds, is_inquired, members}
+use Rattle.requester.specs.Words.{holds}
 use Rattle.requester.specs.Soundness.{IsSound}
 use Rattle.requester.specs.RequesterContract.{Accepts}
 use Rattle.requester.specs.Steps.{Outcome, Cause, Asks, Leaves, GivesUp, step, ask, leave, give_up, take, relinquish, relinquish_if, relinquish_each, failed, failed_by, inquired, inquired_by}

@@ -1,7 +1,6 @@
 -- The contract of a client.
-use Rattle.std.proofs.Common.{◌≡◌, ◌≢◌, ℕ, ◌+◌, ◌<◌, ◌≤◌, Bool, true, false, ◌&&◌, not, ltb, eqb, List, [], ◌∷◌, ◌++◌, refl, sym, ap, subst, ◌∙◌, ◌⊎◌, inl, inr, arith, Result, Ok, Err}
+use Rattle.std.proofs.Common.{◌≡◌, ◌≢◌, ℕ, ◌+◌, ◌≤◌, Bool, true, false, ◌&&◌, not, ltb, eqb, List, refl, sym, ap, subst, ◌∙◌, ◌⊎◌, inl, inr, arith, Ok}
 use Rattle.std.specs.Prelude.{◌==◌}
-use Rattle.std.specs.List.{AllByRecursion}
 use Rattle.std.proofs.lemmas.Bool.{cases_eq}
 use Rattle.std.proofs.lemmas.Bool.Decides.{nat_tests}
 use Rattle.message.specs.declared.message.ToVoter.{ToVoter}
@@ -13,15 +12,15 @@ use Rattle.message.specs.declared.message.ClientBody.TheVariants as tells
 use Rattle.requester.specs.declared.state.Phase.{Phase}
 use Rattle.requester.specs.declared.state.Phase.TheVariants.{Idle, Asking, Inside}
 use Rattle.requester.specs.declared.state.Seen.{Seen}
-use Rattle.requester.specs.declared.state.Seen.TheVariants.{Nothing, Entered, Left}
+use Rattle.requester.specs.declared.state.Seen.TheVariants.{Nothing, Left}
 use Rattle.requester.specs.declared.state.ClientState.{ClientState}
-use Rattle.requester.specs.Words.{is_idle, is_asking, is_inside, members, is_current, held_of, holds, holds_under, is_covered, last_of}
+use Rattle.requester.specs.Words.{is_idle, is_inside, members, is_current, held_of, holds, holds_under, last_of}
 use Rattle.requester.specs.Soundness.{IsSound}
-use Rattle.requester.specs.RequesterContract.{Accepts, IsLater, IsLive, IsLocked, Locks, Sees, KeepsQuorum, Says, AllSay, MeetsContract, Repeats, AllRepeat}
-use Rattle.requester.specs.Steps.{Outcome, silent, cleared, begun, asked, ask, tell, is_fresh, hold, enter_if, locked, locked_by, failed, failed_by, inquire, inquired, inquired_by, see, take_body, take, released, leave, give_up, Cause, Asks, Takes, Leaves, GivesUp, step, remind, remind_in, remind_by, remind_member}
+use Rattle.requester.specs.RequesterContract.{Accepts, IsLive, IsLocked, Locks, Sees, KeepsQuorum, Says, MeetsContract, Repeats, AllRepeat}
+use Rattle.requester.specs.Steps.{Outcome, silent, cleared, begun, asked, tell, is_fresh, hold, enter_if, locked, locked_by, failed, failed_by, inquired, inquired_by, see, take_body, take, released, Cause, Asks, Takes, Leaves, GivesUp, step, remind, remind_in, remind_by, remind_member}
 use Rattle.requester.proofs.Members.{clash, both, all_weaker, all_told, all_told_each, nothing_at}
-use Rattle.requester.proofs.Giving.{GivesBack, IsGiving, Kept, Given, gives_nothing, gives_one}
-use Rattle.requester.proofs.SoundSteps.{Counts, counts, current_busy, holds_more, not_inside, gives-failed, asking_outside, asking_failed, sound-see, same_Ok, ask_done, leave_done, give_up_done}
+use Rattle.requester.proofs.Giving.{GivesBack, IsGiving, Given, gives_nothing, gives_one}
+use Rattle.requester.proofs.SoundSteps.{Counts, counts, current_busy, holds_more, not_inside, gives-failed, asking_outside, sound-see, same_Ok, ask_done, leave_done, give_up_done}
 
 -- Steps that give votes back
 
@@ -109,6 +108,7 @@ met-enter b x m t g body s c busy current = elim b as (λ b. MeetsContract x (Ta
   where
     locks : (v h : ℕ) → v ≡ m.voter → h ≡ g → IsLocked (Takes m) v x.stamp h
     locks v h voter grant = subst (λ b. Locks m.voter b v x.stamp h) (sym body) (voter, sym current, grant)
+
     held : (p : Phase) → is_idle p ≡ false → (v h : ℕ) → holds_under (hold x m.voter g) v h ≡ true
         → ((holds_under x v h ≡ true) × (x.stamp ≡ x.stamp)) ⊎ (IsLocked (Takes m) v x.stamp h × IsLive (record (hold x m.voter g) { phase = p }) v x.stamp h)
     held p runs v h e = elim (cases_eq v m.voter) [

@@ -1,11 +1,10 @@
 -- What giving votes back does: each vote is kept, or was held and is sent back.
-use Rattle.std.proofs.Common.{◌≡◌, ◌≢◌, ℕ, ◌+◌, ◌<◌, ◌≤◌, Bool, true, false, ltb, eqb, List, [], ◌∷◌, ◌++◌, filter, length, get_or, set, refl, sym, ap, subst, ◌∙◌, ◌⊎◌, inl, inr, arith}
+use Rattle.std.proofs.Common.{◌≡◌, ℕ, ◌<◌, Bool, true, false, ltb, List, [], ◌∷◌, ◌++◌, length, refl, sym, ap, subst, ◌∙◌, ◌⊎◌, inl, inr, arith}
 use Rattle.std.specs.List.{AllByRecursion, Contains}
 use Rattle.std.proofs.lemmas.Bool.{cases_eq}
 use Rattle.std.proofs.lemmas.List.{get_or-set_other, get_or-set_same, length-set}
 use Rattle.std.proofs.lemmas.List.Elements.{Contains-append_left, Contains-append_right}
 use Rattle.message.specs.declared.message.ToVoter.{ToVoter}
-use Rattle.message.specs.declared.message.VoterBody.{VoterBody}
 use Rattle.message.specs.declared.message.VoterBody.TheVariants as asks
 use Rattle.requester.specs.declared.state.ClientState.{ClientState}
 use Rattle.requester.specs.declared.state.Seen.TheVariants.{Nothing}
@@ -108,14 +107,18 @@ gives_then x a b k l = record {
     )
     votes v (inr p) (inl q) = inr (given_kept x a.state b.state v p.0 q, Contains-append_left a.out b.out (giving x v) p.1)
     votes v (inr p) (inr q) = clash (holds a.state v) q.0.was (not_held a.state v p.0.gone)
+
     earlier_vote : (v : ℕ) → Given x a.state v → Kept a.state b.state v ⊎ (Given a.state b.state v × Contains b.out (giving a.state v)) → Given x b.state v
     earlier_vote v p (inl q) = given_kept x a.state b.state v p q
     earlier_vote v p (inr q) = clash (holds a.state v) q.0.was (not_held a.state v p.gone)
+
     earlier : (m : ToVoter) → IsGiving x a.state m → IsGiving x b.state m
     earlier m p = record { client = p.client; vote = earlier_vote m.voter p.vote (l.votes m.voter); body = p.body }
+
     later_by : (m : ToVoter) → IsGiving a.state b.state m → Kept x a.state m.voter ⊎ (Given x a.state m.voter × Contains a.out (giving x m.voter)) → IsGiving x b.state m
     later_by m q (inl p) = record { client = q.client ∙ k.id; vote = kept_given x a.state b.state m.voter p q.vote; body = q.body ∙ ap (λ g. asks.Relinquish g) p.held }
     later_by m q (inr p) = clash (holds a.state m.voter) q.vote.was (not_held a.state m.voter p.0.gone)
+
     later : (m : ToVoter) → IsGiving a.state b.state m → IsGiving x b.state m
     later m q = later_by m q (k.votes m.voter)
 

@@ -3,6 +3,7 @@ pub mod ContractLemmas
 pub mod Giving
 pub mod Members
 pub mod RangeLemmas
+pub mod Refusals
 pub mod Rest
 pub mod SoundSteps
 pub mod VoteLemmas

@@ -1,12 +1,12 @@
 -- Facts on the members of a quorum, and on lists with a place for each voter.
-use Rattle.std.proofs.Common.{◌≡◌, ◌≢◌, ℕ, zero, suc, ◌+◌, ◌<◌, ◌≤◌, Bool, true, false, ◌&&◌, ◌||◌, cond, not, map, eqb, ltb, List, [], ◌∷◌, ◌++◌, length, get_or, set, replicate, refl, sym, ap, subst, ◌∙◌, ◌⊎◌, inl, inr, arith}
-use Rattle.std.specs.List.{AllByRecursion, IsDistinct, list_all, list_any, flat_map}
-use Rattle.std.proofs.lemmas.Bool.{false≢true, cases_lt, cases_eq, ne_eqb}
+use Rattle.std.proofs.Common.{◌≡◌, ℕ, zero, suc, ◌+◌, ◌<◌, ◌≤◌, Bool, true, false, ◌&&◌, ◌||◌, not, map, eqb, ltb, List, [], ◌∷◌, ◌++◌, length, get_or, replicate, refl, sym, ap, subst, ◌∙◌, inl, inr, arith}
+use Rattle.std.specs.List.{AllByRecursion, IsDistinct, list_all, flat_map}
+use Rattle.std.proofs.lemmas.Bool.{false≢true, cases_lt, ne_eqb}
 use Rattle.std.proofs.lemmas.Bool.Decides.{nat_tests}
 use Rattle.std.proofs.lemmas.Map.Keys.{IsDistinct-cons}
-use Rattle.std.proofs.lemmas.List.{get_or_past, get_or-set_same, get_or-set_other}
+use Rattle.std.proofs.lemmas.List.{get_or_past}
 use Rattle.quorum_set.specs.Sets.{has, Ascends, IsSet}
-use Rattle.quorum_set.proofs.SetLemmas.{Ascends-lower, has-above, length-Ascends}
+use Rattle.quorum_set.proofs.SetLemmas.{has-above, length-Ascends}
 
 pub clash : {A : Type 0} → (b : Bool) → b ≡ true → b ≡ false → A
 clash b t f = absurd (false≢true (sym f ∙ t))

@@ -1,11 +1,9 @@
 -- To whom a client speaks, and with which numbers.
-use Rattle.std.proofs.Common.{◌≡◌, ℕ, ◌+◌, ◌<◌, ◌≤◌, Bool, true, false, ◌&&◌, ltb, List, [], ◌∷◌, refl, sym, ap, subst, ◌∙◌, ◌⊎◌, inl, inr, arith, Result, Ok, Err}
-use Rattle.std.specs.List.{AllByRecursion}
+use Rattle.std.proofs.Common.{◌≡◌, ℕ, ◌+◌, ◌<◌, ◌≤◌, Bool, true, false, List, refl, sym, ap, subst, ◌∙◌, inl, inr, arith, Ok}
 use Rattle.std.proofs.lemmas.Bool.Decides.{nat_tests}
 use Rattle.quorum_set.specs.Sets.{has, IsSet}
 use Rattle.message.specs.declared.message.ToVoter.{ToVoter}
 use Rattle.message.specs.declared.message.ToClient.{ToClient}
-use Rattle.message.specs.declared.message.VoterBody.{VoterBody}
 use Rattle.message.specs.declared.message.VoterBody.TheVariants as asks
 use Rattle.message.specs.declared.message.ClientBody.{ClientBody}
 use Rattle.message.specs.declared.message.ClientBody.TheVariants as tells
@@ -14,10 +12,10 @@ use Rattle.requester.specs.declared.state.Phase.TheVariants.{Idle, Asking, Insid
 use Rattle.requester.specs.declared.state.Seen.{Seen}
 use Rattle.requester.specs.declared.state.Seen.TheVariants.{Nothing, Left}
 use Rattle.requester.specs.declared.state.ClientState.{ClientState}
-use Rattle.requester.specs.Words.{is_idle, is_asking, is_inside, members, is_member, held_of, holds, last_of, is_relinquished}
+use Rattle.requester.specs.Words.{is_idle, is_inside, members, is_member, held_of, is_relinquished}
 use Rattle.requester.specs.Soundness.{IsSound}
 use Rattle.requester.specs.RequesterContract.{Accepts, AllInRange, ComesInRange, IsLocked, IsReached, Locks, RemindersInRange, SaysInRange}
-use Rattle.requester.specs.Steps.{Outcome, silent, ask, asked, begun, tell, hold, enter_if, locked, locked_by, failed, failed_by, inquired, inquired_by, see, take, take_body, leave, give_up, released, Cause, Asks, Takes, Leaves, GivesUp, step, remind, remind_in, remind_by, remind_member}
+use Rattle.requester.specs.Steps.{Outcome, asked, begun, tell, hold, enter_if, locked, locked_by, failed, failed_by, inquired, inquired_by, see, take, take_body, released, Cause, Asks, Takes, Leaves, GivesUp, step, remind, remind_in, remind_by, remind_member}
 use Rattle.requester.proofs.Members.{all_told, all_told_each, all_weaker, member_below}
 use Rattle.requester.proofs.Giving.{GivesBack, IsGiving, gives_one}
 use Rattle.requester.proofs.SoundSteps.{asking_busy, ask_done, gives-failed, give_up_done, leave_done, same_Ok, sound-see}
@@ -31,8 +29,7 @@ giving_in_range : (x : ClientState) (cause : Cause) (o : Outcome) → IsSound x 
 giving_in_range x cause o s k m g =
     let w = s.held m.voter g.vote.was in
     let was = g.vote.was in
-    let some : 1 ≤ held_of x m.voter = grind (arith, nat_tests) in
-    (
+    let some : 1 ≤ held_of x m.voter = grind (arith, nat_tests) in (
       inl (ap (λ q. has q.items m.voter) k.quorum ∙ w.member),
       member_below (members x) m.voter s.quorum w.member,
       subst (SaysInRange o.state.limit) (sym g.body) some,

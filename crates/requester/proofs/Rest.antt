@@ -1,11 +1,11 @@
 -- Giving back the votes that are marked, one at a time.
-use Rattle.std.proofs.Common.{◌≡◌, ◌≢◌, ℕ, ◌+◌, ◌<◌, Bool, true, false, cond, List, [], ◌∷◌, ◌++◌, filter, length, Option, Some, None, refl, sym, ap, ◌∙◌, arith, eqb, get_or, set}
-use Rattle.std.specs.List.{AllByRecursion, IsDistinct}
+use Rattle.std.proofs.Common.{◌≡◌, ◌≢◌, ℕ, Bool, true, false, cond, List, [], ◌∷◌, ◌++◌, filter, refl, sym, ap, ◌∙◌, arith, eqb, get_or, set}
+use Rattle.std.specs.List.{AllByRecursion}
 use Rattle.std.proofs.lemmas.Bool.Decides.{nat_tests}
 use Rattle.std.proofs.lemmas.List.{get_or-set_other}
 use Rattle.requester.specs.declared.state.ClientState.{ClientState}
 use Rattle.requester.specs.Words.{holds, is_inquired}
-use Rattle.requester.specs.Steps.{silent, relinquish, relinquish_if, relinquish_each, relinquish_marked, relinquish_marked_if, relinquish_inquired}
+use Rattle.requester.specs.Steps.{relinquish, relinquish_if, relinquish_each, relinquish_marked, relinquish_marked_if, relinquish_inquired}
 
 other_mark : (marks : List Bool) (v u : ℕ) → eqb v u ≡ false → get_or (set marks v false) u false ≡ get_or marks u false
 other_mark marks v u e = let ne : u ≢ v = grind (arith, nat_tests) in get_or-set_other marks v u false false ne

@@ -1,7 +1,6 @@
 -- Every step keeps what is so of every client.
-use Rattle.std.proofs.Common.{◌≡◌, ◌≢◌, ℕ, ◌+◌, ◌<◌, ◌≤◌, ◌^◌, Bool, true, false, ◌&&◌, not, ltb, nat_lt, List, [], ◌∷◌, length, filter, get_or, set, max, refl, sym, ap, subst, ◌∙◌, ◌⊎◌, inl, inr, arith, Result, Ok, Err}
+use Rattle.std.proofs.Common.{◌≡◌, ◌≢◌, ℕ, ◌<◌, ◌≤◌, ◌^◌, Bool, true, false, ◌&&◌, not, ltb, nat_lt, List, length, filter, set, refl, sym, ap, subst, ◌∙◌, inl, inr, arith, Result, Ok, Err}
 use Rattle.std.specs.Prelude.{◌==◌}
-use Rattle.std.specs.List.{AllByRecursion}
 use Rattle.std.specs.Result.{is_err, result_ok}
 use Rattle.std.proofs.lemmas.Bool.{cases_eq}
 use Rattle.std.proofs.lemmas.Option.{same_Some}
@@ -11,18 +10,17 @@ use Rattle.quorum_set.specs.Sets.{has, IsSet}
 use Rattle.message.specs.declared.message.ToClient.{ToClient}
 use Rattle.message.specs.declared.message.ClientBody.{ClientBody}
 use Rattle.message.specs.declared.message.ClientBody.TheVariants as tells
-use Rattle.requester.specs.declared.fault.ClientFault.{ClientFault}
 use Rattle.requester.specs.declared.state.Phase.{Phase}
 use Rattle.requester.specs.declared.state.Phase.TheVariants.{Idle, Asking, Inside}
 use Rattle.requester.specs.declared.state.Seen.{Seen}
 use Rattle.requester.specs.declared.state.Seen.TheVariants.{Nothing, Left}
 use Rattle.requester.specs.declared.state.ClientState.{ClientState}
-use Rattle.requester.specs.Words.{is_idle, is_asking, is_inside, members, is_member, is_current, held_of, holds, holds_under, is_covered, last_of, is_relinquished, is_inquired, is_hindered, is_spent}
+use Rattle.requester.specs.Words.{is_idle, is_asking, is_inside, members, is_member, is_current, held_of, holds, holds_under, is_covered, last_of, is_relinquished, is_inquired, is_spent}
 use Rattle.requester.specs.Soundness.{IsHeldWell, HasPlaces, IsSound}
 use Rattle.requester.specs.RequesterContract.{Accepts}
-use Rattle.requester.specs.Steps.{Outcome, silent, cleared, begun, asked, ask, ask_in, ask_unless, relinquish_each, is_fresh, hold, enter_if, locked, locked_by, fail, failed, failed_by, inquire, inquired, inquired_by, see, take_body, take, released, leave, leave_in, give_up, give_up_in, Cause, Asks, Takes, Leaves, GivesUp, step, start}
+use Rattle.requester.specs.Steps.{Outcome, cleared, begun, asked, ask, ask_in, ask_unless, is_fresh, hold, enter_if, locked, locked_by, fail, failed, failed_by, inquire, inquired, inquired_by, see, take_body, take, released, leave, leave_in, give_up, give_up_in, Cause, Asks, Takes, Leaves, GivesUp, step, start}
 use Rattle.requester.proofs.Members.{clash, both, all_weaker, negated, member_below, all_any, nothing_at, unmarked_at}
-use Rattle.requester.proofs.Giving.{GivesBack, IsGiving, Kept, Given, gives_nothing, gives_one, gives_each}
+use Rattle.requester.proofs.Giving.{GivesBack, IsGiving, Kept, Given, gives_one, gives_each}
 
 -- Asking is neither idle nor inside.
 

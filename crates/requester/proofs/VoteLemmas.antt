@@ -1,16 +1,14 @@
 -- Which votes a step takes and gives back.
-use Rattle.std.proofs.Common.{◌≡◌, ℕ, Bool, true, false, ◌&&◌, List, set, refl, sym, ap, subst, ◌∙◌, ◌⊎◌, inl, inr, arith, Result, Ok, Err}
+use Rattle.std.proofs.Common.{◌≡◌, ℕ, Bool, true, false, ◌&&◌, List, set, refl, subst, ◌∙◌, inl, inr, arith, Ok}
 use Rattle.std.proofs.lemmas.Bool.Decides.{nat_tests}
-use Rattle.std.proofs.lemmas.Bool.{cases_eq}
 use Rattle.message.specs.declared.message.ToClient.{ToClient}
 use Rattle.message.specs.declared.message.ClientBody.{ClientBody}
 use Rattle.message.specs.declared.message.ClientBody.TheVariants as tells
-use Rattle.requester.specs.declared.state.Seen.{Seen}
 use Rattle.requester.specs.declared.state.ClientState.{ClientState}
-use Rattle.requester.specs.Words.{is_idle, is_inside, is_member, members, held_of, holds, is_covered}
+use Rattle.requester.specs.Words.{is_idle, is_inside, is_member, members, held_of, holds}
 use Rattle.requester.specs.Soundness.{IsSound}
 use Rattle.requester.specs.Held.{HoldsBesides, HoldsNothing, IsKeptOrGiven}
-use Rattle.requester.specs.Steps.{Outcome, silent, ask, asked, begun, hold, enter_if, locked, locked_by, failed, failed_by, inquired, inquired_by, see, take, take_body, would_hold, would_hold_body, leave, give_up, released}
+use Rattle.requester.specs.Steps.{Outcome, ask, hold, enter_if, locked, locked_by, failed, failed_by, inquired, inquired_by, see, take, take_body, would_hold, would_hold_body, leave, give_up}
 use Rattle.requester.proofs.Members.{clash, all_any, nothing_at}
 use Rattle.requester.proofs.Giving.{GivesBack, gives_one}
 use Rattle.requester.proofs.SoundSteps.{gives-failed, sound-see, ask_done, leave_done, give_up_done}

@@ -1,7 +1,6 @@
 -- Which votes a step takes and gives back: for whoever keeps a board of the votes beside the client.
 use Rattle.std.specs.Prelude.{ℕ, ◌≡◌, ◌⊎◌, true, slice_set}
 use Rattle.std.specs.List.{Contains}
-use Rattle.message.specs.declared.message.ToVoter.{ToVoter}
 use Rattle.message.specs.declared.message.ClientBody.{ClientBody}
 use Rattle.message.specs.declared.message.ClientBody.TheVariants as tells
 use Rattle.message.specs.declared.message.VoterBody.TheVariants as asks

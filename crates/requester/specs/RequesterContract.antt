@@ -1,9 +1,8 @@
 -- The contract of a client: all that proofs about many voters and clients need of its steps.
-use Rattle.std.specs.Prelude.{ℕ, ◌≡◌, ◌≢◌, ◌<◌, ◌≤◌, Bool, true, false, List, length, ◌⊎◌}
+use Rattle.std.specs.Prelude.{ℕ, ◌≡◌, ◌≢◌, ◌<◌, ◌≤◌, true, false, List, length, ◌⊎◌}
 use Rattle.std.specs.List.{AllByRecursion}
 use Rattle.quorum_set.specs.Sets.{IsSet}
 use Rattle.message.specs.declared.message.ToVoter.{ToVoter}
-use Rattle.message.specs.declared.message.ToClient.{ToClient}
 use Rattle.message.specs.declared.message.VoterBody.{VoterBody}
 use Rattle.message.specs.declared.message.VoterBody.TheVariants as asks
 use Rattle.message.specs.declared.message.ClientBody.{ClientBody}

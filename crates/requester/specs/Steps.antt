@@ -1,6 +1,6 @@
 -- The steps of a client: what a call or a message makes it send, what it sees, and what it is afterwards (Maekawa, ACM
 -- TOCS 3(2), 1985, with grant numbers for messages that are repeated, lost or late).
-use Rattle.std.specs.Prelude.{ℕ, ◌≡◌, ◌+◌, ◌==◌, nat_lt, Bool, true, false, ◌&&◌, not, List, [], ◌∷◌, ◌++◌, map, filter, max, replicate, slice_set, Result, Ok, Err}
+use Rattle.std.specs.Prelude.{ℕ, ◌+◌, ◌==◌, nat_lt, Bool, true, false, ◌&&◌, not, List, [], ◌∷◌, ◌++◌, map, filter, max, replicate, slice_set, Result, Ok, Err}
 use Rattle.std.specs.List.{flat_map}
 use Rattle.message.specs.declared.message.ToVoter.{ToVoter}
 use Rattle.message.specs.declared.message.ToClient.{ToClient}
@@ -15,7 +15,7 @@ use Rattle.requester.specs.declared.state.Phase.TheVariants.{Idle, Asking, Insid
 use Rattle.requester.specs.declared.state.Seen.{Seen}
 use Rattle.requester.specs.declared.state.Seen.TheVariants.{Nothing, Entered, Left}
 use Rattle.requester.specs.declared.state.ClientState.{ClientState}
-use Rattle.requester.specs.Words.{members, is_member, is_current, is_asking, is_idle, is_spent, held_of, holds, holds_under, is_covered, last_of, is_relinquished, is_inquired, is_hindered}
+use Rattle.requester.specs.Words.{members, is_member, is_current, is_asking, is_spent, held_of, holds, holds_under, is_covered, last_of, is_relinquished, is_inquired, is_hindered}
 
 -- what is sent, in order, what is seen, and the client afterwards
 pub record Outcome : Type 0 where

@@ -1,12 +1,15 @@
 //! Laws of the definitions.
-ghost use Rattle.std.specs.Prelude.{◌≡◌, ◌<◌, ◌≤◌, ◌^◌, ℕ, Ok, List, true, false};
+ghost use Rattle.std.specs.Prelude.{◌≡◌, ◌<◌, ◌≤◌, ◌^◌, ℕ, Err, Ok, List, true, false};
 ghost use Rattle.message.specs.declared.message.ToClient.{ToClient};
 ghost use Rattle.requester.specs.declared.state.ClientState.{ClientState};
 ghost use Rattle.requester.specs.Held.{HoldsBesides, HoldsNothing, IsKeptOrGiven};
 ghost use Rattle.requester.specs.RequesterContract.{Accepts, AllInRange, AllRepeat, ComesInRange, MeetsContract, RemindersInRange};
 ghost use Rattle.requester.specs.Soundness.{IsSound};
-ghost use Rattle.requester.specs.Steps.{Cause, Outcome, ask, give_up, leave, remind, start, step, take, would_hold};
-ghost use Rattle.requester.specs.Words.{holds, is_idle, is_inside, is_member};
+ghost use Rattle.requester.specs.Steps.{Cause, Outcome, ask, asked, give_up, leave, released, remind, start, step, take, would_hold};
+ghost use Rattle.requester.specs.Words.{holds, is_asking, is_idle, is_inside, is_member, is_spent};
+
+use crate::fault::ClientFault;
+use crate::state::Seen;
 
 /// A client never goes back behind a stamp that it released or a grant that it gave back, holds only votes that a LOCKED
 /// told it for the request that runs, and speaks of each as it stands after the step.
@@ -43,4 +46,15 @@ pub fn phases_tell_votes()
     ensures asked { (x : ClientState) (quorum : List ℕ) (o : Outcome) → ask x quorum ≡ Ok o → HoldsNothing o.state }
     ensures left { (x : ClientState) (o : Outcome) → leave x ≡ Ok o → HoldsNothing o.state }
     ensures given_up { (x : ClientState) (o : Outcome) → give_up x ≡ Ok o → HoldsNothing o.state }
+{}
+
+/// Whether a call is refused, and by which fault, shows in the phase, and for `ask` in whether the stamps are spent.
+pub fn phases_tell_refusals()
+    ensures busy { (x : ClientState) (quorum : List ℕ) → is_idle x.phase ≡ false → ask x quorum ≡ Err ClientFault.Busy }
+    ensures spent { (x : ClientState) (quorum : List ℕ) → is_idle x.phase ≡ true → is_spent x ≡ true → ask x quorum ≡ Err ClientFault.StampsSpent }
+    ensures asked { (x : ClientState) (quorum : List ℕ) → is_idle x.phase ≡ true → is_spent x ≡ false → ask x quorum ≡ Ok (asked x quorum) }
+    ensures not_inside { (x : ClientState) → is_inside x.phase ≡ false → leave x ≡ Err ClientFault.NotInside }
+    ensures left { (x : ClientState) → is_inside x.phase ≡ true → leave x ≡ Ok (released x Seen.Left) }
+    ensures not_asking { (x : ClientState) → is_asking x.phase ≡ false → give_up x ≡ Err ClientFault.NotAsking }
+    ensures given_up { (x : ClientState) → is_asking x.phase ≡ true → give_up x ≡ Ok (released x Seen.Nothing) }
 {}

@@ -46,8 +46,8 @@ mod tests;
 
 pub use fault::ClientFault;
 pub use laws::{
-    messages_are_in_range, messages_move_votes, phases_tell_votes, requesters_meet_the_contract,
-    requesters_stay_sound,
+    messages_are_in_range, messages_move_votes, phases_tell_refusals, phases_tell_votes,
+    requesters_meet_the_contract, requesters_stay_sound,
 };
 pub use requester::Requester;
 pub use state::{Members, Messages, Phase, Reminders, Reply, Seen};

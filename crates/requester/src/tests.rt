@@ -84,7 +84,10 @@ fn plays(alloc: Global, client: &mut Requester, script: &[(&str, &str)]) -> Resu
 fn vote_that_is_given_back_is_won_again(rt: HostRuntime) -> Result<(), Fail> {
     let alloc = rt.alloc();
     let mut client = Requester::new(0, 9);
-    assert_eq!(rt; ask(alloc, &mut client)?.as_str(), "request 0 0 1;request 0 1 1;");
+    assert_eq!(rt;
+        ask(alloc, &mut client)?.as_str(),
+        "request 0 0 1;request 0 1 1;"
+    );
     let lost = [
         ("fail 1 0 1 1", ""),
         ("locked 0 0 1 1 1", ""),
@@ -102,7 +105,10 @@ fn vote_that_is_given_back_is_won_again(rt: HostRuntime) -> Result<(), Fail> {
 fn inside_until_it_leaves(rt: HostRuntime) -> Result<(), Fail> {
     let alloc = rt.alloc();
     let mut client = Requester::new(0, 9);
-    assert_eq!(rt; ask(alloc, &mut client)?.as_str(), "request 0 0 1;request 0 1 1;");
+    assert_eq!(rt;
+        ask(alloc, &mut client)?.as_str(),
+        "request 0 0 1;request 0 1 1;"
+    );
     let won = [
         ("locked 0 0 1 2 1", ""),
         ("locked 1 0 1 5 1", "entered"),
@@ -123,7 +129,10 @@ fn inside_until_it_leaves(rt: HostRuntime) -> Result<(), Fail> {
 fn vote_that_is_asked_for_goes_back_on_the_next_fail(rt: HostRuntime) -> Result<(), Fail> {
     let alloc = rt.alloc();
     let mut client = Requester::new(0, 9);
-    assert_eq!(rt; ask(alloc, &mut client)?.as_str(), "request 0 0 1;request 0 1 1;");
+    assert_eq!(rt;
+        ask(alloc, &mut client)?.as_str(),
+        "request 0 0 1;request 0 1 1;"
+    );
     let lost = [
         ("locked 0 0 1 4 1", ""),
         ("inquire 0 0 3 1", ""),
@@ -139,7 +148,10 @@ fn vote_that_is_asked_for_goes_back_on_the_next_fail(rt: HostRuntime) -> Result<
         answer(alloc, client.give_up())?.as_str(),
         "release 0 0 1;release 0 1 1;"
     );
-    assert_eq!(rt; ask(alloc, &mut client)?.as_str(), "request 0 0 8;request 0 1 8;");
+    assert_eq!(rt;
+        ask(alloc, &mut client)?.as_str(),
+        "request 0 0 8;request 0 1 8;"
+    );
     Ok(())
 }
 
@@ -149,7 +161,10 @@ fn refusals(rt: HostRuntime) -> Result<(), Fail> {
     let mut client = Requester::new(0, 1);
     assert_eq!(rt; answer(alloc, client.leave())?.as_str(), "C2 NotInside");
     assert_eq!(rt; answer(alloc, client.give_up())?.as_str(), "C3 NotAsking");
-    assert_eq!(rt; ask(alloc, &mut client)?.as_str(), "request 0 0 1;request 0 1 1;");
+    assert_eq!(rt;
+        ask(alloc, &mut client)?.as_str(),
+        "request 0 0 1;request 0 1 1;"
+    );
     assert_eq!(rt; ask(alloc, &mut client)?.as_str(), "C1 Busy");
     assert!(rt; client.give_up().is_ok());
     assert_eq!(rt; ask(alloc, &mut client)?.as_str(), "C4 StampsSpent");
@@ -161,7 +176,10 @@ fn readers(rt: HostRuntime) -> Result<(), Fail> {
     let alloc = rt.alloc();
     let mut client = Requester::new(0, 9);
     assert_eq!(rt; client.phase(), Phase::Idle);
-    assert_eq!(rt; ask(alloc, &mut client)?.as_str(), "request 0 0 1;request 0 1 1;");
+    assert_eq!(rt;
+        ask(alloc, &mut client)?.as_str(),
+        "request 0 0 1;request 0 1 1;"
+    );
     if let Some(message) = told("locked 0 0 1 4 9") {
         assert!(rt; client.would_hold(&message));
         assert_eq!(rt; shown(alloc, &client.take(&message))?.as_str(), "");
