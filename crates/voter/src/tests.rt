@@ -35,23 +35,31 @@ fn lines(alloc: Global, answer: Result<Replies, VoterFault>) -> Result<String, A
     Ok(text)
 }
 
-/// Whether a voter that takes each line in turn answers the lines beside it.
-fn plays(alloc: Global, limit: u64, script: &[(&str, &str)]) -> Result<bool, AllocError>
+/// The voter that took each line in turn, where it answered the lines beside it.
+fn after(alloc: Global, limit: u64, script: &[(&str, &str)]) -> Result<Option<Voter>, AllocError>
     requires least { 1 ≤ limit }
     requires most { limit ≤ 2 ^ 40 }
 {
     let mut voter = Voter::new(0, limit);
     for (line, want) in script {
         let Some(message) = asked(line) else {
-            return Ok(false);
+            return Ok(None);
         };
         let refused = voter.effect(&message).refused;
         let got = lines(alloc, voter.take(&message))?;
         if got.as_str() != *want || refused != (*want == "V1 GrantsSpent") {
-            return Ok(false);
+            return Ok(None);
         }
     }
-    Ok(true)
+    Ok(Some(voter))
+}
+
+/// Whether a voter that takes each line in turn answers the lines beside it.
+fn plays(alloc: Global, limit: u64, script: &[(&str, &str)]) -> Result<bool, AllocError>
+    requires least { 1 ≤ limit }
+    requires most { limit ≤ 2 ^ 40 }
+{
+    Ok(after(alloc, limit, script)?.is_some())
 }
 
 #[test]
@@ -66,7 +74,10 @@ fn vote_that_is_given_back(rt: HostRuntime) -> Result<(), Fail> {
         ("release 1 0 1", ""),
         ("release 0 0 1", ""),
     ];
-    assert!(rt; plays(rt.alloc(), 2, script.as_slice())?);
+    match after(rt.alloc(), 2, script.as_slice())? {
+        Some(voter) => assert!(rt; voter.held().is_none()),
+        None => assert!(rt; false),
+    }
     Ok(())
 }
 
