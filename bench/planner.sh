@@ -30,6 +30,9 @@ seconds() {
     awk -v n=$((end - begin)) 'BEGIN { printf "%.3f", n / 1e9 }'
 }
 
+# builds the program where it has to be, so that no figure has that in it
+"$root/qlock" make wheel 3 > /dev/null
+
 printf '%-28s %6s %8s %12s %10s %8s %8s %8s %7s\n' coterie voters quorums load optimum qlock glpsol exact ratio
 for file in "$folder"/*.toml; do
     program_of "$file" > "$work/lp"
