@@ -1,0 +1,6 @@
+pub mod Codes
+pub mod Ranges
+pub mod Runs
+pub mod States
+pub mod Steps
+pub mod Visible

@@ -1,0 +1,26 @@
+-- A world as the code keeps it, and room in it.
+use Rattle.std.specs.Prelude.{ℕ, ◌≡◌, ◌+◌, ◌≤◌, Option, Some, None, Result, Ok, Err, vec_capacity, vec_len}
+use Rattle.world.specs.declared.fault.WorldFault.{WorldFault}
+use Rattle.world.specs.declared.state.State.{State}
+use Rattle.world.specs.Steps.{WorldState, Outcome}
+
+-- the lists that the code keeps
+abbrev pub shown : State → WorldState
+shown s = record {
+  clients = s.clients.items;
+  voters = s.voters.items;
+  sent = s.sent.items;
+  draws = s.draws.items;
+  visible = s.visible.items;
+}
+
+-- room for a step: no step sends more messages than a reminder to 64 voters, which sends 128
+pub record HasRoom (s : State) : Type 0 where
+  pub sent : vec_len s.sent + 128 ≤ vec_capacity s.sent
+  pub draws : vec_len s.draws + 1 ≤ vec_capacity s.draws
+  pub visible : vec_len s.visible + 1 ≤ vec_capacity s.visible
+
+-- what is said beforehand of a step: why it is refused, or that it is not
+abbrev pub Foretells : {F G : Type 0} → Option G → Result F G → Type 0
+Foretells (Some fault) result = result ≡ Err fault
+Foretells {F = F} None result = (o : F) × (result ≡ Ok o)

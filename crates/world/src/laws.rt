@@ -1,0 +1,55 @@
+//! Laws of the definitions.
+ghost use Rattle.std.specs.Prelude.{◌≡◌, ℕ, List};
+ghost use Rattle.std.specs.List.{AllByRecursion};
+ghost use Rattle.message.specs.Lines.{HasLine};
+ghost use Rattle.world.specs.declared.step.Step.{Step};
+ghost use Rattle.world.specs.Ranges.{AreInRange, IsNumbered, IsSound};
+ghost use Rattle.world.specs.Runs.{AreLimits, DrawsInOrder, IsReached, run_of, start};
+ghost use Rattle.world.specs.Steps.{Planned};
+ghost use Rattle.world.specs.Visible.{DealsFrom, DoMeet, IsExclusive};
+
+use requester::{requesters_meet_the_contract, requesters_stay_sound};
+use voter::{
+    grants_are_numbered, replies_carry_what_was_seen, replies_tell_the_state,
+    voters_meet_the_contract, voters_stay_sound,
+};
+
+/// Over every list of steps, for every system of quorums of which any two meet.
+fn runs_are_sound()
+    ensures { (voters clients limit : ℕ) (quorums : List (List ℕ)) (deal : ℕ → List ℕ) (steps : List Step) → AreLimits voters clients limit → DoMeet voters quorums → DealsFrom quorums deal → IsSound voters clients limit (run_of deal steps (start voters clients limit)) }
+{
+    requesters_meet_the_contract();
+    requesters_stay_sound();
+    requester::messages_are_in_range();
+    voters_meet_the_contract();
+    voters_stay_sound();
+    replies_tell_the_state();
+    replies_carry_what_was_seen();
+    grants_are_numbered();
+}
+
+/// Whoever asks, leaves or gives up, and whichever messages come, late, repeatedly or never: at most one client is inside
+/// at a time. This holds for all quorums of which any two meet, whichever of them each ticket names.
+pub fn at_most_one_is_inside()
+    ensures { (voters clients limit : ℕ) (quorums : List (List ℕ)) (deal : ℕ → List ℕ) (steps : List Step) → AreLimits voters clients limit → DoMeet voters quorums → DealsFrom quorums deal → IsExclusive (run_of deal steps (start voters clients limit)).visible }
+{
+    runs_are_sound();
+}
+
+/// Every message that is ever sent names a client and a voter of the world, its stamp and its grant are from 1 to the
+/// limit, and what its voter saw is at most the limit.
+pub fn messages_are_in_range()
+    ensures { (voters clients limit : ℕ) (quorums : List (List ℕ)) (deal : ℕ → List ℕ) (steps : List Step) → AreLimits voters clients limit → DoMeet voters quorums → DealsFrom quorums deal → AreInRange voters clients limit (run_of deal steps (start voters clients limit)).sent }
+{
+    runs_are_sound();
+}
+
+/// What is so of every world that a list of steps made of a new one.
+pub(crate) fn worlds_stay_sound()
+    ensures exclusive { (w : Planned) → IsReached w → IsExclusive w.state.visible }
+    ensures lines { (w : Planned) → IsReached w → AllByRecursion HasLine w.state.sent }
+    ensures draws { (w : Planned) → IsReached w → DrawsInOrder w.state.draws }
+    ensures numbered { (w : Planned) → IsReached w → IsNumbered w.state }
+{
+    runs_are_sound();
+}

@@ -1,0 +1,62 @@
+//! Lists that grow where room was made.
+ghost use Rattle.std.specs.Prelude.{◌≡◌, ◌+◌, ◌<◌, ◌≤◌, ◌++◌, ◌∷◌, [], length, map, vec_capacity, vec_len};
+ghost use Rattle.message.specs.declared.message.Message.TheVariants as kinds;
+ghost use Rattle.world.specs.Steps.{events};
+
+use crate::step::Event;
+use message::{Message, ToClient, ToVoter};
+use requester::Seen;
+
+/// Sends these messages to voters.
+pub fn send_to_voters(sent: &mut Vec<Message>, messages: &[ToVoter])
+    requires { vec_len sent.old + length messages.now ≤ vec_capacity sent.old }
+    ensures { sent.new.items ≡ sent.old.items ++ map kinds.ToVoter messages.now }
+{
+    for message in messages {
+        match sent.push(Message::ToVoter(*message)) {
+            Ok(()) => {}
+            Err(_) => unreachable!(),
+        }
+    }
+}
+
+/// Sends these messages to clients.
+pub fn send_to_clients(sent: &mut Vec<Message>, messages: &[ToClient])
+    requires { vec_len sent.old + length messages.now ≤ vec_capacity sent.old }
+    ensures { sent.new.items ≡ sent.old.items ++ map kinds.ToClient messages.now }
+{
+    for message in messages {
+        match sent.push(Message::ToClient(*message)) {
+            Ok(()) => {}
+            Err(_) => unreachable!(),
+        }
+    }
+}
+
+/// This client draws the next ticket.
+pub fn draw(draws: &mut Vec<(u8, u64)>, client: u8)
+    requires { vec_len draws.old < vec_capacity draws.old }
+    ensures { draws.new.items ≡ draws.old.items ++ (client, length draws.old.items) ∷ [] }
+{
+    let ticket = draws.len() as u64;
+    match draws.push((client, ticket)) {
+        Ok(()) => {}
+        Err(_) => unreachable!(),
+    }
+}
+
+/// Notes what is seen of this client.
+pub fn note(visible: &mut Vec<Event>, client: u8, seen: Seen)
+    requires { vec_len visible.old < vec_capacity visible.old }
+    ensures { visible.new.items ≡ visible.old.items ++ events client seen }
+{
+    let entered = match seen {
+        Seen::Nothing => return,
+        Seen::Entered => true,
+        Seen::Left => false,
+    };
+    match visible.push(Event { client, entered }) {
+        Ok(()) => {}
+        Err(_) => unreachable!(),
+    }
+}

@@ -1,0 +1,149 @@
+//! Why a step would be refused, told beforehand: want of memory is answered only where nothing else refuses.
+ghost use Rattle.std.specs.Prelude.{◌≡◌, ◌<◌, ℕ, List, length, slice_get, is_none};
+ghost use Rattle.requester.specs.Steps as requesters;
+ghost use Rattle.voter.specs.Steps as polls;
+ghost use Rattle.world.specs.declared.step.Step.TheVariants as steps;
+ghost use Rattle.world.specs.Ranges.{IsNumbered};
+ghost use Rattle.world.specs.States.{Foretells, shown};
+ghost use Rattle.world.specs.Steps as worlds;
+ghost use Rattle.world.specs.Steps.{voter_at};
+
+use crate::fault::WorldFault;
+use crate::state::State;
+use crate::step::Step;
+use message::{Message, ToVoter};
+use requester::{ClientFault, Phase, Requester};
+use voter::{Voter, VoterFault};
+
+/// Why this client would not ask.
+fn ask_fault(client: &Requester) -> Option<ClientFault>
+    ensures { (quorum : List ℕ) → Foretells result (requesters.step client.now (requesters.Cause.Asks quorum)) }
+{
+    if client.phase() != Phase::Idle {
+        Some(ClientFault::Busy)
+    } else if client.spent() {
+        Some(ClientFault::StampsSpent)
+    } else {
+        None
+    }
+}
+
+/// Why this client would not leave.
+fn leave_fault(client: &Requester) -> Option<ClientFault>
+    ensures { Foretells result (requesters.step client.now requesters.Cause.Leaves) }
+{
+    if client.phase() == Phase::Inside {
+        None
+    } else {
+        Some(ClientFault::NotInside)
+    }
+}
+
+/// Why this client would not give up.
+fn give_up_fault(client: &Requester) -> Option<ClientFault>
+    ensures { Foretells result (requesters.step client.now requesters.Cause.GivesUp) }
+{
+    if client.phase() == Phase::Asking {
+        None
+    } else {
+        Some(ClientFault::NotAsking)
+    }
+}
+
+/// Whether the voter that the message names would not take it.
+fn is_refused(voters: &[Voter], message: &ToVoter) -> bool
+    requires voter { message.now.voter < length voters.now }
+    requires id { (voter_at voters.now message.now.voter).id ≡ message.now.voter }
+    requires client { message.now.client < 64 }
+    ensures { result ≡ is_none (polls.step (voter_at voters.now message.now.voter) message.now) }
+{
+    let voter = &voters[usize::from(message.voter)];
+    voter.effect(message).refused
+}
+
+impl State {
+    fn ask_fault(&self, client: u8) -> Option<WorldFault>
+        ensures { (deal : ℕ → List ℕ) → Foretells result (worlds.step deal (shown self.now) (steps.Ask client)) }
+    {
+        if usize::from(client) >= self.clients.len() {
+            return Some(WorldFault::NoSuchClient(client));
+        }
+        let who = &self.clients[usize::from(client)];
+        match ask_fault(who) {
+            Some(fault) => Some(WorldFault::Client(fault)),
+            None => None,
+        }
+    }
+
+    fn deliver_fault(&self, number: u64) -> Option<WorldFault>
+        requires { IsNumbered (shown self.now) }
+        ensures { (deal : ℕ → List ℕ) → Foretells result (worlds.step deal (shown self.now) (steps.Deliver number)) }
+    {
+        match self.message(number) {
+            None => Some(WorldFault::NoSuchMessage(number)),
+            Some(Message::ToVoter(message)) if is_refused(&self.voters, &message) => {
+                Some(WorldFault::Voter(VoterFault::GrantsSpent))
+            }
+            Some(_) => None,
+        }
+    }
+
+    fn leave_fault(&self, client: u8) -> Option<WorldFault>
+        ensures { (deal : ℕ → List ℕ) → Foretells result (worlds.step deal (shown self.now) (steps.Leave client)) }
+    {
+        if usize::from(client) >= self.clients.len() {
+            return Some(WorldFault::NoSuchClient(client));
+        }
+        let who = &self.clients[usize::from(client)];
+        match leave_fault(who) {
+            Some(fault) => Some(WorldFault::Client(fault)),
+            None => None,
+        }
+    }
+
+    fn give_up_fault(&self, client: u8) -> Option<WorldFault>
+        ensures { (deal : ℕ → List ℕ) → Foretells result (worlds.step deal (shown self.now) (steps.GiveUp client)) }
+    {
+        if usize::from(client) >= self.clients.len() {
+            return Some(WorldFault::NoSuchClient(client));
+        }
+        let who = &self.clients[usize::from(client)];
+        match give_up_fault(who) {
+            Some(fault) => Some(WorldFault::Client(fault)),
+            None => None,
+        }
+    }
+
+    fn remind_client_fault(&self, client: u8) -> Option<WorldFault>
+        ensures { (deal : ℕ → List ℕ) → Foretells result (worlds.step deal (shown self.now) (steps.RemindClient client)) }
+    {
+        if usize::from(client) >= self.clients.len() {
+            return Some(WorldFault::NoSuchClient(client));
+        }
+        None
+    }
+
+    fn remind_voter_fault(&self, voter: u8) -> Option<WorldFault>
+        ensures { (deal : ℕ → List ℕ) → Foretells result (worlds.step deal (shown self.now) (steps.RemindVoter voter)) }
+    {
+        if usize::from(voter) >= self.voters.len() {
+            return Some(WorldFault::NoSuchVoter(voter));
+        }
+        None
+    }
+
+    /// Why the step would be refused, memory aside.
+    pub fn refusal(&self, step: Step) -> Option<WorldFault>
+        requires { IsNumbered (shown self.now) }
+        ensures { (deal : ℕ → List ℕ) → Foretells result (worlds.step deal (shown self.now) step) }
+    {
+        match step {
+            Step::Ask(client) => self.ask_fault(client),
+            Step::Deliver(number) => self.deliver_fault(number),
+            Step::Leave(client) => self.leave_fault(client),
+            Step::GiveUp(client) => self.give_up_fault(client),
+            Step::RemindClient(client) => self.remind_client_fault(client),
+            Step::RemindVoter(voter) => self.remind_voter_fault(voter),
+        }
+    }
+}

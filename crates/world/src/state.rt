@@ -1,0 +1,211 @@
+//! The clients, the voters and the messages of a world, and its steps where room was made.
+ghost use Rattle.std.specs.Prelude.{◌≡◌, ◌<◌, ◌≤◌, ◌++◌, ℕ, List, OnOk, length, map, slice_get};
+ghost use Rattle.arrayvec.specs.ArrayVec.{array_vec_len};
+ghost use Rattle.message.specs.declared.message.Message.TheVariants as kinds;
+ghost use Rattle.world.specs.declared.step.Step.TheVariants as steps;
+ghost use Rattle.requester.specs.Steps.Cause.{Takes};
+ghost use Rattle.world.specs.Ranges.{IsNumbered};
+ghost use Rattle.world.specs.States.{HasRoom, shown};
+ghost use Rattle.world.specs.Steps as worlds;
+ghost use Rattle.world.specs.Steps.{Does, act, client_at, events, quorum_by, vote, voter_at};
+
+use crate::fault::WorldFault;
+use crate::lists::{draw, note, send_to_clients, send_to_voters};
+use crate::moves;
+use crate::step::{Event, Step, Stepped};
+use dealer::Cycle;
+use message::{Message, ToClient, ToVoter};
+use quorum_set::QSet;
+use requester::{Reply, Requester, Seen};
+use std::alloc::AllocError;
+use voter::Voter;
+
+/// Everything in a world but its plan.
+#[derive(Drop)]
+pub struct State {
+    /// Each client, by its number.
+    pub clients: Vec<Requester>,
+    /// Each voter, by its number.
+    pub voters: Vec<Voter>,
+    /// Every message that was ever sent, by its number.
+    pub sent: Vec<Message>,
+    /// Who drew a ticket, and which one.
+    pub draws: Vec<(u8, u64)>,
+    /// Who entered and who left.
+    pub visible: Vec<Event>,
+}
+
+impl State {
+    /// Makes room for any step.
+    pub fn make_room(&mut self) -> Result<(), AllocError>
+        ensures same { shown self.new ≡ shown self.old }
+        ensures room { OnOk result (HasRoom self.new) }
+    {
+        self.sent.reserve(128)?;
+        self.draws.reserve(1)?;
+        self.visible.reserve(1)
+    }
+
+    /// The message of this number, if one was sent.
+    pub fn message(&self, number: u64) -> Option<Message>
+        ensures { result ≡ slice_get self.now.sent.items number }
+    {
+        self.sent.get(number as usize).copied()
+    }
+
+    /// Notes what a client did.
+    fn tell(&mut self, client: u8, reply: &Reply) -> Stepped
+        requires few { array_vec_len reply.now.out ≤ 64 }
+        requires room { HasRoom self.old }
+        ensures sent { result.sent ≡ length reply.now.out.items }
+        ensures seen { result.seen ≡ reply.now.seen }
+        ensures state { shown self.new ≡ record (shown self.old) {
+          sent = self.old.sent.items ++ map kinds.ToVoter reply.now.out.items;
+          visible = self.old.visible.items ++ events client reply.now.seen;
+        } }
+    {
+        send_to_voters(&mut self.sent, reply.out.as_slice());
+        note(&mut self.visible, client, reply.seen);
+        Stepped {
+            sent: reply.out.len(),
+            seen: reply.seen,
+        }
+    }
+
+    fn ask(&mut self, client: u8, quorum: &QSet) -> Result<Stepped, WorldFault>
+        requires room { HasRoom self.old }
+        requires quorum { 1 ≤ length quorum.now }
+        ensures { (deal : ℕ → List ℕ) → deal (length self.old.draws.items) ≡ quorum.now → Does (worlds.step deal (shown self.old) (steps.Ask client)) (shown self.old) result (shown self.new) }
+    {
+        if usize::from(client) >= self.clients.len() {
+            return Err(WorldFault::NoSuchClient(client));
+        }
+        match moves::ask(&mut self.clients, client, quorum) {
+            Ok(reply) => {
+                draw(&mut self.draws, client);
+                Ok(self.tell(client, &reply))
+            }
+            Err(fault) => Err(WorldFault::Client(fault)),
+        }
+    }
+
+    fn leave(&mut self, client: u8) -> Result<Stepped, WorldFault>
+        requires room { HasRoom self.old }
+        ensures { (deal : ℕ → List ℕ) → Does (worlds.step deal (shown self.old) (steps.Leave client)) (shown self.old) result (shown self.new) }
+    {
+        if usize::from(client) >= self.clients.len() {
+            return Err(WorldFault::NoSuchClient(client));
+        }
+        match moves::leave(&mut self.clients, client) {
+            Ok(reply) => Ok(self.tell(client, &reply)),
+            Err(fault) => Err(WorldFault::Client(fault)),
+        }
+    }
+
+    fn give_up(&mut self, client: u8) -> Result<Stepped, WorldFault>
+        requires room { HasRoom self.old }
+        ensures { (deal : ℕ → List ℕ) → Does (worlds.step deal (shown self.old) (steps.GiveUp client)) (shown self.old) result (shown self.new) }
+    {
+        if usize::from(client) >= self.clients.len() {
+            return Err(WorldFault::NoSuchClient(client));
+        }
+        match moves::give_up(&mut self.clients, client) {
+            Ok(reply) => Ok(self.tell(client, &reply)),
+            Err(fault) => Err(WorldFault::Client(fault)),
+        }
+    }
+
+    fn take(&mut self, message: &ToClient) -> Stepped
+        requires room { HasRoom self.old }
+        requires client { message.now.client < length self.old.clients.items }
+        requires id { (client_at self.old.clients.items message.now.client).id ≡ message.now.client }
+        requires voter { message.now.voter < 64 }
+        ensures { Does (act (shown self.old) message.now.client (Takes message.now)) (shown self.old) (Ok result) (shown self.new) }
+    {
+        let reply = moves::take(&mut self.clients, message);
+        self.tell(message.client, &reply)
+    }
+
+    fn vote(&mut self, message: &ToVoter) -> Result<Stepped, WorldFault>
+        requires room { HasRoom self.old }
+        requires voter { message.now.voter < length self.old.voters.items }
+        requires id { (voter_at self.old.voters.items message.now.voter).id ≡ message.now.voter }
+        requires client { message.now.client < 64 }
+        ensures { Does (vote (shown self.old) message.now) (shown self.old) result (shown self.new) }
+    {
+        match moves::vote(&mut self.voters, message) {
+            Ok(replies) => {
+                send_to_clients(&mut self.sent, replies.as_slice());
+                Ok(Stepped {
+                    sent: replies.len(),
+                    seen: Seen::Nothing,
+                })
+            }
+            Err(fault) => Err(WorldFault::Voter(fault)),
+        }
+    }
+
+    fn deliver(&mut self, number: u64) -> Result<Stepped, WorldFault>
+        requires room { HasRoom self.old }
+        requires numbered { IsNumbered (shown self.old) }
+        ensures { (deal : ℕ → List ℕ) → Does (worlds.step deal (shown self.old) (steps.Deliver number)) (shown self.old) result (shown self.new) }
+    {
+        let Some(message) = self.message(number) else {
+            return Err(WorldFault::NoSuchMessage(number));
+        };
+        match message {
+            Message::ToVoter(message) => self.vote(&message),
+            Message::ToClient(message) => Ok(self.take(&message)),
+        }
+    }
+
+    fn remind_client(&mut self, client: u8) -> Result<Stepped, WorldFault>
+        requires room { HasRoom self.old }
+        ensures { (deal : ℕ → List ℕ) → Does (worlds.step deal (shown self.old) (steps.RemindClient client)) (shown self.old) result (shown self.new) }
+    {
+        if usize::from(client) >= self.clients.len() {
+            return Err(WorldFault::NoSuchClient(client));
+        }
+        let reminders = moves::remind_client(&self.clients, client);
+        send_to_voters(&mut self.sent, reminders.as_slice());
+        Ok(Stepped {
+            sent: reminders.len(),
+            seen: Seen::Nothing,
+        })
+    }
+
+    fn remind_voter(&mut self, voter: u8) -> Result<Stepped, WorldFault>
+        requires room { HasRoom self.old }
+        ensures { (deal : ℕ → List ℕ) → Does (worlds.step deal (shown self.old) (steps.RemindVoter voter)) (shown self.old) result (shown self.new) }
+    {
+        if usize::from(voter) >= self.voters.len() {
+            return Err(WorldFault::NoSuchVoter(voter));
+        }
+        let reminders = moves::remind_voter(&self.voters, voter);
+        send_to_clients(&mut self.sent, reminders.as_slice());
+        Ok(Stepped {
+            sent: reminders.len(),
+            seen: Seen::Nothing,
+        })
+    }
+
+    /// One step, for which there is room.
+    pub fn act(&mut self, cycle: &Cycle, step: Step) -> Result<Stepped, WorldFault>
+        requires room { HasRoom self.old }
+        requires numbered { IsNumbered (shown self.old) }
+        ensures { Does (worlds.step (quorum_by cycle.now) (shown self.old) step) (shown self.old) result (shown self.new) }
+    {
+        match step {
+            Step::Ask(client) => {
+                let ticket = self.draws.len() as u64;
+                let quorum = cycle.plan().coterie().quorum(cycle.quorum_at(ticket));
+                self.ask(client, quorum)
+            }
+            Step::Deliver(number) => self.deliver(number),
+            Step::Leave(client) => self.leave(client),
+            Step::GiveUp(client) => self.give_up(client),
+            Step::RemindClient(client) => self.remind_client(client),
+            Step::RemindVoter(voter) => self.remind_voter(voter),
+        }
+    }
+}

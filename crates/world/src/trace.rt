@@ -1,0 +1,59 @@
+//! Runs of a world.
+ghost use Rattle.std.specs.Prelude.{◌≡◌, ◌≤◌, ◌^◌, IfOk};
+ghost use Rattle.world.specs.Runs.{DrawsInOrder, refusals_of, run_by, start_by};
+ghost use Rattle.world.specs.Steps.{quorum_by};
+ghost use Rattle.world.specs.Visible.{IsExclusive};
+
+use crate::fault::WorldFault;
+use crate::step::{Event, Step};
+use crate::world::World;
+use certificate::Plan;
+use message::Message;
+use std::alloc::{AllocError, Global};
+
+/// What a list of steps made of a new world.
+#[derive(Drop)]
+pub struct Trace {
+    /// Who entered and who left, in order.
+    pub visible: Vec<Event>,
+    /// Who drew a ticket, and which one, in order: tickets 0, 1, 2, ..
+    pub draws: Vec<(u8, u64)>,
+    /// Every message that was sent, by its number.
+    pub messages: Vec<Message>,
+    /// The steps that were refused, by their places from 0 on, and why.
+    pub refused: Vec<(usize, WorldFault)>,
+}
+
+/// Runs a list of steps from a new world of this plan, with 1 to 64 clients, and stamps and grants from 1 to the limit,
+/// which is 1 to 2^40. Steps that are refused change nothing, and the run goes on. The only refusal is for want of memory.
+///
+/// At most one client is inside at a time.
+pub fn run(
+    alloc: Global,
+    plan: Plan,
+    clients: u8,
+    limit: u64,
+    steps: &[Step],
+) -> Result<Trace, AllocError>
+    requires some { 1 ≤ clients }
+    requires few { clients ≤ 64 }
+    requires least { 1 ≤ limit }
+    requires most { limit ≤ 2 ^ 40 }
+    ensures visible { IfOk result (λ trace. trace.visible.items ≡ (run_by plan clients limit steps.now).visible) }
+    ensures draws { IfOk result (λ trace. trace.draws.items ≡ (run_by plan clients limit steps.now).draws) }
+    ensures messages { IfOk result (λ trace. trace.messages.items ≡ (run_by plan clients limit steps.now).sent) }
+    ensures refused { IfOk result (λ trace. trace.refused.items ≡ refusals_of (quorum_by plan) 0 steps.now (start_by plan clients limit)) }
+    ensures exclusive { IfOk result (λ trace. IsExclusive trace.visible.items) }
+    ensures tickets { IfOk result (λ trace. DrawsInOrder trace.draws.items) }
+{
+    let mut world = World::new(alloc, plan, clients, limit)?;
+    let mut refused = Vec::new(alloc);
+    for (place, step) in steps.iter().enumerate() {
+        match world.step(*step) {
+            Ok(_) => {}
+            Err(WorldFault::OutOfMemory) => return Err(AllocError),
+            Err(fault) => refused.push((place, fault))?,
+        }
+    }
+    Ok(world.into_trace(refused))
+}

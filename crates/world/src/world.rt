@@ -1,0 +1,167 @@
+//! A world.
+ghost use Rattle.std.specs.Prelude.{◌≡◌, ◌<◌, ◌≤◌, ◌^◌, IfErr, IfOk, Ok, OnErr, Some, length, map, slice_get};
+ghost use Rattle.std.specs.List.{range_with_len};
+ghost use Rattle.requester.specs.Steps as requesters;
+ghost use Rattle.voter.specs.Steps as polls;
+ghost use Rattle.message.specs.Lines.{HasLine};
+ghost use Rattle.world.specs.Runs.{DrawsInOrder, start_by};
+ghost use Rattle.world.specs.Steps.{Refuses, outcome_of, step_of};
+ghost use Rattle.world.specs.Visible.{IsExclusive};
+
+use crate::fault::WorldFault;
+use crate::laws::worlds_stay_sound;
+use crate::state::State;
+use crate::step::{Event, Step, Stepped};
+use crate::trace::Trace;
+use certificate::Plan;
+use dealer::Cycle;
+use message::Message;
+use requester::Requester;
+use std::alloc::{AllocError, Global};
+use std::marker::Model;
+use voter::Voter;
+
+/// The clients and the voters of one lock, and every message that was ever sent. Clauses see it as a `Planned`: the plan
+/// by which tickets name quorums, and a `WorldState`.
+#[derive(Drop)]
+pub struct World {
+    cycle: Cycle,
+    state: State,
+}
+
+impl Model for World {
+    ghost use Rattle.world.specs.Runs.{IsReached};
+    ghost use Rattle.world.specs.States.{shown};
+    ghost use Rattle.world.specs.Codes.{planned_code};
+    ghost use Rattle.world.specs.Steps.{Planned};
+
+    ghost Value = { Planned };
+
+    ghost coded = { planned_code };
+
+    ghost view = { λ a. record { plan = a.cycle; state = shown a.state } };
+
+    ghost invariant = { λ a. IsReached (record { plan = a.cycle; state = shown a.state }) };
+}
+
+impl World {
+    /// A world of new voters, one for each of the plan's, and new clients, 1 to 64 of them. Stamps and grants go from 1
+    /// to the limit, which is 1 to 2^40. The only refusal is for want of memory.
+    pub fn new(alloc: Global, plan: Plan, clients: u8, limit: u64) -> Result<World, AllocError>
+        requires some { 1 ≤ clients }
+        requires few { clients ≤ 64 }
+        requires least { 1 ≤ limit }
+        requires most { limit ≤ 2 ^ 40 }
+        ensures { IfOk result (λ world. world ≡ record { plan = plan; state = start_by plan clients limit }) }
+    {
+        let _ = plan.cycle_len();
+        let voters = new_voters(alloc, plan.coterie().voters(), limit)?;
+        let clients = new_clients(alloc, clients, limit)?;
+        match Cycle::of(alloc, plan) {
+            Ok(cycle) => Ok(World {
+                cycle,
+                state: State {
+                    clients,
+                    voters,
+                    sent: Vec::new(alloc),
+                    draws: Vec::new(alloc),
+                    visible: Vec::new(alloc),
+                },
+            }),
+            Err((_, error)) => Err(error),
+        }
+    }
+
+    /// One step. In this order it is refused with U1 to U3 if there is no message, client or voter of its number, with C1
+    /// to C4 if the client refuses the call, with V1 if the voter refuses the message, and with O1 for want of memory. A
+    /// refused step changes nothing.
+    pub fn step(&mut self, step: Step) -> Result<Stepped, WorldFault>
+        ensures stepped { IfOk result (λ s. step_of self.old step ≡ Ok (outcome_of s self.new.state)) }
+        ensures refused { IfErr result (Refuses (step_of self.old step)) }
+        ensures unchanged { OnErr result (self.new ≡ self.old) }
+        ensures plan { self.new.plan ≡ self.old.plan }
+        ensures exclusive { IsExclusive self.new.state.visible }
+    {
+        worlds_stay_sound();
+        if let Some(fault) = self.state.refusal(step) {
+            return Err(fault);
+        }
+        if self.state.make_room().is_err() {
+            return Err(WorldFault::OutOfMemory);
+        }
+        self.state.act(&self.cycle, step)
+    }
+
+    /// How many messages were sent.
+    pub fn sent(&self) -> usize
+        ensures { result ≡ length self.now.state.sent }
+    {
+        self.state.sent.len()
+    }
+
+    /// The message of this number, from 0, in the order in which they were sent. A line spells it.
+    pub fn message(&self, number: usize) -> Message
+        requires { number < length self.now.state.sent }
+        ensures value { slice_get self.now.state.sent number ≡ Some result }
+        ensures line { HasLine result }
+    {
+        worlds_stay_sound();
+        self.state.sent[number]
+    }
+
+    /// Who entered and who left, in order: one client at a time.
+    pub fn visible(&self) -> &[Event]
+        ensures value { result.now ≡ self.now.state.visible }
+        ensures exclusive { IsExclusive result.now }
+    {
+        worlds_stay_sound();
+        &self.state.visible
+    }
+
+    /// What the world did, with the steps that it refused.
+    pub(crate) fn into_trace(self, refused: Vec<(usize, WorldFault)>) -> Trace
+        ensures visible { result.visible.items ≡ self.state.visible }
+        ensures draws { result.draws.items ≡ self.state.draws }
+        ensures messages { result.messages.items ≡ self.state.sent }
+        ensures refused { result.refused ≡ refused }
+        ensures exclusive { IsExclusive result.visible.items }
+        ensures tickets { DrawsInOrder result.draws.items }
+    {
+        worlds_stay_sound();
+        let state = self.state;
+        Trace {
+            visible: state.visible,
+            draws: state.draws,
+            messages: state.sent,
+            refused,
+        }
+    }
+}
+
+/// New voters.
+fn new_voters(alloc: Global, count: usize, limit: u64) -> Result<Vec<Voter>, AllocError>
+    requires few { count ≤ 64 }
+    requires least { 1 ≤ limit }
+    requires most { limit ≤ 2 ^ 40 }
+    ensures { IfOk result (λ voters. voters.items ≡ map (λ v. polls.start v limit) (range_with_len 0 count)) }
+{
+    let mut voters = Vec::with_capacity(alloc, count)?;
+    for v in 0..count {
+        voters.push(Voter::new(v as u8, limit))?;
+    }
+    Ok(voters)
+}
+
+/// New clients.
+fn new_clients(alloc: Global, count: u8, limit: u64) -> Result<Vec<Requester>, AllocError>
+    requires few { count ≤ 64 }
+    requires least { 1 ≤ limit }
+    requires most { limit ≤ 2 ^ 40 }
+    ensures { IfOk result (λ clients. clients.items ≡ map (λ c. requesters.start c limit) (range_with_len 0 count)) }
+{
+    let mut clients = Vec::with_capacity(alloc, usize::from(count))?;
+    for c in 0..count {
+        clients.push(Requester::new(c, limit))?;
+    }
+    Ok(clients)
+}
