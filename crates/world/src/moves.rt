@@ -36,7 +36,7 @@ pub fn take(clients: &mut [Requester], message: &ToClient) -> Reply
 
 /// This client leaves.
 pub fn leave(clients: &mut [Requester], client: u8) -> Result<Reply, ClientFault>
-    requires { client < length clients.old }
+    requires client { client < length clients.old }
     ensures left { IfOk result (λ r. step (client_at clients.old client) Leaves ≡ Ok (record { out = r.out.items; seen = r.seen; state = client_at clients.new client })) }
     ensures refused { IfErr result (λ fault. (step (client_at clients.old client) Leaves ≡ Err fault) × (clients.new ≡ clients.old)) }
     ensures others { clients.new ≡ slice_set clients.old client (client_at clients.new client) }
@@ -47,7 +47,7 @@ pub fn leave(clients: &mut [Requester], client: u8) -> Result<Reply, ClientFault
 
 /// This client gives its request up.
 pub fn give_up(clients: &mut [Requester], client: u8) -> Result<Reply, ClientFault>
-    requires { client < length clients.old }
+    requires client { client < length clients.old }
     ensures given_up { IfOk result (λ r. step (client_at clients.old client) GivesUp ≡ Ok (record { out = r.out.items; seen = r.seen; state = client_at clients.new client })) }
     ensures refused { IfErr result (λ fault. (step (client_at clients.old client) GivesUp ≡ Err fault) × (clients.new ≡ clients.old)) }
     ensures others { clients.new ≡ slice_set clients.old client (client_at clients.new client) }

@@ -1,0 +1,225 @@
+-- what is so of every message that was ever sent, of every vote that is held, and of every client and voter
+use Rattle.std.proofs.Common.{◌≡◌, ◌≢◌, ℕ, ◌+◌, ◌<◌, ◌≤◌, Bool, true, false, cond, List, [], ◌∷◌, ◌++◌, map, length, Option, Some, None, refl, sym, ap, subst, ◌∙◌, ◌⊎◌, inl, inr, arith, eqb, ltb}
+use Rattle.std.specs.Prelude.{zero, suc, slice_get, slice_index_or}
+use Rattle.std.specs.List.{AllByRecursion}
+use Rattle.std.proofs.lemmas.Bool.{false≢true}
+use Rattle.std.proofs.lemmas.Bool.Decides.{nat_tests}
+use Rattle.std.proofs.lemmas.Option.{none-some, same_Some}
+use Rattle.message.specs.declared.message.ToVoter.{ToVoter}
+use Rattle.message.specs.declared.message.ToClient.{ToClient}
+use Rattle.message.specs.declared.message.Message.{Message}
+use Rattle.message.specs.declared.message.Message.TheVariants as kinds
+use Rattle.message.specs.declared.message.VoterBody.{VoterBody}
+use Rattle.message.specs.declared.message.VoterBody.TheVariants as asks
+use Rattle.message.specs.declared.message.ClientBody.{ClientBody}
+use Rattle.message.specs.declared.message.ClientBody.TheVariants as tells
+use Rattle.voter.specs.declared.state.Grant.{Grant}
+use Rattle.voter.specs.declared.state.VoterState.{VoterState}
+use Rattle.voter.specs.Steps as voter
+use Rattle.voter.specs.VoterContract.{Ends, IsEntry}
+use Rattle.requester.specs.declared.state.ClientState.{ClientState}
+use Rattle.requester.specs.RequesterContract.{IsLater, IsLive}
+use Rattle.requester.specs.Soundness as sound
+use Rattle.requester.specs.Words.{is_idle, members, holds, holds_under, held_of, last_of}
+use Rattle.world.specs.Ranges.{AreInRange, IsWithin}
+use Rattle.world.specs.Visible.{IsAmong}
+
+-- how many voters and clients there are, how far numbers go, and the quorums
+pub record Bounds : Type 0 where
+  pub voters : ℕ
+  pub clients : ℕ
+  pub limit : ℕ
+  pub quorums : List (List ℕ)
+
+abbrev pub Names : Option Grant → ℕ → ℕ → ℕ → Type 0
+Names held client stamp grant = held ≡ Some (record { client = client; stamp = stamp; grant = grant })
+
+-- what is so of a message to a voter, by the client that sent it
+abbrev pub AskOk : ClientState → ℕ → VoterBody → Type 0
+AskOk x voter (asks.Request stamp) = stamp ≤ x.stamp
+AskOk x voter (asks.Relinquish grant) = grant ≤ last_of x voter
+AskOk x voter (asks.Release stamp) = (stamp ≤ x.stamp) × (is_idle x.phase ≡ false → stamp < x.stamp)
+
+-- what is so of a message to a client, by the client and the voter's vote
+abbrev pub TellOk : ClientState → Option Grant → ℕ → ℕ → ClientBody → Type 0
+TellOk x held voter client (tells.Locked stamp grant) = (stamp ≤ x.stamp) × (IsLive x voter stamp grant → Names held client stamp grant)
+TellOk x held voter client (tells.Fail stamp) = Unit {0}
+TellOk x held voter client (tells.Inquire grant) = Unit {0}
+
+abbrev pub MessageOk : (ℕ → ClientState) → (ℕ → VoterState) → Message → Type 0
+MessageOk X Y (kinds.ToVoter m) = AskOk (X m.client) m.voter m.body
+MessageOk X Y (kinds.ToClient m) = TellOk (X m.client) (Y m.voter).held m.voter m.client m.body
+
+-- a held vote is the voter's
+abbrev pub HeldOk : (ℕ → ClientState) → (ℕ → VoterState) → Type 0
+HeldOk X Y = (c v g : ℕ) → holds_under (X c) v g ≡ true → Names (Y v).held c (X c).stamp g
+
+pub record ClientOk (b : Bounds) (x : ClientState) : Type 0 where
+  pub sound : sound.IsSound x
+  pub last : (v : ℕ) → last_of x v ≤ b.limit
+  pub quorum : (members x ≡ []) ⊎ IsAmong b.quorums (members x)
+
+-- the client has this number, and its stamps go this far
+pub record IsClient (number most : ℕ) (x : ClientState) : Type 0 where
+  pub id : x.id ≡ number
+  pub limit : x.limit ≡ most
+
+-- a request that a voter knows is one that its client made
+pub record EntryOk (b : Bounds) (X : ℕ → ClientState) (c s : ℕ) : Type 0 where
+  pub client : c < b.clients
+  pub stamp : IsWithin b.limit s
+  pub reached : s ≤ (X c).stamp
+
+pub record VoterOk (b : Bounds) (X : ℕ → ClientState) (y : VoterState) : Type 0 where
+  pub sound : voter.IsSound y
+  pub entries : (c s : ℕ) → IsEntry y c s → EntryOk b X c s
+  pub numbered : (g : Grant) → y.held ≡ Some g → 1 ≤ g.grant
+  pub limit : y.limit ≤ b.limit
+  pub seen : y.seen ≤ b.limit
+
+pub record WorldOk (b : Bounds) (X : ℕ → ClientState) (Y : ℕ → VoterState) (sent : List Message) : Type 0 where
+  pub messages : AllByRecursion (MessageOk X Y) sent
+  pub ranges : AreInRange b.voters b.clients b.limit sent
+  pub held : HeldOk X Y
+  pub clients : (c : ℕ) → ClientOk b (X c)
+  pub voters : (v : ℕ) → VoterOk b X (Y v)
+  pub client_ids : (c : ℕ) → c < b.clients → IsClient c b.limit (X c)
+  pub voter_ids : (v : ℕ) → v < b.voters → (Y v).id ≡ v
+
+-- ---- a client goes on
+
+busy_by : (a b : Bool) → (a ≡ true → b ≡ true) → b ≡ false → a ≡ false
+busy_by true b goes is = absurd (false≢true (sym is ∙ goes refl))
+busy_by false b goes is = refl
+
+pub busy_before : (x y : ClientState) → IsLater x y → x.stamp ≡ y.stamp → is_idle y.phase ≡ false → is_idle x.phase ≡ false
+busy_before x y later same busy = busy_by (is_idle x.phase) (is_idle y.phase) (later.idle same) busy
+
+pub live_before : (x y : ClientState) (v s g : ℕ) → IsLater x y → s ≤ x.stamp → IsLive y v s g → IsLive x v s g
+live_before x y v s g later known live =
+    let rises = later.stamp in
+    let now = live.current in
+    let same : x.stamp ≡ y.stamp = omega arith in
+    let over = later.last v in
+    let above = live.fresh in
+    record { busy = busy_before x y later same live.busy; current = now ∙ sym same; fresh = omega arith }
+
+less_or_same : (a b : ℕ) → a ≤ b → (a < b) ⊎ (a ≡ b)
+less_or_same a b h = elim (ltb a b) as (λ t. ltb a b ≡ t → (a < b) ⊎ (a ≡ b)) [
+  | true ↦ λ t. inl (grind (arith, nat_tests))
+  | false ↦ λ t. inr (grind (arith, nat_tests))
+] refl
+
+ask_later : (x y : ClientState) (v : ℕ) (b : VoterBody) → IsLater x y → AskOk x v b → AskOk y v b
+ask_later x y v (asks.Request s) later ok = let rises = later.stamp in omega arith
+ask_later x y v (asks.Relinquish g) later ok = let rises = later.last v in omega arith
+ask_later x y v (asks.Release s) later ok =
+    let rises = later.stamp in
+    let known = ok.0 in
+    (omega arith, λ busy. elim (less_or_same x.stamp y.stamp rises) [
+      | inl less ↦ omega arith
+      | inr same ↦ let before = ok.1 (busy_before x y later same busy) in omega arith
+    ])
+
+tell_later : (x y : ClientState) (held : Option Grant) (v c : ℕ) (b : ClientBody) → IsLater x y → TellOk x held v c b → TellOk y held v c b
+tell_later x y held v c (tells.Locked s g) later ok =
+    let rises = later.stamp in
+    let known = ok.0 in
+    (omega arith, λ live. ok.1 (live_before x y v s g later known live))
+tell_later x y held v c (tells.Fail s) later ok = tt
+tell_later x y held v c (tells.Inquire g) later ok = tt
+
+pub later_self : (x : ClientState) → IsLater x x
+later_self x = record { stamp = omega arith; last = λ v. omega arith; idle = λ _ idle. idle }
+
+message_later : (X W : ℕ → ClientState) (Y : ℕ → VoterState) → ((c : ℕ) → IsLater (X c) (W c)) → (m : Message) → MessageOk X Y m → MessageOk W Y m
+message_later X W Y later (kinds.ToVoter m) ok = ask_later (X m.client) (W m.client) m.voter m.body (later m.client) ok
+message_later X W Y later (kinds.ToClient m) ok = tell_later (X m.client) (W m.client) (Y m.voter).held m.voter m.client m.body (later m.client) ok
+
+pub voter_later : (b : Bounds) (X W : ℕ → ClientState) → ((c : ℕ) → IsLater (X c) (W c)) → (y : VoterState) → VoterOk b X y → VoterOk b W y
+voter_later b X W later y ok = record {
+  sound = ok.sound;
+  entries = λ c s is.
+      let e = ok.entries c s is in
+      let rises = (later c).stamp in
+      let known = e.reached in
+      record { client = e.client; stamp = e.stamp; reached = omega arith };
+  numbered = ok.numbered;
+  limit = ok.limit;
+  seen = ok.seen;
+}
+
+-- ---- a vote moves
+
+-- a message that is so ends no vote that its holder may still count
+pub no_kill : (x : ClientState) (v c : ℕ) (b : VoterBody) (h : Grant) → AskOk x v b → IsLive x v h.stamp h.grant → Ends c b h → ⊥
+no_kill x v c (asks.Request s) h ok live ends = let now = live.current in let less = ends.1 in omega arith
+no_kill x v c (asks.Relinquish g) h ok live ends = let above = live.fresh in let same = ends.1 in omega arith
+no_kill x v c (asks.Release s) h ok live ends = let now = live.current in let most = ends.1 in let less = ok.1 live.busy in omega arith
+
+pub ends_client : (c : ℕ) (b : VoterBody) (h : Grant) → Ends c b h → h.client ≡ c
+ends_client c (asks.Request s) h ends = ends.0
+ends_client c (asks.Relinquish g) h ends = ends.0
+ends_client c (asks.Release s) h ends = ends.0
+
+-- how the votes of all voters change in one step
+abbrev pub VotesKeep : (ℕ → VoterState) → (ℕ → VoterState) → (ℕ → Grant → Type 0) → Type 0
+VotesKeep Y Z Killed = (v : ℕ) (h : Grant) → (Y v).held ≡ Some h → ((Z v).held ≡ Some h) ⊎ Killed v h
+
+-- no vote that its holder may still count is ended
+abbrev pub SparesLive : (ℕ → ClientState) → (ℕ → Grant → Type 0) → Type 0
+SparesLive X Killed = (v : ℕ) (h : Grant) → IsLive (X h.client) v h.stamp h.grant → Killed v h → ⊥
+
+pub still : (Y Z : ℕ → VoterState) (X : ℕ → ClientState) (Killed : ℕ → Grant → Type 0) → VotesKeep Y Z Killed → SparesLive X Killed
+    → (v c s g : ℕ) → IsLive (X c) v s g → Names (Y v).held c s g → Names (Z v).held c s g
+still Y Z X Killed keep spares v c s g live names = elim (keep v (record { client = c; stamp = s; grant = g }) names) [
+  | inl kept ↦ kept
+  | inr killed ↦ absurd (spares v (record { client = c; stamp = s; grant = g }) live killed)
+]
+
+tell_keeps : (X : ℕ → ClientState) (Y Z : ℕ → VoterState) (Killed : ℕ → Grant → Type 0) → VotesKeep Y Z Killed → SparesLive X Killed
+    → (v c : ℕ) (b : ClientBody) → TellOk (X c) (Y v).held v c b → TellOk (X c) (Z v).held v c b
+tell_keeps X Y Z Killed keep spares v c (tells.Locked s g) ok = (ok.0, λ live. still Y Z X Killed keep spares v c s g live (ok.1 live))
+tell_keeps X Y Z Killed keep spares v c (tells.Fail s) ok = tt
+tell_keeps X Y Z Killed keep spares v c (tells.Inquire g) ok = tt
+
+message_keeps : (X : ℕ → ClientState) (Y Z : ℕ → VoterState) (Killed : ℕ → Grant → Type 0) → VotesKeep Y Z Killed → SparesLive X Killed
+    → (m : Message) → MessageOk X Y m → MessageOk X Z m
+message_keeps X Y Z Killed keep spares (kinds.ToVoter m) ok = ok
+message_keeps X Y Z Killed keep spares (kinds.ToClient m) ok = tell_keeps X Y Z Killed keep spares m.voter m.client m.body ok
+
+-- ---- lists of messages
+
+pub all_map : (P Q : Message → Type 0) → ((m : Message) → P m → Q m) → (ms : List Message) → AllByRecursion P ms → AllByRecursion Q ms
+all_map P Q f [] h = tt
+all_map P Q f (m ∷ ms) h = (f m h.0, all_map P Q f ms h.1)
+
+pub all_append : (P : Message → Type 0) (ms ns : List Message) → AllByRecursion P ms → AllByRecursion P ns → AllByRecursion P (ms ++ ns)
+all_append P [] ns h k = k
+all_append P (m ∷ ms) ns h k = (h.0, all_append P ms ns h.1 k)
+
+pub all_get : (P : Message → Type 0) (ms : List Message) (k : ℕ) (m : Message) → AllByRecursion P ms → slice_get ms k ≡ Some m → P m
+all_get P [] k m h is = absurd (none-some m is)
+all_get P (n ∷ ns) zero m h is = subst P (same_Some n m is) h.0
+all_get P (n ∷ ns) (suc k) m h is = all_get P ns k m h.1 is
+
+pub messages_keep : (X : ℕ → ClientState) (Y Z : ℕ → VoterState) (Killed : ℕ → Grant → Type 0) → VotesKeep Y Z Killed → SparesLive X Killed
+    → (ms : List Message) → AllByRecursion (MessageOk X Y) ms → AllByRecursion (MessageOk X Z) ms
+messages_keep X Y Z Killed keep spares ms h = all_map (MessageOk X Y) (MessageOk X Z) (message_keeps X Y Z Killed keep spares) ms h
+
+pub messages_later : (X W : ℕ → ClientState) (Y : ℕ → VoterState) → ((c : ℕ) → IsLater (X c) (W c)) → (ms : List Message) → AllByRecursion (MessageOk X Y) ms → AllByRecursion (MessageOk W Y) ms
+messages_later X W Y later ms h = all_map (MessageOk X Y) (MessageOk W Y) (message_later X W Y later) ms h
+
+-- ---- one client, one voter changes
+
+abbrev pub put : {A : Type 0} → (ℕ → A) → ℕ → A → ℕ → A
+put X c x q = cond (eqb q c) x (X q)
+
+pub put_at : {A : Type 0} (P : ℕ → A → Type 0) (X : ℕ → A) (c : ℕ) (x : A) → P c x → ((q : ℕ) → P q (X q)) → (q : ℕ) → P q (put X c x q)
+put_at P X c x here others q = elim (eqb q c) as (λ b. eqb q c ≡ b → P q (cond b x (X q))) [
+  | true ↦ λ e. let same : c ≡ q = grind (arith, nat_tests) in subst (λ n. P n x) same here
+  | false ↦ λ _. others q
+] refl
+
+pub put_same : {A : Type 0} (X : ℕ → A) (c : ℕ) (x : A) → put X c x c ≡ x
+put_same X c x = ap (λ b. cond b x (X c)) (let e : eqb c c ≡ true = grind (arith, nat_tests) in e)

@@ -1,0 +1,214 @@
+-- what a client's step keeps so
+use Rattle.std.proofs.Common.{◌≡◌, ◌≢◌, ℕ, ◌+◌, ◌<◌, ◌≤◌, Bool, true, false, cond, List, [], ◌∷◌, ◌++◌, map, length, Option, Some, None, Ok, refl, sym, ap, subst, ◌∙◌, ◌⊎◌, inl, inr, arith, eqb, ltb}
+use Rattle.std.specs.Prelude.{slice_index_or, ◌==◌, ◌||◌}
+use Rattle.std.proofs.lemmas.List.Elements.{recursion_from_All}
+use Rattle.std.specs.List.{All, AllByRecursion}
+use Rattle.std.proofs.lemmas.Bool.{false≢true}
+use Rattle.std.proofs.lemmas.Bool.Decides.{nat_tests}
+use Rattle.quorum_set.specs.Sets.{has}
+use Rattle.message.specs.declared.message.ToVoter.{ToVoter}
+use Rattle.message.specs.declared.message.ToClient.{ToClient}
+use Rattle.message.specs.declared.message.Message.{Message}
+use Rattle.message.specs.declared.message.Message.TheVariants as kinds
+use Rattle.message.specs.declared.message.VoterBody.{VoterBody}
+use Rattle.message.specs.declared.message.VoterBody.TheVariants as asks
+use Rattle.message.specs.declared.message.ClientBody.{ClientBody}
+use Rattle.message.specs.declared.message.ClientBody.TheVariants as tells
+use Rattle.message.specs.Lines.{voter_number}
+use Rattle.voter.specs.declared.state.Grant.{Grant}
+use Rattle.voter.specs.declared.state.VoterState.{VoterState}
+use Rattle.voter.specs.Steps as voter
+use Rattle.requester.specs.declared.state.ClientState.{ClientState}
+use Rattle.requester.specs.RequesterContract.{Accepts, AllInRange, AllRepeat, AllSay, ComesInRange, IsLater, IsLive, IsLocked, IsLockedOf, IsReached, KeepsQuorum, Locks, MeetsContract, RemindersInRange, Repeats, Says, SaysInRange}
+use Rattle.requester.specs.Soundness as sound
+use Rattle.requester.specs.Steps as client
+use Rattle.requester.specs.Words.{is_idle, is_member, members, holds, holds_under, held_of, last_of}
+use Rattle.world.specs.Ranges.{AreInRange, IsInRange, IsWithin}
+use Rattle.world.specs.Visible.{DoMeet, IsAmong}
+use Rattle.world.proofs.Known.{ClientLaws}
+use Rattle.world.proofs.Claims.{Bounds, Names, AskOk, TellOk, MessageOk, HeldOk, ClientOk, IsClient, VoterOk, WorldOk, live_before, later_self, voter_later, all_map, all_append, messages_later, put, put_at, put_same}
+
+-- what came: each LOCKED names voters and stamps that are in range, and is so
+abbrev pub Came : Bounds → ClientState → (ℕ → VoterState) → ℕ → client.Cause → Type 0
+Came b x Y c cause = (v s g : ℕ) → IsLocked cause v s g → (v < b.voters) × IsWithin b.limit s × (s ≤ x.stamp) × (IsLive x v s g → Names (Y v).held c s g)
+
+-- the quorum that is asked is one of the quorums
+abbrev pub Draws : Bounds → client.Cause → Type 0
+Draws b (client.Asks quorum) = IsAmong b.quorums quorum
+Draws b (client.Takes m) = Unit {0}
+Draws b client.Leaves = Unit {0}
+Draws b client.GivesUp = Unit {0}
+
+-- a vote that is held has a grant from 1 to the limit
+grant_within : (b : Bounds) (X : ℕ → ClientState) (y : VoterState) (c s g : ℕ) → VoterOk b X y → Names y.held c s g → IsWithin b.limit g
+grant_within b X y c s g ok names =
+    let least = ok.numbered (record { client = c; stamp = s; grant = g }) names in
+    let given = ok.sound.numbered (record { client = c; stamp = s; grant = g }) names in
+    let most = ok.sound.granted in
+    let far = ok.limit in
+    (least, omega arith)
+
+-- ---- what is sent
+
+says_ok : (b : Bounds) (x y : ClientState) (Y : ℕ → VoterState) (c : ℕ) (cause : client.Cause) → Came b x Y c cause → IsLater x y
+    → (v : ℕ) (body : VoterBody) → Says x cause y v body → AskOk y v body
+says_ok b x y Y c cause came later v (asks.Request s) says = let same = says in omega arith
+says_ok b x y Y c cause came later v (asks.Relinquish g) says = let same = says.0 in omega arith
+says_ok b x y Y c cause came later v (asks.Release s) says = elim says [
+  | inl own ↦ (let same = own.0 in omega arith, λ busy. absurd (false≢true (sym busy ∙ own.1)))
+  | inr other ↦
+    let was = came v s other.0.0 other.0.1 in
+    let known = was.2 in
+    let rises = later.stamp in
+    (omega arith, λ busy. elim other.1 [
+      | inl idle ↦ absurd (false≢true (sym busy ∙ idle))
+      | inr apart ↦ omega arith
+    ])
+]
+
+number_within : (b : Bounds) (x y : ClientState) (X : ℕ → ClientState) (Y : ℕ → VoterState) (cause : client.Cause) (c : ℕ) → ((v : ℕ) → VoterOk b X (Y v))
+    → ((v g : ℕ) → holds_under x v g ≡ true → Names (Y v).held c x.stamp g) → y.limit ≡ b.limit
+    → (v : ℕ) (body : VoterBody) → Says x cause y v body → SaysInRange y.limit body → IsWithin b.limit (voter_number body)
+number_within b x y X Y cause c voters held limit v (asks.Request s) says within = let most = within.1 in (within.0, omega arith)
+number_within b x y X Y cause c voters held limit v (asks.Relinquish g) says within = grant_within b X (Y v) c x.stamp g (voters v) (held v g says.1)
+number_within b x y X Y cause c voters held limit v (asks.Release s) says within = let most = within.1 in (within.0, omega arith)
+
+-- a member of one of the quorums is a voter
+has_below : (n : ℕ) (q : List ℕ) (v : ℕ) → AllByRecursion (λ i. i < n) q → has q v ≡ true → v < n
+has_below n [] v all is = absurd (false≢true is)
+has_below n (x ∷ xs) v all is = elim (eqb x v) as (λ b. eqb x v ≡ b → (b || has xs v) ≡ true → v < n) [
+  | true ↦ λ e _. let same : x ≡ v = grind (arith, nat_tests) in let below = all.0 in omega arith
+  | false ↦ λ _ rest. has_below n xs v all.1 rest
+] refl is
+
+member_below : (b : Bounds) → DoMeet b.voters b.quorums → (x : ClientState) → (members x ≡ []) ⊎ IsAmong b.quorums (members x) → (v : ℕ) → is_member x v ≡ true → v < b.voters
+member_below b meet x quorum v is = elim quorum [
+  | inl none ↦ absurd (false≢true (ap (λ (q : List ℕ). has q v) (sym none) ∙ is))
+  | inr j ↦ has_below b.voters (members x) v (recursion_from_All (λ i. i < b.voters) (members x) (subst (λ (q : List ℕ). All (λ i. i < b.voters) q) (sym j.2) (meet.in_range j.0 [] j.1))) is
+]
+
+reached_below : (b : Bounds) → DoMeet b.voters b.quorums → (x y : ClientState) (Y : ℕ → VoterState) (c : ℕ) (cause : client.Cause) → Came b x Y c cause
+    → (members y ≡ []) ⊎ IsAmong b.quorums (members y) → (v : ℕ) → IsReached cause y v → v < b.voters
+reached_below b meet x y Y c cause came quorum v reached = elim reached [
+  | inl member ↦ member_below b meet y quorum v member
+  | inr locked ↦ (came v locked.0 locked.1.0 locked.1.1).0
+]
+
+quorum_after : (b : Bounds) (x y : ClientState) (cause : client.Cause) → Draws b cause → KeepsQuorum x cause y → (members x ≡ []) ⊎ IsAmong b.quorums (members x) → (members y ≡ []) ⊎ IsAmong b.quorums (members y)
+quorum_after b x y (client.Asks quorum) draws keeps was = inr (subst (λ (q : List ℕ). IsAmong b.quorums q) (sym keeps) draws)
+quorum_after b x y (client.Takes m) draws keeps was = subst (λ (q : List ℕ). (q ≡ []) ⊎ IsAmong b.quorums q) (sym keeps.0) was
+quorum_after b x y client.Leaves draws keeps was = subst (λ (q : List ℕ). (q ≡ []) ⊎ IsAmong b.quorums q) (sym keeps.0) was
+quorum_after b x y client.GivesUp draws keeps was = subst (λ (q : List ℕ). (q ≡ []) ⊎ IsAmong b.quorums q) (sym keeps.0) was
+
+-- what is known of one message that a client sends
+record Sent (b : Bounds) (c : ℕ) (y : ClientState) (m : ToVoter) : Type 0 where
+  client : m.client ≡ c
+  voter : m.voter < b.voters
+  number : IsWithin b.limit (voter_number m.body)
+  ok : AskOk y m.voter m.body
+
+asks_ok : (b : Bounds) (W : ℕ → ClientState) (Y : ℕ → VoterState) (c : ℕ) (y : ClientState) → W c ≡ y → (out : List ToVoter) → AllByRecursion (Sent b c y) out → AllByRecursion (MessageOk W Y) (map kinds.ToVoter out)
+asks_ok b W Y c y is [] h = tt
+asks_ok b W Y c y is (m ∷ ms) h = (subst (λ (w : ClientState). AskOk w m.voter m.body) (sym (ap W h.0.client ∙ is)) h.0.ok, asks_ok b W Y c y is ms h.1)
+
+asks_range : (b : Bounds) (c : ℕ) (y : ClientState) → c < b.clients → (out : List ToVoter) → AllByRecursion (Sent b c y) out → AreInRange b.voters b.clients b.limit (map kinds.ToVoter out)
+asks_range b c y within [] h = tt
+asks_range b c y within (m ∷ ms) h = ((subst (λ n. n < b.clients) (sym h.0.client) within, h.0.voter, h.0.number), asks_range b c y within ms h.1)
+
+all_sent : (b : Bounds) → DoMeet b.voters b.quorums → (X : ℕ → ClientState) (Y : ℕ → VoterState) → ((v : ℕ) → VoterOk b X (Y v)) → (c : ℕ) (x y : ClientState) (cause : client.Cause) → x.id ≡ c
+    → ((v g : ℕ) → holds_under x v g ≡ true → Names (Y v).held c x.stamp g) → y.limit ≡ b.limit → IsLater x y
+    → (members y ≡ []) ⊎ IsAmong b.quorums (members y) → Came b x Y c cause
+    → (out : List ToVoter) → AllSay x cause y out → AllInRange cause y out → AllByRecursion (Sent b c y) out
+all_sent b meet X Y voters c x y cause id held limit later quorum came [] say range = tt
+all_sent b meet X Y voters c x y cause id held limit later quorum came (m ∷ ms) say range = (
+  record {
+    client = say.0.0 ∙ id;
+    voter = reached_below b meet x y Y c cause came quorum m.voter range.0.0;
+    number = number_within b x y X Y cause c voters held limit m.voter m.body say.0.1 range.0.2;
+    ok = says_ok b x y Y c cause came later m.voter m.body say.0.1;
+  },
+  all_sent b meet X Y voters c x y cause id held limit later quorum came ms say.1 range.1,
+)
+
+-- ---- a client takes a step
+
+comes_in_range : (b : Bounds) (x : ClientState) (Y : ℕ → VoterState) (c : ℕ) (cause : client.Cause) → x.limit ≡ b.limit → Came b x Y c cause → ComesInRange x.limit cause
+comes_in_range b x Y c cause limit came = λ v s g locked. let within = (came v s g locked).1 in let most = within.1 in (within.0, omega arith)
+
+pub client_moves : ClientLaws → (b : Bounds) → DoMeet b.voters b.quorums → (X : ℕ → ClientState) (Y : ℕ → VoterState) (sent : List Message) → WorldOk b X Y sent → (c : ℕ) → c < b.clients
+    → (cause : client.Cause) (o : client.Outcome) → Accepts (X c) cause → client.step (X c) cause ≡ Ok o → Came b (X c) Y c cause → Draws b cause
+    → WorldOk b (put X c o.state) Y (sent ++ map kinds.ToVoter o.out)
+client_moves laws b meet X Y sent ok c within cause o accepts step came draws =
+    let x = X c in
+    let is = ok.client_ids c within in
+    let here = ok.clients c in
+    let move = laws.meets x cause o here.sound accepts step in
+    let range = laws.ranges x cause o here.sound accepts (comes_in_range b x Y c cause is.limit came) step in
+    let W = put X c o.state in
+    let later : (q : ℕ) → IsLater (X q) (W q) = put_at (λ q y. IsLater (X q) y) X c o.state move.later (λ q. later_self (X q)) in
+    let quorum = quorum_after b x o.state cause draws move.quorum here.quorum in
+    let held : (v g : ℕ) → holds_under x v g ≡ true → Names (Y v).held c x.stamp g = ok.held c in
+    let sent_now = all_sent b meet X Y ok.voters c x o.state cause is.id held (move.limit ∙ is.limit) move.later quorum came o.out move.out range in
+    record {
+      messages = all_append (MessageOk W Y) sent _ (messages_later X W Y later sent ok.messages) (asks_ok b W Y c o.state (put_same X c o.state) o.out sent_now);
+      ranges = all_append (IsInRange b.voters b.clients b.limit) sent _ ok.ranges (asks_range b c o.state within o.out sent_now);
+      held = put_at (λ q y. (v g : ℕ) → holds_under y v g ≡ true → Names (Y v).held q y.stamp g) X c o.state
+          (λ v g holds. elim (move.held v g holds) [
+            | inl was ↦ subst (λ s. Names (Y v).held c s g) (sym was.1) (held v g was.0)
+            | inr got ↦ let told = came v o.state.stamp g got.0 in told.3 (live_before x o.state v o.state.stamp g move.later told.2 got.1)
+          ]) ok.held;
+      clients = put_at (λ q y. ClientOk b y) X c o.state
+          (record {
+            sound = laws.stays x cause o here.sound accepts step;
+            last = λ v. elim (move.last v) [
+              | inl same ↦ let most = here.last v in omega arith
+              | inr was ↦ (grant_within b X (Y v) c x.stamp (last_of o.state v) (ok.voters v) (held v (last_of o.state v) was)).1
+            ];
+            quorum = quorum;
+          }) ok.clients;
+      voters = λ v. voter_later b X W later (Y v) (ok.voters v);
+      client_ids = put_at (λ q y. q < b.clients → IsClient q b.limit y) X c o.state (λ _. record { id = move.id ∙ is.id; limit = move.limit ∙ is.limit }) ok.client_ids;
+      voter_ids = ok.voter_ids;
+    }
+
+-- ---- reminders
+
+repeats_ok : (x : ClientState) (v : ℕ) (body : VoterBody) → Repeats x v body → AskOk x v body
+repeats_ok x v (asks.Request s) says = let same = says in omega arith
+repeats_ok x v (asks.Relinquish g) says = let same = says in omega arith
+repeats_ok x v (asks.Release s) says = absurd says
+
+repeat_within : (b : Bounds) (x : ClientState) → ClientOk b x → x.limit ≡ b.limit → (v : ℕ) (body : VoterBody) → Repeats x v body → SaysInRange x.limit body → IsWithin b.limit (voter_number body)
+repeat_within b x ok limit v (asks.Request s) says within = let most = within.1 in (within.0, omega arith)
+repeat_within b x ok limit v (asks.Relinquish g) says within = let least = within in let most = ok.last v in let same = says in (least, omega arith)
+repeat_within b x ok limit v (asks.Release s) says within = absurd says
+
+all_repeated : (b : Bounds) → DoMeet b.voters b.quorums → (c : ℕ) (x : ClientState) → ClientOk b x → x.id ≡ c → x.limit ≡ b.limit → (out : List ToVoter) → AllRepeat x out → RemindersInRange x out → AllByRecursion (Sent b c x) out
+all_repeated b meet c x ok id limit [] say range = tt
+all_repeated b meet c x ok id limit (m ∷ ms) say range = (
+  record {
+    client = say.0.0 ∙ id;
+    voter = member_below b meet x ok.quorum m.voter range.0.0;
+    number = repeat_within b x ok limit m.voter m.body say.0.1 range.0.2;
+    ok = repeats_ok x m.voter m.body say.0.1;
+  },
+  all_repeated b meet c x ok id limit ms say.1 range.1,
+)
+
+pub client_reminds : ClientLaws → (b : Bounds) → DoMeet b.voters b.quorums → (X : ℕ → ClientState) (Y : ℕ → VoterState) (sent : List Message) → WorldOk b X Y sent → (c : ℕ) → c < b.clients
+    → WorldOk b X Y (sent ++ map kinds.ToVoter (client.remind (X c)))
+client_reminds laws b meet X Y sent ok c within =
+    let x = X c in
+    let is = ok.client_ids c within in
+    let out = client.remind x in
+    let here = ok.clients c in
+    let sent_now = all_repeated b meet c x here is.id is.limit out (laws.repeats x) (laws.reminders x here.sound) in
+    record {
+      messages = all_append (MessageOk X Y) sent _ ok.messages (asks_ok b X Y c x refl out sent_now);
+      ranges = all_append (IsInRange b.voters b.clients b.limit) sent _ ok.ranges (asks_range b c x within out sent_now);
+      held = ok.held;
+      clients = ok.clients;
+      voters = ok.voters;
+      client_ids = ok.client_ids;
+      voter_ids = ok.voter_ids;
+    }

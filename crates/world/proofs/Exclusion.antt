@@ -1,0 +1,158 @@
+-- what is seen of clients that step one at a time
+use Rattle.std.proofs.Common.{◌≡◌, ◌≢◌, ℕ, ◌<◌, ◌≤◌, Bool, true, false, cond, List, [], ◌∷◌, ◌++◌, length, Option, Some, None, refl, sym, ap, subst, ◌∙◌, ◌⊎◌, inl, inr, arith, eqb}
+use Rattle.std.specs.Prelude.{slice_index_or, ◌==◌, ◌||◌, ◌&&◌}
+use Rattle.std.specs.List.{list_any, list_all}
+use Rattle.std.proofs.lemmas.Bool.{false≢true}
+use Rattle.std.proofs.lemmas.Bool.Decides.{nat_tests}
+use Rattle.std.proofs.lemmas.Option.{same_Some}
+use Rattle.quorum_set.specs.Sets.{has, meet}
+use Rattle.message.specs.declared.message.Message.{Message}
+use Rattle.voter.specs.declared.state.Grant.{Grant}
+use Rattle.voter.specs.declared.state.VoterState.{VoterState}
+use Rattle.requester.specs.declared.state.ClientState.{ClientState}
+use Rattle.requester.specs.declared.state.Phase.{Phase}
+use Rattle.requester.specs.declared.state.Phase.TheVariants.{Idle, Asking, Inside}
+use Rattle.requester.specs.declared.state.Seen.{Seen}
+use Rattle.requester.specs.declared.state.Seen.TheVariants.{Nothing, Entered, Left}
+use Rattle.requester.specs.RequesterContract.{Sees}
+use Rattle.requester.specs.Words.{is_idle, is_inside, is_covered, members, holds, holds_under, held_of}
+use Rattle.world.specs.declared.step.Event.{Event}
+use Rattle.world.specs.Steps.{events}
+use Rattle.world.specs.Visible.{DoMeet, GoesOn, IsAmong}
+use Rattle.world.proofs.Claims.{Bounds, ClientOk, Names, WorldOk, put, put_at, put_same}
+
+-- ---- nobody is inside together with another
+
+-- two sets that meet have a common member
+record Common (s t : List ℕ) : Type 0 where
+  member : ℕ
+  left : has s member ≡ true
+  right : has t member ≡ true
+
+common : (s t : List ℕ) → meet s t ≡ true → Common s t
+common [] t is = absurd (false≢true is)
+common (x ∷ xs) t is = elim (has t x) as (λ b. has t x ≡ b → (b || meet xs t) ≡ true → Common (x ∷ xs) t) [
+  | true ↦ λ e _. record { member = x; left = grind (arith, nat_tests); right = e }
+  | false ↦ λ _ rest. let c = common xs t rest in record { member = c.member; left = (let h = c.left in grind (arith, nat_tests)); right = c.right }
+] refl is
+
+covers : (x : ClientState) (q : List ℕ) (v : ℕ) → list_all (holds x) q ≡ true → has q v ≡ true → holds x v ≡ true
+covers x [] v all is = absurd (false≢true is)
+covers x (u ∷ us) v all is = elim (eqb u v) as (λ b. eqb u v ≡ b → (b || has us v) ≡ true → holds x v ≡ true) [
+  | true ↦ λ e _. let same : u ≡ v = grind (arith, nat_tests) in subst (λ n. holds x n ≡ true) same (grind (arith, nat_tests))
+  | false ↦ λ _ rest. covers x us v (grind (arith, nat_tests)) rest
+] refl is
+
+held_under : (x : ClientState) (v : ℕ) → holds x v ≡ true → holds_under x v (held_of x v) ≡ true
+held_under x v is = grind (arith, nat_tests)
+
+pub inside_busy : (p : Phase) → is_inside p ≡ true → is_idle p ≡ false
+inside_busy Idle e = absurd (false≢true e)
+inside_busy Asking e = refl
+inside_busy Inside e = refl
+
+quorum_inside : (b : Bounds) (x : ClientState) → ClientOk b x → is_inside x.phase ≡ true → IsAmong b.quorums (members x)
+quorum_inside b x ok inside = elim ok.quorum [
+  | inl none ↦ let some = ok.sound.asked (inside_busy x.phase inside) in let len = ap (λ (q : List ℕ). length q) none in absurd (omega arith)
+  | inr among ↦ among
+]
+
+same_holder : (held : Option Grant) (c d s t g h : ℕ) → Names held c s g → Names held d t h → c ≡ d
+same_holder held c d s t g h a b = ap (λ (k : Grant). k.client) (same_Some _ _ (sym a ∙ b))
+
+pub one_inside : (b : Bounds) → DoMeet b.voters b.quorums → (X : ℕ → ClientState) (Y : ℕ → VoterState) (sent : List Message) → WorldOk b X Y sent
+    → (c d : ℕ) → is_inside (X c).phase ≡ true → is_inside (X d).phase ≡ true → c ≡ d
+one_inside b meet X Y sent ok c d in_c in_d =
+    let j = quorum_inside b (X c) (ok.clients c) in_c in
+    let k = quorum_inside b (X d) (ok.clients d) in_d in
+    let both = common _ _ (meet.meets j.0 k.0 j.1 k.1) in
+    let v = both.member in
+    let holds_c = covers (X c) (members (X c)) v ((ok.clients c).sound.inside in_c) (ap (λ (q : List ℕ). has q v) j.2 ∙ both.left) in
+    let holds_d = covers (X d) (members (X d)) v ((ok.clients d).sound.inside in_d) (ap (λ (q : List ℕ). has q v) k.2 ∙ both.right) in
+    same_holder (Y v).held c d _ _ _ _ (ok.held c v _ (held_under (X c) v holds_c)) (ok.held d v _ (held_under (X d) v holds_d))
+
+-- ---- the visible list
+
+-- who is inside after these events
+abbrev pub ends : Option ℕ → List Event → Option ℕ
+ends inside [] = inside
+ends None (e ∷ es) = ends (Some e.client) es
+ends (Some c) (e ∷ es) = ends None es
+
+abbrev Follows : Option ℕ → Event → Type 0
+Follows None e = e.entered ≡ true
+Follows (Some c) e = (e.entered ≡ false) × (e.client ≡ c)
+
+abbrev next_inside : Option ℕ → Event → Option ℕ
+next_inside None e = Some e.client
+next_inside (Some c) e = None
+
+goes_push : (o : Option ℕ) (es : List Event) (e : Event) → GoesOn o es → Follows (ends o es) e → GoesOn o (es ++ e ∷ [])
+goes_push None [] e h g = (g, tt)
+goes_push (Some c) [] e h g = (g.0, g.1, tt)
+goes_push None (x ∷ es) e h g = (h.0, goes_push (Some x.client) es e h.1 g)
+goes_push (Some c) (x ∷ es) e h g = (h.0, h.1, goes_push None es e h.2 g)
+
+ends_push : (o : Option ℕ) (es : List Event) (e : Event) → ends o (es ++ e ∷ []) ≡ next_inside (ends o es) e
+ends_push None [] e = refl
+ends_push (Some c) [] e = refl
+ends_push None (x ∷ es) e = ends_push (Some x.client) es e
+ends_push (Some c) (x ∷ es) e = ends_push None es e
+
+append_nothing : (es : List Event) → es ++ [] ≡ es
+append_nothing [] = refl
+append_nothing (e ∷ es) = ap (λ (t : List Event). e ∷ t) (append_nothing es)
+
+abbrev pub is_inside_by : Option ℕ → ℕ → Bool
+is_inside_by None c = false
+is_inside_by (Some d) c = eqb c d
+
+-- the events are those of one client at a time, and who is inside is who entered last
+pub record Walked (es : List Event) (X : ℕ → ClientState) : Type 0 where
+  pub list : GoesOn None es
+  pub inside : (c : ℕ) → is_inside (X c).phase ≡ is_inside_by (ends None es) c
+
+eq_self : (c : ℕ) → eqb c c ≡ true
+eq_self c = grind (arith, nat_tests)
+
+both_in : (X : ℕ → ClientState) (c d : ℕ) (x : ClientState) → is_inside x.phase ≡ true → is_inside (X d).phase ≡ true → is_inside (put X c x d).phase ≡ true
+both_in X c d x in_x in_d = elim (eqb d c) as (λ b. is_inside (cond b x (X d)).phase ≡ true) [ true ↦ in_x | false ↦ in_d ]
+
+nobody : (es : List Event) (X : ℕ → ClientState) (c : ℕ) (x : ClientState) (o : Option ℕ) → ((q : ℕ) → is_inside (X q).phase ≡ is_inside_by o q)
+    → is_inside x.phase ≡ true → is_inside (X c).phase ≡ false → ((d : ℕ) → is_inside (put X c x c).phase ≡ true → is_inside (put X c x d).phase ≡ true → c ≡ d) → o ≡ None
+nobody es X c x None inside in_x out alone = refl
+nobody es X c x (Some d) inside in_x out alone =
+    let in_d = inside d ∙ eq_self d in
+    let same = alone d (ap (λ (y : ClientState). is_inside y.phase) (put_same X c x) ∙ in_x) (both_in X c d x in_x in_d) in
+    absurd (false≢true (sym out ∙ ap (λ n. is_inside (X n).phase) same ∙ in_d))
+
+leaver : (c : ℕ) (o : Option ℕ) → is_inside_by o c ≡ true → o ≡ Some c
+leaver c None e = absurd (false≢true e)
+leaver c (Some d) e = let same : d ≡ c = grind (arith, nat_tests) in ap (λ (n : ℕ). Some n) same
+
+pub walk : (es : List Event) (X : ℕ → ClientState) (c : ℕ) (x : ClientState) (seen : Seen) → Walked es X → Sees (X c).phase seen x.phase
+    → ((d : ℕ) → is_inside (put X c x c).phase ≡ true → is_inside (put X c x d).phase ≡ true → c ≡ d)
+    → Walked (es ++ events c seen) (put X c x)
+walk es X c x Nothing h sees alone =
+    subst (λ (l : List Event). Walked l (put X c x)) (sym (append_nothing es))
+    (record { list = h.list; inside = put_at (λ q y. is_inside y.phase ≡ is_inside_by (ends None es) q) X c x (sym sees ∙ h.inside c) h.inside })
+walk es X c x Entered h sees alone =
+    let e : Event = record { client = c; entered = true } in
+    let none = nobody es X c x (ends None es) h.inside sees.1 sees.0 alone in
+    record {
+      list = goes_push None es e h.list (subst (λ o. Follows o e) (sym none) refl);
+      inside = λ q. elim (eqb q c) as (λ b. eqb q c ≡ b → is_inside (cond b x (X q)).phase ≡ b) [
+        | true ↦ λ _. sees.1
+        | false ↦ λ _. h.inside q ∙ ap (λ o. is_inside_by o q) none
+      ] refl ∙ ap (λ o. is_inside_by o q) (sym (ends_push None es e ∙ ap (λ o. next_inside o e) none));
+    }
+walk es X c x Left h sees alone =
+    let e : Event = record { client = c; entered = false } in
+    let self = leaver c (ends None es) (sym (h.inside c) ∙ sees.0) in
+    record {
+      list = goes_push None es e h.list (subst (λ o. Follows o e) (sym self) (refl, refl));
+      inside = λ q. elim (eqb q c) as (λ b. eqb q c ≡ b → is_inside (cond b x (X q)).phase ≡ false) [
+        | true ↦ λ _. sees.1
+        | false ↦ λ apart. h.inside q ∙ ap (λ o. is_inside_by o q) self ∙ apart
+      ] refl ∙ ap (λ o. is_inside_by o q) (sym (ends_push None es e ∙ ap (λ o. next_inside o e) self));
+    }
