@@ -24,12 +24,12 @@ use Rattle.world.proofs.Claims.{Bounds, ClientOk, Names, WorldOk, put, put_at, p
 -- ---- nobody is inside together with another
 
 -- two sets that meet have a common member
-record Common (s t : List ℕ) : Type 0 where
-  member : ℕ
-  left : has s member ≡ true
-  right : has t member ≡ true
+pub record Common (s t : List ℕ) : Type 0 where
+  pub member : ℕ
+  pub left : has s member ≡ true
+  pub right : has t member ≡ true
 
-common : (s t : List ℕ) → meet s t ≡ true → Common s t
+pub common : (s t : List ℕ) → meet s t ≡ true → Common s t
 common [] t is = absurd (false≢true is)
 common (x ∷ xs) t is = elim (has t x) as (λ b. has t x ≡ b → (b || meet xs t) ≡ true → Common (x ∷ xs) t) [
   | true ↦ λ e _. record { member = x; left = grind (arith, nat_tests); right = e }

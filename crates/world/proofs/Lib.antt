@@ -1,7 +1,11 @@
+pub mod Acts
+pub mod Addressed
 pub mod Claims
 pub mod ClientMoves
 pub mod Exclusion
+pub mod Foretold
 pub mod Known
 pub mod Places
+pub mod Plans
 pub mod Reached
 pub mod VoterMoves

@@ -1,4 +1,3 @@
-pub mod Codes
 pub mod Ranges
 pub mod Runs
 pub mod States

@@ -1,14 +1,30 @@
 //! A step of one client or one voter among all.
 ghost use Rattle.std.specs.Prelude.{◌≡◌, ◌<◌, ◌≤◌, Err, IfErr, IfOk, None, Ok, Some, length, slice_set};
-ghost use Rattle.requester.specs.Steps.{remind, step};
+ghost use Rattle.requester.specs.Steps.{step};
 ghost use Rattle.requester.specs.Steps.Cause.{Asks, GivesUp, Leaves, Takes};
 ghost use Rattle.voter.specs.Steps as polls;
 ghost use Rattle.world.specs.Steps.{client_at, voter_at};
 
 use message::{ToClient, ToVoter};
 use quorum_set::QSet;
-use requester::{ClientFault, Reminders, Reply, Requester};
+use requester::{ClientFault, Reply, Requester};
 use voter::{Replies, Voter, VoterFault};
+
+/// The client of this number.
+pub fn client_of(clients: &[Requester], number: u8) -> &Requester
+    requires { number < length clients.now }
+    ensures { result.now ≡ client_at clients.now number }
+{
+    &clients[usize::from(number)]
+}
+
+/// The voter of this number.
+pub fn voter_of(voters: &[Voter], number: u8) -> &Voter
+    requires { number < length voters.now }
+    ensures { result.now ≡ voter_at voters.now number }
+{
+    &voters[usize::from(number)]
+}
 
 /// This client asks a quorum.
 pub fn ask(clients: &mut [Requester], client: u8, quorum: &QSet) -> Result<Reply, ClientFault>
@@ -67,22 +83,4 @@ pub fn vote(voters: &mut [Voter], message: &ToVoter) -> Result<Replies, VoterFau
 {
     let who = &mut voters[usize::from(message.voter)];
     who.take(message)
-}
-
-/// What this client tells again.
-pub fn remind_client(clients: &[Requester], client: u8) -> Reminders
-    requires { client < length clients.now }
-    ensures { result.items ≡ remind (client_at clients.now client) }
-{
-    let who = &clients[usize::from(client)];
-    who.remind()
-}
-
-/// What this voter tells again.
-pub fn remind_voter(voters: &[Voter], voter: u8) -> Replies
-    requires { voter < length voters.now }
-    ensures { result.items ≡ polls.remind (voter_at voters.now voter) }
-{
-    let who = &voters[usize::from(voter)];
-    who.remind()
 }

@@ -9,6 +9,7 @@ ghost use Rattle.world.specs.Steps as worlds;
 ghost use Rattle.world.specs.Steps.{voter_at};
 
 use crate::fault::WorldFault;
+use crate::moves::{client_of, voter_of};
 use crate::state::State;
 use crate::step::Step;
 use message::{Message, ToVoter};
@@ -57,8 +58,7 @@ fn is_refused(voters: &[Voter], message: &ToVoter) -> bool
     requires client { message.now.client < 64 }
     ensures { result ≡ is_none (polls.step (voter_at voters.now message.now.voter) message.now) }
 {
-    let voter = &voters[usize::from(message.voter)];
-    voter.effect(message).refused
+    voter_of(voters, message.voter).effect(message).refused
 }
 
 impl State {
@@ -68,8 +68,7 @@ impl State {
         if usize::from(client) >= self.clients.len() {
             return Some(WorldFault::NoSuchClient(client));
         }
-        let who = &self.clients[usize::from(client)];
-        match ask_fault(who) {
+        match ask_fault(client_of(&self.clients, client)) {
             Some(fault) => Some(WorldFault::Client(fault)),
             None => None,
         }
@@ -81,10 +80,14 @@ impl State {
     {
         match self.message(number) {
             None => Some(WorldFault::NoSuchMessage(number)),
-            Some(Message::ToVoter(message)) if is_refused(&self.voters, &message) => {
-                Some(WorldFault::Voter(VoterFault::GrantsSpent))
+            Some(Message::ToVoter(message)) => {
+                if is_refused(&self.voters, &message) {
+                    Some(WorldFault::Voter(VoterFault::GrantsSpent))
+                } else {
+                    None
+                }
             }
-            Some(_) => None,
+            Some(Message::ToClient(_)) => None,
         }
     }
 
@@ -94,8 +97,7 @@ impl State {
         if usize::from(client) >= self.clients.len() {
             return Some(WorldFault::NoSuchClient(client));
         }
-        let who = &self.clients[usize::from(client)];
-        match leave_fault(who) {
+        match leave_fault(client_of(&self.clients, client)) {
             Some(fault) => Some(WorldFault::Client(fault)),
             None => None,
         }
@@ -107,8 +109,7 @@ impl State {
         if usize::from(client) >= self.clients.len() {
             return Some(WorldFault::NoSuchClient(client));
         }
-        let who = &self.clients[usize::from(client)];
-        match give_up_fault(who) {
+        match give_up_fault(client_of(&self.clients, client)) {
             Some(fault) => Some(WorldFault::Client(fault)),
             None => None,
         }

@@ -1,5 +1,5 @@
 //! The clients, the voters and the messages of a world, and its steps where room was made.
-ghost use Rattle.std.specs.Prelude.{◌≡◌, ◌<◌, ◌≤◌, ◌++◌, ℕ, List, OnOk, length, map, slice_get};
+ghost use Rattle.std.specs.Prelude.{◌≡◌, ◌<◌, ◌≤◌, ◌+◌, ◌++◌, ℕ, List, OnOk, length, map, slice_get, vec_capacity, vec_len};
 ghost use Rattle.arrayvec.specs.ArrayVec.{array_vec_len};
 ghost use Rattle.message.specs.declared.message.Message.TheVariants as kinds;
 ghost use Rattle.world.specs.declared.step.Step.TheVariants as steps;
@@ -56,7 +56,8 @@ impl State {
     /// Notes what a client did.
     fn tell(&mut self, client: u8, reply: &Reply) -> Stepped
         requires few { array_vec_len reply.now.out ≤ 64 }
-        requires room { HasRoom self.old }
+        requires sent { vec_len self.old.sent + 64 ≤ vec_capacity self.old.sent }
+        requires visible { vec_len self.old.visible + 1 ≤ vec_capacity self.old.visible }
         ensures sent { result.sent ≡ length reply.now.out.items }
         ensures seen { result.seen ≡ reply.now.seen }
         ensures state { shown self.new ≡ record (shown self.old) {
@@ -150,12 +151,10 @@ impl State {
         requires numbered { IsNumbered (shown self.old) }
         ensures { (deal : ℕ → List ℕ) → Does (worlds.step deal (shown self.old) (steps.Deliver number)) (shown self.old) result (shown self.new) }
     {
-        let Some(message) = self.message(number) else {
-            return Err(WorldFault::NoSuchMessage(number));
-        };
-        match message {
-            Message::ToVoter(message) => self.vote(&message),
-            Message::ToClient(message) => Ok(self.take(&message)),
+        match self.message(number) {
+            None => Err(WorldFault::NoSuchMessage(number)),
+            Some(Message::ToVoter(message)) => self.vote(&message),
+            Some(Message::ToClient(message)) => Ok(self.take(&message)),
         }
     }
 
@@ -166,7 +165,7 @@ impl State {
         if usize::from(client) >= self.clients.len() {
             return Err(WorldFault::NoSuchClient(client));
         }
-        let reminders = moves::remind_client(&self.clients, client);
+        let reminders = moves::client_of(&self.clients, client).remind();
         send_to_voters(&mut self.sent, reminders.as_slice());
         Ok(Stepped {
             sent: reminders.len(),
@@ -181,7 +180,7 @@ impl State {
         if usize::from(voter) >= self.voters.len() {
             return Err(WorldFault::NoSuchVoter(voter));
         }
-        let reminders = moves::remind_voter(&self.voters, voter);
+        let reminders = moves::voter_of(&self.voters, voter).remind();
         send_to_clients(&mut self.sent, reminders.as_slice());
         Ok(Stepped {
             sent: reminders.len(),

@@ -32,12 +32,13 @@ pub struct World {
 impl Model for World {
     ghost use Rattle.world.specs.Runs.{IsReached};
     ghost use Rattle.world.specs.States.{shown};
-    ghost use Rattle.world.specs.Codes.{planned_code};
+    ghost use Rattle.std.specs.Coded.{codes};
+    ghost use Rattle.voter.specs.contracts.state.VoterState as known;
     ghost use Rattle.world.specs.Steps.{Planned};
 
     ghost Value = { Planned };
 
-    ghost coded = { planned_code };
+    ghost coded = { Prim.hlevel (codes, known.the_row.coded) };
 
     ghost view = { λ a. record { plan = a.cycle; state = shown a.state } };
 

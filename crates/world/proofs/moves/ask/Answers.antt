@@ -1,15 +1,25 @@
-use Rattle.std.proofs.Common.{◌≡◌, ap, sym, ◌∙◌, set}
+use Rattle.std.proofs.Common.{◌≡◌, ap, sym, ◌∙◌, Ok, Err}
+use Rattle.std.specs.Prelude.{IfOk}
+use Rattle.requester.specs.declared.fault.ClientFault.{ClientFault}
 use Rattle.requester.specs.declared.state.ClientState.{ClientState}
-use Rattle.requester.specs.Steps.{step}
-use Rattle.requester.specs.Steps.Cause.{Asks, Leaves, GivesUp}
-use Rattle.world.proofs.Places.{client_read, client_written, client_same}
+use Rattle.requester.specs.Steps.{start, step}
+use Rattle.requester.specs.Steps.Cause.{Asks, GivesUp, Leaves, Takes}
+use Rattle.world.specs.Steps.{client_at}
+use Rattle.world.proofs.Places.{moved_at, others_at, refused_at}
 use Rattle.world.proofs.moves.ask.Goals as goal
 
 pub returns-clause-asked : goal.returns-clause-asked
-returns-clause-asked c = ?
+unfolding client_at step
+returns-clause-asked c =
+    moved_at (start 0 1) (λ a b. IfOk c.ask.result (λ r. step a (Asks c.args.quorum.now) ≡ Ok (record { out = r.out.items; seen = r.seen; state = b })))
+    c.args.clients.now c.from.result c.args.client c.index-clients-from.result c.ask.new.self c.from.ensures c.requires.client c.index-clients-from.is c.ask.ensures.asked
 
 pub returns-clause-refused : goal.returns-clause-refused
-returns-clause-refused c = ?
+unfolding client_at step
+returns-clause-refused c =
+    refused_at (start 0 1) (λ (a : ClientState) (fault : ClientFault). step a (Asks c.args.quorum.now) ≡ Err fault) c.ask.result
+    c.args.clients.now c.from.result c.args.client c.index-clients-from.result c.ask.new.self c.from.ensures c.requires.client c.index-clients-from.is c.ask.ensures.refused
 
 pub returns-clause-others : goal.returns-clause-others
-returns-clause-others c = ?
+unfolding client_at
+returns-clause-others c = others_at (start 0 1) c.args.clients.now c.from.result c.args.client c.ask.new.self c.from.ensures c.requires.client

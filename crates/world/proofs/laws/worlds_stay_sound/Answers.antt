@@ -1,0 +1,14 @@
+use Rattle.world.proofs.Plans.{AllSound, reached_lines, reached_sound}
+use Rattle.world.proofs.laws.worlds_stay_sound.Goals as goal
+
+pub returns-clause-exclusive : goal.returns-clause-exclusive
+returns-clause-exclusive c = λ w r. (reached_sound c.runs_are_sound.ensures w r).exclusive
+
+pub returns-clause-lines : goal.returns-clause-lines
+returns-clause-lines c = λ w r. reached_lines c.runs_are_sound.ensures w r
+
+pub returns-clause-draws : goal.returns-clause-draws
+returns-clause-draws c = λ w r. (reached_sound c.runs_are_sound.ensures w r).draws
+
+pub returns-clause-numbered : goal.returns-clause-numbered
+returns-clause-numbered c = λ w r. (reached_sound c.runs_are_sound.ensures w r).numbered

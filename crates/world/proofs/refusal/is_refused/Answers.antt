@@ -1,0 +1,23 @@
+use Rattle.std.proofs.Common.{◌≡◌, sym, ap, ◌∙◌, Option, Some, None, refl, subst}
+use Rattle.std.specs.Option.{is_none}
+use Rattle.message.specs.declared.message.ToVoter.{ToVoter}
+use Rattle.voter.specs.declared.state.Effect.{Effect}
+use Rattle.voter.specs.declared.state.VoterState.{VoterState}
+use Rattle.voter.specs.Steps.{Outcome, effect_by, effect_of, step}
+use Rattle.world.specs.Steps.{voter_at}
+use Rattle.world.proofs.refusal.is_refused.Goals as goal
+
+pub effect-requires-clause-voter : goal.effect-requires-clause-voter
+effect-requires-clause-voter c = sym c.requires.id ∙ sym (ap (λ (y : VoterState). y.id) c.voter_of.ensures)
+
+refused_by : (v : VoterState) (o : Option Outcome) → (effect_by v o).refused ≡ is_none o
+refused_by v None = refl
+refused_by v (Some o) = refl
+
+refused_of : (v : VoterState) (m : ToVoter) → (effect_of v m).refused ≡ is_none (step v m)
+unfolding effect_of
+refused_of v m = refused_by v (step v m)
+
+pub returns : goal.returns
+returns c =
+    ap (λ (e : Effect). e.refused) c.effect.ensures ∙ refused_of c.voter_of.result.now c.args.message.now ∙ ap (λ (y : VoterState). is_none (step y c.args.message.now)) c.voter_of.ensures

@@ -1,0 +1,33 @@
+use Rattle.std.proofs.Common.{◌≡◌, refl, sym, subst, ap, ◌∙◌, length, List, ℕ, Ok, Err}
+use Rattle.std.specs.Vec.{with_items}
+use Rattle.requester.specs.declared.state.ClientState.{ClientState}
+use Rattle.requester.specs.Steps as client
+use Rattle.requester.specs.Steps.{Asks, Leaves, GivesUp}
+use Rattle.world.specs.States.{shown}
+use Rattle.world.specs.Steps.{client_at, draw, step}
+use Rattle.world.proofs.Acts.{beyond_len, ran, refused, told, within_len, written}
+use Rattle.world.proofs.Foretold.{a_client, no_client}
+use Rattle.world.proofs.state.State.ask.Goals as goal
+
+pub returns-then-from-len : goal.returns-then-from-len
+unfolding step
+returns-then-from-len c = λ deal is. (no_client c.args.client (length c.args.self.now.clients.items) _ (beyond_len c.args.self.now.clients c.from.result c.args.client c.len.result c.from.ensures c.len.ensures c.if-from-len.true), refl)
+
+pub returns-in-Ok : goal.returns-in-Ok
+unfolding step
+returns-in-Ok c = λ deal is.
+    a_client c.args.client (length c.args.self.now.clients.items) _ (within_len c.args.self.now.clients c.from.result c.args.client c.len.result c.from.ensures c.len.ensures c.if-from-len.false)
+    ∙ ran (draw (shown c.args.self.now) c.args.client) c.deref_mut.result.now c.ask.new.clients (with_items c.args.self.now.clients c.ask.new.clients).items c.args.client (Asks (deal (length c.args.self.now.draws.items)))
+    c.in-Ok.reply.out.items c.in-Ok.reply.seen c.tell.result (shown c.tell.new.self) c.deref_mut.ensures.value
+    (subst (λ (q : List ℕ). client.step (client_at c.deref_mut.result.now c.args.client) (Asks q) ≡ Ok (record { out = c.in-Ok.reply.out.items; seen = c.in-Ok.reply.seen; state = client_at c.ask.new.clients c.args.client })) (sym is) c.in-Ok.ensures.asked)
+    c.in-Ok.ensures.others (written c.args.self.now.clients c.deref_mut.result.now c.ask.new.clients c.args.client _ c.deref_mut.ensures.value c.in-Ok.ensures.others)
+    c.tell.ensures.sent c.tell.ensures.seen (c.tell.ensures.state ∙ ap (λ (d : List (ℕ × ℕ)). told (record (shown c.args.self.now) { draws = d }) (with_items c.args.self.now.clients c.ask.new.clients).items c.args.client c.in-Ok.reply.out.items c.in-Ok.reply.seen) c.draw.ensures)
+
+pub returns-in-Err : goal.returns-in-Err
+unfolding step
+returns-in-Err c = λ deal is. (
+  a_client c.args.client (length c.args.self.now.clients.items) _ (within_len c.args.self.now.clients c.from.result c.args.client c.len.result c.from.ensures c.len.ensures c.if-from-len.false)
+  ∙ refused (draw (shown c.args.self.now) c.args.client) c.deref_mut.result.now (client_at c.deref_mut.result.now c.args.client) c.args.client (Asks (deal (length c.args.self.now.draws.items))) c.in-Err.fault c.deref_mut.ensures.value refl (subst (λ (q : List ℕ). client.step (client_at c.deref_mut.result.now c.args.client) (Asks q) ≡ Err c.in-Err.fault) (sym is) c.in-Err.ensures.refused.0),
+  ap (λ (l : List ClientState). record (shown c.args.self.now) { clients = l })
+  (written c.args.self.now.clients c.deref_mut.result.now c.ask.new.clients c.args.client _ c.deref_mut.ensures.value c.in-Err.ensures.others ∙ c.in-Err.ensures.refused.1 ∙ c.deref_mut.ensures.value),
+)
