@@ -8,4 +8,5 @@ pub mod Known
 pub mod Places
 pub mod Plans
 pub mod Reached
+pub mod Traces
 pub mod VoterMoves

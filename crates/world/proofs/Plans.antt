@@ -17,7 +17,9 @@ use Rattle.dealer.proofs.CycleLemmas.{cycle_of-lt}
 use Rattle.world.specs.declared.step.Step.{Step}
 use Rattle.world.specs.Ranges.{AreInRange, IsInRange, IsNumbered, IsSound, IsWithin, TellsWithin}
 use Rattle.world.specs.Runs.{AreLimits, IsReached, after, run_by, run_of, start, start_by}
-use Rattle.world.specs.Steps.{Planned, WorldState, quorum_by, step, step_of}
+use Rattle.world.specs.declared.fault.WorldFault.{WorldFault}
+use Rattle.world.specs.declared.step.Stepped.{Stepped}
+use Rattle.world.specs.Steps.{Does, Outcome, Planned, WorldState, quorum_by, step, step_of}
 use Rattle.world.specs.Visible.{DealsFrom, DoMeet, IsAmong}
 use Rattle.world.proofs.Claims.{all_map}
 use Rattle.world.proofs.Exclusion.{Common, common}
@@ -58,8 +60,8 @@ plan_meets w is =
       meets = λ i j in_i in_j. elim (order i j) [
         | inl less ↦ c.meets i j [] less in_j
         | inr other ↦ elim other [
-          | inl more ↦ meet_back _ _ (c.meets j i [] more in_i)
-          | inr same ↦ subst (λ n. meet (slice_index_or w.system.quorums i []) (slice_index_or w.system.quorums n []) ≡ true) same (meet_self _ (c.not_empty i [] in_i))
+          | inl more ↦ meet_back (slice_index_or w.system.quorums j []) (slice_index_or w.system.quorums i []) (c.meets j i [] more in_i)
+          | inr same ↦ subst (λ n. meet (slice_index_or w.system.quorums i []) (slice_index_or w.system.quorums n []) ≡ true) same (meet_self (slice_index_or w.system.quorums i []) (c.not_empty i [] in_i))
         ]
       ];
     }
@@ -124,3 +126,13 @@ reached_after w r s u is = record {
   steps = r.steps ++ s ∷ [];
   state = is ∙ ap (λ (v : WorldState). after v (step (quorum_by w.plan) v s)) r.state ∙ sym (run_more (quorum_by w.plan) r.steps s (start_by w.plan r.clients r.limit));
 }
+
+does_after : (wanted : Result Outcome WorldFault) (old : WorldState) (result : Result Stepped WorldFault) (new : WorldState) → Does wanted old result new → new ≡ after old wanted
+does_after wanted old (Ok s) new does = sym (ap (λ r. after old r) does)
+does_after wanted old (Err fault) new does = does.1 ∙ sym (ap (λ r. after old r) does.0)
+
+-- what the code did to a world in which it made room
+pub reached_does : (w : Planned) → IsReached w → (s : Step) (roomy : WorldState) (result : Result Stepped WorldFault) (new : WorldState) → roomy ≡ w.state
+    → Does (step (quorum_by w.plan) roomy s) roomy result new → IsReached (record { plan = w.plan; state = new })
+reached_does w r s roomy result new same does =
+    reached_after w r s new (does_after _ w.state result new (subst (λ (u : WorldState). Does (step (quorum_by w.plan) u s) u result new) same does))

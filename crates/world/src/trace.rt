@@ -1,5 +1,6 @@
 //! Runs of a world.
-ghost use Rattle.std.specs.Prelude.{◌≡◌, ◌≤◌, ◌^◌, IfOk};
+ghost use Rattle.std.specs.Prelude.{◌≡◌, ◌≢◌, ◌≤◌, ◌^◌, ◌++◌, ◌∷◌, [], IfOk, OnOk};
+ghost use Rattle.world.specs.declared.fault.WorldFault.TheVariants.{OutOfMemory};
 ghost use Rattle.world.specs.Runs.{DrawsInOrder, refusals_of, run_by, start_by};
 ghost use Rattle.world.specs.Steps.{quorum_by};
 ghost use Rattle.world.specs.Visible.{IsExclusive};
@@ -51,9 +52,26 @@ pub fn run(
     for (place, step) in steps.iter().enumerate() {
         match world.step(*step) {
             Ok(_) => {}
-            Err(WorldFault::OutOfMemory) => return Err(AllocError),
-            Err(fault) => refused.push((place, fault))?,
+            Err(fault) => keep(&mut refused, place, fault)?,
         }
     }
     Ok(world.into_trace(refused))
+}
+
+/// Keeps why a step was refused. Want of memory is no such reason.
+fn keep(
+    refused: &mut Vec<(usize, WorldFault)>,
+    place: usize,
+    fault: WorldFault,
+) -> Result<(), AllocError>
+    ensures kept { OnOk result (refused.new.items ≡ refused.old.items ++ (place, fault) ∷ []) }
+    ensures reason { OnOk result (fault ≢ OutOfMemory) }
+{
+    match fault {
+        WorldFault::OutOfMemory => Err(AllocError),
+        _ => {
+            refused.push((place, fault))?;
+            Ok(())
+        }
+    }
 }

@@ -1,0 +1,56 @@
+-- a run, step by step
+use Rattle.std.proofs.Common.{◌≡◌, ℕ, ◌+◌, ◌<◌, ◌≤◌, List, [], ◌∷◌, ◌++◌, length, drop, get_or, Result, Ok, Err, refl, sym, ap, subst, ◌∙◌, arith, append_assoc}
+use Rattle.std.proofs.lemmas.List.{append-nil, drop_more}
+use Rattle.certificate.specs.Certificates.{Weighted}
+use Rattle.world.specs.declared.fault.WorldFault.{WorldFault}
+use Rattle.world.specs.declared.fault.WorldFault.TheVariants as faults
+use Rattle.world.specs.declared.step.Step.{Step}
+use Rattle.world.specs.declared.step.Stepped.{Stepped}
+use Rattle.world.specs.Runs.{after, refusal_at, refusals_of, run_by, run_of, start_by}
+use Rattle.world.specs.Steps.{Outcome, Planned, Refuses, WorldState, outcome_of, quorum_by, step, step_of}
+
+-- the run so far, and then that of the steps that are left, is the whole run
+pub record Ran (plan : Weighted) (clients limit : ℕ) (steps : List Step) (place : ℕ) (w : Planned) (refused : List (ℕ × WorldFault)) : Type 0 where
+  pub by : w.plan ≡ plan
+  pub rest : run_of (quorum_by plan) (drop place steps) w.state ≡ run_by plan clients limit steps
+  pub refusals : refused ++ refusals_of (quorum_by plan) place (drop place steps) w.state ≡ refusals_of (quorum_by plan) 0 steps (start_by plan clients limit)
+
+refused_why : (r : Result Outcome WorldFault) (fault : WorldFault) → Refuses r fault → (fault ≡ faults.OutOfMemory → ⊥) → r ≡ Err fault
+refused_why (Ok o) fault refuses other = absurd (other refuses)
+refused_why (Err why) fault refuses other = ap (λ e. Err e) (sym refuses)
+
+one : (plan : Weighted) (clients limit : ℕ) (steps : List Step) (place : ℕ) (w u : Planned) (refused more : List (ℕ × WorldFault)) (s : Step) → Ran plan clients limit steps place w refused
+    → drop place steps ≡ s ∷ drop (place + 1) steps → u.plan ≡ w.plan → u.state ≡ after w.state (step (quorum_by plan) w.state s) → refusal_at place (step (quorum_by plan) w.state s) ≡ more
+    → Ran plan clients limit steps (place + 1) u (refused ++ more)
+one plan clients limit steps place w u refused more s ran next same is at =
+    let deal = quorum_by plan in
+    let left = drop (place + 1) steps in
+    record {
+      by = same ∙ ran.by;
+      rest = ap (λ (v : WorldState). run_of deal left v) is ∙ ap (λ (l : List Step). run_of deal l w.state) (sym next) ∙ ran.rest;
+      refusals =
+          append_assoc refused more (refusals_of deal (place + 1) left u.state)
+          ∙ ap (λ (l : List (ℕ × WorldFault)). refused ++ (l ++ refusals_of deal (place + 1) left u.state)) (sym at)
+          ∙ ap (λ (v : WorldState). refused ++ (refusal_at place (step deal w.state s) ++ refusals_of deal (place + 1) left v)) is
+          ∙ ap (λ (l : List Step). refused ++ refusals_of deal place l w.state) (sym next)
+          ∙ ran.refusals;
+    }
+
+by_plan : (plan : Weighted) (w : Planned) (s : Step) (r : Result Outcome WorldFault) → w.plan ≡ plan → step_of w s ≡ r → step (quorum_by plan) w.state s ≡ r
+by_plan plan w s r by is = subst (λ (p : Weighted). step (quorum_by p) w.state s ≡ r) by is
+
+pub ran_on : (plan : Weighted) (clients limit : ℕ) (steps : List Step) (place : ℕ) (w u : Planned) (refused : List (ℕ × WorldFault)) (s : Step) (told : Stepped) → Ran plan clients limit steps place w refused
+    → place < length steps → u.plan ≡ w.plan → step_of w (get_or steps place s) ≡ Ok (outcome_of told u.state) → Ran plan clients limit steps (place + 1) u refused
+ran_on plan clients limit steps place w u refused s told ran within same done =
+    let next = drop_more steps place s within in
+    let is = by_plan plan w (get_or steps place s) _ ran.by done in
+    subst (λ (l : List (ℕ × WorldFault)). Ran plan clients limit steps (place + 1) u l) (append-nil refused)
+    (one plan clients limit steps place w u refused [] (get_or steps place s) ran next same (sym (ap (λ r. after w.state r) is)) (ap (λ r. refusal_at place r) is))
+
+pub ran_past : (plan : Weighted) (clients limit : ℕ) (steps : List Step) (place : ℕ) (w u : Planned) (refused : List (ℕ × WorldFault)) (s : Step) (fault : WorldFault) → Ran plan clients limit steps place w refused
+    → place < length steps → u ≡ w → Refuses (step_of w (get_or steps place s)) fault → (fault ≡ faults.OutOfMemory → ⊥) → Ran plan clients limit steps (place + 1) u (refused ++ (place, fault) ∷ [])
+ran_past plan clients limit steps place w u refused s fault ran within same refuses other =
+    let next = drop_more steps place s within in
+    let is = by_plan plan w (get_or steps place s) _ ran.by (refused_why _ fault refuses other) in
+    one plan clients limit steps place w u refused ((place, fault) ∷ []) (get_or steps place s) ran next (ap (λ (v : Planned). v.plan) same)
+    (ap (λ (v : Planned). v.state) same ∙ sym (ap (λ r. after w.state r) is)) (ap (λ r. refusal_at place r) is)
