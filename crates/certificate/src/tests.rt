@@ -148,6 +148,19 @@ fn texts_of_the_wheel(rt: HostRuntime) -> Result<(), Fail> {
             "quorum-plan 1\nload 3/5\ncycle 5\nquorum 1 1 1 2\nvoter 2 1 1 1\n\n",
             "P5 BadText 6",
         ),
+    ];
+    for (text, want) in &table {
+        let answer = read_plan(alloc, &wheel, text.as_bytes());
+        assert_eq!(rt; shown(alloc, answer)?.as_str(), *want, "{text}");
+    }
+    Ok(())
+}
+
+#[test]
+fn plans_of_the_wheel(rt: HostRuntime) -> Result<(), Fail> {
+    let alloc = rt.alloc();
+    let wheel = wheel(alloc)?;
+    let table = [
         (
             "quorum-plan 1\nload 3/5\ncycle 5\nquorum 1 1 1\nvoter 2 1 1 1\n",
             "P1 WrongLength",
