@@ -1,0 +1,77 @@
+-- What a script's run writes: for each step in order, what it sent and who entered or left, or why it was refused.
+use Rattle.std.specs.Prelude.{ℕ, ◌≡◌, ◌+◌, Bool, true, false, List, [], ◌∷◌, ◌++◌, length, drop, codes, Result, Ok, Err}
+use Rattle.std.specs.List.{flat_map}
+use Rattle.std.specs.Fmt.{decimal}
+use Rattle.certificate.specs.Certificates.{Weighted}
+use Rattle.message.specs.declared.message.Message.{Message}
+use Rattle.message.specs.Lines.{message_line}
+use Rattle.requester.specs.declared.fault.ClientFault.{ClientFault}
+use Rattle.requester.specs.declared.fault.ClientFault.TheVariants.{Busy, NotInside, NotAsking, StampsSpent}
+use Rattle.world.specs.declared.fault.WorldFault.{WorldFault}
+use Rattle.world.specs.declared.fault.WorldFault.TheVariants.{NoSuchMessage, NoSuchClient, NoSuchVoter, Client, Voter, OutOfMemory}
+use Rattle.world.specs.declared.step.Event.{Event}
+use Rattle.world.specs.declared.step.Step.{Step}
+use Rattle.world.specs.Runs.{after, start_by}
+use Rattle.world.specs.Steps.{Outcome, WorldState, quorum_by, step}
+use Rattle.replay.specs.Scripts.{IsScript, Script, script_text}
+
+-- Lines; 10 is a newline, 32 a space
+
+-- a message with its number
+abbrev pub sent_line : ℕ → Message → List ℕ
+sent_line number message = codes "m " ++ (decimal number ++ (32 ∷ (message_line message ++ 10 ∷ [])))
+
+-- the messages, numbered from here on
+abbrev pub sent_lines : ℕ → List Message → List ℕ
+sent_lines number [] = []
+sent_lines number (m ∷ ms) = sent_line number m ++ sent_lines (number + 1) ms
+
+abbrev pub event_word : Bool → List ℕ
+event_word true = codes "enter "
+event_word false = codes "leave "
+
+-- a client entered, or left
+abbrev pub event_line : Event → List ℕ
+event_line e = event_word e.entered ++ (decimal e.client ++ 10 ∷ [])
+
+abbrev pub client_fault_text : ClientFault → List ℕ
+client_fault_text Busy = codes "C1 Busy"
+client_fault_text NotInside = codes "C2 NotInside"
+client_fault_text NotAsking = codes "C3 NotAsking"
+client_fault_text StampsSpent = codes "C4 StampsSpent"
+
+-- number, name and argument of a fault
+abbrev pub fault_text : WorldFault → List ℕ
+fault_text (NoSuchMessage number) = codes "U1 NoSuchMessage " ++ decimal number
+fault_text (NoSuchClient client) = codes "U2 NoSuchClient " ++ decimal client
+fault_text (NoSuchVoter voter) = codes "U3 NoSuchVoter " ++ decimal voter
+fault_text (Client fault) = client_fault_text fault
+fault_text (Voter fault) = codes "V1 GrantsSpent"
+fault_text OutOfMemory = codes "O1 OutOfMemory"
+
+-- the line of a refused step, with the text of its fault
+abbrev pub refusal_of : List ℕ → List ℕ
+refusal_of fault = codes "! " ++ (fault ++ 10 ∷ [])
+
+-- Steps
+
+-- what a step writes, of a world as it was before: the messages that it sent, and who entered or left
+abbrev pub step_output : WorldState → Result Outcome WorldFault → List ℕ
+step_output w (Ok o) = sent_lines (length w.sent) (drop (length w.sent) o.state.sent) ++ flat_map event_line (drop (length w.visible) o.state.visible)
+step_output w (Err fault) = refusal_of (fault_text fault)
+
+-- what the steps write, one after the other
+abbrev pub run_output : (ℕ → List ℕ) → List Step → WorldState → List ℕ
+run_output deal [] w = []
+run_output deal (s ∷ steps) w = step_output w (step deal w s) ++ run_output deal steps (after w (step deal w s))
+
+-- what a script writes, with quorums by the plan
+abbrev pub script_output : Weighted → Script → List ℕ
+script_output plan s = run_output (quorum_by plan) s.steps (start_by plan s.clients s.limit)
+
+-- the output is that of the script that the text spells
+pub record IsOutput (plan : Weighted) (text output : List ℕ) : Type 0 where
+  pub script : Script
+  pub is_script : IsScript script
+  pub spelled : text ≡ script_text script
+  pub output_is : output ≡ script_output plan script

@@ -1,0 +1,137 @@
+-- Scripts: how large a world is, and the steps that happen in it, each on a line of its own.
+--
+--     world CLIENTS LIMIT      1 to 64 clients; stamps and grants go from 1 to the limit, which is 1 to 2^40
+--     ask C                    then any number of steps, of six kinds
+--     deliver K
+--     leave C
+--     give-up C
+--     remind-client C
+--     remind-voter V
+--
+-- C and V are at most 255, and K is below 2^64. A number is decimal, without a leading zero. One space stands between two
+-- words, and each line ends with a newline.
+use Rattle.std.specs.Prelude.{ℕ, ◌≡◌, ◌≢◌, ◌<◌, ◌≤◌, ◌+◌, ◌^◌, ◌⊎◌, List, [], ◌∷◌, ◌++◌, length, map, codes}
+use Rattle.std.specs.List.{AllByRecursion}
+use Rattle.certificate.specs.PlanTexts.{text_of_lines}
+use Rattle.message.specs.Fields.{fields}
+use Rattle.world.specs.declared.step.Step.{Step}
+use Rattle.world.specs.declared.step.Step.TheVariants.{Ask, Deliver, Leave, GiveUp, RemindClient, RemindVoter}
+use Rattle.replay.specs.declared.fault.ReplayFault.{ReplayFault}
+use Rattle.replay.specs.declared.fault.ReplayFault.TheVariants.{BadLine, OutOfMemory}
+
+pub record Script : Type 0 where
+  -- how many clients the world has
+  pub clients : ℕ
+  -- the highest stamp and the highest grant
+  pub limit : ℕ
+  pub steps : List Step
+
+-- Spelling
+
+abbrev pub step_word : Step → List ℕ
+step_word (Ask client) = codes "ask"
+step_word (Deliver message) = codes "deliver"
+step_word (Leave client) = codes "leave"
+step_word (GiveUp client) = codes "give-up"
+step_word (RemindClient client) = codes "remind-client"
+step_word (RemindVoter voter) = codes "remind-voter"
+
+abbrev pub step_number : Step → ℕ
+step_number (Ask client) = client
+step_number (Deliver message) = message
+step_number (Leave client) = client
+step_number (GiveUp client) = client
+step_number (RemindClient client) = client
+step_number (RemindVoter voter) = voter
+
+-- a message's number is below 2^64, a client or a voter at most 255
+abbrev pub HasStepLine : Step → Type 0
+HasStepLine (Ask client) = client ≤ 255
+HasStepLine (Deliver message) = message < 2 ^ 64
+HasStepLine (Leave client) = client ≤ 255
+HasStepLine (GiveUp client) = client ≤ 255
+HasStepLine (RemindClient client) = client ≤ 255
+HasStepLine (RemindVoter voter) = voter ≤ 255
+
+-- the one line of a step, without its newline
+abbrev pub step_line : Step → List ℕ
+step_line s = step_word s ++ fields (step_number s ∷ [])
+
+-- the first line, without its newline
+abbrev pub world_line : ℕ → ℕ → List ℕ
+world_line clients limit = codes "world" ++ fields (clients ∷ limit ∷ [])
+
+-- how large a world may be
+pub record AreSizes (clients limit : ℕ) : Type 0 where
+  pub some_client : 1 ≤ clients
+  pub few_clients : clients ≤ 64
+  pub some_stamp : 1 ≤ limit
+  pub few_stamps : limit ≤ 2 ^ 40
+
+abbrev pub HaveLines : List Step → Type 0
+HaveLines steps = AllByRecursion HasStepLine steps
+
+pub record IsScript (s : Script) : Type 0 where
+  pub sizes : AreSizes s.clients s.limit
+  pub steps : HaveLines s.steps
+
+-- the lines of these steps, each with a newline at its end
+abbrev pub steps_text : List Step → List ℕ
+steps_text steps = text_of_lines (map step_line steps)
+
+-- the one text of a script
+abbrev pub script_text : Script → List ℕ
+script_text s = world_line s.clients s.limit ++ 10 ∷ steps_text s.steps
+
+-- The first bad line
+
+abbrev pub IsWorldLine : List ℕ → Type 0
+IsWorldLine line = (clients : ℕ) × (limit : ℕ) × AreSizes clients limit × (line ≡ world_line clients limit)
+
+abbrev pub IsStepLine : List ℕ → Type 0
+IsStepLine line = (s : Step) × HasStepLine s × (line ≡ step_line s)
+
+-- the text begins with such a line, with its newline
+abbrev pub BeginsWith : (List ℕ → Type 0) → List ℕ → Type 0
+BeginsWith IsLine text = (line : List ℕ) × (rest : List ℕ) × IsLine line × (text ≡ line ++ 10 ∷ rest)
+
+-- behind these steps' lines goes on a text that begins with no step's line
+pub record EndsBadly (text : List ℕ) (steps : List Step) : Type 0 where
+  pub steps_have_lines : HaveLines steps
+  pub rest : List ℕ
+  pub text_is : text ≡ steps_text steps ++ rest
+  pub some : rest ≢ []
+  pub bad : ¬ (BeginsWith IsStepLine rest)
+
+-- the lines before this one are a world's and its steps', and this one is no step's
+pub record IsBadStep (text : List ℕ) (line : ℕ) : Type 0 where
+  pub clients : ℕ
+  pub limit : ℕ
+  pub sizes : AreSizes clients limit
+  pub body : List ℕ
+  pub text_is : text ≡ world_line clients limit ++ 10 ∷ body
+  pub steps : List Step
+  pub ends : EndsBadly body steps
+  pub line_is : line ≡ length steps + 2
+
+-- the first bad line of a text, by its number from 1: it has no newline, or it is spelled otherwise
+abbrev pub IsFirstBad : List ℕ → ℕ → Type 0
+IsFirstBad text line = ((line ≡ 1) × ¬ (BeginsWith IsWorldLine text)) ⊎ IsBadStep text line
+
+-- the fault is the text's first bad line, or want of memory
+abbrev pub IsBadText : List ℕ → ReplayFault → Type 0
+IsBadText text (BadLine line) = IsFirstBad text line
+IsBadText text OutOfMemory = Unit {0}
+
+-- Facts of the parts of a line
+
+-- the step of this word and this number
+pub record IsStepOf (s : Step) (word : List ℕ) (number : ℕ) : Type 0 where
+  pub has_line : HasStepLine s
+  pub word_is : word ≡ step_word s
+  pub number_is : number ≡ step_number s
+
+-- these steps' lines are the text, or the fault is that of the line behind them, where their first line has number 2
+abbrev pub IsBadBody : List ℕ → ReplayFault → Type 0
+IsBadBody body (BadLine line) = (steps : List Step) × EndsBadly body steps × (line ≡ length steps + 2)
+IsBadBody body OutOfMemory = Unit {0}

@@ -1,0 +1,181 @@
+//! What a script's run writes.
+ghost use Rattle.std.specs.Prelude.{◌≡◌, ◌++◌, ◌≤◌, ◌^◌, IfErr, IfOk, MatchResult, Ok, OnOk, drop, length, string_bytes};
+ghost use Rattle.std.specs.List.{flat_map};
+ghost use Rattle.message.specs.Lines.{HasLine};
+ghost use Rattle.world.specs.Runs.{after, start_by};
+ghost use Rattle.world.specs.Steps.{quorum_by, step_of};
+ghost use Rattle.replay.specs.Outputs.{IsOutput, client_fault_text, event_line, fault_text, refusal_of, run_output, script_output, sent_line, sent_lines, step_output};
+ghost use Rattle.replay.specs.Scripts.{IsBadText, IsScript, Script, script_text};
+ghost use Rattle.replay.specs.declared.fault.ReplayFault.TheVariants.{OutOfMemory};
+
+use crate::fault::ReplayFault;
+use crate::reading::read_script;
+use crate::script::Script;
+use certificate::Plan;
+use message::{Message, write_message};
+use requester::ClientFault;
+use std::alloc::{AllocError, Global};
+use voter::VoterFault;
+use world::{Event, Step, World, WorldFault};
+
+/// Writes `m NUMBER MESSAGE`.
+fn push_message(
+    alloc: Global,
+    text: &mut String,
+    number: usize,
+    message: &Message,
+) -> Result<(), AllocError>
+    requires { HasLine message.now }
+    ensures { OnOk result (string_bytes text.new ≡ string_bytes text.old ++ sent_line number message.now) }
+{
+    let line = write_message(alloc, message)?;
+    write!(text, "m {number} {line}\n")
+}
+
+/// Writes `enter CLIENT` or `leave CLIENT`.
+fn push_event(text: &mut String, event: &Event) -> Result<(), AllocError>
+    ensures { OnOk result (string_bytes text.new ≡ string_bytes text.old ++ event_line event.now) }
+{
+    let client = event.client;
+    if event.entered {
+        write!(text, "enter {client}\n")
+    } else {
+        write!(text, "leave {client}\n")
+    }
+}
+
+/// The text of a client's refusal.
+fn client_fault_text(fault: ClientFault) -> &'static str
+    ensures { result.now ≡ client_fault_text fault }
+{
+    match fault {
+        ClientFault::Busy => "C1 Busy",
+        ClientFault::NotInside => "C2 NotInside",
+        ClientFault::NotAsking => "C3 NotAsking",
+        ClientFault::StampsSpent => "C4 StampsSpent",
+    }
+}
+
+/// Writes `! ` and the text of a fault.
+fn push_fault_text(text: &mut String, fault: &str) -> Result<(), AllocError>
+    ensures { OnOk result (string_bytes text.new ≡ string_bytes text.old ++ refusal_of fault.now) }
+{
+    write!(text, "! {fault}\n")
+}
+
+/// Writes `! ` and the fault.
+fn push_refusal(text: &mut String, fault: WorldFault) -> Result<(), AllocError>
+    ensures { OnOk result (string_bytes text.new ≡ string_bytes text.old ++ refusal_of (fault_text fault)) }
+{
+    match fault {
+        WorldFault::NoSuchMessage(number) => write!(text, "! U1 NoSuchMessage {number}\n"),
+        WorldFault::NoSuchClient(client) => write!(text, "! U2 NoSuchClient {client}\n"),
+        WorldFault::NoSuchVoter(voter) => write!(text, "! U3 NoSuchVoter {voter}\n"),
+        WorldFault::Client(fault) => push_fault_text(text, client_fault_text(fault)),
+        WorldFault::Voter(VoterFault::GrantsSpent) => push_fault_text(text, "V1 GrantsSpent"),
+        WorldFault::OutOfMemory => push_fault_text(text, "O1 OutOfMemory"),
+    }
+}
+
+/// Writes the messages of a world from this number on.
+fn push_messages(
+    alloc: Global,
+    text: &mut String,
+    world: &World,
+    first: usize,
+) -> Result<(), AllocError>
+    ensures { OnOk result (string_bytes text.new ≡ string_bytes text.old ++ sent_lines first (drop first world.now.state.sent)) }
+{
+    for number in first..world.sent() {
+        push_message(alloc, text, number, &world.message(number))?;
+    }
+    Ok(())
+}
+
+/// Writes these events.
+fn push_events(text: &mut String, events: &[Event]) -> Result<(), AllocError>
+    ensures { OnOk result (string_bytes text.new ≡ string_bytes text.old ++ flat_map event_line events.now) }
+{
+    for event in events {
+        push_event(text, event)?;
+    }
+    Ok(())
+}
+
+/// What comes behind the first ones.
+fn events_from(events: &[Event], first: usize) -> &[Event]
+    ensures { result.now ≡ drop first events.now }
+{
+    match events.get(first..) {
+        Some(rest) => rest,
+        None => &[],
+    }
+}
+
+/// Takes a step, and writes what it did.
+fn push_step(
+    alloc: Global,
+    text: &mut String,
+    world: &mut World,
+    step: Step,
+) -> Result<(), ReplayFault>
+    ensures text { OnOk result (string_bytes text.new ≡ string_bytes text.old ++ step_output world.old.state (step_of world.old step)) }
+    ensures world { OnOk result (world.new.state ≡ after world.old.state (step_of world.old step)) }
+    ensures plan { world.new.plan ≡ world.old.plan }
+    ensures memory { IfErr result (λ fault. fault ≡ OutOfMemory) }
+{
+    let messages = world.sent();
+    let events = world.visible().len();
+    match world.step(step) {
+        Ok(_) => {
+            push_messages(alloc, text, world, messages)?;
+            push_events(text, events_from(world.visible(), events))?;
+            Ok(())
+        }
+        Err(WorldFault::OutOfMemory) => Err(ReplayFault::OutOfMemory),
+        Err(fault) => {
+            push_refusal(text, fault)?;
+            Ok(())
+        }
+    }
+}
+
+/// What a script writes.
+fn output_of(alloc: Global, plan: Plan, script: &Script, room: usize) -> Result<String, ReplayFault>
+    ensures output { IfOk result (λ text. string_bytes text ≡ script_output plan script.now) }
+    ensures memory { IfErr result (λ fault. fault ≡ OutOfMemory) }
+{
+    let mut text = String::with_capacity(alloc, room)?;
+    let mut world = World::new(alloc, plan, script.clients(), script.limit())?;
+    for step in script.steps() {
+        match push_step(alloc, &mut text, &mut world, *step) {
+            Ok(()) => {}
+            Err(fault) => return Err(fault),
+        }
+    }
+    Ok(text)
+}
+
+/// Runs the script that a text spells, from a new world of this plan, and answers what the steps did, a line each:
+///
+/// - `! ` and the fault, for a step that is refused, which changes nothing;
+/// - `m NUMBER MESSAGE` for each message that a step sent, by its number from 0 on;
+/// - `enter CLIENT` or `leave CLIENT` for a client that entered or left.
+///
+/// A text that spells no script is refused by its first bad line, before any step is taken. Want of memory may come at any
+/// point.
+pub fn run_script(alloc: Global, plan: Plan, text: &[u8]) -> Result<String, ReplayFault>
+    // What is answered is the output of the script that the text spells.
+    ensures output { IfOk result (λ output. IsOutput plan text.now (string_bytes output)) }
+    // A text that spells a script is answered.
+    ensures run { (s : Script) → IsScript s → text.now ≡ script_text s
+        → MatchResult result (λ output. string_bytes output ≡ script_output plan s) (λ fault. fault ≡ OutOfMemory) }
+    // Which line is refused.
+    ensures bad { IfErr result (IsBadText text.now) }
+{
+    let script = match read_script(alloc, text) {
+        Ok(script) => script,
+        Err(fault) => return Err(fault),
+    };
+    output_of(alloc, plan, &script, text.len())
+}

@@ -1,0 +1,172 @@
+//! Reading a script.
+ghost use Rattle.std.specs.Prelude.{◌≡◌, ◌≤◌, ◌==◌, ◌++◌, ◌∷◌, ◌^◌, [], ℕ, List, IfErr, IfOk, IfSome, MatchOption, MatchResult, codes, position};
+ghost use Rattle.std.specs.Option.{option_map};
+ghost use Rattle.certificate.specs.PlanTexts.{cut_at};
+ghost use Rattle.world.specs.declared.step.Step.{Step};
+ghost use Rattle.replay.specs.Scripts.{AreSizes, HasStepLine, HaveLines, IsBadBody, IsBadText, IsScript, IsStepOf, Script, script_text, step_line, steps_text, world_line};
+ghost use Rattle.replay.specs.declared.fault.ReplayFault.TheVariants.{OutOfMemory};
+
+use crate::fault::ReplayFault;
+use crate::script::Script;
+use message::{cut, fields};
+use std::alloc::Global;
+use world::Step;
+
+/// The highest limit of stamps and grants.
+const HIGHEST_LIMIT: u64 = 1 << 40;
+
+/// The place of the first newline.
+fn newline(text: &[u8]) -> Option<usize>
+    ensures { result ≡ position (λ b. b == 10) text.now }
+{
+    text.iter().position(|b| *b == b'\n')
+}
+
+/// The first line, without its newline, and what follows it.
+fn first_line(text: &[u8]) -> Option<(&[u8], &[u8])>
+    ensures { option_map (λ x. (x.0.now, x.1.now)) result ≡ cut_at 10 text.now }
+{
+    match newline(text) {
+        Some(place) => Some((&text[..place], &text[place + 1..])),
+        None => None,
+    }
+}
+
+/// The step of a word and its number.
+fn step_of(word: &[u8], number: u64) -> Option<Step>
+    ensures spelled { IfSome result (λ s. IsStepOf s word.now number) }
+    ensures read { (s : Step) → IsStepOf s word.now number → result ≡ Some s }
+{
+    if word == b"deliver".as_slice() {
+        return Some(Step::Deliver(number));
+    }
+    let Ok(who) = u8::try_from(number) else {
+        return None;
+    };
+    match word {
+        b"ask" => Some(Step::Ask(who)),
+        b"leave" => Some(Step::Leave(who)),
+        b"give-up" => Some(Step::GiveUp(who)),
+        b"remind-client" => Some(Step::RemindClient(who)),
+        b"remind-voter" => Some(Step::RemindVoter(who)),
+        _ => None,
+    }
+}
+
+/// The step that a line spells, without its newline.
+fn read_step(line: &[u8]) -> Option<Step>
+    ensures spelled { IfSome result (λ s. HasStepLine s × (line.now ≡ step_line s)) }
+    ensures read { (s : Step) → HasStepLine s → line.now ≡ step_line s → result ≡ Some s }
+{
+    let (word, rest) = cut(line);
+    match fields::<1>(rest) {
+        Some(numbers) => step_of(word, numbers[0]),
+        None => None,
+    }
+}
+
+/// The step at the front of a text, and what follows its line.
+fn first_step(text: &[u8]) -> Option<(Step, &[u8])>
+    ensures line { IfSome result (λ x. HasStepLine x.0) }
+    ensures spelled { IfSome result (λ x. text.now ≡ step_line x.0 ++ 10 ∷ x.1.now) }
+    ensures read { (s : Step) (rest : List ℕ) → HasStepLine s → text.now ≡ step_line s ++ 10 ∷ rest
+        → MatchOption result ⊥ (λ x. (x.0 ≡ s) × (x.1.now ≡ rest)) }
+{
+    match first_line(text) {
+        Some((line, rest)) => match read_step(line) {
+            Some(step) => Some((step, rest)),
+            None => None,
+        },
+        None => None,
+    }
+}
+
+/// The steps whose lines are the text. Its first line has number 2.
+fn read_steps(alloc: Global, text: &[u8]) -> Result<Vec<Step>, ReplayFault>
+    ensures lines { IfOk result (λ steps. HaveLines steps.items) }
+    ensures spelled { IfOk result (λ steps. text.now ≡ steps_text steps.items) }
+    ensures read { (steps : List Step) → HaveLines steps → text.now ≡ steps_text steps
+        → MatchResult result (λ found. found.items ≡ steps) (λ fault. fault ≡ OutOfMemory) }
+    ensures bad { IfErr result (IsBadBody text.now) }
+{
+    let mut steps = Vec::new(alloc);
+    let mut rest = text;
+    'lines: while !rest.is_empty() {
+        let Some((step, after)) = first_step(rest) else {
+            return Err(ReplayFault::BadLine(steps.len() + 2));
+        };
+        match steps.push(step) {
+            Ok(()) => rest = after,
+            Err(_) => return Err(ReplayFault::OutOfMemory),
+        }
+    }
+    Ok(steps)
+}
+
+/// The sizes of a word and two numbers.
+fn sizes_of(word: &[u8], clients: u64, limit: u64) -> Option<(u8, u64)>
+    ensures sizes { IfSome result (λ x. AreSizes x.0 x.1) }
+    ensures word { IfSome result (λ x. word.now ≡ codes "world") }
+    ensures same { IfSome result (λ x. (x.0 ≡ clients) × (x.1 ≡ limit)) }
+    ensures read { AreSizes clients limit → word.now ≡ codes "world" → result ≡ Some (clients, limit) }
+{
+    if word == b"world".as_slice()
+        && (1..=64).contains(&clients)
+        && (1..=HIGHEST_LIMIT).contains(&limit)
+    {
+        Some((clients as u8, limit))
+    } else {
+        None
+    }
+}
+
+/// The sizes that a line spells, without its newline.
+fn read_sizes(line: &[u8]) -> Option<(u8, u64)>
+    ensures sizes { IfSome result (λ x. AreSizes x.0 x.1) }
+    ensures spelled { IfSome result (λ x. line.now ≡ world_line x.0 x.1) }
+    ensures read { (clients limit : ℕ) → AreSizes clients limit → line.now ≡ world_line clients limit → result ≡ Some (clients, limit) }
+{
+    let (word, rest) = cut(line);
+    match fields::<2>(rest) {
+        Some(numbers) => sizes_of(word, numbers[0], numbers[1]),
+        None => None,
+    }
+}
+
+/// The sizes at the front of a text, and what follows their line.
+fn first_sizes(text: &[u8]) -> Option<(u8, u64, &[u8])>
+    ensures sizes { IfSome result (λ x. AreSizes x.0 x.1) }
+    ensures spelled { IfSome result (λ x. text.now ≡ world_line x.0 x.1 ++ 10 ∷ x.2.now) }
+    ensures read { (clients limit : ℕ) (rest : List ℕ) → AreSizes clients limit → text.now ≡ world_line clients limit ++ 10 ∷ rest
+        → MatchOption result ⊥ (λ x. (x.0 ≡ clients) × (x.1 ≡ limit) × (x.2.now ≡ rest)) }
+{
+    match first_line(text) {
+        Some((line, rest)) => match read_sizes(line) {
+            Some((clients, limit)) => Some((clients, limit, rest)),
+            None => None,
+        },
+        None => None,
+    }
+}
+
+/// Reads a script from its text.
+///
+/// Refused is the first line that is missing, is spelled otherwise, or has no newline (`BadLine`). Want of memory may come
+/// at any point.
+pub fn read_script(alloc: Global, text: &[u8]) -> Result<Script, ReplayFault>
+    // What is read is spelled so.
+    ensures spelled { IfOk result (λ s. IsScript s × (text.now ≡ script_text s)) }
+    // What is spelled so is read.
+    ensures read { (s : Script) → IsScript s → text.now ≡ script_text s
+        → MatchResult result (λ script. script ≡ s) (λ fault. fault ≡ OutOfMemory) }
+    // Which line is refused.
+    ensures bad { IfErr result (IsBadText text.now) }
+{
+    let Some((clients, limit, rest)) = first_sizes(text) else {
+        return Err(ReplayFault::BadLine(1));
+    };
+    match read_steps(alloc, rest) {
+        Ok(steps) => Ok(Script::of(clients, limit, steps)),
+        Err(fault) => Err(fault),
+    }
+}

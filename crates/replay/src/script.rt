@@ -1,0 +1,62 @@
+//! A script.
+ghost use Rattle.std.specs.Prelude.{◌≡◌};
+ghost use Rattle.replay.specs.Scripts.{IsScript};
+
+use std::marker::Model;
+use world::Step;
+
+/// A script: how large a world is, and the steps that happen in it. Clauses see it as a `Script` of the specs.
+#[derive(Debug, Drop)]
+pub struct Script {
+    clients: u8,
+    limit: u64,
+    steps: Vec<Step>,
+}
+
+impl Model for Script {
+    ghost use Rattle.replay.specs.Scripts as scripts;
+
+    ghost Value = { scripts.Script };
+
+    ghost view = { λ s. record { clients = s.clients; limit = s.limit; steps = s.steps.items } };
+
+    ghost invariant = { λ s. scripts.IsScript (record { clients = s.clients; limit = s.limit; steps = s.steps.items }) };
+}
+
+impl Script {
+    /// The script of these parts. Takes no memory.
+    pub(crate) fn of(clients: u8, limit: u64, steps: Vec<Step>) -> Script
+        requires { IsScript (record { clients = clients; limit = limit; steps = steps.items }) }
+        ensures { result ≡ record { clients = clients; limit = limit; steps = steps.items } }
+    {
+        Script {
+            clients,
+            limit,
+            steps,
+        }
+    }
+
+    /// How many clients the world has: 1 to 64.
+    pub fn clients(&self) -> u8
+        ensures value { result ≡ self.now.clients }
+        ensures script { IsScript self.now }
+    {
+        self.clients
+    }
+
+    /// The highest stamp and the highest grant: 1 to 2^40.
+    pub fn limit(&self) -> u64
+        ensures value { result ≡ self.now.limit }
+        ensures script { IsScript self.now }
+    {
+        self.limit
+    }
+
+    /// The steps, in order.
+    pub fn steps(&self) -> &[Step]
+        ensures value { result.now ≡ self.now.steps }
+        ensures script { IsScript self.now }
+    {
+        &self.steps
+    }
+}
