@@ -1,3 +1,4 @@
 mod LineLemmas
 mod OutputLemmas
+mod Readings
 mod StepsLemmas

@@ -13,13 +13,17 @@ use Rattle.world.specs.declared.step.Step.{Step}
 use Rattle.world.specs.declared.step.Step.TheVariants.{Ask, Deliver, Leave, GiveUp, RemindClient, RemindVoter}
 use Rattle.replay.specs.Scripts.{AreSizes, HasStepLine, step_line, step_number, step_word, world_line}
 
-Lacks-digits : (ds : List ℕ) → AllDigits 10 ds → Lacks 10 ds
-Lacks-digits [] h = tt
-Lacks-digits (d ∷ ds) h = (ne_eqb d 10 (λ e. let r = digit_from_value d h.0 in absurd (omega arith)), Lacks-digits ds h.1)
+-- digits are 48 to 57
+Lacks-digits : (mark : ℕ) (ds : List ℕ) → mark < 48 → AllDigits 10 ds → Lacks mark ds
+Lacks-digits mark [] low h = tt
+Lacks-digits mark (d ∷ ds) low h = (ne_eqb d mark (λ e. let r = digit_from_value d h.0 in absurd (omega arith)), Lacks-digits mark ds low h.1)
+
+pub Lacks-decimal : (mark n : ℕ) → mark < 48 → n < 2 ^ 64 → Lacks mark (decimal n)
+Lacks-decimal mark n low small = Lacks-digits mark (decimal n) low (digits_decimal own n small)
 
 Lacks-fields : (ns : List ℕ) → AllFit ns → Lacks 10 (fields ns)
 Lacks-fields [] fit = tt
-Lacks-fields (n ∷ ns) fit = (refl, Lacks-append 10 (decimal n) (fields ns) (Lacks-digits _ (digits_decimal own n fit.0)) (Lacks-fields ns fit.1))
+Lacks-fields (n ∷ ns) fit = (refl, Lacks-append 10 (decimal n) (fields ns) (Lacks-decimal 10 n (omega arith) fit.0) (Lacks-fields ns fit.1))
 
 -- a step's number fits a field
 pub fit_step : (s : Step) → HasStepLine s → AllFit (step_number s ∷ [])
@@ -33,7 +37,7 @@ fit_step (RemindVoter v) h = (omega arith, tt)
 pub fit_sizes : (clients limit : ℕ) → AreSizes clients limit → AllFit (clients ∷ limit ∷ [])
 fit_sizes clients limit h = (omega arith, (omega arith, tt))
 
-Lacks-word : (s : Step) → Lacks 10 (step_word s)
+pub Lacks-word : (s : Step) → Lacks 10 (step_word s)
 Lacks-word (Ask c) = search rules
 Lacks-word (Deliver k) = search rules
 Lacks-word (Leave c) = search rules

@@ -37,7 +37,7 @@ next_step found rest steps [] some goes = absurd (some goes.rest_is)
 next_step found rest steps (s ∷ others) some goes =
     (s, others, record { line = goes.lines.0; rest_is = goes.rest_is; lines = goes.lines.1; steps_are = goes.steps_are ∙ sym (append_assoc found (s ∷ []) others) })
 
-some_text : (front rest : List ℕ) → front ++ 10 ∷ rest ≢ []
+pub some_text : (front rest : List ℕ) → front ++ 10 ∷ rest ≢ []
 some_text [] rest = λ e. cc
 some_text (b ∷ front) rest = λ e. cc
 

@@ -91,6 +91,10 @@ IsWorldLine line = (clients : ℕ) × (limit : ℕ) × AreSizes clients limit ×
 abbrev pub IsStepLine : List ℕ → Type 0
 IsStepLine line = (s : Step) × HasStepLine s × (line ≡ step_line s)
 
+-- a line of some script, without its newline
+abbrev pub IsLine : List ℕ → Type 0
+IsLine line = IsWorldLine line ⊎ IsStepLine line
+
 -- the text begins with such a line, with its newline
 abbrev pub BeginsWith : (List ℕ → Type 0) → List ℕ → Type 0
 BeginsWith IsLine text = (line : List ℕ) × (rest : List ℕ) × IsLine line × (text ≡ line ++ 10 ∷ rest)

@@ -64,7 +64,7 @@ fn push_fault_text(text: &mut String, fault: &str) -> Result<(), AllocError>
 }
 
 /// Writes `! ` and the fault.
-fn push_refusal(text: &mut String, fault: WorldFault) -> Result<(), AllocError>
+pub(crate) fn push_refusal(text: &mut String, fault: WorldFault) -> Result<(), AllocError>
     ensures { OnOk result (string_bytes text.new ≡ string_bytes text.old ++ refusal_of (fault_text fault)) }
 {
     match fault {
