@@ -1,5 +1,5 @@
 -- A text is read in one way: a line spells one step, or the sizes of one world, and lines follow one another.
-use Rattle.std.proofs.Common.{◌≡◌, ◌≢◌, ℕ, ◌+◌, ◌<◌, ◌≤◌, ◌^◌, Option, Some, None, if◌then◌else◌, List, [], ◌∷◌, ◌++◌, drop, length, refl, sym, ap, ap₂, ◌∙◌, inl, inr, arith, rules}
+use Rattle.std.proofs.Common.{◌≡◌, ◌≢◌, ℕ, ◌+◌, ◌<◌, ◌^◌, Option, Some, None, if◌then◌else◌, List, [], ◌∷◌, ◌++◌, drop, length, refl, sym, ap, ap₂, ◌∙◌, inl, inr, arith, rules}
 use Rattle.std.specs.Prelude.{codes}
 use Rattle.std.specs.Str.{bytes_eq}
 use Rattle.std.specs.Fmt.{decimal}
@@ -9,7 +9,7 @@ use Rattle.certificate.specs.PlanTexts.{cut_at}
 use Rattle.certificate.proofs.Cuts.{Lacks, cut_at-append}
 use Rattle.world.specs.declared.step.Step.{Step}
 use Rattle.world.specs.declared.step.Step.TheVariants.{Ask, Deliver, Leave, GiveUp, RemindClient, RemindVoter}
-use Rattle.replay.specs.Scripts.{AreSizes, BeginsWith, EndsBadly, HasStepLine, HaveLines, IsBadStep, IsFirstBad, IsLine, IsScript, IsStepLine, IsWorldLine, Script, script_text, step_line, step_number, step_word, steps_text, world_line}
+use Rattle.replay.specs.Scripts.{AreSizes, BeginsWith, HasStepLine, HaveLines, IsFirstBad, IsLine, IsScript, IsStepLine, IsWorldLine, Script, script_text, step_line, step_number, step_word, steps_text, world_line}
 use Rattle.replay.proofs.LineLemmas.{Lacks-decimal, Lacks-step, Lacks-world, cut_line, fit_step, same_pair}
 use Rattle.replay.proofs.StepsLemmas.{some_text}
 

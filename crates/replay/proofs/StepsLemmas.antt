@@ -1,5 +1,5 @@
 -- The lines of steps, one after the other.
-use Rattle.std.proofs.Common.{◌≡◌, ◌≢◌, ℕ, ◌+◌, ◌<◌, ◌≤◌, List, [], ◌∷◌, ◌++◌, length, refl, sym, ap, ◌∙◌, arith, append_assoc, inr}
+use Rattle.std.proofs.Common.{◌≡◌, ◌≢◌, ℕ, List, [], ◌∷◌, ◌++◌, sym, ap, ◌∙◌, append_assoc, inr}
 use Rattle.std.proofs.lemmas.List.{append-nil}
 use Rattle.world.specs.declared.step.Step.{Step}
 use Rattle.replay.specs.declared.fault.ReplayFault.{ReplayFault}

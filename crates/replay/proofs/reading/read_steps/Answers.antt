@@ -1,7 +1,7 @@
-use Rattle.std.proofs.Common.{◌≡◌, ◌≢◌, [], ◌∷◌, ◌++◌, List, ℕ, ap, sym, ◌∙◌}
+use Rattle.std.proofs.Common.{[], ◌∷◌, ◌++◌, List, ℕ, ap, sym, ◌∙◌}
 use Rattle.std.proofs.lemmas.List.{nil_from_length}
 use Rattle.world.specs.declared.step.Step.{Step}
-use Rattle.replay.specs.Scripts.{step_line, steps_text}
+use Rattle.replay.specs.Scripts.{steps_text}
 use Rattle.replay.proofs.StepsLemmas.{HaveLines_push, all_found, next_step, steps_text_push}
 use Rattle.message.proofs.FieldLemmas.{none_from_test, some_from_test}
 use Rattle.replay.proofs.reading.read_steps.Goals as goal
