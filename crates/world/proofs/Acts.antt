@@ -1,10 +1,10 @@
 -- what the code did is the step of the definition
-use Rattle.std.proofs.Common.{◌≡◌, ℕ, ◌<◌, ◌≤◌, List, [], ◌∷◌, ◌++◌, map, length, set, Option, Some, None, Result, Ok, Err, true, false, refl, sym, ap, subst, ◌∙◌, arith}
+use Rattle.std.proofs.Common.{◌≡◌, ℕ, ◌<◌, ◌≤◌, List, ◌++◌, map, length, set, Option, Some, None, Ok, Err, true, false, refl, sym, ap, subst, ◌∙◌, arith}
 use Rattle.std.specs.Option.{is_none}
 use Rattle.std.proofs.lemmas.Bool.{false≢true}
 use Rattle.std.specs.Global.{Vec}
 use Rattle.std.specs.Vec.{vec_len, with_items}
-use Rattle.std.proofs.lemmas.List.{length-map, length-set, with_items_is}
+use Rattle.std.proofs.lemmas.List.{length-set, with_items_is}
 use Rattle.message.specs.declared.message.ToVoter.{ToVoter}
 use Rattle.message.specs.declared.message.ToClient.{ToClient}
 use Rattle.message.specs.declared.message.Message.{Message}
@@ -17,7 +17,6 @@ use Rattle.requester.specs.declared.state.ClientState.{ClientState}
 use Rattle.requester.specs.declared.state.Seen.{Seen}
 use Rattle.requester.specs.declared.state.Seen.TheVariants.{Nothing}
 use Rattle.requester.specs.Steps as client
-use Rattle.world.specs.declared.fault.WorldFault.{WorldFault}
 use Rattle.world.specs.declared.fault.WorldFault.TheVariants as faults
 use Rattle.world.specs.declared.step.Stepped.{Stepped}
 use Rattle.world.specs.Steps.{WorldState, Outcome, act, after_client, after_voter, client_at, client_did, events, outcome_of, say, vote, voter_at, voter_did}
@@ -70,7 +69,7 @@ voted w os vs ds m replies n u is step wrote same sent state =
     let now : voter.step (voter_at w.voters m.voter) m ≡ Some o = subst (λ (l : List VoterState). voter.step (voter_at l m.voter) m ≡ Some o) is step in
     let list : set w.voters m.voter (voter_at vs m.voter) ≡ ds = sym (same ∙ wrote ∙ ap (λ (l : List VoterState). set l m.voter (voter_at vs m.voter)) is) in
     let world : record w { voters = set w.voters m.voter (voter_at vs m.voter); sent = w.sent ++ map kinds.ToClient replies } ≡ u =
-        ap (λ (l : List VoterState). record w { voters = l; sent = w.sent ++ map kinds.ToClient replies }) list ∙ sym state in
+    ap (λ (l : List VoterState). record w { voters = l; sent = w.sent ++ map kinds.ToClient replies }) list ∙ sym state in
     ap (λ r. after_voter w m.voter r) now ∙ (λ i. Ok (record { sent = sym sent i; seen = Nothing; state = world i }))
 
 pub not_voted : (w : WorldState) (os : List VoterState) (m : ToVoter) → os ≡ w.voters → voter.step (voter_at os m.voter) m ≡ None → vote w m ≡ Err (faults.Voter GrantsSpent)

@@ -1,12 +1,10 @@
 -- what is so of every message that was ever sent, of every vote that is held, and of every client and voter
-use Rattle.std.proofs.Common.{◌≡◌, ◌≢◌, ℕ, ◌+◌, ◌<◌, ◌≤◌, Bool, true, false, cond, List, [], ◌∷◌, ◌++◌, map, length, Option, Some, None, refl, sym, ap, subst, ◌∙◌, ◌⊎◌, inl, inr, arith, eqb, ltb}
-use Rattle.std.specs.Prelude.{zero, suc, slice_get, slice_index_or}
+use Rattle.std.proofs.Common.{◌≡◌, ℕ, ◌<◌, ◌≤◌, Bool, true, false, cond, List, [], ◌∷◌, ◌++◌, Option, Some, refl, sym, ap, subst, ◌∙◌, ◌⊎◌, inl, inr, arith, eqb, ltb}
+use Rattle.std.specs.Prelude.{zero, suc, slice_get}
 use Rattle.std.specs.List.{AllByRecursion}
 use Rattle.std.proofs.lemmas.Bool.{false≢true}
 use Rattle.std.proofs.lemmas.Bool.Decides.{nat_tests}
 use Rattle.std.proofs.lemmas.Option.{none-some, same_Some}
-use Rattle.message.specs.declared.message.ToVoter.{ToVoter}
-use Rattle.message.specs.declared.message.ToClient.{ToClient}
 use Rattle.message.specs.declared.message.Message.{Message}
 use Rattle.message.specs.declared.message.Message.TheVariants as kinds
 use Rattle.message.specs.declared.message.VoterBody.{VoterBody}
@@ -20,7 +18,7 @@ use Rattle.voter.specs.VoterContract.{Ends, IsEntry}
 use Rattle.requester.specs.declared.state.ClientState.{ClientState}
 use Rattle.requester.specs.RequesterContract.{IsLater, IsLive}
 use Rattle.requester.specs.Soundness as sound
-use Rattle.requester.specs.Words.{is_idle, members, holds, holds_under, held_of, last_of}
+use Rattle.requester.specs.Words.{is_idle, members, holds_under, last_of}
 use Rattle.world.specs.Ranges.{AreInRange, IsWithin}
 use Rattle.world.specs.Visible.{IsAmong}
 
@@ -115,11 +113,13 @@ ask_later x y v (asks.Request s) later ok = let rises = later.stamp in omega ari
 ask_later x y v (asks.Relinquish g) later ok = let rises = later.last v in omega arith
 ask_later x y v (asks.Release s) later ok =
     let rises = later.stamp in
-    let known = ok.0 in
-    (omega arith, λ busy. elim (less_or_same x.stamp y.stamp rises) [
-      | inl less ↦ omega arith
-      | inr same ↦ let before = ok.1 (busy_before x y later same busy) in omega arith
-    ])
+    let known = ok.0 in (
+      omega arith,
+      λ busy. elim (less_or_same x.stamp y.stamp rises) [
+        | inl less ↦ omega arith
+        | inr same ↦ let before = ok.1 (busy_before x y later same busy) in omega arith
+      ],
+    )
 
 tell_later : (x y : ClientState) (held : Option Grant) (v c : ℕ) (b : ClientBody) → IsLater x y → TellOk x held v c b → TellOk y held v c b
 tell_later x y held v c (tells.Locked s g) later ok =

@@ -1,32 +1,26 @@
 -- what a client's step keeps so
-use Rattle.std.proofs.Common.{◌≡◌, ◌≢◌, ℕ, ◌+◌, ◌<◌, ◌≤◌, Bool, true, false, cond, List, [], ◌∷◌, ◌++◌, map, length, Option, Some, None, Ok, refl, sym, ap, subst, ◌∙◌, ◌⊎◌, inl, inr, arith, eqb, ltb}
-use Rattle.std.specs.Prelude.{slice_index_or, ◌==◌, ◌||◌}
+use Rattle.std.proofs.Common.{◌≡◌, ℕ, ◌<◌, ◌≤◌, true, false, List, [], ◌∷◌, ◌++◌, map, Ok, refl, sym, ap, subst, ◌∙◌, ◌⊎◌, inl, inr, arith, eqb}
+use Rattle.std.specs.Prelude.{◌||◌}
 use Rattle.std.proofs.lemmas.List.Elements.{recursion_from_All}
 use Rattle.std.specs.List.{All, AllByRecursion}
 use Rattle.std.proofs.lemmas.Bool.{false≢true}
 use Rattle.std.proofs.lemmas.Bool.Decides.{nat_tests}
 use Rattle.quorum_set.specs.Sets.{has}
 use Rattle.message.specs.declared.message.ToVoter.{ToVoter}
-use Rattle.message.specs.declared.message.ToClient.{ToClient}
 use Rattle.message.specs.declared.message.Message.{Message}
 use Rattle.message.specs.declared.message.Message.TheVariants as kinds
 use Rattle.message.specs.declared.message.VoterBody.{VoterBody}
 use Rattle.message.specs.declared.message.VoterBody.TheVariants as asks
-use Rattle.message.specs.declared.message.ClientBody.{ClientBody}
-use Rattle.message.specs.declared.message.ClientBody.TheVariants as tells
 use Rattle.message.specs.Lines.{voter_number}
-use Rattle.voter.specs.declared.state.Grant.{Grant}
 use Rattle.voter.specs.declared.state.VoterState.{VoterState}
-use Rattle.voter.specs.Steps as voter
 use Rattle.requester.specs.declared.state.ClientState.{ClientState}
-use Rattle.requester.specs.RequesterContract.{Accepts, AllInRange, AllRepeat, AllSay, ComesInRange, IsLater, IsLive, IsLocked, IsLockedOf, IsReached, KeepsQuorum, Locks, MeetsContract, RemindersInRange, Repeats, Says, SaysInRange}
-use Rattle.requester.specs.Soundness as sound
+use Rattle.requester.specs.RequesterContract.{Accepts, AllInRange, AllRepeat, AllSay, ComesInRange, IsLater, IsLive, IsLocked, IsReached, KeepsQuorum, RemindersInRange, Repeats, Says, SaysInRange}
 use Rattle.requester.specs.Steps as client
-use Rattle.requester.specs.Words.{is_idle, is_member, members, holds, holds_under, held_of, last_of}
+use Rattle.requester.specs.Words.{is_member, members, holds_under, last_of}
 use Rattle.world.specs.Ranges.{AreInRange, IsInRange, IsWithin}
 use Rattle.world.specs.Visible.{DoMeet, IsAmong}
 use Rattle.world.proofs.Known.{ClientLaws}
-use Rattle.world.proofs.Claims.{Bounds, Names, AskOk, TellOk, MessageOk, HeldOk, ClientOk, IsClient, VoterOk, WorldOk, live_before, later_self, voter_later, all_map, all_append, messages_later, put, put_at, put_same}
+use Rattle.world.proofs.Claims.{Bounds, Names, AskOk, MessageOk, ClientOk, IsClient, VoterOk, WorldOk, live_before, later_self, voter_later, all_append, messages_later, put, put_at, put_same}
 
 -- what came: each LOCKED names voters and stamps that are in range, and is so
 abbrev pub Came : Bounds → ClientState → (ℕ → VoterState) → ℕ → client.Cause → Type 0
@@ -57,13 +51,15 @@ says_ok b x y Y c cause came later v (asks.Relinquish g) says = let same = says.
 says_ok b x y Y c cause came later v (asks.Release s) says = elim says [
   | inl own ↦ (let same = own.0 in omega arith, λ busy. absurd (false≢true (sym busy ∙ own.1)))
   | inr other ↦
-    let was = came v s other.0.0 other.0.1 in
-    let known = was.2 in
-    let rises = later.stamp in
-    (omega arith, λ busy. elim other.1 [
-      | inl idle ↦ absurd (false≢true (sym busy ∙ idle))
-      | inr apart ↦ omega arith
-    ])
+      let was = came v s other.0.0 other.0.1 in
+      let known = was.2 in
+      let rises = later.stamp in (
+        omega arith,
+        λ busy. elim other.1 [
+          | inl idle ↦ absurd (false≢true (sym busy ∙ idle))
+          | inr apart ↦ omega arith
+        ],
+      )
 ]
 
 number_within : (b : Bounds) (x y : ClientState) (X : ℕ → ClientState) (Y : ℕ → VoterState) (cause : client.Cause) (c : ℕ) → ((v : ℕ) → VoterOk b X (Y v))

@@ -1,7 +1,7 @@
 -- what is seen of clients that step one at a time
-use Rattle.std.proofs.Common.{◌≡◌, ◌≢◌, ℕ, ◌<◌, ◌≤◌, Bool, true, false, cond, List, [], ◌∷◌, ◌++◌, length, Option, Some, None, refl, sym, ap, subst, ◌∙◌, ◌⊎◌, inl, inr, arith, eqb}
-use Rattle.std.specs.Prelude.{slice_index_or, ◌==◌, ◌||◌, ◌&&◌}
-use Rattle.std.specs.List.{list_any, list_all}
+use Rattle.std.proofs.Common.{◌≡◌, ℕ, Bool, true, false, cond, List, [], ◌∷◌, ◌++◌, length, Option, Some, None, refl, sym, ap, subst, ◌∙◌, inl, inr, arith, eqb}
+use Rattle.std.specs.Prelude.{◌||◌}
+use Rattle.std.specs.List.{list_all}
 use Rattle.std.proofs.lemmas.Bool.{false≢true}
 use Rattle.std.proofs.lemmas.Bool.Decides.{nat_tests}
 use Rattle.std.proofs.lemmas.Option.{same_Some}
@@ -15,7 +15,7 @@ use Rattle.requester.specs.declared.state.Phase.TheVariants.{Idle, Asking, Insid
 use Rattle.requester.specs.declared.state.Seen.{Seen}
 use Rattle.requester.specs.declared.state.Seen.TheVariants.{Nothing, Entered, Left}
 use Rattle.requester.specs.RequesterContract.{Sees}
-use Rattle.requester.specs.Words.{is_idle, is_inside, is_covered, members, holds, holds_under, held_of}
+use Rattle.requester.specs.Words.{is_idle, is_inside, members, holds, holds_under, held_of}
 use Rattle.world.specs.declared.step.Event.{Event}
 use Rattle.world.specs.Steps.{events}
 use Rattle.world.specs.Visible.{DoMeet, GoesOn, IsAmong}

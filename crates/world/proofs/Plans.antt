@@ -1,5 +1,5 @@
 -- the quorums of a plan meet, and its tickets name them
-use Rattle.std.proofs.Common.{◌≡◌, ℕ, ◌+◌, ◌%◌, ◌<◌, ◌≤◌, ◌^◌, Bool, true, false, List, [], ◌∷◌, ◌++◌, length, get_or, Result, Ok, Err, refl, sym, ap, subst, ◌∙◌, ◌⊎◌, inl, inr, arith, eqb, ltb}
+use Rattle.std.proofs.Common.{◌≡◌, ℕ, ◌%◌, ◌<◌, ◌≤◌, ◌^◌, Bool, true, false, List, [], ◌∷◌, ◌++◌, length, Result, Ok, Err, refl, sym, ap, subst, ◌∙◌, ◌⊎◌, inl, inr, arith, eqb, ltb}
 use Rattle.std.specs.Prelude.{◌||◌, slice_index_or}
 use Rattle.std.specs.List.{AllByRecursion}
 use Rattle.std.proofs.Math.Nat.{mod-lt}
@@ -12,17 +12,17 @@ use Rattle.message.specs.declared.message.ClientBody.{ClientBody}
 use Rattle.message.specs.declared.message.ClientBody.TheVariants as tells
 use Rattle.message.specs.Lines.{AreCounts, HasLine, IsCount}
 use Rattle.certificate.specs.Certificates.{Weighted, IsCertificate, cycle_len}
-use Rattle.dealer.specs.Cycles.{cycle_of, quorum_of_ticket}
+use Rattle.dealer.specs.Cycles.{quorum_of_ticket}
 use Rattle.dealer.proofs.CycleLemmas.{cycle_of-lt}
 use Rattle.world.specs.declared.step.Step.{Step}
-use Rattle.world.specs.Ranges.{AreInRange, IsInRange, IsNumbered, IsSound, IsWithin, TellsWithin}
-use Rattle.world.specs.Runs.{AreLimits, IsReached, after, run_by, run_of, start, start_by}
+use Rattle.world.specs.Ranges.{IsInRange, IsSound, IsWithin, TellsWithin}
+use Rattle.world.specs.Runs.{AreLimits, IsReached, after, run_of, start, start_by}
 use Rattle.world.specs.declared.fault.WorldFault.{WorldFault}
 use Rattle.world.specs.declared.step.Stepped.{Stepped}
 use Rattle.world.specs.Steps.{Does, Outcome, Planned, WorldState, quorum_by, step, step_of}
-use Rattle.world.specs.Visible.{DealsFrom, DoMeet, IsAmong}
+use Rattle.world.specs.Visible.{DealsFrom, DoMeet}
 use Rattle.world.proofs.Claims.{all_map}
-use Rattle.world.proofs.Exclusion.{Common, common}
+use Rattle.world.proofs.Exclusion.{common}
 
 or_right : (a b : Bool) → b ≡ true → (a || b) ≡ true
 or_right true b is = refl

@@ -1,40 +1,37 @@
 -- every run
-use Rattle.std.proofs.Common.{◌≡◌, ◌≢◌, ℕ, zero, suc, ◌+◌, ◌<◌, ◌≤◌, ◌^◌, Bool, true, false, cond, List, [], ◌∷◌, ◌++◌, map, length, Option, Some, None, Result, Ok, Err, refl, sym, ap, subst, ◌∙◌, ◌⊎◌, inl, inr, arith, eqb, ltb, length-append}
-use Rattle.std.specs.Prelude.{nat_lt, slice_get, slice_index, slice_index_or, slice_set, replicate}
-use Rattle.std.specs.List.{AllByRecursion, range_with_len}
+use Rattle.std.proofs.Common.{◌≡◌, ℕ, zero, suc, ◌+◌, ◌<◌, ◌≤◌, ◌^◌, Bool, true, false, List, [], ◌∷◌, ◌++◌, map, length, Option, Some, None, Result, Ok, Err, refl, sym, ap, subst, ◌∙◌, ◌⊎◌, inl, inr, arith, ltb, length-append}
+use Rattle.std.specs.Prelude.{nat_lt, slice_get, slice_index, slice_set, replicate}
+use Rattle.std.specs.List.{range_with_len}
 use Rattle.std.specs.FinMap as fin
 use Rattle.std.specs.Ordering.{nat_cmp}
 use Rattle.std.proofs.lemmas.Bool.{false≢true}
 use Rattle.std.proofs.lemmas.Bool.Decides.{nat_tests}
-use Rattle.std.proofs.lemmas.Option.{none-some, same_Some}
+use Rattle.std.proofs.lemmas.Option.{none-some}
 use Rattle.std.proofs.lemmas.List.{length-set, get_or_past, map-append}
 use Rattle.std.proofs.lemmas.List.FromFn.{get_or-map-range_with_len, length-map-range_with_len}
 use Rattle.quorum_set.specs.Sets.{IsSet, meet}
 use Rattle.message.specs.declared.message.ToVoter.{ToVoter}
-use Rattle.message.specs.declared.message.ToClient.{ToClient}
 use Rattle.message.specs.declared.message.Message.{Message}
 use Rattle.message.specs.declared.message.Message.TheVariants as kinds
 use Rattle.message.specs.declared.message.ClientBody.{ClientBody}
 use Rattle.message.specs.declared.message.ClientBody.TheVariants as tells
-use Rattle.voter.specs.declared.state.Grant.{Grant}
 use Rattle.voter.specs.declared.state.VoterState.{VoterState}
 use Rattle.voter.specs.VoterContract.{IsEntry}
 use Rattle.voter.specs.Steps as voter
 use Rattle.requester.specs.declared.fault.ClientFault.{ClientFault}
 use Rattle.requester.specs.declared.state.ClientState.{ClientState}
-use Rattle.requester.specs.declared.state.Phase.TheVariants.{Idle}
 use Rattle.requester.specs.RequesterContract.{Accepts, IsLive, Locks}
 use Rattle.requester.specs.Steps as client
-use Rattle.requester.specs.Words.{is_inside, held_of, holds, holds_under, last_of, members}
+use Rattle.requester.specs.Words.{is_inside, held_of, holds_under}
 use Rattle.world.specs.declared.fault.WorldFault.{WorldFault}
 use Rattle.world.specs.declared.step.Step.{Step}
 use Rattle.world.specs.declared.step.Step.TheVariants.{Ask, Deliver, Leave, GiveUp, RemindClient, RemindVoter}
-use Rattle.world.specs.Ranges.{IsAddressed, IsInRange, IsNumbered, IsSound, IsWithin, TellsWithin}
+use Rattle.world.specs.Ranges.{IsAddressed, IsInRange, IsSound, IsWithin, TellsWithin}
 use Rattle.world.specs.Runs.{AreLimits, DrawsInOrder, after, run_of, start}
-use Rattle.world.specs.Steps.{WorldState, Outcome, after_client, after_voter, client_at, client_did, come, draw, events, if_client, if_voter, step, voter_at, voter_did}
+use Rattle.world.specs.Steps.{WorldState, Outcome, after_client, after_voter, client_at, client_did, come, draw, events, if_client, if_voter, step, voter_at}
 use Rattle.world.specs.Visible.{DealsFrom, DoMeet, IsAmong}
 use Rattle.world.proofs.Known.{ClientLaws, VoterLaws}
-use Rattle.world.proofs.Claims.{Bounds, Names, AskOk, TellOk, MessageOk, ClientOk, EntryOk, IsClient, VoterOk, WorldOk, all_get, all_map, put, put_at, put_same}
+use Rattle.world.proofs.Claims.{Bounds, Names, AskOk, TellOk, MessageOk, ClientOk, IsClient, VoterOk, WorldOk, all_get, all_map, put}
 use Rattle.world.proofs.ClientMoves.{Came, Draws, client_moves, client_reminds}
 use Rattle.world.proofs.VoterMoves.{voter_moves, voter_reminds}
 use Rattle.world.proofs.Exclusion.{Walked, one_inside, walk}
@@ -147,8 +144,8 @@ came_by b x Y sender c (tells.Locked stamp grant) within numbers ok v s g locks 
   subst (λ n. IsWithin b.limit n) (sym locks.1) numbers.0,
   subst (λ n. n ≤ x.stamp) (sym locks.1) ok.0,
   subst (λ n. IsLive x n s g → Names (Y n).held c s g) (sym locks.0)
-  (subst (λ n. IsLive x sender n g → Names (Y sender).held c n g) (sym locks.1)
-  (subst (λ n. IsLive x sender stamp n → Names (Y sender).held c stamp n) (sym locks.2) ok.1)),
+      (subst (λ n. IsLive x sender n g → Names (Y sender).held c n g) (sym locks.1)
+      (subst (λ n. IsLive x sender stamp n → Names (Y sender).held c stamp n) (sym locks.2) ok.1)),
 )
 came_by b x Y sender c (tells.Fail stamp) within numbers ok v s g locks = absurd locks
 came_by b x Y sender c (tells.Inquire grant) within numbers ok v s g locks = absurd locks

@@ -1,9 +1,6 @@
 -- what a voter's step keeps so
-use Rattle.std.proofs.Common.{◌≡◌, ◌≢◌, ℕ, ◌+◌, ◌<◌, ◌≤◌, Bool, true, false, cond, List, [], ◌∷◌, ◌++◌, map, length, Option, Some, None, refl, sym, ap, subst, ◌∙◌, ◌⊎◌, inl, inr, arith, eqb, ltb}
-use Rattle.std.specs.Prelude.{max}
+use Rattle.std.proofs.Common.{◌≡◌, ℕ, ◌+◌, ◌<◌, ◌≤◌, Bool, true, false, List, [], ◌∷◌, ◌++◌, map, Option, Some, refl, sym, ap, subst, ◌∙◌, ◌⊎◌, inl, inr, arith}
 use Rattle.std.specs.List.{AllByRecursion}
-use Rattle.std.specs.FinMap.{get}
-use Rattle.std.proofs.lemmas.Bool.{false≢true}
 use Rattle.std.proofs.lemmas.Bool.Decides.{nat_tests}
 use Rattle.std.proofs.lemmas.Option.{none-some, same_Some}
 use Rattle.message.specs.declared.message.ToVoter.{ToVoter}
@@ -20,14 +17,14 @@ use Rattle.voter.specs.declared.state.VoterState.{VoterState}
 use Rattle.voter.specs.Replies.{AllCarry, AllTellPlace, TellsPlace, seen_after}
 use Rattle.voter.specs.Steps as voter
 use Rattle.voter.specs.VoteMoves.{VoteMoves}
-use Rattle.voter.specs.VoterContract.{AllTell, Brings, Ends, IsEntry, TellsVote}
+use Rattle.voter.specs.VoterContract.{AllTell, Brings, Ends, TellsVote}
 use Rattle.requester.specs.declared.state.ClientState.{ClientState}
 use Rattle.requester.specs.RequesterContract.{IsLive}
 use Rattle.requester.specs.Soundness as sound
-use Rattle.requester.specs.Words.{is_idle, holds, holds_under, held_of, last_of}
+use Rattle.requester.specs.Words.{holds, holds_under, held_of}
 use Rattle.world.specs.Ranges.{AreInRange, IsInRange, IsWithin, TellsWithin}
 use Rattle.world.proofs.Known.{VoterLaws}
-use Rattle.world.proofs.Claims.{Bounds, Names, AskOk, TellOk, MessageOk, HeldOk, ClientOk, EntryOk, VoterOk, WorldOk, VotesKeep, SparesLive, no_kill, ends_client, still, all_append, messages_keep, put, put_at, put_same}
+use Rattle.world.proofs.Claims.{Bounds, AskOk, TellOk, MessageOk, HeldOk, ClientOk, EntryOk, VoterOk, WorldOk, VotesKeep, SparesLive, no_kill, ends_client, still, all_append, messages_keep, put, put_at, put_same}
 
 -- ---- what is replied
 

@@ -2,9 +2,7 @@
 use Rattle.std.specs.Prelude.{ℕ, ◌≡◌, ◌+◌, ◌≤◌, ◌^◌, List, [], ◌∷◌, ◌++◌, length, map, Result, Ok, Err}
 use Rattle.std.specs.List.{range_with_len}
 use Rattle.certificate.specs.Certificates.{Weighted, IsCertificate}
-use Rattle.voter.specs.declared.state.VoterState.{VoterState}
 use Rattle.voter.specs.Steps as voter
-use Rattle.requester.specs.declared.state.ClientState.{ClientState}
 use Rattle.requester.specs.Steps as client
 use Rattle.world.specs.declared.fault.WorldFault.{WorldFault}
 use Rattle.world.specs.declared.step.Step.{Step}

@@ -1,8 +1,7 @@
 -- A world as the code keeps it, and room in it.
-use Rattle.std.specs.Prelude.{ℕ, ◌≡◌, ◌+◌, ◌≤◌, Option, Some, None, Result, Ok, Err, vec_capacity, vec_len}
-use Rattle.world.specs.declared.fault.WorldFault.{WorldFault}
+use Rattle.std.specs.Prelude.{◌≡◌, ◌+◌, ◌≤◌, Option, Some, None, Result, Ok, Err, vec_capacity, vec_len}
 use Rattle.world.specs.declared.state.State.{State}
-use Rattle.world.specs.Steps.{WorldState, Outcome}
+use Rattle.world.specs.Steps.{WorldState}
 
 -- the lists that the code keeps
 abbrev pub shown : State → WorldState

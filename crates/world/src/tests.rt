@@ -230,7 +230,13 @@ fn steps_of_a_world(rt: HostRuntime) -> Result<(), Fail> {
         assert!(rt; false, "refused");
         return Ok(());
     };
-    assert!(rt; asked == Stepped { sent: 1, seen: Seen::Nothing });
+    assert!(rt;
+        asked
+            == Stepped {
+                sent: 1,
+                seen: Seen::Nothing
+            }
+    );
     assert!(rt; world.sent() == 1 && world.visible().is_empty());
     Ok(())
 }

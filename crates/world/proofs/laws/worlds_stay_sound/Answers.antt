@@ -1,4 +1,4 @@
-use Rattle.world.proofs.Plans.{AllSound, reached_lines, reached_sound}
+use Rattle.world.proofs.Plans.{reached_lines, reached_sound}
 use Rattle.world.proofs.laws.worlds_stay_sound.Goals as goal
 
 pub returns-clause-exclusive : goal.returns-clause-exclusive

@@ -1,9 +1,9 @@
-use Rattle.std.proofs.Common.{◌≡◌, ap, sym, ◌∙◌, Ok, Err}
+use Rattle.std.proofs.Common.{◌≡◌, Ok, Err}
 use Rattle.std.specs.Prelude.{IfOk}
 use Rattle.requester.specs.declared.fault.ClientFault.{ClientFault}
 use Rattle.requester.specs.declared.state.ClientState.{ClientState}
 use Rattle.requester.specs.Steps.{start, step}
-use Rattle.requester.specs.Steps.Cause.{Asks, GivesUp, Leaves, Takes}
+use Rattle.requester.specs.Steps.Cause.{GivesUp}
 use Rattle.world.specs.Steps.{client_at}
 use Rattle.world.proofs.Places.{moved_at, others_at, refused_at}
 use Rattle.world.proofs.moves.give_up.Goals as goal

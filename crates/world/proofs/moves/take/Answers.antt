@@ -1,9 +1,7 @@
 use Rattle.std.proofs.Common.{◌≡◌, ap, sym, ◌∙◌, refl, get_or, Ok}
-use Rattle.std.specs.Prelude.{IfOk}
-use Rattle.requester.specs.declared.fault.ClientFault.{ClientFault}
 use Rattle.requester.specs.declared.state.ClientState.{ClientState}
 use Rattle.requester.specs.Steps.{start, step}
-use Rattle.requester.specs.Steps.Cause.{Asks, GivesUp, Leaves, Takes}
+use Rattle.requester.specs.Steps.Cause.{Takes}
 use Rattle.world.specs.Steps.{client_at}
 use Rattle.world.proofs.Places.{moved_at, others_at, seen_at}
 use Rattle.world.proofs.moves.take.Goals as goal

@@ -1,4 +1,4 @@
-use Rattle.std.proofs.Common.{◌≡◌, sym, ◌∙◌, true, false}
+use Rattle.std.proofs.Common.{sym, ◌∙◌, true, false}
 use Rattle.requester.specs.Steps.{asked}
 use Rattle.world.proofs.Foretold.{busy, idle}
 use Rattle.world.proofs.refusal.ask_fault.Goals as goal

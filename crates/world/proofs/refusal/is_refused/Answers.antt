@@ -1,10 +1,9 @@
-use Rattle.std.proofs.Common.{◌≡◌, sym, ap, ◌∙◌, Option, Some, None, refl, subst}
+use Rattle.std.proofs.Common.{◌≡◌, sym, ap, ◌∙◌, Option, Some, None, refl}
 use Rattle.std.specs.Option.{is_none}
 use Rattle.message.specs.declared.message.ToVoter.{ToVoter}
 use Rattle.voter.specs.declared.state.Effect.{Effect}
 use Rattle.voter.specs.declared.state.VoterState.{VoterState}
 use Rattle.voter.specs.Steps.{Outcome, effect_by, effect_of, step}
-use Rattle.world.specs.Steps.{voter_at}
 use Rattle.world.proofs.refusal.is_refused.Goals as goal
 
 pub effect-requires-clause-voter : goal.effect-requires-clause-voter

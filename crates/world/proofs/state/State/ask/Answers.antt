@@ -27,7 +27,7 @@ pub returns-in-Err : goal.returns-in-Err
 unfolding step
 returns-in-Err c = λ deal is. (
   a_client c.args.client (length c.args.self.now.clients.items) _ (within_len c.args.self.now.clients c.from.result c.args.client c.len.result c.from.ensures c.len.ensures c.if-from-len.false)
-  ∙ refused (draw (shown c.args.self.now) c.args.client) c.deref_mut.result.now (client_at c.deref_mut.result.now c.args.client) c.args.client (Asks (deal (length c.args.self.now.draws.items))) c.in-Err.fault c.deref_mut.ensures.value refl (subst (λ (q : List ℕ). client.step (client_at c.deref_mut.result.now c.args.client) (Asks q) ≡ Err c.in-Err.fault) (sym is) c.in-Err.ensures.refused.0),
+      ∙ refused (draw (shown c.args.self.now) c.args.client) c.deref_mut.result.now (client_at c.deref_mut.result.now c.args.client) c.args.client (Asks (deal (length c.args.self.now.draws.items))) c.in-Err.fault c.deref_mut.ensures.value refl (subst (λ (q : List ℕ). client.step (client_at c.deref_mut.result.now c.args.client) (Asks q) ≡ Err c.in-Err.fault) (sym is) c.in-Err.ensures.refused.0),
   ap (λ (l : List ClientState). record (shown c.args.self.now) { clients = l })
-  (written c.args.self.now.clients c.deref_mut.result.now c.ask.new.clients c.args.client _ c.deref_mut.ensures.value c.in-Err.ensures.others ∙ c.in-Err.ensures.refused.1 ∙ c.deref_mut.ensures.value),
+      (written c.args.self.now.clients c.deref_mut.result.now c.ask.new.clients c.args.client _ c.deref_mut.ensures.value c.in-Err.ensures.others ∙ c.in-Err.ensures.refused.1 ∙ c.deref_mut.ensures.value),
 )

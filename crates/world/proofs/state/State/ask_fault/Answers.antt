@@ -1,5 +1,5 @@
-use Rattle.std.proofs.Common.{◌≡◌, ◌∙◌, length, Err}
-use Rattle.requester.specs.Steps.{Asks, Leaves, GivesUp}
+use Rattle.std.proofs.Common.{◌∙◌, length}
+use Rattle.requester.specs.Steps.{Asks}
 use Rattle.world.specs.States.{shown}
 use Rattle.world.specs.Steps.{draw, step}
 use Rattle.world.proofs.Acts.{allowed, beyond_len, refused, within_len}

@@ -1,13 +1,9 @@
-use Rattle.std.proofs.Common.{◌≡◌, ℕ, List, Some, None, sym, ap, subst, ◌∙◌, refl, Ok, Err}
-use Rattle.std.specs.Prelude.{slice_get}
+use Rattle.std.proofs.Common.{Some, sym, ap, ◌∙◌}
 use Rattle.message.specs.declared.message.Message.{Message}
-use Rattle.message.specs.declared.message.Message.TheVariants as kinds
 use Rattle.requester.specs.Steps as client
-use Rattle.world.specs.declared.step.Step.TheVariants.{Deliver}
 use Rattle.world.specs.States.{shown}
-use Rattle.world.specs.Steps.{Does, come, step}
+use Rattle.world.specs.Steps.{come, step}
 use Rattle.world.proofs.Acts.{allows_vote, refuses_vote}
-use Rattle.world.proofs.Addressed.{for_client, for_voter}
 use Rattle.world.proofs.state.State.deliver_fault.Goals as goal
 
 pub returns-in-None : goal.returns-in-None

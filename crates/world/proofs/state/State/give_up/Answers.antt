@@ -1,11 +1,10 @@
-use Rattle.std.proofs.Common.{◌≡◌, refl, sym, subst, ap, ◌∙◌, length, List, ℕ, Ok, Err}
+use Rattle.std.proofs.Common.{refl, ap, ◌∙◌, length, List}
 use Rattle.std.specs.Vec.{with_items}
 use Rattle.requester.specs.declared.state.ClientState.{ClientState}
-use Rattle.requester.specs.Steps as client
-use Rattle.requester.specs.Steps.{Asks, Leaves, GivesUp}
+use Rattle.requester.specs.Steps.{GivesUp}
 use Rattle.world.specs.States.{shown}
-use Rattle.world.specs.Steps.{client_at, draw, step}
-use Rattle.world.proofs.Acts.{beyond_len, ran, refused, told, within_len, written}
+use Rattle.world.specs.Steps.{client_at, step}
+use Rattle.world.proofs.Acts.{beyond_len, ran, refused, within_len, written}
 use Rattle.world.proofs.Foretold.{a_client, no_client}
 use Rattle.world.proofs.state.State.give_up.Goals as goal
 
@@ -27,7 +26,7 @@ pub returns-in-Err : goal.returns-in-Err
 unfolding step
 returns-in-Err c = λ deal. (
   a_client c.args.client (length c.args.self.now.clients.items) _ (within_len c.args.self.now.clients c.from.result c.args.client c.len.result c.from.ensures c.len.ensures c.if-from-len.false)
-  ∙ refused (shown c.args.self.now) c.deref_mut.result.now (client_at c.deref_mut.result.now c.args.client) c.args.client GivesUp c.in-Err.fault c.deref_mut.ensures.value refl c.in-Err.ensures.refused.0,
+      ∙ refused (shown c.args.self.now) c.deref_mut.result.now (client_at c.deref_mut.result.now c.args.client) c.args.client GivesUp c.in-Err.fault c.deref_mut.ensures.value refl c.in-Err.ensures.refused.0,
   ap (λ (l : List ClientState). record (shown c.args.self.now) { clients = l })
-  (written c.args.self.now.clients c.deref_mut.result.now c.give_up.new.clients c.args.client _ c.deref_mut.ensures.value c.in-Err.ensures.others ∙ c.in-Err.ensures.refused.1 ∙ c.deref_mut.ensures.value),
+      (written c.args.self.now.clients c.deref_mut.result.now c.give_up.new.clients c.args.client _ c.deref_mut.ensures.value c.in-Err.ensures.others ∙ c.in-Err.ensures.refused.1 ∙ c.deref_mut.ensures.value),
 )

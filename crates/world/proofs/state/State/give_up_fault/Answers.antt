@@ -1,7 +1,7 @@
-use Rattle.std.proofs.Common.{◌≡◌, ◌∙◌, length, Err}
-use Rattle.requester.specs.Steps.{Asks, Leaves, GivesUp}
+use Rattle.std.proofs.Common.{◌∙◌, length}
+use Rattle.requester.specs.Steps.{GivesUp}
 use Rattle.world.specs.States.{shown}
-use Rattle.world.specs.Steps.{draw, step}
+use Rattle.world.specs.Steps.{step}
 use Rattle.world.proofs.Acts.{allowed, beyond_len, refused, within_len}
 use Rattle.world.proofs.Foretold.{a_client, no_client}
 use Rattle.world.proofs.state.State.give_up_fault.Goals as goal

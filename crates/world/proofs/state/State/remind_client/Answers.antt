@@ -1,4 +1,4 @@
-use Rattle.std.proofs.Common.{◌≡◌, ◌++◌, ℕ, List, length, map, refl, sym, ap, ◌∙◌, Ok}
+use Rattle.std.proofs.Common.{◌≡◌, ◌++◌, List, length, map, refl, sym, ap, ◌∙◌, Ok}
 use Rattle.std.proofs.lemmas.List.{length-map}
 use Rattle.message.specs.declared.message.ToVoter.{ToVoter}
 use Rattle.message.specs.declared.message.Message.{Message}
@@ -6,7 +6,7 @@ use Rattle.message.specs.declared.message.Message.TheVariants as kinds
 use Rattle.requester.specs.declared.state.ClientState.{ClientState}
 use Rattle.requester.specs.Steps.{remind}
 use Rattle.world.specs.States.{shown}
-use Rattle.world.specs.Steps.{client_at, outcome_of, step}
+use Rattle.world.specs.Steps.{client_at, step}
 use Rattle.world.proofs.Acts.{beyond_len, said, within_len}
 use Rattle.world.proofs.Foretold.{a_client, no_client}
 use Rattle.world.proofs.state.State.remind_client.Goals as goal
@@ -19,7 +19,7 @@ pub returns : goal.returns
 unfolding step
 returns c = λ deal.
     let out : c.remind-reminders.result.items ≡ remind (client_at c.args.self.now.clients.items c.args.client) =
-        c.remind-reminders.ensures ∙ ap (λ (x : ClientState). remind x) (c.client_of.ensures ∙ ap (λ (l : List ClientState). client_at l c.args.client) c.deref.ensures.value) in
+    c.remind-reminders.ensures ∙ ap (λ (x : ClientState). remind x) (c.client_of.ensures ∙ ap (λ (l : List ClientState). client_at l c.args.client) c.deref.ensures.value) in
     a_client c.args.client (length c.args.self.now.clients.items) _ (within_len c.args.self.now.clients c.from.result c.args.client c.len.result c.from.ensures c.len.ensures c.if-from-len.false)
     ∙ ap (λ o. Ok o) (said (shown c.args.self.now) (map kinds.ToVoter (remind (client_at c.args.self.now.clients.items c.args.client))) c.len-2.result _
     (c.len-2.ensures.value ∙ ap (λ (l : List ToVoter). length l) out ∙ sym (length-map (remind (client_at c.args.self.now.clients.items c.args.client)) kinds.ToVoter))

@@ -1,4 +1,4 @@
-use Rattle.std.proofs.Common.{◌≡◌, ◌++◌, ℕ, List, length, map, refl, sym, ap, ◌∙◌, Ok}
+use Rattle.std.proofs.Common.{◌≡◌, ◌++◌, List, length, map, refl, sym, ap, ◌∙◌, Ok}
 use Rattle.std.proofs.lemmas.List.{length-map}
 use Rattle.message.specs.declared.message.ToClient.{ToClient}
 use Rattle.message.specs.declared.message.Message.{Message}
@@ -6,7 +6,7 @@ use Rattle.message.specs.declared.message.Message.TheVariants as kinds
 use Rattle.voter.specs.declared.state.VoterState.{VoterState}
 use Rattle.voter.specs.Steps.{remind}
 use Rattle.world.specs.States.{shown}
-use Rattle.world.specs.Steps.{voter_at, outcome_of, step}
+use Rattle.world.specs.Steps.{voter_at, step}
 use Rattle.world.proofs.Acts.{beyond_len, said, within_len}
 use Rattle.world.proofs.Foretold.{a_voter, no_voter}
 use Rattle.world.proofs.state.State.remind_voter.Goals as goal
@@ -19,7 +19,7 @@ pub returns : goal.returns
 unfolding step
 returns c = λ deal.
     let out : c.remind-reminders.result.items ≡ remind (voter_at c.args.self.now.voters.items c.args.voter) =
-        c.remind-reminders.ensures ∙ ap (λ (x : VoterState). remind x) (c.voter_of.ensures ∙ ap (λ (l : List VoterState). voter_at l c.args.voter) c.deref.ensures.value) in
+    c.remind-reminders.ensures ∙ ap (λ (x : VoterState). remind x) (c.voter_of.ensures ∙ ap (λ (l : List VoterState). voter_at l c.args.voter) c.deref.ensures.value) in
     a_voter c.args.voter (length c.args.self.now.voters.items) _ (within_len c.args.self.now.voters c.from.result c.args.voter c.len.result c.from.ensures c.len.ensures c.if-from-len.false)
     ∙ ap (λ o. Ok o) (said (shown c.args.self.now) (map kinds.ToClient (remind (voter_at c.args.self.now.voters.items c.args.voter))) c.len-2.result _
     (c.len-2.ensures.value ∙ ap (λ (l : List ToClient). length l) out ∙ sym (length-map (remind (voter_at c.args.self.now.voters.items c.args.voter)) kinds.ToClient))

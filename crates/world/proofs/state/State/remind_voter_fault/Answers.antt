@@ -1,4 +1,4 @@
-use Rattle.std.proofs.Common.{◌≡◌, length}
+use Rattle.std.proofs.Common.{length}
 use Rattle.world.specs.Steps.{step}
 use Rattle.world.proofs.Acts.{beyond_len, within_len}
 use Rattle.world.proofs.Foretold.{a_voter, no_voter}

@@ -1,4 +1,3 @@
-use Rattle.std.proofs.Common.{◌≡◌}
 use Rattle.std.specs.Vec.{with_items}
 use Rattle.requester.specs.Steps.{Takes}
 use Rattle.world.specs.States.{shown}

@@ -1,7 +1,6 @@
-use Rattle.std.proofs.Common.{◌≡◌, ◌++◌, List, ap, map, ◌∙◌}
+use Rattle.std.proofs.Common.{◌++◌, List, ap, map, ◌∙◌}
 use Rattle.message.specs.declared.message.ToVoter.{ToVoter}
 use Rattle.message.specs.declared.message.Message.TheVariants as kinds
-use Rattle.world.specs.States.{shown}
 use Rattle.world.proofs.state.State.tell.Goals as goal
 
 pub returns-clause-state : goal.returns-clause-state

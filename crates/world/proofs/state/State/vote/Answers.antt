@@ -28,5 +28,5 @@ pub returns-in-Err : goal.returns-in-Err
 returns-in-Err c = (
   not_voted (shown c.args.self.now) c.deref_mut.result.now c.args.message.now c.deref_mut.ensures.value c.in-Err.ensures.refused.0 ∙ ap (λ (fault : VoterFault). Err (faults.Voter fault)) (spent c.in-Err.fault),
   ap (λ (l : List VoterState). record (shown c.args.self.now) { voters = l })
-  (written c.args.self.now.voters c.deref_mut.result.now c.vote.new.voters c.args.message.now.voter _ c.deref_mut.ensures.value c.in-Err.ensures.others ∙ c.in-Err.ensures.refused.1 ∙ c.deref_mut.ensures.value),
+      (written c.args.self.now.voters c.deref_mut.result.now c.vote.new.voters c.args.message.now.voter _ c.deref_mut.ensures.value c.in-Err.ensures.others ∙ c.in-Err.ensures.refused.1 ∙ c.deref_mut.ensures.value),
 )

@@ -1,4 +1,4 @@
-use Rattle.std.proofs.Common.{◌≡◌, ◌<◌, length, sym, subst, ap, arith}
+use Rattle.std.proofs.Common.{◌<◌, length, sym, subst, ap, arith}
 use Rattle.std.proofs.lemmas.List.Elements.{All-from_recursion}
 use Rattle.message.specs.declared.message.Message.{Message}
 use Rattle.message.specs.Lines.{HasLine}

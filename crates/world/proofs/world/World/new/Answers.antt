@@ -1,4 +1,4 @@
-use Rattle.std.proofs.Common.{◌≡◌, ℕ, [], map, sym, ap, ◌∙◌, arith}
+use Rattle.std.proofs.Common.{◌≡◌, [], map, sym, ap, ◌∙◌}
 use Rattle.std.specs.List.{range_with_len}
 use Rattle.quorum_set.specs.Coteries.{QuorumSystem}
 use Rattle.certificate.specs.Certificates.{Weighted}
@@ -10,7 +10,7 @@ invariant_of-result c =
     let is = c.in-Ok.ensures.certificate in
     let few = is.coterie.few_voters in
     let voters : c.voters.result ≡ c.in-Ok.cycle.system.voters =
-        c.voters.ensures.value ∙ ap (λ (q : QuorumSystem). q.voters) c.coterie.ensures.value ∙ sym (ap (λ (w : Weighted). w.system.voters) c.in-Ok.ensures.ok) in
+    c.voters.ensures.value ∙ ap (λ (q : QuorumSystem). q.voters) c.coterie.ensures.value ∙ sym (ap (λ (w : Weighted). w.system.voters) c.in-Ok.ensures.ok) in
     record {
       certificate = is;
       clients = c.args.clients;

@@ -1,8 +1,7 @@
-use Rattle.std.proofs.Common.{◌≡◌, sym, subst}
+use Rattle.std.proofs.Common.{sym, subst}
 use Rattle.world.specs.Ranges.{IsNumbered}
-use Rattle.world.specs.Runs.{IsReached}
 use Rattle.world.specs.States.{shown}
-use Rattle.world.specs.Steps.{Planned, WorldState}
+use Rattle.world.specs.Steps.{WorldState}
 use Rattle.world.specs.Visible.{IsExclusive}
 use Rattle.world.proofs.Plans.{reached_does}
 use Rattle.world.proofs.world.World.step.Goals as goal

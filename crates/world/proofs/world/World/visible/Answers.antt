@@ -1,4 +1,4 @@
-use Rattle.std.proofs.Common.{◌≡◌, List, sym, subst}
+use Rattle.std.proofs.Common.{List, sym, subst}
 use Rattle.world.specs.declared.step.Event.{Event}
 use Rattle.world.specs.States.{shown}
 use Rattle.world.specs.Visible.{IsExclusive}
