@@ -1,4 +1,5 @@
 pub mod Acts
+pub mod Added
 pub mod Addressed
 pub mod Claims
 pub mod ClientMoves

@@ -128,6 +128,14 @@ step deal w (GiveUp c) = if_client (nat_lt c (length w.clients)) c (act w c clie
 step deal w (RemindClient c) = if_client (nat_lt c (length w.clients)) c (Ok (say w (map kinds.ToVoter (client.remind (client_at w.clients c)))))
 step deal w (RemindVoter v) = if_voter (nat_lt v (length w.voters)) v (Ok (say w (map kinds.ToClient (voter.remind (voter_at w.voters v)))))
 
+-- What a step adds: messages behind those that were sent, and what is seen of one client behind what was seen.
+pub record Adds (w : WorldState) (o : Outcome) : Type 0 where
+  pub more : List Message
+  pub sent : o.state.sent ≡ w.sent ++ more
+  pub count : o.sent ≡ length more
+  pub client : ℕ
+  pub visible : o.state.visible ≡ w.visible ++ events client o.seen
+
 -- What the code answers
 
 -- what it tells of a step, with the world afterwards

@@ -1,11 +1,11 @@
 //! Laws of the definitions.
-ghost use Rattle.std.specs.Prelude.{◌≡◌, ℕ, List};
+ghost use Rattle.std.specs.Prelude.{◌≡◌, ℕ, List, Ok};
 ghost use Rattle.std.specs.List.{AllByRecursion};
 ghost use Rattle.message.specs.Lines.{HasLine};
 ghost use Rattle.world.specs.declared.step.Step.{Step};
 ghost use Rattle.world.specs.Ranges.{AreInRange, IsNumbered, IsSound};
 ghost use Rattle.world.specs.Runs.{AreLimits, DrawsInOrder, IsReached, run_of, start};
-ghost use Rattle.world.specs.Steps.{Planned};
+ghost use Rattle.world.specs.Steps.{Adds, Outcome, Planned, WorldState, step};
 ghost use Rattle.world.specs.Visible.{DealsFrom, DoMeet, IsExclusive};
 
 use requester::{requesters_meet_the_contract, requesters_stay_sound};
@@ -43,6 +43,12 @@ pub fn messages_are_in_range()
 {
     runs_are_sound();
 }
+
+/// What was sent and seen before a step stays as it is. The step adds as many messages as it tells, and what it tells of
+/// one client.
+pub fn steps_add()
+    ensures { (deal : ℕ → List ℕ) (w : WorldState) (s : Step) (o : Outcome) → step deal w s ≡ Ok o → Adds w o }
+{}
 
 /// What is so of every world that a list of steps made of a new one.
 pub(crate) fn worlds_stay_sound()

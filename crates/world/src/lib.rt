@@ -40,7 +40,7 @@ mod trace;
 mod world;
 
 pub use fault::WorldFault;
-pub use laws::{at_most_one_is_inside, messages_are_in_range};
+pub use laws::{at_most_one_is_inside, messages_are_in_range, steps_add};
 pub use step::{Event, Step, Stepped};
 pub use trace::{Trace, run};
 pub use world::World;

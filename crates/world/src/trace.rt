@@ -1,6 +1,8 @@
 //! Runs of a world.
 ghost use Rattle.std.specs.Prelude.{◌≡◌, ◌≢◌, ◌≤◌, ◌^◌, ◌++◌, ◌∷◌, [], IfOk, OnOk};
 ghost use Rattle.world.specs.declared.fault.WorldFault.TheVariants.{OutOfMemory};
+ghost use Rattle.std.specs.List.{AllByRecursion};
+ghost use Rattle.message.specs.Lines.{HasLine};
 ghost use Rattle.world.specs.Runs.{DrawsInOrder, refusals_of, run_by, start_by};
 ghost use Rattle.world.specs.Steps.{quorum_by};
 ghost use Rattle.world.specs.Visible.{IsExclusive};
@@ -45,6 +47,7 @@ pub fn run(
     ensures messages { IfOk result (λ trace. trace.messages.items ≡ (run_by plan clients limit steps.now).sent) }
     ensures refused { IfOk result (λ trace. trace.refused.items ≡ refusals_of (quorum_by plan) 0 steps.now (start_by plan clients limit)) }
     ensures exclusive { IfOk result (λ trace. IsExclusive trace.visible.items) }
+    ensures lines { IfOk result (λ trace. AllByRecursion HasLine trace.messages.items) }
     ensures tickets { IfOk result (λ trace. DrawsInOrder trace.draws.items) }
 {
     let mut world = World::new(alloc, plan, clients, limit)?;

@@ -1,6 +1,6 @@
 //! A world.
 ghost use Rattle.std.specs.Prelude.{◌≡◌, ◌<◌, ◌≤◌, ◌^◌, IfErr, IfOk, Ok, OnErr, Some, length, map, slice_get};
-ghost use Rattle.std.specs.List.{range_with_len};
+ghost use Rattle.std.specs.List.{AllByRecursion, range_with_len};
 ghost use Rattle.requester.specs.Steps as requesters;
 ghost use Rattle.voter.specs.Steps as polls;
 ghost use Rattle.message.specs.Lines.{HasLine};
@@ -126,6 +126,7 @@ impl World {
         ensures messages { result.messages.items ≡ self.state.sent }
         ensures refused { result.refused ≡ refused }
         ensures exclusive { IsExclusive result.visible.items }
+        ensures lines { AllByRecursion HasLine result.messages.items }
         ensures tickets { DrawsInOrder result.draws.items }
     {
         worlds_stay_sound();

@@ -6,3 +6,6 @@ returns-clause-exclusive c = c.worlds_stay_sound.ensures.exclusive (record { pla
 
 pub returns-clause-tickets : goal.returns-clause-tickets
 returns-clause-tickets c = c.worlds_stay_sound.ensures.draws (record { plan = c.self.inside.cycle; state = shown c.self.inside.state }) c.self.invariant
+
+pub returns-clause-lines : goal.returns-clause-lines
+returns-clause-lines c = c.worlds_stay_sound.ensures.lines (record { plan = c.self.inside.cycle; state = shown c.self.inside.state }) c.self.invariant
