@@ -1,0 +1,161 @@
+-- What a node keeps over a message.
+use Rattle.std.proofs.Common.{◌≡◌, ◌⊎◌, inl, inr, ⊎_elim, ℕ, ◌+◌, ◌<◌, ◌≤◌, ◌^◌, Bool, true, false, true≢false, List, [], ◌∷◌, ◌++◌, Option, Some, None, IsSome, IfSome, refl, sym, ap, ◌∙◌, subst, arith, is_some}
+use Rattle.std.specs.Prelude.{option_map}
+use Rattle.std.specs.List.{All}
+use Rattle.std.proofs.lemmas.List.Elements.{All-push}
+use Rattle.message.specs.declared.message.ToVoter.{ToVoter}
+use Rattle.message.specs.declared.message.VoterBody.{VoterBody}
+use Rattle.message.specs.declared.message.VoterBody.TheVariants as asks
+use Rattle.voter.specs.declared.state.Grant.{Grant}
+use Rattle.voter.specs.declared.state.VoterState.{VoterState}
+use Rattle.voter.specs.Replies.{CarrySeen}
+use Rattle.voter.specs.Steps.{Outcome, IsSound, start, step, effect_of, effect_by, is_ended}
+use Rattle.voter.specs.VoteMoves.{VoteMoves, GrantStays, GrantEnds, GrantIsNew}
+use Rattle.voter.specs.VoterContract.{MeetsContract, IsEntry, Brings}
+use Rattle.board.specs.Seats.{BoardState, VoterState as SeatState}
+use Rattle.cluster.specs.Nodes.{IsNode, IsFor, run, next, seat_grant, settled, offered, offered_by}
+
+run-push : (v : Option VoterState) (log : List ToVoter) (m : ToVoter) → run v (log ++ m ∷ []) ≡ next (run v log) m
+run-push v [] m = refl
+run-push v (x ∷ xs) m = run-push (next v x) xs m
+
+-- a message that frees the vote, or is refused
+
+ended_some : (held after : Option Grant) → is_ended held after ≡ true → is_some (seat_grant held) ≡ true
+ended_some None after e = e
+ended_some (Some g) after e = refl
+
+frees_some : (v : VoterState) (s : Option Outcome) → (effect_by v s).frees ≡ true → is_some (seat_grant v.held) ≡ true
+frees_some v None e = absurd (true≢false (sym e))
+frees_some v (Some o) e = ended_some v.held o.state.held e
+
+pub frees_held : (v : VoterState) (m : ToVoter) → (effect_of v m).frees ≡ true → is_some (seat_grant v.held) ≡ true
+unfolding effect_of
+frees_held v m e = frees_some v (step v m) e
+
+pub not_refused : (v : VoterState) (m : ToVoter) → (effect_of v m).refused ≡ false → step v m ≡ None → ⊥
+unfolding effect_of
+not_refused v m e none_left = true≢false (sym (ap (λ (s : Option Outcome). (effect_by v s).refused) none_left) ∙ e)
+
+-- grants
+
+abbrev grant_in : Grant → Option Grant → Grant
+grant_in g None = g
+grant_in g (Some h) = h
+
+same_grant : (g h : Grant) (held : Option Grant) → held ≡ Some g → held ≡ Some h → g ≡ h
+same_grant g h held e f = ap (grant_in g) (sym e ∙ f)
+
+not_both : {A : Type 0} (x : Option A) (a : A) → x ≡ None → x ≡ Some a → ⊥
+not_both x a e f = true≢false (sym (ap is_some f) ∙ ap is_some e)
+
+-- the seat after the vote was settled
+
+kept_table : (b : Bool) (seat : SeatState) → (settled b seat).table ≡ seat.table
+kept_table false seat = refl
+kept_table true seat = refl
+
+kept_voter : (b : Bool) (seat : SeatState) → (settled b seat).voter ≡ seat.voter
+kept_voter false seat = refl
+kept_voter true seat = refl
+
+kept_last : (b : Bool) (seat : SeatState) → (settled b seat).last ≡ seat.last
+kept_last false seat = refl
+kept_last true seat = refl
+
+-- what a node knows where its voter took a message
+pub record Took (board : BoardState) (v : VoterState) (log : List ToVoter) (seat : SeatState) (m : ToVoter) (o : Outcome) : Type 0 where
+  pub node : IsNode board v log seat
+  pub meant : IsFor board seat.voter m
+  pub took : step v m ≡ Some o
+  pub moves : VoteMoves (effect_of v m).frees v o.state
+  pub meets : MeetsContract v m o
+  pub carry : CarrySeen v m o
+  pub sound : IsSound o.state
+
+brought : (clients client : ℕ) (b : VoterBody) (c t : ℕ) → client < clients → Brings client b c t → c < clients
+brought clients client (asks.Request s) c t lt p = subst (λ x. x < clients) (sym p.0) lt
+brought clients client (asks.Relinquish s) c t lt p = absurd p
+brought clients client (asks.Release s) c t lt p = absurd p
+
+-- the number of a grant that the seat has to offer
+new_number : (v w : VoterState) (seat : SeatState) → seat.current ≡ seat_grant v.held → (b : Bool) → VoteMoves b v w → (settled b seat).current ≡ None → (g : Grant) → w.held ≡ Some g → (g.grant ≡ v.granted + 1) × (w.granted ≡ v.granted + 1)
+new_number v w seat cur true (inl ends) free g is = absurd (not_both w.held g ends.held is)
+new_number v w seat cur true (inr n) free g is = (ap (λ (h : Grant). h.grant) (same_grant g n.grant w.held is n.held) ∙ n.number, n.granted)
+new_number v w seat cur false (inl stays) free g is =
+    absurd (not_both (seat_grant v.held) (g.client, g.grant) (sym cur ∙ free) (ap seat_grant (sym stays.held ∙ is)))
+new_number v w seat cur false (inr n) free g is = (ap (λ (h : Grant). h.grant) (same_grant g n.1.grant w.held is n.1.held) ∙ n.1.number, n.1.granted)
+
+-- the seat after a step
+pub record Agrees (seat : SeatState) (w : VoterState) (after : SeatState) : Type 0 where
+  pub table : after.table ≡ seat.table
+  pub voter : after.voter ≡ seat.voter
+  pub current : after.current ≡ seat_grant w.held
+  pub last : after.last ≡ w.granted
+
+-- where it still has a current grant, that is the voter's
+kept_grant : (v w : VoterState) (seat : SeatState) → seat.current ≡ seat_grant v.held → seat.last ≡ v.granted → (b : Bool) → VoteMoves b v w → (x : ℕ × ℕ) → (settled b seat).current ≡ Some x
+    → ((settled b seat).current ≡ seat_grant w.held) × ((settled b seat).last ≡ w.granted)
+kept_grant v w seat cur last true moves x is = absurd (not_both None x refl is)
+kept_grant v w seat cur last false (inl stays) x is = (cur ∙ ap seat_grant (sym stays.held), last ∙ sym stays.granted)
+kept_grant v w seat cur last false (inr n) x is = absurd (not_both seat.current x (cur ∙ ap seat_grant n.0) is)
+
+-- where the voter has no grant, none was given
+kept_count : (v w : VoterState) (b : Bool) → VoteMoves b v w → w.held ≡ None → w.granted ≡ v.granted
+kept_count v w true (inl ends) free = ends.granted
+kept_count v w true (inr n) free = absurd (not_both w.held n.grant free n.held)
+kept_count v w false (inl stays) free = stays.granted
+kept_count v w false (inr n) free = absurd (not_both w.held n.1.grant free n.1.held)
+
+agrees : (v w : VoterState) (seat : SeatState) → seat.current ≡ seat_grant v.held → seat.last ≡ v.granted → (b : Bool) → VoteMoves b v w
+    → (x : Option (ℕ × ℕ)) → (settled b seat).current ≡ x → (held : Option Grant) → w.held ≡ held → Agrees seat w (offered_by x held (settled b seat))
+agrees v w seat cur last b moves (Some x) is held holds =
+    let k = kept_grant v w seat cur last b moves x is in
+    record { table = kept_table b seat; voter = kept_voter b seat; current = k.0; last = k.1 }
+agrees v w seat cur last b moves None is None holds =
+    record { table = kept_table b seat; voter = kept_voter b seat; current = is ∙ sym (ap seat_grant holds); last = kept_last b seat ∙ last ∙ sym (kept_count v w b moves holds) }
+agrees v w seat cur last b moves None is (Some g) holds =
+    let n = new_number v w seat cur b moves is g holds in
+    record { table = kept_table b seat; voter = kept_voter b seat; current = sym (ap seat_grant holds); last = n.0 ∙ sym n.1 }
+
+module _ (board : BoardState) (v : VoterState) (log : List ToVoter) (seat : SeatState) (m : ToVoter) (o : Outcome) (t : Took board v log seat m o) where
+  entries : (c s : ℕ) → IsEntry o.state c s → c < board.clients
+  entries c s e = ⊎_elim (t.node.clients c s) (brought board.clients m.client m.body c s t.meant.client) (t.meets.entries c s e)
+
+  -- what the seat may be asked to offer
+  pub may_offer : (held : Option Grant) → o.state.held ≡ held → (settled (effect_of v m).frees seat).current ≡ None
+      → IfSome held (λ g. (g.client < board.clients) × ((settled (effect_of v m).frees seat).last < g.grant) × (g.grant ≤ 2 ^ 40))
+  may_offer None holds free = tt
+  may_offer (Some g) holds free =
+      let n = new_number v o.state seat t.node.current (effect_of v m).frees t.moves free g holds in
+      let last = kept_last (effect_of v m).frees seat ∙ t.node.last in
+      let few = t.sound.numbered g holds in
+      let spent = t.sound.granted in
+      let limit = t.sound.limit in (
+        entries g.client g.stamp (inl (g, holds, refl, refl)),
+        omega (arith, n.0, last),
+        omega (arith, few, spent, limit),
+      )
+
+  follows : run (Some (start seat.voter (2 ^ 40))) (log ++ m ∷ []) ≡ Some o.state
+  follows = run-push (Some (start seat.voter (2 ^ 40))) log m ∙ ap (λ (x : Option VoterState). next x m) t.node.follows ∙ ap (option_map (λ (x : Outcome). x.state)) t.took
+
+  known : All (IsFor board seat.voter) (log ++ m ∷ [])
+  known = All-push (IsFor board seat.voter) log m t.node.known t.meant
+
+  pub stays_node : IsNode board o.state (log ++ m ∷ []) (offered o.state.held (settled (effect_of v m).frees seat))
+  stays_node =
+      let b = (effect_of v m).frees in
+      let a = agrees v o.state seat t.node.current t.node.last b t.moves (settled b seat).current refl o.state.held refl in record {
+        follows = subst (λ (n : ℕ). run (Some (start n (2 ^ 40))) (log ++ m ∷ []) ≡ Some o.state) (sym a.voter) follows;
+        known = subst (λ (n : ℕ). All (IsFor board n) (log ++ m ∷ [])) (sym a.voter) known;
+        table = a.table ∙ t.node.table;
+        inside = subst (λ (n : ℕ). n < board.voters) (sym a.voter) t.node.inside;
+        current = a.current;
+        last = a.last;
+        id = t.carry.id ∙ t.node.id ∙ sym a.voter;
+        limit = t.carry.limit ∙ t.node.limit;
+        clients = entries;
+        few = t.node.few;
+        sound = t.sound;
+      }

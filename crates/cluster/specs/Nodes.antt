@@ -1,0 +1,64 @@
+-- Nodes: a voter, the messages that it took, and its seat on the board.
+use Rattle.std.specs.Prelude.{◌≡◌, ◌⊎◌, ℕ, ◌^◌, ◌<◌, ◌≤◌, Bool, true, false, List, [], ◌∷◌, Option, None, Some, option_map}
+use Rattle.std.specs.List.{All}
+use Rattle.message.specs.declared.message.ToVoter.{ToVoter}
+use Rattle.voter.specs.declared.state.Grant.{Grant}
+use Rattle.voter.specs.declared.state.VoterState.{VoterState}
+use Rattle.voter.specs.Steps.{Outcome, IsSound, start, step}
+use Rattle.voter.specs.VoterContract.{IsEntry}
+use Rattle.board.specs.Seats.{BoardState, VoterState as SeatState}
+
+-- a node: its voter, the messages that the voter took, in order, and the voter's number
+pub record NodeState : Type 0 where
+  pub voter : VoterState
+  pub log : List ToVoter
+  pub number : ℕ
+
+-- the voter after one more message; none where it is refused
+abbrev pub next : Option VoterState → ToVoter → Option VoterState
+next None m = None
+next (Some v) m = option_map (λ o. o.state) (step v m)
+
+-- the voter after these messages, in order; none where one of them is refused
+abbrev pub run : Option VoterState → List ToVoter → Option VoterState
+run v [] = v
+run v (m ∷ ms) = run (next v m) ms
+
+-- the client and the number of a grant
+abbrev pub seat_grant : Option Grant → Option (ℕ × ℕ)
+seat_grant None = None
+seat_grant (Some g) = Some (g.client, g.grant)
+
+-- the message names this voter, and a client of the board
+pub record IsFor (board : BoardState) (voter : ℕ) (m : ToVoter) : Type 0 where
+  pub voter_is : m.voter ≡ voter
+  pub client : m.client < board.clients
+
+-- The voter is what its definition makes of the log, in order, from a voter that was told nothing and may give 2^40 grants. Its seat on the board has its current grant, and the number of its grants as the last one's
+pub record IsNode (board : BoardState) (voter : VoterState) (log : List ToVoter) (seat : SeatState) : Type 0 where
+  pub follows : run (Some (start seat.voter (2 ^ 40))) log ≡ Some voter
+  pub known : All (IsFor board seat.voter) log
+  pub table : seat.table ≡ board.table
+  pub inside : seat.voter < board.voters
+  pub current : seat.current ≡ seat_grant voter.held
+  pub last : seat.last ≡ voter.granted
+  pub id : voter.id ≡ seat.voter
+  pub limit : voter.limit ≡ 2 ^ 40
+  -- who holds the vote or waits for it is a client of the board
+  pub clients : (client stamp : ℕ) → IsEntry voter client stamp → client < board.clients
+  pub few : board.clients ≤ 64
+  pub sound : IsSound voter
+
+-- the seat, once the grant is settled where a message frees the vote
+abbrev pub settled : Bool → SeatState → SeatState
+settled false seat = seat
+settled true seat = record seat { current = None }
+
+-- the seat, once the grant is offered where the seat has none
+abbrev pub offered_by : Option (ℕ × ℕ) → Option Grant → SeatState → SeatState
+offered_by (Some x) held seat = seat
+offered_by None None seat = seat
+offered_by None (Some g) seat = record seat { current = Some (g.client, g.grant); last = g.grant }
+
+abbrev pub offered : Option Grant → SeatState → SeatState
+offered held seat = offered_by seat.current held seat

@@ -1,0 +1,17 @@
+//! Which cluster a value belongs to.
+use std::marker::Brand;
+
+/// Names one cluster: its board, its office, and how many tickets each client may draw. It has no value: what a lock gives
+/// and what a thread is lent bear it as a type parameter, so that they belong to one cluster. Code that works on a
+/// cluster is generic in its name.
+pub trait ClusterName {
+    ghost use Rattle.cluster.specs.Clusters.{ClusterState};
+
+    ghost cluster: { ClusterState };
+}
+
+impl ClusterName for Brand {
+    ghost use Rattle.cluster.specs.Clusters.{no_cluster};
+
+    ghost cluster = { no_cluster };
+}

@@ -1,0 +1,123 @@
+//! A voter with its seat on the board, which stands behind a lock.
+ghost use Rattle.std.specs.Prelude.{◌≡◌, ◌⊎◌, ◌<◌, ◌≤◌, ◌^◌, ◌++◌, ◌∷◌, [], true, false, None, Some, IfOk, IfErr, IfSome, MatchBool, MatchOption, IsSome};
+ghost use Rattle.voter.specs.Steps.{effect_of, start, step};
+ghost use Rattle.board.specs.Seats.{BoardState};
+ghost use Rattle.cluster.specs.Clusters.{ClusterState};
+ghost use Rattle.cluster.specs.Nodes.{NodeState, IsFor, settled, offered};
+
+use crate::name::ClusterName;
+use board::{Board, VoterSeat};
+use message::ToVoter;
+use std::alloc::{AllocError, Global};
+use std::marker::{Model, PhantomData};
+use voter::{
+    Grant, Replies, Voter, grants_are_numbered, replies_carry_what_was_seen,
+    voters_meet_the_contract, voters_stay_sound,
+};
+
+/// How many grants a voter of a cluster may give.
+pub(crate) const GRANTS: u64 = 1 << 40;
+
+/// A voter of a cluster, the messages that it took, and its seat on the board. Whenever no call runs, the voter is what
+/// its definition makes of the log, and the seat has the voter's current grant. Contracts see a `NodeState`.
+#[derive(Drop)]
+pub struct Node<N: ClusterName> {
+    voter: Voter,
+    log: Vec<ToVoter>,
+    seat: VoterSeat,
+    of: PhantomData<N>,
+}
+
+impl<N: ClusterName> Model for Node<N> {
+    ghost use Rattle.cluster.specs.Clusters.{ClusterState};
+    ghost use Rattle.cluster.specs.Nodes.{NodeState, IsNode};
+    ghost use Rattle.std.specs.Coded.{codes};
+    ghost use Rattle.voter.specs.contracts.state.VoterState as known;
+
+    ghost Value = { NodeState };
+
+    ghost coded = { Prim.hlevel (codes, known.the_row.coded) };
+
+    ghost view = { λ n. record { voter = n.voter; log = n.log.items; number = n.seat.voter } };
+
+    ghost invariant = { λ n. IsNode N.cluster.board n.voter n.log.items n.seat };
+}
+
+/// Settles the grant where a message frees the vote. False where the vote was taken.
+fn settle(seat: &mut VoterSeat, board: &Board, frees: bool) -> bool
+    requires table { seat.old.table ≡ board.now.table }
+    requires current { frees ≡ true → IsSome seat.old.current }
+    ensures settled { MatchBool result (seat.new ≡ settled frees seat.old) ((frees ≡ true) × (seat.new ≡ seat.old)) }
+{
+    !frees || seat.settle(board)
+}
+
+/// Offers the grant where the seat has none.
+fn offer(seat: &mut VoterSeat, board: &Board, held: Option<Grant>)
+    requires table { seat.old.table ≡ board.now.table }
+    requires next { seat.old.current ≡ None → IfSome held (λ g. (g.client < board.now.clients) × (seat.old.last < g.grant) × (g.grant ≤ 2 ^ 40)) }
+    ensures { seat.new ≡ offered held seat.old }
+{
+    if seat.current().is_some() {
+        return;
+    }
+    match held {
+        Some(grant) => seat.grant(board, grant.client, grant.grant),
+        None => {}
+    }
+}
+
+impl<N: ClusterName> Node<N> {
+    /// The node of a fresh voter.
+    pub(crate) fn new(alloc: Global, seat: VoterSeat) -> Node<N>
+        requires table { seat.table ≡ N.cluster.board.table }
+        requires voter { (seat.voter < N.cluster.board.voters) × (seat.voter < 64) }
+        requires fresh { (seat.current ≡ None) × (seat.last ≡ 0) }
+        requires clients { N.cluster.board.clients ≤ 64 }
+        ensures { result ≡ record { voter = start seat.voter (2 ^ 40); log = []; number = seat.voter } }
+    {
+        voters_stay_sound();
+        Node {
+            voter: Voter::new(seat.voter(), GRANTS),
+            log: Vec::new(alloc),
+            seat,
+            of: PhantomData,
+        }
+    }
+
+    /// The voter's number.
+    pub fn number(&self) -> u8
+        ensures { result ≡ self.now.number }
+    {
+        self.seat.voter()
+    }
+
+    /// Takes a message to this voter from a client of the cluster, and answers the voter's replies, in order. None where
+    /// the message is dropped, and then nothing changed: it would be refused, as all grants were given, or it would
+    /// free a vote that was taken. The only refusal is for want of memory for the log, and changes nothing.
+    pub fn take(&mut self, board: &Board, message: &ToVoter) -> Result<Option<Replies>, AllocError>
+        requires board { board.now ≡ N.cluster.board }
+        requires message { IsFor N.cluster.board self.old.number message.now }
+        ensures taken { IfOk result (λ r. IfSome r (λ replies. step self.old.voter message.now ≡ Some (record { replies = replies.items; state = self.new.voter }))) }
+        ensures logged { IfOk result (λ r. IfSome r (λ _. self.new.log ≡ self.old.log ++ message.now ∷ [])) }
+        ensures dropped { IfOk result (λ r. r ≡ None → (self.new ≡ self.old) × (((effect_of self.old.voter message.now).refused ≡ true) ⊎ ((effect_of self.old.voter message.now).frees ≡ true))) }
+        ensures refused { IfErr result (λ _. self.new ≡ self.old) }
+        ensures number { self.new.number ≡ self.old.number }
+    {
+        grants_are_numbered();
+        voters_meet_the_contract();
+        voters_stay_sound();
+        replies_carry_what_was_seen();
+        self.log.reserve(1)?;
+        let effect = self.voter.effect(message);
+        if effect.refused || !settle(&mut self.seat, board, effect.frees) {
+            return Ok(None);
+        }
+        let Ok(replies) = self.voter.take(message) else {
+            unreachable!()
+        };
+        self.log.push_reserved(*message);
+        offer(&mut self.seat, board, self.voter.held());
+        Ok(Some(replies))
+    }
+}
