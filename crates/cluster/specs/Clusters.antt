@@ -1,7 +1,7 @@
 -- Clusters, as contracts see them.
-use Rattle.std.specs.Prelude.{◌≡◌, ℕ, ◌^◌, ◌≤◌, [], List}
-use Rattle.board.specs.Seats.{BoardState}
-use Rattle.dealer.specs.Offices.{OfficeName}
+use Rattle.std.specs.Prelude.{◌≡◌, ℕ, ◌*◌, ◌^◌, ◌≤◌, [], List}
+use Rattle.board.specs.Seats.{BoardState, RootState}
+use Rattle.dealer.specs.Offices.{OfficeName, OfficeState, ClerkState}
 
 -- its board, its office, and how many tickets each client may draw
 pub record ClusterState : Type 0 where
@@ -9,12 +9,24 @@ pub record ClusterState : Type 0 where
   pub office : OfficeName
   pub quota : ℕ
 
--- the board has the voters and the quorums of the plan by which the office deals, and at most 64 clients
+-- the board has the voters and the quorums of the plan by which the office deals, and 1 to 64 clients
 pub record IsCluster (c : ClusterState) : Type 0 where
   pub voters : c.board.voters ≡ c.office.cycle.system.voters
   pub quorums : c.board.quorums ≡ c.office.cycle.system.quorums
+  pub few_voters : c.board.voters ≤ 64
+  pub some_client : 1 ≤ c.board.clients
   pub clients : c.board.clients ≤ 64
   pub limit : c.board.limit ≡ 2 ^ 63
+
+-- a running cluster: its board and its office, a node for each voter and a mailbox for each client, and what is left of the rights to seats and tickets once each member has its own
+pub record Runs (c : ClusterState) (board : BoardState) (office : OfficeState) (nodes mailboxes : ℕ) (root : RootState) (clerk : ClerkState) : Type 0 where
+  pub cluster : IsCluster c
+  pub board_is : board ≡ c.board
+  pub office_is : office ≡ record { name = c.office; quota = c.board.clients * c.quota }
+  pub nodes_are : nodes ≡ c.board.voters
+  pub mailboxes_are : mailboxes ≡ c.board.clients
+  pub root_is : (root.table ≡ c.board.table) × (root.seats ≡ 0) × (root.passes ≡ [])
+  pub clerk_is : clerk ≡ record { office = c.office; rest = 0; receipts = [] }
 
 -- a cluster of nobody, which stands where no cluster is named yet
 abbrev pub no_cluster : ClusterState

@@ -1,2 +1,5 @@
 pub mod Clusters
 pub mod Nodes
+pub mod Mail
+pub mod Members
+pub mod Votes

@@ -1,6 +1,6 @@
 //! A voter with its seat on the board, which stands behind a lock.
 ghost use Rattle.std.specs.Prelude.{◌≡◌, ◌⊎◌, ◌<◌, ◌≤◌, ◌^◌, ◌++◌, ◌∷◌, [], true, false, None, Some, IfOk, IfErr, IfSome, MatchBool, MatchOption, IsSome};
-ghost use Rattle.voter.specs.Steps.{effect_of, start, step};
+ghost use Rattle.voter.specs.Steps.{effect_of, remind, start, step};
 ghost use Rattle.board.specs.Seats.{BoardState};
 ghost use Rattle.cluster.specs.Clusters.{ClusterState};
 ghost use Rattle.cluster.specs.Nodes.{NodeState, IsFor, settled, offered};
@@ -119,5 +119,12 @@ impl<N: ClusterName> Node<N> {
         self.log.push_reserved(*message);
         offer(&mut self.seat, board, self.voter.held());
         Ok(Some(replies))
+    }
+
+    /// What to tell the holder of the vote again, for messages that were lost.
+    pub fn remind(&self) -> Replies
+        ensures { result.items ≡ remind self.now.voter }
+    {
+        self.voter.remind()
     }
 }

@@ -1,0 +1,203 @@
+-- What a member keeps over its calls.
+use Rattle.std.proofs.Common.{◌≡◌, ◌≢◌, ◌⊎◌, inl, inr, ⊎_elim, ℕ, zero, suc, replicate, ◌<◌, ◌≤◌, Bool, true, false, true≢false, not, ◌&&◌, Option, None, Some, List, [], ◌∷◌, Result, Ok, Err, refl, sym, ap, ◌∙◌, subst, length}
+use Rattle.std.specs.Prelude.{slice_index, filter, ◌==◌}
+use Rattle.std.proofs.lemmas.Grind.{same_number_lists}
+use Rattle.message.specs.declared.message.ToClient.{ToClient}
+use Rattle.message.specs.declared.message.ClientBody.{ClientBody}
+use Rattle.message.specs.declared.message.ClientBody.TheVariants as tells
+use Rattle.requester.specs.declared.fault.ClientFault.{ClientFault}
+use Rattle.requester.specs.declared.state.ClientState.{ClientState}
+use Rattle.requester.specs.declared.state.Phase.{Phase}
+use Rattle.requester.specs.declared.state.Phase.TheVariants.{Idle, Asking, Inside}
+use Rattle.requester.specs.declared.state.Seen.{Seen}
+use Rattle.requester.specs.declared.state.Seen.TheVariants.{Nothing, Entered, Left}
+use Rattle.requester.specs.Held.{HoldsNothing}
+use Rattle.requester.specs.Soundness.{IsSound}
+use Rattle.requester.specs.Steps.{Outcome, Cause, Asks, Takes, Leaves, GivesUp, ask, ask_in, ask_unless, asked, give_up, give_up_in, leave, leave_in, step, take, take_body, see, locked, locked_by, enter_if, hold, is_fresh, failed, failed_by, fail, inquired, inquired_by, relinquish, relinquish_if, relinquish_each}
+use Rattle.requester.specs.Words.{is_idle, is_asking, is_inside, is_spent, is_current, is_covered, is_inquired, is_hindered, is_member, holds, holds_under, members}
+use Rattle.board.specs.Seats.{ClientState as SeatState}
+use Rattle.board.specs.Quorums.{quorum_at}
+use Rattle.board.specs.Words.{nobody}
+use Rattle.dealer.specs.Offices.{ClerkState}
+use Rattle.cluster.specs.Clusters.{ClusterState}
+use Rattle.cluster.specs.Votes.{HoldsWithin, HoldsFewer}
+use Rattle.cluster.specs.Members.{IsMember}
+
+-- Steps
+
+pub of_ask : (x : ClientState) (q : List ℕ) (o : Outcome) → ask x q ≡ Ok o → step x (Asks q) ≡ Ok o
+unfolding step
+of_ask x q o e = e
+
+pub of_take : (x : ClientState) (m : ToClient) (o : Outcome) → take x m ≡ o → step x (Takes m) ≡ Ok o
+unfolding step
+of_take x m o e = ap Ok e
+
+pub of_leave : (x : ClientState) (o : Outcome) → leave x ≡ Ok o → step x Leaves ≡ Ok o
+unfolding step
+of_leave x o e = e
+
+pub of_give_up : (x : ClientState) (o : Outcome) → give_up x ≡ Ok o → step x GivesUp ≡ Ok o
+unfolding step
+of_give_up x o e = e
+
+-- who is idle and has a stamp left asks
+
+asks_in : (p : Phase) (x : ClientState) (q : List ℕ) → is_idle p ≡ true → is_spent x ≡ false → ask_in p x q ≡ Ok (asked x q)
+asks_in Idle x q idle left = ap (λ b. ask_unless b x q) left
+asks_in Asking x q idle left = absurd (true≢false (sym idle))
+asks_in Inside x q idle left = absurd (true≢false (sym idle))
+
+abbrev is_fine : {A : Type 0} → Result A ClientFault → Bool
+is_fine (Ok o) = true
+is_fine (Err e) = false
+
+not_both : {A : Type 0} (r : Result A ClientFault) (o : A) (e : ClientFault) → r ≡ Ok o → r ≡ Err e → ⊥
+not_both r o e ok err = true≢false (ap is_fine (sym ok ∙ err))
+
+pub may_ask : (x : ClientState) (q : List ℕ) (e : ClientFault) → is_idle x.phase ≡ true → is_spent x ≡ false → ask x q ≡ Err e → ⊥
+unfolding ask
+may_ask x q e idle left err = not_both (ask_in x.phase x q) (asked x q) e (asks_in x.phase x q idle left) err
+
+-- who leaves was inside, and who gives up asked
+
+leaves_in : (p : Phase) (x : ClientState) (o : Outcome) → leave_in p x ≡ Ok o → is_inside p ≡ true
+leaves_in Idle x o e = absurd (true≢false (ap is_fine (sym e)))
+leaves_in Asking x o e = absurd (true≢false (ap is_fine (sym e)))
+leaves_in Inside x o e = refl
+
+pub left_inside : (x : ClientState) (o : Outcome) → leave x ≡ Ok o → is_inside x.phase ≡ true
+unfolding leave
+left_inside x o e = leaves_in x.phase x o e
+
+stays_in : (p : Phase) (x : ClientState) (f : ClientFault) → leave_in p x ≡ Err f → is_inside p ≡ false
+stays_in Idle x f e = refl
+stays_in Asking x f e = refl
+stays_in Inside x f e = absurd (true≢false (ap is_fine e))
+
+pub not_left : (x : ClientState) (f : ClientFault) → leave x ≡ Err f → is_inside x.phase ≡ false
+unfolding leave
+not_left x f e = stays_in x.phase x f e
+
+gives_up_in : (p : Phase) (x : ClientState) (o : Outcome) → give_up_in p x ≡ Ok o → is_asking p ≡ true
+gives_up_in Idle x o e = absurd (true≢false (ap is_fine (sym e)))
+gives_up_in Asking x o e = refl
+gives_up_in Inside x o e = absurd (true≢false (ap is_fine (sym e)))
+
+pub gave_up_asking : (x : ClientState) (o : Outcome) → give_up x ≡ Ok o → is_asking x.phase ≡ true
+unfolding give_up
+gave_up_asking x o e = gives_up_in x.phase x o e
+
+keeps_on_in : (p : Phase) (x : ClientState) (f : ClientFault) → give_up_in p x ≡ Err f → is_asking p ≡ false
+keeps_on_in Idle x f e = refl
+keeps_on_in Asking x f e = absurd (true≢false (ap is_fine e))
+keeps_on_in Inside x f e = refl
+
+pub not_given_up : (x : ClientState) (f : ClientFault) → give_up x ≡ Err f → is_asking x.phase ≡ false
+unfolding give_up
+not_given_up x f e = keeps_on_in x.phase x f e
+
+-- A message never makes a client leave
+
+abbrev is_left : Seen → Bool
+is_left Nothing = false
+is_left Entered = false
+is_left Left = true
+
+gives_one : (b : Bool) (x : ClientState) (v : ℕ) → is_left (relinquish_if b x v).seen ≡ false
+gives_one false x v = refl
+gives_one true x v = refl
+
+gives : (x : ClientState) (v : ℕ) → is_left (relinquish x v).seen ≡ false
+unfolding relinquish
+gives x v = gives_one (holds x v) x v
+
+gives_each : (x : ClientState) (vs : List ℕ) → is_left (relinquish_each x vs).seen ≡ false
+gives_each x [] = refl
+gives_each x (v ∷ vs) = refl
+
+enters : (b : Bool) (x : ClientState) → is_left (enter_if b x).seen ≡ false
+enters false x = refl
+enters true x = refl
+
+locks : (b fresh : Bool) (x : ClientState) (v s g : ℕ) → is_left (locked_by b fresh x v s g).seen ≡ false
+locks false fresh x v s g = refl
+locks true false x v s g = refl
+locks true true x v s g = enters (is_covered (hold x v g)) (hold x v g)
+
+locks_by : (x : ClientState) (v s g : ℕ) → is_left (locked x v s g).seen ≡ false
+unfolding locked
+locks_by x v s g = locks (is_current x s) (is_fresh x v g) x v s g
+
+fails : (b : Bool) (x : ClientState) (v : ℕ) → is_left (failed_by b x v).seen ≡ false
+fails false x v = refl
+fails true x v = gives_each (fail x v) (filter (is_inquired (fail x v)) (members x))
+
+fails_by : (x : ClientState) (v s : ℕ) → is_left (failed x v s).seen ≡ false
+unfolding failed
+fails_by x v s = fails (is_asking x.phase && s == x.stamp && is_member x v && not (holds x v)) x v
+
+inquires : (b hindered : Bool) (x : ClientState) (v : ℕ) → is_left (inquired_by b hindered x v).seen ≡ false
+inquires false hindered x v = refl
+inquires true false x v = refl
+inquires true true x v = gives x v
+
+inquires_by : (x : ClientState) (v g : ℕ) → is_left (inquired x v g).seen ≡ false
+unfolding inquired
+inquires_by x v g = inquires (is_asking x.phase && holds_under x v g) (is_hindered x) x v
+
+takes : (x : ClientState) (v : ℕ) (b : ClientBody) → is_left (take_body x v b).seen ≡ false
+takes x v (tells.Locked s g) = locks_by x v s g
+takes x v (tells.Fail s) = fails_by x v s
+takes x v (tells.Inquire g) = inquires_by x v g
+
+stays_seen : (x : ClientState) (m : ToClient) → is_left (take x m).seen ≡ false
+unfolding take
+stays_seen x m = takes (see x m.seen) m.voter m.body
+
+abbrev seen_in : Option Seen → Seen
+seen_in None = Nothing
+seen_in (Some s) = s
+
+-- what is seen of a message
+pub seen_is : (a b : Seen) → Some a ≡ Some b → a ≡ b
+seen_is a b e = ap seen_in e
+
+pub never_left : (x : ClientState) (m : ToClient) (o : Outcome) → take x m ≡ o → o.seen ≡ Left → ⊥
+never_left x m o e left = true≢false (sym (ap is_left left) ∙ sym (ap (λ (p : Outcome). is_left p.seen) e) ∙ stays_seen x m)
+
+-- Votes
+
+-- both hold nothing
+pub no_votes : (xs ys : List ℕ) → length xs ≡ 64 → length ys ≡ 64 → ((v : ℕ) → slice_index xs v ≡ 0) → ((v : ℕ) → slice_index ys v ≡ 0) → xs ≡ ys
+no_votes xs ys wide same_width empty none_held = same_number_lists xs ys (wide ∙ sym same_width) (λ k lt. empty k ∙ sym (none_held k))
+
+pub holds_none : (voters : ℕ) (held : List ℕ) → held ≡ nobody → HoldsWithin voters held
+holds_none voters held e = λ v some. absurd (some (ap (λ l. slice_index l v) e ∙ empty 64 v))
+  where
+    empty : (n v : ℕ) → slice_index (replicate n 0) v ≡ 0
+    empty zero v = refl
+    empty (suc n) zero = refl
+    empty (suc n) (suc v) = empty n v
+
+pub holds_fewer : (y : ClientState) (seat : List ℕ) → HoldsNothing y → HoldsFewer y.held seat
+holds_fewer y seat nothing = λ v. inr (nothing v)
+
+-- The member after a step of its client
+
+pub next_member : (c : ClusterState) (x : ClientState) (seat : SeatState) (clerk : ClerkState) (quorum : ℕ) → IsMember c x seat clerk quorum
+    → (y : ClientState) → IsSound y → y.id ≡ x.id
+    → (after : SeatState) → after.table ≡ seat.table → after.client ≡ seat.client → after.held ≡ y.held → HoldsWithin c.board.voters after.held
+    → (drawn : ClerkState) → drawn.office ≡ clerk.office
+    → (number : ℕ) → (is_idle y.phase ≡ false → (number < length c.board.quorums) × (members y ≡ quorum_at c.board.quorums number))
+    → IsMember c y after drawn number
+next_member c x seat clerk quorum r y sound id after table client held within drawn office number asks = record {
+  sound = sound;
+  client = id ∙ r.client ∙ sym client;
+  inside = subst (λ n. n < c.board.clients) (sym client) r.inside;
+  table = table ∙ r.table;
+  office = office ∙ r.office;
+  held = held;
+  within = within;
+  asks = asks;
+}

@@ -1,0 +1,84 @@
+-- Votes of a seat and of its client.
+use Rattle.std.proofs.Common.{◌≡◌, ◌≢◌, ◌⊎◌, inl, inr, ⊎_elim, ℕ, zero, suc, ◌+◌, ◌<◌, ◌≤◌, Bool, true, false, true≢false, not, ◌&&◌, List, refl, sym, ap, ◌∙◌, subst, arith, length, get_or, set, nat_lt}
+use Rattle.std.specs.Prelude.{slice_index, slice_set}
+use Rattle.std.proofs.lemmas.List.{get_or-set_other}
+use Rattle.std.proofs.lemmas.Grind.{same_number_lists}
+use Rattle.std.proofs.lemmas.Bool.Decides.{nat_tests}
+use mathlib.Core.Logic.{dite}
+use native.Mathlib.Decide.{ℕ_discrete}
+use Rattle.message.specs.declared.message.ToClient.{ToClient}
+use Rattle.message.specs.declared.message.ClientBody.{ClientBody}
+use Rattle.message.specs.declared.message.ClientBody.TheVariants as tells
+use Rattle.requester.specs.declared.state.ClientState.{ClientState}
+use Rattle.requester.specs.Held.{HoldsBesides}
+use Rattle.requester.specs.Steps.{would_hold, would_hold_body, is_fresh}
+use Rattle.requester.specs.Words.{holds, is_member, is_current, last_of}
+use Rattle.cluster.specs.Votes.{HoldsWithin, HoldsFewer, HoldsLocked}
+
+-- the seat's votes, once those of the first voters were compared with the client's
+pub record Compared (voters count : ℕ) (held seat : List ℕ) : Type 0 where
+  pub len : length seat ≡ 64
+  pub within : HoldsWithin voters seat
+  pub done : (v : ℕ) → v < count → slice_index seat v ≡ slice_index held v
+  pub fewer : HoldsFewer held seat
+
+pub compared_more : (voters i : ℕ) (held seat after : List ℕ) → Compared voters i held seat → slice_index after i ≡ slice_index held i → ((v : ℕ) → v ≢ i → slice_index after v ≡ slice_index seat v) → length after ≡ length seat → Compared voters (i + 1) held after
+compared_more voters i held seat after r kept others len = record {
+  len = len ∙ r.len;
+  within = λ v some. dite (ℕ_discrete v i)
+      (λ e. r.within v (λ free. some (ap (slice_index after) e ∙ kept ∙ sym (ap (slice_index held) e) ∙ ⊎_elim (λ (same : slice_index held v ≡ slice_index seat v). same ∙ free) (λ (gone : slice_index held v ≡ 0). gone) (r.fewer v))))
+      (λ ne. r.within v (λ free. some (others v ne ∙ free)));
+  done = λ v lt. dite (ℕ_discrete v i)
+      (λ e. ap (slice_index after) e ∙ kept ∙ sym (ap (slice_index held) e))
+      (λ ne. others v ne ∙ r.done v (below v i lt ne));
+  fewer = λ v. dite (ℕ_discrete v i)
+      (λ e. inl (ap (slice_index held) e ∙ sym kept ∙ sym (ap (slice_index after) e)))
+      (λ ne. ⊎_elim (λ (same : slice_index held v ≡ slice_index seat v). inl (same ∙ sym (others v ne))) inr (r.fewer v));
+}
+  where
+    below : (v i : ℕ) → v < i + 1 → v ≢ i → v < i
+    below v i lt ne = omega (arith, lt, ne)
+
+pub compared_all : (voters : ℕ) (held seat : List ℕ) → length held ≡ 64 → Compared voters 64 held seat → seat ≡ held
+compared_all voters held seat len r = same_number_lists seat held (r.len ∙ sym len) (λ k lt. r.done k (subst (λ n. k < n) r.len lt))
+
+-- A LOCKED that counts
+
+and_right : (a b : Bool) → (a && b) ≡ true → b ≡ true
+and_right true b e = e
+and_right false b e = absurd (true≢false (sym e))
+
+and_left : (a b : Bool) → (a && b) ≡ true → a ≡ true
+and_left true b e = refl
+and_left false b e = absurd (true≢false (sym e))
+
+not_held : (n : ℕ) → not (nat_lt 0 n) ≡ true → n ≡ 0
+not_held n e = grind (arith, nat_tests)
+
+fresh_free : (x : ClientState) (voter grant : ℕ) → is_fresh x voter grant ≡ true → slice_index x.held voter ≡ 0
+fresh_free x voter grant e =
+    not_held (slice_index x.held voter) (and_right (is_member x voter) (not (holds x voter)) (and_left (is_member x voter && not (holds x voter)) (nat_lt (last_of x voter) grant) e))
+
+would_free : (x : ClientState) (voter : ℕ) (b : ClientBody) → would_hold_body x voter b ≡ true → slice_index x.held voter ≡ 0
+would_free x voter (tells.Locked stamp grant) e = fresh_free x voter grant (and_right (is_current x stamp) _ e)
+would_free x voter (tells.Fail stamp) e = absurd (true≢false (sym e))
+would_free x voter (tells.Inquire grant) e = absurd (true≢false (sym e))
+
+-- it is of a vote that is not held yet
+pub free_before : (x : ClientState) (m : ToClient) → would_hold x m ≡ true → slice_index x.held m.voter ≡ 0
+unfolding would_hold
+free_before x m e = would_free x m.voter m.body e
+
+-- the seat then holds what the client will hold
+pub both_hold : (x y : ClientState) (voter : ℕ) (b : ClientBody) (seat after : List ℕ) → seat ≡ x.held → HoldsBesides x voter b y → HoldsLocked seat voter b after → HoldsFewer y.held after
+both_hold x y voter (tells.Locked stamp grant) seat after same besides locked =
+    λ v. inl (ap (λ l. slice_index l v) (besides ∙ ap (λ l. slice_set l voter grant) (sym same) ∙ sym locked))
+both_hold x y voter (tells.Fail stamp) seat after same besides locked = absurd locked
+both_hold x y voter (tells.Inquire grant) seat after same besides locked = absurd locked
+
+pub within_locked : (voters voter : ℕ) (b : ClientBody) (seat after : List ℕ) → voter < voters → HoldsWithin voters seat → HoldsLocked seat voter b after → HoldsWithin voters after
+within_locked voters voter (tells.Locked stamp grant) seat after lt within locked = λ v some. dite (ℕ_discrete v voter)
+    (λ e. subst (λ n. n < voters) (sym e) lt)
+    (λ ne. within v (λ free. some (ap (λ l. slice_index l v) locked ∙ get_or-set_other seat voter v grant 0 ne ∙ free)))
+within_locked voters voter (tells.Fail stamp) seat after lt within locked = absurd locked
+within_locked voters voter (tells.Inquire grant) seat after lt within locked = absurd locked

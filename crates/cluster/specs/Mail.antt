@@ -1,0 +1,18 @@
+-- Messages to a client.
+use Rattle.std.specs.Prelude.{◌≡◌, ℕ, ◌^◌, ◌<◌, ◌≤◌, Bool, true, ◌&&◌, nat_le}
+use Rattle.message.specs.declared.message.ToClient.{ToClient}
+use Rattle.message.specs.declared.message.ClientBody.{ClientBody}
+use Rattle.message.specs.declared.message.ClientBody.TheVariants as tells
+use Rattle.board.specs.Seats.{BoardState}
+
+-- a LOCKED brings a grant from 1 to 2^40
+abbrev pub has_grant : ClientBody → Bool
+has_grant (tells.Locked stamp grant) = nat_le 1 grant && nat_le grant (2 ^ 40)
+has_grant (tells.Fail stamp) = true
+has_grant (tells.Inquire grant) = true
+
+-- the message names this client and a voter of the board
+pub record IsMail (board : BoardState) (client : ℕ) (m : ToClient) : Type 0 where
+  pub client_is : m.client ≡ client
+  pub voter : m.voter < board.voters
+  pub grant : has_grant m.body ≡ true

@@ -1,0 +1,101 @@
+-- Members of a cluster, as contracts see them, and what their calls do.
+use Rattle.std.specs.Prelude.{◌≡◌, ◌≢◌, ◌⊎◌, ℕ, ◌-◌, ◌^◌, ◌<◌, ◌≤◌, ◌++◌, ◌∷◌, [], Bool, true, false, List, None, Ok, length}
+use Rattle.message.specs.declared.message.ToClient.{ToClient}
+use Rattle.requester.specs.declared.fault.ClientFault.{ClientFault}
+use Rattle.requester.specs.declared.fault.ClientFault.TheVariants.{Busy, NotInside as Outside, NotAsking, StampsSpent}
+use Rattle.requester.specs.declared.state.Seen.{Seen}
+use Rattle.requester.specs.declared.state.Seen.TheVariants.{Nothing}
+use Rattle.requester.specs.declared.state.ClientState.{ClientState}
+use Rattle.requester.specs.Soundness.{IsSound}
+use Rattle.requester.specs.Steps.{Outcome, ask, start, take, would_hold}
+use Rattle.requester.specs.Words.{is_idle, is_inside, is_spent, members}
+use Rattle.board.specs.declared.fault.BoardFault.TheVariants.{SeatsOut, VoteOut, RegisterFull, OutOfMemory as NoPlace}
+use Rattle.board.specs.Seats.{BoardState, ClientState as SeatState}
+use Rattle.board.specs.Quorums.{quorum_at}
+use Rattle.board.specs.Words.{nobody}
+use Rattle.dealer.specs.declared.fault.DealFault.TheVariants.{QuotaSpent, OutOfMemory as NoRoom}
+use Rattle.dealer.specs.declared.receipt.Receipt.{Receipt}
+use Rattle.dealer.specs.Offices.{ClerkState}
+use Rattle.cluster.specs.declared.fault.ClusterFault.{ClusterFault}
+use Rattle.cluster.specs.declared.fault.ClusterFault.TheVariants as refuses
+use Rattle.cluster.specs.Clusters.{ClusterState}
+use Rattle.cluster.specs.Mail.{IsMail}
+use Rattle.cluster.specs.Votes.{HoldsWithin}
+
+-- a member: its client, its seat on the board, its clerk, and how many messages it lost
+pub record MemberState : Type 0 where
+  pub requester : ClientState
+  pub seat : SeatState
+  pub clerk : ClerkState
+  pub lost : ℕ
+
+-- The client is of this cluster, and the votes that it holds are those that its seat holds. While a request runs, its quorum is the one of this number
+pub record IsMember (c : ClusterState) (x : ClientState) (seat : SeatState) (clerk : ClerkState) (quorum : ℕ) : Type 0 where
+  pub sound : IsSound x
+  pub client : x.id ≡ seat.client
+  pub inside : seat.client < c.board.clients
+  pub table : seat.table ≡ c.board.table
+  pub office : clerk.office ≡ c.office
+  pub held : seat.held ≡ x.held
+  pub within : HoldsWithin c.board.voters seat.held
+  pub asks : is_idle x.phase ≡ false → (quorum < length c.board.quorums) × (members x ≡ quorum_at c.board.quorums quorum)
+
+-- the member of this number, as the cluster was opened
+abbrev pub fresh_member : ClusterState → ℕ → MemberState
+fresh_member c client = record {
+  requester = start client (2 ^ 40);
+  seat = record { table = c.board.table; client = client; held = nobody; reading = None; passes = [] };
+  clerk = record { office = c.office; rest = c.quota; receipts = [] };
+  lost = 0;
+}
+
+-- the client afterwards is what the definition of its step makes of it, and this is seen
+abbrev pub Becomes : Outcome → Seen → ClientState → Type 0
+Becomes o seen y = (o.seen ≡ seen) × (o.state ≡ y)
+
+-- it asked this quorum
+abbrev pub Asked : ClientState → List ℕ → ClientState → Type 0
+Asked x quorum y = (o : Outcome) × (ask x quorum ≡ Ok o) × (o.state ≡ y)
+
+-- The client took a message of its mailbox. Or the message would have brought a vote that could not be taken on the board, and then the client made no step
+abbrev pub Pumped : BoardState → ClientState → Seen → ClientState → Type 0
+Pumped board x seen y =
+    (m : ToClient) × IsMail board x.id m
+    × (Becomes (take x m) seen y ⊎ ((would_hold x m ≡ true) × (seen ≡ Nothing) × (y ≡ x)))
+
+-- why a client does not ask
+abbrev pub RefusesStart : ClientState → ClientFault → Type 0
+RefusesStart x Busy = is_idle x.phase ≡ false
+RefusesStart x StampsSpent = (is_idle x.phase ≡ true) × (is_spent x ≡ true)
+RefusesStart x Outside = ⊥
+RefusesStart x NotAsking = ⊥
+
+-- why a member does not ask
+abbrev pub RefusesAsk : MemberState → ClusterFault → Type 0
+RefusesAsk m (refuses.Client e) = RefusesStart m.requester e
+RefusesAsk m (refuses.Deal QuotaSpent) = (is_idle m.requester.phase ≡ true) × (is_spent m.requester ≡ false) × (m.clerk.rest ≡ 0)
+RefusesAsk m (refuses.Deal NoRoom) = (is_idle m.requester.phase ≡ true) × (is_spent m.requester ≡ false) × (0 < m.clerk.rest)
+RefusesAsk m (refuses.Board e) = ⊥
+RefusesAsk m refuses.NotInside = ⊥
+
+-- what a member asks from: it is idle, and a stamp and a ticket are left
+abbrev pub MayAsk : MemberState → Type 0
+MayAsk m = (is_idle m.requester.phase ≡ true) × (is_spent m.requester ≡ false) × (0 < m.clerk.rest)
+
+-- its clerk keeps the receipt
+abbrev pub with_receipt : ClerkState → Receipt → ClerkState
+with_receipt clerk r = record clerk { rest = clerk.rest - 1; receipts = clerk.receipts ++ r ∷ [] }
+
+-- its seat keeps the pass number, and has no reading any more
+abbrev pub with_pass : SeatState → ℕ → SeatState
+with_pass seat x = record seat { reading = None; passes = seat.passes ++ x ∷ [] }
+
+-- why a member does not pass
+abbrev pub RefusesPass : MemberState → ClusterFault → Type 0
+RefusesPass m refuses.NotInside = is_inside m.requester.phase ≡ false
+RefusesPass m (refuses.Board RegisterFull) = is_inside m.requester.phase ≡ true
+RefusesPass m (refuses.Board NoPlace) = is_inside m.requester.phase ≡ true
+RefusesPass m (refuses.Board (SeatsOut k)) = ⊥
+RefusesPass m (refuses.Board (VoteOut v)) = ⊥
+RefusesPass m (refuses.Client e) = ⊥
+RefusesPass m (refuses.Deal e) = ⊥

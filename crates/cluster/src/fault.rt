@@ -1,0 +1,22 @@
+//! Why a member does not do what it is called for.
+use board::BoardFault;
+use dealer::DealFault;
+use requester::ClientFault;
+use thiserror::Error;
+
+/// Why a member does not do what it is called for.
+#[derive(Clone, Copy, Debug, PartialEq, Eq, Error)]
+pub enum ClusterFault {
+    /// Its client refuses.
+    #[error("{0}")]
+    Client(ClientFault),
+    /// No ticket is dealt to it.
+    #[error("{0}")]
+    Deal(DealFault),
+    /// The register is at its limit, or there is no memory for one more pass number.
+    #[error("{0}")]
+    Board(BoardFault),
+    /// It is not inside.
+    #[error("K1 NotInside")]
+    NotInside,
+}

@@ -1,0 +1,268 @@
+//! Members of a cluster, each of which a thread drives.
+ghost use Rattle.std.specs.Prelude.{◌≡◌, ◌≢◌, ◌⊎◌, ℕ, ◌<◌, ◌≤◌, ◌^◌, [], true, false, None, Some, Ok, Err, IfOk, IfErr, IfSome, length, slice_index_or};
+ghost use Rattle.board.specs.Quorums.{quorum_at};
+ghost use Rattle.board.specs.Seats.{BoardState, ClientState};
+ghost use Rattle.dealer.specs.Offices.{ClerkState, receipt_of};
+ghost use Rattle.requester.specs.Soundness.{IsSound};
+ghost use Rattle.requester.specs.Steps.{Outcome, give_up, leave};
+ghost use Rattle.requester.specs.Words.{is_asking, is_idle, is_inside, is_spent};
+ghost use Rattle.cluster.specs.Clusters.{ClusterState};
+ghost use Rattle.cluster.specs.Members.{MemberState, MayAsk, Asked, Pumped, RefusesStart, RefusesAsk, RefusesPass, fresh_member, with_receipt, with_pass};
+
+use crate::fault::ClusterFault;
+use crate::name::ClusterName;
+use crate::running::Cluster;
+use crate::votes::{accept, give_back};
+use board::ClientSeat;
+use dealer::{Clerk, Receipt};
+use requester::{
+    ClientFault, Phase, Requester, Seen, phases_tell_votes,
+    requesters_meet_the_contract, requesters_stay_sound,
+};
+use std::marker::{Model, PhantomData};
+use std::sync::Wait;
+
+/// How far the stamps of a cluster's clients go.
+const STAMPS: u64 = 1 << 40;
+
+/// A client of a cluster with its seat on the board and its clerk. It may be moved to a thread, which drives it. The votes
+/// that the client holds are those that the seat holds, whenever no call runs. Contracts see a `MemberState`.
+#[derive(Drop)]
+pub struct Member<N: ClusterName> {
+    pub(crate) requester: Requester,
+    pub(crate) seat: ClientSeat,
+    pub(crate) clerk: Clerk,
+    pub(crate) lost: u64,
+    /// The number of the quorum of the current or last request.
+    pub(crate) quorum: usize,
+    pub(crate) of: PhantomData<N>,
+}
+
+impl<N: ClusterName> Model for Member<N> {
+    ghost use Rattle.std.specs.Coded.{codes};
+    ghost use Rattle.requester.specs.contracts.state.ClientState as known;
+    ghost use Rattle.cluster.specs.Clusters.{ClusterState};
+    ghost use Rattle.cluster.specs.Members.{MemberState, IsMember};
+
+    ghost Value = { MemberState };
+
+    ghost coded = { Prim.hlevel (codes, known.the_row.coded) };
+
+    ghost view = { λ m. record { requester = m.requester; seat = m.seat; clerk = m.clerk; lost = m.lost } };
+
+    ghost invariant = { λ m. IsMember N.cluster m.requester m.seat m.clerk m.quorum };
+}
+
+/// Whether a client may start a request, and else why not.
+fn may_ask(requester: &Requester) -> Result<(), ClientFault>
+    ensures may { IfOk result (λ _. (is_idle requester.now.phase ≡ true) × (is_spent requester.now ≡ false)) }
+    ensures refused { IfErr result (RefusesStart requester.now) }
+{
+    if requester.phase() != Phase::Idle {
+        return Err(ClientFault::Busy);
+    }
+    if requester.spent() {
+        return Err(ClientFault::StampsSpent);
+    }
+    Ok(())
+}
+
+impl<N: ClusterName> Member<N> {
+    /// The member of a seat that holds no vote and has not passed, and of a clerk.
+    pub(crate) fn new(seat: ClientSeat, clerk: Clerk) -> Member<N>
+        requires client { seat.client < N.cluster.board.clients }
+        requires few { N.cluster.board.clients ≤ 64 }
+        requires fresh { seat ≡ (fresh_member N.cluster seat.client).seat }
+        requires clerk { clerk ≡ (fresh_member N.cluster seat.client).clerk }
+        ensures { result ≡ fresh_member N.cluster seat.client }
+    {
+        requesters_stay_sound();
+        Member {
+            requester: Requester::new(seat.client(), STAMPS),
+            seat,
+            clerk,
+            lost: 0,
+            quorum: 0,
+            of: PhantomData,
+        }
+    }
+
+    /// The client's number.
+    pub fn client(&self) -> u8
+        ensures { result ≡ self.now.requester.id }
+    {
+        self.requester.id()
+    }
+
+    /// Where the client stands.
+    pub fn phase(&self) -> Phase
+        ensures { result ≡ self.now.requester.phase }
+    {
+        self.requester.phase()
+    }
+
+    /// How many messages its calls lost: dropped by a node, or for want of memory. It stays at its greatest value.
+    pub fn lost(&self) -> u64
+        ensures { result ≡ self.now.lost }
+    {
+        self.lost
+    }
+
+    /// The receipts of its tickets, in the order of its requests.
+    pub fn receipts(&self) -> &[Receipt]
+        ensures { result.now ≡ self.now.clerk.receipts }
+    {
+        self.clerk.receipts()
+    }
+
+    /// The numbers by which it passed, in order.
+    pub fn passes(&self) -> &[u64]
+        ensures { result.now ≡ self.now.seat.passes }
+    {
+        self.seat.passes()
+    }
+
+    /// Starts a request: draws a ticket and sends REQUEST to each member of the quorum that it names. Refused in this order
+    /// unless the client is idle, if no stamp is left, if its clerk has no ticket left, and for want of memory for the
+    /// receipt. A refusal changes nothing.
+    pub fn ask(&mut self, rt: &impl Wait, cluster: &Cluster<N>) -> Result<Receipt, ClusterFault>
+        ensures asked { IfOk result (λ r. Asked self.old.requester (quorum_at N.cluster.board.quorums r.quorum) self.new.requester) }
+        ensures dealt { IfOk result (λ r. r ≡ receipt_of N.cluster.office.cycle r.ticket) }
+        ensures receipt { IfOk result (λ r. self.new.clerk ≡ with_receipt self.old.clerk r) }
+        ensures seat { IfOk result (λ _. self.new.seat ≡ self.old.seat) }
+        ensures may { IfOk result (λ _. MayAsk self.old) }
+        ensures refused { IfErr result (RefusesAsk self.old) }
+        ensures kept { IfErr result (λ _. self.new ≡ self.old) }
+        ensures client { self.new.requester.id ≡ self.old.requester.id }
+    {
+        phases_tell_votes();
+        requesters_meet_the_contract();
+        requesters_stay_sound();
+        match may_ask(&self.requester) {
+            Ok(()) => {}
+            Err(fault) => return Err(ClusterFault::Client(fault)),
+        }
+        let receipt = match cluster.office.draw(&mut self.clerk) {
+            Ok(receipt) => receipt,
+            Err(fault) => return Err(ClusterFault::Deal(fault)),
+        };
+        let Ok(reply) = self.requester.ask(cluster.quorum(receipt.quorum)) else {
+            unreachable!()
+        };
+        self.quorum = receipt.quorum;
+        let lost = cluster.send(rt, reply.out.as_slice());
+        self.lost = self.lost.saturating_add(lost);
+        Ok(receipt)
+    }
+
+    /// Takes one message of its mailbox, and sends what the client answers. None where the mailbox is empty. A LOCKED that
+    /// counts takes the vote on the board first; where that fails, the message is lost and the client makes no step.
+    pub fn pump(&mut self, rt: &impl Wait, cluster: &Cluster<N>) -> Option<Seen>
+        ensures pumped { IfSome result (λ seen. Pumped N.cluster.board self.old.requester seen self.new.requester) }
+        ensures entered { result ≡ Some Seen.Entered → (is_inside self.old.requester.phase ≡ false) × (is_inside self.new.requester.phase ≡ true) }
+        ensures stays { result ≡ Some Seen.Nothing → is_inside self.new.requester.phase ≡ is_inside self.old.requester.phase }
+        ensures not_left { result ≢ Some Seen.Left }
+        ensures empty { result ≡ None → self.new ≡ self.old }
+        ensures clerk { self.new.clerk ≡ self.old.clerk }
+        ensures passes { self.new.seat.passes ≡ self.old.seat.passes }
+        ensures client { self.new.requester.id ≡ self.old.requester.id }
+    {
+        requesters_meet_the_contract();
+        requesters_stay_sound();
+        let message = cluster.next(rt, self.requester.id())?;
+        if !accept(&mut self.seat, &cluster.board, &self.requester, &message) {
+            self.lost = self.lost.saturating_add(1);
+            return Some(Seen::Nothing);
+        }
+        let reply = self.requester.take(&message);
+        give_back(&mut self.seat, &cluster.board, &self.requester);
+        let lost = cluster.send(rt, reply.out.as_slice());
+        self.lost = self.lost.saturating_add(lost);
+        Some(reply.seen)
+    }
+
+    /// Leaves: gives each vote back, and then sends RELEASE to each member of its quorum. Refused unless it is inside; a
+    /// refusal changes nothing.
+    pub fn leave(&mut self, rt: &impl Wait, cluster: &Cluster<N>) -> Result<(), ClusterFault>
+        ensures left { IfOk result (λ _. (o : Outcome) × (leave self.old.requester ≡ Ok o) × (o.state ≡ self.new.requester)) }
+        ensures idle { IfOk result (λ _. is_idle self.new.requester.phase ≡ true) }
+        ensures may { IfOk result (λ _. is_inside self.old.requester.phase ≡ true) }
+        ensures refused { IfErr result (λ fault. (fault ≡ ClusterFault.NotInside) × (is_inside self.old.requester.phase ≡ false)) }
+        ensures kept { IfErr result (λ _. self.new ≡ self.old) }
+        ensures clerk { self.new.clerk ≡ self.old.clerk }
+        ensures passes { self.new.seat.passes ≡ self.old.seat.passes }
+        ensures client { self.new.requester.id ≡ self.old.requester.id }
+    {
+        phases_tell_votes();
+        requesters_meet_the_contract();
+        requesters_stay_sound();
+        let Ok(reply) = self.requester.leave() else {
+            return Err(ClusterFault::NotInside);
+        };
+        give_back(&mut self.seat, &cluster.board, &self.requester);
+        let lost = cluster.send(rt, reply.out.as_slice());
+        self.lost = self.lost.saturating_add(lost);
+        Ok(())
+    }
+
+    /// Gives its request up: gives each vote back, and then sends RELEASE to each member of its quorum. Refused unless it
+    /// asks; a refusal changes nothing.
+    pub fn give_up(&mut self, rt: &impl Wait, cluster: &Cluster<N>) -> Result<(), ClusterFault>
+        ensures given_up { IfOk result (λ _. (o : Outcome) × (give_up self.old.requester ≡ Ok o) × (o.state ≡ self.new.requester)) }
+        ensures idle { IfOk result (λ _. is_idle self.new.requester.phase ≡ true) }
+        ensures may { IfOk result (λ _. is_asking self.old.requester.phase ≡ true) }
+        ensures refused { IfErr result (λ fault. (fault ≡ ClusterFault.Client ClientFault.NotAsking) × (is_asking self.old.requester.phase ≡ false)) }
+        ensures kept { IfErr result (λ _. self.new ≡ self.old) }
+        ensures clerk { self.new.clerk ≡ self.old.clerk }
+        ensures passes { self.new.seat.passes ≡ self.old.seat.passes }
+        ensures client { self.new.requester.id ≡ self.old.requester.id }
+    {
+        phases_tell_votes();
+        requesters_meet_the_contract();
+        requesters_stay_sound();
+        let Ok(reply) = self.requester.give_up() else {
+            return Err(ClusterFault::Client(ClientFault::NotAsking));
+        };
+        give_back(&mut self.seat, &cluster.board, &self.requester);
+        let lost = cluster.send(rt, reply.out.as_slice());
+        self.lost = self.lost.saturating_add(lost);
+        Ok(())
+    }
+
+    /// While it asks, sends its reminders, and has each voter of its quorum remind the client that holds the vote. Else
+    /// nothing.
+    pub fn remind(&mut self, rt: &impl Wait, cluster: &Cluster<N>)
+        ensures same { self.new ≡ record self.old { lost = self.new.lost } }
+        ensures else_nothing { is_asking self.old.requester.phase ≡ false → self.new ≡ self.old }
+    {
+        if self.requester.phase() != Phase::Asking {
+            return;
+        }
+        let reminders = self.requester.remind();
+        let sent = cluster.send(rt, reminders.as_slice());
+        let told = cluster.remind(rt, self.requester.quorum());
+        self.lost = self.lost.saturating_add(sent).saturating_add(told);
+    }
+
+    /// Passes: reads the register, writes one more, and keeps and answers the number that it read. Refused unless it is
+    /// inside, where the register is at its limit, and for want of memory. A refusal of the board leaves a reading in the
+    /// seat, and changes nothing else.
+    pub fn pass(&mut self, cluster: &Cluster<N>) -> Result<u64, ClusterFault>
+        ensures passed { IfOk result (λ x. self.new ≡ record self.old { seat = with_pass self.old.seat x }) }
+        ensures may { IfOk result (λ _. is_inside self.old.requester.phase ≡ true) }
+        ensures refused { IfErr result (RefusesPass self.old) }
+        ensures outside { result ≡ Err ClusterFault.NotInside → self.new ≡ self.old }
+        ensures requester { self.new.requester ≡ self.old.requester }
+        ensures clerk { self.new.clerk ≡ self.old.clerk }
+        ensures kept { IfErr result (λ _. self.new.seat.passes ≡ self.old.seat.passes) }
+    {
+        if self.requester.phase() != Phase::Inside {
+            return Err(ClusterFault::NotInside);
+        }
+        self.seat.read_register(&cluster.board, self.quorum);
+        match self.seat.write_register(&cluster.board) {
+            Ok(number) => Ok(number),
+            Err(fault) => Err(ClusterFault::Board(fault)),
+        }
+    }
+}

@@ -1,0 +1,102 @@
+//! The votes of a member, on the board.
+ghost use Rattle.std.specs.Prelude.{◌≡◌, ◌≢◌, ◌⊎◌, ℕ, ◌<◌, true, false, length, slice_index};
+ghost use Rattle.board.specs.Seats.{BoardState, ClientState};
+ghost use Rattle.requester.specs.Soundness.{IsSound};
+ghost use Rattle.requester.specs.Steps.{take, would_hold};
+ghost use Rattle.requester.specs.Words.{held_of};
+ghost use Rattle.cluster.specs.Mail.{IsMail, has_grant};
+ghost use Rattle.cluster.specs.Votes.{HoldsWithin, HoldsLocked, HoldsFewer};
+
+use board::{Board, ClientSeat};
+use message::{ClientBody, ToClient};
+use requester::{Requester, messages_move_votes};
+
+/// Gives a vote back where the seat holds it.
+fn drop_vote(seat: &mut ClientSeat, board: &Board, voter: u8)
+    requires table { seat.old.table ≡ board.now.table }
+    requires voter { voter < length seat.old.held }
+    requires within { HoldsWithin board.now.voters seat.old.held }
+    ensures dropped { slice_index seat.new.held voter ≡ 0 }
+    ensures others { (v : ℕ) → v ≢ voter → slice_index seat.new.held v ≡ slice_index seat.old.held v }
+    ensures len { length seat.new.held ≡ length seat.old.held }
+    ensures same { (seat.new.table ≡ seat.old.table) × (seat.new.client ≡ seat.old.client) × (seat.new.passes ≡ seat.old.passes) }
+{
+    if seat.held(voter).is_some() {
+        seat.give_back(board, voter);
+    }
+}
+
+/// Gives a vote back where the seat holds it and the client holds it no longer.
+fn keep_vote(seat: &mut ClientSeat, board: &Board, requester: &Requester, voter: u8)
+    requires table { seat.old.table ≡ board.now.table }
+    requires voter { (voter < 64) × (length seat.old.held ≡ 64) }
+    requires within { HoldsWithin board.now.voters seat.old.held }
+    requires fewer { HoldsFewer requester.now.held seat.old.held }
+    ensures kept { slice_index seat.new.held voter ≡ slice_index requester.now.held voter }
+    ensures others { (v : ℕ) → v ≢ voter → slice_index seat.new.held v ≡ slice_index seat.old.held v }
+    ensures len { length seat.new.held ≡ length seat.old.held }
+    ensures same { (seat.new.table ≡ seat.old.table) × (seat.new.client ≡ seat.old.client) × (seat.new.passes ≡ seat.old.passes) }
+{
+    match requester.held(voter) {
+        Some(_) => {}
+        None => drop_vote(seat, board, voter),
+    }
+}
+
+/// Gives back the votes that the seat holds and the client holds no longer.
+pub(crate) fn give_back(seat: &mut ClientSeat, board: &Board, requester: &Requester)
+    requires table { seat.old.table ≡ board.now.table }
+    requires places { (length seat.old.held ≡ 64) × (length requester.now.held ≡ 64) }
+    requires within { HoldsWithin board.now.voters seat.old.held }
+    requires fewer { HoldsFewer requester.now.held seat.old.held }
+    ensures held { seat.new.held ≡ requester.now.held }
+    ensures within { HoldsWithin board.now.voters seat.new.held }
+    ensures same { (seat.new.table ≡ seat.old.table) × (seat.new.client ≡ seat.old.client) × (seat.new.passes ≡ seat.old.passes) }
+{
+    for voter in 0..64u8 {
+        keep_vote(seat, board, requester, voter);
+    }
+}
+
+/// Takes the vote that a LOCKED brings on the board. False where it can't be taken.
+fn hold(seat: &mut ClientSeat, board: &Board, message: &ToClient) -> bool
+    requires table { seat.old.table ≡ board.now.table }
+    requires voter { message.now.voter < board.now.voters }
+    requires free { slice_index seat.old.held message.now.voter ≡ 0 }
+    requires grant { has_grant message.now.body ≡ true }
+    ensures held { result ≡ true → HoldsLocked seat.old.held message.now.voter message.now.body seat.new.held }
+    ensures same { seat.new ≡ record seat.old { held = seat.new.held } }
+    ensures kept { result ≡ false → seat.new ≡ seat.old }
+{
+    match message.body {
+        ClientBody::Locked { stamp: _, grant } => seat.take(board, message.voter, grant),
+        ClientBody::Fail { .. } | ClientBody::Inquire { .. } => false,
+    }
+}
+
+/// Takes the vote that a message brings on the board, where the client would hold it. False where it can't be taken, and
+/// then nothing changed. Else the seat holds at least the votes that the client will hold.
+pub(crate) fn accept(
+    seat: &mut ClientSeat,
+    board: &Board,
+    requester: &Requester,
+    message: &ToClient,
+) -> bool
+    requires table { seat.old.table ≡ board.now.table }
+    requires mail { IsMail board.now requester.now.id message.now }
+    requires voter { message.now.voter < 64 }
+    requires sound { IsSound requester.now }
+    requires held { seat.old.held ≡ requester.now.held }
+    requires within { HoldsWithin board.now.voters seat.old.held }
+    ensures fewer { result ≡ true → HoldsFewer (take requester.now message.now).state.held seat.new.held }
+    ensures within { HoldsWithin board.now.voters seat.new.held }
+    ensures len { length seat.new.held ≡ length seat.old.held }
+    ensures same { seat.new ≡ record seat.old { held = seat.new.held } }
+    ensures lost { result ≡ false → (seat.new ≡ seat.old) × (would_hold requester.now message.now ≡ true) }
+{
+    messages_move_votes();
+    if !requester.would_hold(message) {
+        return true;
+    }
+    hold(seat, board, message)
+}
