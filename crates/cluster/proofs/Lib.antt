@@ -1,3 +1,4 @@
 pub mod NodeLemmas
 pub mod VoteLemmas
 pub mod MemberLemmas
+pub mod BlankLemmas

@@ -1,5 +1,5 @@
 -- Clusters, as contracts see them.
-use Rattle.std.specs.Prelude.{◌≡◌, ℕ, ◌*◌, ◌^◌, ◌≤◌, [], List}
+use Rattle.std.specs.Prelude.{◌≡◌, ℕ, ◌+◌, ◌*◌, ◌^◌, ◌≤◌, [], List, false, nat_lt, slice_index_or}
 use Rattle.board.specs.Seats.{BoardState, RootState}
 use Rattle.dealer.specs.Offices.{OfficeName, OfficeState, ClerkState}
 
@@ -27,6 +27,17 @@ pub record Runs (c : ClusterState) (board : BoardState) (office : OfficeState) (
   pub mailboxes_are : mailboxes ≡ c.board.clients
   pub root_is : (root.table ≡ c.board.table) × (root.seats ≡ 0) × (root.passes ≡ [])
   pub clerk_is : clerk ≡ record { office = c.office; rest = 0; receipts = [] }
+
+-- a cluster that is not open yet: all rights to seats and tickets are with the root and the clerk
+pub record IsBlank (c : ClusterState) (quota : ℕ) (root : RootState) (clerk : ClerkState) (voters clients : ℕ) : Type 0 where
+  pub cluster : IsCluster c
+  pub office_is : quota ≡ c.board.clients * c.quota
+  pub voters_are : voters ≡ c.board.voters
+  pub clients_are : clients ≡ c.board.clients
+  pub root_is : (root.table ≡ c.board.table) × (root.seats ≡ voters + clients) × (root.passes ≡ [])
+  pub voter_seats : (v : ℕ) → slice_index_or root.voters v false ≡ nat_lt v voters
+  pub client_seats : (k : ℕ) → slice_index_or root.clients k false ≡ nat_lt k clients
+  pub clerk_is : clerk ≡ record { office = c.office; rest = c.board.clients * c.quota; receipts = [] }
 
 -- a cluster of nobody, which stands where no cluster is named yet
 abbrev pub no_cluster : ClusterState

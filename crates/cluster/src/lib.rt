@@ -1,6 +1,7 @@
 //! A running cluster.
 #![tactic(auto)]
 
+mod blank;
 mod fault;
 mod mailbox;
 mod member;
@@ -9,6 +10,7 @@ mod node;
 mod running;
 mod votes;
 
+pub use blank::Blank;
 pub use fault::ClusterFault;
 pub use member::Member;
 pub use name::ClusterName;
