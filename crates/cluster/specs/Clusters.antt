@@ -18,15 +18,19 @@ pub record IsCluster (c : ClusterState) : Type 0 where
   pub clients : c.board.clients ≤ 64
   pub limit : c.board.limit ≡ 2 ^ 63
 
--- a running cluster: its board and its office, a node for each voter and a mailbox for each client, and what is left of the rights to seats and tickets once each member has its own
-pub record Runs (c : ClusterState) (board : BoardState) (office : OfficeState) (nodes mailboxes : ℕ) (root : RootState) (clerk : ClerkState) : Type 0 where
+-- a running cluster: its board and its office, a node for each voter and a mailbox for each client
+pub record Runs (c : ClusterState) (board : BoardState) (office : OfficeState) (nodes mailboxes : ℕ) : Type 0 where
   pub cluster : IsCluster c
   pub board_is : board ≡ c.board
   pub office_is : office ≡ record { name = c.office; quota = c.board.clients * c.quota }
   pub nodes_are : nodes ≡ c.board.voters
   pub mailboxes_are : mailboxes ≡ c.board.clients
-  pub root_is : (root.table ≡ c.board.table) × (root.seats ≡ 0) × (root.passes ≡ [])
-  pub clerk_is : clerk ≡ record { office = c.office; rest = 0; receipts = [] }
+
+-- the rights that are left where each node and each member has its own: all seats and all tickets are out
+abbrev pub IsLeft : ClusterState → RootState → ClerkState → Type 0
+IsLeft c root clerk =
+    (root.table ≡ c.board.table) × (root.seats ≡ 0) × (root.passes ≡ [])
+    × (clerk ≡ record { office = c.office; rest = 0; receipts = [] })
 
 -- a cluster that is not open yet: all rights to seats and tickets are with the root and the clerk
 pub record IsBlank (c : ClusterState) (quota : ℕ) (root : RootState) (clerk : ClerkState) (voters clients : ℕ) : Type 0 where

@@ -10,12 +10,12 @@ use crate::mailbox::Mailbox;
 use crate::member::Member;
 use crate::name::ClusterName;
 use crate::node::Node;
-use crate::running::Cluster;
+use crate::running::{Cluster, Left};
 use board::{Board, BoardRoot};
 use certificate::Plan;
 use dealer::{Clerk, Cycle, Office};
 use std::alloc::{AllocError, Global};
-use std::marker::Model;
+use std::marker::{Model, PhantomData};
 use std::sync::Mutex;
 
 /// The most passes of a cluster.
@@ -171,13 +171,17 @@ impl Blank {
         let members = members_of(
             alloc, &board, &mut root, &office, &mut clerk, clients, quota,
         )?;
+        let left = Left {
+            root,
+            clerk,
+            of: PhantomData,
+        };
         let cluster = Cluster {
             board,
             office,
             nodes,
             mailboxes,
-            root,
-            clerk,
+            left: Mutex::new(left),
         };
         Ok((cluster, members))
     }

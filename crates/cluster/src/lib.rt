@@ -1,4 +1,46 @@
-//! A running cluster.
+//! A running lock cluster: one node for each voter, one mailbox and one member for each client, for any number of threads.
+//!
+//! A client that wants the lock draws a ticket, which names a quorum of a plan, and asks its voters for their votes
+//! (Maekawa, ACM TOCS 3(2), 1985). Here voters and clients stand in one process:
+//!
+//! - A [`Node`] is a voter with a log of what it took and with its seat on the board. It stands behind a lock, takes one
+//!   message at a time, and its lock is given up before its replies go into mailboxes.
+//! - A mailbox has the messages to one client, first in, first out, behind a lock.
+//! - A [`Member`] is a client with its seat on the board and its clerk. One thread at a time drives it:
+//!   [`Member::ask`], [`Member::pump`] until it answers `Entered`, [`Member::pass`] as often as it likes, [`Member::leave`].
+//!
+//! Votes are taken and given back on the board, one atomic word for each voter, so that no two members are ever inside,
+//! whatever messages come. A member gives a vote back before the message goes out that says so.
+//!
+//! # A cluster's name
+//!
+//! What a lock gives belongs to one cluster, and a type says which: [`Blank::open`] takes a [`ClusterName`]. Code that
+//! works on a cluster is generic in that name, and is called at `Brand`:
+//!
+//! ```
+//! fn once<N: ClusterName>(rt: &impl Wait, alloc: Global, blank: Blank) -> Result<Option<u64>, AllocError>
+//!     requires { blank ≡ N.cluster }
+//! {
+//!     let (cluster, members) = blank.open::<N>(alloc)?;
+//!     for mut member in members {
+//!         let receipt = member.ask(rt, &cluster); // ticket 0, and the quorum that it names
+//!         while member.pump(rt, &cluster).is_some() {} // each vote comes: Entered
+//!         return Ok(member.pass(&cluster).ok()); // pass number 0
+//!     }
+//!     Ok(None)
+//! }
+//! // once::<Brand>(rt, alloc, Blank::new(alloc, plan, 1, 100)?)
+//! ```
+//!
+//! # What is proved
+//!
+//! Whenever a node's lock is free, its voter is what its definition makes of the log, and its seat has the voter's current
+//! grant. Whenever no call of a member runs, its client's votes are those that its seat holds; the client changes by its
+//! definition alone. Each refusal comes exactly where this page's calls say. Nothing is said of which messages a mailbox
+//! delivers, of waiting or of progress: a message may be lost for want of memory, and [`Member::lost`] counts it. Which
+//! lock is whose is tested when it is taken, and not proved.
+//!
+//! This crate stands on `board`, `dealer`, `voter`, `requester`, `message`, `certificate` and `quorum_set`.
 #![tactic(auto)]
 
 mod blank;
@@ -8,6 +50,8 @@ mod member;
 mod name;
 mod node;
 mod running;
+#[cfg(test)]
+mod tests;
 mod votes;
 
 pub use blank::Blank;

@@ -16,8 +16,8 @@ use crate::votes::{accept, give_back};
 use board::ClientSeat;
 use dealer::{Clerk, Receipt};
 use requester::{
-    ClientFault, Phase, Requester, Seen, phases_tell_votes,
-    requesters_meet_the_contract, requesters_stay_sound,
+    ClientFault, Phase, Requester, Seen, phases_tell_votes, requesters_meet_the_contract,
+    requesters_stay_sound,
 };
 use std::marker::{Model, PhantomData};
 use std::sync::Wait;

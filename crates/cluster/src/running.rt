@@ -2,7 +2,7 @@
 ghost use Rattle.std.specs.Prelude.{◌≡◌, ◌<◌, ◌≤◌, IfSome, length};
 ghost use Rattle.quorum_set.specs.Sets.{IsSet};
 ghost use Rattle.board.specs.Quorums.{quorum_at};
-ghost use Rattle.cluster.specs.Clusters.{ClusterState};
+ghost use Rattle.cluster.specs.Clusters.{ClusterState, IsLeft};
 ghost use Rattle.cluster.specs.Mail.{IsMail};
 
 use crate::mailbox::Mailbox;
@@ -12,7 +12,7 @@ use board::{Board, BoardRoot};
 use dealer::{Clerk, Office};
 use message::{ToClient, ToVoter};
 use quorum_set::QSet;
-use std::marker::Model;
+use std::marker::{Model, PhantomData};
 use std::sync::{Mutex, Wait};
 use voter::Replies;
 
@@ -24,8 +24,17 @@ pub struct Cluster<N: ClusterName> {
     pub(crate) office: Office,
     pub(crate) nodes: Vec<Mutex<Node<N>>>,
     pub(crate) mailboxes: Vec<Mutex<Mailbox<N>>>,
+    /// Nobody steps by it while the cluster runs. The lock lets threads share the cluster.
+    pub(crate) left: Mutex<Left<N>>,
+}
+
+/// What is left of the rights to seats and tickets, as each node and each member has its own.
+#[derive(Drop)]
+pub(crate) struct Left<N: ClusterName> {
     pub(crate) root: BoardRoot,
     pub(crate) clerk: Clerk,
+    pub(crate) of: PhantomData<N>,
+    ghost left: { IsLeft N.cluster root clerk },
 }
 
 impl<N: ClusterName> Model for Cluster<N> {
@@ -36,7 +45,7 @@ impl<N: ClusterName> Model for Cluster<N> {
 
     ghost view = { λ c. N.cluster };
 
-    ghost invariant = { λ c. Runs N.cluster c.board c.office (length c.nodes.items) (length c.mailboxes.items) c.root c.clerk };
+    ghost invariant = { λ c. Runs N.cluster c.board c.office (length c.nodes.items) (length c.mailboxes.items) };
 }
 
 impl<N: ClusterName> Cluster<N> {
