@@ -8,7 +8,7 @@ use Rattle.clap.specs.declared.builder.range.ValueRange.{ValueRange}
 use Rattle.clap.specs.declared.builder.command.Command.{Command as Parser}
 use Rattle.clap.specs.declared.builder.command.Command.TheViews.{out-Command}
 use Rattle.command_line.specs.declared.command.Command.{Command}
-use Rattle.command_line.specs.declared.command.Command.TheVariants.{Check, Deal, Make, Plan}
+use Rattle.command_line.specs.declared.command.Command.TheVariants.{Check, Deal, Make, Plan, World}
 use Rattle.command_line.specs.declared.command.Shape.{Shape}
 use Rattle.command_line.specs.declared.command.Shape.TheVariants.{Cyclic, Grid, Majority, Tree, Wheel}
 
@@ -39,14 +39,20 @@ check_app = new_app (codes "check")
 abbrev pub deal_app : App
 deal_app = with_rule (new_app (codes "deal")) tickets_rule
 
+abbrev pub world_app : App
+world_app = new_app (codes "world")
+
 abbrev pub required_subcommand : App → App
 required_subcommand a = record a { top = record a.top { subcommand_required = true } }
 
 abbrev pub planning_app : App
 planning_app = with_subcommand (with_subcommand (required_subcommand (new_app (codes "qlock"))) make_app.top) plan_app.top
 
+abbrev pub dealing_app : App
+dealing_app = with_subcommand (with_subcommand planning_app check_app.top) deal_app.top
+
 abbrev pub qlock_app : App
-qlock_app = with_subcommand (with_subcommand planning_app check_app.top) deal_app.top
+qlock_app = with_subcommand dealing_app world_app.top
 
 -- the text is a numeral of n
 abbrev pub IsNumber : List ℕ → ℕ → Type 0
@@ -79,6 +85,7 @@ IsNamedBy (Some used) (Make shape) =
     × ((name : List ℕ) × (first_of (codes "SHAPE") used.1 ≡ Some name) × ((sizes : List ℕ) × AreSizes (size_texts used.1) sizes × IsShapeOf name sizes shape))
 IsNamedBy (Some used) Plan = used.0 ≡ codes "plan"
 IsNamedBy (Some used) Check = used.0 ≡ codes "check"
+IsNamedBy (Some used) World = used.0 ≡ codes "world"
 IsNamedBy (Some used) (Deal n) = (used.0 ≡ codes "deal") × ((text : List ℕ) × (first_of (codes "N") used.1 ≡ Some text) × IsNumber text n) × (n ≤ 100000)
 
 -- no argument of the parser is meant for its subcommands too

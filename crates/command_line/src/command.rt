@@ -26,4 +26,6 @@ pub enum Command {
     Check,
     /// Deal this many tickets, 0 to 100,000, and count how often each voter was named.
     Deal(u32),
+    /// Run a script of clients and voters by a plan, and say what its steps did.
+    World,
 }

@@ -22,7 +22,7 @@ fn command_text(alloc: Global, words: &[&str]) -> Result<String, AllocError> {
 #[test]
 fn words_name_commands(rt: HostRuntime) -> Result<(), Fail> {
     let alloc = rt.alloc();
-    let table: [(&[&str], &str); 22] = [
+    let table: [(&[&str], &str); 24] = [
         (&["deal", "5"], "Deal(5)"),
         (&["deal", "0"], "Deal(0)"),
         (&["deal", "100000"], "Deal(100000)"),
@@ -47,6 +47,8 @@ fn words_name_commands(rt: HostRuntime) -> Result<(), Fail> {
         (&["plan"], "Plan"),
         (&["check"], "Check"),
         (&["check", "5"], "refused"),
+        (&["world"], "World"),
+        (&["world", "script"], "refused"),
         (&[], "refused"),
     ];
     for (words, want) in &table {

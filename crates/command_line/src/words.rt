@@ -1,7 +1,7 @@
 //! The command line: which command its words name.
 ghost use Rattle.std.specs.Prelude.{◌≡◌, ◌<◌, ◌≤◌, [], length, slice_index_or, false, IfOk, IfSome, Some, codes, map, string_bytes};
 ghost use Rattle.clap.specs.Words.{app_of, first_of, found_of, rows_of, rule_of, subcommand_of, subcommand_rows_of};
-ghost use Rattle.command_line.specs.Words.{AreSizes, IsLocal, IsNamedBy, IsNumber, IsShapeOf, check_app, deal_app, make_app, plan_app, planning_app, qlock_app, shape_rule, size_texts, sizes_rule};
+ghost use Rattle.command_line.specs.Words.{AreSizes, IsLocal, IsNamedBy, IsNumber, IsShapeOf, check_app, deal_app, dealing_app, make_app, plan_app, planning_app, qlock_app, shape_rule, size_texts, sizes_rule, world_app};
 
 use crate::command::{Command, Shape};
 use crate::usage::Usage;
@@ -79,6 +79,16 @@ fn deal_command<'a>(alloc: Global) -> Result<clap::Command<'a>, AllocError>
         .arg(tickets)
 }
 
+/// `world`, which has no arguments.
+fn world_command<'a>(alloc: Global) -> clap::Command<'a>
+    ensures app { app_of result ≡ world_app }
+    ensures local { IsLocal result }
+{
+    clap::Command::new(alloc, "world").about(
+        "Run a script of clients and voters: standard input has the coterie, a line %%, the plan, a line %%, and the script",
+    )
+}
+
 /// The command line with the commands that make and plan.
 fn planning_command<'a>(alloc: Global) -> Result<clap::Command<'a>, AllocError>
     ensures { IfOk result (λ c. app_of c ≡ planning_app) }
@@ -92,13 +102,20 @@ fn planning_command<'a>(alloc: Global) -> Result<clap::Command<'a>, AllocError>
         .subcommand(plan_command(alloc))
 }
 
-/// The whole command line.
-fn qlock_command<'a>(alloc: Global) -> Result<clap::Command<'a>, AllocError>
-    ensures { IfOk result (λ c. app_of c ≡ qlock_app) }
+/// The command line with those, and with the commands that use a plan's weights.
+fn dealing_command<'a>(alloc: Global) -> Result<clap::Command<'a>, AllocError>
+    ensures { IfOk result (λ c. app_of c ≡ dealing_app) }
 {
     planning_command(alloc)?
         .subcommand(check_command(alloc))?
         .subcommand(deal_command(alloc)?)
+}
+
+/// The whole command line.
+fn qlock_command<'a>(alloc: Global) -> Result<clap::Command<'a>, AllocError>
+    ensures { IfOk result (λ c. app_of c ≡ qlock_app) }
+{
+    dealing_command(alloc)?.subcommand(world_command(alloc))
 }
 
 /// The size that a text is, where it is a number and not too large.
@@ -208,6 +225,9 @@ fn command_of(alloc: Global, matches: &ArgMatches) -> Result<Command, Usage>
     }
     if matches.subcommand_matches("check").is_some() {
         return Ok(Command::Check);
+    }
+    if matches.subcommand_matches("world").is_some() {
+        return Ok(Command::World);
     }
     if let Some(used) = matches.subcommand_matches("make") {
         return make_of(alloc, used);
