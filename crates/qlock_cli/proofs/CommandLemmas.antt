@@ -13,12 +13,16 @@ use Rattle.certificate.specs.PlanTexts as plan_texts
 use Rattle.certificate.specs.declared.fault.PlanFault.{PlanFault}
 use Rattle.certificate.specs.declared.fault.PlanFault.TheVariants as plan
 use Rattle.quorum_set.specs.Coteries.{QuorumSystem}
-use Rattle.qlock_cli.specs.Commands.{IsRefusedBy, Refuses, coterie_part, refused_as}
-use Rattle.qlock_cli.specs.Faults.{IsOfFile, construct_refusal, file_refusal, plan_refusal, planner_refusal}
+use Rattle.qlock_cli.specs.Commands.{IsRefusedBy, Refuses, coterie_part, refused_as, staged_in}
+use Rattle.qlock_cli.specs.Faults.{IsBeforeScript, IsOfFile, construct_refusal, file_refusal, plan_refusal, planner_refusal, replay_refusal}
 use Rattle.planner.specs.Uniform.{IsWarranted}
 use Rattle.planner.specs.declared.fault.PlannerFault.{PlannerFault}
 use Rattle.planner.specs.declared.fault.PlannerFault.TheVariants as planner
 use Rattle.coterie_file.specs.Named.{NamedSystem}
+use Rattle.replay.specs.Scripts.{IsBadText}
+use Rattle.replay.specs.declared.fault.ReplayFault.{ReplayFault}
+use Rattle.replay.specs.declared.fault.ReplayFault.TheVariants as replay
+use Rattle.qlock_cli.specs.declared.answer.Planned.{Planned}
 use Rattle.qlock_cli.specs.declared.fault.Fault.{Fault}
 use Rattle.qlock_cli.specs.declared.fault.Fault.TheVariants as faults
 use Rattle.qlock_cli.specs.declared.fault.Fault.TheVariants.{Construct, File, Plan}
@@ -67,3 +71,22 @@ coterie_refused input (faults.MissingPart k) of h = h
 coterie_refused input (faults.Construct fault) of h = h
 coterie_refused input (faults.File fault) of h = h
 coterie_refused input (faults.Plan fault) of h = h
+coterie_refused input (faults.Replay fault) of h = h
+
+-- a refusal of the parts before a script is one of the command `world`
+pub parts_refused : (input : List ℕ) (fault : Fault) → IsBeforeScript fault → Refuses fault (staged_in input) → IsRefusedBy commands.World input fault
+parts_refused input faults.OutOfMemory before h = tt
+parts_refused input (faults.Replay fault) before h = absurd before
+parts_refused input faults.TooLong before h = h
+parts_refused input faults.ReadFault before h = h
+parts_refused input faults.WriteFault before h = h
+parts_refused input (faults.MissingPart k) before h = h
+parts_refused input (faults.Construct fault) before h = h
+parts_refused input (faults.File fault) before h = h
+parts_refused input (faults.Plan fault) before h = h
+parts_refused input (faults.Planner fault) before h = h
+
+-- so is a refusal of the script
+pub script_refused : (input script : List ℕ) (planned : Planned) (fault : ReplayFault) → staged_in input ≡ Ok (planned, script) → IsBadText script fault → IsRefusedBy commands.World input (replay_refusal fault)
+script_refused input script planned replay.OutOfMemory e h = tt
+script_refused input script planned (replay.BadLine line) e h = record { planned = planned; script = script; parts = e; bad = h }

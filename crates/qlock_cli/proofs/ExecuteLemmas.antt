@@ -6,9 +6,9 @@ use Rattle.qlock_cli.specs.Commands.{Answers, ComesOf, Gives, IsAnswer, IsAnswer
 use Rattle.qlock_cli.specs.Devices.{IsOfReading, IsOwn}
 use Rattle.qlock_cli.specs.declared.fault.Fault.{Fault}
 use Rattle.qlock_cli.specs.declared.fault.Fault.TheVariants as faults
-use Rattle.qlock_cli.specs.declared.fault.Fault.TheVariants.{MissingPart, TooLong, ReadFault, WriteFault, Construct, File, Planner, OutOfMemory}
+use Rattle.qlock_cli.specs.declared.fault.Fault.TheVariants.{MissingPart, TooLong, ReadFault, WriteFault, Construct, File, Planner, Replay, OutOfMemory}
 use Rattle.command_line.specs.declared.command.Command.{Command}
-use Rattle.command_line.specs.declared.command.Command.TheVariants.{Check, Deal, Make, Plan}
+use Rattle.command_line.specs.declared.command.Command.TheVariants.{Check, Deal, Make, Plan, World}
 use Rattle.command_line.specs.declared.command.Shape.{Shape}
 
 -- a result that gives the wanted answer is the command's answer, where the wanted one is
@@ -31,6 +31,7 @@ reading_comes command (Some input) (Construct fault) reads h = absurd h
 reading_comes command (Some input) (File fault) reads h = absurd h
 reading_comes command (Some input) (faults.Plan fault) reads h = absurd h
 reading_comes command (Some input) (Planner fault) reads h = absurd h
+reading_comes command (Some input) (Replay fault) reads h = absurd h
 
 -- a fault of the command's own comes of the input
 own_comes : (command : Command) (input : List ℕ) (fault : Fault) → IsOwn fault → IsShortFor command input → IsRefusedBy command input fault → ComesOf command input fault
@@ -43,6 +44,7 @@ own_comes command input (Construct fault) own short h = (short, h)
 own_comes command input (File fault) own short h = (short, h)
 own_comes command input (faults.Plan fault) own short h = (short, h)
 own_comes command input (Planner fault) own short h = (short, h)
+own_comes command input (Replay fault) own short h = (short, h)
 
 -- what holds of the input that was read holds of the known bytes
 of_known : (P : List ℕ → Type 0) (bytes : Option (List ℕ)) (input : List ℕ) → IfSome bytes (λ known. input ≡ known) → P input → IfSome bytes P
@@ -58,6 +60,7 @@ for_known P (Make shape) (Some known) input idle same h = idle shape input known
 for_known P Plan (Some known) input idle same h = of_known (P Plan) (Some known) input (same refl) h
 for_known P Check (Some known) input idle same h = of_known (P Check) (Some known) input (same refl) h
 for_known P (Deal n) (Some known) input idle same h = of_known (P (Deal n)) (Some known) input (same refl) h
+for_known P World (Some known) input idle same h = of_known (P World) (Some known) input (same refl) h
 
 idle_fault : (fault : Fault) (shape : Shape) (a b : List ℕ) → IsOwn fault → ComesOf (Make shape) a fault → ComesOf (Make shape) b fault
 idle_fault TooLong shape a b own h = absurd own
@@ -69,6 +72,7 @@ idle_fault (Construct fault) shape a b own h = (λ reads. cc, h.1)
 idle_fault (File fault) shape a b own h = (λ reads. cc, h.1)
 idle_fault (faults.Plan fault) shape a b own h = (λ reads. cc, h.1)
 idle_fault (Planner fault) shape a b own h = (λ reads. cc, h.1)
+idle_fault (Replay fault) shape a b own h = (λ reads. cc, h.1)
 
 -- a fault of the command's own comes of the known bytes
 pub own_comes_of_known : (command : Command) (bytes : Option (List ℕ)) (input : List ℕ) (fault : Fault) → (reads_input command ≡ true → IfSome bytes (λ known. input ≡ known))

@@ -23,13 +23,17 @@ use Rattle.planner.specs.declared.fault.PlannerFault.{PlannerFault}
 use Rattle.dealer.specs.Cycles.{quorum_of_ticket}
 use Rattle.dealer.specs.Accounts.{account_of}
 use Rattle.dealer.specs.declared.account.Account.{Account}
+use Rattle.replay.specs.Outputs.{IsOutput}
+use Rattle.replay.specs.Scripts.{IsFirstBad}
+use Rattle.replay.specs.declared.fault.ReplayFault.TheVariants as replay
+use Rattle.replay.specs.declared.fault.ReplayFault.TheVariants.{BadLine}
 use Rattle.qlock_cli.specs.Parts.{split}
 use Rattle.qlock_cli.specs.declared.fault.Fault.{Fault}
 use Rattle.qlock_cli.specs.declared.fault.Fault.TheVariants as faults
-use Rattle.qlock_cli.specs.declared.fault.Fault.TheVariants.{TooLong, ReadFault, WriteFault, OutOfMemory, Construct, File, Planner}
+use Rattle.qlock_cli.specs.declared.fault.Fault.TheVariants.{TooLong, ReadFault, WriteFault, OutOfMemory, Construct, File, Planner, Replay}
 use Rattle.qlock_cli.specs.declared.answer.Planned.{Planned}
 use Rattle.command_line.specs.declared.command.Command.{Command}
-use Rattle.command_line.specs.declared.command.Command.TheVariants.{Check, Deal, Make, Plan}
+use Rattle.command_line.specs.declared.command.Command.TheVariants.{Check, Deal, Make, Plan, World}
 use Rattle.command_line.specs.declared.command.Shape.{Shape}
 use Rattle.command_line.specs.declared.command.Shape.TheVariants.{Cyclic, Grid, Majority, Tree, Wheel}
 
@@ -64,13 +68,26 @@ coterie_part bytes = if is_utf8 bytes then refused_as File (coterie_at bytes) el
 unfoldable pub plan_part : QuorumSystem → List ℕ → Result Weighted Fault
 plan_part system bytes = refused_as faults.Plan (plan_at system bytes)
 
+-- what two parts spell: a coterie, and a plan of it
+unfoldable pub planned_by : List ℕ → List ℕ → Result Planned Fault
+planned_by coterie plan = do
+  named ← coterie_part coterie
+  plan ← plan_part named.system plan
+  Ok (record { named = named; plan = plan })
+
 -- what an input of two parts spells: a coterie, and a plan of it
 unfoldable pub planned_in : List ℕ → Result Planned Fault
 planned_in input = do
   parts ← split 2 input
-  named ← coterie_part parts.0
-  plan ← plan_part named.system parts.1
-  Ok (record { named = named; plan = plan })
+  planned_by parts.0 parts.1
+
+-- what an input of three parts spells: a coterie, a plan of it, and a text behind them
+unfoldable pub staged_in : List ℕ → Result (Planned × List ℕ) Fault
+staged_in input = do
+  parts ← split 2 input
+  others ← split 3 parts.1
+  planned ← planned_by parts.0 others.0
+  Ok (planned, others.1)
 
 -- Lines
 
@@ -152,12 +169,33 @@ abbrev pub RefusesToPlan : List ℕ → Fault → Type 0
 RefusesToPlan input (Planner fault) = IsUnplanned input fault
 RefusesToPlan input fault = coterie_part input ≡ Err fault
 
+-- the output is that of the script in the third part, by the plan that the parts before it spell
+pub record IsWorldOutput (input output : List ℕ) : Type 0 where
+  pub planned : Planned
+  pub script : List ℕ
+  pub parts : staged_in input ≡ Ok (planned, script)
+  pub output_is : IsOutput planned.plan script output
+
+-- this line of the third part is the first bad line of a script
+pub record IsBadScript (input : List ℕ) (line : ℕ) : Type 0 where
+  pub planned : Planned
+  pub script : List ℕ
+  pub parts : staged_in input ≡ Ok (planned, script)
+  pub bad : IsFirstBad script line
+
+-- `world` refuses the input so: a part is missing or spells nothing, or the third one is no script
+abbrev pub RefusesToRun : List ℕ → Fault → Type 0
+RefusesToRun input (Replay (BadLine line)) = IsBadScript input line
+RefusesToRun input (Replay replay.OutOfMemory) = ⊥
+RefusesToRun input fault = staged_in input ≡ Err fault
+
 -- the command writes this output for the input
 abbrev pub IsAnswer : Command → List ℕ → List ℕ → Type 0
 IsAnswer (Make shape) input output = make_answer_of shape ≡ Ok output
 IsAnswer Plan input output = IsPlanText input output
 IsAnswer Check input output = check_answer_of input ≡ Ok output
 IsAnswer (Deal n) input output = deal_answer_of n input ≡ Ok output
+IsAnswer World input output = IsWorldOutput input output
 
 -- the command refuses the input by this fault
 abbrev pub IsRefusal : Command → List ℕ → Fault → Type 0
@@ -165,6 +203,7 @@ IsRefusal (Make shape) input fault = make_answer_of shape ≡ Err fault
 IsRefusal Plan input fault = RefusesToPlan input fault
 IsRefusal Check input fault = check_answer_of input ≡ Err fault
 IsRefusal (Deal n) input fault = deal_answer_of n input ≡ Err fault
+IsRefusal World input fault = RefusesToRun input fault
 
 -- the fault is want of memory, or the command refuses the input by it
 abbrev pub IsRefusedBy : Command → List ℕ → Fault → Type 0
@@ -182,6 +221,7 @@ reads_input (Make shape) = false
 reads_input Plan = true
 reads_input Check = true
 reads_input (Deal n) = true
+reads_input World = true
 
 -- the input is not too long, where the command reads it
 abbrev pub IsShortFor : Command → List ℕ → Type 0

@@ -7,8 +7,10 @@ use Rattle.certificate.specs.declared.fault.PlanFault.{PlanFault}
 use Rattle.certificate.specs.declared.fault.PlanFault.TheVariants as plan
 use Rattle.planner.specs.declared.fault.PlannerFault.{PlannerFault}
 use Rattle.planner.specs.declared.fault.PlannerFault.TheVariants as planner
+use Rattle.replay.specs.declared.fault.ReplayFault.{ReplayFault}
+use Rattle.replay.specs.declared.fault.ReplayFault.TheVariants as replay
 use Rattle.qlock_cli.specs.declared.fault.Fault.{Fault}
-use Rattle.qlock_cli.specs.declared.fault.Fault.TheVariants.{OutOfMemory, Construct, File, Plan, Planner}
+use Rattle.qlock_cli.specs.declared.fault.Fault.TheVariants.{OutOfMemory, Construct, File, Plan, Planner, Replay}
 
 abbrev pub construct_refusal : ConstructFault → Fault
 construct_refusal construct.OutOfMemory = OutOfMemory
@@ -25,6 +27,15 @@ plan_refusal fault = Plan fault
 abbrev pub planner_refusal : PlannerFault → Fault
 planner_refusal planner.OutOfMemory = OutOfMemory
 planner_refusal fault = Planner fault
+
+abbrev pub replay_refusal : ReplayFault → Fault
+replay_refusal replay.OutOfMemory = OutOfMemory
+replay_refusal fault = Replay fault
+
+-- the fault is not of a script
+abbrev pub IsBeforeScript : Fault → Type 0
+IsBeforeScript (Replay fault) = ⊥
+IsBeforeScript fault = Unit {0}
 
 -- the fault is of a coterie's text, or want of memory
 abbrev pub IsOfFile : Fault → Type 0

@@ -5,9 +5,9 @@ ghost use Rattle.construct.specs.Answers as construct_answers;
 ghost use Rattle.coterie_file.specs.Named.{IsNamed};
 ghost use Rattle.certificate.specs.Certificates.{IsCertificate, cycle_len, load_of};
 ghost use Rattle.dealer.specs.Accounts.{account_of};
-ghost use Rattle.qlock_cli.specs.Commands.{Gives, IsAnswered, account_text, check_answer_of, check_text, coterie_part, deal_answer_of, deal_text, make_answer_of, numbered_text, plan_part, planned_in, shape_at};
+ghost use Rattle.qlock_cli.specs.Commands.{Gives, IsAnswered, account_text, check_answer_of, check_text, coterie_part, deal_answer_of, deal_text, make_answer_of, numbered_text, plan_part, planned_by, planned_in, shape_at, staged_in};
 ghost use Rattle.qlock_cli.specs.Devices.{IsOwn};
-ghost use Rattle.qlock_cli.specs.Faults.{IsOfFile};
+ghost use Rattle.qlock_cli.specs.Faults.{IsBeforeScript, IsOfFile};
 
 use crate::fault::Fault;
 use crate::parts::split_part;
@@ -19,6 +19,7 @@ use coterie_file::{FileFault, Named, read_coterie, write_coterie};
 use dealer::{Account, Cycle};
 use planner::plan;
 use quorum_set::Coterie;
+use replay::run_script;
 use std::alloc::{AllocError, Global};
 
 /// The coterie that a part spells.
@@ -26,6 +27,7 @@ fn coterie_of(alloc: Global, part: &[u8]) -> Result<Named, Fault>
     ensures exact { Gives (λ n. n) result (coterie_part part.now) }
     ensures own { IfErr result IsOwn }
     ensures file { IfErr result IsOfFile }
+    ensures before { IfErr result IsBeforeScript }
 {
     let Ok(text) = std::str::from_utf8(part) else {
         return Err(Fault::File(FileFault::NotToml));
@@ -40,6 +42,7 @@ fn coterie_of(alloc: Global, part: &[u8]) -> Result<Named, Fault>
 fn plan_of(alloc: Global, coterie: &Coterie, part: &[u8]) -> Result<Plan, Fault>
     ensures exact { Gives (λ p. p) result (plan_part coterie.now part.now) }
     ensures own { IfErr result IsOwn }
+    ensures before { IfErr result IsBeforeScript }
     ensures coterie { IfOk result (λ p. p.system ≡ coterie.now) }
 {
     match read_plan(alloc, coterie, part) {
@@ -55,6 +58,25 @@ pub struct Planned {
     plan: Plan,
 }
 
+#[tactic(auto, unfolding(crate::specs::Commands::planned_by))]
+/// What two parts spell: a coterie, and a plan of it.
+fn planned_by(alloc: Global, coterie: &[u8], plan: &[u8]) -> Result<Planned, Fault>
+    ensures exact { Gives (λ p. p) result (planned_by coterie.now plan.now) }
+    ensures own { IfErr result IsOwn }
+    ensures before { IfErr result IsBeforeScript }
+    ensures same { IfOk result (λ p. p.plan.system ≡ p.named.system) }
+{
+    let named = match coterie_of(alloc, coterie) {
+        Ok(named) => named,
+        Err(fault) => return Err(fault),
+    };
+    let plan = match plan_of(alloc, named.coterie(), plan) {
+        Ok(plan) => plan,
+        Err(fault) => return Err(fault),
+    };
+    Ok(Planned { named, plan })
+}
+
 #[tactic(auto, unfolding(crate::specs::Commands::planned_in))]
 /// What an input of two parts spells: a coterie, and a plan of it.
 fn planned_of(alloc: Global, input: &[u8]) -> Result<Planned, Fault>
@@ -62,19 +84,31 @@ fn planned_of(alloc: Global, input: &[u8]) -> Result<Planned, Fault>
     ensures own { IfErr result IsOwn }
     ensures same { IfOk result (λ p. p.plan.system ≡ p.named.system) }
 {
-    let (first, last) = match split_part(input, 2) {
+    match split_part(input, 2) {
+        Ok((coterie, plan)) => planned_by(alloc, coterie, plan),
+        Err(fault) => Err(fault),
+    }
+}
+
+#[tactic(auto, unfolding(crate::specs::Commands::staged_in))]
+/// What an input of three parts spells: a coterie, a plan of it, and a text behind them.
+fn staged_of(alloc: Global, input: &[u8]) -> Result<(Planned, &[u8]), Fault>
+    ensures exact { Gives (λ x. (x.0, x.1.now)) result (staged_in input.now) }
+    ensures own { IfErr result IsOwn }
+    ensures before { IfErr result IsBeforeScript }
+{
+    let (coterie, rest) = match split_part(input, 2) {
         Ok(parts) => parts,
         Err(fault) => return Err(fault),
     };
-    let named = match coterie_of(alloc, first) {
-        Ok(named) => named,
+    let (plan, text) = match split_part(rest, 3) {
+        Ok(parts) => parts,
         Err(fault) => return Err(fault),
     };
-    let plan = match plan_of(alloc, named.coterie(), last) {
-        Ok(plan) => plan,
-        Err(fault) => return Err(fault),
-    };
-    Ok(Planned { named, plan })
+    match planned_by(alloc, coterie, plan) {
+        Ok(planned) => Ok((planned, text)),
+        Err(fault) => Err(fault),
+    }
 }
 
 #[tactic(auto, unfolding(crate::specs::Commands::check_text))]
@@ -212,6 +246,21 @@ fn deal_answer(alloc: Global, count: u64, input: &[u8]) -> Result<String, Fault>
     }
 }
 
+/// What `world` writes for an input: the output of the script in its third part.
+fn world_answer(alloc: Global, input: &[u8]) -> Result<String, Fault>
+    ensures exact { IsAnswered string_bytes Command.World input.now result }
+    ensures own { IfErr result IsOwn }
+{
+    let (planned, script) = match staged_of(alloc, input) {
+        Ok(staged) => staged,
+        Err(fault) => return Err(fault),
+    };
+    match run_script(alloc, planned.plan, script) {
+        Ok(output) => Ok(output),
+        Err(fault) => Err(Fault::from(fault)),
+    }
+}
+
 /// What the command writes for an input.
 pub fn answer(alloc: Global, command: &Command, input: &[u8]) -> Result<String, Fault>
     ensures exact { IsAnswered string_bytes command.now input.now result }
@@ -222,5 +271,6 @@ pub fn answer(alloc: Global, command: &Command, input: &[u8]) -> Result<String, 
         Command::Plan => plan_answer(alloc, input),
         Command::Check => check_answer(alloc, input),
         Command::Deal(count) => deal_answer(alloc, u64::from(*count), input),
+        Command::World => world_answer(alloc, input),
     }
 }

@@ -26,7 +26,9 @@ fn input_for<R: Read>(
 {
     match command {
         Command::Make(_) => Ok(Vec::new(alloc)),
-        Command::Plan | Command::Check | Command::Deal(_) => read_input(alloc, reader),
+        Command::Plan | Command::Check | Command::Deal(_) | Command::World => {
+            read_input(alloc, reader)
+        }
     }
 }
 

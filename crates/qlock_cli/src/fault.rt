@@ -1,12 +1,13 @@
 //! Why a command was refused.
 ghost use Rattle.std.specs.Prelude.{◌≡◌};
-ghost use Rattle.qlock_cli.specs.Faults.{construct_refusal, file_refusal, plan_refusal, planner_refusal};
+ghost use Rattle.qlock_cli.specs.Faults.{construct_refusal, file_refusal, plan_refusal, planner_refusal, replay_refusal};
 ghost use Rattle.qlock_cli.specs.declared.fault.Fault.TheVariants.{OutOfMemory};
 
 use certificate::PlanFault;
 use construct::ConstructFault;
 use coterie_file::FileFault;
 use planner::PlannerFault;
+use replay::ReplayFault;
 use std::alloc::{AllocError, AllocFailed};
 use thiserror::Error;
 
@@ -37,6 +38,9 @@ pub enum Fault {
     /// There is no plan.
     #[error(transparent)]
     Planner(PlannerFault),
+    /// The script was refused.
+    #[error(transparent)]
+    Replay(ReplayFault),
     /// Memory ran out.
     #[error("O1 OutOfMemory")]
     OutOfMemory,
@@ -98,6 +102,17 @@ impl From<PlannerFault> for Fault {
         match fault {
             PlannerFault::OutOfMemory => Fault::OutOfMemory,
             _ => Fault::Planner(fault),
+        }
+    }
+}
+
+impl From<ReplayFault> for Fault {
+    ghost from_gives = { λ fault e. e ≡ replay_refusal fault };
+
+    fn from(fault: ReplayFault) -> Fault {
+        match fault {
+            ReplayFault::OutOfMemory => Fault::OutOfMemory,
+            _ => Fault::Replay(fault),
         }
     }
 }
