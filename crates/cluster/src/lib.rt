@@ -24,7 +24,9 @@
 //!     let (cluster, members) = blank.open::<N>(alloc)?;
 //!     for mut member in members {
 //!         let receipt = member.ask(rt, &cluster); // ticket 0, and the quorum that it names
-//!         while member.pump(rt, &cluster).is_some() {} // each vote comes: Entered
+//!         for _ in 0..3 {
+//!             member.pump(rt, &cluster); // the votes come, and with the last one Entered
+//!         }
 //!         return Ok(member.pass(&cluster).ok()); // pass number 0
 //!     }
 //!     Ok(None)
