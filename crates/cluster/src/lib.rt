@@ -51,6 +51,7 @@ mod mailbox;
 mod member;
 mod name;
 mod node;
+mod record;
 mod running;
 #[cfg(test)]
 mod tests;
@@ -61,4 +62,5 @@ pub use fault::ClusterFault;
 pub use member::Member;
 pub use name::ClusterName;
 pub use node::Node;
+pub use record::RunRecord;
 pub use running::Cluster;

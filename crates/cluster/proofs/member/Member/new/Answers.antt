@@ -11,10 +11,10 @@ use Rattle.cluster.proofs.member.Member.new.Goals as goal
 pub invariant_of-result : goal.invariant_of-result
 invariant_of-result g c =
     let id = c.client.result in
-    let below : id < 64 = omega (arith, c.requires.client, c.requires.few, c.client.ensures) in
+    let below : id < 64 = omega (arith, c.requires.client, c.requires.few, c.client.ensures.value) in
     record {
       sound = subst IsSound (sym c.new.ensures) (c.requesters_stay_sound.ensures.first id (2 ^ 40) below (omega arith) (omega arith));
-      client = ap (λ (x : ClientState). x.id) c.new.ensures ∙ c.client.ensures;
+      client = ap (λ (x : ClientState). x.id) c.new.ensures ∙ c.client.ensures.value;
       inside = c.requires.client;
       table = ap (λ (s : SeatState). s.table) c.requires.fresh;
       office = ap (λ (k : ClerkState). k.office) c.requires.clerk;
