@@ -1,4 +1,7 @@
+mod AscendingLemmas
+mod DrawLemmas
 mod LineLemmas
 mod OutputLemmas
 mod Readings
+mod SoundLemmas
 mod StepsLemmas

@@ -3,7 +3,7 @@ use Rattle.std.proofs.Common.{◌≡◌, ◌≢◌, ℕ, List, [], ◌∷◌, �
 use Rattle.std.proofs.lemmas.List.{append-nil}
 use Rattle.world.specs.declared.step.Step.{Step}
 use Rattle.replay.specs.declared.fault.ReplayFault.{ReplayFault}
-use Rattle.replay.specs.declared.fault.ReplayFault.TheVariants.{BadLine, OutOfMemory}
+use Rattle.replay.specs.declared.fault.ReplayFault.TheVariants.{TicketTwice, TicketMissing, WrongQuorum, PassTwice, PassMissing, WrongRegister, BadLine, OutOfMemory}
 use Rattle.replay.specs.Scripts.{AreSizes, HasStepLine, HaveLines, IsBadBody, IsBadText, step_line, steps_text, world_line}
 
 -- the steps are those that were found, and more whose lines are the rest
@@ -51,3 +51,9 @@ pub bad_text : (text body : List ℕ) (clients limit : ℕ) (fault : ReplayFault
 bad_text text body clients limit (BadLine line) sizes e h =
     inr (record { clients = clients; limit = limit; sizes = sizes; body = body; text_is = e; steps = h.0; ends = h.1; line_is = h.2 })
 bad_text text body clients limit OutOfMemory sizes e h = tt
+bad_text text body clients limit (TicketTwice x) sizes e h = absurd h
+bad_text text body clients limit (TicketMissing x) sizes e h = absurd h
+bad_text text body clients limit (WrongQuorum x) sizes e h = absurd h
+bad_text text body clients limit (PassTwice x) sizes e h = absurd h
+bad_text text body clients limit (PassMissing x) sizes e h = absurd h
+bad_text text body clients limit (WrongRegister x) sizes e h = absurd h

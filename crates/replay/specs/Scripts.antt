@@ -126,6 +126,7 @@ IsFirstBad text line = ((line ≡ 1) × ¬ (BeginsWith IsWorldLine text)) ⊎ Is
 abbrev pub IsBadText : List ℕ → ReplayFault → Type 0
 IsBadText text (BadLine line) = IsFirstBad text line
 IsBadText text OutOfMemory = Unit {0}
+IsBadText text fault = ⊥
 
 -- Facts of the parts of a line
 
@@ -139,3 +140,4 @@ pub record IsStepOf (s : Step) (word : List ℕ) (number : ℕ) : Type 0 where
 abbrev pub IsBadBody : List ℕ → ReplayFault → Type 0
 IsBadBody body (BadLine line) = (steps : List Step) × EndsBadly body steps × (line ≡ length steps + 2)
 IsBadBody body OutOfMemory = Unit {0}
+IsBadBody body fault = ⊥

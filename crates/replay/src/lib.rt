@@ -21,14 +21,19 @@
 //! `enter C` or `leave C` for a client that enters or leaves, and `! ` with the fault for a step that is refused, which
 //! changes nothing.
 //!
+//! [`check_record`] tells whether the record of a run by threads is sound: its tickets and its passes are numbered as a
+//! counter hands numbers out, and each ticket names its quorum by the plan's cycle.
+//!
 //! # What is proved
 //!
 //! A text is read exactly where it is the spelling of a script, and else its first bad line is named
 //! (`specs/Scripts.antt`). The output is that of the world's own steps, one after the other (`specs/Outputs.antt`); the
 //! world's proof says that at most one client is inside at a time, so whatever a script does, between two `enter` lines
-//! stands a `leave`.
+//! stands a `leave`. A record is accepted exactly where it is sound, and else its first fault is named
+//! (`specs/Records.antt`).
 //!
-//! This crate stands on `world`, whose steps it takes, on `certificate` for the plan, and on `message` for the lines.
+//! This crate stands on `world`, whose steps it takes, on `certificate` for the plan, on `dealer` for the account of tickets,
+//! on `cluster` for the record of a run, and on `message` for the lines.
 //!
 //! ```text
 //! // One voter, one client.
@@ -42,6 +47,9 @@
 //! ```
 #![tactic(auto)]
 
+mod check;
+#[cfg(test)]
+mod check_tests;
 mod fault;
 mod laws;
 mod output;
@@ -50,6 +58,7 @@ mod script;
 #[cfg(test)]
 mod tests;
 
+pub use check::check_record;
 pub use fault::ReplayFault;
 pub use laws::{lines_end, texts_are_read_in_one_way};
 pub use output::run_script;

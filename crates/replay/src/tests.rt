@@ -8,7 +8,11 @@ use voter::VoterFault;
 use world::{Step, WorldFault};
 
 /// The plan in which each quorum and each voter has weight 1. A quorum of one member lists it twice.
-fn plan_of(alloc: Global, voters: usize, quorums: &[[u8; 2]]) -> Result<Option<Plan>, Fail> {
+pub(crate) fn plan_of(
+    alloc: Global,
+    voters: usize,
+    quorums: &[[u8; 2]],
+) -> Result<Option<Plan>, Fail> {
     let mut sets = Vec::new(alloc);
     for [first, second] in quorums {
         let mut set = QSet::empty();

@@ -1,0 +1,103 @@
+-- Records of a run: who drew which ticket and was told which quorum, who passed by which number, and what the register was
+-- at the end. A record is sound where its tickets and its numbers count up from 0, as a counter hands them out, and each
+-- ticket names the quorum at its place of the plan's cycle.
+use Rattle.std.specs.Prelude.{ℕ, ◌≡◌, ◌≢◌, ◌<◌, ◌≤◌, List, length, map}
+use Rattle.std.specs.List.{All, Contains}
+use Rattle.quorum_set.specs.Counts.{times}
+use Rattle.certificate.specs.Certificates.{Weighted}
+use Rattle.dealer.specs.Cycles.{quorum_of_ticket}
+use Rattle.cluster.specs.declared.record.RunRecord.{RunRecord}
+use Rattle.replay.specs.declared.fault.ReplayFault.{ReplayFault}
+use Rattle.replay.specs.declared.fault.ReplayFault.TheVariants.{TicketTwice, TicketMissing, WrongQuorum, PassTwice, PassMissing, WrongRegister, BadLine, OutOfMemory}
+
+-- a client, the ticket that it drew, and the quorum that it was told
+abbrev pub Draw : Type 0
+Draw = ℕ × ℕ × ℕ
+
+-- a client, and the number by which it passed
+abbrev pub Pass : Type 0
+Pass = ℕ × ℕ
+
+-- what a record says of a run; how many messages were lost is not judged
+pub record Entries : Type 0 where
+  pub draws : List Draw
+  pub passes : List Pass
+  pub register : ℕ
+
+abbrev pub entries_of : RunRecord → Entries
+entries_of r = record { draws = r.draws.items; passes = r.passes.items; register = r.register }
+
+abbrev pub tickets_of : List Draw → List ℕ
+tickets_of draws = map (λ d. d.1) draws
+
+abbrev pub numbers_of : List Pass → List ℕ
+numbers_of passes = map (λ p. p.1) passes
+
+-- Sound records
+
+-- the numbers below how many they are, each once, in any order
+abbrev pub CountUp : List ℕ → Type 0
+CountUp ns = (n : ℕ) → n < length ns → times n ns ≡ 1
+
+-- the draw names the quorum at its ticket's place of the cycle
+abbrev pub IsRight : Weighted → Draw → Type 0
+IsRight w d = d.2 ≡ quorum_of_ticket w d.1
+
+pub record IsSoundRecord (w : Weighted) (e : Entries) : Type 0 where
+  pub tickets : CountUp (tickets_of e.draws)
+  pub quorums : All (IsRight w) e.draws
+  pub numbers : CountUp (numbers_of e.passes)
+  pub register : e.register ≡ length e.passes
+
+-- The first fault
+
+abbrev pub IsTwice : List ℕ → ℕ → Type 0
+IsTwice ns n = 2 ≤ times n ns
+
+abbrev pub IsMissing : List ℕ → ℕ → Type 0
+IsMissing ns n = (n < length ns) × (times n ns ≡ 0)
+
+-- a draw of this ticket names another quorum than the cycle does
+abbrev pub IsWrong : Weighted → List Draw → ℕ → Type 0
+IsWrong w draws ticket = (d : Draw) × Contains draws d × (d.1 ≡ ticket) × ¬ (IsRight w d)
+
+-- the least number of which P holds
+abbrev pub IsLeast : (ℕ → Type 0) → ℕ → Type 0
+IsLeast P n = P n × ((m : ℕ) → P m → n ≤ m)
+
+abbrev pub NoneTwice : List ℕ → Type 0
+NoneTwice ns = (n : ℕ) → ¬ (IsTwice ns n)
+
+-- the draws are those of a sound record
+abbrev pub AreSoundDraws : Weighted → List Draw → Type 0
+AreSoundDraws w draws = CountUp (tickets_of draws) × All (IsRight w) draws
+
+-- The first fault of a record: each fault is looked for in the whole record before the next one, and the least number is
+-- named. Want of memory says nothing of the record.
+abbrev pub IsFirstFault : Weighted → Entries → ReplayFault → Type 0
+IsFirstFault w e (TicketTwice t) = IsLeast (IsTwice (tickets_of e.draws)) t
+IsFirstFault w e (TicketMissing t) = NoneTwice (tickets_of e.draws) × IsLeast (IsMissing (tickets_of e.draws)) t
+IsFirstFault w e (WrongQuorum t) = CountUp (tickets_of e.draws) × IsLeast (IsWrong w e.draws) t
+IsFirstFault w e (PassTwice p) = AreSoundDraws w e.draws × IsLeast (IsTwice (numbers_of e.passes)) p
+IsFirstFault w e (PassMissing p) = AreSoundDraws w e.draws × NoneTwice (numbers_of e.passes) × IsLeast (IsMissing (numbers_of e.passes)) p
+IsFirstFault w e (WrongRegister q) = AreSoundDraws w e.draws × CountUp (numbers_of e.passes) × (q ≡ length e.passes) × (e.register ≢ q)
+IsFirstFault w e (BadLine line) = ⊥
+IsFirstFault w e OutOfMemory = Unit {0}
+
+-- The same of each part of a record
+
+abbrev pub IsTicketFault : List ℕ → ReplayFault → Type 0
+IsTicketFault tickets (TicketTwice t) = IsLeast (IsTwice tickets) t
+IsTicketFault tickets (TicketMissing t) = NoneTwice tickets × IsLeast (IsMissing tickets) t
+IsTicketFault tickets OutOfMemory = Unit {0}
+IsTicketFault tickets fault = ⊥
+
+abbrev pub IsNumberFault : List ℕ → ReplayFault → Type 0
+IsNumberFault numbers (PassTwice p) = IsLeast (IsTwice numbers) p
+IsNumberFault numbers (PassMissing p) = NoneTwice numbers × IsLeast (IsMissing numbers) p
+IsNumberFault numbers OutOfMemory = Unit {0}
+IsNumberFault numbers fault = ⊥
+
+abbrev pub IsRegisterFault : Entries → ReplayFault → Type 0
+IsRegisterFault e (WrongRegister q) = (q ≡ length e.passes) × (e.register ≢ q)
+IsRegisterFault e fault = ⊥

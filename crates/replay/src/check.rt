@@ -1,0 +1,206 @@
+//! Checking a record of a run.
+ghost use Rattle.std.specs.Prelude.{◌≡◌, ◌*◌, ◌<◌, ◌≤◌, ℕ, IfErr, IfOk, IfSome, MatchOption, None, min, MatchResult, length, map};
+ghost use Rattle.std.specs.List.{All};
+ghost use Rattle.std.specs.List.Sorted.{IsNonDecreasing};
+ghost use Rattle.quorum_set.specs.Counts.{times};
+ghost use Rattle.certificate.specs.Certificates.{IsCertificate, busiest_count, cycle_len};
+ghost use Rattle.dealer.specs.Accounts.{IsLeastBusiest, account_of};
+ghost use Rattle.replay.specs.Records.{CountUp, IsFirstFault, IsLeast, IsMissing, IsNumberFault, IsRegisterFault, IsRight, IsSoundRecord, IsTicketFault, IsTwice, IsWrong, NoneTwice, entries_of, numbers_of, tickets_of};
+ghost use Rattle.replay.specs.declared.fault.ReplayFault.TheVariants.{OutOfMemory};
+
+use crate::fault::ReplayFault;
+use certificate::Plan;
+use cluster::RunRecord;
+use dealer::{Account, Cycle};
+use std::alloc::{AllocError, Global};
+
+/// The numbers in ascending order.
+fn ascending(mut numbers: Vec<u64>) -> Vec<u64>
+    ensures ascending { IsNonDecreasing result.items }
+    ensures same { (n : ℕ) → times n result.items ≡ times n numbers.items }
+    ensures len { length result.items ≡ length numbers.items }
+{
+    numbers.sort_unstable();
+    numbers
+}
+
+/// The least of ascending numbers that stands twice.
+fn least_twice(ascending: &[u64]) -> Option<u64>
+    requires { IsNonDecreasing ascending.now }
+    ensures { MatchOption result (NoneTwice ascending.now) (IsLeast (IsTwice ascending.now)) }
+{
+    for place in 0..ascending.len().saturating_sub(1) {
+        if ascending[place] == ascending[place + 1] {
+            return Some(ascending[place]);
+        }
+    }
+    None
+}
+
+/// The least number that is missing among ascending ones.
+fn least_missing(ascending: &[u64]) -> Option<u64>
+    requires ascending { IsNonDecreasing ascending.now }
+    requires apart { NoneTwice ascending.now }
+    ensures { MatchOption result (CountUp ascending.now) (IsLeast (IsMissing ascending.now)) }
+{
+    for place in 0..ascending.len() {
+        if ascending[place] != place as u64 {
+            return Some(place as u64);
+        }
+    }
+    None
+}
+
+/// The lesser of a ticket and the one found before, if any.
+fn lesser(found: Option<u64>, ticket: u64) -> u64
+    ensures none { found ≡ None → result ≡ ticket }
+    ensures some { IfSome found (λ least. result ≡ min least ticket) }
+{
+    match found {
+        Some(least) => least.min(ticket),
+        None => ticket,
+    }
+}
+
+/// The least ticket of a draw with another quorum than the cycle's.
+fn least_wrong(cycle: &Cycle, draws: &[(u8, u64, usize)]) -> Option<u64>
+    ensures { MatchOption result (All (IsRight cycle.now) draws.now) (IsLeast (IsWrong cycle.now draws.now)) }
+{
+    let mut least = None;
+    for draw in draws {
+        if cycle.quorum_at(draw.1) != draw.2 {
+            least = Some(lesser(least, draw.1));
+        }
+    }
+    least
+}
+
+/// The tickets of draws, in their order.
+fn tickets_of(alloc: Global, draws: &[(u8, u64, usize)]) -> Result<Vec<u64>, AllocError>
+    ensures { IfOk result (λ v. v.items ≡ tickets_of draws.now) }
+{
+    draws.iter().map(|draw| draw.1).collect(alloc)
+}
+
+/// The numbers of passes, in their order.
+fn numbers_of(alloc: Global, passes: &[(u8, u64)]) -> Result<Vec<u64>, AllocError>
+    ensures { IfOk result (λ v. v.items ≡ numbers_of passes.now) }
+{
+    passes.iter().map(|pass| pass.1).collect(alloc)
+}
+
+/// The cycle of a plan.
+fn cycle_of(alloc: Global, plan: &Plan) -> Result<Cycle, ReplayFault>
+    ensures cycle { IfOk result (λ cycle. cycle ≡ plan.now) }
+    ensures certificate { IfOk result IsCertificate }
+    ensures memory { IfErr result (λ fault. fault ≡ OutOfMemory) }
+{
+    let plan = plan.copy(alloc)?;
+    match Cycle::of(alloc, plan) {
+        Ok(cycle) => Ok(cycle),
+        Err(_) => Err(ReplayFault::OutOfMemory),
+    }
+}
+
+/// Refuses tickets that don't count up.
+fn refuse_tickets(alloc: Global, draws: &[(u8, u64, usize)]) -> Result<(), ReplayFault>
+    ensures counted { IfOk result (λ _. CountUp (tickets_of draws.now)) }
+    ensures fault { IfErr result (IsTicketFault (tickets_of draws.now)) }
+{
+    let ascending = ascending(tickets_of(alloc, draws)?);
+    match least_twice(&ascending) {
+        Some(ticket) => Err(ReplayFault::TicketTwice(ticket)),
+        None => match least_missing(&ascending) {
+            Some(ticket) => Err(ReplayFault::TicketMissing(ticket)),
+            None => Ok(()),
+        },
+    }
+}
+
+/// Refuses numbers of passes that don't count up.
+fn refuse_numbers(alloc: Global, passes: &[(u8, u64)]) -> Result<(), ReplayFault>
+    ensures counted { IfOk result (λ _. CountUp (numbers_of passes.now)) }
+    ensures fault { IfErr result (IsNumberFault (numbers_of passes.now)) }
+{
+    let ascending = ascending(numbers_of(alloc, passes)?);
+    match least_twice(&ascending) {
+        Some(number) => Err(ReplayFault::PassTwice(number)),
+        None => match least_missing(&ascending) {
+            Some(number) => Err(ReplayFault::PassMissing(number)),
+            None => Ok(()),
+        },
+    }
+}
+
+/// Refuses a register that is not the number of passes.
+fn refuse_register(run: &RunRecord) -> Result<(), ReplayFault>
+    ensures right { IfOk result (λ _. run.now.register ≡ length run.now.passes.items) }
+    ensures fault { IfErr result (IsRegisterFault (entries_of run.now)) }
+{
+    let passes = run.passes.len() as u64;
+    if run.register == passes {
+        Ok(())
+    } else {
+        Err(ReplayFault::WrongRegister(passes))
+    }
+}
+
+/// Refuses a record by its first fault.
+fn refuse(alloc: Global, cycle: &Cycle, run: &RunRecord) -> Result<(), ReplayFault>
+    ensures sound { IfOk result (λ _. IsSoundRecord cycle.now (entries_of run.now)) }
+    ensures fault { IfErr result (IsFirstFault cycle.now (entries_of run.now)) }
+{
+    match refuse_tickets(alloc, &run.draws) {
+        Ok(()) => {}
+        Err(fault) => return Err(fault),
+    }
+    match least_wrong(cycle, &run.draws) {
+        None => {}
+        Some(ticket) => return Err(ReplayFault::WrongQuorum(ticket)),
+    }
+    match refuse_numbers(alloc, &run.passes) {
+        Ok(()) => {}
+        Err(fault) => return Err(fault),
+    }
+    refuse_register(run)
+}
+
+/// Checks a record of a run by the plan that the run dealt quorums by, and answers the account of its tickets.
+///
+/// With n draws, the tickets have to be 0 to n - 1, each once, in any order, and each with its quorum by the plan's cycle.
+/// With p passes, the numbers have to be 0 to p - 1, each once, and the register p. Each fault is looked for in the whole
+/// record before the next one, and names the least number:
+///
+/// - `TicketTwice`: a ticket that was drawn twice, or else `TicketMissing`: a ticket below n that was not drawn;
+/// - `WrongQuorum`: a ticket with another quorum than the cycle's;
+/// - `PassTwice`: a number by which two passes went, or else `PassMissing`: a number below p by which none did;
+/// - `WrongRegister`: the register is not p.
+///
+/// Want of memory may come at any point. The time is that of sorting the tickets and the numbers.
+pub fn check_record(alloc: Global, plan: &Plan, run: &RunRecord) -> Result<Account, ReplayFault>
+    // What is answered is the account of the record's tickets.
+    ensures account { IfOk result (λ account. account ≡ account_of plan.now (tickets_of run.now.draws.items)) }
+    // Only a sound record is accepted, and each one is.
+    ensures sound { IfOk result (λ _. IsSoundRecord plan.now (entries_of run.now)) }
+    ensures accepted { IsSoundRecord plan.now (entries_of run.now) → IfErr result (λ fault. fault ≡ OutOfMemory) }
+    // Which fault a record is refused by.
+    ensures fault { IfErr result (IsFirstFault plan.now (entries_of run.now)) }
+
+    // What whole cycles are for: each quorum was named k times its weight, ..
+    ensures shares { (k : ℕ) → length run.now.draws.items ≡ k * cycle_len plan.now → IfOk result (λ account. account.quorums ≡ map (λ weight. k * weight) plan.now.quorum_weights) }
+    // .. and the busiest voter k times the busiest count: no list of as many quorums does better.
+    ensures even { (k : ℕ) → length run.now.draws.items ≡ k * cycle_len plan.now → IfOk result (λ account. account.busiest ≡ k * busiest_count plan.now) }
+    ensures least { (k : ℕ) → length run.now.draws.items ≡ k * cycle_len plan.now → IfOk result (λ account. IsLeastBusiest plan.now account.drawn account.busiest) }
+{
+    let cycle = match cycle_of(alloc, plan) {
+        Ok(cycle) => cycle,
+        Err(fault) => return Err(fault),
+    };
+    match refuse(alloc, &cycle, run) {
+        Ok(()) => {}
+        Err(fault) => return Err(fault),
+    }
+    let tickets = tickets_of(alloc, &run.draws)?;
+    let account = cycle.account(alloc, &tickets)?;
+    Ok(account)
+}
