@@ -1,6 +1,9 @@
 mod AscendingLemmas
 mod DrawLemmas
 mod LineLemmas
+mod RecordBodyLemmas
+mod RecordLineLemmas
+mod RecordTextLemmas
 mod OutputLemmas
 mod Readings
 mod SoundLemmas

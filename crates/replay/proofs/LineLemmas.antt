@@ -21,7 +21,7 @@ Lacks-digits mark (d ∷ ds) low h = (ne_eqb d mark (λ e. let r = digit_from_va
 pub Lacks-decimal : (mark n : ℕ) → mark < 48 → n < 2 ^ 64 → Lacks mark (decimal n)
 Lacks-decimal mark n low small = Lacks-digits mark (decimal n) low (digits_decimal own n small)
 
-Lacks-fields : (ns : List ℕ) → AllFit ns → Lacks 10 (fields ns)
+pub Lacks-fields : (ns : List ℕ) → AllFit ns → Lacks 10 (fields ns)
 Lacks-fields [] fit = tt
 Lacks-fields (n ∷ ns) fit = (refl, Lacks-append 10 (decimal n) (fields ns) (Lacks-decimal 10 n (omega arith) fit.0) (Lacks-fields ns fit.1))
 

@@ -1,3 +1,4 @@
 pub mod Outputs
+pub mod RecordTexts
 pub mod Records
 pub mod Scripts

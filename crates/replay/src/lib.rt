@@ -54,6 +54,8 @@ mod fault;
 mod laws;
 mod output;
 mod reading;
+mod record_reading;
+mod record_writing;
 mod script;
 #[cfg(test)]
 mod tests;
@@ -63,4 +65,5 @@ pub use fault::ReplayFault;
 pub use laws::{lines_end, texts_are_read_in_one_way};
 pub use output::run_script;
 pub use reading::read_script;
+pub use record_writing::write_record;
 pub use script::Script;

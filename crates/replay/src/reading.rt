@@ -23,7 +23,7 @@ fn newline(text: &[u8]) -> Option<usize>
 }
 
 /// The first line, without its newline, and what follows it.
-fn first_line(text: &[u8]) -> Option<(&[u8], &[u8])>
+pub(crate) fn first_line(text: &[u8]) -> Option<(&[u8], &[u8])>
     ensures { option_map (λ x. (x.0.now, x.1.now)) result ≡ cut_at 10 text.now }
 {
     match newline(text) {

@@ -1,0 +1,28 @@
+use Rattle.std.proofs.Common.{List, ℕ, ◌∷◌, ◌++◌, ap, sym, ◌∙◌}
+use Rattle.certificate.proofs.Cuts.{cut_at-Some}
+use Rattle.replay.specs.RecordTexts.{record_line}
+use Rattle.replay.proofs.LineLemmas.{cut_line, same_pair}
+use Rattle.replay.proofs.RecordLineLemmas.{Lacks-record_line}
+use Rattle.replay.proofs.record_reading.next_line.Goals as goal
+
+pub returns-in-Some-read_line-clause-spelled : goal.returns-in-Some-read_line-clause-spelled
+returns-in-Some-read_line-clause-spelled c =
+    cut_at-Some 10 c.args.text.now (c.in-Some.line.now, c.in-Some.rest.now) (sym c.in-Some.ensures)
+    ∙ ap (λ (t : List ℕ). t ++ 10 ∷ c.in-Some.rest.now) c.in-Some-read_line.ensures.spelled.1
+
+pub returns-in-Some-read_line-clause-read : goal.returns-in-Some-read_line-clause-read
+returns-in-Some-read_line-clause-read c s rest h e =
+    let parts = same_pair c.in-Some.line.now (record_line s) c.in-Some.rest.now rest (c.in-Some.ensures ∙ cut_line c.args.text.now (record_line s) rest (Lacks-record_line s h) e) in
+    let same = c.in-Some-read_line.ensures.read s h parts.0 in
+    (cc, parts.1)
+
+pub returns-in-None-read_line-clause-read : goal.returns-in-None-read_line-clause-read
+returns-in-None-read_line-clause-read c s rest h e =
+    let parts = same_pair c.in-Some.line.now (record_line s) c.in-Some.rest.now rest (c.in-Some.ensures ∙ cut_line c.args.text.now (record_line s) rest (Lacks-record_line s h) e) in
+    let same = c.in-None-read_line.ensures.read s h parts.0 in
+    cc
+
+pub returns-in-None-clause-read : goal.returns-in-None-clause-read
+returns-in-None-clause-read c s rest h e =
+    let cut = c.in-None.ensures ∙ cut_line c.args.text.now (record_line s) rest (Lacks-record_line s h) e in
+    cc

@@ -1,0 +1,140 @@
+-- The text of a record, each line with a newline at its end.
+--
+--     quorum-record 1
+--     draw CLIENT TICKET QUORUM        any number of draws,
+--     pass CLIENT NUMBER               and then any number of passes
+--     register NUMBER
+--
+-- CLIENT is at most 63, QUORUM at most 4095, and the others are below 2^64. A number is decimal, without a leading zero.
+-- One space stands between two words.
+use Rattle.std.specs.Prelude.{ℕ, ◌≡◌, ◌≢◌, ◌<◌, ◌≤◌, ◌+◌, ◌^◌, ◌⊎◌, List, [], ◌∷◌, ◌++◌, length, map, codes}
+use Rattle.std.specs.List.{AllByRecursion}
+use Rattle.certificate.specs.PlanTexts.{text_of_lines}
+use Rattle.message.specs.Fields.{fields}
+use Rattle.replay.specs.declared.record_reading.RecordLine.{RecordLine}
+use Rattle.replay.specs.declared.record_reading.RecordLine.TheVariants as kinds
+use Rattle.replay.specs.declared.fault.ReplayFault.{ReplayFault}
+use Rattle.replay.specs.declared.fault.ReplayFault.TheVariants.{BadLine, OutOfMemory}
+use Rattle.replay.specs.Records.{Draw, Entries, Pass}
+
+-- Spelling
+
+abbrev pub title_line : List ℕ
+title_line = codes "quorum-record 1"
+
+abbrev pub draw_numbers : Draw → List ℕ
+draw_numbers d = d.0 ∷ d.1 ∷ d.2 ∷ []
+
+abbrev pub pass_numbers : Pass → List ℕ
+pass_numbers p = p.0 ∷ p.1 ∷ []
+
+abbrev pub draw_line : Draw → List ℕ
+draw_line d = codes "draw" ++ fields (draw_numbers d)
+
+abbrev pub pass_line : Pass → List ℕ
+pass_line p = codes "pass" ++ fields (pass_numbers p)
+
+abbrev pub register_line : ℕ → List ℕ
+register_line n = codes "register" ++ fields (n ∷ [])
+
+abbrev pub HasDrawLine : Draw → Type 0
+HasDrawLine d = (d.0 ≤ 63) × (d.1 < 2 ^ 64) × (d.2 ≤ 4095)
+
+abbrev pub HasPassLine : Pass → Type 0
+HasPassLine p = (p.0 ≤ 63) × (p.1 < 2 ^ 64)
+
+-- the lines of these draws, each with a newline at its end
+abbrev pub draws_text : List Draw → List ℕ
+draws_text draws = text_of_lines (map draw_line draws)
+
+abbrev pub passes_text : List Pass → List ℕ
+passes_text passes = text_of_lines (map pass_line passes)
+
+abbrev pub register_text : ℕ → List ℕ
+register_text n = register_line n ++ 10 ∷ []
+
+-- what stands behind the first line
+abbrev pub body_text : Entries → List ℕ
+body_text e = draws_text e.draws ++ (passes_text e.passes ++ register_text e.register)
+
+-- the one text of a record
+abbrev pub record_text : Entries → List ℕ
+record_text e = title_line ++ 10 ∷ body_text e
+
+-- a record that has a text
+pub record HasText (e : Entries) : Type 0 where
+  pub draws : AllByRecursion HasDrawLine e.draws
+  pub passes : AllByRecursion HasPassLine e.passes
+  pub register : e.register < 2 ^ 64
+
+-- The first bad line
+
+abbrev pub line_word : RecordLine → List ℕ
+line_word (kinds.Draw client ticket quorum) = codes "draw"
+line_word (kinds.Pass client number) = codes "pass"
+line_word (kinds.Register number) = codes "register"
+
+abbrev pub line_numbers : RecordLine → List ℕ
+line_numbers (kinds.Draw client ticket quorum) = draw_numbers (client, ticket, quorum)
+line_numbers (kinds.Pass client number) = pass_numbers (client, number)
+line_numbers (kinds.Register number) = number ∷ []
+
+-- the one line of a draw, of a pass, or of the register
+abbrev pub record_line : RecordLine → List ℕ
+record_line l = line_word l ++ fields (line_numbers l)
+
+abbrev pub HasLine : RecordLine → Type 0
+HasLine (kinds.Draw client ticket quorum) = HasDrawLine (client, ticket, quorum)
+HasLine (kinds.Pass client number) = HasPassLine (client, number)
+HasLine (kinds.Register number) = number < 2 ^ 64
+
+-- the line of this word and these numbers
+pub record IsLineOf (l : RecordLine) (word numbers : List ℕ) : Type 0 where
+  pub has_line : HasLine l
+  pub word_is : word ≡ line_word l
+  pub numbers_are : numbers ≡ line_numbers l
+
+-- whether the line may stand behind these passes: no draw stands behind a pass
+abbrev pub MayFollow : List Pass → RecordLine → Type 0
+MayFollow [] line = Unit {0}
+MayFollow (p ∷ passes) (kinds.Draw client ticket quorum) = ⊥
+MayFollow (p ∷ passes) line = Unit {0}
+
+-- behind these draws and passes stands a line that is missing, is spelled otherwise, or is out of place
+pub record StopsBehind (body : List ℕ) (draws : List Draw) (passes : List Pass) : Type 0 where
+  pub draws_have_lines : AllByRecursion HasDrawLine draws
+  pub passes_have_lines : AllByRecursion HasPassLine passes
+  pub rest : List ℕ
+  pub body_is : body ≡ draws_text draws ++ (passes_text passes ++ rest)
+  pub bad : (line : RecordLine) (more : List ℕ) → HasLine line → MayFollow passes line → rest ≢ record_line line ++ 10 ∷ more
+
+-- the text goes on behind the register's line
+pub record GoesOnBehind (body : List ℕ) (e : Entries) : Type 0 where
+  pub has_text : HasText e
+  pub rest : List ℕ
+  pub some : rest ≢ []
+  pub body_is : body ≡ body_text e ++ rest
+
+-- the bad line of what stands behind the first line, where its own first line has number 2
+abbrev pub IsBadBody : List ℕ → ℕ → Type 0
+IsBadBody body line =
+    ((draws : List Draw) × (passes : List Pass) × StopsBehind body draws passes × (line ≡ length draws + length passes + 2))
+    ⊎ ((e : Entries) × GoesOnBehind body e × (line ≡ length e.draws + length e.passes + 3))
+
+-- the first bad line of a text, by its number from 1
+abbrev pub IsFirstBad : List ℕ → ℕ → Type 0
+IsFirstBad text line =
+    ((line ≡ 1) × ((body : List ℕ) → text ≢ title_line ++ 10 ∷ body))
+    ⊎ ((body : List ℕ) × (text ≡ title_line ++ 10 ∷ body) × IsBadBody body line)
+
+-- the fault is the text's first bad line, or want of memory
+abbrev pub IsBadRecord : List ℕ → ReplayFault → Type 0
+IsBadRecord text (BadLine line) = IsFirstBad text line
+IsBadRecord text OutOfMemory = Unit {0}
+IsBadRecord text fault = ⊥
+
+-- the same of what stands behind the first line
+abbrev pub IsBadRest : List ℕ → ReplayFault → Type 0
+IsBadRest body (BadLine line) = IsBadBody body line
+IsBadRest body OutOfMemory = Unit {0}
+IsBadRest body fault = ⊥

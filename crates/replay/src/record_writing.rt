@@ -1,0 +1,62 @@
+//! Writing the record of a run.
+ghost use Rattle.std.specs.Prelude.{◌≡◌, ◌≤◌, ◌++◌, ◌∷◌, [], IfOk, OnOk, string_bytes};
+ghost use Rattle.std.specs.List.{All};
+ghost use Rattle.replay.specs.Records.{entries_of};
+ghost use Rattle.replay.specs.RecordTexts.{draw_line, draws_text, pass_line, passes_text, record_text, register_text, title_line};
+
+use cluster::RunRecord;
+use std::alloc::{AllocError, Global};
+
+fn push_draw(text: &mut String, draw: &(u8, u64, usize)) -> Result<(), AllocError>
+    ensures { OnOk result (string_bytes text.new ≡ string_bytes text.old ++ (draw_line draw.now ++ 10 ∷ [])) }
+{
+    let (client, ticket, quorum) = *draw;
+    write!(text, "draw {client} {ticket} {quorum}\n")
+}
+
+fn push_draws(text: &mut String, draws: &[(u8, u64, usize)]) -> Result<(), AllocError>
+    ensures { OnOk result (string_bytes text.new ≡ string_bytes text.old ++ draws_text draws.now) }
+{
+    for draw in draws {
+        push_draw(text, draw)?;
+    }
+    Ok(())
+}
+
+fn push_pass(text: &mut String, pass: &(u8, u64)) -> Result<(), AllocError>
+    ensures { OnOk result (string_bytes text.new ≡ string_bytes text.old ++ (pass_line pass.now ++ 10 ∷ [])) }
+{
+    let (client, number) = *pass;
+    write!(text, "pass {client} {number}\n")
+}
+
+fn push_passes(text: &mut String, passes: &[(u8, u64)]) -> Result<(), AllocError>
+    ensures { OnOk result (string_bytes text.new ≡ string_bytes text.old ++ passes_text passes.now) }
+{
+    for pass in passes {
+        push_pass(text, pass)?;
+    }
+    Ok(())
+}
+
+fn push_register(text: &mut String, register: u64) -> Result<(), AllocError>
+    ensures { OnOk result (string_bytes text.new ≡ string_bytes text.old ++ register_text register) }
+{
+    write!(text, "register {register}\n")
+}
+
+/// Writes the record of a run, in the order of its lists. How many messages were lost is not written.
+///
+/// A client has to be at most 63 and a quorum at most 4095, or the text could not be read. Want of memory is the only
+/// refusal.
+pub fn write_record(alloc: Global, run: &RunRecord) -> Result<String, AllocError>
+    requires draws { All (λ d. (d.0 ≤ 63) × (d.2 ≤ 4095)) run.now.draws.items }
+    requires passes { All (λ p. p.0 ≤ 63) run.now.passes.items }
+    ensures { IfOk result (λ text. string_bytes text ≡ record_text (entries_of run.now)) }
+{
+    let mut text = "quorum-record 1\n".to_string(alloc)?;
+    push_draws(&mut text, &run.draws)?;
+    push_passes(&mut text, &run.passes)?;
+    push_register(&mut text, run.register)?;
+    Ok(text)
+}
