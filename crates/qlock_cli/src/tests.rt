@@ -17,6 +17,8 @@ const WHEEL: &str =
 
 const WHEEL_PLAN: &str = "quorum-plan 1\nload 3/5\ncycle 5\nquorum 1 1 1 2\nvoter 2 1 1 1\n";
 
+const MAJORITY_PLAN: &str = "quorum-plan 1\nload 2/3\ncycle 3\nquorum 1 1 1\nvoter 1 1 1\n";
+
 /// What the command writes for a coterie and a plan with a separating line between them, or the text of its fault.
 fn answer_text(
     alloc: Global,
@@ -188,6 +190,27 @@ fn tickets_are_dealt(rt: HostRuntime) -> Result<(), Fail> {
     }
     let ten = answer_text(rt.alloc(), Command::Deal(10), WHEEL, WHEEL_PLAN)?;
     assert!(rt; ten.as_str().ends_with("busiest 6\n"));
+    Ok(())
+}
+
+#[test]
+fn scripts_are_run(rt: HostRuntime) -> Result<(), Fail> {
+    let alloc = rt.alloc();
+    let table = [
+        (
+            "%%\nworld 2 1000\nask 0\nask 1\ndeliver 2\ndeliver 0\ndeliver 3\ndeliver 4\ndeliver 6\ndeliver 5\nleave 1\ndeliver 7\n",
+            "m 0 request 0 0 1\nm 1 request 0 1 1\nm 2 request 1 0 1\nm 3 request 1 2 1\nm 4 locked 0 1 1 1 1\nm 5 inquire 0 1 1 1\nm 6 locked 2 1 1 1 1\nenter 1\nm 7 release 1 0 1\nm 8 release 1 2 1\nleave 1\nm 9 locked 0 0 1 2 1\n",
+        ),
+        ("%%\nworld 1 1\n", ""),
+        ("%%\n", "A7 BadLine 1"),
+        ("%%\nworld 1 1000\nask 256\n", "A7 BadLine 2"),
+        ("", "I1 MissingPart 3"),
+    ];
+    for (script, want) in &table {
+        let parts = format!(in alloc; "{MAJORITY_PLAN}{script}")?;
+        let text = answer_text(alloc, Command::World, MAJORITY, &parts)?;
+        assert_eq!(rt; text.as_str(), *want);
+    }
     Ok(())
 }
 
