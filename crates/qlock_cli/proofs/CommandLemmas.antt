@@ -90,3 +90,4 @@ parts_refused input (faults.Planner fault) before h = h
 pub script_refused : (input script : List ℕ) (planned : Planned) (fault : ReplayFault) → staged_in input ≡ Ok (planned, script) → IsBadText script fault → IsRefusedBy commands.World input (replay_refusal fault)
 script_refused input script planned replay.OutOfMemory e h = tt
 script_refused input script planned (replay.BadLine line) e h = record { planned = planned; script = script; parts = e; bad = h }
+script_refused input script planned fault e h = absurd h

@@ -186,7 +186,7 @@ pub record IsBadScript (input : List ℕ) (line : ℕ) : Type 0 where
 -- `world` refuses the input so: a part is missing or spells nothing, or the third one is no script
 abbrev pub RefusesToRun : List ℕ → Fault → Type 0
 RefusesToRun input (Replay (BadLine line)) = IsBadScript input line
-RefusesToRun input (Replay replay.OutOfMemory) = ⊥
+RefusesToRun input (Replay fault) = ⊥
 RefusesToRun input fault = staged_in input ≡ Err fault
 
 -- the command writes this output for the input
