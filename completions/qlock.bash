@@ -1,0 +1,11 @@
+# Completion of qlock for bash: source this file.
+
+_qlock() {
+    local word=${COMP_WORDS[COMP_CWORD]}
+    case $COMP_CWORD in
+        1) COMPREPLY=($(compgen -W "make plan check deal world" -- "$word")) ;;
+        2) [ "${COMP_WORDS[1]}" = make ] && COMPREPLY=($(compgen -W "grid majority tree wheel cyclic" -- "$word")) ;;
+    esac
+}
+
+complete -F _qlock qlock ./qlock
