@@ -4,7 +4,8 @@
 #     bench/planner.sh FOLDER
 #
 # The coteries are TOML files as `qlock make` writes them: one quorum a line. Prints, for each, its voters and quorums, the load
-# that qlock certified and the optimum that glpsol found (its inverse is the load), the seconds of each, and qlock's time over glpsol's.
+# that qlock certified and the optimum that glpsol found (its inverse is the load), the least seconds of 15 runs of each, in turn,
+# and qlock's time over glpsol's.
 set -eu
 folder=$1
 root=$(CDPATH= cd -- "$(dirname -- "$0")/.." && pwd)
@@ -22,27 +23,40 @@ program_of() {
         }' "$1"
 }
 
-seconds() {
-    local begin end
+# runs a command, notes its nanoseconds under a name, and keeps what it prints
+timed() {
+    local name=$1 begin
+    shift
     begin=$(date +%s%N)
-    "$@" > "$work/out" 2>&1 || true
-    end=$(date +%s%N)
-    awk -v n=$((end - begin)) 'BEGIN { printf "%.3f", n / 1e9 }'
+    "$@" > "$work/$name.out" 2>&1 || true
+    echo "$name $(($(date +%s%N) - begin))" >> "$work/times"
+}
+
+# the least seconds that were noted under a name
+least() {
+    awk -v name="$1" '$1 == name && (!n || $2 < n) { n = $2 } END { printf "%.4f", n / 1e9 }' "$work/times"
 }
 
 # builds the program where it has to be, so that no figure has that in it
 "$root/qlock" make wheel 3 > /dev/null
+program=$root/build/qlock
 
 printf '%-28s %6s %8s %12s %10s %8s %8s %8s %7s\n' coterie voters quorums load optimum qlock glpsol exact ratio
 for file in "$folder"/*.toml; do
     program_of "$file" > "$work/lp"
-    qlock=$(seconds sh -c '"$1" plan < "$2"' sh "$root/qlock" "$file")
-    load=$(awk '/^load/ { print $2 }' "$work/out")
-    voters=$(awk '/^voter / { print NF - 1 }' "$work/out")
-    quorums=$(awk '/^quorum / { print NF - 1 }' "$work/out")
-    plain=$(seconds glpsol --lp "$work/lp" -o "$work/solution")
+    rm -f "$work/times"
+    for run in 1 2 3 4 5 6 7 8 9 10 11 12 13 14 15; do
+        timed qlock sh -c 'exec "$1" plan < "$2"' sh "$program" "$file"
+        timed plain glpsol --lp "$work/lp" -o "$work/solution"
+        timed exact timeout 20 glpsol --exact --lp "$work/lp" -o "$work/exact-solution"
+    done
+    load=$(awk '/^load/ { print $2 }' "$work/qlock.out")
+    voters=$(awk '/^voter / { print NF - 1 }' "$work/qlock.out")
+    quorums=$(awk '/^quorum / { print NF - 1 }' "$work/qlock.out")
     optimum=$(awk '/^Objective/ { print $4 }' "$work/solution")
-    exact=$(seconds timeout 20 glpsol --exact --lp "$work/lp" -o "$work/solution")
-    ratio=$(awk -v a="$qlock" -v b="$plain" 'BEGIN { printf "%.1f", a / (b > 0 ? b : 0.001) }')
+    qlock=$(least qlock)
+    plain=$(least plain)
+    exact=$(least exact)
+    ratio=$(awk -v a="$qlock" -v b="$plain" 'BEGIN { printf "%.1f", a / (b > 0 ? b : 0.0001) }')
     printf '%-28s %6s %8s %12s %10s %8s %8s %8s %7s\n' "$(basename "$file" .toml)" "${voters:--}" "${quorums:--}" "${load:-none}" "$optimum" "$qlock" "$plain" "$exact" "$ratio"
 done

@@ -1,14 +1,35 @@
-#!/usr/bin/env bash
-# Times steps of the voter and of clients: two clients take turns at the lock of one voter, 11 steps a round.
+#!/bin/sh
+# Times steps of the voter and of clients, and beside them the same automata in plain Rust (steps_twin.rs) where rustc is
+# found: two clients take turns at the lock of one voter, 11 steps a round.
 #
 #     bench/steps.sh [ROUNDS]      (1000000 rounds, 11 million steps, where none is given)
 #
-# Prints what was done, the seconds, and the nanoseconds a step. The program is crates/bench_steps.
+# The programs run in turn, nine times each. Prints what was done, the least nanoseconds a step of each, and their ratio.
+# The proved program is crates/bench_steps.
 set -eu
 rounds=${1:-1000000}
 root=$(CDPATH= cd -- "$(dirname -- "$0")/.." && pwd)
+work=$(mktemp -d)
+trap 'rm -rf "$work"' EXIT
+
 (cd "$root/crates/bench_steps" && rt run -- 3 > /dev/null 2>&1) || { echo "steps.sh: crates/bench_steps does not build" >&2; exit 1; }
-begin=$(date +%s%N)
-"$root/crates/bench_steps/out/bench_steps" "$rounds"
-end=$(date +%s%N)
-awk -v n=$((end - begin)) -v steps=$((rounds * 11)) 'BEGIN { printf "%.3f s, %.1f ns a step\n", n / 1e9, n / steps }'
+cp "$root/crates/bench_steps/out/bench_steps" "$work/proved"
+if command -v rustc > /dev/null; then
+    rustc --edition 2021 -O -o "$work/plain" "$root/bench/steps_twin.rs"
+fi
+
+"$work/proved" "$rounds"
+for run in 1 2 3 4 5 6 7 8 9; do
+    for program in proved plain; do
+        [ -x "$work/$program" ] || continue
+        begin=$(date +%s%N)
+        "$work/$program" "$rounds" > /dev/null
+        echo "$program $(($(date +%s%N) - begin))"
+    done
+done | awk -v steps=$((rounds * 11)) '
+    !($1 in least) || $2 < least[$1] { least[$1] = $2 }
+    END {
+        printf "proved %.1f ns a step\n", least["proved"] / steps
+        if ("plain" in least)
+            printf "plain Rust %.1f ns a step, ratio %.2f\n", least["plain"] / steps, least["proved"] / least["plain"]
+    }'

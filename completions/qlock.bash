@@ -3,7 +3,7 @@
 _qlock() {
     local word=${COMP_WORDS[COMP_CWORD]}
     case $COMP_CWORD in
-        1) COMPREPLY=($(compgen -W "make plan check deal world" -- "$word")) ;;
+        1) COMPREPLY=($(compgen -W "make plan check deal world run replay" -- "$word")) ;;
         2) [ "${COMP_WORDS[1]}" = make ] && COMPREPLY=($(compgen -W "grid majority tree wheel cyclic" -- "$word")) ;;
     esac
 }

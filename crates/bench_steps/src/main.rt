@@ -6,12 +6,13 @@
 
 ghost use Rattle.std.specs.Prelude.{◌≡◌};
 
+use arrayvec::ArrayVec;
 use message::{ToClient, ToVoter};
 use quorum_set::QSet;
-use requester::{Reply, Requester, Seen};
+use requester::{ClientFault, Messages, Requester, Seen};
 use std::env;
 use std::process::ExitCode;
-use voter::Voter;
+use voter::{Replies, Voter};
 
 /// How far stamps and grants go: 2^40.
 const LIMIT: u64 = 1 << 40;
@@ -22,6 +23,8 @@ struct Lock {
     voter: Voter,
     first: Requester,
     second: Requester,
+    /// What the client sent that took the last reply.
+    answers: Messages,
     steps: u64,
     entered: u64,
     ghost voter_is: { voter.id ≡ 0 },
@@ -35,6 +38,7 @@ impl Lock {
             voter: Voter::new(0, LIMIT),
             first: Requester::new(0, LIMIT),
             second: Requester::new(1, LIMIT),
+            answers: ArrayVec::new(),
             steps: 0,
             entered: 0,
         }
@@ -53,22 +57,22 @@ impl Lock {
         if message.voter != 0 {
             return;
         }
-        let reply = match message.client {
-            0 => self.first.take(message),
-            1 => self.second.take(message),
+        let seen = match message.client {
+            0 => self.first.take_into(message, &mut self.answers),
+            1 => self.second.take_into(message, &mut self.answers),
             _ => return,
         };
-        self.count(reply.seen);
+        self.count(seen);
     }
 
     /// The voter takes a message, and the clients its replies.
-    fn tell_voter(&mut self, message: &ToVoter) {
+    fn tell_voter(&mut self, message: &ToVoter, replies: &mut Replies) {
         if message.voter != 0 || message.client > 1 {
             return;
         }
-        let Ok(replies) = self.voter.take(message) else {
+        if self.voter.take_into(message, replies).is_err() {
             return;
-        };
+        }
         self.count(Seen::Nothing);
         for reply in replies.as_slice() {
             self.tell_client(reply);
@@ -76,30 +80,29 @@ impl Lock {
     }
 
     /// What a client's call sends goes to the voter.
-    fn send(&mut self, reply: &Reply) {
-        self.count(reply.seen);
-        for message in reply.out.as_slice() {
-            self.tell_voter(message);
+    fn send(&mut self, called: Result<Seen, ClientFault>, sent: &Messages, replies: &mut Replies) {
+        let Ok(seen) = called else {
+            return;
+        };
+        self.count(seen);
+        for message in sent.as_slice() {
+            self.tell_voter(message, replies);
         }
     }
 
     /// Both ask; the first enters and leaves, and then the second. Nobody asks an empty quorum.
-    fn round(&mut self, quorum: &QSet) {
+    fn round(&mut self, quorum: &QSet, out: &mut Messages, replies: &mut Replies) {
         if quorum.len() == 0 {
             return;
         }
-        if let Ok(reply) = self.first.ask(quorum) {
-            self.send(&reply);
-        }
-        if let Ok(reply) = self.second.ask(quorum) {
-            self.send(&reply);
-        }
-        if let Ok(reply) = self.first.leave() {
-            self.send(&reply);
-        }
-        if let Ok(reply) = self.second.leave() {
-            self.send(&reply);
-        }
+        let called = self.first.ask_into(quorum, out);
+        self.send(called, out, replies);
+        let called = self.second.ask_into(quorum, out);
+        self.send(called, out, replies);
+        let called = self.first.leave_into(out);
+        self.send(called, out, replies);
+        let called = self.second.leave_into(out);
+        self.send(called, out, replies);
     }
 }
 
@@ -120,8 +123,10 @@ fn main(rt: HostRuntime) -> ExitCode {
     let mut quorum = QSet::empty();
     quorum.insert(0);
     let mut lock = Lock::new();
+    let mut out = ArrayVec::new();
+    let mut replies = ArrayVec::new();
     for _ in 0..rounds {
-        lock.round(&quorum);
+        lock.round(&quorum, &mut out, &mut replies);
     }
     let text = match format!(in rt.alloc(); "steps {} entered {}", lock.steps, lock.entered) {
         Ok(text) => text,

@@ -1,5 +1,4 @@
 pub mod Words
-pub mod Meetings
 pub mod Votes
 pub mod Register
 pub mod Giving

@@ -10,11 +10,12 @@ use Rattle.quorum_set.specs.Sums.{sum_below}
 use Rattle.quorum_set.proofs.SumLemmas.{sum_set, sum_at, sum_two, sum_below-next, sum_below-late, All-from_late, late}
 use Rattle.board.specs.declared.table.View.{View}
 use Rattle.board.specs.Seats.{Setting}
-use Rattle.board.specs.Quorums.{quorum_at, HoldsAll, Meet, AllMeet}
+use Rattle.quorum_set.specs.Meetings.{Meet, AllMeet}
+use Rattle.board.specs.Quorums.{quorum_at, HoldsAll}
 use Rattle.board.specs.Words.{name_of, taken, is}
 use Rattle.board.specs.Rule.{holds_vote, IsVote, IsReading, IsKept, Kept}
 use Rattle.board.specs.Moves.{Read, Wrote, Counted}
-use Rattle.board.proofs.Meetings.{all_has}
+use Rattle.quorum_set.proofs.Meetings.{all_has}
 use Rattle.board.proofs.Words.{is-same}
 use Rattle.board.proofs.Votes.{S, M, each_set, vote_same, holds_here, unmoved}
 

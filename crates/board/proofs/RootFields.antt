@@ -1,16 +1,13 @@
 -- The root's fields and its seat, as seats are given and taken back.
-use Rattle.std.proofs.Common.{◌≡◌, ◌≢◌, ℕ, zero, suc, ◌+◌, ◌-◌, ◌<◌, ◌≤◌, Bool, true, false, true≢false, map, List, [], ◌∷◌, ◌++◌, length, nat_lt, set, get_or, replicate, None, refl, sym, ap, ◌∙◌, arith, length-set, get_or-set_same, get_or-set_other}
-use Rattle.std.specs.Prelude.{slice_index}
+use Rattle.std.proofs.Common.{◌≡◌, ◌≢◌, ℕ, zero, suc, ◌+◌, ◌<◌, ◌≤◌, Bool, true, false, true≢false, map, List, [], ◌∷◌, ◌++◌, length, nat_lt, set, get_or, replicate, refl, sym, ap, ◌∙◌, arith}
 use Rattle.std.specs.List.{sum_by}
 use Rattle.std.proofs.lemmas.List.Sums.{sum_by-cons}
-use Rattle.std.proofs.lemmas.List.{length-replicate, get_or-replicate, get_or_past}
+use Rattle.std.proofs.lemmas.List.{length-replicate, get_or-replicate}
 use mathlib.Core.List.{map-append}
-use mathlib.Core.Logic.{dite}
-use native.Mathlib.Decide.{ℕ_discrete, dec_le}
 use Rattle.std.proofs.lemmas.Bool.Decides.{nat_tests}
 use Rattle.board.specs.declared.table.View.{View}
-use Rattle.board.specs.Roots.{weight, IsRoot, AreWithin, passes_of}
-use Rattle.board.specs.Views.{voter_view, root_view, without_voter, without_client, with_voter, with_client}
+use Rattle.board.specs.Roots.{weight, IsRoot, passes_of}
+use Rattle.board.specs.Views.{root_view, with_client}
 
 -- one flag fewer
 flags_set : (l : List Bool) (v : ℕ) → get_or l v false ≡ true → sum_by weight (set l v false) + 1 ≡ sum_by weight l
@@ -18,54 +15,11 @@ flags_set [] v e = absurd (true≢false (sym e))
 flags_set (x ∷ xs) zero e = let one : weight x ≡ 1 = ap weight e in omega (arith, sum_by-cons weight x xs, sum_by-cons weight false xs)
 flags_set (x ∷ xs) (suc v) e = omega (arith, flags_set xs v e, sum_by-cons weight x xs, sum_by-cons weight x (set xs v false))
 
-pub flag_in : (l : List Bool) (v : ℕ) → get_or l v false ≡ true → v < length l
-flag_in [] v e = absurd (true≢false (sym e))
-flag_in (x ∷ xs) zero e = omega arith
-flag_in (x ∷ xs) (suc v) e = omega (arith, flag_in xs v e)
-
 pub some_voter : (u : View) (count : ℕ) (fv fc : List Bool) (kept : List (ℕ × ℕ)) (v : ℕ) → IsRoot u count fv fc kept → get_or fv v false ≡ true → 1 < u.parts
 some_voter u count fv fc kept v r free = omega (arith, r.parts, r.enough, flags_set fv v free)
 
 pub some_client : (u : View) (count : ℕ) (fv fc : List Bool) (kept : List (ℕ × ℕ)) (v : ℕ) → IsRoot u count fv fc kept → get_or fc v false ≡ true → 1 < u.parts
 some_client u count fv fc kept v r free = omega (arith, r.parts, r.enough, flags_set fc v free)
-
-pub gave_voter : (u : View) (count : ℕ) (fv fc : List Bool) (kept : List (ℕ × ℕ)) (v : ℕ) → IsRoot u count fv fc kept → get_or fv v false ≡ true → v < 64 → IsRoot (without_voter v u) (count - 1) (set fv v false) fc kept
-gave_voter u count fv fc kept v r free few = record {
-  parts = omega (arith, r.parts, flags_set fv v free, r.enough);
-  enough = omega (arith, flags_set fv v free, r.enough);
-  client = r.client;
-  held = r.held;
-  reading = r.reading;
-  passes = r.passes;
-  wide = length-set u.voters v 0 ∙ r.wide;
-  given = λ k flag. dite (ℕ_discrete k v)
-      (λ e. absurd (true≢false (sym flag ∙ ap (λ (j : ℕ). get_or (set fv v false) j false) e ∙ get_or-set_same fv v false false (flag_in fv v free))))
-      (λ far. get_or-set_other u.voters v k 0 0 far ∙ r.given k (sym (get_or-set_other fv v k false false far) ∙ flag));
-}
-
-pub gave_client : (u : View) (count : ℕ) (fv fc : List Bool) (kept : List (ℕ × ℕ)) (v : ℕ) → IsRoot u count fv fc kept → get_or fc v false ≡ true → IsRoot (without_client u) (count - 1) fv (set fc v false) kept
-gave_client u count fv fc kept v r free = record {
-  parts = omega (arith, r.parts, flags_set fc v free, r.enough);
-  enough = omega (arith, flags_set fc v free, r.enough);
-  client = r.client;
-  held = r.held;
-  reading = r.reading;
-  passes = r.passes;
-  wide = r.wide;
-  given = r.given;
-}
-
-pub took_voter : (u : View) (count : ℕ) (fv fc : List Bool) (kept : List (ℕ × ℕ)) (v : ℕ) → IsRoot u count fv fc kept → v < 64 → IsRoot (with_voter v u (voter_view v None)) (count + 1) fv fc kept
-took_voter u count fv fc kept v r few = record {
-  parts = ap (λ (n : ℕ). n + 1) r.parts;
-  enough = omega (arith, r.enough);
-  client = r.client;
-  held = r.held;
-  reading = r.reading;
-  passes = r.passes;
-  wide = length-set u.voters v 1 ∙ r.wide;
-  given = λ k flag. dite (ℕ_discrete k v) (λ e. ap (slice_index (set u.voters v 1)) e ∙ get_or-set_same u.voters v 1 0 (omega (arith, r.wide))) (λ far. get_or-set_other u.voters v k 1 0 far ∙ r.given k flag);
-}
 
 pub took_client : (u : View) (count : ℕ) (fv fc : List Bool) (kept : List (ℕ × ℕ)) (w : View) (more : List (ℕ × ℕ)) → IsRoot u count fv fc kept → w.parts ≡ 1 → w.passes ≡ map (λ p. p.1) more → IsRoot (with_client u w) (count + 1) fv fc (kept ++ more)
 took_client u count fv fc kept w more r one passes = record {
@@ -109,15 +63,6 @@ fresh_root voters clients count fv fc all enough only = record {
 pub numbers_of : (client : ℕ) (xs : List ℕ) → map (λ (p : ℕ × ℕ). p.1) (passes_of client xs) ≡ xs
 numbers_of client [] = refl
 numbers_of client (x ∷ xs) = ap (λ (l : List ℕ). x ∷ l) (numbers_of client xs)
-
-pub within_less : (words : ℕ) (voters : List Bool) (v : ℕ) → AreWithin words voters → AreWithin words (set voters v false)
-within_less words voters v h k on = dite (ℕ_discrete k v)
-    (λ e. at_same (dec_le (length voters) v) e)
-    (λ far. h k (sym (get_or-set_other voters v k false false far) ∙ on))
-  where
-    at_same : Dec (length voters ≤ v) → k ≡ v → k + 1 < words
-    at_same (yes past) e = absurd (true≢false (sym on ∙ get_or_past (set voters v false) k false (omega (arith, length-set voters v false))))
-    at_same (no inside) e = absurd (true≢false (sym on ∙ ap (λ (j : ℕ). get_or (set voters v false) j false) e ∙ get_or-set_same voters v false false (omega arith)))
 
 -- the test of being below, at the next number
 pub none_below : (k : ℕ) → false ≡ nat_lt k 0

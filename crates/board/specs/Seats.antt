@@ -18,14 +18,14 @@ pub record BoardState : Type 0 where
   pub limit : ℕ
 
 -- its board and voter, the current grant by client and number or none, and the number of the last grant
-pub record VoterState : Type 0 where
+pub record VoterSeatState : Type 0 where
   pub table : TableId
   pub voter : ℕ
   pub current : Option (ℕ × ℕ)
   pub last : ℕ
 
 -- its board and client, for each voter the grant by which its vote is held or 0, the quorum and the number of the last read where it still counts, and the pass numbers
-pub record ClientState : Type 0 where
+pub record ClientSeatState : Type 0 where
   pub table : TableId
   pub client : ℕ
   pub held : List ℕ

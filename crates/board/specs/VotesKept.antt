@@ -6,7 +6,8 @@ use Rattle.atomic_table.specs.Table.{State}
 use Rattle.quorum_set.specs.Sums.{AreAllBelow}
 use Rattle.board.specs.declared.table.View.{View}
 use Rattle.board.specs.Seats.{Setting}
-use Rattle.board.specs.Quorums.{quorum_at, AllMeet, HoldsAll}
+use Rattle.quorum_set.specs.Meetings.{AllMeet}
+use Rattle.board.specs.Quorums.{quorum_at, HoldsAll}
 use Rattle.board.specs.Words.{name_of, offered, taken, returned}
 use Rattle.board.specs.Rule.{Kept}
 

@@ -2,15 +2,14 @@
 ghost use Rattle.std.specs.Prelude.{◌≡◌, ℕ, ◌+◌, ◌-◌, ◌<◌, ◌≤◌, ◌^◌, [], true, false, IfOk, IfErr, map, nat_lt, length, replicate, slice_index_or};
 ghost use Rattle.std.specs.List.{sum_by};
 ghost use Rattle.quorum_set.specs.Sums.{AreAllBelow};
-ghost use Rattle.board.specs.Quorums.{AllMeet};
+ghost use Rattle.quorum_set.specs.Meetings.{AllMeet};
 ghost use Rattle.board.specs.Roots.{weight};
 ghost use Rattle.board.specs.Seats.{BoardState, RootState};
 
 use crate::fault::BoardFault;
-use crate::laws::coteries_meet;
 use crate::root::BoardRoot;
 use crate::table::{Sheet, VoteTable};
-use quorum_set::{Coterie, QSet};
+use quorum_set::{Coterie, QSet, coteries_meet};
 use std::alloc::{AllocError, Global};
 use std::marker::Model;
 
@@ -23,14 +22,14 @@ pub struct Board {
 
 impl Model for Board {
     ghost use Rattle.std.specs.Prelude.{◌≡◌, ◌+◌, ◌≤◌, ◌^◌};
-    ghost use Rattle.board.specs.Quorums.{AllMeet};
+    ghost use Rattle.quorum_set.specs.Meetings.{AllMeet};
     ghost use Rattle.board.specs.Seats.{BoardState};
 
     ghost Value = { BoardState };
 
     ghost view = { λ b. record { table = b.table.shared.table_id; voters = b.sheet.voters; quorums = b.sheet.quorums; clients = b.sheet.clients; limit = b.sheet.limit } };
 
-    ghost invariant = { λ b. (b.table.shared.key ≡ b.sheet) × (b.table.shared.table_id.words ≡ b.sheet.voters + 1) × (b.table.shared.table_id.slots ≡ 0) × (b.sheet.limit ≤ 2 ^ 63) × (b.sheet.clients ≤ 64) × (b.sheet.voters ≤ 64) × AllMeet b.sheet.voters b.sheet.quorums };
+    ghost invariant = { λ b. (b.table.shared.key ≡ b.sheet) × (b.table.shared.table_id.words ≡ b.sheet.voters + 1) × (b.table.shared.table_id.slots ≡ 0) × (1 ≤ b.sheet.limit) × (b.sheet.limit ≤ 2 ^ 63) × (1 ≤ b.sheet.clients) × (b.sheet.clients ≤ 64) × (1 ≤ b.sheet.voters) × (b.sheet.voters ≤ 64) × AllMeet b.sheet.voters b.sheet.quorums };
 }
 
 impl Board {
@@ -77,6 +76,7 @@ impl Board {
     /// The number of voters, 1 to 64.
     pub fn voters(&self) -> usize
         ensures value { result ≡ self.now.voters }
+        ensures some_voter { 1 ≤ self.now.voters }
         ensures few { self.now.voters ≤ 64 }
         ensures meet { AllMeet self.now.voters self.now.quorums }
     {
@@ -86,6 +86,7 @@ impl Board {
     /// The number of clients, 1 to 64.
     pub fn clients(&self) -> u8
         ensures value { result ≡ self.now.clients }
+        ensures some_client { 1 ≤ self.now.clients }
         ensures few { self.now.clients ≤ 64 }
     {
         self.sheet.clients()
@@ -94,6 +95,7 @@ impl Board {
     /// The highest number of the register, 1 to 2^63.
     pub fn limit(&self) -> u64
         ensures value { result ≡ self.now.limit }
+        ensures some_number { 1 ≤ self.now.limit }
         ensures fits { self.now.limit ≤ 2 ^ 63 }
     {
         self.sheet.limit()

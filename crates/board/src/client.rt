@@ -5,7 +5,7 @@ ghost use mathlib.Core.Option.{none};
 ghost use Rattle.atomic_table.specs.Table.{step};
 ghost use Rattle.board.specs.Moves.{Read};
 ghost use Rattle.board.specs.Quorums.{quorum_at, HoldsAll};
-ghost use Rattle.board.specs.Seats.{BoardState, ClientState};
+ghost use Rattle.board.specs.Seats.{BoardState, ClientSeatState};
 
 use crate::board::Board;
 use crate::fault::BoardFault;
@@ -13,7 +13,7 @@ use crate::table::{GiveBack, Number, ReadFor, Take, View, VoteTable, Write};
 use atomic_table::Seat;
 use std::marker::{Brand, Model};
 
-/// The one right to take votes for a client. It may be moved to a thread. Contracts see a `ClientState`.
+/// The one right to take votes for a client. It may be moved to a thread. Contracts see a `ClientSeatState`.
 #[derive(Drop)]
 pub struct ClientSeat {
     pub(crate) seat: Seat<(), View>,
@@ -27,10 +27,10 @@ pub struct ClientSeat {
 impl Model for ClientSeat {
     ghost use Rattle.std.specs.Prelude.{◌≡◌, ◌<◌, ◌≤◌, ◌^◌, [], IfSome};
     ghost use Rattle.std.specs.List.{All};
-    ghost use Rattle.board.specs.Seats.{ClientState};
+    ghost use Rattle.board.specs.Seats.{ClientSeatState};
     ghost use Rattle.board.specs.Views.{client_view};
 
-    ghost Value = { ClientState };
+    ghost Value = { ClientSeatState };
 
     ghost view = { λ s. record { table = s.seat.table_id; client = s.client; held = s.held; reading = s.reading; passes = s.passes.items } };
 
@@ -72,8 +72,8 @@ impl ClientSeat {
         &self.passes
     }
 
-    /// Takes the vote that is offered to this client by this grant, from 1 to 2^40. True exactly where it then holds it.
-    /// False changes nothing. The vote must not be held already.
+    /// Takes the vote of a voter of this board that is offered to this client by this grant, from 1 to 2^40. True exactly
+    /// where it then holds it. False changes nothing. The board has to be the seat's, and the vote must not be held already.
     pub fn take(&mut self, board: &Board, voter: u8, grant: u64) -> bool
         requires table { self.old.table ≡ board.now.table }
         requires voter { voter < board.now.voters }
@@ -98,7 +98,8 @@ impl ClientSeat {
         false
     }
 
-    /// Gives a vote back that it holds. What it read of the register counts no longer.
+    /// Gives a vote back that it holds, to a voter of this board, which has to be the seat's. What it read of the register
+    /// counts no longer.
     pub fn give_back(&mut self, board: &Board, voter: u8)
         requires table { self.old.table ≡ board.now.table }
         requires voter { voter < board.now.voters }
@@ -116,8 +117,8 @@ impl ClientSeat {
         self.reading = None;
     }
 
-    /// Reads the register, for a quorum of which it holds every member's vote: it is inside. The number is above every
-    /// number that it keeps, and stays the register's while the reading counts.
+    /// Reads the register, for a quorum of this board of which it holds every member's vote: it is inside. The board has to
+    /// be the seat's. The number is above every number that it keeps, and stays the register's while the reading counts.
     pub fn read_register(&mut self, board: &Board, quorum: usize) -> u64
         requires table { self.old.table ≡ board.now.table }
         requires quorum { quorum < length board.now.quorums }
@@ -132,8 +133,8 @@ impl ClientSeat {
         number
     }
 
-    /// Passes: writes one more than it read, keeps the number that it read, and answers it. There has to be a reading,
-    /// which counts no longer then. `RegisterFull` where the number is the board's limit, and else want of memory for one
+    /// Passes: writes one more than it read, keeps the number that it read, and answers it. The board has to be the seat's.
+    /// There has to be a reading, which counts no longer then. `RegisterFull` where the number is the board's limit, and else want of memory for one
     /// more number; a refusal changes nothing.
     pub fn write_register(&mut self, board: &Board) -> Result<u64, BoardFault>
         requires table { self.old.table ≡ board.now.table }

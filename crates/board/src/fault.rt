@@ -13,7 +13,7 @@ pub enum BoardFault {
     /// The register is at its limit.
     #[error("B3 RegisterFull")]
     RegisterFull,
-    /// An allocation failed.
+    /// Memory ran out.
     #[error("O1 OutOfMemory")]
     OutOfMemory,
 }

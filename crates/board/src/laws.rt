@@ -1,12 +1,5 @@
 //! Laws of the definitions: what the rule that all steps keep means for voters and clients.
-ghost use Rattle.quorum_set.specs.Coteries.{QuorumSystem, IsCoterie};
-ghost use Rattle.board.specs.Quorums.{AllMeet};
 ghost use Rattle.board.specs.VotesKept.{OneInside, VotesAreKept};
-
-/// Any two quorums of a coterie have a common member, also one with itself.
-pub fn coteries_meet()
-    ensures { (s : QuorumSystem) → IsCoterie s → AllMeet s.voters s.quorums }
-{}
 
 /// Between any two steps the words, the register and all seats agree. A voter's word is free exactly where its seat has no
 /// current grant, and else names that grant. A client holds a vote by a grant exactly where the voter's word says so, and

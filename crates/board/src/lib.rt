@@ -52,6 +52,6 @@ mod voter;
 pub use board::{Board, Total};
 pub use client::ClientSeat;
 pub use fault::BoardFault;
-pub use laws::{coteries_meet, one_client_inside, votes_are_kept};
+pub use laws::{one_client_inside, votes_are_kept};
 pub use root::BoardRoot;
 pub use voter::VoterSeat;

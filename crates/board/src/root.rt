@@ -2,7 +2,7 @@
 ghost use Rattle.std.specs.Prelude.{◌≡◌, ◌≢◌, ℕ, ◌+◌, ◌-◌, ◌<◌, ◌≤◌, ◌++◌, [], length, true, false, None, IsSome, MatchOption, MatchResult, IfOk, IfErr, slice_index, slice_index_or, slice_set};
 ghost use Rattle.board.specs.Faults.{IsOut};
 ghost use Rattle.board.specs.Roots.{passes_of};
-ghost use Rattle.board.specs.Seats.{BoardState, RootState, VoterState, ClientState};
+ghost use Rattle.board.specs.Seats.{BoardState, RootState, VoterSeatState, ClientSeatState};
 ghost use Rattle.board.specs.Views.{voter_view, client_view, without_voter, without_client, with_voter};
 ghost use Rattle.board.specs.Words.{nobody};
 

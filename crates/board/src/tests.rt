@@ -1,6 +1,6 @@
 ghost use Rattle.std.specs.Prelude.{◌≡◌, ◌≢◌, ◌<◌, ◌∷◌, [], length, Some, IsSome, IfOk, MatchResult, slice_index};
 ghost use Rattle.board.specs.Quorums.{quorum_at, HoldsAll};
-ghost use Rattle.board.specs.Seats.{BoardState, ClientState, VoterState};
+ghost use Rattle.board.specs.Seats.{BoardState, ClientSeatState, VoterSeatState};
 
 use super::*;
 use quorum_set::{Coterie, QSet};

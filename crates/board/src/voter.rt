@@ -1,7 +1,7 @@
 //! The seat of a voter: it grants its vote, and settles the grant.
 ghost use Rattle.std.specs.Prelude.{◌≡◌, ◌⊎◌, ℕ, ◌+◌, ◌<◌, ◌≤◌, ◌^◌, [], None, Some, IsSome, MatchBool};
 ghost use Rattle.board.specs.Roots.{IsCurrent};
-ghost use Rattle.board.specs.Seats.{BoardState, VoterState};
+ghost use Rattle.board.specs.Seats.{BoardState, VoterSeatState};
 ghost use Rattle.board.specs.Views.{voter_view};
 
 use crate::board::Board;
@@ -9,7 +9,7 @@ use crate::table::{Grant, Settle, View, VoteTable};
 use atomic_table::Seat;
 use std::marker::Model;
 
-/// The one right to grant a voter's vote. It may be moved to a thread. Contracts see a `VoterState`.
+/// The one right to grant a voter's vote. It may be moved to a thread. Contracts see a `VoterSeatState`.
 #[derive(Drop)]
 pub struct VoterSeat {
     pub(crate) seat: Seat<(), View>,
@@ -21,10 +21,10 @@ pub struct VoterSeat {
 impl Model for VoterSeat {
     ghost use Rattle.std.specs.Prelude.{◌≡◌, ◌+◌, ◌<◌, []};
     ghost use Rattle.board.specs.Roots.{IsCurrent};
-    ghost use Rattle.board.specs.Seats.{VoterState};
+    ghost use Rattle.board.specs.Seats.{VoterSeatState};
     ghost use Rattle.board.specs.Views.{voter_view};
 
-    ghost Value = { VoterState };
+    ghost Value = { VoterSeatState };
 
     ghost view = { λ s. record { table = s.seat.table_id; voter = s.voter; current = s.current; last = s.last } };
 

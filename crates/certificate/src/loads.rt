@@ -1,5 +1,5 @@
 //! Sums of weights: on the quorums with a voter, and within a quorum.
-ghost use Rattle.std.specs.Prelude.{◌≡◌, ◌<◌, ◌≤◌, length, sum, All, SomeIff};
+ghost use Rattle.std.specs.Prelude.{◌≡◌, ◌<◌, ◌≤◌, ◌^◌, length, sum, All, SomeIff};
 ghost use Rattle.quorum_set.specs.Coteries.{IsCoterie};
 ghost use Rattle.quorum_set.specs.Counts.{greatest_below};
 ghost use Rattle.certificate.specs.Loads.{weight_on, weight_within, least_of};
@@ -23,10 +23,10 @@ pub(crate) fn total(weights: &[u64]) -> Option<u64>
     Some(total)
 }
 
-/// The weight that lies on the quorums with this voter.
-fn weight_on(coterie: &Coterie, weights: &[u64], voter: u8) -> u64
+/// The sum of the weights of the quorums with this voter. There is a weight for each quorum, and their sum is below 2^64.
+pub fn weight_on(coterie: &Coterie, weights: &[u64], voter: u8) -> u64
     requires lengths { length weights.now ≡ length coterie.now.quorums }
-    requires small { sum weights.now ≤ 1000000 }
+    requires fits { sum weights.now < 2 ^ 64 }
     ensures weight { result ≡ weight_on voter coterie.now.quorums weights.now }
     ensures small { result ≤ sum weights.now }
 {

@@ -134,7 +134,7 @@ impl Plan {
         (self.busiest / common, self.cycle_len / common)
     }
 
-    /// The weight of a quorum: how often a cycle names it.
+    /// The weight of a quorum, whose number is below the number of quorums: how often a cycle names it.
     pub fn weight(&self, j: usize) -> u64
         requires { j < length self.now.system.quorums }
         ensures value { result ≡ slice_index self.now.quorum_weights j }
@@ -143,7 +143,7 @@ impl Plan {
         self.quorum_weights[j]
     }
 
-    /// The weight of a voter in the certificate.
+    /// The weight in the certificate of a voter, whose number is below the number of voters.
     pub fn voter_weight(&self, i: u8) -> u64
         requires { i < self.now.system.voters }
         ensures value { result ≡ slice_index self.now.voter_weights i }

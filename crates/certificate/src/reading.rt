@@ -27,8 +27,8 @@ fn place_of(bytes: &[u8], mark: u8) -> Option<usize>
     bytes.iter().position(|b| *b == mark)
 }
 
-/// What stands before and behind the first such byte.
-fn cut(bytes: &[u8], mark: u8) -> Option<(&[u8], &[u8])>
+/// What stands before and behind the first byte that is the mark, where there is one.
+pub fn cut(bytes: &[u8], mark: u8) -> Option<(&[u8], &[u8])>
     ensures { option_map (λ x. (x.0.now, x.1.now)) result ≡ cut_at mark bytes.now }
 {
     match place_of(bytes, mark) {

@@ -1,7 +1,8 @@
 -- What a member keeps over its calls.
-use Rattle.std.proofs.Common.{◌≡◌, ◌≢◌, ◌⊎◌, inl, inr, ⊎_elim, ℕ, zero, suc, replicate, ◌<◌, ◌≤◌, Bool, true, false, true≢false, not, ◌&&◌, Option, None, Some, List, [], ◌∷◌, Result, Ok, Err, refl, sym, ap, ◌∙◌, subst, length}
+use Rattle.std.proofs.Common.{◌≡◌, ◌≢◌, inr, ℕ, zero, suc, replicate, ◌<◌, ◌≤◌, Bool, true, false, true≢false, not, ◌&&◌, Option, None, Some, List, [], ◌∷◌, Result, Ok, Err, refl, sym, ap, ◌∙◌, subst, length, arith}
 use Rattle.std.specs.Prelude.{slice_index, filter, ◌==◌}
 use Rattle.std.proofs.lemmas.Grind.{same_number_lists}
+use Rattle.std.proofs.lemmas.List.{length_push}
 use Rattle.message.specs.declared.message.ToClient.{ToClient}
 use Rattle.message.specs.declared.message.ClientBody.{ClientBody}
 use Rattle.message.specs.declared.message.ClientBody.TheVariants as tells
@@ -12,32 +13,43 @@ use Rattle.requester.specs.declared.state.Phase.TheVariants.{Idle, Asking, Insid
 use Rattle.requester.specs.declared.state.Seen.{Seen}
 use Rattle.requester.specs.declared.state.Seen.TheVariants.{Nothing, Entered, Left}
 use Rattle.requester.specs.Held.{HoldsNothing}
+use Rattle.requester.proofs.ContractLemmas.{met-step}
+use Rattle.requester.proofs.SoundSteps.{sound-step}
+use Rattle.requester.proofs.VoteLemmas.{asked_holds_nothing, given_up_holds_nothing, idle_holds_nothing, left_holds_nothing}
+use Rattle.requester.specs.RequesterContract.{Sees}
 use Rattle.requester.specs.Soundness.{IsSound}
-use Rattle.requester.specs.Steps.{Outcome, Cause, Asks, Takes, Leaves, GivesUp, ask, ask_in, ask_unless, asked, give_up, give_up_in, leave, leave_in, step, take, take_body, see, locked, locked_by, enter_if, hold, is_fresh, failed, failed_by, fail, inquired, inquired_by, relinquish, relinquish_if, relinquish_each}
+use Rattle.requester.specs.Steps.{Outcome, Asks, Takes, Leaves, GivesUp, ask, ask_in, ask_unless, asked, give_up, give_up_in, leave, leave_in, step, take, take_body, see, locked, locked_by, enter_if, hold, is_fresh, failed, failed_by, fail, inquired, inquired_by, relinquish, relinquish_if, relinquish_each}
 use Rattle.requester.specs.Words.{is_idle, is_asking, is_inside, is_spent, is_current, is_covered, is_inquired, is_hindered, is_member, holds, holds_under, members}
-use Rattle.board.specs.Seats.{ClientState as SeatState}
+use Rattle.board.specs.Seats.{BoardState, ClientSeatState as SeatState}
 use Rattle.board.specs.Quorums.{quorum_at}
 use Rattle.board.specs.Words.{nobody}
-use Rattle.dealer.specs.Offices.{ClerkState}
+use Rattle.board.specs.declared.fault.BoardFault.{BoardFault}
+use Rattle.board.specs.declared.fault.BoardFault.TheVariants.{OutOfMemory, RegisterFull}
+use Rattle.dealer.specs.declared.receipt.Receipt.{Receipt}
+use Rattle.quorum_set.specs.Sets.{IsSet}
+use Rattle.cluster.specs.Mail.{IsMail}
+use Rattle.cluster.specs.declared.fault.ClusterFault.{ClusterFault}
+use Rattle.cluster.specs.declared.fault.ClusterFault.TheVariants as refuses
+use Rattle.dealer.specs.Offices.{ClerkState, share_of}
 use Rattle.cluster.specs.Clusters.{ClusterState}
 use Rattle.cluster.specs.Votes.{HoldsWithin, HoldsFewer}
-use Rattle.cluster.specs.Members.{IsMember}
+use Rattle.cluster.specs.Members.{IsMember, with_receipt}
 
 -- Steps
 
-pub of_ask : (x : ClientState) (q : List ℕ) (o : Outcome) → ask x q ≡ Ok o → step x (Asks q) ≡ Ok o
+of_ask : (x : ClientState) (q : List ℕ) (o : Outcome) → ask x q ≡ Ok o → step x (Asks q) ≡ Ok o
 unfolding step
 of_ask x q o e = e
 
-pub of_take : (x : ClientState) (m : ToClient) (o : Outcome) → take x m ≡ o → step x (Takes m) ≡ Ok o
+of_take : (x : ClientState) (m : ToClient) (o : Outcome) → take x m ≡ o → step x (Takes m) ≡ Ok o
 unfolding step
 of_take x m o e = ap Ok e
 
-pub of_leave : (x : ClientState) (o : Outcome) → leave x ≡ Ok o → step x Leaves ≡ Ok o
+of_leave : (x : ClientState) (o : Outcome) → leave x ≡ Ok o → step x Leaves ≡ Ok o
 unfolding step
 of_leave x o e = e
 
-pub of_give_up : (x : ClientState) (o : Outcome) → give_up x ≡ Ok o → step x GivesUp ≡ Ok o
+of_give_up : (x : ClientState) (o : Outcome) → give_up x ≡ Ok o → step x GivesUp ≡ Ok o
 unfolding step
 of_give_up x o e = e
 
@@ -163,13 +175,47 @@ seen_in (Some s) = s
 pub seen_is : (a b : Seen) → Some a ≡ Some b → a ≡ b
 seen_is a b e = ap seen_in e
 
-pub never_left : (x : ClientState) (m : ToClient) (o : Outcome) → take x m ≡ o → o.seen ≡ Left → ⊥
+never_left : (x : ClientState) (m : ToClient) (o : Outcome) → take x m ≡ o → o.seen ≡ Left → ⊥
 never_left x m o e left = true≢false (sym (ap is_left left) ∙ sym (ap (λ (p : Outcome). is_left p.seen) e) ∙ stays_seen x m)
+
+-- What a client is once it took a message that names it
+pub record Took (x : ClientState) (m : ToClient) (o : Outcome) : Type 0 where
+  pub sound : IsSound o.state
+  pub id : o.state.id ≡ x.id
+  pub quorum : (members o.state ≡ members x) × (is_idle o.state.phase ≡ is_idle x.phase)
+  pub sees : Sees x.phase o.seen o.state.phase
+  pub stays : o.seen ≢ Left
+
+pub took : (board : BoardState) (x : ClientState) (m : ToClient) (o : Outcome) (id : ℕ) → IsSound x → IsMail board id m → id ≡ x.id → board.voters ≤ 64 → take x m ≡ o → Took x m o
+took board x m o id sound mail is few e =
+    let s = of_take x m o e in
+    let accepts : (m.client ≡ x.id) × (m.voter < 64) = (mail.client_is ∙ is, omega (arith, mail.voter, few)) in
+    let meets = met-step x (Takes m) o sound accepts s in
+    record { sound = sound-step x (Takes m) o sound accepts s; id = meets.id; quorum = meets.quorum; sees = meets.seen; stays = never_left x m o e }
+
+-- What a client is once it left, or gave its request up
+pub record Ended (x : ClientState) (o : Outcome) : Type 0 where
+  pub sound : IsSound o.state
+  pub id : o.state.id ≡ x.id
+  pub idle : is_idle o.state.phase ≡ true
+  pub nothing : HoldsNothing o.state
+
+pub ended_by_leaving : (x : ClientState) (o : Outcome) → IsSound x → leave x ≡ Ok o → Ended x o
+ended_by_leaving x o sound e =
+    let s = of_leave x o e in
+    let meets = met-step x Leaves o sound tt s in
+    record { sound = sound-step x Leaves o sound tt s; id = meets.id; idle = meets.quorum.1; nothing = left_holds_nothing x o e }
+
+pub ended_by_giving_up : (x : ClientState) (o : Outcome) → IsSound x → give_up x ≡ Ok o → Ended x o
+ended_by_giving_up x o sound e =
+    let s = of_give_up x o e in
+    let meets = met-step x GivesUp o sound tt s in
+    record { sound = sound-step x GivesUp o sound tt s; id = meets.id; idle = meets.quorum.1; nothing = given_up_holds_nothing x o e }
 
 -- Votes
 
 -- both hold nothing
-pub no_votes : (xs ys : List ℕ) → length xs ≡ 64 → length ys ≡ 64 → ((v : ℕ) → slice_index xs v ≡ 0) → ((v : ℕ) → slice_index ys v ≡ 0) → xs ≡ ys
+no_votes : (xs ys : List ℕ) → length xs ≡ 64 → length ys ≡ 64 → ((v : ℕ) → slice_index xs v ≡ 0) → ((v : ℕ) → slice_index ys v ≡ 0) → xs ≡ ys
 no_votes xs ys wide same_width empty none_held = same_number_lists xs ys (wide ∙ sym same_width) (λ k lt. empty k ∙ sym (none_held k))
 
 pub holds_none : (voters : ℕ) (held : List ℕ) → held ≡ nobody → HoldsWithin voters held
@@ -183,21 +229,84 @@ holds_none voters held e = λ v some. absurd (some (ap (λ l. slice_index l v) e
 pub holds_fewer : (y : ClientState) (seat : List ℕ) → HoldsNothing y → HoldsFewer y.held seat
 holds_fewer y seat nothing = λ v. inr (nothing v)
 
+-- a clerk that draws keeps its share
+share_drawn : (k : ClerkState) (r : Receipt) → 0 < k.rest → share_of (with_receipt k r) ≡ share_of k
+share_drawn k r some = omega (arith, some, length_push k.receipts r)
+
 -- The member after a step of its client
 
-pub next_member : (c : ClusterState) (x : ClientState) (seat : SeatState) (clerk : ClerkState) (quorum : ℕ) → IsMember c x seat clerk quorum
+next_member : (c : ClusterState) (x : ClientState) (seat : SeatState) (clerk : ClerkState) (quorum : ℕ) → IsMember c x seat clerk quorum
     → (y : ClientState) → IsSound y → y.id ≡ x.id
     → (after : SeatState) → after.table ≡ seat.table → after.client ≡ seat.client → after.held ≡ y.held → HoldsWithin c.board.voters after.held
-    → (drawn : ClerkState) → drawn.office ≡ clerk.office
+    → (drawn : ClerkState) → drawn.office ≡ clerk.office → share_of drawn ≡ share_of clerk
     → (number : ℕ) → (is_idle y.phase ≡ false → (number < length c.board.quorums) × (members y ≡ quorum_at c.board.quorums number))
     → IsMember c y after drawn number
-next_member c x seat clerk quorum r y sound id after table client held within drawn office number asks = record {
+next_member c x seat clerk quorum r y sound id after table client held within drawn office share number asks = record {
   sound = sound;
   client = id ∙ r.client ∙ sym client;
   inside = subst (λ n. n < c.board.clients) (sym client) r.inside;
   table = table ∙ r.table;
   office = office ∙ r.office;
+  share = share ∙ r.share;
   held = held;
   within = within;
   asks = asks;
 }
+
+module _ (c : ClusterState) (x : ClientState) (seat : SeatState) (clerk : ClerkState) (quorum : ℕ) (r : IsMember c x seat clerk quorum) where
+  -- its seat and a sound client have a place for each voter
+  pub both_places : (y : ClientState) → IsSound y → (length seat.held ≡ 64) × (length y.held ≡ 64)
+  both_places y sound = (ap length r.held ∙ r.sound.places.held, sound.places.held)
+
+  -- it asked the quorum of this number, and its clerk keeps the receipt
+  pub asked_member : (q : List ℕ) (o : Outcome) → ask x q ≡ Ok o → is_idle x.phase ≡ true → IsSet q → 1 ≤ length q
+      → (drawn : ClerkState) (receipt : Receipt) → drawn ≡ with_receipt clerk receipt → 0 < clerk.rest
+      → receipt.quorum < length c.board.quorums → q ≡ quorum_at c.board.quorums receipt.quorum
+      → IsMember c o.state seat drawn receipt.quorum
+  asked_member q o e idle set some drawn receipt kept left in_range is =
+      let s = of_ask x q o e in
+      let sound = sound-step x (Asks q) o r.sound (set, some) s in
+      let meets = met-step x (Asks q) o r.sound (set, some) s in
+      let held = r.held ∙ no_votes x.held o.state.held r.sound.places.held sound.places.held (idle_holds_nothing x r.sound idle) (asked_holds_nothing x q o e) in
+      next_member c x seat clerk quorum r o.state sound meets.id seat refl refl held r.within
+      drawn (ap (λ (k : ClerkState). k.office) kept) (ap share_of kept ∙ share_drawn clerk receipt left) receipt.quorum (λ busy. (in_range, meets.quorum ∙ is))
+
+  -- its client took a message
+  pub took_member : (m : ToClient) (o : Outcome) → Took x m o
+      → (after : SeatState) → after.table ≡ seat.table → after.client ≡ seat.client → after.held ≡ o.state.held → HoldsWithin c.board.voters after.held
+      → IsMember c o.state after clerk quorum
+  took_member m o t after table client held within =
+      next_member c x seat clerk quorum r o.state t.sound t.id after table client held within clerk refl refl quorum
+      (λ busy. let asks = r.asks (sym t.quorum.1 ∙ busy) in (asks.0, t.quorum.0 ∙ asks.1))
+
+  -- its client ended its request
+  pub ended_member : (o : Outcome) → Ended x o
+      → (after : SeatState) → after.table ≡ seat.table → after.client ≡ seat.client → after.held ≡ o.state.held → HoldsWithin c.board.voters after.held
+      → IsMember c o.state after clerk quorum
+  ended_member o e after table client held within =
+      next_member c x seat clerk quorum r o.state e.sound e.id after table client held within clerk refl refl quorum
+      (λ busy. absurd (true≢false (sym e.idle ∙ busy)))
+
+-- What is answered for a fault of the board
+
+abbrev fault_in : Result ℕ ClusterFault → BoardFault
+fault_in (Err (refuses.Board e)) = e
+fault_in (Err e) = OutOfMemory
+fault_in (Ok x) = OutOfMemory
+
+pub board_fault : (r : Result ℕ ClusterFault) (a b : BoardFault) → r ≡ Err (refuses.Board a) → r ≡ Err (refuses.Board b) → a ≡ b
+board_fault r a b first second = ap fault_in (sym first ∙ second)
+
+abbrev is_answer : Result ℕ ClusterFault → Bool
+is_answer (Ok x) = true
+is_answer (Err e) = false
+
+pub not_refused : (r : Result ℕ ClusterFault) (x : ℕ) (e : ClusterFault) → r ≡ Ok x → r ≡ Err e → ⊥
+not_refused r x e fine refused = true≢false (ap is_answer (sym fine ∙ refused))
+
+abbrev is_full : Result ℕ BoardFault → Bool
+is_full (Err RegisterFull) = true
+is_full r = false
+
+pub full_or_not : (r : Result ℕ BoardFault) (e : BoardFault) → r ≡ Err RegisterFull → r ≡ Err e → e ≡ OutOfMemory → ⊥
+full_or_not r e full is other = true≢false (ap is_full (sym full ∙ is ∙ (λ i. Err (other i))))

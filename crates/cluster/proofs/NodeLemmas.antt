@@ -1,5 +1,5 @@
 -- What a node keeps over a message.
-use Rattle.std.proofs.Common.{◌≡◌, ◌⊎◌, inl, inr, ⊎_elim, ℕ, ◌+◌, ◌<◌, ◌≤◌, ◌^◌, Bool, true, false, true≢false, List, [], ◌∷◌, ◌++◌, Option, Some, None, IsSome, IfSome, refl, sym, ap, ◌∙◌, subst, arith, is_some}
+use Rattle.std.proofs.Common.{◌≡◌, inl, inr, ⊎_elim, ℕ, ◌+◌, ◌<◌, ◌≤◌, ◌^◌, Bool, true, false, true≢false, List, [], ◌∷◌, ◌++◌, Option, Some, None, IfSome, refl, sym, ap, ◌∙◌, subst, arith, is_some}
 use Rattle.std.specs.Prelude.{option_map}
 use Rattle.std.specs.List.{All}
 use Rattle.std.proofs.lemmas.List.Elements.{All-push}
@@ -10,9 +10,9 @@ use Rattle.voter.specs.declared.state.Grant.{Grant}
 use Rattle.voter.specs.declared.state.VoterState.{VoterState}
 use Rattle.voter.specs.Replies.{CarrySeen}
 use Rattle.voter.specs.Steps.{Outcome, IsSound, start, step, effect_of, effect_by, is_ended}
-use Rattle.voter.specs.VoteMoves.{VoteMoves, GrantStays, GrantEnds, GrantIsNew}
+use Rattle.voter.specs.VoteMoves.{VoteMoves}
 use Rattle.voter.specs.VoterContract.{MeetsContract, IsEntry, Brings}
-use Rattle.board.specs.Seats.{BoardState, VoterState as SeatState}
+use Rattle.board.specs.Seats.{BoardState, VoterSeatState as SeatState}
 use Rattle.cluster.specs.Nodes.{IsNode, IsFor, run, next, seat_grant, settled, offered, offered_by}
 
 run-push : (v : Option VoterState) (log : List ToVoter) (m : ToVoter) → run v (log ++ m ∷ []) ≡ next (run v log) m

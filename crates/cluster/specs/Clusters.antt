@@ -1,5 +1,5 @@
 -- Clusters, as contracts see them.
-use Rattle.std.specs.Prelude.{◌≡◌, ℕ, ◌+◌, ◌*◌, ◌^◌, ◌≤◌, [], List, false, nat_lt, slice_index_or}
+use Rattle.std.specs.Prelude.{◌≡◌, ℕ, ◌+◌, ◌*◌, ◌^◌, ◌≤◌, [], false, nat_lt, slice_index_or}
 use Rattle.board.specs.Seats.{BoardState, RootState}
 use Rattle.dealer.specs.Offices.{OfficeName, OfficeState, ClerkState}
 

@@ -1,5 +1,5 @@
 -- Members of a cluster, as contracts see them, and what their calls do.
-use Rattle.std.specs.Prelude.{◌≡◌, ◌≢◌, ◌⊎◌, ℕ, ◌-◌, ◌^◌, ◌<◌, ◌≤◌, ◌++◌, ◌∷◌, [], Bool, true, false, List, None, Ok, length}
+use Rattle.std.specs.Prelude.{◌≡◌, ◌⊎◌, ℕ, ◌-◌, ◌^◌, ◌<◌, ◌++◌, ◌∷◌, [], true, false, List, Option, None, Ok, All, length}
 use Rattle.message.specs.declared.message.ToClient.{ToClient}
 use Rattle.requester.specs.declared.fault.ClientFault.{ClientFault}
 use Rattle.requester.specs.declared.fault.ClientFault.TheVariants.{Busy, NotInside as Outside, NotAsking, StampsSpent}
@@ -10,24 +10,29 @@ use Rattle.requester.specs.Soundness.{IsSound}
 use Rattle.requester.specs.Steps.{Outcome, ask, start, take, would_hold}
 use Rattle.requester.specs.Words.{is_idle, is_inside, is_spent, members}
 use Rattle.board.specs.declared.fault.BoardFault.TheVariants.{SeatsOut, VoteOut, RegisterFull, OutOfMemory as NoPlace}
-use Rattle.board.specs.Seats.{BoardState, ClientState as SeatState}
+use Rattle.board.specs.Seats.{BoardState, ClientSeatState as SeatState}
 use Rattle.board.specs.Quorums.{quorum_at}
 use Rattle.board.specs.Words.{nobody}
 use Rattle.dealer.specs.declared.fault.DealFault.TheVariants.{QuotaSpent, OutOfMemory as NoRoom}
 use Rattle.dealer.specs.declared.receipt.Receipt.{Receipt}
-use Rattle.dealer.specs.Offices.{ClerkState}
+use Rattle.dealer.specs.Offices.{ClerkState, share_of}
 use Rattle.cluster.specs.declared.fault.ClusterFault.{ClusterFault}
 use Rattle.cluster.specs.declared.fault.ClusterFault.TheVariants as refuses
 use Rattle.cluster.specs.Clusters.{ClusterState}
 use Rattle.cluster.specs.Mail.{IsMail}
 use Rattle.cluster.specs.Votes.{HoldsWithin}
 
--- a member: its client, its seat on the board, its clerk, and how many messages it lost
+-- a member: its client, its seat on the board, its clerk, how many messages it lost, and why its work ended early when it was last driven
 pub record MemberState : Type 0 where
   pub requester : ClientState
   pub seat : SeatState
   pub clerk : ClerkState
   pub lost : ℕ
+  pub fault : Option ClusterFault
+
+-- each of these members is idle
+abbrev pub AreIdle : List MemberState → Type 0
+AreIdle members = All (λ m. is_idle m.requester.phase ≡ true) members
 
 -- The client is of this cluster, and the votes that it holds are those that its seat holds. While a request runs, its quorum is the one of this number
 pub record IsMember (c : ClusterState) (x : ClientState) (seat : SeatState) (clerk : ClerkState) (quorum : ℕ) : Type 0 where
@@ -36,6 +41,7 @@ pub record IsMember (c : ClusterState) (x : ClientState) (seat : SeatState) (cle
   pub inside : seat.client < c.board.clients
   pub table : seat.table ≡ c.board.table
   pub office : clerk.office ≡ c.office
+  pub share : share_of clerk ≡ c.quota
   pub held : seat.held ≡ x.held
   pub within : HoldsWithin c.board.voters seat.held
   pub asks : is_idle x.phase ≡ false → (quorum < length c.board.quorums) × (members x ≡ quorum_at c.board.quorums quorum)
@@ -47,6 +53,7 @@ fresh_member c client = record {
   seat = record { table = c.board.table; client = client; held = nobody; reading = None; passes = [] };
   clerk = record { office = c.office; rest = c.quota; receipts = [] };
   lost = 0;
+  fault = None;
 }
 
 -- the client afterwards is what the definition of its step makes of it, and this is seen
@@ -77,6 +84,7 @@ RefusesAsk m (refuses.Deal QuotaSpent) = (is_idle m.requester.phase ≡ true) ×
 RefusesAsk m (refuses.Deal NoRoom) = (is_idle m.requester.phase ≡ true) × (is_spent m.requester ≡ false) × (0 < m.clerk.rest)
 RefusesAsk m (refuses.Board e) = ⊥
 RefusesAsk m refuses.NotInside = ⊥
+RefusesAsk m (refuses.TurnsSpent c) = ⊥
 
 -- what a member asks from: it is idle, and a stamp and a ticket are left
 abbrev pub MayAsk : MemberState → Type 0
@@ -99,3 +107,4 @@ RefusesPass m (refuses.Board (SeatsOut k)) = ⊥
 RefusesPass m (refuses.Board (VoteOut v)) = ⊥
 RefusesPass m (refuses.Client e) = ⊥
 RefusesPass m (refuses.Deal e) = ⊥
+RefusesPass m (refuses.TurnsSpent c) = ⊥

@@ -1,12 +1,12 @@
 -- Nodes: a voter, the messages that it took, and its seat on the board.
-use Rattle.std.specs.Prelude.{◌≡◌, ◌⊎◌, ℕ, ◌^◌, ◌<◌, ◌≤◌, Bool, true, false, List, [], ◌∷◌, Option, None, Some, option_map}
+use Rattle.std.specs.Prelude.{◌≡◌, ℕ, ◌^◌, ◌<◌, ◌≤◌, Bool, true, false, List, [], ◌∷◌, Option, None, Some, option_map}
 use Rattle.std.specs.List.{All}
 use Rattle.message.specs.declared.message.ToVoter.{ToVoter}
 use Rattle.voter.specs.declared.state.Grant.{Grant}
 use Rattle.voter.specs.declared.state.VoterState.{VoterState}
-use Rattle.voter.specs.Steps.{Outcome, IsSound, start, step}
+use Rattle.voter.specs.Steps.{IsSound, start, step}
 use Rattle.voter.specs.VoterContract.{IsEntry}
-use Rattle.board.specs.Seats.{BoardState, VoterState as SeatState}
+use Rattle.board.specs.Seats.{BoardState, VoterSeatState as SeatState}
 
 -- a node: its voter, the messages that the voter took, in order, and the voter's number
 pub record NodeState : Type 0 where

@@ -4,13 +4,13 @@ ghost use Rattle.std.specs.List.{range_with_len};
 ghost use Rattle.board.specs.Seats.{BoardState, RootState};
 ghost use Rattle.dealer.specs.Offices.{ClerkState};
 ghost use Rattle.cluster.specs.Clusters.{ClusterState, IsCluster};
-ghost use Rattle.cluster.specs.Members.{fresh_member};
+ghost use Rattle.cluster.specs.Members.{AreIdle, fresh_member};
 
+use crate::cluster::{Cluster, Left};
 use crate::mailbox::Mailbox;
 use crate::member::Member;
 use crate::name::ClusterName;
 use crate::node::Node;
-use crate::running::{Cluster, Left};
 use board::{Board, BoardRoot};
 use certificate::Plan;
 use dealer::{Clerk, Cycle, Office};
@@ -156,6 +156,7 @@ impl Blank {
     ) -> Result<(Cluster<N>, Vec<Member<N>>), AllocError>
         requires { self ≡ N.cluster }
         ensures members { IfOk result (λ opened. opened.1.items ≡ map (fresh_member N.cluster) (range_with_len 0 N.cluster.board.clients)) }
+        ensures idle { IfOk result (λ opened. AreIdle opened.1.items) }
     {
         let Blank {
             board,

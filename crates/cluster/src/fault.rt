@@ -19,4 +19,7 @@ pub enum ClusterFault {
     /// It is not inside.
     #[error("K1 NotInside")]
     NotInside,
+    /// This client's turns are spent.
+    #[error("K2 TurnsSpent {0}")]
+    TurnsSpent(u8),
 }

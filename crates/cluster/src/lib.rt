@@ -8,6 +8,8 @@
 //! - A mailbox has the messages to one client, first in, first out, behind a lock.
 //! - A [`Member`] is a client with its seat on the board and its clerk. One thread at a time drives it:
 //!   [`Member::ask`], [`Member::pump`] until it answers `Entered`, [`Member::pass`] as often as it likes, [`Member::leave`].
+//! - [`Cluster::close`] takes the members back, once all are idle, and answers the [`RunRecord`]: who drew which ticket, who
+//!   passed by which number, and the register.
 //!
 //! Votes are taken and given back on the board, one atomic word for each voter, so that no two members are ever inside,
 //! whatever messages come. A member gives a vote back before the message goes out that says so.
@@ -21,15 +23,15 @@
 //! fn once<N: ClusterName>(rt: &impl Wait, alloc: Global, blank: Blank) -> Result<Option<u64>, AllocError>
 //!     requires { blank ≡ N.cluster }
 //! {
-//!     let (cluster, members) = blank.open::<N>(alloc)?;
-//!     for mut member in members {
-//!         let receipt = member.ask(rt, &cluster); // ticket 0, and the quorum that it names
-//!         for _ in 0..3 {
-//!             member.pump(rt, &cluster); // the votes come, and with the last one Entered
-//!         }
-//!         return Ok(member.pass(&cluster).ok()); // pass number 0
+//!     let (cluster, mut members) = blank.open::<N>(alloc)?;
+//!     let Some(mut member) = members.pop() else {
+//!         return Ok(None);
+//!     };
+//!     let receipt = member.ask(rt, &cluster); // ticket 0, and the quorum that it names
+//!     for _ in 0..3 {
+//!         member.pump(rt, &cluster); // the votes come, and with the last one Entered
 //!     }
-//!     Ok(None)
+//!     Ok(member.pass(&cluster).ok()) // pass number 0
 //! }
 //! // once::<Brand>(rt, alloc, Blank::new(alloc, plan, 1, 100)?)
 //! ```
@@ -38,29 +40,40 @@
 //!
 //! Whenever a node's lock is free, its voter is what its definition makes of the log, and its seat has the voter's current
 //! grant. Whenever no call of a member runs, its client's votes are those that its seat holds; the client changes by its
-//! definition alone. Each refusal comes exactly where this page's calls say. Nothing is said of which messages a mailbox
-//! delivers, of waiting or of progress: a message may be lost for want of memory, and [`Member::lost`] counts it. Which
-//! lock is whose is tested when it is taken, and not proved.
+//! definition alone. Each refusal comes exactly where this page's calls say.
+//!
+//! A record has each member's draws and passes, and no others; its tickets and its numbers are 0, 1, 2 and so on, each ticket
+//! names its quorum by the plan's cycle, and the register is the number of passes.
+//!
+//! Nothing is said of which messages a mailbox delivers, of waiting or of progress: a message may be lost for want of memory,
+//! and [`Member::lost`] counts it. Which lock is whose is tested when it is taken, and not proved; that a cluster closes whose
+//! members are all back and idle is tested too.
 //!
 //! This crate stands on `board`, `dealer`, `voter`, `requester`, `message`, `certificate` and `quorum_set`.
 #![tactic(auto)]
 
 mod blank;
+mod close;
+#[cfg(test)]
+mod close_tests;
+mod cluster;
 mod fault;
+mod laws;
 mod mailbox;
 mod member;
 mod name;
 mod node;
 mod record;
-mod running;
 #[cfg(test)]
 mod tests;
 mod votes;
 
 pub use blank::Blank;
+pub use close::CloseFault;
+pub use cluster::Cluster;
 pub use fault::ClusterFault;
+pub use laws::{records_are_in_range, records_count_passes};
 pub use member::Member;
 pub use name::ClusterName;
 pub use node::Node;
 pub use record::RunRecord;
-pub use running::Cluster;

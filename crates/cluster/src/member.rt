@@ -1,24 +1,26 @@
 //! Members of a cluster, each of which a thread drives.
 ghost use Rattle.std.specs.Prelude.{◌≡◌, ◌≢◌, ◌⊎◌, ℕ, ◌<◌, ◌≤◌, ◌^◌, [], true, false, None, Some, Ok, Err, IfOk, IfErr, IfSome, length, slice_index_or};
+ghost use Rattle.std.specs.List.{All};
 ghost use Rattle.board.specs.Quorums.{quorum_at};
-ghost use Rattle.board.specs.Seats.{BoardState, ClientState};
-ghost use Rattle.dealer.specs.Offices.{ClerkState, receipt_of};
+ghost use Rattle.board.specs.Seats.{BoardState, ClientSeatState};
+ghost use Rattle.board.specs.declared.fault.BoardFault.{BoardFault};
+ghost use Rattle.dealer.specs.Offices.{AreByCycle, ClerkState, receipt_of};
 ghost use Rattle.requester.specs.Soundness.{IsSound};
 ghost use Rattle.requester.specs.Steps.{Outcome, give_up, leave};
 ghost use Rattle.requester.specs.Words.{is_asking, is_idle, is_inside, is_spent};
 ghost use Rattle.cluster.specs.Clusters.{ClusterState};
 ghost use Rattle.cluster.specs.Members.{MemberState, MayAsk, Asked, Pumped, RefusesStart, RefusesAsk, RefusesPass, fresh_member, with_receipt, with_pass};
+ghost use Rattle.cluster.specs.Votes.{HoldsFewer, HoldsWithin};
 
+use crate::cluster::Cluster;
 use crate::fault::ClusterFault;
 use crate::name::ClusterName;
-use crate::running::Cluster;
 use crate::votes::{accept, give_back};
+use arrayvec::ArrayVec;
 use board::ClientSeat;
 use dealer::{Clerk, Receipt};
-use requester::{
-    ClientFault, Phase, Requester, Seen, phases_tell_votes, requesters_meet_the_contract,
-    requesters_stay_sound,
-};
+use message::ToVoter;
+use requester::{ClientFault, Messages, Phase, Requester, Seen};
 use std::marker::{Model, PhantomData};
 use std::sync::Wait;
 
@@ -33,8 +35,12 @@ pub struct Member<N: ClusterName> {
     pub(crate) seat: ClientSeat,
     pub(crate) clerk: Clerk,
     pub(crate) lost: u64,
+    /// Why its work ended early when it was last driven.
+    pub(crate) fault: Option<ClusterFault>,
     /// The number of the quorum of the current or last request.
     pub(crate) quorum: usize,
+    /// What its client sent last. It stands here so that no step has to make room for it.
+    pub(crate) out: Messages,
     pub(crate) of: PhantomData<N>,
 }
 
@@ -48,7 +54,7 @@ impl<N: ClusterName> Model for Member<N> {
 
     ghost coded = { Prim.hlevel (codes, known.the_row.coded) };
 
-    ghost view = { λ m. record { requester = m.requester; seat = m.seat; clerk = m.clerk; lost = m.lost } };
+    ghost view = { λ m. record { requester = m.requester; seat = m.seat; clerk = m.clerk; lost = m.lost; fault = m.fault } };
 
     ghost invariant = { λ m. IsMember N.cluster m.requester m.seat m.clerk m.quorum };
 }
@@ -67,6 +73,29 @@ fn may_ask(requester: &Requester) -> Result<(), ClientFault>
     Ok(())
 }
 
+/// Ends a step of a client: gives back the votes that it holds no longer, and then sends what it tells the voters. Adds the
+/// messages that are lost.
+fn finish<N: ClusterName>(
+    rt: &impl Wait,
+    cluster: &Cluster<N>,
+    requester: &Requester,
+    out: &[ToVoter],
+    seat: &mut ClientSeat,
+    lost: &mut u64,
+)
+    requires table { seat.old.table ≡ N.cluster.board.table }
+    requires places { (length seat.old.held ≡ 64) × (length requester.now.held ≡ 64) }
+    requires within { HoldsWithin N.cluster.board.voters seat.old.held }
+    requires fewer { HoldsFewer requester.now.held seat.old.held }
+    ensures held { seat.new.held ≡ requester.now.held }
+    ensures within { HoldsWithin N.cluster.board.voters seat.new.held }
+    ensures same { (seat.new.table ≡ seat.old.table) × (seat.new.client ≡ seat.old.client) × (seat.new.passes ≡ seat.old.passes) }
+{
+    give_back(seat, &cluster.board, requester);
+    let more = cluster.send(rt, out);
+    *lost = lost.saturating_add(more);
+}
+
 impl<N: ClusterName> Member<N> {
     /// The member of a seat that holds no vote and has not passed, and of a clerk.
     pub(crate) fn new(seat: ClientSeat, clerk: Clerk) -> Member<N>
@@ -76,20 +105,22 @@ impl<N: ClusterName> Member<N> {
         requires clerk { clerk ≡ (fresh_member N.cluster seat.client).clerk }
         ensures { result ≡ fresh_member N.cluster seat.client }
     {
-        requesters_stay_sound();
         Member {
             requester: Requester::new(seat.client(), STAMPS),
             seat,
             clerk,
             lost: 0,
+            fault: None,
             quorum: 0,
+            out: ArrayVec::new(),
             of: PhantomData,
         }
     }
 
-    /// The client's number.
+    /// The client's number, below that of the clients.
     pub fn client(&self) -> u8
-        ensures { result ≡ self.now.requester.id }
+        ensures value { result ≡ self.now.requester.id }
+        ensures in_range { self.now.requester.id < N.cluster.board.clients }
     {
         self.requester.id()
     }
@@ -108,9 +139,25 @@ impl<N: ClusterName> Member<N> {
         self.lost
     }
 
-    /// The receipts of its tickets, in the order of its requests.
+    /// Why its work ended early when it was last driven, as [`Member::ends_by`] kept it. None where it did not, or where the
+    /// member was never driven.
+    pub fn fault(&self) -> Option<ClusterFault>
+        ensures { result ≡ self.now.fault }
+    {
+        self.fault
+    }
+
+    /// Keeps why a drive ended its work early; None where it did not.
+    pub fn ends_by(&mut self, fault: Option<ClusterFault>)
+        ensures { self.new ≡ record self.old { fault = fault } }
+    {
+        self.fault = fault;
+    }
+
+    /// The receipts of its tickets, in the order of its requests. Each names the quorum of its ticket.
     pub fn receipts(&self) -> &[Receipt]
-        ensures { result.now ≡ self.now.clerk.receipts }
+        ensures value { result.now ≡ self.now.clerk.receipts }
+        ensures quorums { AreByCycle N.cluster.office.cycle self.now.clerk.receipts }
     {
         self.clerk.receipts()
     }
@@ -134,10 +181,8 @@ impl<N: ClusterName> Member<N> {
         ensures refused { IfErr result (RefusesAsk self.old) }
         ensures kept { IfErr result (λ _. self.new ≡ self.old) }
         ensures client { self.new.requester.id ≡ self.old.requester.id }
+        ensures fault { self.new.fault ≡ self.old.fault }
     {
-        phases_tell_votes();
-        requesters_meet_the_contract();
-        requesters_stay_sound();
         match may_ask(&self.requester) {
             Ok(()) => {}
             Err(fault) => return Err(ClusterFault::Client(fault)),
@@ -146,11 +191,12 @@ impl<N: ClusterName> Member<N> {
             Ok(receipt) => receipt,
             Err(fault) => return Err(ClusterFault::Deal(fault)),
         };
-        let Ok(reply) = self.requester.ask(cluster.quorum(receipt.quorum)) else {
+        let quorum = cluster.quorum(receipt.quorum);
+        let Ok(_) = self.requester.ask_into(quorum, &mut self.out) else {
             unreachable!()
         };
         self.quorum = receipt.quorum;
-        let lost = cluster.send(rt, reply.out.as_slice());
+        let lost = cluster.send(rt, self.out.as_slice());
         self.lost = self.lost.saturating_add(lost);
         Ok(receipt)
     }
@@ -162,23 +208,28 @@ impl<N: ClusterName> Member<N> {
         ensures entered { result ≡ Some Seen.Entered → (is_inside self.old.requester.phase ≡ false) × (is_inside self.new.requester.phase ≡ true) }
         ensures stays { result ≡ Some Seen.Nothing → is_inside self.new.requester.phase ≡ is_inside self.old.requester.phase }
         ensures not_left { result ≢ Some Seen.Left }
+        ensures busy { is_idle self.new.requester.phase ≡ is_idle self.old.requester.phase }
         ensures empty { result ≡ None → self.new ≡ self.old }
         ensures clerk { self.new.clerk ≡ self.old.clerk }
         ensures passes { self.new.seat.passes ≡ self.old.seat.passes }
         ensures client { self.new.requester.id ≡ self.old.requester.id }
+        ensures fault { self.new.fault ≡ self.old.fault }
     {
-        requesters_meet_the_contract();
-        requesters_stay_sound();
         let message = cluster.next(rt, self.requester.id())?;
         if !accept(&mut self.seat, &cluster.board, &self.requester, &message) {
             self.lost = self.lost.saturating_add(1);
             return Some(Seen::Nothing);
         }
-        let reply = self.requester.take(&message);
-        give_back(&mut self.seat, &cluster.board, &self.requester);
-        let lost = cluster.send(rt, reply.out.as_slice());
-        self.lost = self.lost.saturating_add(lost);
-        Some(reply.seen)
+        let seen = self.requester.take_into(&message, &mut self.out);
+        finish(
+            rt,
+            cluster,
+            &self.requester,
+            self.out.as_slice(),
+            &mut self.seat,
+            &mut self.lost,
+        );
+        Some(seen)
     }
 
     /// Leaves: gives each vote back, and then sends RELEASE to each member of its quorum. Refused unless it is inside; a
@@ -192,16 +243,19 @@ impl<N: ClusterName> Member<N> {
         ensures clerk { self.new.clerk ≡ self.old.clerk }
         ensures passes { self.new.seat.passes ≡ self.old.seat.passes }
         ensures client { self.new.requester.id ≡ self.old.requester.id }
+        ensures fault { self.new.fault ≡ self.old.fault }
     {
-        phases_tell_votes();
-        requesters_meet_the_contract();
-        requesters_stay_sound();
-        let Ok(reply) = self.requester.leave() else {
+        let Ok(_) = self.requester.leave_into(&mut self.out) else {
             return Err(ClusterFault::NotInside);
         };
-        give_back(&mut self.seat, &cluster.board, &self.requester);
-        let lost = cluster.send(rt, reply.out.as_slice());
-        self.lost = self.lost.saturating_add(lost);
+        finish(
+            rt,
+            cluster,
+            &self.requester,
+            self.out.as_slice(),
+            &mut self.seat,
+            &mut self.lost,
+        );
         Ok(())
     }
 
@@ -216,16 +270,19 @@ impl<N: ClusterName> Member<N> {
         ensures clerk { self.new.clerk ≡ self.old.clerk }
         ensures passes { self.new.seat.passes ≡ self.old.seat.passes }
         ensures client { self.new.requester.id ≡ self.old.requester.id }
+        ensures fault { self.new.fault ≡ self.old.fault }
     {
-        phases_tell_votes();
-        requesters_meet_the_contract();
-        requesters_stay_sound();
-        let Ok(reply) = self.requester.give_up() else {
+        let Ok(_) = self.requester.give_up_into(&mut self.out) else {
             return Err(ClusterFault::Client(ClientFault::NotAsking));
         };
-        give_back(&mut self.seat, &cluster.board, &self.requester);
-        let lost = cluster.send(rt, reply.out.as_slice());
-        self.lost = self.lost.saturating_add(lost);
+        finish(
+            rt,
+            cluster,
+            &self.requester,
+            self.out.as_slice(),
+            &mut self.seat,
+            &mut self.lost,
+        );
         Ok(())
     }
 
@@ -244,17 +301,21 @@ impl<N: ClusterName> Member<N> {
         self.lost = self.lost.saturating_add(sent).saturating_add(told);
     }
 
-    /// Passes: reads the register, writes one more, and keeps and answers the number that it read. Refused unless it is
-    /// inside, where the register is at its limit, and for want of memory. A refusal of the board leaves a reading in the
-    /// seat, and changes nothing else.
+    /// Passes: reads the register, writes one more, and keeps and answers the number that it read, which is above each that
+    /// it keeps. Refused unless it is inside, where the register is at its limit, and for want of memory. A refusal of the
+    /// board leaves a reading in the seat, and changes nothing else.
     pub fn pass(&mut self, cluster: &Cluster<N>) -> Result<u64, ClusterFault>
         ensures passed { IfOk result (λ x. self.new ≡ record self.old { seat = with_pass self.old.seat x }) }
         ensures may { IfOk result (λ _. is_inside self.old.requester.phase ≡ true) }
+        ensures above { IfOk result (λ x. All (λ y. y < x) self.old.seat.passes) }
         ensures refused { IfErr result (RefusesPass self.old) }
+        ensures full { result ≡ Err (ClusterFault.Board BoardFault.RegisterFull) → (j : ℕ) × (self.new.seat.reading ≡ Some (j, N.cluster.board.limit)) }
+        ensures room { result ≡ Err (ClusterFault.Board BoardFault.OutOfMemory) → (j : ℕ) × (x : ℕ) × (self.new.seat.reading ≡ Some (j, x)) × (x ≢ N.cluster.board.limit) }
         ensures outside { result ≡ Err ClusterFault.NotInside → self.new ≡ self.old }
         ensures requester { self.new.requester ≡ self.old.requester }
         ensures clerk { self.new.clerk ≡ self.old.clerk }
-        ensures kept { IfErr result (λ _. self.new.seat.passes ≡ self.old.seat.passes) }
+        ensures fault { self.new.fault ≡ self.old.fault }
+        ensures kept { IfErr result (λ _. self.new ≡ record self.old { seat = record self.old.seat { reading = self.new.seat.reading } }) }
     {
         if self.requester.phase() != Phase::Inside {
             return Err(ClusterFault::NotInside);

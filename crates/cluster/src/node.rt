@@ -121,6 +121,24 @@ impl<N: ClusterName> Node<N> {
         Ok(Some(replies))
     }
 
+    /// Its seat on the board, with the current grant settled where its vote is not taken.
+    pub(crate) fn into_seat(self, board: &Board) -> VoterSeat
+        requires { board.now ≡ N.cluster.board }
+        ensures table { result.table ≡ N.cluster.board.table }
+        ensures voter { result.voter < N.cluster.board.voters }
+    {
+        let Node {
+            voter: _,
+            log: _,
+            mut seat,
+            of: _,
+        } = self;
+        if seat.current().is_some() {
+            seat.settle(board);
+        }
+        seat
+    }
+
     /// What to tell the holder of the vote again, for messages that were lost.
     pub fn remind(&self) -> Replies
         ensures { result.items ≡ remind self.now.voter }

@@ -33,7 +33,7 @@ fn majority_plan(alloc: Global) -> Result<Option<Plan>, Fail> {
 }
 
 /// A cluster of three voters and so many clients, each of which may draw four tickets.
-fn majority_blank(alloc: Global, clients: u8) -> Result<Option<Blank>, Fail>
+pub(crate) fn majority_blank(alloc: Global, clients: u8) -> Result<Option<Blank>, Fail>
     requires least { 1 ≤ clients }
     requires most { clients ≤ 64 }
 {
@@ -45,7 +45,7 @@ fn majority_blank(alloc: Global, clients: u8) -> Result<Option<Blank>, Fail>
 
 /// What a member is called for, and what it has to answer.
 #[derive(Clone, Copy)]
-enum Act {
+pub(crate) enum Act {
     Ask(u64, usize),
     Pump(Option<Seen>),
     Remind,
@@ -75,7 +75,7 @@ fn does<N: ClusterName>(
 }
 
 /// How many acts of a script are answered as they have to be, before the first that is not.
-fn plays<N: ClusterName>(
+pub(crate) fn plays<N: ClusterName>(
     rt: &impl Wait,
     cluster: &Cluster<N>,
     members: &mut [Member<N>],
@@ -198,10 +198,11 @@ fn refuses<N: ClusterName>(rt: &impl Wait, alloc: Global, blank: Blank) -> Resul
     for mut member in members {
         let fresh = member.client() == 0 && member.phase() == Phase::Idle;
         let passed = member.pass(&cluster) == Err(ClusterFault::NotInside);
+        let nothing_came = member.pump(rt, &cluster).is_none();
         let left = member.leave(rt, &cluster) == Err(ClusterFault::NotInside);
         let gave_up = member.give_up(rt, &cluster)
             == Err(ClusterFault::Client(ClientFault::NotAsking));
-        return Ok(fresh && passed && left && gave_up);
+        return Ok(fresh && passed && nothing_came && left && gave_up);
     }
     Ok(false)
 }

@@ -1,6 +1,6 @@
 //! The votes of a member, on the board.
 ghost use Rattle.std.specs.Prelude.{◌≡◌, ◌≢◌, ◌⊎◌, ℕ, ◌<◌, true, false, length, slice_index};
-ghost use Rattle.board.specs.Seats.{BoardState, ClientState};
+ghost use Rattle.board.specs.Seats.{BoardState, ClientSeatState};
 ghost use Rattle.requester.specs.Soundness.{IsSound};
 ghost use Rattle.requester.specs.Steps.{take, would_hold};
 ghost use Rattle.requester.specs.Words.{held_of};

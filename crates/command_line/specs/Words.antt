@@ -1,5 +1,5 @@
 -- The command line.
-use Rattle.std.specs.Prelude.{◌≡◌, ℕ, ◌≤◌, List, [], ◌∷◌, Option, None, Some, Ok, codes, true, false, unwrap_or, ⊤}
+use Rattle.std.specs.Prelude.{◌≡◌, ℕ, ◌≤◌, ◌^◌, List, [], ◌∷◌, Option, None, Some, Ok, codes, true, false, unwrap_or, ⊤}
 use Rattle.std.specs.Str.Parse.{ParsesUnsigned}
 use Rattle.clap.specs.Words.{App, Row, Rule, Text, all_of, first_of, new_app, new_rule, with_rule, with_subcommand}
 use Rattle.clap.specs.declared.builder.value_parser.ValueParser.TheVariants.{Unsigned}
@@ -8,7 +8,7 @@ use Rattle.clap.specs.declared.builder.range.ValueRange.{ValueRange}
 use Rattle.clap.specs.declared.builder.command.Command.{Command as Parser}
 use Rattle.clap.specs.declared.builder.command.Command.TheViews.{out-Command}
 use Rattle.command_line.specs.declared.command.Command.{Command}
-use Rattle.command_line.specs.declared.command.Command.TheVariants.{Check, Deal, Make, Plan, World}
+use Rattle.command_line.specs.declared.command.Command.TheVariants.{Check, Deal, Make, Plan, Replay, Run, World}
 use Rattle.command_line.specs.declared.command.Shape.{Shape}
 use Rattle.command_line.specs.declared.command.Shape.TheVariants.{Cyclic, Grid, Majority, Tree, Wheel}
 
@@ -42,6 +42,22 @@ deal_app = with_rule (new_app (codes "deal")) tickets_rule
 abbrev pub world_app : App
 world_app = new_app (codes "world")
 
+-- for `run` how many clients, how often each passes, and how many turns each has
+abbrev pub clients_rule : Rule
+clients_rule = record (new_rule (codes "CLIENTS")) { required = true; parser = Some (Unsigned 1 64) }
+
+abbrev pub passes_rule : Rule
+passes_rule = record (new_rule (codes "PASSES")) { required = true; parser = Some (Unsigned 0 1000) }
+
+abbrev pub turns_rule : Rule
+turns_rule = record (new_rule (codes "TURNS")) { required = true; parser = Some (Unsigned 0 (10 ^ 12)) }
+
+abbrev pub run_app : App
+run_app = with_rule (with_rule (with_rule (new_app (codes "run")) clients_rule) passes_rule) turns_rule
+
+abbrev pub replay_app : App
+replay_app = new_app (codes "replay")
+
 abbrev pub required_subcommand : App → App
 required_subcommand a = record a { top = record a.top { subcommand_required = true } }
 
@@ -51,12 +67,19 @@ planning_app = with_subcommand (with_subcommand (required_subcommand (new_app (c
 abbrev pub dealing_app : App
 dealing_app = with_subcommand (with_subcommand planning_app check_app.top) deal_app.top
 
+abbrev pub running_app : App
+running_app = with_subcommand (with_subcommand dealing_app world_app.top) run_app.top
+
 abbrev pub qlock_app : App
-qlock_app = with_subcommand dealing_app world_app.top
+qlock_app = with_subcommand running_app replay_app.top
 
 -- the text is a numeral of n
 abbrev pub IsNumber : List ℕ → ℕ → Type 0
 IsNumber text n = ParsesUnsigned {E = ℕ} 32 10 text (Ok n)
+
+-- the value of the argument with this name is a numeral of n, which goes from the least to the most
+abbrev pub HasNumber : Text → ℕ → ℕ → List Row → ℕ → Type 0
+HasNumber name least most rows n = ((text : List ℕ) × (first_of name rows ≡ Some text) × ParsesUnsigned {E = ℕ} 64 10 text (Ok n)) × (least ≤ n) × (n ≤ most)
 
 -- the texts are numerals of the sizes, which are at most 9999
 abbrev pub AreSizes : List Text → List ℕ → Type 0
@@ -86,6 +109,12 @@ IsNamedBy (Some used) (Make shape) =
 IsNamedBy (Some used) Plan = used.0 ≡ codes "plan"
 IsNamedBy (Some used) Check = used.0 ≡ codes "check"
 IsNamedBy (Some used) World = used.0 ≡ codes "world"
+IsNamedBy (Some used) Replay = used.0 ≡ codes "replay"
+IsNamedBy (Some used) (Run clients passes turns) =
+    (used.0 ≡ codes "run")
+    × HasNumber (codes "CLIENTS") 1 64 used.1 clients
+    × HasNumber (codes "PASSES") 0 1000 used.1 passes
+    × HasNumber (codes "TURNS") 0 (10 ^ 12) used.1 turns
 IsNamedBy (Some used) (Deal n) = (used.0 ≡ codes "deal") × ((text : List ℕ) × (first_of (codes "N") used.1 ≡ Some text) × IsNumber text n) × (n ≤ 100000)
 
 -- no argument of the parser is meant for its subcommands too

@@ -28,4 +28,15 @@ pub enum Command {
     Deal(u32),
     /// Run a script of clients and voters by a plan, and say what its steps did.
     World,
+    /// Run clients in threads, each of which passes so often, and write the record of what they did.
+    Run {
+        /// How many clients there are: 1 to 64.
+        clients: u8,
+        /// How often each of them passes: 0 to 1000.
+        passes: u64,
+        /// How many turns each of them has for all its passes: 0 to 10^12.
+        turns: u64,
+    },
+    /// Check the record of a run by its plan, and count how often each voter was named.
+    Replay,
 }

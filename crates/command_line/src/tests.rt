@@ -22,7 +22,7 @@ fn command_text(alloc: Global, words: &[&str]) -> Result<String, AllocError> {
 #[test]
 fn words_name_commands(rt: HostRuntime) -> Result<(), Fail> {
     let alloc = rt.alloc();
-    let table: [(&[&str], &str); 24] = [
+    let table: [(&[&str], &str); 39] = [
         (&["deal", "5"], "Deal(5)"),
         (&["deal", "0"], "Deal(0)"),
         (&["deal", "100000"], "Deal(100000)"),
@@ -49,6 +49,27 @@ fn words_name_commands(rt: HostRuntime) -> Result<(), Fail> {
         (&["check", "5"], "refused"),
         (&["world"], "World"),
         (&["world", "script"], "refused"),
+        (
+            &["run", "1", "0", "0"],
+            "Run { clients: 1, passes: 0, turns: 0 }",
+        ),
+        (
+            &["run", "64", "1000", "1000000000000"],
+            "Run { clients: 64, passes: 1000, turns: 1000000000000 }",
+        ),
+        (&["run", "0", "1", "1"], "refused"),
+        (&["run", "65", "1", "1"], "refused"),
+        (&["run", "256", "1", "1"], "refused"),
+        (&["run", "1", "1001", "1"], "refused"),
+        (&["run", "1", "1", "1000000000001"], "refused"),
+        (&["run", "1", "1", "18446744073709551616"], "refused"),
+        (&["run", "3", "passes", "1"], "refused"),
+        (&["run", "3", "4"], "refused"),
+        (&["run", "3", "4", "5", "6"], "refused"),
+        (&["run"], "refused"),
+        (&["replay"], "Replay"),
+        (&["replay", "record"], "refused"),
+        (&["Replay"], "refused"),
         (&[], "refused"),
     ];
     for (words, want) in &table {

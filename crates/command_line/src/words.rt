@@ -1,7 +1,7 @@
 //! The command line: which command its words name.
 ghost use Rattle.std.specs.Prelude.{◌≡◌, ◌<◌, ◌≤◌, [], length, slice_index_or, false, IfOk, IfSome, Some, codes, map, string_bytes};
 ghost use Rattle.clap.specs.Words.{app_of, first_of, found_of, rows_of, rule_of, subcommand_of, subcommand_rows_of};
-ghost use Rattle.command_line.specs.Words.{AreSizes, IsLocal, IsNamedBy, IsNumber, IsShapeOf, check_app, deal_app, dealing_app, make_app, plan_app, planning_app, qlock_app, shape_rule, size_texts, sizes_rule, world_app};
+ghost use Rattle.command_line.specs.Words.{AreSizes, HasNumber, IsLocal, IsNamedBy, IsNumber, IsShapeOf, check_app, clients_rule, deal_app, dealing_app, make_app, passes_rule, plan_app, planning_app, qlock_app, replay_app, run_app, running_app, shape_rule, size_texts, sizes_rule, turns_rule, world_app};
 
 use crate::command::{Command, Shape};
 use crate::usage::Usage;
@@ -11,6 +11,15 @@ use std::alloc::{AllocError, Global};
 
 /// The most tickets that one call deals.
 const MOST_TICKETS: u64 = 100_000;
+
+/// The most clients that run.
+const MOST_CLIENTS: u64 = 64;
+
+/// The most passes of each client that runs.
+const MOST_PASSES: u64 = 1_000;
+
+/// The most turns that a client is given for all its passes.
+const MOST_TURNS: u64 = 1_000_000_000_000;
 
 /// The greatest size of a shape that the command line takes.
 const LARGEST_SIZE: u64 = 9_999;
@@ -89,6 +98,63 @@ fn world_command<'a>(alloc: Global) -> clap::Command<'a>
     )
 }
 
+/// CLIENTS, 1 to 64.
+fn clients_argument<'a>(alloc: Global) -> Arg<'a>
+    ensures rule { rule_of result ≡ clients_rule }
+    ensures local { result.global ≡ false }
+{
+    Arg::new(alloc, "CLIENTS")
+        .help("How many clients there are, 1 to 64")
+        .required(true)
+        .value_parser(ValueParser::unsigned(1, MOST_CLIENTS))
+}
+
+/// PASSES, 0 to 1000.
+fn passes_argument<'a>(alloc: Global) -> Arg<'a>
+    ensures rule { rule_of result ≡ passes_rule }
+    ensures local { result.global ≡ false }
+{
+    Arg::new(alloc, "PASSES")
+        .help("How often each client passes, 0 to 1000")
+        .required(true)
+        .value_parser(ValueParser::unsigned(0, MOST_PASSES))
+}
+
+/// TURNS, 0 to 10^12.
+fn turns_argument<'a>(alloc: Global) -> Arg<'a>
+    ensures rule { rule_of result ≡ turns_rule }
+    ensures local { result.global ≡ false }
+{
+    Arg::new(alloc, "TURNS")
+        .help("How many turns each client has for all its passes, 0 to 1000000000000")
+        .required(true)
+        .value_parser(ValueParser::unsigned(0, MOST_TURNS))
+}
+
+/// `run CLIENTS PASSES TURNS`.
+fn run_command<'a>(alloc: Global) -> Result<clap::Command<'a>, AllocError>
+    ensures app { IfOk result (λ c. app_of c ≡ run_app) }
+    ensures local { IfOk result IsLocal }
+{
+    clap::Command::new(alloc, "run")
+        .about(
+            "Run clients in threads, and write their record: standard input has the coterie, a line %%, and the plan",
+        )
+        .arg(clients_argument(alloc))?
+        .arg(passes_argument(alloc))?
+        .arg(turns_argument(alloc))
+}
+
+/// `replay`, which has no arguments.
+fn replay_command<'a>(alloc: Global) -> clap::Command<'a>
+    ensures app { app_of result ≡ replay_app }
+    ensures local { IsLocal result }
+{
+    clap::Command::new(alloc, "replay").about(
+        "Check the record of a run: standard input has the coterie, a line %%, the plan, a line %%, and the record",
+    )
+}
+
 /// The command line with the commands that make and plan.
 fn planning_command<'a>(alloc: Global) -> Result<clap::Command<'a>, AllocError>
     ensures { IfOk result (λ c. app_of c ≡ planning_app) }
@@ -111,11 +177,20 @@ fn dealing_command<'a>(alloc: Global) -> Result<clap::Command<'a>, AllocError>
         .subcommand(deal_command(alloc)?)
 }
 
+/// The command line with those, and with the commands that run the lock.
+fn running_command<'a>(alloc: Global) -> Result<clap::Command<'a>, AllocError>
+    ensures { IfOk result (λ c. app_of c ≡ running_app) }
+{
+    dealing_command(alloc)?
+        .subcommand(world_command(alloc))?
+        .subcommand(run_command(alloc)?)
+}
+
 /// The whole command line.
 fn qlock_command<'a>(alloc: Global) -> Result<clap::Command<'a>, AllocError>
     ensures { IfOk result (λ c. app_of c ≡ qlock_app) }
 {
-    dealing_command(alloc)?.subcommand(world_command(alloc))
+    running_command(alloc)?.subcommand(replay_command(alloc))
 }
 
 /// The size that a text is, where it is a number and not too large.
@@ -216,6 +291,39 @@ fn deal_of(used: &ArgMatches) -> Result<Command, Usage>
     }
 }
 
+/// The number that an argument is, where it goes from the least to the most.
+fn number_of(used: &ArgMatches, name: &str, least: u64, most: u64) -> Option<u64>
+    ensures { IfSome result (HasNumber name.now least most (rows_of (found_of used.now))) }
+{
+    let Some(text) = used.get_str(name) else {
+        return None;
+    };
+    match text.parse::<u64>() {
+        Ok(number) if least <= number && number <= most => Some(number),
+        _ => None,
+    }
+}
+
+/// `run` with its numbers.
+fn run_of(used: &ArgMatches) -> Result<Command, Usage>
+    ensures { IfOk result (IsNamedBy (Some (codes "run", rows_of (found_of used.now)))) }
+{
+    let Some(clients) = number_of(used, "CLIENTS", 1, MOST_CLIENTS) else {
+        return Err(Usage::Arguments);
+    };
+    let Some(passes) = number_of(used, "PASSES", 0, MOST_PASSES) else {
+        return Err(Usage::Arguments);
+    };
+    let Some(turns) = number_of(used, "TURNS", 0, MOST_TURNS) else {
+        return Err(Usage::Arguments);
+    };
+    Ok(Command::Run {
+        clients: clients as u8,
+        passes,
+        turns,
+    })
+}
+
 /// The command that the subcommand in use and its values name.
 fn command_of(alloc: Global, matches: &ArgMatches) -> Result<Command, Usage>
     ensures { IfOk result (IsNamedBy (subcommand_rows_of matches.now)) }
@@ -229,11 +337,17 @@ fn command_of(alloc: Global, matches: &ArgMatches) -> Result<Command, Usage>
     if matches.subcommand_matches("world").is_some() {
         return Ok(Command::World);
     }
+    if matches.subcommand_matches("replay").is_some() {
+        return Ok(Command::Replay);
+    }
     if let Some(used) = matches.subcommand_matches("make") {
         return make_of(alloc, used);
     }
     if let Some(used) = matches.subcommand_matches("deal") {
         return deal_of(used);
+    }
+    if let Some(used) = matches.subcommand_matches("run") {
+        return run_of(used);
     }
     Err(Usage::Arguments)
 }

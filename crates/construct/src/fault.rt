@@ -19,7 +19,7 @@ pub enum ConstructFault {
     /// The shifted sets are no coterie: two of them are disjoint, or one lies within another. This comes from `cyclic` alone.
     #[error(transparent)]
     Coterie(CoterieFault),
-    /// No memory was left. This may come at any point.
+    /// Memory ran out. This may come at any point.
     #[error("O1 OutOfMemory")]
     OutOfMemory,
 }

@@ -1,7 +1,6 @@
 -- Lemmas on the text that is written.
-use Rattle.std.proofs.Common.{◌≡◌, ℕ, ◌+◌, ◌<◌, List, [], ◌∷◌, ◌++◌, length, map, get_or, drop, sym, refl, ap, ◌∙◌, arith, append_assoc, codes, flat_map, slice_get, Some}
+use Rattle.std.proofs.Common.{◌≡◌, ℕ, ◌<◌, List, [], ◌∷◌, ◌++◌, length, map, sym, refl, ap, ◌∙◌, arith, append_assoc, codes, flat_map, slice_get, Some}
 use Rattle.std.specs.List.{join_by}
-use Rattle.std.proofs.lemmas.List.{drop_more}
 use Rattle.std.proofs.lemmas.Option.{get_or_from_slice_get}
 use Rattle.coterie_file.specs.Names.{name_at}
 use Rattle.coterie_file.specs.Writing.{quoted, name_list}
@@ -24,11 +23,6 @@ name_list-joined text (x ∷ xs) some =
     sym (append_assoc (text x ++ R) (codes "\"") (codes "]"))
     ∙ ap (λ t. t ++ codes "]") (append_assoc (text x) R (codes "\"") ∙ ap (λ t. text x ++ t) (later_names text xs) ∙ sym (append_assoc (text x) (codes "\"") Q))
     )
-
--- one more line
-pub line_more : (f : List ℕ → List ℕ) (qs : List (List ℕ)) (j : ℕ) (text all : List ℕ) → j < length qs → text ++ flat_map f (drop j qs) ≡ all → (text ++ f (get_or qs j [])) ++ flat_map f (drop (j + 1) qs) ≡ all
-line_more f qs j text all lt e =
-    append_assoc text (f (get_or qs j [])) (flat_map f (drop (j + 1) qs)) ∙ ap (λ ls. text ++ flat_map f ls) (sym (drop_more qs j [] lt)) ∙ e
 
 -- the name that was found at a place
 pub name_at-found : (names : List (List ℕ)) (i : ℕ) (name : List ℕ) → slice_get names i ≡ Some name → name_at names i ≡ name

@@ -31,7 +31,7 @@ pub enum FileFault {
     /// The quorums are no coterie.
     #[error(transparent)]
     Coterie(CoterieFault),
-    /// No memory was left. This may come at any point.
+    /// Memory ran out. This may come at any point.
     #[error("O1 OutOfMemory")]
     OutOfMemory,
 }

@@ -20,10 +20,10 @@ mod laws;
 mod lists;
 mod named;
 mod names;
-mod read;
+mod reading;
 #[cfg(test)]
 mod tests;
-mod write;
+mod writing;
 
 pub use fault::FileFault;
 pub use laws::{
@@ -31,5 +31,5 @@ pub use laws::{
     quorums_have_the_listed_voters, texts_read_as_coteries,
 };
 pub use named::Named;
-pub use read::read_coterie;
-pub use write::write_coterie;
+pub use reading::read_coterie;
+pub use writing::write_coterie;

@@ -69,7 +69,7 @@ impl Named {
         &self.coterie
     }
 
-    /// The name of the voter with this number.
+    /// The name of the voter with this number, which is below the number of voters.
     pub fn name(&self, i: usize) -> &str
         requires { i < self.now.system.voters }
         ensures value { slice_get self.now.names i ≡ Some result.now }

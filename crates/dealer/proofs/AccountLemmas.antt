@@ -1,12 +1,11 @@
 -- What an account counts.
-use Rattle.std.proofs.Common.{◌≡◌, ℕ, ◌+◌, ◌*◌, ◌%◌, ◌<◌, ◌≤◌, cond, eqb, List, [], ◌∷◌, ◌++◌, length, get_or, drop, map, sum, sum_by, zero, suc, sym, refl, ap, ap₂, ◌∙◌, inl, inr, arith}
+use Rattle.std.proofs.Common.{◌≡◌, ℕ, ◌+◌, ◌*◌, ◌%◌, ◌<◌, ◌≤◌, cond, eqb, List, [], ◌∷◌, ◌++◌, length, get_or, map, sum, sum_by, zero, suc, sym, refl, ap, ap₂, ◌∙◌, inl, inr, arith}
 use Rattle.std.specs.List.{All}
 use Rattle.std.proofs.lemmas.Bool.{cases_lt, ne_eqb}
-use Rattle.std.proofs.lemmas.List.{drop_more, get_or-map, get_or_past, length-map}
+use Rattle.std.proofs.lemmas.List.{get_or-map, get_or_past, length-map}
 use Rattle.std.proofs.lemmas.List.FromFn.{length-map-range_with_len, map-range_with_len_more, get_or-map-range_with_len, fill_by_all}
 use Rattle.std.proofs.lemmas.List.Sums.{sum_by-cons}
 use Rattle.std.proofs.Math.Nat.{le_of_mul-le-mul_right, mod-lt, mul_assoc, mul_comm}
-use Rattle.quorum_set.specs.Sets.{has}
 use Rattle.quorum_set.specs.Coteries.{QuorumSystem}
 use Rattle.quorum_set.specs.Counts.{greatest_below, times, count_of, busiest_of}
 use Rattle.certificate.specs.Certificates.{Weighted, IsCertificate, IsOptimal, cycle_len, busiest_count}
@@ -16,12 +15,6 @@ use Rattle.dealer.specs.Cycles.{cycle_of, quorum_of_ticket}
 use Rattle.dealer.specs.Accounts.{values_below, quorums_named, account_of, IsWholeCycles}
 use Rattle.dealer.proofs.Totals.{total, total-same, total-list, total-periods, length-total, sum_by-each_once}
 use Rattle.dealer.proofs.CycleLemmas.{length-cycle_of, times-cycle_of, times-cons, cycle_of-lt}
-
--- the quorum at place j apart
-pub weight_on_more : (i : ℕ) (quorums : List (List ℕ)) (weights : List ℕ) (j : ℕ) → j < length quorums → j < length weights
-    → weight_on i (drop j quorums) (drop j weights) ≡ cond (has (get_or quorums j []) i) (get_or weights j 0) 0 + weight_on i (drop (j + 1) quorums) (drop (j + 1) weights)
-weight_on_more i quorums weights j in_quorums in_weights =
-    ap₂ (weight_on i) (drop_more quorums j [] in_quorums) (drop_more weights j 0 in_weights)
 
 pub length-values_below : (n : ℕ) (f : ℕ → ℕ) → length (values_below n f) ≡ n
 length-values_below n f = length-map-range_with_len f 0 n

@@ -7,8 +7,8 @@ use Rattle.dealer.specs.Cycles.{quorum_of_ticket}
 use Rattle.dealer.specs.declared.receipt.Receipt.{Receipt}
 use Rattle.dealer.specs.declared.fault.DealFault.{DealFault}
 use Rattle.dealer.specs.declared.fault.DealFault.TheVariants.{QuotaSpent, OutOfMemory as NoRoom}
-use Rattle.dealer.specs.declared.fault.CloseFault.{CloseFault}
-use Rattle.dealer.specs.declared.fault.CloseFault.TheVariants.{ClerksOut, OutOfMemory}
+use Rattle.dealer.specs.declared.fault.OfficeFault.{OfficeFault}
+use Rattle.dealer.specs.declared.fault.OfficeFault.TheVariants.{ClerksOut, OutOfMemory}
 
 -- which office it is: its table of tickets, and the plan of its cycle
 pub record OfficeName : Type 0 where
@@ -48,6 +48,6 @@ RefusesTicket rest QuotaSpent = rest ≡ 0
 RefusesTicket rest NoRoom = 0 < rest
 
 -- why there is no account of an office with this quota, by a clerk with this share of it
-abbrev pub RefusesAccount : ℕ → ℕ → CloseFault → Type 0
+abbrev pub RefusesAccount : ℕ → ℕ → OfficeFault → Type 0
 RefusesAccount quota share (ClerksOut q) = (0 < q) × (share + q ≡ quota)
 RefusesAccount quota share OutOfMemory = share ≡ quota

@@ -5,6 +5,7 @@ ghost use Rattle.certificate.specs.Loads.{weight_on};
 ghost use Rattle.dealer.specs.Accounts.{values_below};
 
 use crate::counts::Counts;
+use certificate::weight_on;
 use quorum_set::Coterie;
 use std::alloc::{AllocError, Global};
 
@@ -21,21 +22,6 @@ pub struct Account {
     pub busiest: u64,
 }
 
-/// How often a voter is named, where each quorum is named as often as `counts` says.
-fn count_of_voter(coterie: &Coterie, counts: &[u64], voter: u8) -> u64
-    requires lengths { length counts.now ≡ length coterie.now.quorums }
-    requires fits { sum counts.now < 2 ^ 64 }
-    ensures { result ≡ weight_on voter coterie.now.quorums counts.now }
-{
-    let mut count = 0;
-    for (j, times) in counts.iter().enumerate() {
-        if coterie.quorum(j).has(voter) {
-            count += *times;
-        }
-    }
-    count
-}
-
 /// How often each voter is named, where each quorum is named as often as `counts` says.
 pub(crate) fn counts_of_voters(
     alloc: Global,
@@ -49,7 +35,7 @@ pub(crate) fn counts_of_voters(
 {
     let mut voters = Vec::with_capacity(alloc, coterie.voters())?;
     for voter in 0..coterie.voters() {
-        voters.push(count_of_voter(coterie, counts, voter as u8))?;
+        voters.push(weight_on(coterie, counts, voter as u8))?;
     }
     Ok(voters)
 }

@@ -54,8 +54,8 @@ impl Clerk {
         &self.receipts
     }
 
-    /// A new clerk of the same office, which may draw `quota` of the tickets that this one might have drawn. Takes no
-    /// memory.
+    /// A new clerk of the same office, which may draw `quota` of the tickets that this one might have drawn, at most its
+    /// rest. The office has to be this clerk's. Takes no memory.
     pub fn split(&mut self, office: &Office, quota: u64) -> Clerk
         requires office { self.old.office ≡ office.now.name }
         requires rest { quota ≤ self.old.rest }
@@ -72,7 +72,7 @@ impl Clerk {
         }
     }
 
-    /// Takes in another clerk of the same office: their rests are added, and the other's receipts follow the own ones. A
+    /// Takes in another clerk, of this office as this one is: their rests are added, and the other's receipts follow the own ones. A
     /// refusal, for want of memory alone, changes nothing and hands the other back.
     pub fn join(&mut self, office: &Office, other: Clerk) -> Result<(), (Clerk, AllocError)>
         requires office { self.old.office ≡ office.now.name }

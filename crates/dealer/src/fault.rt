@@ -8,18 +8,18 @@ pub enum DealFault {
     /// The clerk has drawn all that it may draw.
     #[error("L1 QuotaSpent")]
     QuotaSpent,
-    /// There was no room for the receipt.
+    /// Memory ran out.
     #[error("O1 OutOfMemory")]
     OutOfMemory,
 }
 
 /// Why an office is closed without an account.
 #[derive(Clone, Copy, Debug, PartialEq, Eq, Error)]
-pub enum CloseFault {
+pub enum OfficeFault {
     /// The clerk's receipts and its rest are this many short of the office's quota: other clerks have, or had, them.
     #[error("L2 ClerksOut {0}")]
     ClerksOut(u64),
-    /// There was no room for the account.
+    /// Memory ran out.
     #[error("O1 OutOfMemory")]
     OutOfMemory,
 }
@@ -30,5 +30,5 @@ pub struct Unclosed {
     /// The clerk's receipts, in the order of its draws.
     pub receipts: Vec<Receipt>,
     /// Why there is no account.
-    pub fault: CloseFault,
+    pub fault: OfficeFault,
 }

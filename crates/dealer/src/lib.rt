@@ -62,7 +62,7 @@ pub use account::Account;
 pub use clerk::Clerk;
 pub use counts::Counts;
 pub use cycle::Cycle;
-pub use fault::{CloseFault, DealFault, Unclosed};
+pub use fault::{DealFault, OfficeFault, Unclosed};
 pub use laws::{
     cycles_follow_weights, tickets_below_fill_cycles, tickets_fill_cycles_in_any_order,
     voters_are_counted_by_quorum, whole_cycles_follow_weights,

@@ -10,7 +10,7 @@ ghost use Rattle.dealer.specs.Offices.{receipt_of, tickets_of, share_of, AreByCy
 use crate::account::Account;
 use crate::clerk::Clerk;
 use crate::cycle::Cycle;
-use crate::fault::{CloseFault, DealFault, Unclosed};
+use crate::fault::{DealFault, OfficeFault, Unclosed};
 use crate::laws::tickets_below_fill_cycles;
 use crate::receipt::Receipt;
 use crate::tickets::{Sheet, TicketTable, end, take_ticket};
@@ -67,8 +67,8 @@ fn account_of_all(alloc: Global, cycle: &Cycle, receipts: &[Receipt]) -> Result<
 }
 
 impl Office {
-    /// An office that deals at most `quota` tickets of the cycle, and the clerk that may draw them all. A refusal, for
-    /// want of memory alone, hands the cycle back.
+    /// An office that deals at most `quota` tickets of the cycle, a quota of at most 2^63, and the clerk that may draw them
+    /// all. A refusal, for want of memory alone, hands the cycle back.
     pub fn new(
         alloc: Global,
         cycle: Cycle,
@@ -185,14 +185,14 @@ impl Office {
         end(table, seat);
         let out = sheet.quota - (receipts.len() as u64 + rest);
         if out > 0 {
-            let fault = CloseFault::ClerksOut(out);
+            let fault = OfficeFault::ClerksOut(out);
             return Err(Unclosed { receipts, fault });
         }
         match account_of_all(alloc, &sheet.cycle, &receipts) {
             Ok(account) => Ok((account, receipts)),
             Err(_) => Err(Unclosed {
                 receipts,
-                fault: CloseFault::OutOfMemory,
+                fault: OfficeFault::OutOfMemory,
             }),
         }
     }

@@ -2,7 +2,7 @@
 ghost use Rattle.std.specs.Prelude.{◌≡◌, ◌≤◌, ◌^◌, IfOk, IfSome};
 
 use crate::tests::{majority_cycle, wheel_cycle};
-use crate::{Clerk, CloseFault, DealFault, Office};
+use crate::{Clerk, DealFault, Office, OfficeFault};
 use std::alloc::Global;
 use std::test::Fail;
 use std::thread;
@@ -75,7 +75,7 @@ fn a_clerk_that_is_out_has_to_join_before_the_account(rt: HostRuntime) -> Result
             }
             Err(unclosed) => {
                 assert!(rt; !joins && unclosed.receipts.is_empty());
-                assert_eq!(rt; unclosed.fault, CloseFault::ClerksOut(1));
+                assert_eq!(rt; unclosed.fault, OfficeFault::ClerksOut(1));
             }
         }
     }
@@ -121,7 +121,11 @@ fn faults_are_spelled(rt: HostRuntime) -> Result<(), Fail> {
     let alloc = rt.alloc();
     let text = format!(in alloc; "{}, {}", DealFault::QuotaSpent, DealFault::OutOfMemory)?;
     assert_eq!(rt; text.as_str(), "L1 QuotaSpent, O1 OutOfMemory");
-    let text = format!(in alloc; "{}, {}", CloseFault::ClerksOut(1), CloseFault::OutOfMemory)?;
+    let text = format!(in alloc;
+        "{}, {}",
+        OfficeFault::ClerksOut(1),
+        OfficeFault::OutOfMemory
+    )?;
     assert_eq!(rt; text.as_str(), "L2 ClerksOut 1, O1 OutOfMemory");
     Ok(())
 }

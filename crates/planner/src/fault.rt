@@ -39,7 +39,7 @@ pub enum PlannerFault {
     /// The search ended without a plan, for this cause. Never for a uniform coterie.
     #[error("N1 NoPlan {0}")]
     NoPlan(Cause),
-    /// An allocation failed.
+    /// Memory ran out.
     #[error("O1 OutOfMemory")]
     OutOfMemory,
 }

@@ -54,8 +54,8 @@ fn checked(alloc: Global, coterie: &Coterie, candidate: Candidate, left: u32) ->
     ensures certificate { IfOk result IsCertificate }
     ensures optimal { IfOk result IsOptimal }
 {
-    let mut quorum_weights = candidate.a;
-    let mut voter_weights = candidate.b;
+    let mut quorum_weights = candidate.quorum_weights;
+    let mut voter_weights = candidate.voter_weights;
     divide(&mut quorum_weights);
     divide(&mut voter_weights);
     match check(alloc, coterie, quorum_weights, voter_weights) {
@@ -98,7 +98,7 @@ fn found(alloc: Global, coterie: &Coterie) -> Result<Plan, PlannerFault>
     ensures certificate { IfOk result IsCertificate }
     ensures optimal { IfOk result IsOptimal }
 {
-    let miss = match attempt(alloc, coterie, Rule::GreatestImprovement, PIVOTS) {
+    let miss = match attempt(alloc, coterie, Rule::Dantzig, PIVOTS) {
         Ok(plan) => return Ok(plan),
         Err(miss) => miss,
     };

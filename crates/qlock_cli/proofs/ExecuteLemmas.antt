@@ -1,23 +1,15 @@
 -- Lemmas on what leads to an answer or to a fault.
-use Rattle.std.proofs.Common.{◌≡◌, ℕ, true, List, Option, None, Some, Result, Ok, Err, subst, refl}
+use Rattle.std.proofs.Common.{◌≡◌, ℕ, true, List, Option, None, Some, subst, refl}
 use Rattle.std.specs.Prelude.{IfSome}
-use Rattle.std.specs.Io.KnownBytes.{Appends}
-use Rattle.qlock_cli.specs.Commands.{Answers, ComesOf, Gives, IsAnswer, IsAnswered, IsRefusal, IsRefusedBy, IsShortFor, reads_input}
+use Rattle.qlock_cli.specs.Commands.{ComesOf, IsRefusedBy, IsShortFor, reads_input}
 use Rattle.qlock_cli.specs.Devices.{IsOfReading, IsOwn}
 use Rattle.qlock_cli.specs.declared.fault.Fault.{Fault}
 use Rattle.qlock_cli.specs.declared.fault.Fault.TheVariants as faults
-use Rattle.qlock_cli.specs.declared.fault.Fault.TheVariants.{MissingPart, TooLong, ReadFault, WriteFault, Construct, File, Planner, Replay, OutOfMemory}
+use Rattle.qlock_cli.specs.declared.fault.Fault.TheVariants.{MissingPart, TooLong, ReadFault, WriteFault, Construct, File, Planner, Replay, Cluster, OutOfMemory}
 use Rattle.command_line.specs.declared.command.Command.{Command}
-use Rattle.command_line.specs.declared.command.Command.TheVariants.{Check, Deal, Make, Plan, World}
+use Rattle.command_line.specs.declared.command.Command.TheVariants as commands
+use Rattle.command_line.specs.declared.command.Command.TheVariants.{Check, Deal, Make, Plan, Run, World}
 use Rattle.command_line.specs.declared.command.Shape.{Shape}
-
--- a result that gives the wanted answer is the command's answer, where the wanted one is
-pub answered : {X : Type 0} (view : X → List ℕ) (command : Command) (input : List ℕ) (wanted : Result (List ℕ) Fault) (result : Result X Fault)
-    → ((output : List ℕ) → wanted ≡ Ok output → IsAnswer command input output) → ((fault : Fault) → wanted ≡ Err fault → IsRefusal command input fault)
-    → Gives view result wanted → IsAnswered view command input result
-answered view command input wanted (Ok x) ok err h = ok (view x) h
-answered view command input wanted (Err OutOfMemory) ok err h = tt
-answered view command input wanted (Err fault) ok err h = err fault h
 
 -- a fault of reading comes of what was read
 pub reading_comes : (command : Command) (bytes : Option (List ℕ)) (fault : Fault) → reads_input command ≡ true → IsOfReading bytes fault → IfSome bytes (λ input. ComesOf command input fault)
@@ -32,6 +24,7 @@ reading_comes command (Some input) (File fault) reads h = absurd h
 reading_comes command (Some input) (faults.Plan fault) reads h = absurd h
 reading_comes command (Some input) (Planner fault) reads h = absurd h
 reading_comes command (Some input) (Replay fault) reads h = absurd h
+reading_comes command (Some input) (Cluster fault) reads h = absurd h
 
 -- a fault of the command's own comes of the input
 own_comes : (command : Command) (input : List ℕ) (fault : Fault) → IsOwn fault → IsShortFor command input → IsRefusedBy command input fault → ComesOf command input fault
@@ -45,6 +38,7 @@ own_comes command input (File fault) own short h = (short, h)
 own_comes command input (faults.Plan fault) own short h = (short, h)
 own_comes command input (Planner fault) own short h = (short, h)
 own_comes command input (Replay fault) own short h = (short, h)
+own_comes command input (Cluster fault) own short h = (short, h)
 
 -- what holds of the input that was read holds of the known bytes
 of_known : (P : List ℕ → Type 0) (bytes : Option (List ℕ)) (input : List ℕ) → IfSome bytes (λ known. input ≡ known) → P input → IfSome bytes P
@@ -61,6 +55,8 @@ for_known P Plan (Some known) input idle same h = of_known (P Plan) (Some known)
 for_known P Check (Some known) input idle same h = of_known (P Check) (Some known) input (same refl) h
 for_known P (Deal n) (Some known) input idle same h = of_known (P (Deal n)) (Some known) input (same refl) h
 for_known P World (Some known) input idle same h = of_known (P World) (Some known) input (same refl) h
+for_known P (Run clients passes turns) (Some known) input idle same h = of_known (P (Run clients passes turns)) (Some known) input (same refl) h
+for_known P commands.Replay (Some known) input idle same h = of_known (P commands.Replay) (Some known) input (same refl) h
 
 idle_fault : (fault : Fault) (shape : Shape) (a b : List ℕ) → IsOwn fault → ComesOf (Make shape) a fault → ComesOf (Make shape) b fault
 idle_fault TooLong shape a b own h = absurd own
@@ -73,20 +69,10 @@ idle_fault (File fault) shape a b own h = (λ reads. cc, h.1)
 idle_fault (faults.Plan fault) shape a b own h = (λ reads. cc, h.1)
 idle_fault (Planner fault) shape a b own h = (λ reads. cc, h.1)
 idle_fault (Replay fault) shape a b own h = (λ reads. cc, h.1)
+idle_fault (Cluster fault) shape a b own h = (λ reads. cc, h.1)
 
 -- a fault of the command's own comes of the known bytes
 pub own_comes_of_known : (command : Command) (bytes : Option (List ℕ)) (input : List ℕ) (fault : Fault) → (reads_input command ≡ true → IfSome bytes (λ known. input ≡ known))
     → IsOwn fault → IsShortFor command input → IsRefusedBy command input fault → IfSome bytes (λ known. ComesOf command known fault)
 own_comes_of_known command bytes input fault same own short h =
     for_known (λ c i. ComesOf c i fault) command bytes input (λ shape a b. idle_fault fault shape a b own) same (own_comes command input fault own short h)
-
--- a write fault comes of an input to which there is an answer
-pub writing_comes : (command : Command) (bytes : Option (List ℕ)) (input output : List ℕ) → (reads_input command ≡ true → IfSome bytes (λ known. input ≡ known))
-    → IsAnswer command input output → IfSome bytes (λ known. ComesOf command known WriteFault)
-writing_comes command bytes input output same answer = for_known (λ c i. (out : List ℕ) × IsAnswer c i out) command bytes input (λ shape a b h. h) same (output, answer)
-
--- what was written is the answer to the known bytes
-pub answers_known : (command : Command) (bytes old new : Option (List ℕ)) (input output : List ℕ) → (reads_input command ≡ true → IfSome bytes (λ known. input ≡ known))
-    → IsShortFor command input → IsAnswer command input output → Appends old new output → IfSome bytes (λ known. Answers command known old new)
-answers_known command bytes old new input output same short answer written =
-    for_known (λ c i. Answers c i old new) command bytes input (λ shape a b h. ((λ reads. cc), h.1)) same (short, (output, answer, written))

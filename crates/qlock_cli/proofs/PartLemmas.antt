@@ -1,5 +1,5 @@
 -- Lemmas on the search for the first separating line.
-use Rattle.std.proofs.Common.{◌≡◌, ℕ, ◌+◌, ◌-◌, ◌<◌, Bool, true, false, cond, Some, None, zero, suc, ap, ◌∙◌, arith}
+use Rattle.std.proofs.Common.{◌≡◌, ℕ, ◌+◌, ◌-◌, ◌<◌, Bool, false, cond, Some, zero, suc, ap, ◌∙◌, arith}
 use Rattle.qlock_cli.specs.Parts.{least_from}
 
 -- the least number is the first, or is sought behind it
@@ -7,13 +7,7 @@ least_first : (low n : ℕ) (passes : ℕ → Bool) → 0 < n → least_from low
 least_first low zero passes some = absurd (omega arith)
 least_first low (suc n) passes some = let e : n ≡ suc n - 1 = omega arith in ap (λ m. cond (passes low) (Some low) (least_from (low + 1) m passes)) e
 
-pub least_here : (n i : ℕ) (passes : ℕ → Bool) → i < n → passes i ≡ true → least_from i (n - i) passes ≡ Some i
-least_here n i passes lt pass = least_first i (n - i) passes (omega arith) ∙ ap (λ b. cond b (Some i) (least_from (i + 1) (n - i - 1) passes)) pass
-
 pub least_later : (n i : ℕ) (passes : ℕ → Bool) → i < n → passes i ≡ false → least_from i (n - i) passes ≡ least_from (i + 1) (n - (i + 1)) passes
 least_later n i passes lt fails =
     let e : n - i - 1 ≡ n - (i + 1) = omega arith in
     least_first i (n - i) passes (omega arith) ∙ ap (λ b. cond b (Some i) (least_from (i + 1) (n - i - 1) passes)) fails ∙ ap (λ m. least_from (i + 1) m passes) e
-
-pub least_none : (n i : ℕ) (passes : ℕ → Bool) → i ≡ n → least_from i (n - i) passes ≡ None
-least_none n i passes e = let none : n - i ≡ 0 = omega arith in ap (λ m. least_from i m passes) none

@@ -1,8 +1,8 @@
 -- What each command writes, as a function of its input.
-use Rattle.std.specs.Prelude.{◌≡◌, ℕ, Bool, true, false, ◌<◌, ◌≤◌, List, [], ◌∷◌, ◌++◌, length, codes, slice_index, Option, Result, Ok, Err, ⊤, if◌then◌else◌}
+use Rattle.std.specs.Prelude.{◌≡◌, ℕ, Bool, true, false, ◌<◌, ◌≤◌, List, [], ◌∷◌, ◌++◌, length, codes, slice_index, IfSome, Option, Result, Ok, Err, ⊤, if◌then◌else◌}
 use Rattle.std.specs.List.{flat_map, range_with_len}
 use Rattle.std.specs.Fmt.{decimal}
-use Rattle.std.specs.Io.KnownBytes.{Appends}
+use Rattle.std.specs.Io.KnownBytes.{Appends, Keeps}
 use Rattle.std.specs.Str.{is_utf8}
 use Rattle.quorum_set.specs.Coteries.{QuorumSystem}
 use Rattle.construct.specs.Cyclic.{cyclic_at}
@@ -24,16 +24,24 @@ use Rattle.dealer.specs.Cycles.{quorum_of_ticket}
 use Rattle.dealer.specs.Accounts.{account_of}
 use Rattle.dealer.specs.declared.account.Account.{Account}
 use Rattle.replay.specs.Outputs.{IsOutput}
+use Rattle.replay.specs.Records.{Entries, IsFirstFault, IsSoundRecord, entries_of, tickets_of}
+use Rattle.replay.specs.RecordTexts as record_texts
+use Rattle.replay.specs.RecordTexts.{HasText, record_text}
 use Rattle.replay.specs.Scripts.{IsFirstBad}
+use Rattle.replay.specs.declared.fault.ReplayFault.{ReplayFault}
 use Rattle.replay.specs.declared.fault.ReplayFault.TheVariants as replay
 use Rattle.replay.specs.declared.fault.ReplayFault.TheVariants.{BadLine}
+use Rattle.cluster.specs.declared.fault.ClusterFault.{ClusterFault}
+use Rattle.cluster.specs.declared.record.RunRecord.{RunRecord}
+use Rattle.runs.specs.Runs.{EndsRunBy, IsRun}
+use Rattle.qlock_cli.specs.Devices.{AppendsBeginning}
 use Rattle.qlock_cli.specs.Parts.{split}
 use Rattle.qlock_cli.specs.declared.fault.Fault.{Fault}
 use Rattle.qlock_cli.specs.declared.fault.Fault.TheVariants as faults
-use Rattle.qlock_cli.specs.declared.fault.Fault.TheVariants.{TooLong, ReadFault, WriteFault, OutOfMemory, Construct, File, Planner, Replay}
+use Rattle.qlock_cli.specs.declared.fault.Fault.TheVariants.{TooLong, ReadFault, WriteFault, OutOfMemory, Construct, File, Planner}
 use Rattle.qlock_cli.specs.declared.answer.Planned.{Planned}
 use Rattle.command_line.specs.declared.command.Command.{Command}
-use Rattle.command_line.specs.declared.command.Command.TheVariants.{Check, Deal, Make, Plan, World}
+use Rattle.command_line.specs.declared.command.Command.TheVariants.{Check, Deal, Make, Plan, Replay, Run, World}
 use Rattle.command_line.specs.declared.command.Shape.{Shape}
 use Rattle.command_line.specs.declared.command.Shape.TheVariants.{Cyclic, Grid, Majority, Tree, Wheel}
 
@@ -101,6 +109,12 @@ voter_line name count = codes "voter " ++ (name ++ (32 ∷ (decimal count ++ 10 
 abbrev pub busiest_line : ℕ → List ℕ
 busiest_line count = codes "busiest " ++ (decimal count ++ 10 ∷ [])
 
+abbrev pub drawn_line : ℕ → List ℕ
+drawn_line count = codes "drawn " ++ (decimal count ++ 10 ∷ [])
+
+abbrev pub register_line : ℕ → List ℕ
+register_line number = codes "register " ++ (decimal number ++ 10 ∷ [])
+
 abbrev pub load_line : ℕ × ℕ → ℕ → List ℕ
 load_line load cycle = codes "load " ++ (decimal load.0 ++ (47 ∷ (decimal load.1 ++ (codes " cycle " ++ (decimal cycle ++ 10 ∷ [])))))
 
@@ -121,6 +135,14 @@ account_text names account = voter_lines names account.voters ++ busiest_line ac
 -- the tickets below n with their quorums, and their account
 unfoldable pub deal_text : Planned → ℕ → List ℕ
 deal_text p n = ticket_lines p.plan n ++ account_text p.named.names (account_of p.plan (range_with_len 0 n))
+
+-- how many tickets were drawn, the lines of their account, and the register
+abbrev pub record_lines : List (List ℕ) → Account → ℕ → List ℕ
+record_lines names account register = drawn_line account.drawn ++ (account_text names account ++ register_line register)
+
+-- what a record says of the tickets that were drawn, and its register
+abbrev pub replay_text : Planned → Entries → List ℕ
+replay_text p e = record_lines p.named.names (account_of p.plan (tickets_of e.draws)) e.register
 
 unfoldable pub check_text : Planned → List ℕ
 check_text p = load_line (load_of p.plan) (cycle_len p.plan)
@@ -185,9 +207,76 @@ pub record IsBadScript (input : List ℕ) (line : ℕ) : Type 0 where
 
 -- `world` refuses the input so: a part is missing or spells nothing, or the third one is no script
 abbrev pub RefusesToRun : List ℕ → Fault → Type 0
-RefusesToRun input (Replay (BadLine line)) = IsBadScript input line
-RefusesToRun input (Replay fault) = ⊥
+RefusesToRun input (faults.Replay (BadLine line)) = IsBadScript input line
+RefusesToRun input (faults.Replay fault) = ⊥
 RefusesToRun input fault = staged_in input ≡ Err fault
+
+-- the third part is the text of a sound record by the plan that the parts before it spell, and the output is what it says
+pub record IsReplayed (input output : List ℕ) : Type 0 where
+  pub planned : Planned
+  pub text : List ℕ
+  pub parts : staged_in input ≡ Ok (planned, text)
+  pub entries : Entries
+  pub has_text : HasText entries
+  pub spelled : text ≡ record_text entries
+  pub sound : IsSoundRecord planned.plan entries
+  pub output_is : output ≡ replay_text planned entries
+
+-- the text is that of a record of which this is the first fault by the plan
+abbrev pub IsUnsoundText : Weighted → List ℕ → ReplayFault → Type 0
+IsUnsoundText plan text fault = (e : Entries) × HasText e × (text ≡ record_text e) × IsFirstFault plan e fault
+
+-- the text is refused so: this is its first bad line, or it is the text of a record that is not sound
+abbrev pub IsBadRecordText : Weighted → List ℕ → ReplayFault → Type 0
+IsBadRecordText plan text (BadLine line) = record_texts.IsFirstBad text line
+IsBadRecordText plan text replay.OutOfMemory = ⊥
+IsBadRecordText plan text fault = IsUnsoundText plan text fault
+
+-- the record in the third part is refused by this fault
+pub record IsBadRun (input : List ℕ) (fault : ReplayFault) : Type 0 where
+  pub planned : Planned
+  pub text : List ℕ
+  pub parts : staged_in input ≡ Ok (planned, text)
+  pub bad : IsBadRecordText planned.plan text fault
+
+-- `replay` refuses the input so: a part is missing or spells nothing, or the record is refused
+abbrev pub RefusesToReplay : List ℕ → Fault → Type 0
+RefusesToReplay input (faults.Replay fault) = IsBadRun input fault
+RefusesToReplay input fault = staged_in input ≡ Err fault
+
+-- the input spells a coterie and a plan of it, and the output is the text of a record by that plan of a run in which each of so many clients made so many passes
+pub record IsRunText (clients passes : ℕ) (input output : List ℕ) : Type 0 where
+  pub planned : Planned
+  pub parts : planned_in input ≡ Ok planned
+  pub run : RunRecord
+  pub is_run : IsRun planned.plan clients passes run
+  pub spelled : output ≡ record_text (entries_of run)
+
+-- a run by the plan that the input spells ends early by this fault
+pub record IsEndedRun (clients : ℕ) (input : List ℕ) (fault : ClusterFault) : Type 0 where
+  pub planned : Planned
+  pub parts : planned_in input ≡ Ok planned
+  pub ended : EndsRunBy clients fault
+
+-- `run` refuses the input so: a part is missing or spells nothing, or the run ends early
+abbrev pub IsRunRefusal : ℕ → List ℕ → Fault → Type 0
+IsRunRefusal clients input (faults.Cluster fault) = IsEndedRun clients input fault
+IsRunRefusal clients input fault = planned_in input ≡ Err fault
+
+-- `execute` serves each command but `run`
+abbrev pub IsServed : Command → Type 0
+IsServed (Run clients passes turns) = ⊥
+IsServed command = ⊤
+
+-- and `execute_run` serves `run`, with 1 to 64 clients and at most 1000 passes
+abbrev pub IsRunnable : Command → Type 0
+IsRunnable (Run clients passes turns) = (1 ≤ clients) × (clients ≤ 64) × (passes ≤ 1000)
+IsRunnable command = ⊥
+
+-- one of them serves it
+abbrev pub IsInRange : Command → Type 0
+IsInRange (Run clients passes turns) = IsRunnable (Run clients passes turns)
+IsInRange command = ⊤
 
 -- the command writes this output for the input
 abbrev pub IsAnswer : Command → List ℕ → List ℕ → Type 0
@@ -196,6 +285,8 @@ IsAnswer Plan input output = IsPlanText input output
 IsAnswer Check input output = check_answer_of input ≡ Ok output
 IsAnswer (Deal n) input output = deal_answer_of n input ≡ Ok output
 IsAnswer World input output = IsWorldOutput input output
+IsAnswer (Run clients passes turns) input output = IsRunText clients passes input output
+IsAnswer Replay input output = IsReplayed input output
 
 -- the command refuses the input by this fault
 abbrev pub IsRefusal : Command → List ℕ → Fault → Type 0
@@ -204,6 +295,8 @@ IsRefusal Plan input fault = RefusesToPlan input fault
 IsRefusal Check input fault = check_answer_of input ≡ Err fault
 IsRefusal (Deal n) input fault = deal_answer_of n input ≡ Err fault
 IsRefusal World input fault = RefusesToRun input fault
+IsRefusal (Run clients passes turns) input fault = IsRunRefusal clients input fault
+IsRefusal Replay input fault = RefusesToReplay input fault
 
 -- the fault is want of memory, or the command refuses the input by it
 abbrev pub IsRefusedBy : Command → List ℕ → Fault → Type 0
@@ -222,6 +315,8 @@ reads_input Plan = true
 reads_input Check = true
 reads_input (Deal n) = true
 reads_input World = true
+reads_input (Run clients passes turns) = true
+reads_input Replay = true
 
 -- the input is not too long, where the command reads it
 abbrev pub IsShortFor : Command → List ℕ → Type 0
@@ -230,6 +325,15 @@ IsShortFor command input = reads_input command ≡ true → length input ≤ 167
 -- the command's answer to the input was written behind what there was
 abbrev pub Answers : Command → List ℕ → Option (List ℕ) → Option (List ℕ) → Type 0
 Answers command input old new = IsShortFor command input × ((output : List ℕ) × IsAnswer command input output × Appends old new output)
+
+-- a beginning of the command's answer to the input was written behind what there was
+abbrev pub BeginsAnswer : Command → List ℕ → Option (List ℕ) → Option (List ℕ) → Type 0
+BeginsAnswer command input old new = IsShortFor command input × ((output : List ℕ) × IsAnswer command input output × AppendsBeginning old new output)
+
+-- what a refusal leaves written: after a write fault a beginning of the answer to the input, where that is known, and after any other fault what there was
+abbrev pub LeavesWritten : Command → Option (List ℕ) → Fault → Option (List ℕ) → Option (List ℕ) → Type 0
+LeavesWritten command bytes WriteFault old new = IfSome bytes (λ input. BeginsAnswer command input old new)
+LeavesWritten command bytes fault old new = Keeps old new
 
 -- the fault is one that the input leads to: it is too long, or the command refuses it so; a device or memory may fail whatever the input is
 abbrev pub ComesOf : Command → List ℕ → Fault → Type 0

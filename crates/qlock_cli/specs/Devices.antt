@@ -1,6 +1,6 @@
 -- Readers and writers that fail.
-use Rattle.std.specs.Prelude.{◌≡◌, ℕ, ◌<◌, length, IfSome, Bool, true, false, List, Option, Result, Ok, Err, ⊤}
-use Rattle.std.specs.Io.KnownBytes.{Keeps}
+use Rattle.std.specs.Prelude.{◌≡◌, ℕ, ◌<◌, length, take, IfSome, Bool, true, false, List, Option, Result, Ok, Err, ⊤}
+use Rattle.std.specs.Io.KnownBytes.{Appends}
 use Rattle.qlock_cli.specs.declared.fault.Fault.{Fault}
 use Rattle.qlock_cli.specs.declared.fault.Fault.TheVariants.{OutOfMemory, ReadFault, TooLong, WriteFault}
 
@@ -11,10 +11,9 @@ FailsAs read_failed write_failed (Err ReadFault) = (read_failed ≡ true) × (wr
 FailsAs read_failed write_failed (Err WriteFault) = (read_failed ≡ false) × (write_failed ≡ true)
 FailsAs read_failed write_failed (Err e) = (read_failed ≡ false) × (write_failed ≡ false)
 
--- what is known to be written stays as it is, but for a write fault
-abbrev pub LeavesAlone : Fault → Option (List ℕ) → Option (List ℕ) → Type 0
-LeavesAlone WriteFault old new = ⊤
-LeavesAlone fault old new = Keeps old new
+-- a beginning of the output was written behind what there was: none of it, some or all
+abbrev pub AppendsBeginning : Option (List ℕ) → Option (List ℕ) → List ℕ → Type 0
+AppendsBeginning old new output = (n : ℕ) × Appends old new (take n output)
 
 -- a fault of reading these bytes, where they are known: there are too many, the reader failed, or memory ran out
 abbrev pub IsOfReading : Option (List ℕ) → Fault → Type 0

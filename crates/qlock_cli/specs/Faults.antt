@@ -9,8 +9,10 @@ use Rattle.planner.specs.declared.fault.PlannerFault.{PlannerFault}
 use Rattle.planner.specs.declared.fault.PlannerFault.TheVariants as planner
 use Rattle.replay.specs.declared.fault.ReplayFault.{ReplayFault}
 use Rattle.replay.specs.declared.fault.ReplayFault.TheVariants as replay
+use Rattle.runs.specs.declared.fault.RunFault.{RunFault}
+use Rattle.runs.specs.declared.fault.RunFault.TheVariants as runs
 use Rattle.qlock_cli.specs.declared.fault.Fault.{Fault}
-use Rattle.qlock_cli.specs.declared.fault.Fault.TheVariants.{OutOfMemory, Construct, File, Plan, Planner, Replay}
+use Rattle.qlock_cli.specs.declared.fault.Fault.TheVariants.{OutOfMemory, Construct, File, Plan, Planner, Replay, Cluster}
 
 abbrev pub construct_refusal : ConstructFault → Fault
 construct_refusal construct.OutOfMemory = OutOfMemory
@@ -32,9 +34,14 @@ abbrev pub replay_refusal : ReplayFault → Fault
 replay_refusal replay.OutOfMemory = OutOfMemory
 replay_refusal fault = Replay fault
 
--- the fault is not of a script
+abbrev pub run_refusal : RunFault → Fault
+run_refusal runs.OutOfMemory = OutOfMemory
+run_refusal (runs.Cluster fault) = Cluster fault
+
+-- the fault is not of a script, a record or a run
 abbrev pub IsBeforeScript : Fault → Type 0
 IsBeforeScript (Replay fault) = ⊥
+IsBeforeScript (Cluster fault) = ⊥
 IsBeforeScript fault = Unit {0}
 
 -- the fault is of a coterie's text, or want of memory

@@ -5,21 +5,23 @@ ghost use Rattle.construct.specs.Answers as construct_answers;
 ghost use Rattle.coterie_file.specs.Named.{IsNamed};
 ghost use Rattle.certificate.specs.Certificates.{IsCertificate, cycle_len, load_of};
 ghost use Rattle.dealer.specs.Accounts.{account_of};
-ghost use Rattle.qlock_cli.specs.Commands.{Gives, IsAnswered, account_text, check_answer_of, check_text, coterie_part, deal_answer_of, deal_text, make_answer_of, numbered_text, plan_part, planned_by, planned_in, shape_at, staged_in};
+ghost use Rattle.replay.specs.Records.{IsFirstFault, IsSoundRecord, entries_of, tickets_of};
+ghost use Rattle.qlock_cli.specs.Commands.{Gives, IsAnswered, IsServed, account_text, check_answer_of, check_text, coterie_part, deal_answer_of, deal_text, make_answer_of, numbered_text, plan_part, planned_by, planned_in, shape_at, staged_in};
 ghost use Rattle.qlock_cli.specs.Devices.{IsOwn};
 ghost use Rattle.qlock_cli.specs.Faults.{IsBeforeScript, IsOfFile};
 
 use crate::fault::Fault;
 use crate::parts::split_part;
-use crate::texts::{load_line_of, push_account, push_tickets};
+use crate::texts::{load_line_of, push_account, push_tickets, record_lines_of};
 use certificate::{Plan, read_plan, write_plan};
+use cluster::RunRecord;
 use command_line::{Command, Shape};
 use construct::{ConstructFault, cyclic, grid, majority, tree, wheel};
 use coterie_file::{FileFault, Named, read_coterie, write_coterie};
 use dealer::{Account, Cycle};
 use planner::plan;
 use quorum_set::Coterie;
-use replay::run_script;
+use replay::{ReplayFault, check_record, read_record, run_script};
 use std::alloc::{AllocError, Global};
 
 /// The coterie that a part spells.
@@ -54,12 +56,12 @@ fn plan_of(alloc: Global, coterie: &Coterie, part: &[u8]) -> Result<Plan, Fault>
 /// A coterie with names, and a plan of it.
 #[derive(Drop)]
 pub struct Planned {
-    named: Named,
-    plan: Plan,
+    pub named: Named,
+    pub plan: Plan,
 }
 
-#[tactic(auto, unfolding(crate::specs::Commands::planned_by))]
 /// What two parts spell: a coterie, and a plan of it.
+#[tactic(auto, unfolding(crate::specs::Commands::planned_by))]
 fn planned_by(alloc: Global, coterie: &[u8], plan: &[u8]) -> Result<Planned, Fault>
     ensures exact { Gives (λ p. p) result (planned_by coterie.now plan.now) }
     ensures own { IfErr result IsOwn }
@@ -77,11 +79,12 @@ fn planned_by(alloc: Global, coterie: &[u8], plan: &[u8]) -> Result<Planned, Fau
     Ok(Planned { named, plan })
 }
 
-#[tactic(auto, unfolding(crate::specs::Commands::planned_in))]
 /// What an input of two parts spells: a coterie, and a plan of it.
-fn planned_of(alloc: Global, input: &[u8]) -> Result<Planned, Fault>
+#[tactic(auto, unfolding(crate::specs::Commands::planned_in))]
+pub fn planned_of(alloc: Global, input: &[u8]) -> Result<Planned, Fault>
     ensures exact { Gives (λ p. p) result (planned_in input.now) }
     ensures own { IfErr result IsOwn }
+    ensures before { IfErr result IsBeforeScript }
     ensures same { IfOk result (λ p. p.plan.system ≡ p.named.system) }
 {
     match split_part(input, 2) {
@@ -90,12 +93,13 @@ fn planned_of(alloc: Global, input: &[u8]) -> Result<Planned, Fault>
     }
 }
 
-#[tactic(auto, unfolding(crate::specs::Commands::staged_in))]
 /// What an input of three parts spells: a coterie, a plan of it, and a text behind them.
+#[tactic(auto, unfolding(crate::specs::Commands::staged_in))]
 fn staged_of(alloc: Global, input: &[u8]) -> Result<(Planned, &[u8]), Fault>
     ensures exact { Gives (λ x. (x.0, x.1.now)) result (staged_in input.now) }
     ensures own { IfErr result IsOwn }
     ensures before { IfErr result IsBeforeScript }
+    ensures same { IfOk result (λ x. x.0.plan.system ≡ x.0.named.system) }
 {
     let (coterie, rest) = match split_part(input, 2) {
         Ok(parts) => parts,
@@ -111,8 +115,8 @@ fn staged_of(alloc: Global, input: &[u8]) -> Result<(Planned, &[u8]), Fault>
     }
 }
 
-#[tactic(auto, unfolding(crate::specs::Commands::check_text))]
 /// What `check` writes.
+#[tactic(auto, unfolding(crate::specs::Commands::check_text))]
 fn check_text_of(alloc: Global, planned: &Planned) -> Result<String, AllocError>
     ensures { IfOk result (λ text. string_bytes text ≡ check_text planned.now) }
 {
@@ -145,8 +149,8 @@ fn cycle_of_plan(alloc: Global, plan: Plan) -> Result<Cycle, AllocError>
     }
 }
 
-#[tactic(auto, unfolding(crate::specs::Commands::deal_text))]
 /// What `deal` writes for the tickets below `count`.
+#[tactic(auto, unfolding(crate::specs::Commands::deal_text))]
 fn deal_text_of(alloc: Global, planned: Planned, count: u64) -> Result<String, AllocError>
     requires { planned.plan.system ≡ planned.named.system }
     ensures { IfOk result (λ text. string_bytes text ≡ deal_text planned count) }
@@ -261,8 +265,43 @@ fn world_answer(alloc: Global, input: &[u8]) -> Result<String, Fault>
     }
 }
 
+/// The account of a sound record by a plan.
+fn account_of_record(alloc: Global, plan: &Plan, run: &RunRecord) -> Result<Account, ReplayFault>
+    ensures account { IfOk result (λ account. account ≡ account_of plan.now (tickets_of run.now.draws.items)) }
+    ensures one_each { IfOk result (λ account. length account.voters ≡ plan.now.system.voters) }
+    ensures sound { IfOk result (λ _. IsSoundRecord plan.now (entries_of run.now)) }
+    ensures fault { IfErr result (IsFirstFault plan.now (entries_of run.now)) }
+{
+    check_record(alloc, plan, run)
+}
+
+/// What `replay` writes for an input: what the record in its third part says.
+fn replay_answer(alloc: Global, input: &[u8]) -> Result<String, Fault>
+    ensures exact { IsAnswered string_bytes Command.Replay input.now result }
+    ensures own { IfErr result IsOwn }
+{
+    let (planned, text) = match staged_of(alloc, input) {
+        Ok(staged) => staged,
+        Err(fault) => return Err(fault),
+    };
+    let run = match read_record(alloc, text) {
+        Ok(run) => run,
+        Err(fault) => return Err(Fault::from(fault)),
+    };
+    let account = match account_of_record(alloc, &planned.plan, &run) {
+        Ok(account) => account,
+        Err(fault) => return Err(Fault::from(fault)),
+    };
+    let _ = planned.named.coterie();
+    match record_lines_of(alloc, &planned.named, &account, run.register) {
+        Ok(text) => Ok(text),
+        Err(_) => Err(Fault::OutOfMemory),
+    }
+}
+
 /// What the command writes for an input.
 pub fn answer(alloc: Global, command: &Command, input: &[u8]) -> Result<String, Fault>
+    requires served { IsServed command.now }
     ensures exact { IsAnswered string_bytes command.now input.now result }
     ensures own { IfErr result IsOwn }
 {
@@ -272,5 +311,7 @@ pub fn answer(alloc: Global, command: &Command, input: &[u8]) -> Result<String, 
         Command::Check => check_answer(alloc, input),
         Command::Deal(count) => deal_answer(alloc, u64::from(*count), input),
         Command::World => world_answer(alloc, input),
+        Command::Run { .. } => unreachable!(),
+        Command::Replay => replay_answer(alloc, input),
     }
 }

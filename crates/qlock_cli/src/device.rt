@@ -1,7 +1,7 @@
 //! Reading the whole input, and writing the whole output.
-ghost use Rattle.std.specs.Prelude.{◌≡◌, ◌≤◌, length, false, IfErr, IfOk, IfSome, OnOk};
+ghost use Rattle.std.specs.Prelude.{◌≡◌, ◌≤◌, length, false, IfErr, IfOk, IfSome, OnErr, OnOk};
 ghost use Rattle.std.specs.Io.KnownBytes.{Appends};
-ghost use Rattle.qlock_cli.specs.Devices.{FailsAs, IsOfReading};
+ghost use Rattle.qlock_cli.specs.Devices.{AppendsBeginning, FailsAs, IsOfReading};
 ghost use Rattle.qlock_cli.specs.declared.fault.Fault.TheVariants.{WriteFault};
 
 use crate::fault::Fault;
@@ -35,10 +35,11 @@ pub fn read_input<R: Read>(alloc: Global, reader: &mut Watched<R>) -> Result<Vec
     Err(Fault::TooLong)
 }
 
-/// Writes all the bytes. A write that takes none of them is a fault.
+/// Writes all the bytes. A write that fails or takes none of them is a fault, and what earlier writes took stays written.
 pub fn write_output<W: Write>(writer: &mut Watched<W>, output: &[u8]) -> Result<(), Fault>
     requires { writer.old.failed ≡ false }
     ensures ok { OnOk result (Appends (W.contents writer.old.inner) (W.contents writer.new.inner) output.now) }
+    ensures begun { OnErr result (AppendsBeginning (W.contents writer.old.inner) (W.contents writer.new.inner) output.now) }
     ensures refused { IfErr result (λ fault. fault ≡ WriteFault) }
     ensures failed { FailsAs false writer.new.failed result }
 {

@@ -1,7 +1,7 @@
 //! Serving a command: the whole input is read, the whole answer is made, and then it is written.
 ghost use Rattle.std.specs.Prelude.{◌≡◌, true, false, IfErr, IfOk, IfSome, OnOk};
-ghost use Rattle.qlock_cli.specs.Devices.{FailsAs, IsOfReading, LeavesAlone};
-ghost use Rattle.qlock_cli.specs.Commands.{Answers, ComesOf, IsShortFor, reads_input};
+ghost use Rattle.qlock_cli.specs.Devices.{FailsAs, IsOfReading};
+ghost use Rattle.qlock_cli.specs.Commands.{Answers, ComesOf, IsServed, IsShortFor, LeavesWritten, reads_input};
 
 use crate::answer::answer;
 use crate::device::{read_input, write_output};
@@ -12,7 +12,7 @@ use std::alloc::Global;
 use std::io::{Read, Write};
 
 /// The input of a command: all of it, or nothing where the command doesn't read it.
-fn input_for<R: Read>(
+pub fn input_for<R: Read>(
     alloc: Global,
     command: &Command,
     reader: &mut Watched<R>,
@@ -26,23 +26,27 @@ fn input_for<R: Read>(
 {
     match command {
         Command::Make(_) => Ok(Vec::new(alloc)),
-        Command::Plan | Command::Check | Command::Deal(_) | Command::World => {
-            read_input(alloc, reader)
-        }
+        Command::Plan
+        | Command::Check
+        | Command::Deal(_)
+        | Command::World
+        | Command::Run { .. }
+        | Command::Replay => read_input(alloc, reader),
     }
 }
 
-/// Serves a command: reads the input to its end, and writes the answer to it and nothing else.
+/// Serves a command but `run`: reads the input to its end, and writes the answer to it and nothing else.
 ///
 /// Refusals come in this order: a read fault or an input of more than 16,777,216 bytes, whichever the reading meets
 /// first; a missing part; the parts from first to last; a write fault. `OutOfMemory` may come at any point before the
-/// first write. A refusal other than a write fault writes nothing.
+/// first write. A refusal other than a write fault writes nothing; after a write fault a beginning of the answer was written.
 pub fn execute<R: Read, W: Write>(
     alloc: Global,
     command: &Command,
     reader: &mut Watched<R>,
     writer: &mut Watched<W>,
 ) -> Result<(), Fault>
+    requires served { IsServed command.now }
     requires unread { reader.old.failed ≡ false }
     requires unwritten { writer.old.failed ≡ false }
 
@@ -53,8 +57,9 @@ pub fn execute<R: Read, W: Write>(
     // A refusal comes only of an input that the command refuses so, or of a device or memory.
     ensures refused { IfErr result (λ fault. IfSome (R.remaining reader.old.inner) (λ input. ComesOf command.now input fault)) }
 
-    // A refusal writes nothing, but for a write fault.
-    ensures alone { IfErr result (λ fault. LeavesAlone fault (W.contents writer.old.inner) (W.contents writer.new.inner)) }
+    // A refusal other than a write fault writes nothing; after a write fault a beginning of the answer was written.
+    ensures left { IfErr result (λ fault.
+        LeavesWritten command.now (R.remaining reader.old.inner) fault (W.contents writer.old.inner) (W.contents writer.new.inner)) }
 
     // What a command does not read is left in the reader.
     ensures unread { reads_input command.now ≡ false → reader.new ≡ reader.old }

@@ -1,13 +1,15 @@
 //! Why a command was refused.
 ghost use Rattle.std.specs.Prelude.{◌≡◌};
-ghost use Rattle.qlock_cli.specs.Faults.{construct_refusal, file_refusal, plan_refusal, planner_refusal, replay_refusal};
+ghost use Rattle.qlock_cli.specs.Faults.{construct_refusal, file_refusal, plan_refusal, planner_refusal, replay_refusal, run_refusal};
 ghost use Rattle.qlock_cli.specs.declared.fault.Fault.TheVariants.{OutOfMemory};
 
 use certificate::PlanFault;
+use cluster::ClusterFault;
 use construct::ConstructFault;
 use coterie_file::FileFault;
 use planner::PlannerFault;
 use replay::ReplayFault;
+use runs::RunFault;
 use std::alloc::{AllocError, AllocFailed};
 use thiserror::Error;
 
@@ -38,9 +40,12 @@ pub enum Fault {
     /// There is no plan.
     #[error(transparent)]
     Planner(PlannerFault),
-    /// The script was refused.
+    /// The script or the record was refused.
     #[error(transparent)]
     Replay(ReplayFault),
+    /// A run ended early.
+    #[error(transparent)]
+    Cluster(ClusterFault),
     /// Memory ran out.
     #[error("O1 OutOfMemory")]
     OutOfMemory,
@@ -113,6 +118,17 @@ impl From<ReplayFault> for Fault {
         match fault {
             ReplayFault::OutOfMemory => Fault::OutOfMemory,
             _ => Fault::Replay(fault),
+        }
+    }
+}
+
+impl From<RunFault> for Fault {
+    ghost from_gives = { λ fault e. e ≡ run_refusal fault };
+
+    fn from(fault: RunFault) -> Fault {
+        match fault {
+            RunFault::OutOfMemory => Fault::OutOfMemory,
+            RunFault::Cluster(fault) => Fault::Cluster(fault),
         }
     }
 }

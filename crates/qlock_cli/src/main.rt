@@ -4,11 +4,16 @@
 //! `parts` splits the input, `answer` makes the output, `texts` its lines.
 #![tactic(auto)]
 
+ghost use Rattle.qlock_cli.specs.Commands.{IsInRange};
+
 mod answer;
 mod device;
 mod execute;
 mod fault;
 mod parts;
+#[cfg(test)]
+mod run_tests;
+mod running;
 #[cfg(test)]
 mod tests;
 mod texts;
@@ -17,7 +22,11 @@ mod watched;
 use command_line::{Command, Usage, read_words};
 use execute::execute;
 use fault::Fault;
+use running::execute_run;
+use runs::NoGate;
 use std::process::ExitCode;
+use std::sync::Wait;
+use std::thread::Threads;
 use std::{env, io};
 use watched::Watched;
 
@@ -48,11 +57,27 @@ fn refuse_words(rt: &HostRuntime, usage: &Usage) -> u8 {
     }
 }
 
-/// Serves the command over standard input and output, and answers the exit status.
-fn serve(rt: &HostRuntime, command: &Command) -> u8 {
+/// Serves the command over standard input and output, and answers the exit status. `threads` is the runtime once more, as
+/// what starts threads.
+fn serve<T: Threads + Wait + Sync>(rt: &HostRuntime, threads: &T, command: &Command) -> u8
+    requires in_range { IsInRange command.now }
+{
     let mut reader = Watched::of(rt.reader());
     let mut writer = Watched::of(io::writer(rt));
-    match execute(rt.alloc(), command, &mut reader, &mut writer) {
+    let served = match command {
+        Command::Run { .. } => {
+            execute_run(
+                threads,
+                rt.alloc(),
+                command,
+                &mut reader,
+                &mut writer,
+                &NoGate,
+            )
+        }
+        _ => execute(rt.alloc(), command, &mut reader, &mut writer),
+    };
+    match served {
         Ok(()) => 0,
         Err(fault) => {
             let _ = rt.eprintln(&fault);
@@ -70,14 +95,14 @@ fn words_of(rt: &HostRuntime) -> Result<Vec<String>, Usage> {
 }
 
 /// Serves the command that the words of the command line name.
-fn run(rt: &HostRuntime) -> Result<u8, Usage> {
+fn run<T: Threads + Wait + Sync>(rt: &HostRuntime, threads: &T) -> Result<u8, Usage> {
     let words = words_of(rt)?;
     let command = read_words(rt.alloc(), words.as_slice())?;
-    Ok(serve(rt, &command))
+    Ok(serve(rt, threads, &command))
 }
 
 fn main(rt: HostRuntime) -> ExitCode {
-    ExitCode::from(match run(&rt) {
+    ExitCode::from(match run(&rt, &rt) {
         Ok(status) => status,
         Err(usage) => refuse_words(&rt, &usage),
     })

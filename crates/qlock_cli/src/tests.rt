@@ -1,4 +1,6 @@
 //! The worked inputs of the commands, and devices that fail.
+ghost use Rattle.qlock_cli.specs.Commands.{IsServed};
+
 use crate::execute::execute;
 use crate::fault::Fault;
 use crate::watched::Watched;
@@ -9,7 +11,7 @@ use std::io;
 use std::io::{Read, Write};
 use std::test::Fail;
 
-const MAJORITY: &str =
+pub const MAJORITY: &str =
     "voters = [\"v0\", \"v1\", \"v2\"]\nquorums = [\n  [\"v0\", \"v1\"],\n  [\"v0\", \"v2\"],\n  [\"v1\", \"v2\"],\n]\n";
 
 const WHEEL: &str =
@@ -17,20 +19,24 @@ const WHEEL: &str =
 
 const WHEEL_PLAN: &str = "quorum-plan 1\nload 3/5\ncycle 5\nquorum 1 1 1 2\nvoter 2 1 1 1\n";
 
-const MAJORITY_PLAN: &str = "quorum-plan 1\nload 2/3\ncycle 3\nquorum 1 1 1\nvoter 1 1 1\n";
+pub const MAJORITY_PLAN: &str = "quorum-plan 1\nload 2/3\ncycle 3\nquorum 1 1 1\nvoter 1 1 1\n";
 
 /// What the command writes for a coterie and a plan with a separating line between them, or the text of its fault.
-fn answer_text(
+pub fn answer_text(
     alloc: Global,
     command: Command,
     coterie: &str,
     plan: &str,
-) -> Result<String, AllocError> {
+) -> Result<String, AllocError>
+    requires { IsServed command }
+{
     let input = format!(in alloc; "{coterie}%%\n{plan}")?;
     text_for(alloc, command, input.as_bytes())
 }
 
-fn text_for(alloc: Global, command: Command, input: &[u8]) -> Result<String, AllocError> {
+fn text_for(alloc: Global, command: Command, input: &[u8]) -> Result<String, AllocError>
+    requires { IsServed command }
+{
     let mut written = Vec::new(alloc);
     let mut reader = Watched::of(input);
     let mut writer = Watched::of(&mut written);
@@ -209,6 +215,49 @@ fn scripts_are_run(rt: HostRuntime) -> Result<(), Fail> {
     for (script, want) in &table {
         let parts = format!(in alloc; "{MAJORITY_PLAN}{script}")?;
         let text = answer_text(alloc, Command::World, MAJORITY, &parts)?;
+        assert_eq!(rt; text.as_str(), *want);
+    }
+    Ok(())
+}
+
+#[test]
+fn records_are_replayed(rt: HostRuntime) -> Result<(), Fail> {
+    let alloc = rt.alloc();
+    let sound = "drawn 3\nvoter v0 2\nvoter v1 2\nvoter v2 2\nbusiest 2\nregister 2\n";
+    let table = [
+        ("0 1 1", "1 1", 2, sound),
+        ("0 0 0", "1 1", 2, "A1 TicketTwice 0"),
+        ("0 3 0", "1 1", 2, "A2 TicketMissing 1"),
+        ("0 1 2", "1 1", 2, "A3 WrongQuorum 1"),
+        ("0 1 1", "1 0", 2, "A4 PassTwice 0"),
+        ("0 1 1", "1 2", 2, "A5 PassMissing 1"),
+        ("0 1 1", "1 1", 3, "A6 WrongRegister 2"),
+        ("0 1 1", "1", 2, "A7 BadLine 6"),
+    ];
+    for (draw, pass, register, want) in &table {
+        let draws = format!(in alloc; "draw 0 0 0\ndraw 1 2 2\ndraw {draw}\n")?;
+        let parts = format!(in alloc;
+            "{MAJORITY_PLAN}%%\nquorum-record 1\n{draws}pass 0 0\npass {pass}\nregister {register}\n"
+        )?;
+        let text = answer_text(alloc, Command::Replay, MAJORITY, &parts)?;
+        assert_eq!(rt; text.as_str(), *want);
+    }
+    Ok(())
+}
+
+#[test]
+fn records_are_looked_for_in_the_third_part(rt: HostRuntime) -> Result<(), Fail> {
+    let alloc = rt.alloc();
+    let empty = "drawn 0\nvoter v0 0\nvoter v1 0\nvoter v2 0\nbusiest 0\nregister 0\n";
+    let table = [
+        ("%%\nquorum-record 1\nregister 0\n", empty),
+        ("%%\nregister 0\n", "A7 BadLine 1"),
+        ("%%\nquorum-record 1\nregister 0\n%%\n", "A7 BadLine 3"),
+        ("quorum-record 1\nregister 0\n", "I1 MissingPart 3"),
+    ];
+    for (record, want) in &table {
+        let parts = format!(in alloc; "{MAJORITY_PLAN}{record}")?;
+        let text = answer_text(alloc, Command::Replay, MAJORITY, &parts)?;
         assert_eq!(rt; text.as_str(), *want);
     }
     Ok(())

@@ -4,7 +4,7 @@ ghost use Rattle.std.specs.List.{range_with_len};
 ghost use Rattle.coterie_file.specs.Named.{IsNamed};
 ghost use Rattle.coterie_file.specs.Names.{name_at};
 ghost use Rattle.dealer.specs.Accounts.{account_of};
-ghost use Rattle.qlock_cli.specs.Commands.{account_text, busiest_line, load_line, ticket_line, ticket_lines, voter_line, voter_lines};
+ghost use Rattle.qlock_cli.specs.Commands.{account_text, busiest_line, drawn_line, load_line, record_lines, register_line, ticket_line, ticket_lines, voter_line, voter_lines};
 
 use coterie_file::Named;
 use dealer::{Account, Cycle};
@@ -30,6 +30,20 @@ fn busiest_line_of(alloc: Global, count: u64) -> Result<String, AllocError>
     ensures { IfOk result (λ line. string_bytes line ≡ busiest_line count) }
 {
     format!(in alloc; "busiest {count}\n")
+}
+
+/// `drawn COUNT`
+fn drawn_line_of(alloc: Global, count: u64) -> Result<String, AllocError>
+    ensures { IfOk result (λ line. string_bytes line ≡ drawn_line count) }
+{
+    format!(in alloc; "drawn {count}\n")
+}
+
+/// `register NUMBER`
+fn register_line_of(alloc: Global, number: u64) -> Result<String, AllocError>
+    ensures { IfOk result (λ line. string_bytes line ≡ register_line number) }
+{
+    format!(in alloc; "register {number}\n")
 }
 
 /// `load P/Q cycle D`
@@ -89,4 +103,22 @@ pub fn push_account(
     let line = busiest_line_of(alloc, account.busiest)?;
     text.push_str(&line)?;
     Ok(())
+}
+
+/// The lines of a record: how many tickets were drawn, their account, and the register.
+pub fn record_lines_of(
+    alloc: Global,
+    named: &Named,
+    account: &Account,
+    register: u64,
+) -> Result<String, AllocError>
+    requires named { IsNamed named.now }
+    requires one_each { length account.now.voters ≡ named.now.system.voters }
+    ensures { IfOk result (λ text. string_bytes text ≡ record_lines named.now.names account.now register) }
+{
+    let mut text = drawn_line_of(alloc, account.drawn)?;
+    push_account(alloc, &mut text, named, account)?;
+    let line = register_line_of(alloc, register)?;
+    text.push_str(&line)?;
+    Ok(text)
 }

@@ -74,7 +74,15 @@ impl<W: Write> Write for Watched<W> {
         result
     }
 
-    fn flush(&mut self) -> io::Result<()> {
-        self.inner.flush()
+    fn flush(&mut self) -> io::Result<()>
+        ensures bytes { Keeps (W.contents self.old.inner) (W.contents self.new.inner) }
+        ensures kept { OnOk result (self.new.failed ≡ self.old.failed) }
+        ensures noted { OnErr result (self.new.failed ≡ true) }
+    {
+        let result = self.inner.flush();
+        if result.is_err() {
+            self.failed = true;
+        }
+        result
     }
 }

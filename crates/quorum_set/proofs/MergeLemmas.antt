@@ -17,10 +17,6 @@ or_false : (a b : Bool) → a ≡ false → (a || b) ≡ b
 or_false true b e = cc
 or_false false b e = refl
 
--- the heads are the same
-meet-same : (x y : ℕ) (xs ys : List ℕ) → x ≡ y → meet (x ∷ xs) (y ∷ ys) ≡ true
-meet-same x y xs ys e = ap (λ b. b || meet xs (y ∷ ys)) (ap (has (y ∷ ys)) e ∙ has-head y ys)
-
 within-same : (low high x y : ℕ) (xs ys : List ℕ) → Ascends low high (x ∷ xs) → x ≡ y → within (x ∷ xs) (y ∷ ys) ≡ within xs ys
 within-same low high x y xs ys h e =
     ap (λ b. b && within xs (y ∷ ys)) (ap (has (y ∷ ys)) e ∙ has-head y ys) ∙ within-below (x + 1) high y xs ys h.2 (omega arith)
@@ -55,9 +51,6 @@ left_part s i h lt = let e = drop_more s i 0 lt in let at = Ascends-drop 0 64 s 
     by : (t u : List ℕ) → t ≡ u → Ascends 0 64 t → Ascends 0 64 u
     by t u e at = rw (← e) at
 
-pub meet_here : (s t : List ℕ) (i j : ℕ) → i < length s → j < length t → head s i ≡ head t j → meet (drop i s) (drop j t) ≡ true
-meet_here s t i j li lj e = ap₂ meet (drop_more s i 0 li) (drop_more t j 0 lj) ∙ meet-same (head s i) (head t j) (drop (i + 1) s) (drop (j + 1) t) e
-
 pub meet_left : (s t : List ℕ) (i j : ℕ) → IsSet t → i < length s → j < length t → head s i < head t j → meet (drop i s) (drop j t) ≡ meet (drop (i + 1) s) (drop j t)
 meet_left s t i j ht li lj lt =
     ap₂ meet (drop_more s i 0 li) (drop_more t j 0 lj) ∙ meet-less 0 64 (head s i) (head t j) (drop (i + 1) s) (drop (j + 1) t) (left_part t j ht lj) lt
@@ -71,10 +64,6 @@ meet_right s t i j hs li lj lt =
 meet-nil : (s : List ℕ) → meet s [] ≡ false
 meet-nil [] = refl
 meet-nil (x ∷ xs) = meet-nil xs
-
--- one of the lists has ended
-pub meet_ended : (s t : List ℕ) (i j : ℕ) → (drop i s ≡ []) → meet (drop i s) (drop j t) ≡ false
-meet_ended s t i j e = ap (λ u. meet u (drop j t)) e
 
 pub meet_ended_right : (s t : List ℕ) (i j : ℕ) → (drop j t ≡ []) → meet (drop i s) (drop j t) ≡ false
 meet_ended_right s t i j e = ap (meet (drop i s)) e ∙ meet-nil (drop i s)

@@ -84,10 +84,6 @@ pub sum_below-one : (n : ℕ) → sum_below (λ _. 1) n ≡ n
 sum_below-one zero = refl
 sum_below-one (suc n) = omega (arith, sum_below-one n)
 
-pub sum_below-same : (n : ℕ) (f g : ℕ → ℕ) → ((i : ℕ) → i < n → f i ≡ g i) → sum_below f n ≡ sum_below g n
-sum_below-same zero f g same = refl
-sum_below-same (suc n) f g same = omega (arith, sum_below-same n f g (λ i lt. same i (omega arith)), same n (omega arith))
-
 -- a number at or above n weighs 1, and one below nothing
 abbrev pub late : ℕ → ℕ → ℕ
 late n t = cond (ltb t n) 0 1

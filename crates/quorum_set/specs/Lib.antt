@@ -1,4 +1,5 @@
 pub mod Coteries
 pub mod Counts
+pub mod Meetings
 pub mod Sets
 pub mod Sums

@@ -7,7 +7,7 @@ use Rattle.std.proofs.lemmas.List.Sums.{count_by-le-length, sum_by-cons, sum_by-
 use Rattle.quorum_set.specs.Counts.{times}
 use Rattle.dealer.proofs.CycleLemmas.{times-cons, times-get_or}
 use Rattle.dealer.proofs.Totals.{length-total, total-one, total-same}
-use Rattle.replay.specs.Records.{CountUp, IsLeast, IsMissing, IsTwice, NoneTwice}
+use Rattle.replay.specs.Records.{EachOnce, IsLeast, IsMissing, IsTwice, NoneTwice}
 
 -- a number does not stand where all are above it
 times-above : (n : ℕ) (xs : List ℕ) → ((i : ℕ) → i < length xs → n < get_or xs i 0) → times n xs ≡ 0
@@ -121,7 +121,7 @@ missing_found xs p up so_far lt other =
       | inr more ↦ absurd (other (omega arith))
     ]
 
-pub missing_none : (xs : List ℕ) (p : ℕ) → NoneTwice xs → IsCounted xs p → length xs ≤ p → CountUp xs
+pub missing_none : (xs : List ℕ) (p : ℕ) → NoneTwice xs → IsCounted xs p → length xs ≤ p → EachOnce xs
 missing_none xs p single so_far le = λ n lt. elim (cases_lt (times n xs) 2) [
   | inl less ↦ omega (arith, so_far.seen n (omega arith))
   | inr more ↦ absurd (single n more)
@@ -139,13 +139,13 @@ pub missing_same : (xs ys : List ℕ) (n : ℕ) → ((m : ℕ) → times m xs �
 missing_same xs ys n same long least =
     ((omega (arith, least.0.0), omega (arith, same n, least.0.1)), λ m missing. least.1 m (omega (arith, missing.0), omega (arith, same m, missing.1)))
 
-pub count_same : (xs ys : List ℕ) → ((m : ℕ) → times m xs ≡ times m ys) → length xs ≡ length ys → CountUp xs → CountUp ys
+pub count_same : (xs ys : List ℕ) → ((m : ℕ) → times m xs ≡ times m ys) → length xs ≡ length ys → EachOnce xs → EachOnce ys
 count_same xs ys same long counts = λ n lt. omega (arith, same n, counts n (omega arith))
 
 -- Numbers that count up
 
 -- whatever stands among them stands once
-pub single_from_count : (ns : List ℕ) → CountUp ns → NoneTwice ns
+pub single_from_count : (ns : List ℕ) → EachOnce ns → NoneTwice ns
 single_from_count ns counts = λ n twice. elim (cases_lt n (length ns)) [
   | inl less ↦ omega (arith, counts n less)
   | inr more ↦
@@ -164,5 +164,5 @@ single_from_count ns counts = λ n twice. elim (cases_lt n (length ns)) [
           | inr other ↦ omega (arith, times-cons n x xs, elsewhere x n other, stands_above size n xs le (omega (arith, added)))
         ]
 
-pub none_missing : (ns : List ℕ) (n : ℕ) → CountUp ns → ¬ (IsMissing ns n)
+pub none_missing : (ns : List ℕ) (n : ℕ) → EachOnce ns → ¬ (IsMissing ns n)
 none_missing ns n counts missing = omega (arith, counts n missing.0, missing.1)

@@ -1,12 +1,12 @@
 -- Draws that name another quorum than the cycle.
-use Rattle.std.proofs.Common.{◌≡◌, ℕ, ◌+◌, ◌<◌, ◌≤◌, ◌⊎◌, List, length, get_or, take, min, Option, None, Some, IfSome, MatchOption, refl, ap, sym, ◌∙◌, inl, inr, arith}
-use Rattle.std.specs.List.{All, Contains}
+use Rattle.std.proofs.Common.{◌≡◌, ℕ, ◌+◌, ◌<◌, ◌≤◌, ◌⊎◌, List, length, get_or, take, min, Option, None, Some, IfSome, MatchOption, refl, sym, ◌∙◌, inl, inr, arith}
+use Rattle.std.specs.List.{All}
 use Rattle.std.proofs.lemmas.Bool.{cases_lt}
 use Rattle.std.proofs.lemmas.List.{take_all}
 use Rattle.std.proofs.lemmas.List.Elements.{All-contains, All-more, All-same, All-weaker, Contains-get_or}
 use Rattle.certificate.specs.Certificates.{Weighted}
-use Rattle.dealer.specs.Cycles.{quorum_of_ticket}
-use Rattle.replay.specs.Records.{Draw, IsLeast, IsRight, IsWrong}
+use Rattle.cluster.specs.Records.{Draw}
+use Rattle.replay.specs.Records.{IsLeast, IsRight, IsWrong}
 
 -- the draw is right, or its ticket is no lower
 abbrev pub IsNoLower : Weighted → ℕ → Draw → Type 0

@@ -3,8 +3,10 @@ mod DrawLemmas
 mod LineLemmas
 mod RecordBodyLemmas
 mod RecordLineLemmas
+mod RecordReadings
 mod RecordTextLemmas
 mod OutputLemmas
 mod Readings
+mod RunLemmas
 mod SoundLemmas
 mod StepsLemmas

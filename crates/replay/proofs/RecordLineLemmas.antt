@@ -1,5 +1,5 @@
 -- Lines of a record have no newline.
-use Rattle.std.proofs.Common.{◌≡◌, ℕ, ◌<◌, ◌≤◌, ◌^◌, List, [], ◌∷◌, ◌++◌, arith, rules, refl}
+use Rattle.std.proofs.Common.{arith, rules}
 use Rattle.certificate.proofs.Cuts.{Lacks, Lacks-append}
 use Rattle.message.specs.Fields.{AllFit, fields}
 use Rattle.replay.specs.declared.record_reading.RecordLine.{RecordLine}

@@ -1,6 +1,6 @@
 -- Texts of records, line by line.
-use Rattle.std.proofs.Common.{◌≡◌, ℕ, ◌+◌, ◌<◌, ◌≤◌, List, [], ◌∷◌, ◌++◌, length, drop, get_or, map, refl, sym, ap, ◌∙◌, append_assoc, arith}
-use Rattle.std.proofs.lemmas.List.{drop_more, length-append}
+use Rattle.std.proofs.Common.{◌≡◌, ℕ, ◌+◌, ◌<◌, List, [], ◌∷◌, ◌++◌, length, drop, get_or, map, sym, ap, ◌∙◌, append_assoc}
+use Rattle.std.proofs.lemmas.List.{drop_more}
 use Rattle.certificate.specs.PlanTexts.{text_of_lines}
 
 abbrev pub lines_by : {X : Type 0} → (X → List ℕ) → List X → List ℕ
@@ -24,11 +24,6 @@ lines_push f (y ∷ ys) x rest =
     append_assoc (f y) (10 ∷ lines_by f (ys ++ x ∷ [])) rest
     ∙ ap (λ (t : List ℕ). f y ++ 10 ∷ t) (lines_push f ys x rest)
     ∙ sym (append_assoc (f y) (10 ∷ lines_by f ys) (f x ++ 10 ∷ rest))
-
--- there are no more lines than bytes
-pub lines_long : {X : Type 0} (f : X → List ℕ) (xs : List X) → length xs ≤ length (lines_by f xs)
-lines_long f [] = omega arith
-lines_long f (x ∷ xs) = omega (arith, lines_long f xs, length-append (f x) (10 ∷ lines_by f xs))
 
 -- one more line of the first list, where the second is empty
 pub first_push : {X : Type 0} (f : X → List ℕ) (xs : List X) (x : X) (body rest after : List ℕ) → body ≡ lines_by f xs ++ rest → rest ≡ f x ++ 10 ∷ after → body ≡ lines_by f (xs ++ x ∷ []) ++ after

@@ -1,14 +1,14 @@
 -- A sound record has no fault.
-use Rattle.std.proofs.Common.{◌≡◌, ℕ, ◌*◌, List, Result, Ok, Err, IfOk, IfErr, length, map, refl, ◌∙◌, subst, sym, arith}
+use Rattle.std.proofs.Common.{◌≡◌, ℕ, ◌*◌, List, Result, Ok, Err, IfOk, IfErr, length, refl, ◌∙◌, subst, sym, arith}
 use Rattle.std.specs.List.{All}
 use Rattle.std.proofs.lemmas.List.{length-map}
 use Rattle.std.proofs.lemmas.List.Elements.{All-contains}
-use Rattle.quorum_set.specs.Counts.{times}
 use Rattle.certificate.specs.Certificates.{Weighted, cycle_len}
 use Rattle.dealer.specs.Accounts.{IsWholeCycles}
 use Rattle.replay.specs.declared.fault.ReplayFault.{ReplayFault}
 use Rattle.replay.specs.declared.fault.ReplayFault.TheVariants.{TicketTwice, TicketMissing, WrongQuorum, PassTwice, PassMissing, WrongRegister, BadLine, OutOfMemory}
-use Rattle.replay.specs.Records.{AreSoundDraws, CountUp, Draw, Entries, IsFirstFault, IsNumberFault, IsRegisterFault, IsRight, IsSoundRecord, IsTicketFault, numbers_of, tickets_of}
+use Rattle.cluster.specs.Records.{Draw}
+use Rattle.replay.specs.Records.{EachOnce, Entries, IsFirstFault, IsNumberFault, IsRegisterFault, IsRight, IsSoundRecord, IsTicketFault, numbers_of, tickets_of}
 use Rattle.replay.proofs.AscendingLemmas.{none_missing, single_from_count}
 
 -- the faults of the parts, in their order
@@ -23,7 +23,7 @@ first_of_tickets w e (PassMissing p) h = absurd h
 first_of_tickets w e (WrongRegister q) h = absurd h
 first_of_tickets w e (BadLine line) h = h
 
-pub first_of_numbers : (w : Weighted) (e : Entries) (fault : ReplayFault) → CountUp (tickets_of e.draws) → All (IsRight w) e.draws → IsNumberFault (numbers_of e.passes) fault → IsFirstFault w e fault
+pub first_of_numbers : (w : Weighted) (e : Entries) (fault : ReplayFault) → EachOnce (tickets_of e.draws) → All (IsRight w) e.draws → IsNumberFault (numbers_of e.passes) fault → IsFirstFault w e fault
 first_of_numbers w e OutOfMemory counts right h = tt
 first_of_numbers w e (PassTwice p) counts right h = ((counts, right), h)
 first_of_numbers w e (PassMissing p) counts right h = ((counts, right), h.0, h.1)
@@ -33,7 +33,7 @@ first_of_numbers w e (WrongQuorum t) counts right h = absurd h
 first_of_numbers w e (WrongRegister q) counts right h = absurd h
 first_of_numbers w e (BadLine line) counts right h = h
 
-pub first_of_register : (w : Weighted) (e : Entries) (fault : ReplayFault) → CountUp (tickets_of e.draws) → All (IsRight w) e.draws → CountUp (numbers_of e.passes) → IsRegisterFault e fault → IsFirstFault w e fault
+pub first_of_register : (w : Weighted) (e : Entries) (fault : ReplayFault) → EachOnce (tickets_of e.draws) → All (IsRight w) e.draws → EachOnce (numbers_of e.passes) → IsRegisterFault e fault → IsFirstFault w e fault
 first_of_register w e (WrongRegister q) counts right up h = ((counts, right), up, h.0, h.1)
 first_of_register w e (PassTwice p) counts right up h = absurd h
 first_of_register w e (PassMissing p) counts right up h = absurd h
@@ -55,7 +55,7 @@ sound_has_no_fault w e (BadLine line) sound h = absurd h
 sound_has_no_fault w e OutOfMemory sound h = refl
 
 -- the tickets of a sound record fill cycles, where they are as many
-pub whole_cycles : (v w : Weighted) (draws : List Draw) (tickets : List ℕ) (k : ℕ) → v ≡ w → tickets ≡ tickets_of draws → CountUp (tickets_of draws) → length draws ≡ k * cycle_len w → IsWholeCycles v k tickets
+pub whole_cycles : (v w : Weighted) (draws : List Draw) (tickets : List ℕ) (k : ℕ) → v ≡ w → tickets ≡ tickets_of draws → EachOnce (tickets_of draws) → length draws ≡ k * cycle_len w → IsWholeCycles v k tickets
 whole_cycles v w draws tickets k same are counts long =
     let all : length (tickets_of draws) ≡ k * cycle_len w = length-map draws (λ d. d.1) ∙ long in
     let whole : IsWholeCycles w k (tickets_of draws) = record { in_all = all; each_once = λ t lt. counts t (omega (arith, all)) } in
@@ -63,12 +63,12 @@ whole_cycles v w draws tickets k same are counts long =
 
 -- the register is looked at last
 
-pub sound_at_end : {X : Type 0} (w : Weighted) (e : Entries) (result : Result X ReplayFault) → CountUp (tickets_of e.draws) → All (IsRight w) e.draws → CountUp (numbers_of e.passes)
+pub sound_at_end : {X : Type 0} (w : Weighted) (e : Entries) (result : Result X ReplayFault) → EachOnce (tickets_of e.draws) → All (IsRight w) e.draws → EachOnce (numbers_of e.passes)
     → IfOk result (λ _. e.register ≡ length e.passes) → IfOk result (λ _. IsSoundRecord w e)
 sound_at_end w e (Ok x) counts right up is = record { tickets = counts; quorums = right; numbers = up; register = is }
 sound_at_end w e (Err fault) counts right up is = tt
 
-pub fault_at_end : {X : Type 0} (w : Weighted) (e : Entries) (result : Result X ReplayFault) → CountUp (tickets_of e.draws) → All (IsRight w) e.draws → CountUp (numbers_of e.passes)
+pub fault_at_end : {X : Type 0} (w : Weighted) (e : Entries) (result : Result X ReplayFault) → EachOnce (tickets_of e.draws) → All (IsRight w) e.draws → EachOnce (numbers_of e.passes)
     → IfErr result (IsRegisterFault e) → IfErr result (IsFirstFault w e)
 fault_at_end w e (Ok x) counts right up is = tt
 fault_at_end w e (Err fault) counts right up is = first_of_register w e fault counts right up is

@@ -4,7 +4,7 @@ use Rattle.std.proofs.lemmas.List.{append-nil}
 use Rattle.world.specs.declared.step.Step.{Step}
 use Rattle.replay.specs.declared.fault.ReplayFault.{ReplayFault}
 use Rattle.replay.specs.declared.fault.ReplayFault.TheVariants.{TicketTwice, TicketMissing, WrongQuorum, PassTwice, PassMissing, WrongRegister, BadLine, OutOfMemory}
-use Rattle.replay.specs.Scripts.{AreSizes, HasStepLine, HaveLines, IsBadBody, IsBadText, step_line, steps_text, world_line}
+use Rattle.replay.specs.Scripts.{AreSizes, HasStepLine, HaveLines, IsBadRest, IsBadText, step_line, steps_text, world_line}
 
 -- the steps are those that were found, and more whose lines are the rest
 pub record GoesOn (found : List Step) (rest : List ℕ) (steps more : List Step) : Type 0 where
@@ -47,7 +47,7 @@ all_found found rest steps [] none goes = sym (goes.steps_are ∙ append-nil fou
 all_found found rest steps (s ∷ others) none goes = absurd (some_text (step_line s) (steps_text others) (sym goes.rest_is ∙ none))
 
 -- the body's bad line is the text's
-pub bad_text : (text body : List ℕ) (clients limit : ℕ) (fault : ReplayFault) → AreSizes clients limit → text ≡ world_line clients limit ++ 10 ∷ body → IsBadBody body fault → IsBadText text fault
+pub bad_text : (text body : List ℕ) (clients limit : ℕ) (fault : ReplayFault) → AreSizes clients limit → text ≡ world_line clients limit ++ 10 ∷ body → IsBadRest body fault → IsBadText text fault
 bad_text text body clients limit (BadLine line) sizes e h =
     inr (record { clients = clients; limit = limit; sizes = sizes; body = body; text_is = e; steps = h.0; ends = h.1; line_is = h.2 })
 bad_text text body clients limit OutOfMemory sizes e h = tt

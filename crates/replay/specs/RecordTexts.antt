@@ -15,7 +15,8 @@ use Rattle.replay.specs.declared.record_reading.RecordLine.{RecordLine}
 use Rattle.replay.specs.declared.record_reading.RecordLine.TheVariants as kinds
 use Rattle.replay.specs.declared.fault.ReplayFault.{ReplayFault}
 use Rattle.replay.specs.declared.fault.ReplayFault.TheVariants.{BadLine, OutOfMemory}
-use Rattle.replay.specs.Records.{Draw, Entries, Pass}
+use Rattle.cluster.specs.Records.{Draw, Pass}
+use Rattle.replay.specs.Records.{Entries}
 
 -- Spelling
 
@@ -43,6 +44,9 @@ HasDrawLine d = (d.0 ≤ 63) × (d.1 < 2 ^ 64) × (d.2 ≤ 4095)
 abbrev pub HasPassLine : Pass → Type 0
 HasPassLine p = (p.0 ≤ 63) × (p.1 < 2 ^ 64)
 
+abbrev pub HasRegisterLine : ℕ → Type 0
+HasRegisterLine n = n < 2 ^ 64
+
 -- the lines of these draws, each with a newline at its end
 abbrev pub draws_text : List Draw → List ℕ
 draws_text draws = text_of_lines (map draw_line draws)
@@ -65,7 +69,7 @@ record_text e = title_line ++ 10 ∷ body_text e
 pub record HasText (e : Entries) : Type 0 where
   pub draws : AllByRecursion HasDrawLine e.draws
   pub passes : AllByRecursion HasPassLine e.passes
-  pub register : e.register < 2 ^ 64
+  pub register : HasRegisterLine e.register
 
 -- The first bad line
 
@@ -86,7 +90,7 @@ record_line l = line_word l ++ fields (line_numbers l)
 abbrev pub HasLine : RecordLine → Type 0
 HasLine (kinds.Draw client ticket quorum) = HasDrawLine (client, ticket, quorum)
 HasLine (kinds.Pass client number) = HasPassLine (client, number)
-HasLine (kinds.Register number) = number < 2 ^ 64
+HasLine (kinds.Register number) = HasRegisterLine number
 
 -- the line of this word and these numbers
 pub record IsLineOf (l : RecordLine) (word numbers : List ℕ) : Type 0 where
@@ -138,3 +142,20 @@ abbrev pub IsBadRest : List ℕ → ReplayFault → Type 0
 IsBadRest body (BadLine line) = IsBadBody body line
 IsBadRest body OutOfMemory = Unit {0}
 IsBadRest body fault = ⊥
+
+-- Facts of the parts of a text
+
+-- the text begins with no line of these
+abbrev pub BeginsWithNone : {X : Type 0} → (X → Type 0) → (X → List ℕ) → List ℕ → Type 0
+BeginsWithNone {X} HasRight line text = (x : X) (more : List ℕ) → HasRight x → text ≢ line x ++ 10 ∷ more
+
+-- the text begins with this line
+pub record IsNext {X : Type 0} (HasLine : X → Type 0) (line : X → List ℕ) (text : List ℕ) (x : X) (rest : List ℕ) : Type 0 where
+  pub has_line : HasLine x
+  pub text_is : text ≡ line x ++ 10 ∷ rest
+
+-- the text begins with these lines, and then with no other of them
+pub record AreFirst {X : Type 0} (HasLine : X → Type 0) (line : X → List ℕ) (text : List ℕ) (xs : List X) (rest : List ℕ) : Type 0 where
+  pub have_lines : AllByRecursion HasLine xs
+  pub text_is : text ≡ text_of_lines (map line xs) ++ rest
+  pub no_more : BeginsWithNone HasLine line rest

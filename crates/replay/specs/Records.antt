@@ -1,5 +1,5 @@
 -- Records of a run: who drew which ticket and was told which quorum, who passed by which number, and what the register was
--- at the end. A record is sound where its tickets and its numbers count up from 0, as a counter hands them out, and each
+-- at the end. A record is sound where its tickets and its numbers are those that a counter hands out from 0, and each
 -- ticket names the quorum at its place of the plan's cycle.
 use Rattle.std.specs.Prelude.{ℕ, ◌≡◌, ◌≢◌, ◌<◌, ◌≤◌, List, length, map}
 use Rattle.std.specs.List.{All, Contains}
@@ -7,16 +7,11 @@ use Rattle.quorum_set.specs.Counts.{times}
 use Rattle.certificate.specs.Certificates.{Weighted}
 use Rattle.dealer.specs.Cycles.{quorum_of_ticket}
 use Rattle.cluster.specs.declared.record.RunRecord.{RunRecord}
+use Rattle.cluster.specs.Records.{Draw, Pass}
+use Rattle.replay.specs.declared.check.Gap.{Gap}
+use Rattle.replay.specs.declared.check.Gap.TheVariants.{Twice, Missing}
 use Rattle.replay.specs.declared.fault.ReplayFault.{ReplayFault}
 use Rattle.replay.specs.declared.fault.ReplayFault.TheVariants.{TicketTwice, TicketMissing, WrongQuorum, PassTwice, PassMissing, WrongRegister, BadLine, OutOfMemory}
-
--- a client, the ticket that it drew, and the quorum that it was told
-abbrev pub Draw : Type 0
-Draw = ℕ × ℕ × ℕ
-
--- a client, and the number by which it passed
-abbrev pub Pass : Type 0
-Pass = ℕ × ℕ
 
 -- what a record says of a run; how many messages were lost is not judged
 pub record Entries : Type 0 where
@@ -36,17 +31,17 @@ numbers_of passes = map (λ p. p.1) passes
 -- Sound records
 
 -- the numbers below how many they are, each once, in any order
-abbrev pub CountUp : List ℕ → Type 0
-CountUp ns = (n : ℕ) → n < length ns → times n ns ≡ 1
+abbrev pub EachOnce : List ℕ → Type 0
+EachOnce ns = (n : ℕ) → n < length ns → times n ns ≡ 1
 
 -- the draw names the quorum at its ticket's place of the cycle
 abbrev pub IsRight : Weighted → Draw → Type 0
 IsRight w d = d.2 ≡ quorum_of_ticket w d.1
 
 pub record IsSoundRecord (w : Weighted) (e : Entries) : Type 0 where
-  pub tickets : CountUp (tickets_of e.draws)
+  pub tickets : EachOnce (tickets_of e.draws)
   pub quorums : All (IsRight w) e.draws
-  pub numbers : CountUp (numbers_of e.passes)
+  pub numbers : EachOnce (numbers_of e.passes)
   pub register : e.register ≡ length e.passes
 
 -- The first fault
@@ -68,19 +63,24 @@ IsLeast P n = P n × ((m : ℕ) → P m → n ≤ m)
 abbrev pub NoneTwice : List ℕ → Type 0
 NoneTwice ns = (n : ℕ) → ¬ (IsTwice ns n)
 
+-- the least number that stands twice, or else the least that is missing
+abbrev pub IsFirstGap : List ℕ → Gap → Type 0
+IsFirstGap ns (Twice n) = IsLeast (IsTwice ns) n
+IsFirstGap ns (Missing n) = NoneTwice ns × IsLeast (IsMissing ns) n
+
 -- the draws are those of a sound record
 abbrev pub AreSoundDraws : Weighted → List Draw → Type 0
-AreSoundDraws w draws = CountUp (tickets_of draws) × All (IsRight w) draws
+AreSoundDraws w draws = EachOnce (tickets_of draws) × All (IsRight w) draws
 
 -- The first fault of a record: each fault is looked for in the whole record before the next one, and the least number is
 -- named. Want of memory says nothing of the record.
 abbrev pub IsFirstFault : Weighted → Entries → ReplayFault → Type 0
 IsFirstFault w e (TicketTwice t) = IsLeast (IsTwice (tickets_of e.draws)) t
 IsFirstFault w e (TicketMissing t) = NoneTwice (tickets_of e.draws) × IsLeast (IsMissing (tickets_of e.draws)) t
-IsFirstFault w e (WrongQuorum t) = CountUp (tickets_of e.draws) × IsLeast (IsWrong w e.draws) t
+IsFirstFault w e (WrongQuorum t) = EachOnce (tickets_of e.draws) × IsLeast (IsWrong w e.draws) t
 IsFirstFault w e (PassTwice p) = AreSoundDraws w e.draws × IsLeast (IsTwice (numbers_of e.passes)) p
 IsFirstFault w e (PassMissing p) = AreSoundDraws w e.draws × NoneTwice (numbers_of e.passes) × IsLeast (IsMissing (numbers_of e.passes)) p
-IsFirstFault w e (WrongRegister q) = AreSoundDraws w e.draws × CountUp (numbers_of e.passes) × (q ≡ length e.passes) × (e.register ≢ q)
+IsFirstFault w e (WrongRegister q) = AreSoundDraws w e.draws × EachOnce (numbers_of e.passes) × (q ≡ length e.passes) × (e.register ≢ q)
 IsFirstFault w e (BadLine line) = ⊥
 IsFirstFault w e OutOfMemory = Unit {0}
 

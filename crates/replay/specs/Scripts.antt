@@ -137,7 +137,7 @@ pub record IsStepOf (s : Step) (word : List ℕ) (number : ℕ) : Type 0 where
   pub number_is : number ≡ step_number s
 
 -- these steps' lines are the text, or the fault is that of the line behind them, where their first line has number 2
-abbrev pub IsBadBody : List ℕ → ReplayFault → Type 0
-IsBadBody body (BadLine line) = (steps : List Step) × EndsBadly body steps × (line ≡ length steps + 2)
-IsBadBody body OutOfMemory = Unit {0}
-IsBadBody body fault = ⊥
+abbrev pub IsBadRest : List ℕ → ReplayFault → Type 0
+IsBadRest body (BadLine line) = (steps : List Step) × EndsBadly body steps × (line ≡ length steps + 2)
+IsBadRest body OutOfMemory = Unit {0}
+IsBadRest body fault = ⊥

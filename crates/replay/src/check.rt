@@ -1,11 +1,11 @@
 //! Checking a record of a run.
-ghost use Rattle.std.specs.Prelude.{◌≡◌, ◌*◌, ◌<◌, ◌≤◌, ℕ, IfErr, IfOk, IfSome, MatchOption, None, min, MatchResult, length, map};
+ghost use Rattle.std.specs.Prelude.{◌≡◌, ◌*◌, ◌<◌, ◌≤◌, ℕ, List, IfErr, IfOk, IfSome, MatchOption, None, min, MatchResult, length, map};
 ghost use Rattle.std.specs.List.{All};
 ghost use Rattle.std.specs.List.Sorted.{IsNonDecreasing};
 ghost use Rattle.quorum_set.specs.Counts.{times};
 ghost use Rattle.certificate.specs.Certificates.{IsCertificate, busiest_count, cycle_len};
 ghost use Rattle.dealer.specs.Accounts.{IsLeastBusiest, account_of};
-ghost use Rattle.replay.specs.Records.{CountUp, IsFirstFault, IsLeast, IsMissing, IsNumberFault, IsRegisterFault, IsRight, IsSoundRecord, IsTicketFault, IsTwice, IsWrong, NoneTwice, entries_of, numbers_of, tickets_of};
+ghost use Rattle.replay.specs.Records.{EachOnce, IsFirstFault, IsFirstGap, IsLeast, IsMissing, IsNumberFault, IsRegisterFault, IsRight, IsSoundRecord, IsTicketFault, IsTwice, IsWrong, NoneTwice, entries_of, numbers_of, tickets_of};
 ghost use Rattle.replay.specs.declared.fault.ReplayFault.TheVariants.{OutOfMemory};
 
 use crate::fault::ReplayFault;
@@ -13,6 +13,37 @@ use certificate::Plan;
 use cluster::RunRecord;
 use dealer::{Account, Cycle};
 use std::alloc::{AllocError, Global};
+
+/// Why numbers are not those below how many they are, each once.
+#[derive(Clone, Copy)]
+enum Gap {
+    /// This number stands twice.
+    Twice(u64),
+    /// This number is missing.
+    Missing(u64),
+}
+
+impl Gap {
+    /// The fault of a record with this gap in its tickets.
+    fn ticket_fault(self) -> ReplayFault
+        ensures { (tickets : List ℕ) → IsFirstGap tickets self → IsTicketFault tickets result }
+    {
+        match self {
+            Gap::Twice(ticket) => ReplayFault::TicketTwice(ticket),
+            Gap::Missing(ticket) => ReplayFault::TicketMissing(ticket),
+        }
+    }
+
+    /// The fault of a record with this gap in the numbers of its passes.
+    fn number_fault(self) -> ReplayFault
+        ensures { (numbers : List ℕ) → IsFirstGap numbers self → IsNumberFault numbers result }
+    {
+        match self {
+            Gap::Twice(number) => ReplayFault::PassTwice(number),
+            Gap::Missing(number) => ReplayFault::PassMissing(number),
+        }
+    }
+}
 
 /// The numbers in ascending order.
 fn ascending(mut numbers: Vec<u64>) -> Vec<u64>
@@ -41,7 +72,7 @@ fn least_twice(ascending: &[u64]) -> Option<u64>
 fn least_missing(ascending: &[u64]) -> Option<u64>
     requires ascending { IsNonDecreasing ascending.now }
     requires apart { NoneTwice ascending.now }
-    ensures { MatchOption result (CountUp ascending.now) (IsLeast (IsMissing ascending.now)) }
+    ensures { MatchOption result (EachOnce ascending.now) (IsLeast (IsMissing ascending.now)) }
 {
     for place in 0..ascending.len() {
         if ascending[place] != place as u64 {
@@ -49,6 +80,20 @@ fn least_missing(ascending: &[u64]) -> Option<u64>
         }
     }
     None
+}
+
+/// The first gap of numbers in any order, if any.
+fn first_gap(numbers: Vec<u64>) -> Option<Gap>
+    ensures { MatchOption result (EachOnce numbers.items) (IsFirstGap numbers.items) }
+{
+    let ascending = ascending(numbers);
+    match least_twice(&ascending) {
+        Some(number) => Some(Gap::Twice(number)),
+        None => match least_missing(&ascending) {
+            Some(number) => Some(Gap::Missing(number)),
+            None => None,
+        },
+    }
 }
 
 /// The lesser of a ticket and the one found before, if any.
@@ -102,33 +147,25 @@ fn cycle_of(alloc: Global, plan: &Plan) -> Result<Cycle, ReplayFault>
     }
 }
 
-/// Refuses tickets that don't count up.
+/// Refuses tickets that are not those below how many they are, each once.
 fn refuse_tickets(alloc: Global, draws: &[(u8, u64, usize)]) -> Result<(), ReplayFault>
-    ensures counted { IfOk result (λ _. CountUp (tickets_of draws.now)) }
+    ensures counted { IfOk result (λ _. EachOnce (tickets_of draws.now)) }
     ensures fault { IfErr result (IsTicketFault (tickets_of draws.now)) }
 {
-    let ascending = ascending(tickets_of(alloc, draws)?);
-    match least_twice(&ascending) {
-        Some(ticket) => Err(ReplayFault::TicketTwice(ticket)),
-        None => match least_missing(&ascending) {
-            Some(ticket) => Err(ReplayFault::TicketMissing(ticket)),
-            None => Ok(()),
-        },
+    match first_gap(tickets_of(alloc, draws)?) {
+        None => Ok(()),
+        Some(gap) => Err(gap.ticket_fault()),
     }
 }
 
-/// Refuses numbers of passes that don't count up.
+/// Refuses numbers of passes that are not those below how many they are, each once.
 fn refuse_numbers(alloc: Global, passes: &[(u8, u64)]) -> Result<(), ReplayFault>
-    ensures counted { IfOk result (λ _. CountUp (numbers_of passes.now)) }
+    ensures counted { IfOk result (λ _. EachOnce (numbers_of passes.now)) }
     ensures fault { IfErr result (IsNumberFault (numbers_of passes.now)) }
 {
-    let ascending = ascending(numbers_of(alloc, passes)?);
-    match least_twice(&ascending) {
-        Some(number) => Err(ReplayFault::PassTwice(number)),
-        None => match least_missing(&ascending) {
-            Some(number) => Err(ReplayFault::PassMissing(number)),
-            None => Ok(()),
-        },
+    match first_gap(numbers_of(alloc, passes)?) {
+        None => Ok(()),
+        Some(gap) => Err(gap.number_fault()),
     }
 }
 

@@ -1,5 +1,12 @@
 //! Laws of the definitions.
 ghost use Rattle.std.specs.Prelude.{◌≡◌, ◌≢◌, ◌++◌, ◌∷◌, ℕ, List, []};
+ghost use Rattle.cluster.specs.declared.record.RunRecord.{RunRecord};
+ghost use Rattle.cluster.specs.Clusters.{ClusterState};
+ghost use Rattle.cluster.specs.Members.{MemberState};
+ghost use Rattle.cluster.specs.Records.{IsRecordOf};
+ghost use Rattle.replay.specs.Records.{Entries, IsSoundRecord, entries_of};
+ghost use Rattle.replay.specs.RecordTexts as record_texts;
+ghost use Rattle.replay.specs.RecordTexts.{HasText, record_text};
 ghost use Rattle.replay.specs.Scripts.{IsFirstBad, IsLine, IsScript, Script, script_text};
 
 /// No line of a script, with its newline, begins a longer one of a script.
@@ -12,4 +19,20 @@ pub fn texts_are_read_in_one_way()
     ensures script { (s t : Script) → IsScript s → IsScript t → script_text s ≡ script_text t → s ≡ t }
     ensures line { (text : List ℕ) (m n : ℕ) → IsFirstBad text m → IsFirstBad text n → m ≡ n }
     ensures never_both { (text : List ℕ) (line : ℕ) (s : Script) → IsFirstBad text line → IsScript s → text ≢ script_text s }
+{}
+
+/// A text spells at most one record, or has a first bad line, of which there is only one; never both. No record's text
+/// begins a longer one.
+pub fn records_are_read_in_one_way()
+    ensures record { (a b : Entries) → HasText a → HasText b → record_text a ≡ record_text b → a ≡ b }
+    ensures end { (a b : Entries) (more : List ℕ) → HasText a → HasText b → record_text a ++ more ≡ record_text b → more ≡ [] }
+    ensures line { (text : List ℕ) (m n : ℕ) → record_texts.IsFirstBad text m → record_texts.IsFirstBad text n → m ≡ n }
+    ensures never_both { (text : List ℕ) (line : ℕ) (e : Entries) → record_texts.IsFirstBad text line → HasText e → text ≢ record_text e }
+{}
+
+/// The record of a cluster that was closed is sound for the plan that its office deals by: `check_record` accepts it, memory
+/// aside.
+pub fn records_of_runs_are_sound()
+    ensures { (c : ClusterState) (members : List MemberState) (r : RunRecord) → IsRecordOf c members r →
+        IsSoundRecord c.office.cycle (entries_of r) }
 {}

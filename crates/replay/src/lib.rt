@@ -21,6 +21,17 @@
 //! `enter C` or `leave C` for a client that enters or leaves, and `! ` with the fault for a step that is refused, which
 //! changes nothing.
 //!
+//! The record of a run by threads has a text too, which [`write_record`] writes and [`read_record`] reads:
+//!
+//! | Line | Told |
+//! |---|---|
+//! | `quorum-record 1` | first of all |
+//! | `draw CLIENT TICKET QUORUM` | any number of them: this client drew this ticket, and was told this quorum |
+//! | `pass CLIENT NUMBER` | and then any number of them: this client passed by this number |
+//! | `register NUMBER` | at last: the register at the end |
+//!
+//! CLIENT is at most 63, QUORUM at most 4095, and the others are below 2^64.
+//!
 //! [`check_record`] tells whether the record of a run by threads is sound: its tickets and its passes are numbered as a
 //! counter hands numbers out, and each ticket names its quorum by the plan's cycle.
 //!
@@ -29,7 +40,7 @@
 //! A text is read exactly where it is the spelling of a script, and else its first bad line is named
 //! (`specs/Scripts.antt`). The output is that of the world's own steps, one after the other (`specs/Outputs.antt`); the
 //! world's proof says that at most one client is inside at a time, so whatever a script does, between two `enter` lines
-//! stands a `leave`. A record is accepted exactly where it is sound, and else its first fault is named
+//! stands a `leave`. So is a record's text read (`specs/RecordTexts.antt`). A record is accepted exactly where it is sound, and else its first fault is named
 //! (`specs/Records.antt`).
 //!
 //! This crate stands on `world`, whose steps it takes, on `certificate` for the plan, on `dealer` for the account of tickets,
@@ -55,6 +66,8 @@ mod laws;
 mod output;
 mod reading;
 mod record_reading;
+#[cfg(test)]
+mod record_tests;
 mod record_writing;
 mod script;
 #[cfg(test)]
@@ -62,8 +75,11 @@ mod tests;
 
 pub use check::check_record;
 pub use fault::ReplayFault;
-pub use laws::{lines_end, texts_are_read_in_one_way};
+pub use laws::{
+    lines_end, records_are_read_in_one_way, records_of_runs_are_sound, texts_are_read_in_one_way,
+};
 pub use output::run_script;
 pub use reading::read_script;
+pub use record_reading::read_record;
 pub use record_writing::write_record;
 pub use script::Script;

@@ -3,7 +3,7 @@ ghost use Rattle.std.specs.Prelude.{◌≡◌, ◌≤◌, ◌==◌, ◌++◌, �
 ghost use Rattle.std.specs.Option.{option_map};
 ghost use Rattle.certificate.specs.PlanTexts.{cut_at};
 ghost use Rattle.world.specs.declared.step.Step.{Step};
-ghost use Rattle.replay.specs.Scripts.{AreSizes, HasStepLine, HaveLines, IsBadBody, IsBadText, IsScript, IsStepOf, Script, script_text, step_line, steps_text, world_line};
+ghost use Rattle.replay.specs.Scripts.{AreSizes, HasStepLine, HaveLines, IsBadRest, IsBadText, IsScript, IsStepOf, Script, script_text, step_line, steps_text, world_line};
 ghost use Rattle.replay.specs.declared.fault.ReplayFault.TheVariants.{OutOfMemory};
 
 use crate::fault::ReplayFault;
@@ -87,7 +87,7 @@ fn read_steps(alloc: Global, text: &[u8]) -> Result<Vec<Step>, ReplayFault>
     ensures spelled { IfOk result (λ steps. text.now ≡ steps_text steps.items) }
     ensures read { (steps : List Step) → HaveLines steps → text.now ≡ steps_text steps
         → MatchResult result (λ found. found.items ≡ steps) (λ fault. fault ≡ OutOfMemory) }
-    ensures bad { IfErr result (IsBadBody text.now) }
+    ensures bad { IfErr result (IsBadRest text.now) }
 {
     let mut steps = Vec::new(alloc);
     let mut rest = text;

@@ -1,11 +1,20 @@
 //! Reading the record of a run.
-ghost use Rattle.std.specs.Prelude.{◌≡◌, ◌++◌, ◌∷◌, [], ℕ, List, IfSome, MatchOption};
+ghost use Rattle.std.specs.Prelude.{◌≡◌, ◌≢◌, ◌++◌, ◌∷◌, [], ℕ, List, IfErr, IfOk, IfSome, MatchOption, MatchResult};
 ghost use Rattle.message.specs.Fields.{fields};
-ghost use Rattle.replay.specs.RecordTexts.{HasLine, IsLineOf, record_line};
+ghost use Rattle.cluster.specs.Records.{Draw, Pass};
+ghost use Rattle.replay.specs.Records.{Entries, entries_of};
+ghost use Rattle.replay.specs.RecordTexts.{AreFirst, BeginsWithNone, HasDrawLine, HasLine, HasPassLine, HasRegisterLine, HasText, IsBadRecord, IsBadRest, IsLineOf, IsNext, body_text, draw_line, pass_line, record_line, record_text, register_line, title_line};
+ghost use Rattle.replay.specs.declared.fault.ReplayFault.TheVariants.{OutOfMemory};
 ghost use Rattle.replay.specs.declared.record_reading.RecordLine.{RecordLine};
 
+use crate::fault::ReplayFault;
 use crate::reading::first_line;
+use cluster::RunRecord;
 use message::{cut, fields};
+use std::alloc::{AllocError, Global};
+
+/// The first line of a record.
+const TITLE: &[u8] = b"quorum-record 1";
 
 /// The highest number of a client.
 const HIGHEST_CLIENT: u64 = 63;
@@ -22,6 +31,38 @@ enum RecordLine {
     Pass(u8, u64),
     /// The register.
     Register(u64),
+}
+
+impl RecordLine {
+    /// The draw, where the line is one.
+    fn draw(self) -> Option<(u8, u64, usize)>
+        ensures { MatchOption result ((d : Draw) → self ≢ RecordLine.Draw d.0 d.1 d.2) (λ d. self ≡ RecordLine.Draw d.0 d.1 d.2) }
+    {
+        match self {
+            RecordLine::Draw(client, ticket, quorum) => Some((client, ticket, quorum)),
+            RecordLine::Pass(..) | RecordLine::Register(_) => None,
+        }
+    }
+
+    /// The pass, where the line is one.
+    fn pass(self) -> Option<(u8, u64)>
+        ensures { MatchOption result ((p : Pass) → self ≢ RecordLine.Pass p.0 p.1) (λ p. self ≡ RecordLine.Pass p.0 p.1) }
+    {
+        match self {
+            RecordLine::Pass(client, number) => Some((client, number)),
+            RecordLine::Draw(..) | RecordLine::Register(_) => None,
+        }
+    }
+
+    /// The register, where the line is its line.
+    fn register(self) -> Option<u64>
+        ensures { MatchOption result ((n : ℕ) → self ≢ RecordLine.Register n) (λ n. self ≡ RecordLine.Register n) }
+    {
+        match self {
+            RecordLine::Register(number) => Some(number),
+            RecordLine::Draw(..) | RecordLine::Pass(..) => None,
+        }
+    }
 }
 
 fn draw_of(word: &[u8], client: u64, ticket: u64, quorum: u64) -> Option<RecordLine>
@@ -104,5 +145,125 @@ fn next_line(text: &[u8]) -> Option<(RecordLine, &[u8])>
             None => None,
         },
         None => None,
+    }
+}
+
+/// The draw at the front of a text, and what follows its line.
+fn next_draw(text: &[u8]) -> Option<((u8, u64, usize), &[u8])>
+    ensures { MatchOption result (BeginsWithNone HasDrawLine draw_line text.now) (λ x. IsNext HasDrawLine draw_line text.now x.0 x.1.now) }
+{
+    let Some((line, rest)) = next_line(text) else {
+        return None;
+    };
+    match line.draw() {
+        Some(draw) => Some((draw, rest)),
+        None => None,
+    }
+}
+
+/// The pass at the front of a text, and what follows its line.
+fn next_pass(text: &[u8]) -> Option<((u8, u64), &[u8])>
+    ensures { MatchOption result (BeginsWithNone HasPassLine pass_line text.now) (λ x. IsNext HasPassLine pass_line text.now x.0 x.1.now) }
+{
+    let Some((line, rest)) = next_line(text) else {
+        return None;
+    };
+    match line.pass() {
+        Some(pass) => Some((pass, rest)),
+        None => None,
+    }
+}
+
+/// The register at the front of a text, and what follows its line.
+fn next_register(text: &[u8]) -> Option<(u64, &[u8])>
+    ensures { MatchOption result (BeginsWithNone HasRegisterLine register_line text.now) (λ x. IsNext HasRegisterLine register_line text.now x.0 x.1.now) }
+{
+    let Some((line, rest)) = next_line(text) else {
+        return None;
+    };
+    match line.register() {
+        Some(number) => Some((number, rest)),
+        None => None,
+    }
+}
+
+/// The draws at the front of a text, and what follows their lines.
+fn first_draws(alloc: Global, text: &[u8]) -> Result<(Vec<(u8, u64, usize)>, &[u8]), AllocError>
+    ensures { IfOk result (λ x. AreFirst HasDrawLine draw_line text.now x.0.items x.1.now) }
+{
+    let mut draws = Vec::new(alloc);
+    let mut rest = text;
+    'draws: while let Some((draw, after)) = next_draw(rest) {
+        draws.push(draw)?;
+        rest = after;
+    }
+    Ok((draws, rest))
+}
+
+/// The passes at the front of a text, and what follows their lines.
+fn first_passes(alloc: Global, text: &[u8]) -> Result<(Vec<(u8, u64)>, &[u8]), AllocError>
+    ensures { IfOk result (λ x. AreFirst HasPassLine pass_line text.now x.0.items x.1.now) }
+{
+    let mut passes = Vec::new(alloc);
+    let mut rest = text;
+    'passes: while let Some((pass, after)) = next_pass(rest) {
+        passes.push(pass)?;
+        rest = after;
+    }
+    Ok((passes, rest))
+}
+
+/// What stands behind the first line. Its own first line has number 2.
+fn read_body(alloc: Global, text: &[u8]) -> Result<RunRecord, ReplayFault>
+    ensures spelled { IfOk result (λ run. HasText (entries_of run) × (text.now ≡ body_text (entries_of run))) }
+    ensures bad { IfErr result (IsBadRest text.now) }
+    ensures lost { IfOk result (λ run. run.lost ≡ 0) }
+{
+    let (draws, rest) = first_draws(alloc, text)?;
+    let (passes, rest) = first_passes(alloc, rest)?;
+    let line = draws.len() + passes.len() + 2;
+    let Some((register, rest)) = next_register(rest) else {
+        return Err(ReplayFault::BadLine(line));
+    };
+    if !rest.is_empty() {
+        return Err(ReplayFault::BadLine(line + 1));
+    }
+    Ok(RunRecord {
+        draws,
+        passes,
+        register,
+        lost: 0,
+    })
+}
+
+/// What stands behind the first line of a record.
+fn behind_title(text: &[u8]) -> Option<&[u8]>
+    ensures { MatchOption result ((body : List ℕ) → text.now ≢ title_line ++ 10 ∷ body) (λ body. text.now ≡ title_line ++ 10 ∷ body.now) }
+{
+    match first_line(text) {
+        Some((line, rest)) if line == TITLE => Some(rest),
+        _ => None,
+    }
+}
+
+/// Reads the record of a run from its text.
+///
+/// Refused is the first line that is missing, is spelled otherwise, is out of place, or has no newline; a line behind the
+/// register's is one too (`BadLine`). How many messages were lost reads as 0. Want of memory may come at any point. The
+/// time is that of one pass over the text.
+pub fn read_record(alloc: Global, text: &[u8]) -> Result<RunRecord, ReplayFault>
+    // What is read is spelled so.
+    ensures spelled { IfOk result (λ run. HasText (entries_of run) × (text.now ≡ record_text (entries_of run))) }
+    // What is spelled so is read.
+    ensures read { (e : Entries) → HasText e → text.now ≡ record_text e
+        → MatchResult result (λ run. entries_of run ≡ e) (λ fault. fault ≡ OutOfMemory) }
+    // Which line is refused.
+    ensures bad { IfErr result (IsBadRecord text.now) }
+    // No text says how many messages were lost.
+    ensures lost { IfOk result (λ run. run.lost ≡ 0) }
+{
+    match behind_title(text) {
+        Some(body) => read_body(alloc, body),
+        None => Err(ReplayFault::BadLine(1)),
     }
 }

@@ -4,7 +4,8 @@ use Rattle.std.specs.Prelude.{IfOk, IfErr}
 use Rattle.quorum_set.specs.Sets.{IsSet}
 use Rattle.message.specs.declared.message.ToClient.{ToClient}
 use Rattle.requester.specs.declared.fault.ClientFault.{ClientFault}
-use Rattle.requester.specs.declared.state.Reply.{Reply}
+use Rattle.message.specs.declared.message.ToVoter.{ToVoter}
+use Rattle.requester.specs.declared.state.Seen.{Seen}
 use Rattle.requester.specs.declared.state.Seen.TheVariants.{Nothing}
 use Rattle.requester.specs.declared.state.ClientState.{ClientState}
 use Rattle.requester.specs.Words.{holds}
@@ -19,42 +20,46 @@ pub record IsSameClient (x y : ClientState) : Type 0 where
   pub id : y.id ≡ x.id
   pub limit : y.limit ≡ x.limit
 
--- what a reply and the client afterwards say together
-abbrev pub outcome : Reply → ClientState → Outcome
-outcome r y = record { out = r.out.items; seen = r.seen; state = y }
+-- what the messages, what is seen and the client afterwards say together
+abbrev pub outcome : List ToVoter → Seen → ClientState → Outcome
+outcome out seen y = record { out = out; seen = seen; state = y }
 
-after_call : (x y : ClientState) (cause : Cause) (r : Result Reply ClientFault) → IsSound x → IfOk r (λ _. Accepts x cause)
-    → IfOk r (λ a. step x cause ≡ Ok (outcome a y)) → IfErr r (λ f. (step x cause ≡ Err f) × (y ≡ x)) → IsSameClient x y
-after_call x y cause (Ok a) s accepts done refused =
-    let k = met-step x cause (outcome a y) s accepts done in
-    record { sound = sound-step x cause (outcome a y) s accepts done; id = k.id; limit = k.limit }
-after_call x y cause (Err f) s accepts done refused = subst (IsSameClient x) (sym refused.1) (record { sound = s; id = refl; limit = refl })
+-- the fault is the definition's, the client is as it was, and there are no messages
+abbrev pub Refused : ClientState → ClientState → List ToVoter → Result Outcome ClientFault → ClientFault → Type 0
+Refused x y out wanted f = (wanted ≡ Err f) × (y ≡ x) × (out ≡ [])
 
-with_some : (q : List ℕ) (r : Result Reply ClientFault) → 1 ≤ length q → IfOk r (λ _. IsSet q) → IfOk r (λ _. IsSet q × (1 ≤ length q))
+after_call : (x y : ClientState) (out : List ToVoter) (cause : Cause) (r : Result Seen ClientFault) → IsSound x → IfOk r (λ _. Accepts x cause)
+    → IfOk r (λ a. step x cause ≡ Ok (outcome out a y)) → IfErr r (Refused x y out (step x cause)) → IsSameClient x y
+after_call x y out cause (Ok a) s accepts done refused =
+    let k = met-step x cause (outcome out a y) s accepts done in
+    record { sound = sound-step x cause (outcome out a y) s accepts done; id = k.id; limit = k.limit }
+after_call x y out cause (Err f) s accepts done refused = subst (IsSameClient x) (sym refused.1) (record { sound = s; id = refl; limit = refl })
+
+with_some : (q : List ℕ) (r : Result Seen ClientFault) → 1 ≤ length q → IfOk r (λ _. IsSet q) → IfOk r (λ _. IsSet q × (1 ≤ length q))
 with_some q (Ok a) some set = (set, some)
 with_some q (Err f) some set = tt
 
-accepted : (x : ClientState) (cause : Cause) (r : Result Reply ClientFault) → Accepts x cause → IfOk r (λ _. Accepts x cause)
+accepted : (x : ClientState) (cause : Cause) (r : Result Seen ClientFault) → Accepts x cause → IfOk r (λ _. Accepts x cause)
 accepted x cause (Ok a) k = k
 accepted x cause (Err f) k = tt
 
-pub after_ask : (x y : ClientState) (q : List ℕ) (r : Result Reply ClientFault) → IsSound x → 1 ≤ length q → IfOk r (λ _. IsSet q)
-    → IfOk r (λ a. ask x q ≡ Ok (outcome a y)) → IfErr r (λ f. (ask x q ≡ Err f) × (y ≡ x)) → IsSameClient x y
+pub after_ask : (x y : ClientState) (out : List ToVoter) (q : List ℕ) (r : Result Seen ClientFault) → IsSound x → 1 ≤ length q → IfOk r (λ _. IsSet q)
+    → IfOk r (λ a. ask x q ≡ Ok (outcome out a y)) → IfErr r (Refused x y out (ask x q)) → IsSameClient x y
 unfolding step
-after_ask x y q r s some set asked refused = after_call x y (Asks q) r s (with_some q r some set) asked refused
+after_ask x y out q r s some set asked refused = after_call x y out (Asks q) r s (with_some q r some set) asked refused
 
-pub after_leave : (x y : ClientState) (r : Result Reply ClientFault) → IsSound x
-    → IfOk r (λ a. leave x ≡ Ok (outcome a y)) → IfErr r (λ f. (leave x ≡ Err f) × (y ≡ x)) → IsSameClient x y
+pub after_leave : (x y : ClientState) (out : List ToVoter) (r : Result Seen ClientFault) → IsSound x
+    → IfOk r (λ a. leave x ≡ Ok (outcome out a y)) → IfErr r (Refused x y out (leave x)) → IsSameClient x y
 unfolding step
-after_leave x y r s left refused = after_call x y Leaves r s (accepted x Leaves r tt) left refused
+after_leave x y out r s left refused = after_call x y out Leaves r s (accepted x Leaves r tt) left refused
 
-pub after_give_up : (x y : ClientState) (r : Result Reply ClientFault) → IsSound x
-    → IfOk r (λ a. give_up x ≡ Ok (outcome a y)) → IfErr r (λ f. (give_up x ≡ Err f) × (y ≡ x)) → IsSameClient x y
+pub after_give_up : (x y : ClientState) (out : List ToVoter) (r : Result Seen ClientFault) → IsSound x
+    → IfOk r (λ a. give_up x ≡ Ok (outcome out a y)) → IfErr r (Refused x y out (give_up x)) → IsSameClient x y
 unfolding step
-after_give_up x y r s given_up refused = after_call x y GivesUp r s (accepted x GivesUp r tt) given_up refused
+after_give_up x y out r s given_up refused = after_call x y out GivesUp r s (accepted x GivesUp r tt) given_up refused
 
-pub after_take : (x y : ClientState) (m : ToClient) (r : Reply) → IsSound x → take x m ≡ outcome r y → IsSameClient x y
-after_take x y m r s e =
+pub after_take : (x y : ClientState) (m : ToClient) (out : List ToVoter) (seen : Seen) → IsSound x → take x m ≡ outcome out seen y → IsSameClient x y
+after_take x y m out seen s e =
     let k = met-take x m s in
     let state = ap (λ (o : Outcome). o.state) e in
     subst (IsSameClient x) state (record { sound = sound-take x m s; id = k.id; limit = k.limit })

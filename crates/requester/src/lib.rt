@@ -17,6 +17,9 @@
 //! elsewhere too, as a board between threads, asks [`Requester::would_hold`] before a message, takes the vote there first,
 //! and after each call gives back what the client holds no longer.
 //!
+//! [`Requester::ask_into`], [`Requester::take_into`] and so on do the same with the messages in a buffer that the caller
+//! keeps. They are for whoever makes many steps: no [`Reply`], which has room for 64 messages, is made and moved.
+//!
 //! # What is proved
 //!
 //! The steps are exactly the definition in `specs/Steps.antt`, whose state is a phase, a stamp and a clock, a quorum, two

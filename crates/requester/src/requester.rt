@@ -1,11 +1,11 @@
 //! A client.
-ghost use Rattle.std.specs.Prelude.{◌≡◌, ◌<◌, ◌≤◌, ◌^◌, IfErr, IfOk, Err, Ok, length};
+ghost use Rattle.std.specs.Prelude.{◌≡◌, ◌<◌, ◌≤◌, ◌^◌, [], IfErr, IfOk, Err, Ok, length};
 ghost use Rattle.requester.specs.Soundness.{IsSound};
 ghost use Rattle.requester.specs.Words.{grant_of, is_spent};
 ghost use Rattle.requester.specs.Steps.{ask, give_up, leave, remind, start, take, would_hold};
 
 use crate::fault::ClientFault;
-use crate::state::{ClientState, Phase, Reminders, Reply};
+use crate::state::{ClientState, Messages, Phase, Reminders, Reply, Seen};
 use arrayvec::ArrayVec;
 use message::ToClient;
 use quorum_set::QSet;
@@ -115,7 +115,21 @@ impl Requester {
         ensures id { self.new.id ≡ self.old.id }
         ensures limit { self.new.limit ≡ self.old.limit }
     {
-        self.state.ask(quorum)
+        let mut out = ArrayVec::new();
+        let seen = self.ask_into(quorum, &mut out)?;
+        Ok(Reply { out, seen })
+    }
+
+    /// [`Requester::ask`], with the messages in `out` in place of what was there; where it is refused, `out` is empty.
+    pub fn ask_into(&mut self, quorum: &QSet, out: &mut Messages) -> Result<Seen, ClientFault>
+        requires { 1 ≤ length quorum.now }
+        ensures asked { IfOk result (λ seen. ask self.old quorum.now ≡ Ok (record { out = out.new.items; seen = seen; state = self.new })) }
+        ensures refused { IfErr result (λ fault. (ask self.old quorum.now ≡ Err fault) × (self.new ≡ self.old) × (out.new.items ≡ [])) }
+        ensures id { self.new.id ≡ self.old.id }
+        ensures limit { self.new.limit ≡ self.old.limit }
+    {
+        out.clear();
+        self.state.ask(quorum, out)
     }
 
     /// Takes a message that names this client and a voter below 64.
@@ -126,7 +140,21 @@ impl Requester {
         ensures id { self.new.id ≡ self.old.id }
         ensures limit { self.new.limit ≡ self.old.limit }
     {
-        self.state.take(message)
+        let mut out = ArrayVec::new();
+        let seen = self.take_into(message, &mut out);
+        Reply { out, seen }
+    }
+
+    /// [`Requester::take`], with the messages in `out` in place of what was there.
+    pub fn take_into(&mut self, message: &ToClient, out: &mut Messages) -> Seen
+        requires client { message.now.client ≡ self.old.id }
+        requires voter { message.now.voter < 64 }
+        ensures taken { take self.old message.now ≡ record { out = out.new.items; seen = result; state = self.new } }
+        ensures id { self.new.id ≡ self.old.id }
+        ensures limit { self.new.limit ≡ self.old.limit }
+    {
+        out.clear();
+        self.state.take(message, out)
     }
 
     /// Whether `take` would hold a vote for this message: it is a LOCKED that counts.
@@ -145,7 +173,20 @@ impl Requester {
         ensures id { self.new.id ≡ self.old.id }
         ensures limit { self.new.limit ≡ self.old.limit }
     {
-        self.state.leave()
+        let mut out = ArrayVec::new();
+        let seen = self.leave_into(&mut out)?;
+        Ok(Reply { out, seen })
+    }
+
+    /// [`Requester::leave`], with the messages in `out` in place of what was there; where it is refused, `out` is empty.
+    pub fn leave_into(&mut self, out: &mut Messages) -> Result<Seen, ClientFault>
+        ensures left { IfOk result (λ seen. leave self.old ≡ Ok (record { out = out.new.items; seen = seen; state = self.new })) }
+        ensures refused { IfErr result (λ fault. (leave self.old ≡ Err fault) × (self.new ≡ self.old) × (out.new.items ≡ [])) }
+        ensures id { self.new.id ≡ self.old.id }
+        ensures limit { self.new.limit ≡ self.old.limit }
+    {
+        out.clear();
+        self.state.leave(out)
     }
 
     /// Gives the request up: RELEASE to each member, in ascending order. Refused with C3 unless the client asks.
@@ -155,7 +196,20 @@ impl Requester {
         ensures id { self.new.id ≡ self.old.id }
         ensures limit { self.new.limit ≡ self.old.limit }
     {
-        self.state.give_up()
+        let mut out = ArrayVec::new();
+        let seen = self.give_up_into(&mut out)?;
+        Ok(Reply { out, seen })
+    }
+
+    /// [`Requester::give_up`], with the messages in `out` in place of what was there; where it is refused, `out` is empty.
+    pub fn give_up_into(&mut self, out: &mut Messages) -> Result<Seen, ClientFault>
+        ensures given_up { IfOk result (λ seen. give_up self.old ≡ Ok (record { out = out.new.items; seen = seen; state = self.new })) }
+        ensures refused { IfErr result (λ fault. (give_up self.old ≡ Err fault) × (self.new ≡ self.old) × (out.new.items ≡ [])) }
+        ensures id { self.new.id ≡ self.old.id }
+        ensures limit { self.new.limit ≡ self.old.limit }
+    {
+        out.clear();
+        self.state.give_up(out)
     }
 
     /// What to tell again while asking, for messages that were lost: to each member whose vote is not held, in ascending

@@ -4,7 +4,7 @@ ghost use Rattle.std.specs.List.{AllByRecursion, IsDistinct};
 ghost use Rattle.arrayvec.specs.ArrayVec.{array_vec_len};
 ghost use Rattle.quorum_set.specs.Sets.{IsSet};
 ghost use Rattle.requester.specs.Words.{holds, holds_under, is_covered, is_current, is_hindered, is_member};
-ghost use Rattle.requester.specs.Steps.{ask, cleared, failed, give_up, hold, inquired, is_fresh, leave, locked, relinquish, relinquish_inquired, relinquish_marked, released, remind, remind_member, take, take_body, tell, tell_members, would_hold};
+ghost use Rattle.requester.specs.Steps.{ask, cleared, failed, give_up, hold, inquired, is_fresh, leave, locked, relinquish, relinquish_inquired, relinquish_marked, remind, remind_member, take, take_body, tell, tell_members, would_hold};
 
 use crate::fault::ClientFault;
 use arrayvec::ArrayVec;
@@ -89,15 +89,14 @@ impl ClientState {
         }
     }
 
-    fn tell_members(&self, body: VoterBody) -> Messages
+    fn tell_members(&self, body: VoterBody, out: &mut Messages)
         requires few { array_vec_len self.now.quorum ≤ 64 }
-        ensures { result.items ≡ tell_members self.now body }
+        requires room { out.old.items ≡ [] }
+        ensures { out.new.items ≡ tell_members self.now body }
     {
-        let mut out = ArrayVec::new();
         for v in self.quorum.as_slice() {
             out.push(self.tell(*v, body));
         }
-        out
     }
 
     fn is_member(&self, voter: u8) -> bool
@@ -169,10 +168,11 @@ impl ClientState {
 
     /// A new request, of this quorum, under the next stamp.
     #[tactic(auto, unfolding(crate::specs::Steps::ask))]
-    pub fn ask(&mut self, quorum: &QSet) -> Result<Reply, ClientFault>
+    pub fn ask(&mut self, quorum: &QSet, out: &mut Messages) -> Result<Seen, ClientFault>
         requires few { self.old.limit < 2 ^ 63 }
-        ensures asked { IfOk result (λ r. ask self.old quorum.now ≡ Ok (record { out = r.out.items; seen = r.seen; state = self.new })) }
-        ensures refused { IfErr result (λ fault. (ask self.old quorum.now ≡ Err fault) × (self.new ≡ self.old)) }
+        requires room { out.old.items ≡ [] }
+        ensures asked { IfOk result (λ seen. ask self.old quorum.now ≡ Ok (record { out = out.new.items; seen = seen; state = self.new })) }
+        ensures refused { IfErr result (λ fault. (ask self.old quorum.now ≡ Err fault) × (self.new ≡ self.old) × (out.new.items ≡ [])) }
         ensures set { IfOk result (λ _. IsSet quorum.now) }
     {
         if self.phase != Phase::Idle {
@@ -186,10 +186,8 @@ impl ClientState {
         self.stamp = self.clock;
         self.phase = Phase::Asking;
         self.quorum = quorum.members();
-        Ok(Reply {
-            out: self.tell_members(VoterBody::Request { stamp: self.stamp }),
-            seen: Seen::Nothing,
-        })
+        self.tell_members(VoterBody::Request { stamp: self.stamp }, out);
+        Ok(Seen::Nothing)
     }
 
     /// Gives a vote back, if it is held.
@@ -336,17 +334,16 @@ impl ClientState {
 
     /// A message comes.
     #[tactic(auto, unfolding(crate::specs::Steps::take))]
-    pub fn take(&mut self, message: &ToClient) -> Reply
+    pub fn take(&mut self, message: &ToClient, out: &mut Messages) -> Seen
         requires voter { message.now.voter < 64 }
         requires voters { AllByRecursion (λ v. v < 64) self.old.quorum.items }
         requires apart { IsDistinct eqb self.old.quorum.items }
+        requires room { out.old.items ≡ [] }
         requires few { array_vec_len self.old.quorum ≤ 64 }
-        ensures { take self.old message.now ≡ record { out = result.out.items; seen = result.seen; state = self.new } }
+        ensures { take self.old message.now ≡ record { out = out.new.items; seen = result; state = self.new } }
     {
         self.clock = self.clock.max(message.seen);
-        let mut out = ArrayVec::new();
-        let seen = self.take_body(message.voter, message.body, &mut out);
-        Reply { out, seen }
+        self.take_body(message.voter, message.body, out)
     }
 
     /// Whether a message is a LOCKED that counts.
@@ -364,40 +361,45 @@ impl ClientState {
     }
 
     /// The request is over: RELEASE to each member.
-    fn release(&mut self, seen: Seen) -> Reply
+    fn release(&mut self, out: &mut Messages)
         requires few { array_vec_len self.old.quorum ≤ 64 }
-        ensures { released self.old seen ≡ record { out = result.out.items; seen = result.seen; state = self.new } }
+        requires room { out.old.items ≡ [] }
+        ensures state { self.new ≡ record (cleared self.old) { phase = Phase.Idle } }
+        ensures out { out.new.items ≡ tell_members self.old (VoterBody.Release self.old.stamp) }
     {
-        let out = self.tell_members(VoterBody::Release { stamp: self.stamp });
+        self.tell_members(VoterBody::Release { stamp: self.stamp }, out);
         self.clear();
         self.phase = Phase::Idle;
-        Reply { out, seen }
     }
 
     /// Leaves, from inside.
     #[tactic(auto, unfolding(crate::specs::Steps::leave))]
-    pub fn leave(&mut self) -> Result<Reply, ClientFault>
+    pub fn leave(&mut self, out: &mut Messages) -> Result<Seen, ClientFault>
         requires few { array_vec_len self.old.quorum ≤ 64 }
-        ensures left { IfOk result (λ r. leave self.old ≡ Ok (record { out = r.out.items; seen = r.seen; state = self.new })) }
-        ensures refused { IfErr result (λ fault. (leave self.old ≡ Err fault) × (self.new ≡ self.old)) }
+        requires room { out.old.items ≡ [] }
+        ensures left { IfOk result (λ seen. leave self.old ≡ Ok (record { out = out.new.items; seen = seen; state = self.new })) }
+        ensures refused { IfErr result (λ fault. (leave self.old ≡ Err fault) × (self.new ≡ self.old) × (out.new.items ≡ [])) }
     {
         if self.phase != Phase::Inside {
             return Err(ClientFault::NotInside);
         }
-        Ok(self.release(Seen::Left))
+        self.release(out);
+        Ok(Seen::Left)
     }
 
     /// Gives the request up, while asking.
     #[tactic(auto, unfolding(crate::specs::Steps::give_up))]
-    pub fn give_up(&mut self) -> Result<Reply, ClientFault>
+    pub fn give_up(&mut self, out: &mut Messages) -> Result<Seen, ClientFault>
         requires few { array_vec_len self.old.quorum ≤ 64 }
-        ensures given_up { IfOk result (λ r. give_up self.old ≡ Ok (record { out = r.out.items; seen = r.seen; state = self.new })) }
-        ensures refused { IfErr result (λ fault. (give_up self.old ≡ Err fault) × (self.new ≡ self.old)) }
+        requires room { out.old.items ≡ [] }
+        ensures given_up { IfOk result (λ seen. give_up self.old ≡ Ok (record { out = out.new.items; seen = seen; state = self.new })) }
+        ensures refused { IfErr result (λ fault. (give_up self.old ≡ Err fault) × (self.new ≡ self.old) × (out.new.items ≡ [])) }
     {
         if self.phase != Phase::Asking {
             return Err(ClientFault::NotAsking);
         }
-        Ok(self.release(Seen::Nothing))
+        self.release(out);
+        Ok(Seen::Nothing)
     }
 
     fn remind_member(&self, voter: u8, out: &mut Reminders)

@@ -1,6 +1,7 @@
 ghost use Rattle.std.specs.Prelude.{◌≡◌, ◌<◌, IfSome};
 
 use super::*;
+use arrayvec::ArrayVec;
 use message::{Message, ToClient, ToVoter, read_message, write_message};
 use quorum_set::QSet;
 use std::alloc::{AllocError, Global};
@@ -31,15 +32,25 @@ fn lines(alloc: Global, messages: &[ToVoter]) -> Result<String, AllocError> {
     Ok(text)
 }
 
-/// The lines of the reply, and what is seen.
-fn shown(alloc: Global, reply: &Reply) -> Result<String, AllocError> {
-    let mut text = lines(alloc, reply.out.as_slice())?;
-    match reply.seen {
-        Seen::Nothing => (),
-        Seen::Entered => text.push_str("entered")?,
-        Seen::Left => text.push_str("left")?,
+/// The lines of the messages, and what is seen, or the fault.
+fn called(
+    alloc: Global,
+    out: &Messages,
+    seen: Result<Seen, ClientFault>,
+) -> Result<String, AllocError> {
+    let mut text = lines(alloc, out.as_slice())?;
+    match seen {
+        Ok(Seen::Nothing) => (),
+        Ok(Seen::Entered) => text.push_str("entered")?,
+        Ok(Seen::Left) => text.push_str("left")?,
+        Err(fault) => write!(text, "{fault}")?,
     }
     Ok(text)
+}
+
+/// The lines of the reply, and what is seen.
+fn shown(alloc: Global, reply: &Reply) -> Result<String, AllocError> {
+    called(alloc, &reply.out, Ok(reply.seen))
 }
 
 /// The lines of the reply, and what is seen, or the fault.
@@ -61,6 +72,42 @@ fn ask(alloc: Global, client: &mut Requester) -> Result<String, AllocError>
         return Ok(String::new(alloc));
     }
     answer(alloc, client.ask(&quorum))
+}
+
+/// What the client answers in the buffer where it is to ask voters 0 and 1.
+fn ask_into(alloc: Global, client: &mut Requester, out: &mut Messages) -> Result<String, AllocError>
+    ensures id { client.new.id ≡ client.old.id }
+{
+    let mut quorum = QSet::empty();
+    quorum.insert(0);
+    quorum.insert(1);
+    if quorum.len() == 0 {
+        return Ok(String::new(alloc));
+    }
+    let seen = client.ask_into(&quorum, out);
+    called(alloc, out, seen)
+}
+
+/// Whether the client, told each line in turn, answers in one buffer what stands beside it.
+fn plays_into(
+    alloc: Global,
+    client: &mut Requester,
+    script: &[(&str, &str)],
+    out: &mut Messages,
+) -> Result<bool, AllocError>
+    requires id { client.old.id ≡ 0 }
+    ensures id { client.new.id ≡ client.old.id }
+{
+    for (line, want) in script {
+        let Some(message) = told(line) else {
+            return Ok(false);
+        };
+        let seen = client.take_into(&message, out);
+        if called(alloc, out, Ok(seen))?.as_str() != *want {
+            return Ok(false);
+        }
+    }
+    Ok(true)
 }
 
 /// Whether the client, told each line in turn, answers what stands beside it.
@@ -188,5 +235,42 @@ fn readers(rt: HostRuntime) -> Result<(), Fail> {
     assert_eq!(rt; client.held(0), Some(4));
     assert_eq!(rt; (client.id(), client.stamp(), client.spent()), (0, 1, true));
     assert_eq!(rt; client.quorum(), [0, 1].as_slice());
+    Ok(())
+}
+
+#[test]
+fn one_buffer_serves_each_call(rt: HostRuntime) -> Result<(), Fail> {
+    let alloc = rt.alloc();
+    let mut client = Requester::new(0, 9);
+    let mut out = ArrayVec::new();
+    let first = ask_into(alloc, &mut client, &mut out)?;
+    assert_eq!(rt; first.as_str(), "request 0 0 1;request 0 1 1;");
+    let busy = ask_into(alloc, &mut client, &mut out)?;
+    assert_eq!(rt; busy.as_str(), "C1 Busy");
+    let script = [
+        ("fail 1 0 1 1", ""),
+        ("locked 0 0 1 1 1", ""),
+        ("inquire 0 0 1 1", "relinquish 0 0 1;"),
+        ("locked 0 0 1 1 1", ""),
+        ("locked 0 0 1 2 1", ""),
+        ("locked 1 0 1 5 1", "entered"),
+    ];
+    assert!(rt; plays_into(alloc, &mut client, script.as_slice(), &mut out)?);
+    let seen = client.leave_into(&mut out);
+    assert_eq!(rt;
+        called(alloc, &out, seen)?.as_str(),
+        "release 0 0 1;release 0 1 1;left"
+    );
+    let seen = client.leave_into(&mut out);
+    assert_eq!(rt; called(alloc, &out, seen)?.as_str(), "C2 NotInside");
+    let second = ask_into(alloc, &mut client, &mut out)?;
+    assert_eq!(rt; second.as_str(), "request 0 0 2;request 0 1 2;");
+    let seen = client.give_up_into(&mut out);
+    assert_eq!(rt;
+        called(alloc, &out, seen)?.as_str(),
+        "release 0 0 2;release 0 1 2;"
+    );
+    let seen = client.give_up_into(&mut out);
+    assert_eq!(rt; called(alloc, &out, seen)?.as_str(), "C3 NotAsking");
     Ok(())
 }

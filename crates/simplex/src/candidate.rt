@@ -14,9 +14,9 @@ use std::alloc::Global;
 #[derive(Drop)]
 pub struct Candidate {
     /// A weight for each quorum.
-    pub a: Vec<u64>,
+    pub quorum_weights: Vec<u64>,
     /// A weight for each voter.
-    pub b: Vec<u64>,
+    pub voter_weights: Vec<u64>,
     /// How many pivots were made.
     pub pivots: u32,
 }
@@ -166,22 +166,23 @@ fn scaled(alloc: Global, weights: &[Frac], pivots: u32) -> Result<Vec<u64>, Simp
 /// Refused by `Overflow` where a number does not fit, by `PivotLimit` where more pivots are needed, by `NoRow` where
 /// no row limits a column, and for want of memory.
 pub fn solve(alloc: Global, coterie: &Coterie, pivots: u32) -> Result<Candidate, SimplexFault>
-    ensures quorums { IfOk result (λ c. vec_len c.a ≡ length coterie.now.quorums) }
-    ensures voters { IfOk result (λ c. vec_len c.b ≡ coterie.now.voters) }
+    ensures quorums { IfOk result (λ c. vec_len c.quorum_weights ≡ length coterie.now.quorums) }
+    ensures voters { IfOk result (λ c. vec_len c.voter_weights ≡ coterie.now.voters) }
     ensures limit { IfOk result (λ c. c.pivots ≤ pivots) }
 {
-    solve_by(alloc, coterie, Rule::GreatestImprovement, pivots)
+    solve_by(alloc, coterie, Rule::Dantzig, pivots)
 }
 
-/// A candidate by a rule of choice; else as `solve`.
+/// A candidate by a rule of choice; else as `solve`. After 2n pivots in a row that left the solution where it was, for n
+/// voters, Bland's rule chooses, until a pivot improves the solution.
 pub fn solve_by(
     alloc: Global,
     coterie: &Coterie,
     rule: Rule,
     pivots: u32,
 ) -> Result<Candidate, SimplexFault>
-    ensures quorums { IfOk result (λ c. vec_len c.a ≡ length coterie.now.quorums) }
-    ensures voters { IfOk result (λ c. vec_len c.b ≡ coterie.now.voters) }
+    ensures quorums { IfOk result (λ c. vec_len c.quorum_weights ≡ length coterie.now.quorums) }
+    ensures voters { IfOk result (λ c. vec_len c.voter_weights ≡ coterie.now.voters) }
     ensures limit { IfOk result (λ c. c.pivots ≤ pivots) }
 {
     let Ok(zero) = Frac::of(0, 1) else {
@@ -192,8 +193,8 @@ pub fn solve_by(
     let quorum_weights = quorum_weights(alloc, method.tableau(), coterie.count(), zero)?;
     let voter_weights = voter_weights(alloc, method.tableau(), zero, made)?;
     Ok(Candidate {
-        a: scaled(alloc, &quorum_weights, made)?,
-        b: scaled(alloc, &voter_weights, made)?,
+        quorum_weights: scaled(alloc, &quorum_weights, made)?,
+        voter_weights: scaled(alloc, &voter_weights, made)?,
         pivots: made,
     })
 }

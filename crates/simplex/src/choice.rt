@@ -8,8 +8,8 @@ use std::cmp::Ordering;
 /// How the entering column is chosen among those that improve the solution. On ties the lowest column enters.
 #[derive(Clone, Copy, Debug, PartialEq, Eq)]
 pub enum Rule {
-    /// The column of which a unit improves the solution most (Dantzig's rule).
-    GreatestImprovement,
+    /// The column of which a unit improves the solution most.
+    Dantzig,
     /// Columns that improve the solution at this pivot before those that don't; of these, the one whose pivot
     /// entry is least; and then the greatest improvement by this pivot. The numbers stay smaller.
     LeastPivot,
@@ -115,7 +115,7 @@ pub(crate) fn entering(method: &mut Method, rule: Rule) -> Result<Option<usize>,
     ensures column { IfOk result (λ o. IfSome o (λ j. j < length method.old.coterie.now.quorums + method.old.coterie.now.voters)) }
 {
     match rule {
-        Rule::GreatestImprovement => greatest_entering(method),
+        Rule::Dantzig => greatest_entering(method),
         Rule::LeastPivot => least_entering(method),
     }
 }

@@ -20,7 +20,7 @@ pub enum SimplexFault {
     /// A column improves the solution without bound: no row limits it.
     #[error("S3 NoRow")]
     NoRow,
-    /// An allocation failed.
+    /// Memory ran out.
     #[error("O1 OutOfMemory")]
     OutOfMemory,
 }

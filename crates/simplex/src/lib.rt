@@ -13,8 +13,8 @@
 //! ```text
 //! // Any two of three voters.
 //! let candidate = solve(alloc, &majority, 10_000)?;
-//! assert_eq!(rt; candidate.a.len(), 3);
-//! assert_eq!(rt; candidate.b.len(), 3);
+//! assert_eq!(rt; candidate.quorum_weights.len(), 3);
+//! assert_eq!(rt; candidate.voter_weights.len(), 3);
 //! ```
 #![tactic(auto)]
 

@@ -1,7 +1,6 @@
 //! The state of the simplex method between two pivots.
 ghost use Rattle.std.specs.Prelude.{◌≡◌, ◌+◌, ◌<◌, ◌≤◌, length, vec_len, IfErr, IfOk, IfSome};
 ghost use Rattle.std.specs.List.{All};
-ghost use Rattle.simplex.specs.Shapes.{SameShape};
 
 use crate::fault::SimplexFault;
 use crate::prices::Prices;

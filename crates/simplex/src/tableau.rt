@@ -38,8 +38,6 @@ fn slacks(alloc: Global, quorums: usize, voters: usize) -> Result<Vec<usize>, Al
 }
 
 impl Tableau {
-    ghost use Rattle.simplex.specs.Shapes.{SameShape};
-
     /// A tableau of zeros, solved for the slacks.
     fn blank(
         alloc: Global,
@@ -94,7 +92,7 @@ impl Tableau {
     fn set_cell(&mut self, row: usize, slack: usize, value: Frac)
         requires row { row ≤ self.old.voters }
         requires slack { slack ≤ self.old.voters }
-        ensures { SameShape self.old self.new }
+        ensures { self.new.voters ≡ self.old.voters }
     {
         let place = self.place(row, slack);
         self.cells[place] = value;
@@ -125,7 +123,7 @@ impl Tableau {
     /// Divides a row by its entry in the column that enters.
     fn divide(&mut self, row: usize, entry: Frac) -> Result<(), FracFault>
         requires { row < self.old.voters }
-        ensures { SameShape self.old self.new }
+        ensures { self.new.voters ≡ self.old.voters }
     {
         for place in 0..self.voters + 1 {
             let cell = self.cell(row, place);
@@ -140,7 +138,7 @@ impl Tableau {
     fn eliminate(&mut self, row: usize, pivot_row: usize, factor: Frac) -> Result<(), FracFault>
         requires row { row ≤ self.old.voters }
         requires pivot_row { pivot_row < self.old.voters }
-        ensures { SameShape self.old self.new }
+        ensures { self.new.voters ≡ self.old.voters }
     {
         if factor.num() == 0 {
             return Ok(());
@@ -165,7 +163,7 @@ impl Tableau {
     ) -> Result<(), FracFault>
         requires row { row < self.old.voters }
         requires entries { length entries.now ≡ self.old.voters + 1 }
-        ensures { SameShape self.old self.new }
+        ensures { self.new.voters ≡ self.old.voters }
     {
         self.divide(row, entries[row])?;
         for (other, factor) in entries.iter().enumerate() {

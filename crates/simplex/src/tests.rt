@@ -26,7 +26,7 @@ fn wheel(alloc: Global) -> Result<Coterie, Fail> {
 /// The numbers of a candidate, or the fault.
 fn shown(alloc: Global, answer: Result<Candidate, SimplexFault>) -> Result<String, AllocError> {
     match answer {
-        Ok(c) => format!(in alloc; "{:?} {:?}", c.a, c.b),
+        Ok(c) => format!(in alloc; "{:?} {:?}", c.quorum_weights, c.voter_weights),
         Err(fault) => fault.to_string(alloc),
     }
 }

@@ -21,10 +21,6 @@ precedes_trans a b c h k = grind (arith, nat_tests)
 pub precedes_not_self : (a : Request) → precedes a a ≡ false
 precedes_not_self a = grind (arith, nat_tests)
 
--- what a and b do not come before, neither does
-pub not_before_trans : (a b c : Request) → precedes a b ≡ true → precedes c b ≡ false → precedes c a ≡ false
-not_before_trans a b c h k = grind (arith, nat_tests)
-
 pub eq_by_nat : (m n : ℕ) → eq_by_cmp nat_cmp m n ≡ eqb m n
 eq_by_nat m n = grind (arith, nat_tests)
 

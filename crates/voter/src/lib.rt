@@ -12,7 +12,8 @@
 //! A [`Voter`] is a pure machine: it has no clock, no socket and no thread. Give each message to [`Voter::take`], one at
 //! a time, and send the replies in order, after the new state is safe where it has to outlive a crash. A refused message
 //! changed nothing. [`Voter::effect`] tells beforehand whether a message would end the current grant, for a board of
-//! votes that has to be settled first. [`Voter::remind`] may be sent at any time.
+//! votes that has to be settled first. [`Voter::remind`] may be sent at any time. [`Voter::take_into`] is `take` with the
+//! replies in a buffer that the caller keeps, for whoever makes many steps.
 //!
 //! # What is proved
 //!

@@ -333,26 +333,25 @@ impl VoterState {
     }
 
     /// What a message does, where enough grants are left.
-    pub fn act(&mut self, message: &ToVoter) -> Replies
+    pub fn act(&mut self, message: &ToVoter, replies: &mut Replies)
         requires client { message.now.client < 64 }
+        requires room { replies.old.items ≡ [] }
         requires few { self.old.granted + 1 < 2 ^ 63 }
         ensures state { self.new ≡ (outcome_of self.old message.now.client message.now.body).state }
-        ensures replies { result.items ≡ (outcome_of self.old message.now.client message.now.body).replies }
+        ensures replies { replies.new.items ≡ (outcome_of self.old message.now.client message.now.body).replies }
     {
         let client = message.client;
-        let mut replies = ArrayVec::new();
         match message.body {
             VoterBody::Request { stamp } => {
                 self.seen = self.seen.max(stamp);
-                self.request(Request { stamp, client }, &mut replies);
+                self.request(Request { stamp, client }, replies);
             }
-            VoterBody::Relinquish { grant } => self.relinquish(client, grant, &mut replies),
+            VoterBody::Relinquish { grant } => self.relinquish(client, grant, replies),
             VoterBody::Release { stamp } => {
                 self.seen = self.seen.max(stamp);
-                self.release(client, stamp, &mut replies);
+                self.release(client, stamp, replies);
             }
         }
-        replies
     }
 }
 

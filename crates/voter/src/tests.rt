@@ -1,6 +1,7 @@
 ghost use Rattle.std.specs.Prelude.{◌≡◌, ◌<◌, ◌≤◌, ◌^◌, IfSome};
 
 use super::*;
+use arrayvec::ArrayVec;
 use message::{Message, ToVoter, read_message, write_message};
 use std::alloc::{AllocError, Global};
 use std::test::Fail;
@@ -16,23 +17,26 @@ fn asked(line: &str) -> Option<ToVoter>
     }
 }
 
-/// The lines of the replies, joined by commas, or the fault.
-fn lines(alloc: Global, answer: Result<Replies, VoterFault>) -> Result<String, AllocError> {
+/// The lines of the replies, each with a semicolon.
+fn lines(alloc: Global, replies: &Replies) -> Result<String, AllocError> {
     let mut text = String::new(alloc);
-    match answer {
-        Ok(replies) => {
-            for reply in replies.as_slice() {
-                let message = Message::ToClient(*reply);
-                if message.has_line() {
-                    let line = write_message(alloc, &message)?;
-                    text.push_str(line.as_str())?;
-                    text.push(';')?;
-                }
-            }
+    for reply in replies.as_slice() {
+        let message = Message::ToClient(*reply);
+        if message.has_line() {
+            let line = write_message(alloc, &message)?;
+            text.push_str(line.as_str())?;
+            text.push(';')?;
         }
-        Err(fault) => write!(text, "{fault}")?,
     }
     Ok(text)
+}
+
+/// The lines of the replies, or the fault.
+fn answer(alloc: Global, replies: Result<Replies, VoterFault>) -> Result<String, AllocError> {
+    match replies {
+        Ok(replies) => lines(alloc, &replies),
+        Err(fault) => format!(in alloc; "{fault}"),
+    }
 }
 
 /// The voter that took each line in turn, where it answered the lines beside it.
@@ -46,7 +50,7 @@ fn after(alloc: Global, limit: u64, script: &[(&str, &str)]) -> Result<Option<Vo
             return Ok(None);
         };
         let refused = voter.effect(&message).refused;
-        let got = lines(alloc, voter.take(&message))?;
+        let got = answer(alloc, voter.take(&message))?;
         if got.as_str() != *want || refused != (*want == "V1 GrantsSpent") {
             return Ok(None);
         }
@@ -125,7 +129,7 @@ fn vote_is_held_and_told_again(rt: HostRuntime) -> Result<(), Fail> {
         assert!(rt; voter.take(&message).is_ok());
     }
     assert_eq!(rt;
-        lines(alloc, Ok(voter.remind()))?.as_str(),
+        lines(alloc, &voter.remind())?.as_str(),
         "locked 0 1 5 1 5;inquire 0 1 1 5;"
     );
     if let Some(message) = asked("release 1 0 5") {
@@ -137,5 +141,43 @@ fn vote_is_held_and_told_again(rt: HostRuntime) -> Result<(), Fail> {
             }
         );
     }
+    Ok(())
+}
+
+/// Whether a voter that takes each line in turn answers in one buffer the lines beside it.
+fn plays_into(alloc: Global, limit: u64, script: &[(&str, &str)]) -> Result<bool, AllocError>
+    requires least { 1 ≤ limit }
+    requires most { limit ≤ 2 ^ 40 }
+{
+    let mut voter = Voter::new(0, limit);
+    let mut replies = ArrayVec::new();
+    for (line, want) in script {
+        let Some(message) = asked(line) else {
+            return Ok(false);
+        };
+        let taken = voter.take_into(&message, &mut replies);
+        let mut got = lines(alloc, &replies)?;
+        if let Err(fault) = taken {
+            write!(got, "{fault}")?;
+        }
+        if got.as_str() != *want {
+            return Ok(false);
+        }
+    }
+    Ok(true)
+}
+
+#[test]
+fn one_buffer_serves_each_message(rt: HostRuntime) -> Result<(), Fail> {
+    let script = [
+        ("request 2 0 2", "locked 0 2 2 1 2;"),
+        ("request 3 0 3", "fail 0 3 3 3;"),
+        ("request 1 0 1", "inquire 0 2 1 3;fail 0 3 3 3;"),
+        ("release 0 0 1", ""),
+        ("relinquish 2 0 1", "locked 0 1 1 2 3;"),
+        ("release 1 0 1", "V1 GrantsSpent"),
+        ("release 2 0 2", ""),
+    ];
+    assert!(rt; plays_into(rt.alloc(), 2, script.as_slice())?);
     Ok(())
 }

@@ -1,10 +1,11 @@
 //! A voter.
-ghost use Rattle.std.specs.Prelude.{◌≡◌, ◌<◌, ◌≤◌, ◌^◌, IfErr, IfOk, None, Option, Result, Some};
+ghost use Rattle.std.specs.Prelude.{◌≡◌, ◌<◌, ◌≤◌, ◌^◌, [], IfErr, IfOk, OnErr, OnOk, None, Option, Result, Some};
 ghost use Rattle.voter.specs.Steps.{IsSound, effect_of, remind, start, step};
 
 use crate::fault::VoterFault;
 use crate::queue::Queue;
 use crate::state::{Effect, Grant, Replies, VoterState};
+use arrayvec::ArrayVec;
 use message::ToVoter;
 use std::marker::Model;
 
@@ -67,10 +68,25 @@ impl Voter {
         ensures refused { IfErr result (λ _. (step self.old message.now ≡ None) × (self.new ≡ self.old)) }
         ensures id { self.new.id ≡ self.old.id }
     {
+        let mut replies = ArrayVec::new();
+        self.take_into(message, &mut replies)?;
+        Ok(replies)
+    }
+
+    /// [`Voter::take`], with the replies in `replies` in place of what was there; where it is refused, `replies` is empty.
+    pub fn take_into(&mut self, message: &ToVoter, replies: &mut Replies) -> Result<(), VoterFault>
+        requires voter { message.now.voter ≡ self.old.id }
+        requires client { message.now.client < 64 }
+        ensures taken { OnOk result (step self.old message.now ≡ Some (record { replies = replies.new.items; state = self.new })) }
+        ensures refused { OnErr result ((step self.old message.now ≡ None) × (self.new ≡ self.old) × (replies.new.items ≡ [])) }
+        ensures id { self.new.id ≡ self.old.id }
+    {
+        replies.clear();
         if self.state.is_refused(message) {
             return Err(VoterFault::GrantsSpent);
         }
-        Ok(self.state.act(message))
+        self.state.act(message, replies);
+        Ok(())
     }
 
     /// What `take` would do with this message.

@@ -5,7 +5,7 @@ use Rattle.std.specs.List.{list_all}
 use Rattle.std.proofs.lemmas.Bool.{false≢true}
 use Rattle.std.proofs.lemmas.Bool.Decides.{nat_tests}
 use Rattle.std.proofs.lemmas.Option.{same_Some}
-use Rattle.quorum_set.specs.Sets.{has, meet}
+use Rattle.quorum_set.specs.Sets.{has}
 use Rattle.message.specs.declared.message.Message.{Message}
 use Rattle.voter.specs.declared.state.Grant.{Grant}
 use Rattle.voter.specs.declared.state.VoterState.{VoterState}
@@ -22,19 +22,6 @@ use Rattle.world.specs.Visible.{DoMeet, GoesOn, IsAmong}
 use Rattle.world.proofs.Claims.{Bounds, ClientOk, Names, WorldOk, put, put_at, put_same}
 
 -- ---- nobody is inside together with another
-
--- two sets that meet have a common member
-pub record Common (s t : List ℕ) : Type 0 where
-  pub member : ℕ
-  pub left : has s member ≡ true
-  pub right : has t member ≡ true
-
-pub common : (s t : List ℕ) → meet s t ≡ true → Common s t
-common [] t is = absurd (false≢true is)
-common (x ∷ xs) t is = elim (has t x) as (λ b. has t x ≡ b → (b || meet xs t) ≡ true → Common (x ∷ xs) t) [
-  | true ↦ λ e _. record { member = x; left = grind (arith, nat_tests); right = e }
-  | false ↦ λ _ rest. let c = common xs t rest in record { member = c.member; left = (let h = c.left in grind (arith, nat_tests)); right = c.right }
-] refl is
 
 covers : (x : ClientState) (q : List ℕ) (v : ℕ) → list_all (holds x) q ≡ true → has q v ≡ true → holds x v ≡ true
 covers x [] v all is = absurd (false≢true is)
@@ -65,10 +52,10 @@ pub one_inside : (b : Bounds) → DoMeet b.voters b.quorums → (X : ℕ → Cli
 one_inside b meet X Y sent ok c d in_c in_d =
     let j = quorum_inside b (X c) (ok.clients c) in_c in
     let k = quorum_inside b (X d) (ok.clients d) in_d in
-    let both = common _ _ (meet.meets j.0 k.0 j.1 k.1) in
-    let v = both.member in
-    let holds_c = covers (X c) (members (X c)) v ((ok.clients c).sound.inside in_c) (ap (λ (q : List ℕ). has q v) j.2 ∙ both.left) in
-    let holds_d = covers (X d) (members (X d)) v ((ok.clients d).sound.inside in_d) (ap (λ (q : List ℕ). has q v) k.2 ∙ both.right) in
+    let both = meet.meets j.0 k.0 j.1 k.1 in
+    let v = both.0 in
+    let holds_c = covers (X c) (members (X c)) v ((ok.clients c).sound.inside in_c) (ap (λ (q : List ℕ). has q v) j.2 ∙ both.2) in
+    let holds_d = covers (X d) (members (X d)) v ((ok.clients d).sound.inside in_d) (ap (λ (q : List ℕ). has q v) k.2 ∙ both.3) in
     same_holder (Y v).held c d _ _ _ _ (ok.held c v _ (held_under (X c) v holds_c)) (ok.held d v _ (held_under (X d) v holds_d))
 
 -- ---- the visible list

@@ -46,7 +46,7 @@ others_at d xs p n y same within =
 pub same_at : {A : Type 0} (xs : List A) (p : ℕ) (x y : A) → x ≡ get_or xs p x → y ≡ get_or xs p x → set xs p y ≡ xs
 same_at xs p x y is back = ap (λ z. set xs p z) back ∙ set-get_or xs p x
 
-pub refused_at : {A E : Type 0} {T : Type 0} (d : A) (S : A → E → Type 0) (r : Result T E) (xs : List A) (p n : ℕ) (x y : A) → p ≡ n → n < length xs → x ≡ get_or xs p x
-    → IfErr r (λ e. S (get_or xs p x) e × (y ≡ get_or xs p x)) → IfErr r (λ e. S (get_or xs n d) e × (set xs p y ≡ xs))
-refused_at d S (Ok t) xs p n x y same within is h = h
-refused_at d S (Err e) xs p n x y same within is h = (seen_at d (λ a. S a e) xs p n x same within is h.0, same_at xs p x y is h.1)
+pub refused_at : {A E : Type 0} {T : Type 0} (d : A) (S : A → E → Type 0) (Z : Type 0) (r : Result T E) (xs : List A) (p n : ℕ) (x y : A) → p ≡ n → n < length xs → x ≡ get_or xs p x
+    → IfErr r (λ e. S (get_or xs p x) e × (y ≡ get_or xs p x) × Z) → IfErr r (λ e. S (get_or xs n d) e × (set xs p y ≡ xs))
+refused_at d S Z (Ok t) xs p n x y same within is h = h
+refused_at d S Z (Err e) xs p n x y same within is h = (seen_at d (λ a. S a e) xs p n x same within is h.0, same_at xs p x y is h.1)

@@ -1,11 +1,8 @@
 -- the quorums of a plan meet, and its tickets name them
-use Rattle.std.proofs.Common.{◌≡◌, ℕ, ◌%◌, ◌<◌, ◌≤◌, ◌^◌, Bool, true, false, List, [], ◌∷◌, ◌++◌, length, Result, Ok, Err, refl, sym, ap, subst, ◌∙◌, ◌⊎◌, inl, inr, arith, eqb, ltb}
-use Rattle.std.specs.Prelude.{◌||◌, slice_index_or}
+use Rattle.std.proofs.Common.{◌≡◌, ℕ, ◌%◌, ◌<◌, ◌≤◌, ◌^◌, List, [], ◌∷◌, ◌++◌, length, Result, Ok, Err, refl, sym, ap, subst, ◌∙◌, arith}
 use Rattle.std.specs.List.{AllByRecursion}
 use Rattle.std.proofs.Math.Nat.{mod-lt}
-use Rattle.std.proofs.lemmas.Bool.{false≢true}
-use Rattle.std.proofs.lemmas.Bool.Decides.{nat_tests}
-use Rattle.quorum_set.specs.Sets.{has, meet}
+use Rattle.quorum_set.proofs.Meetings.{coterie_meets}
 use Rattle.message.specs.declared.message.Message.{Message}
 use Rattle.message.specs.declared.message.Message.TheVariants as kinds
 use Rattle.message.specs.declared.message.ClientBody.{ClientBody}
@@ -22,49 +19,9 @@ use Rattle.world.specs.declared.step.Stepped.{Stepped}
 use Rattle.world.specs.Steps.{Does, Outcome, Planned, WorldState, quorum_by, step, step_of}
 use Rattle.world.specs.Visible.{DealsFrom, DoMeet}
 use Rattle.world.proofs.Claims.{all_map}
-use Rattle.world.proofs.Exclusion.{common}
-
-or_right : (a b : Bool) → b ≡ true → (a || b) ≡ true
-or_right true b is = refl
-or_right false b is = is
-
-meet_at : (s t : List ℕ) (v : ℕ) → has s v ≡ true → has t v ≡ true → meet s t ≡ true
-meet_at [] t v in_s in_t = absurd (false≢true in_s)
-meet_at (x ∷ xs) t v in_s in_t = elim (eqb x v) as (λ b. eqb x v ≡ b → (b || has xs v) ≡ true → (has t x || meet xs t) ≡ true) [
-  | true ↦ λ e _. let same : v ≡ x = grind (arith, nat_tests) in ap (λ b. b || meet xs t) (ap (λ n. has t n) (sym same) ∙ in_t)
-  | false ↦ λ _ rest. or_right (has t x) (meet xs t) (meet_at xs t v rest in_t)
-] refl in_s
-
-meet_back : (s t : List ℕ) → meet s t ≡ true → meet t s ≡ true
-meet_back s t is = let c = common s t is in meet_at t s c.member c.right c.left
-
-meet_self : (s : List ℕ) → 0 < length s → meet s s ≡ true
-meet_self [] some = absurd (omega arith)
-meet_self (x ∷ xs) some = meet_at (x ∷ xs) (x ∷ xs) x (grind (arith, nat_tests)) (grind (arith, nat_tests))
-
-order : (a b : ℕ) → (a < b) ⊎ ((b < a) ⊎ (a ≡ b))
-order a b = elim (ltb a b) as (λ t. ltb a b ≡ t → (a < b) ⊎ ((b < a) ⊎ (a ≡ b))) [
-  | true ↦ λ t. inl (grind (arith, nat_tests))
-  | false ↦ λ t. elim (ltb b a) as (λ u. ltb b a ≡ u → (a < b) ⊎ ((b < a) ⊎ (a ≡ b))) [
-    | true ↦ λ u. inr (inl (grind (arith, nat_tests)))
-    | false ↦ λ u. inr (inr (grind (arith, nat_tests)))
-  ] refl
-] refl
 
 pub plan_meets : (w : Weighted) → IsCertificate w → DoMeet w.system.voters w.system.quorums
-plan_meets w is =
-    let c = is.coterie in
-    record {
-      sets = c.sets;
-      in_range = c.in_range;
-      meets = λ i j in_i in_j. elim (order i j) [
-        | inl less ↦ c.meets i j [] less in_j
-        | inr other ↦ elim other [
-          | inl more ↦ meet_back (slice_index_or w.system.quorums j []) (slice_index_or w.system.quorums i []) (c.meets j i [] more in_i)
-          | inr same ↦ subst (λ n. meet (slice_index_or w.system.quorums i []) (slice_index_or w.system.quorums n []) ≡ true) same (meet_self (slice_index_or w.system.quorums i []) (c.not_empty i [] in_i))
-        ]
-      ];
-    }
+plan_meets w is = record { sets = is.coterie.sets; in_range = is.coterie.in_range; meets = coterie_meets w.system is.coterie }
 
 ticket_below : (w : Weighted) → IsCertificate w → (ticket : ℕ) → quorum_of_ticket w ticket < length w.system.quorums
 ticket_below w is ticket =

@@ -9,7 +9,7 @@ use Rattle.std.proofs.lemmas.Bool.Decides.{nat_tests}
 use Rattle.std.proofs.lemmas.Option.{none-some}
 use Rattle.std.proofs.lemmas.List.{length-set, get_or_past, map-append}
 use Rattle.std.proofs.lemmas.List.FromFn.{get_or-map-range_with_len, length-map-range_with_len}
-use Rattle.quorum_set.specs.Sets.{IsSet, meet}
+use Rattle.quorum_set.specs.Sets.{has, IsSet}
 use Rattle.message.specs.declared.message.ToVoter.{ToVoter}
 use Rattle.message.specs.declared.message.Message.{Message}
 use Rattle.message.specs.declared.message.Message.TheVariants as kinds
@@ -129,13 +129,14 @@ if_voter_one : (b : Bounds) (w : WorldState) → RunOk b w → (t : Bool) (v : �
 if_voter_one b w ok true v next then = then refl
 if_voter_one b w ok false v next then = ok
 
-not_empty : (q : List ℕ) → meet q q ≡ true → 1 ≤ length q
-not_empty [] is = absurd (false≢true is)
-not_empty (x ∷ xs) is = omega arith
+not_empty : (q : List ℕ) (v : ℕ) → has q v ≡ true → 1 ≤ length q
+not_empty [] v is = absurd (false≢true is)
+not_empty (x ∷ xs) v is = omega arith
 
 accepts_among : (b : Bounds) → DoMeet b.voters b.quorums → (q : List ℕ) → IsAmong b.quorums q → IsSet q × (1 ≤ length q)
 accepts_among b meets q among =
-    subst (λ (s : List ℕ). IsSet s × (1 ≤ length s)) (sym among.2) (meets.sets among.0 [] among.1, not_empty _ (meets.meets among.0 among.0 among.1 among.1))
+    let self = meets.meets among.0 among.0 among.1 among.1 in
+    subst (λ (s : List ℕ). IsSet s × (1 ≤ length s)) (sym among.2) (meets.sets among.0 [] among.1, not_empty _ self.0 self.2)
 
 came_by : (b : Bounds) (x : ClientState) (Y : ℕ → VoterState) (sender c : ℕ) (body : ClientBody) → sender < b.voters → TellsWithin b.limit body → TellOk x (Y sender).held sender c body
     → (v s g : ℕ) → Locks sender body v s g → (v < b.voters) × IsWithin b.limit s × (s ≤ x.stamp) × (IsLive x v s g → Names (Y v).held c s g)

@@ -1,7 +1,8 @@
 -- What is seen of a run: who enters and who leaves.
 use Rattle.std.specs.Prelude.{ℕ, ◌≡◌, ◌<◌, true, false, List, [], ◌∷◌, length, Option, Some, None, slice_index_or}
 use Rattle.std.specs.List.{All}
-use Rattle.quorum_set.specs.Sets.{IsSet, meet}
+use Rattle.quorum_set.specs.Sets.{IsSet}
+use Rattle.quorum_set.specs.Meetings.{AllMeet}
 use Rattle.world.specs.declared.step.Event.{Event}
 
 -- the events go on from here, with this client inside, or nobody
@@ -19,7 +20,7 @@ IsExclusive events = GoesOn None events
 pub record DoMeet (voters : ℕ) (quorums : List (List ℕ)) : Type 0 where
   pub sets : All IsSet quorums
   pub in_range : All (λ q. All (λ v. v < voters) q) quorums
-  pub meets : (i j : ℕ) → i < length quorums → j < length quorums → meet (slice_index_or quorums i []) (slice_index_or quorums j []) ≡ true
+  pub meets : AllMeet voters quorums
 
 -- this is one of the quorums
 abbrev pub IsAmong : List (List ℕ) → List ℕ → Type 0

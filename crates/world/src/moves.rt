@@ -1,5 +1,5 @@
 //! A step of one client or one voter among all.
-ghost use Rattle.std.specs.Prelude.{◌≡◌, ◌<◌, ◌≤◌, Err, IfErr, IfOk, None, Ok, Some, length, slice_set};
+ghost use Rattle.std.specs.Prelude.{◌≡◌, ◌<◌, ◌≤◌, Err, IfErr, IfOk, None, Ok, OnErr, OnOk, Some, length, slice_set};
 ghost use Rattle.requester.specs.Steps.{step};
 ghost use Rattle.requester.specs.Steps.Cause.{Asks, GivesUp, Leaves, Takes};
 ghost use Rattle.voter.specs.Steps as polls;
@@ -7,7 +7,7 @@ ghost use Rattle.world.specs.Steps.{client_at, voter_at};
 
 use message::{ToClient, ToVoter};
 use quorum_set::QSet;
-use requester::{ClientFault, Reply, Requester};
+use requester::{ClientFault, Messages, Requester, Seen};
 use voter::{Replies, Voter, VoterFault};
 
 /// The client of this number.
@@ -27,60 +27,73 @@ pub fn voter_of(voters: &[Voter], number: u8) -> &Voter
 }
 
 /// This client asks a quorum.
-pub fn ask(clients: &mut [Requester], client: u8, quorum: &QSet) -> Result<Reply, ClientFault>
+pub fn ask(
+    clients: &mut [Requester],
+    client: u8,
+    quorum: &QSet,
+    out: &mut Messages,
+) -> Result<Seen, ClientFault>
     requires client { client < length clients.old }
     requires quorum { 1 ≤ length quorum.now }
-    ensures asked { IfOk result (λ r. step (client_at clients.old client) (Asks quorum.now) ≡ Ok (record { out = r.out.items; seen = r.seen; state = client_at clients.new client })) }
+    ensures asked { IfOk result (λ seen. step (client_at clients.old client) (Asks quorum.now) ≡ Ok (record { out = out.new.items; seen = seen; state = client_at clients.new client })) }
     ensures refused { IfErr result (λ fault. (step (client_at clients.old client) (Asks quorum.now) ≡ Err fault) × (clients.new ≡ clients.old)) }
     ensures others { clients.new ≡ slice_set clients.old client (client_at clients.new client) }
 {
     let who = &mut clients[usize::from(client)];
-    who.ask(quorum)
+    who.ask_into(quorum, out)
 }
 
 /// The client that the message names takes it.
-pub fn take(clients: &mut [Requester], message: &ToClient) -> Reply
+pub fn take(clients: &mut [Requester], message: &ToClient, out: &mut Messages) -> Seen
     requires client { message.now.client < length clients.old }
     requires id { (client_at clients.old message.now.client).id ≡ message.now.client }
     requires voter { message.now.voter < 64 }
-    ensures taken { step (client_at clients.old message.now.client) (Takes message.now) ≡ Ok (record { out = result.out.items; seen = result.seen; state = client_at clients.new message.now.client }) }
+    ensures taken { step (client_at clients.old message.now.client) (Takes message.now) ≡ Ok (record { out = out.new.items; seen = result; state = client_at clients.new message.now.client }) }
     ensures others { clients.new ≡ slice_set clients.old message.now.client (client_at clients.new message.now.client) }
 {
     let who = &mut clients[usize::from(message.client)];
-    who.take(message)
+    who.take_into(message, out)
 }
 
 /// This client leaves.
-pub fn leave(clients: &mut [Requester], client: u8) -> Result<Reply, ClientFault>
+pub fn leave(clients: &mut [Requester], client: u8, out: &mut Messages) -> Result<Seen, ClientFault>
     requires client { client < length clients.old }
-    ensures left { IfOk result (λ r. step (client_at clients.old client) Leaves ≡ Ok (record { out = r.out.items; seen = r.seen; state = client_at clients.new client })) }
+    ensures left { IfOk result (λ seen. step (client_at clients.old client) Leaves ≡ Ok (record { out = out.new.items; seen = seen; state = client_at clients.new client })) }
     ensures refused { IfErr result (λ fault. (step (client_at clients.old client) Leaves ≡ Err fault) × (clients.new ≡ clients.old)) }
     ensures others { clients.new ≡ slice_set clients.old client (client_at clients.new client) }
 {
     let who = &mut clients[usize::from(client)];
-    who.leave()
+    who.leave_into(out)
 }
 
 /// This client gives its request up.
-pub fn give_up(clients: &mut [Requester], client: u8) -> Result<Reply, ClientFault>
+pub fn give_up(
+    clients: &mut [Requester],
+    client: u8,
+    out: &mut Messages,
+) -> Result<Seen, ClientFault>
     requires client { client < length clients.old }
-    ensures given_up { IfOk result (λ r. step (client_at clients.old client) GivesUp ≡ Ok (record { out = r.out.items; seen = r.seen; state = client_at clients.new client })) }
+    ensures given_up { IfOk result (λ seen. step (client_at clients.old client) GivesUp ≡ Ok (record { out = out.new.items; seen = seen; state = client_at clients.new client })) }
     ensures refused { IfErr result (λ fault. (step (client_at clients.old client) GivesUp ≡ Err fault) × (clients.new ≡ clients.old)) }
     ensures others { clients.new ≡ slice_set clients.old client (client_at clients.new client) }
 {
     let who = &mut clients[usize::from(client)];
-    who.give_up()
+    who.give_up_into(out)
 }
 
 /// The voter that the message names takes it.
-pub fn vote(voters: &mut [Voter], message: &ToVoter) -> Result<Replies, VoterFault>
+pub fn vote(
+    voters: &mut [Voter],
+    message: &ToVoter,
+    replies: &mut Replies,
+) -> Result<(), VoterFault>
     requires voter { message.now.voter < length voters.old }
     requires id { (voter_at voters.old message.now.voter).id ≡ message.now.voter }
     requires client { message.now.client < 64 }
-    ensures taken { IfOk result (λ replies. polls.step (voter_at voters.old message.now.voter) message.now ≡ Some (record { replies = replies.items; state = voter_at voters.new message.now.voter })) }
-    ensures refused { IfErr result (λ _. (polls.step (voter_at voters.old message.now.voter) message.now ≡ None) × (voters.new ≡ voters.old)) }
+    ensures taken { OnOk result (polls.step (voter_at voters.old message.now.voter) message.now ≡ Some (record { replies = replies.new.items; state = voter_at voters.new message.now.voter })) }
+    ensures refused { OnErr result ((polls.step (voter_at voters.old message.now.voter) message.now ≡ None) × (voters.new ≡ voters.old)) }
     ensures others { voters.new ≡ slice_set voters.old message.now.voter (voter_at voters.new message.now.voter) }
 {
     let who = &mut voters[usize::from(message.voter)];
-    who.take(message)
+    who.take_into(message, replies)
 }

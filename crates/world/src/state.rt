@@ -1,6 +1,5 @@
 //! The clients, the voters and the messages of a world, and its steps where room was made.
 ghost use Rattle.std.specs.Prelude.{◌≡◌, ◌<◌, ◌≤◌, ◌+◌, ◌++◌, ℕ, List, OnOk, length, map, slice_get, vec_capacity, vec_len};
-ghost use Rattle.arrayvec.specs.ArrayVec.{array_vec_len};
 ghost use Rattle.message.specs.declared.message.Message.TheVariants as kinds;
 ghost use Rattle.world.specs.declared.step.Step.TheVariants as steps;
 ghost use Rattle.requester.specs.Steps.Cause.{Takes};
@@ -16,9 +15,9 @@ use crate::step::{Event, Step, Stepped};
 use dealer::Cycle;
 use message::{Message, ToClient, ToVoter};
 use quorum_set::QSet;
-use requester::{Reply, Requester, Seen};
+use requester::{Messages, Requester, Seen};
 use std::alloc::AllocError;
-use voter::Voter;
+use voter::{Replies, Voter};
 
 /// Everything in a world but its plan.
 #[derive(Drop)]
@@ -33,6 +32,10 @@ pub struct State {
     pub draws: Vec<(u8, u64)>,
     /// Who entered and who left.
     pub visible: Vec<Event>,
+    /// What a client's step sends, before it stands in `sent`.
+    pub out: Messages,
+    /// What a voter replies, likewise.
+    pub replies: Replies,
 }
 
 impl State {
@@ -53,23 +56,22 @@ impl State {
         self.sent.get(number as usize).copied()
     }
 
-    /// Notes what a client did.
-    fn tell(&mut self, client: u8, reply: &Reply) -> Stepped
-        requires few { array_vec_len reply.now.out ≤ 64 }
+    /// Notes what a client did, whose messages are in `out`.
+    fn tell(&mut self, client: u8, seen: Seen) -> Stepped
         requires sent { vec_len self.old.sent + 64 ≤ vec_capacity self.old.sent }
         requires visible { vec_len self.old.visible + 1 ≤ vec_capacity self.old.visible }
-        ensures sent { result.sent ≡ length reply.now.out.items }
-        ensures seen { result.seen ≡ reply.now.seen }
+        ensures sent { result.sent ≡ length self.old.out.items }
+        ensures seen { result.seen ≡ seen }
         ensures state { shown self.new ≡ record (shown self.old) {
-          sent = self.old.sent.items ++ map kinds.ToVoter reply.now.out.items;
-          visible = self.old.visible.items ++ events client reply.now.seen;
+          sent = self.old.sent.items ++ map kinds.ToVoter self.old.out.items;
+          visible = self.old.visible.items ++ events client seen;
         } }
     {
-        send_to_voters(&mut self.sent, reply.out.as_slice());
-        note(&mut self.visible, client, reply.seen);
+        send_to_voters(&mut self.sent, self.out.as_slice());
+        note(&mut self.visible, client, seen);
         Stepped {
-            sent: reply.out.len(),
-            seen: reply.seen,
+            sent: self.out.len(),
+            seen,
         }
     }
 
@@ -81,10 +83,10 @@ impl State {
         if usize::from(client) >= self.clients.len() {
             return Err(WorldFault::NoSuchClient(client));
         }
-        match moves::ask(&mut self.clients, client, quorum) {
-            Ok(reply) => {
+        match moves::ask(&mut self.clients, client, quorum, &mut self.out) {
+            Ok(seen) => {
                 draw(&mut self.draws, client);
-                Ok(self.tell(client, &reply))
+                Ok(self.tell(client, seen))
             }
             Err(fault) => Err(WorldFault::Client(fault)),
         }
@@ -97,8 +99,8 @@ impl State {
         if usize::from(client) >= self.clients.len() {
             return Err(WorldFault::NoSuchClient(client));
         }
-        match moves::leave(&mut self.clients, client) {
-            Ok(reply) => Ok(self.tell(client, &reply)),
+        match moves::leave(&mut self.clients, client, &mut self.out) {
+            Ok(seen) => Ok(self.tell(client, seen)),
             Err(fault) => Err(WorldFault::Client(fault)),
         }
     }
@@ -110,8 +112,8 @@ impl State {
         if usize::from(client) >= self.clients.len() {
             return Err(WorldFault::NoSuchClient(client));
         }
-        match moves::give_up(&mut self.clients, client) {
-            Ok(reply) => Ok(self.tell(client, &reply)),
+        match moves::give_up(&mut self.clients, client, &mut self.out) {
+            Ok(seen) => Ok(self.tell(client, seen)),
             Err(fault) => Err(WorldFault::Client(fault)),
         }
     }
@@ -123,8 +125,8 @@ impl State {
         requires voter { message.now.voter < 64 }
         ensures { Does (act (shown self.old) message.now.client (Takes message.now)) (shown self.old) (Ok result) (shown self.new) }
     {
-        let reply = moves::take(&mut self.clients, message);
-        self.tell(message.client, &reply)
+        let seen = moves::take(&mut self.clients, message, &mut self.out);
+        self.tell(message.client, seen)
     }
 
     fn vote(&mut self, message: &ToVoter) -> Result<Stepped, WorldFault>
@@ -134,11 +136,11 @@ impl State {
         requires client { message.now.client < 64 }
         ensures { Does (vote (shown self.old) message.now) (shown self.old) result (shown self.new) }
     {
-        match moves::vote(&mut self.voters, message) {
-            Ok(replies) => {
-                send_to_clients(&mut self.sent, replies.as_slice());
+        match moves::vote(&mut self.voters, message, &mut self.replies) {
+            Ok(()) => {
+                send_to_clients(&mut self.sent, self.replies.as_slice());
                 Ok(Stepped {
-                    sent: replies.len(),
+                    sent: self.replies.len(),
                     seen: Seen::Nothing,
                 })
             }

@@ -13,6 +13,7 @@ use crate::laws::worlds_stay_sound;
 use crate::state::State;
 use crate::step::{Event, Step, Stepped};
 use crate::trace::Trace;
+use arrayvec::ArrayVec;
 use certificate::Plan;
 use dealer::Cycle;
 use message::Message;
@@ -67,6 +68,8 @@ impl World {
                     sent: Vec::new(alloc),
                     draws: Vec::new(alloc),
                     visible: Vec::new(alloc),
+                    out: ArrayVec::new(),
+                    replies: ArrayVec::new(),
                 },
             }),
             Err((_, error)) => Err(error),

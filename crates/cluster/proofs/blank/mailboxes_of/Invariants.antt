@@ -1,4 +1,4 @@
-use Rattle.std.proofs.Common.{◌≡◌, ℕ, length}
+use Rattle.std.proofs.Common.{◌≡◌, length}
 use Rattle.cluster.proofs.blank.mailboxes_of.Given as goal
 
 abbrev pub invariant-loop-client : goal.invariant-loop-client

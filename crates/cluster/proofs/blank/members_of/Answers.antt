@@ -1,10 +1,9 @@
-use Rattle.std.proofs.Common.{◌≡◌, ◌≢◌, ℕ, ◌+◌, ◌-◌, ◌*◌, ◌<◌, ◌≤◌, List, [], ◌∷◌, ◌++◌, false, get_or, nat_lt, map, refl, sym, ap, ◌∙◌, subst, arith}
-use Rattle.std.specs.List.{range_with_len}
+use Rattle.std.proofs.Common.{◌≡◌, ℕ, ◌-◌, ◌<◌, [], ◌∷◌, ◌++◌, false, get_or, sym, ap, ◌∙◌, arith}
 use Rattle.std.proofs.lemmas.List.{get_or-set_other}
 use Rattle.std.proofs.lemmas.List.FromFn.{map-range_with_len_more}
 use Rattle.board.specs.Seats.{RootState}
 use Rattle.dealer.specs.Offices.{ClerkState}
-use Rattle.cluster.specs.Members.{MemberState, fresh_member}
+use Rattle.cluster.specs.Members.{fresh_member}
 use Rattle.cluster.proofs.BlankLemmas.{times_less}
 use Rattle.cluster.proofs.blank.members_of.Goals as goal
 

@@ -1,4 +1,4 @@
-use Rattle.std.proofs.Common.{◌≡◌, List, ℕ}
+use Rattle.std.proofs.Common.{◌≡◌}
 use Rattle.cluster.proofs.VoteLemmas.{Compared}
 use Rattle.cluster.proofs.votes.give_back.Given as goal
 

@@ -1,7 +1,8 @@
-use Rattle.std.proofs.Common.{◌≡◌, ◌*◌, ℕ, List, length, map, ap, subst, ◌∙◌}
+use Rattle.std.proofs.Common.{◌≡◌, ◌*◌, ℕ, List, map, ap, subst, ◌∙◌}
 use Rattle.certificate.specs.Certificates.{Weighted, busiest_count}
 use Rattle.dealer.specs.Accounts.{IsLeastBusiest}
-use Rattle.replay.specs.Records.{Draw, IsFirstFault, IsSoundRecord, entries_of, tickets_of}
+use Rattle.cluster.specs.Records.{Draw}
+use Rattle.replay.specs.Records.{IsFirstFault, IsSoundRecord, entries_of, tickets_of}
 use Rattle.replay.proofs.SoundLemmas.{sound_has_no_fault, whole_cycles}
 use Rattle.replay.proofs.check.check_record.Goals as goal
 

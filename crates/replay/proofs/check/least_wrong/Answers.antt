@@ -1,4 +1,4 @@
-use Rattle.std.proofs.Common.{ℕ, ◌+◌, Option, Some, subst, sym, ◌∙◌, arith}
+use Rattle.std.proofs.Common.{ℕ, ◌+◌, Option, subst, sym, ◌∙◌, arith}
 use Rattle.replay.proofs.DrawLemmas.{SoFar, right_more, wrong_end, wrong_more}
 use Rattle.replay.proofs.check.least_wrong.Goals as goal
 use Rattle.replay.proofs.check.least_wrong.Goals.{then-quorum_at-draw, else-quorum_at-draw}

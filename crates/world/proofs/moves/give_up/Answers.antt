@@ -1,4 +1,4 @@
-use Rattle.std.proofs.Common.{◌≡◌, Ok, Err}
+use Rattle.std.proofs.Common.{◌≡◌, Ok, Err, []}
 use Rattle.std.specs.Prelude.{IfOk}
 use Rattle.requester.specs.declared.fault.ClientFault.{ClientFault}
 use Rattle.requester.specs.declared.state.ClientState.{ClientState}
@@ -11,15 +11,15 @@ use Rattle.world.proofs.moves.give_up.Goals as goal
 pub returns-clause-given_up : goal.returns-clause-given_up
 unfolding client_at step
 returns-clause-given_up c =
-    moved_at (start 0 1) (λ a b. IfOk c.give_up.result (λ r. step a GivesUp ≡ Ok (record { out = r.out.items; seen = r.seen; state = b })))
-    c.args.clients.now c.from.result c.args.client c.index-clients-from.result c.give_up.new.self c.from.ensures c.requires.client c.index-clients-from.is c.give_up.ensures.given_up
+    moved_at (start 0 1) (λ a b. IfOk c.give_up_into.result (λ seen. step a GivesUp ≡ Ok (record { out = c.give_up_into.new.out.items; seen = seen; state = b })))
+    c.args.clients.now c.from.result c.args.client c.index-clients-from.result c.give_up_into.new.self c.from.ensures c.requires.client c.index-clients-from.is c.give_up_into.ensures.given_up
 
 pub returns-clause-refused : goal.returns-clause-refused
 unfolding client_at step
 returns-clause-refused c =
-    refused_at (start 0 1) (λ (a : ClientState) (fault : ClientFault). step a GivesUp ≡ Err fault) c.give_up.result
-    c.args.clients.now c.from.result c.args.client c.index-clients-from.result c.give_up.new.self c.from.ensures c.requires.client c.index-clients-from.is c.give_up.ensures.refused
+    refused_at (start 0 1) (λ (a : ClientState) (fault : ClientFault). step a GivesUp ≡ Err fault) (c.give_up_into.new.out.items ≡ []) c.give_up_into.result
+    c.args.clients.now c.from.result c.args.client c.index-clients-from.result c.give_up_into.new.self c.from.ensures c.requires.client c.index-clients-from.is c.give_up_into.ensures.refused
 
 pub returns-clause-others : goal.returns-clause-others
 unfolding client_at
-returns-clause-others c = others_at (start 0 1) c.args.clients.now c.from.result c.args.client c.give_up.new.self c.from.ensures c.requires.client
+returns-clause-others c = others_at (start 0 1) c.args.clients.now c.from.result c.args.client c.give_up_into.new.self c.from.ensures c.requires.client

@@ -3,7 +3,7 @@ use Rattle.std.proofs.lemmas.List.{length-replicate}
 use Rattle.atomic_table.specs.Table.{Me}
 use Rattle.atomic_table.specs.Seated.{TableId}
 use Rattle.board.specs.declared.table.View.{View}
-use Rattle.board.specs.Quorums.{AllMeet}
+use Rattle.quorum_set.specs.Meetings.{AllMeet}
 use Rattle.board.specs.Roots.{IsRoot}
 use Rattle.board.specs.Rule.{IsKept}
 use Rattle.board.specs.Seats.{Setting}
@@ -29,8 +29,11 @@ invariant_of-board c =
       made.5,
       made.0 ∙ long,
       made.1,
+      c.requires.some_number,
       c.requires.limit,
+      c.requires.some_client,
       c.requires.few_clients,
+      omega (arith, voters, is_coterie.some_voter),
       omega (arith, voters, is_coterie.few_voters),
       subst (λ (x : ℕ × List (List ℕ)). AllMeet x.0 x.1) (λ i. (sym voters i, sym c.in_ok-quorums_of.ensures i)) (c.coteries_meet.ensures c.args.coterie.now is_coterie),
     )

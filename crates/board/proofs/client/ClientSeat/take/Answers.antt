@@ -3,7 +3,7 @@ use Rattle.std.specs.Prelude.{slice_index}
 use Rattle.atomic_table.specs.Table.{Me}
 use Rattle.board.specs.declared.table.View.{View}
 use Rattle.board.specs.Seats.{Setting}
-use Rattle.board.specs.Seats.{BoardState, ClientState}
+use Rattle.board.specs.Seats.{BoardState, ClientSeatState}
 use Rattle.board.proofs.Votes.{takes_as}
 use Rattle.board.proofs.client.ClientSeat.take.Goals as goal
 
@@ -11,13 +11,13 @@ pub compare_exchange-found-requires : goal.compare_exchange-found-requires
 compare_exchange-found-requires c =
     let voters = ap (λ (b : BoardState). b.voters) c.board.view_is in
     let sheet = ap (λ (s : Setting). s.voters) c.board.invariant.0 in
-    let held = ap (λ (s : ClientState). s.held) c.self.view_is in
-    let few = c.board.invariant.5 in
+    let held = ap (λ (s : ClientSeatState). s.held) c.self.view_is in
+    let few = c.board.invariant.8 in
     let knows = c.self.invariant.0 in
     let mine = ap (λ (m : Me (Unit {0}) View). m.0.held) knows in
     let client = ap (λ (m : Me (Unit {0}) View). m.0.client) knows in
     let at = c.from-word.ensures in (
-      ap (λ (s : ClientState). s.table) c.self.view_is ∙ c.requires.table ∙ sym (ap (λ (b : BoardState). b.table) c.board.view_is),
+      ap (λ (s : ClientSeatState). s.table) c.self.view_is ∙ c.requires.table ∙ sym (ap (λ (b : BoardState). b.table) c.board.view_is),
       omega (arith, c.board.invariant.1, c.requires.voter),
       takes_as c.board.inside.table.shared.key _ _ _ c.from-word.result c.args.grant (64 * c.args.grant + c.from.result) (omega (arith, c.requires.voter)) (omega (arith, c.requires.grant)) (omega (arith, c.self.invariant.1))
           (ap (λ (n : ℕ). 64 * c.args.grant + n) (c.from.ensures ∙ sym client))

@@ -2,8 +2,8 @@ use Rattle.std.proofs.Common.{sym, ap, ◌∙◌, subst, arith}
 use Rattle.atomic_table.specs.Table.{Me}
 use Rattle.board.specs.declared.table.View.{View}
 use Rattle.board.specs.Seats.{Setting}
-use Rattle.board.specs.Quorums.{AllMeet}
-use Rattle.board.specs.Seats.{BoardState, ClientState}
+use Rattle.quorum_set.specs.Meetings.{AllMeet}
+use Rattle.board.specs.Seats.{BoardState, ClientSeatState}
 use Rattle.board.proofs.Register.{writes}
 use Rattle.board.proofs.client.ClientSeat.write_register.Goals as goal
 
@@ -13,10 +13,10 @@ store-requires c =
     let knows = c.self.invariant.0 in
     let sheet = ap (λ (s : Setting). s.voters) same in
     let limit = ap (λ (s : Setting). s.limit) same in (
-      ap (λ (s : ClientState). s.table) c.self.view_is ∙ c.requires.table ∙ sym (ap (λ (b : BoardState). b.table) c.board.view_is),
+      ap (λ (s : ClientSeatState). s.table) c.self.view_is ∙ c.requires.table ∙ sym (ap (λ (b : BoardState). b.table) c.board.view_is),
       omega (arith, c.voters-word.ensures.value, c.board.invariant.1),
       writes c.board.inside.table.shared.key _ _ _ c.voters-word.result c.in-Some.field-0-0 c.in-Some.number (c.voters-word.ensures.value ∙ sym sheet)
-          (subst (λ (s : Setting). AllMeet s.voters s.quorums) (sym same) c.board.invariant.6)
+          (subst (λ (s : Setting). AllMeet s.voters s.quorums) (sym same) c.board.invariant.9)
           (ap (λ (m : Me (Unit {0}) View). m.0.parts) knows)
           (ap (λ (m : Me (Unit {0}) View). m.0.reading) knows ∙ c.in-Some.is)
           (λ e. c.if-number-limit.false (e ∙ limit ∙ sym c.limit-limit.ensures.value)),

@@ -2,7 +2,7 @@ use Rattle.std.proofs.Common.{◌<◌, ◌≡◌, ◌+◌, ◌≤◌, ◌++◌, 
 use Rattle.atomic_table.specs.Table.{Me, Joins}
 use Rattle.atomic_table.specs.Seated.{TableId}
 use Rattle.board.specs.declared.table.View.{View}
-use Rattle.board.specs.Seats.{BoardState, RootState, ClientState}
+use Rattle.board.specs.Seats.{BoardState, RootState, ClientSeatState}
 use Rattle.board.specs.Rule.{Kept}
 use Rattle.board.specs.Roots.{passes_of, IsRoot}
 use Rattle.board.specs.Views.{client_view, with_client, spent_view}
@@ -20,7 +20,7 @@ join_seat-requires c =
     let root = c.self.invariant.1 in
     let is : o.seat.me.0 ≡ client_view o.client o.held o.reading o.passes.items = ap (λ (m : Me (Unit {0}) View). m.0) c.other.invariant.0 in (
       ap (λ (s : RootState). s.table) c.self.view_is ∙ c.requires.table ∙ table,
-      ap (λ (s : ClientState). s.table) c.other.view_is ∙ c.requires.other ∙ table,
+      ap (λ (s : ClientSeatState). s.table) c.other.view_is ∙ c.requires.other ∙ table,
       ap (λ (m : Me (Unit {0}) View). m.1) c.other.invariant.0,
       omega (arith, c.board.invariant.1),
       subst (λ (x : View). Joins (Kept key) c.self.inside.seat.id u o.seat.id x (with_client u x) spent_view) (sym is)

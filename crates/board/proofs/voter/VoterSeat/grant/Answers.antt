@@ -1,7 +1,7 @@
 use Rattle.std.proofs.Common.{◌≡◌, ℕ, ◌+◌, ◌*◌, ◌/◌, ◌<◌, None, Some, length, set, sym, ap, ◌∙◌, subst, arith}
 use Rattle.std.specs.Prelude.{Option, slice_index}
 use Rattle.atomic_table.specs.Seated.{TableId}
-use Rattle.board.specs.Seats.{BoardState, VoterState}
+use Rattle.board.specs.Seats.{BoardState, VoterSeatState}
 use Rattle.board.specs.Views.{current_name}
 use Rattle.board.specs.Seats.{Setting}
 use Rattle.board.proofs.Votes.{grants}
@@ -10,16 +10,16 @@ use Rattle.board.proofs.voter.VoterSeat.grant.Goals as goal
 
 pub swap-requires : goal.swap-requires
 swap-requires c =
-    let free : c.self.inside.current ≡ None = ap (λ (s : VoterState). s.current) c.self.view_is ∙ c.requires.free in
-    let voter = ap (λ (s : VoterState). s.voter) c.self.view_is in
+    let free : c.self.inside.current ≡ None = ap (λ (s : VoterSeatState). s.current) c.self.view_is ∙ c.requires.free in
+    let voter = ap (λ (s : VoterSeatState). s.voter) c.self.view_is in
     let voters = ap (λ (b : BoardState). b.voters) c.board.view_is in
     let sheet = ap (λ (s : Setting). s.voters) c.board.invariant.0 in
     let here = voter_here c.self.inside.seat.me c.self.inside.voter c.self.inside.current c.self.invariant.0 c.self.invariant.1 in
     let room = voter_room c.self.inside.seat.me c.self.inside.voter c.self.inside.current c.self.invariant.0 c.self.invariant.1 in
     let at : c.from-2.result ≡ c.self.inside.voter = c.from-2.ensures in
-    let words = ap (λ (z : TableId). z.words) (ap (λ (s : VoterState). s.table) c.self.view_is ∙ c.requires.table ∙ sym (ap (λ (b : BoardState). b.table) c.board.view_is)) in
+    let words = ap (λ (z : TableId). z.words) (ap (λ (s : VoterSeatState). s.table) c.self.view_is ∙ c.requires.table ∙ sym (ap (λ (b : BoardState). b.table) c.board.view_is)) in
     let in_board : c.from-2.result < c.board.inside.sheet.voters = omega (arith, c.self.invariant.3, c.board.invariant.1, words) in (
-      ap (λ (s : VoterState). s.table) c.self.view_is ∙ c.requires.table ∙ sym (ap (λ (b : BoardState). b.table) c.board.view_is),
+      ap (λ (s : VoterSeatState). s.table) c.self.view_is ∙ c.requires.table ∙ sym (ap (λ (b : BoardState). b.table) c.board.view_is),
       omega (arith, c.board.invariant.1),
       grants c.board.inside.table.shared.key _ _ _ c.from-2.result (64 * c.args.grant + c.from.result) (omega arith) (omega (arith, c.requires.above))
           (subst (λ (v : ℕ). v < length c.self.inside.seat.me.0.voters) (sym at) room)
@@ -28,7 +28,7 @@ swap-requires c =
 
 pub invariant_of-self : goal.invariant_of-self
 invariant_of-self c =
-    let in_range : c.args.client < 64 = omega (arith, c.requires.client, ap (λ (b : BoardState). b.clients) c.board.view_is, c.board.invariant.4) in (
+    let in_range : c.args.client < 64 = omega (arith, c.requires.client, ap (λ (b : BoardState). b.clients) c.board.view_is, c.board.invariant.6) in (
       voter_after c.self.inside.seat.me c.swap.new.seat.me c.self.inside.voter _ c.self.inside.current (Some (c.args.client, c.args.grant)) c.self.invariant.0
           (subst (λ (v : ℕ). c.swap.new.seat.me ≡ (record c.self.inside.seat.me.0 { voters = set c.self.inside.seat.me.0.voters v ((4 * (64 * c.args.grant + c.from.result) + 1) / 4 + 1) }, c.self.inside.seat.me.1)) c.from-2.ensures c.swap.ensures.2)
           (omega (arith, c.from.ensures)),

@@ -1,7 +1,6 @@
-use Rattle.std.proofs.Common.{◌≡◌, ℕ, ◌+◌, ◌*◌, ◌<◌, ◌≤◌, ◌^◌, [], List, false, get_or, nat_lt, refl, sym, ap, ◌∙◌, subst}
+use Rattle.std.proofs.Common.{◌≡◌, ℕ, ◌+◌, ◌*◌, ◌≤◌, [], nat_lt, sym, ap, ◌∙◌, subst}
 use Rattle.quorum_set.specs.Coteries.{QuorumSystem}
 use Rattle.certificate.specs.Certificates.{Weighted}
-use Rattle.dealer.specs.Offices.{ClerkState}
 use Rattle.cluster.proofs.blank.Blank.new.Goals as goal
 
 pub invariant_of-result : goal.invariant_of-result

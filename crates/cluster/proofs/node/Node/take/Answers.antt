@@ -1,8 +1,8 @@
-use Rattle.std.proofs.Common.{◌≡◌, ◌<◌, ◌≤◌, ◌^◌, ◌++◌, ◌∷◌, [], Some, None, List, Bool, true, false, is_some, IsSome, IfSome, refl, sym, ap, ◌∙◌, subst}
+use Rattle.std.proofs.Common.{◌≡◌, ◌<◌, ◌≤◌, ◌^◌, ◌++◌, ◌∷◌, [], None, List, IsSome, IfSome, sym, ap, ◌∙◌, subst}
 use Rattle.message.specs.declared.message.ToVoter.{ToVoter}
 use Rattle.voter.specs.declared.state.Effect.{Effect}
 use Rattle.voter.specs.Steps.{Outcome, effect_of}
-use Rattle.board.specs.Seats.{BoardState, VoterState as SeatState}
+use Rattle.board.specs.Seats.{BoardState, VoterSeatState as SeatState}
 use Rattle.cluster.specs.Nodes.{NodeState, IsFor, IsNode, offered, settled}
 use Rattle.cluster.proofs.NodeLemmas.{Took, frees_held, not_refused, may_offer, stays_node}
 use Rattle.cluster.proofs.node.Node.take.Goals as goal

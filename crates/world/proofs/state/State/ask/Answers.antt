@@ -18,10 +18,10 @@ unfolding step
 returns-in-Ok c = λ deal is.
     a_client c.args.client (length c.args.self.now.clients.items) _ (within_len c.args.self.now.clients c.from.result c.args.client c.len.result c.from.ensures c.len.ensures c.if-from-len.false)
     ∙ ran (draw (shown c.args.self.now) c.args.client) c.deref_mut.result.now c.ask.new.clients (with_items c.args.self.now.clients c.ask.new.clients).items c.args.client (Asks (deal (length c.args.self.now.draws.items)))
-    c.in-Ok.reply.out.items c.in-Ok.reply.seen c.tell.result (shown c.tell.new.self) c.deref_mut.ensures.value
-    (subst (λ (q : List ℕ). client.step (client_at c.deref_mut.result.now c.args.client) (Asks q) ≡ Ok (record { out = c.in-Ok.reply.out.items; seen = c.in-Ok.reply.seen; state = client_at c.ask.new.clients c.args.client })) (sym is) c.in-Ok.ensures.asked)
+    c.ask.new.out.items c.in-Ok.seen c.tell.result (shown c.tell.new.self) c.deref_mut.ensures.value
+    (subst (λ (q : List ℕ). client.step (client_at c.deref_mut.result.now c.args.client) (Asks q) ≡ Ok (record { out = c.ask.new.out.items; seen = c.in-Ok.seen; state = client_at c.ask.new.clients c.args.client })) (sym is) c.in-Ok.ensures.asked)
     c.in-Ok.ensures.others (written c.args.self.now.clients c.deref_mut.result.now c.ask.new.clients c.args.client _ c.deref_mut.ensures.value c.in-Ok.ensures.others)
-    c.tell.ensures.sent c.tell.ensures.seen (c.tell.ensures.state ∙ ap (λ (d : List (ℕ × ℕ)). told (record (shown c.args.self.now) { draws = d }) (with_items c.args.self.now.clients c.ask.new.clients).items c.args.client c.in-Ok.reply.out.items c.in-Ok.reply.seen) c.draw.ensures)
+    c.tell.ensures.sent c.tell.ensures.seen (c.tell.ensures.state ∙ ap (λ (d : List (ℕ × ℕ)). told (record (shown c.args.self.now) { draws = d }) (with_items c.args.self.now.clients c.ask.new.clients).items c.args.client c.ask.new.out.items c.in-Ok.seen) c.draw.ensures)
 
 pub returns-in-Err : goal.returns-in-Err
 unfolding step

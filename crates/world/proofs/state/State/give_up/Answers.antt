@@ -17,7 +17,7 @@ unfolding step
 returns-in-Ok c = λ deal.
     a_client c.args.client (length c.args.self.now.clients.items) _ (within_len c.args.self.now.clients c.from.result c.args.client c.len.result c.from.ensures c.len.ensures c.if-from-len.false)
     ∙ ran (shown c.args.self.now) c.deref_mut.result.now c.give_up.new.clients (with_items c.args.self.now.clients c.give_up.new.clients).items c.args.client GivesUp
-    c.in-Ok.reply.out.items c.in-Ok.reply.seen c.tell.result (shown c.tell.new.self) c.deref_mut.ensures.value
+    c.give_up.new.out.items c.in-Ok.seen c.tell.result (shown c.tell.new.self) c.deref_mut.ensures.value
     c.in-Ok.ensures.given_up
     c.in-Ok.ensures.others (written c.args.self.now.clients c.deref_mut.result.now c.give_up.new.clients c.args.client _ c.deref_mut.ensures.value c.in-Ok.ensures.others)
     c.tell.ensures.sent c.tell.ensures.seen c.tell.ensures.state

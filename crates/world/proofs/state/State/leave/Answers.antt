@@ -17,7 +17,7 @@ unfolding step
 returns-in-Ok c = λ deal.
     a_client c.args.client (length c.args.self.now.clients.items) _ (within_len c.args.self.now.clients c.from.result c.args.client c.len.result c.from.ensures c.len.ensures c.if-from-len.false)
     ∙ ran (shown c.args.self.now) c.deref_mut.result.now c.leave.new.clients (with_items c.args.self.now.clients c.leave.new.clients).items c.args.client Leaves
-    c.in-Ok.reply.out.items c.in-Ok.reply.seen c.tell.result (shown c.tell.new.self) c.deref_mut.ensures.value
+    c.leave.new.out.items c.in-Ok.seen c.tell.result (shown c.tell.new.self) c.deref_mut.ensures.value
     c.in-Ok.ensures.left
     c.in-Ok.ensures.others (written c.args.self.now.clients c.deref_mut.result.now c.leave.new.clients c.args.client _ c.deref_mut.ensures.value c.in-Ok.ensures.others)
     c.tell.ensures.sent c.tell.ensures.seen c.tell.ensures.state

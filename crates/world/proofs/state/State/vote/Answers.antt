@@ -18,7 +18,7 @@ spent GrantsSpent = refl
 pub returns-in-Ok : goal.returns-in-Ok
 returns-in-Ok c =
     let voters = (with_items c.args.self.now.voters c.vote.new.voters).items in
-    voted (shown c.args.self.now) c.deref_mut.result.now c.vote.new.voters voters c.args.message.now c.in-Ok.replies.items c.len.result _ c.deref_mut.ensures.value
+    voted (shown c.args.self.now) c.deref_mut.result.now c.vote.new.voters voters c.args.message.now c.vote.new.replies.items c.len.result _ c.deref_mut.ensures.value
     c.in-Ok.ensures.taken c.in-Ok.ensures.others (written c.args.self.now.voters c.deref_mut.result.now c.vote.new.voters c.args.message.now.voter _ c.deref_mut.ensures.value c.in-Ok.ensures.others)
     c.len.ensures.value
     (ap (λ (l : List Message). record (shown c.args.self.now) { voters = voters; sent = l })

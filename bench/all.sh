@@ -1,0 +1,21 @@
+#!/bin/sh
+# Runs every benchmark in turn: steps of the automata, draws of tickets, a world's script, members in threads,
+# and plans where glpsol is found.
+#
+#     bench/all.sh
+#
+# What each prints is said at the head of its script. Those that time something beside ours print the ratio.
+set -eu
+bench=$(CDPATH= cd -- "$(dirname -- "$0")" && pwd)
+
+printf '%s processors, %s\n' "$(getconf _NPROCESSORS_ONLN)" "$(uptime | sed 's/.*\(load average\)/\1/')"
+for name in steps draws world run; do
+    printf '\n== %s\n' "$name"
+    "$bench/$name.sh"
+done
+printf '\n== planner\n'
+if command -v glpsol > /dev/null; then
+    "$bench/planner.sh" "$bench/coteries"
+else
+    echo "glpsol is not found (Debian: glpk-utils)"
+fi

@@ -1,0 +1,94 @@
+//! The command `run`: clients in threads that share the lock of a plan, and the record of what they did.
+ghost use Rattle.std.specs.Prelude.{◌≡◌, ◌≤◌, false, IfErr, IfSome, OnOk, string_bytes};
+ghost use Rattle.qlock_cli.specs.Devices.{FailsAs, IsOwn};
+ghost use Rattle.qlock_cli.specs.Commands.{Answers, ComesOf, IsAnswered, IsRunnable, LeavesWritten};
+ghost use Rattle.runs.specs.Runs.{IsRun};
+
+use crate::answer::planned_of;
+use crate::device::write_output;
+use crate::execute::input_for;
+use crate::fault::Fault;
+use crate::watched::Watched;
+use cluster::RunRecord;
+use command_line::Command;
+use replay::write_record;
+use runs::{Gate, record_of_run};
+use std::alloc::Global;
+use std::io::{Read, Write};
+use std::sync::Wait;
+use std::thread::Threads;
+
+/// What `run` writes for an input: the text of the record of a run.
+fn run_answer<T: Threads + Wait + Sync, G: Gate>(
+    rt: &T,
+    alloc: Global,
+    command: &Command,
+    input: &[u8],
+    gate: &G,
+) -> Result<String, Fault>
+    requires { IsRunnable command.now }
+    ensures exact { IsAnswered string_bytes command.now input.now result }
+    ensures own { IfErr result IsOwn }
+{
+    let Command::Run {
+        clients,
+        passes,
+        turns,
+    } = command
+    else {
+        unreachable!()
+    };
+    let planned = match planned_of(alloc, input) {
+        Ok(planned) => planned,
+        Err(fault) => return Err(fault),
+    };
+    let run = match record_of_run(rt, alloc, planned.plan, *clients, *passes, *turns, gate) {
+        Ok(run) => run,
+        Err(fault) => return Err(Fault::from(fault)),
+    };
+    match write_record(alloc, &run) {
+        Ok(text) => Ok(text),
+        Err(_) => Err(Fault::OutOfMemory),
+    }
+}
+
+/// Serves `run`: reads the input to its end, runs the lock of its plan, and writes the text of the record and nothing
+/// else. The threads of the clients share the gate.
+///
+/// Refusals come as those of `execute`; where a run ends early, the fault is that of the least client whose work did.
+pub fn execute_run<T: Threads + Wait + Sync, R: Read, W: Write, G: Gate>(
+    rt: &T,
+    alloc: Global,
+    command: &Command,
+    reader: &mut Watched<R>,
+    writer: &mut Watched<W>,
+    gate: &G,
+) -> Result<(), Fault>
+    requires run { IsRunnable command.now }
+    requires unread { reader.old.failed ≡ false }
+    requires unwritten { writer.old.failed ≡ false }
+
+    // What is written is the text of the record of a run by the plan that is read.
+    ensures written { OnOk result (IfSome (R.remaining reader.old.inner) (λ input.
+        Answers command.now input (W.contents writer.old.inner) (W.contents writer.new.inner))) }
+
+    // A refusal comes only of an input that the command refuses so, or of a device or memory.
+    ensures refused { IfErr result (λ fault. IfSome (R.remaining reader.old.inner) (λ input. ComesOf command.now input fault)) }
+
+    // A refusal other than a write fault writes nothing; after a write fault a beginning of the answer was written.
+    ensures left { IfErr result (λ fault.
+        LeavesWritten command.now (R.remaining reader.old.inner) fault (W.contents writer.old.inner) (W.contents writer.new.inner)) }
+
+    // A read fault or write fault is answered exactly where that device failed.
+    ensures devices { FailsAs reader.new.failed writer.new.failed result }
+{
+    let input = match input_for(alloc, command, reader) {
+        Ok(input) => input,
+        Err(fault) => return Err(fault),
+    };
+    let output = match run_answer(rt, alloc, command, input.as_slice(), gate) {
+        Ok(output) => output,
+        Err(fault) => return Err(fault),
+    };
+    write_output(writer, output.as_bytes())
+}

@@ -1,0 +1,57 @@
+-- Members of sets, and that any two quorums of a coterie meet.
+use Rattle.std.proofs.Common.{◌≡◌, ℕ, suc, ◌<◌, ◌≤◌, eqb, Bool, true, false, true≢false, List, [], ◌∷◌, length, refl, sym, ap, ◌∙◌, subst, arith, ne_eqb}
+use Rattle.std.specs.Prelude.{◌||◌, slice_index_or}
+use Rattle.std.specs.List.{All}
+use mathlib.Core.Logic.{dite}
+use native.Mathlib.Decide.{ℕ_discrete, dec_le}
+use Rattle.quorum_set.specs.Sets.{has, meet}
+use Rattle.quorum_set.specs.Coteries.{QuorumSystem, IsCoterie}
+use Rattle.quorum_set.proofs.SetLemmas.{has-head}
+use Rattle.quorum_set.specs.Meetings.{Meet, AllMeet}
+
+-- what holds of all members holds of each
+pub all_has : (P : ℕ → Type 0) (q : List ℕ) (v : ℕ) → has q v ≡ true → All P q → P v
+all_has P [] v e h = absurd (true≢false (sym e))
+all_has P (x ∷ xs) v e h = dite (ℕ_discrete x v)
+    (λ here. subst P here (h 0 0 (omega arith)))
+    (λ far. all_has P xs v (sym (ap (λ (t : Bool). t || has xs v) (ne_eqb x v far)) ∙ e) (λ k d lt. h (suc k) d (omega arith)))
+
+has_later : (x v : ℕ) (xs : List ℕ) → has xs v ≡ true → has (x ∷ xs) v ≡ true
+has_later x v xs e = either_way (eqb x v)
+  where
+    either_way : (t : Bool) → (t || has xs v) ≡ true
+    either_way true = refl
+    either_way false = e
+
+-- a common member, where the test says that there is one
+common : (p q : List ℕ) → meet p q ≡ true → (v : ℕ) × (has p v ≡ true) × (has q v ≡ true)
+common [] q e = absurd (true≢false (sym e))
+common (x ∷ xs) q e = here_or_later (has q x) refl (λ later. common xs q later)
+  where
+    here_or_later : (t : Bool) → has q x ≡ t → (meet xs q ≡ true → (v : ℕ) × (has xs v ≡ true) × (has q v ≡ true)) → (v : ℕ) × (has (x ∷ xs) v ≡ true) × (has q v ≡ true)
+    here_or_later true is others = (x, has-head x xs, is)
+    here_or_later false is others =
+        let later = others (sym (ap (λ (t : Bool). t || meet xs q) is) ∙ e) in
+        (later.0, has_later x later.0 xs later.1, later.2)
+
+-- a set with a member meets itself
+self : (p : List ℕ) → 0 < length p → (v : ℕ) × (has p v ≡ true) × (has p v ≡ true)
+self [] some_member = absurd (omega arith)
+self (x ∷ xs) some_member = (x, has-head x xs, has-head x xs)
+
+pub coterie_meets : (s : QuorumSystem) → IsCoterie s → AllMeet s.voters s.quorums
+coterie_meets s c j k lt lt' = within (shared (ℕ_discrete j k) (dec_le k j))
+  where
+    p : List ℕ
+    p = slice_index_or s.quorums j []
+
+    q : List ℕ
+    q = slice_index_or s.quorums k []
+
+    within : ((v : ℕ) × (has p v ≡ true) × (has q v ≡ true)) → Meet s.voters p q
+    within x = (x.0, all_has (λ (i : ℕ). i < s.voters) p x.0 x.1 (c.in_range j [] lt), x.1, x.2)
+
+    shared : Dec (j ≡ k) → Dec (k ≤ j) → (v : ℕ) × (has p v ≡ true) × (has q v ≡ true)
+    shared (yes same) _ = subst (λ (i : ℕ). (v : ℕ) × (has p v ≡ true) × (has (slice_index_or s.quorums i []) v ≡ true)) same (self p (c.not_empty j [] lt))
+    shared (no apart) (yes after) = let x = common q p (c.meets k j [] (omega arith) lt) in (x.0, x.2, x.1)
+    shared (no apart) (no before) = common p q (c.meets j k [] (omega arith) lt')

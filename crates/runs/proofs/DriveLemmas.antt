@@ -1,0 +1,100 @@
+-- What becomes of members that are driven.
+use Rattle.std.proofs.Common.{◌≡◌, ℕ, zero, suc, ◌+◌, ◌<◌, true, true≢false, Option, None, Some, List, [], ◌∷◌, ◌++◌, refl, sym, ap, ◌∙◌, subst, length, add-zero, arith}
+use Rattle.std.specs.Prelude.{All, slice_index_or}
+use Rattle.std.specs.List.{AllZip}
+use Rattle.std.proofs.lemmas.List.{append-nil, append_assoc, length-append}
+use Rattle.requester.specs.Words.{is_idle, is_inside}
+use Rattle.board.specs.declared.fault.BoardFault.TheVariants.{SeatsOut, VoteOut, RegisterFull, OutOfMemory}
+use Rattle.board.specs.Seats.{ClientSeatState as SeatState}
+use Rattle.dealer.specs.declared.receipt.Receipt.{Receipt}
+use Rattle.dealer.specs.Offices.{ClerkState}
+use Rattle.cluster.specs.declared.fault.ClusterFault.{ClusterFault}
+use Rattle.cluster.specs.declared.fault.ClusterFault.TheVariants as ends
+use Rattle.cluster.specs.Members.{AreIdle, MemberState, RefusesPass, with_receipt}
+use Rattle.runs.specs.Drives.{EndsWork, HasMore, HasServed, IsBack, IsBackBy, KeepsWork, Stops, Worked}
+
+-- More of a list
+
+pub more_and_more : {A : Type 0} (m n : ℕ) (xs ys zs : List A) → HasMore m xs ys → HasMore n ys zs → HasMore (m + n) xs zs
+more_and_more m n xs ys zs a b = (a.0 ++ b.0, b.1 ∙ ap (λ l. l ++ b.0) a.1 ∙ append_assoc xs a.0 b.0, length-append a.0 b.0 ∙ (λ i. a.2 i + b.2 i))
+
+-- One pass
+
+-- a ticket was drawn, and then nothing
+pub drew : (a b c : MemberState) (r : Receipt) → b.requester.id ≡ a.requester.id → b.clerk ≡ with_receipt a.clerk r → b.seat ≡ a.seat → KeepsWork b c → Worked 1 0 a c
+drew a b c r client clerk seat k = record {
+  client = k.client ∙ client;
+  receipts = (r ∷ [], ap (λ (x : ClerkState). x.receipts) (k.clerk ∙ clerk), refl);
+  passes = ([], k.passes ∙ ap (λ (s : SeatState). s.passes) seat ∙ sym (append-nil a.seat.passes), refl);
+}
+
+-- who is inside is refused a pass only by what ends its work
+pub refused_pass : (m : MemberState) (fault : ClusterFault) (client : ℕ) → is_inside m.requester.phase ≡ true → RefusesPass m fault → EndsWork client fault
+refused_pass m (ends.Board RegisterFull) client inside r = tt
+refused_pass m (ends.Board OutOfMemory) client inside r = tt
+refused_pass m (ends.Board (SeatsOut k)) client inside r = r
+refused_pass m (ends.Board (VoteOut v)) client inside r = r
+refused_pass m (ends.Client e) client inside r = absurd r
+refused_pass m (ends.Deal e) client inside r = absurd r
+refused_pass m ends.NotInside client inside r = absurd (true≢false (sym inside ∙ r))
+refused_pass m (ends.TurnsSpent c) client inside r = absurd r
+
+-- All passes
+
+then : (m n k l : ℕ) (a b c : MemberState) → Worked m n a b → Worked k l b c → Worked (m + k) (n + l) a c
+then m n k l a b c first second = record {
+  client = second.client ∙ first.client;
+  receipts = more_and_more m k a.clerk.receipts b.clerk.receipts c.clerk.receipts first.receipts second.receipts;
+  passes = more_and_more n l a.seat.passes b.seat.passes c.seat.passes first.passes second.passes;
+}
+
+-- a pass that was not made
+pub ended : (passes n : ℕ) (a b c d e : MemberState) (fault : ClusterFault) → HasServed n a b → n < passes → Stops b c fault → KeepsWork c d → is_idle d.requester.phase ≡ true → e ≡ record d { fault = Some fault } → IsBack passes a e
+ended passes n a b c d e fault r less stops kept idle told =
+    subst (IsBack passes a) (sym told) (record {
+      drawn = n + stops.0.0;
+      passed = n;
+      worked = worked;
+      fewer = omega (arith, less);
+      tickets = omega arith;
+      one_besides = omega (arith, stops.0.1);
+      idle = idle;
+      ends = subst (λ k. EndsWork k fault) (sym (kept.client ∙ stops.0.2.client)) stops.1;
+    })
+  where
+    last : Worked stops.0.0 0 b (record d { fault = Some fault })
+    last = record {
+      client = kept.client ∙ stops.0.2.client;
+      receipts = subst (λ (x : ClerkState). HasMore stops.0.0 b.clerk.receipts x.receipts) (sym kept.clerk) stops.0.2.receipts;
+      passes = subst (λ l. HasMore 0 b.seat.passes l) (sym kept.passes) stops.0.2.passes;
+    }
+
+    worked : Worked (n + stops.0.0) n a (record d { fault = Some fault })
+    worked = subst (λ k. Worked (n + stops.0.0) k a (record d { fault = Some fault })) (add-zero n) (then n n stops.0.0 0 a b (record d { fault = Some fault }) r.worked last)
+
+-- All members
+
+pub zip_from : {X : Type 0} (R : X → X → Type 0) (xs ys : List X) → length ys ≡ length xs → ((i : ℕ) (d : X) → i < length xs → R (slice_index_or xs i d) (slice_index_or ys i d)) → AllZip R xs ys
+zip_from R [] [] e each = tt
+zip_from R [] (y ∷ ys) e each = absurd (omega (arith, e))
+zip_from R (x ∷ xs) [] e each = absurd (omega (arith, e))
+zip_from R (x ∷ xs) (y ∷ ys) e each = (each 0 x (omega arith), zip_from R xs ys (omega (arith, e)) (λ i d below. each (suc i) d (omega (arith, below))))
+
+-- members without a fault did all their work
+pub all_served : (passes : ℕ) (xs ys : List MemberState) → AllZip (IsBack passes) xs ys → All (λ m. m.fault ≡ None) ys → AllZip (HasServed passes) xs ys
+all_served passes [] [] back done = tt
+all_served passes [] (y ∷ ys) back done = absurd back
+all_served passes (x ∷ xs) [] back done = absurd back
+all_served passes (x ∷ xs) (y ∷ ys) back done =
+    (subst (λ f. IsBackBy passes f x y) (done 0 y (omega arith)) back.0, all_served passes xs ys back.1 (λ k d below. done (suc k) d (omega (arith, below))))
+
+back_idle : (passes : ℕ) (fault : Option ClusterFault) (x y : MemberState) → IsBackBy passes fault x y → is_idle y.requester.phase ≡ true
+back_idle passes None x y back = back.idle
+back_idle passes (Some fault) x y back = back.idle
+
+pub all_idle : (passes : ℕ) (xs ys : List MemberState) → AllZip (IsBack passes) xs ys → AreIdle ys
+all_idle passes [] [] back k d below = absurd (omega (arith, below))
+all_idle passes [] (y ∷ ys) back k d below = absurd back
+all_idle passes (x ∷ xs) [] back k d below = absurd back
+all_idle passes (x ∷ xs) (y ∷ ys) back zero d below = back_idle passes y.fault x y back.0
+all_idle passes (x ∷ xs) (y ∷ ys) back (suc k) d below = all_idle passes xs ys back.1 k d (omega (arith, below))

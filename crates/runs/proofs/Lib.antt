@@ -1,0 +1,2 @@
+mod DriveLemmas
+mod RunLemmas

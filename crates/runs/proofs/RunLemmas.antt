@@ -1,0 +1,144 @@
+-- What a run of driven members comes to.
+use Rattle.std.proofs.Common.{◌≡◌, ℕ, zero, suc, ◌+◌, ◌*◌, ◌<◌, ◌≤◌, ◌++◌, List, [], ◌∷◌, Option, None, Some, true, map, length, sum_by, get_or, refl, sym, ap, ◌∙◌, subst, cond, arith}
+use Rattle.std.specs.List.{All, AllZip, range_with_len}
+use Rattle.std.proofs.lemmas.List.{length-map}
+use Rattle.std.proofs.lemmas.List.FromFn.{get_or-range_with_len, length-range_with_len}
+use Rattle.std.proofs.lemmas.Slice.Zip.{AllZip-long}
+use Rattle.std.proofs.lemmas.List.Elements.{All-map}
+use Rattle.std.proofs.lemmas.List.Sums.{sum_by-cons}
+use native.Mathlib.Nat.{add-mul, zero-mul}
+use Rattle.requester.specs.Words.{is_idle}
+use Rattle.cluster.specs.Clusters.{ClusterState}
+use Rattle.runs.specs.Drives.{HasMore, HasServed, HasEnded, IsBack, IsBackBy, IsLeastFault, EndsWork}
+use Rattle.cluster.specs.Members.{AreIdle, MemberState, fresh_member}
+use Rattle.cluster.specs.Records.{IsLoss, IsRecordOf, idle_count}
+use Rattle.cluster.specs.declared.record.RunRecord.{RunRecord}
+use Rattle.cluster.specs.declared.fault.ClusterFault.{ClusterFault}
+use Rattle.cluster.specs.declared.fault.ClusterFault.TheVariants as ends
+use Rattle.board.specs.declared.fault.BoardFault.{BoardFault}
+use Rattle.board.specs.declared.fault.BoardFault.TheVariants as board
+use Rattle.dealer.specs.declared.fault.DealFault.TheVariants as deal
+use Rattle.requester.specs.declared.fault.ClientFault.TheVariants as client
+use Rattle.replay.specs.Records.{IsSoundRecord, entries_of}
+use Rattle.runs.specs.Runs.{EndsRun, IsRun, run_refusal}
+
+-- a member that drew and passed nothing yet
+record IsFresh (c : ClusterState) (m : MemberState) : Type 0 where
+  pub client : m.requester.id < c.board.clients
+  pub receipts : m.clerk.receipts ≡ []
+  pub passes : m.seat.passes ≡ []
+
+-- Lists
+
+sum_by_same : {A : Type 0} (f : A → ℕ) (n : ℕ) (xs : List A) → All (λ x. f x ≡ n) xs → sum_by f xs ≡ length xs * n
+sum_by_same f n [] all = sym (zero-mul n)
+sum_by_same f n (x ∷ xs) all =
+    let rest = sum_by_same f n xs (λ k d lt. all (suc k) d (omega (arith, lt))) in
+    let more : (1 + length xs) * n ≡ 1 * n + length xs * n = add-mul 1 (length xs) n in
+    let one : suc (length xs) * n ≡ (1 + length xs) * n = ap (λ (k : ℕ). k * n) (omega arith) in
+    omega (arith, all 0 x (omega arith), rest, more, one, sum_by-cons f x xs)
+
+zip_right : {A B : Type 0} (P : A → Type 0) (R : A → B → Type 0) (Q : B → Type 0) → ((x : A) (y : B) → P x → R x y → Q y) → (xs : List A) (ys : List B) → All P xs → AllZip R xs ys → All Q ys
+zip_right P R Q each [] [] all zip k d lt = absurd (omega (arith, lt))
+zip_right P R Q each [] (y ∷ ys) all zip k d lt = absurd zip
+zip_right P R Q each (x ∷ xs) [] all zip k d lt = absurd zip
+zip_right P R Q each (x ∷ xs) (y ∷ ys) all zip zero d lt = each x y (all 0 x (omega arith)) zip.0
+zip_right P R Q each (x ∷ xs) (y ∷ ys) all zip (suc k) d lt = zip_right P R Q each xs ys (λ j e below. all (suc j) e (omega (arith, below))) zip.1 k d (omega (arith, lt))
+
+-- Fresh members that were driven
+
+are_fresh : (c : ClusterState) (members : List MemberState) → members ≡ map (fresh_member c) (range_with_len 0 c.board.clients) → All (IsFresh c) members
+are_fresh c members e = subst (All (IsFresh c)) (sym e) (All-map (IsFresh c) (fresh_member c) (range_with_len 0 c.board.clients) (λ k d lt. record {
+  client = below c.board.clients k d lt;
+  receipts = refl;
+  passes = refl;
+}))
+  where
+    below : (n k d : ℕ) → k < length (range_with_len 0 n) → get_or (range_with_len 0 n) k d < n
+    below n k d lt =
+        let less : k < n = omega (arith, lt, length-range_with_len 0 n) in
+        omega (arith, get_or-range_with_len 0 n k d less, less)
+
+more_than_none : {A : Type 0} (n : ℕ) (xs ys : List A) → xs ≡ [] → HasMore n xs ys → length ys ≡ n
+more_than_none n xs ys none_before more = ap length (more.1 ∙ ap (λ l. l ++ more.0) none_before) ∙ more.2
+
+as_many : (c : ClusterState) (before after : List MemberState) (R : MemberState → MemberState → Type 0) → before ≡ map (fresh_member c) (range_with_len 0 c.board.clients) → AllZip R before after → length after ≡ c.board.clients
+as_many c before after R e zip = AllZip-long R before after zip ∙ ap length e ∙ length-map (range_with_len 0 c.board.clients) (fresh_member c) ∙ length-range_with_len 0 c.board.clients
+
+-- each made so many passes
+pub each_passed : (c : ClusterState) (passes : ℕ) (before after : List MemberState) → before ≡ map (fresh_member c) (range_with_len 0 c.board.clients) → AllZip (HasServed passes) before after
+    → All (λ m. length m.seat.passes ≡ passes) after
+each_passed c passes before after e served =
+    zip_right (IsFresh c) (HasServed passes) (λ m. length m.seat.passes ≡ passes) (λ x y fresh s. more_than_none passes x.seat.passes y.seat.passes fresh.passes s.worked.passes) before after (are_fresh c before e) served
+
+-- each drew so many tickets
+pub each_drew : (c : ClusterState) (passes : ℕ) (before after : List MemberState) → before ≡ map (fresh_member c) (range_with_len 0 c.board.clients) → AllZip (HasServed passes) before after
+    → All (λ m. length m.clerk.receipts ≡ passes) after
+each_drew c passes before after e served =
+    zip_right (IsFresh c) (HasServed passes) (λ m. length m.clerk.receipts ≡ passes) (λ x y fresh s. more_than_none passes x.clerk.receipts y.clerk.receipts fresh.receipts s.worked.receipts) before after (are_fresh c before e) served
+
+-- no member is missing
+pub all_ready : (c : ClusterState) (passes missing : ℕ) (before after : List MemberState) → before ≡ map (fresh_member c) (range_with_len 0 c.board.clients) → AllZip (HasServed passes) before after
+    → AreIdle after → 0 < missing → idle_count after + missing ≡ c.board.clients → ⊥
+all_ready c passes missing before after e served idle some out =
+    let many = as_many c before after (HasServed passes) e served in
+    let counted : idle_count after ≡ length after * 1 = sum_by_same (λ (m : MemberState). cond (is_idle m.requester.phase) 1 0) 1 after (λ k d lt. ap (λ b. cond {A = ℕ} b 1 0) (idle k d lt)) in
+    omega (arith, many, counted, some, out)
+
+-- Why a run ends
+
+ends_by : (client clients : ℕ) (fault : ClusterFault) → client < clients → EndsWork client fault → EndsRun clients (run_refusal fault)
+ends_by id clients (ends.Client client.StampsSpent) less h = tt
+ends_by id clients (ends.Client client.Busy) less h = absurd h
+ends_by id clients (ends.Client client.NotInside) less h = absurd h
+ends_by id clients (ends.Client client.NotAsking) less h = absurd h
+ends_by id clients (ends.Deal deal.QuotaSpent) less h = tt
+ends_by id clients (ends.Deal deal.OutOfMemory) less h = tt
+ends_by id clients (ends.Board board.RegisterFull) less h = tt
+ends_by id clients (ends.Board board.OutOfMemory) less h = tt
+ends_by id clients (ends.Board (board.SeatsOut k)) less h = absurd h
+ends_by id clients (ends.Board (board.VoteOut v)) less h = absurd h
+ends_by id clients ends.NotInside less h = absurd h
+ends_by id clients (ends.TurnsSpent c) less h = omega (arith, less, h)
+
+abbrev EndsWell : ℕ → MemberState → Type 0
+EndsWell clients m = (fault : ClusterFault) → m.fault ≡ Some fault → EndsRun clients (run_refusal fault)
+
+pub driven_ends : (c : ClusterState) (passes : ℕ) (before after : List MemberState) (fault : ClusterFault) → before ≡ map (fresh_member c) (range_with_len 0 c.board.clients)
+    → AllZip (IsBack passes) before after → IsLeastFault after fault → EndsRun c.board.clients (run_refusal fault)
+driven_ends c passes before after fault e back least =
+    let r = least.1 in
+    let found = each r.among.0 r.member r.among.1 in
+    subst (EndsWell c.board.clients) r.among.2 found fault r.ended
+  where
+    one : (x y : MemberState) → IsFresh c x → IsBack passes x y → EndsWell c.board.clients y
+    one x y fresh h fault told =
+        let ended : HasEnded passes fault x y = subst (λ f. IsBackBy passes f x y) told h in
+        ends_by y.requester.id c.board.clients fault (omega (arith, ended.worked.client, fresh.client)) ended.ends
+
+    each : All (EndsWell c.board.clients) after
+    each = zip_right (IsFresh c) (IsBack passes) (EndsWell c.board.clients) one before after (are_fresh c before e) back
+
+-- a cluster that is not closed
+pub close_ends : (c : ClusterState) (fault : BoardFault) → IsLoss c fault → EndsRun c.board.clients (run_refusal (ends.Board fault))
+close_ends c (board.VoteOut v) h = tt
+close_ends c board.OutOfMemory h = tt
+close_ends c (board.SeatsOut k) h = absurd h
+close_ends c board.RegisterFull h = absurd h
+
+-- The record
+
+pub run_of : (c : ClusterState) (passes : ℕ) (before after : List MemberState) (r : RunRecord) → before ≡ map (fresh_member c) (range_with_len 0 c.board.clients) → AllZip (HasServed passes) before after
+    → c.board.quorums ≡ c.office.cycle.system.quorums → IsRecordOf c after r → IsSoundRecord c.office.cycle (entries_of r)
+    → length r.draws.items ≡ sum_by (λ m. length m.clerk.receipts) after → r.register ≡ length after * passes
+    → All (λ d. d.2 < length c.board.quorums) r.draws.items
+    → IsRun c.office.cycle c.board.clients passes r
+run_of c passes before after r e served quorums is sound drawn register in_range =
+    let many = as_many c before after (HasServed passes) e served in
+    record {
+      sound = sound;
+      drawn = drawn ∙ sum_by_same (λ (m : MemberState). length m.clerk.receipts) passes after (each_drew c passes before after e served) ∙ ap (λ n. n * passes) many;
+      register = register ∙ ap (λ n. n * passes) many;
+      each_draw = λ k d lt. ((is.each_draw k d lt).client, omega (arith, in_range k d lt, ap length quorums));
+      each_pass = is.each_pass;
+    }

@@ -1,0 +1,13 @@
+use Rattle.std.proofs.Common.{rules}
+use Rattle.std.specs.List.{AllZip}
+use Rattle.runs.specs.Drives.{IsBack}
+use Rattle.runs.proofs.DriveLemmas.{all_idle, zip_from}
+use Rattle.runs.proofs.drives.serve_all.Goals as goal
+
+pub returns-clause-back : goal.returns-clause-back
+returns-clause-back g c = zip_from (IsBack c.args.passes) c.args.members.now c.for_each_mut.new.s (search rules) (λ i d below. let k = (c.for_each_mut.ensures i d below).1 in search rules)
+
+pub returns-clause-idle : goal.returns-clause-idle
+returns-clause-idle g c =
+    let back : AllZip (IsBack c.args.passes) c.args.members.now c.for_each_mut.new.s = zip_from (IsBack c.args.passes) c.args.members.now c.for_each_mut.new.s (search rules) (λ i d below. let k = (c.for_each_mut.ensures i d below).1 in search rules) in
+    all_idle c.args.passes c.args.members.now c.for_each_mut.new.s back

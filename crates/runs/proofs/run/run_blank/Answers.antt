@@ -1,0 +1,35 @@
+use Rattle.std.proofs.Common.{◌≡◌, sym, ap, ◌∙◌, subst}
+use Rattle.cluster.specs.Clusters.{ClusterState, IsCluster}
+use Rattle.certificate.specs.Certificates.{IsCertificate}
+use Rattle.cluster.specs.Closes.{RefusesClose}
+use Rattle.runs.specs.Runs.{EndsRun, IsRun}
+use Rattle.runs.proofs.RunLemmas.{all_ready, close_ends, driven_ends, each_passed, run_of}
+use Rattle.runs.proofs.run.run_blank.Goals as goal
+
+pub returns-in-Err-clause-ended : goal.returns-in-Err-clause-ended
+returns-in-Err-clause-ended g c =
+    let cluster = g.N.ClusterName.cluster in
+    let ended = driven_ends cluster c.args.passes c.in-Ok.members.items c.in-Err.driven.members.items c.in-Err.driven.fault c.in-Ok.ensures.members c.in-Err.ensures.back c.in-Err.ensures.least in
+    subst (λ (x : ClusterState). EndsRun x.board.clients c.from.result) (sym c.requires.name) (subst (EndsRun cluster.board.clients) (sym c.from.ensures) ended)
+
+pub returns-in-Ok-close-clause-run : goal.returns-in-Ok-close-clause-run
+returns-in-Ok-close-clause-run g c =
+    let cluster = g.N.ClusterName.cluster in
+    let after = c.in-Ok-drive.members.items in
+    let run = c.in-Ok-close.run' in
+    let is = c.in-Ok-close.ensures.record in
+    let served = c.in-Ok-drive.ensures.served in
+    let whole : IsCluster cluster = subst IsCluster c.requires.name c.requires.cluster in
+    let plan : IsCertificate cluster.office.cycle = subst (λ (x : ClusterState). IsCertificate x.office.cycle) c.requires.name c.requires.plan in
+    let made = run_of cluster c.args.passes c.in-Ok.members.items after run c.in-Ok.ensures.members served whole.quorums is
+    (c.records_of_runs_are_sound.ensures cluster after run is)
+    (c.records_count_passes.ensures.draws cluster after run is)
+    (c.records_count_passes.ensures.evenly cluster after run c.args.passes is (each_passed cluster c.args.passes c.in-Ok.members.items after c.in-Ok.ensures.members served))
+    (c.records_are_in_range.ensures.quorums cluster after run whole plan is) in
+    subst (λ (x : ClusterState). IsRun x.office.cycle x.board.clients c.args.passes run) (sym c.requires.name) made
+
+pub unreachable-requires : goal.unreachable-requires
+unreachable-requires g c =
+    let cluster = g.N.ClusterName.cluster in
+    let refused = subst (RefusesClose cluster c.in-Ok-drive.members.items) c.in-Err-Unready.field-0-is c.in-Err-Unready.ensures.refused in
+    all_ready cluster c.args.passes c.in-Err-Unready.field-0-2 c.in-Ok.members.items c.in-Ok-drive.members.items c.in-Ok.ensures.members c.in-Ok-drive.ensures.served c.in-Ok-drive.ensures.idle refused.1 refused.2

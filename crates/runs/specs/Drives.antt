@@ -1,0 +1,85 @@
+-- Drives of members: what becomes of each, and which fault is answered.
+use Rattle.std.specs.Prelude.{◌≡◌, ℕ, ◌+◌, ◌≤◌, ◌++◌, true, List, Option, None, Some, IfSome, All, Contains, length}
+use Rattle.board.specs.declared.fault.BoardFault.TheVariants.{SeatsOut, VoteOut, RegisterFull, OutOfMemory}
+use Rattle.requester.specs.declared.fault.ClientFault.TheVariants.{Busy, NotInside as Outside, NotAsking, StampsSpent}
+use Rattle.requester.specs.Words.{is_idle}
+use Rattle.cluster.specs.declared.fault.ClusterFault.{ClusterFault}
+use Rattle.cluster.specs.declared.fault.ClusterFault.TheVariants as ends
+use Rattle.cluster.specs.Members.{MemberState}
+
+-- the list afterwards is the list before and so many more
+abbrev pub HasMore : {A : Type 0} → ℕ → List A → List A → Type 0
+HasMore {A} n before after = (more : List A) × (after ≡ before ++ more) × (length more ≡ n)
+
+-- the same client, which drew so many tickets more and passed so many times more
+pub record Worked (drawn passed : ℕ) (before after : MemberState) : Type 0 where
+  pub client : after.requester.id ≡ before.requester.id
+  pub receipts : HasMore drawn before.clerk.receipts after.clerk.receipts
+  pub passes : HasMore passed before.seat.passes after.seat.passes
+
+-- the same client with the same tickets and pass numbers
+pub record KeepsWork (before after : MemberState) : Type 0 where
+  pub client : after.requester.id ≡ before.requester.id
+  pub clerk : after.clerk ≡ before.clerk
+  pub passes : after.seat.passes ≡ before.seat.passes
+  pub fault : after.fault ≡ before.fault
+
+-- The member is idle again, drew one ticket for each of so many passes, and made each of them. Nothing ended its work early
+pub record HasServed (passes : ℕ) (before after : MemberState) : Type 0 where
+  pub worked : Worked passes passes before after
+  pub idle : is_idle after.requester.phase ≡ true
+  pub fault : after.fault ≡ None
+
+-- What ends the work of this client early: no stamp or no ticket is left, the register is at its limit, there is no memory, or its turns are spent
+abbrev pub EndsWork : ℕ → ClusterFault → Type 0
+EndsWork client (ends.Client StampsSpent) = Unit {0}
+EndsWork client (ends.Client Busy) = ⊥
+EndsWork client (ends.Client Outside) = ⊥
+EndsWork client (ends.Client NotAsking) = ⊥
+EndsWork client (ends.Deal e) = Unit {0}
+EndsWork client (ends.Board RegisterFull) = Unit {0}
+EndsWork client (ends.Board OutOfMemory) = Unit {0}
+EndsWork client (ends.Board (SeatsOut k)) = ⊥
+EndsWork client (ends.Board (VoteOut v)) = ⊥
+EndsWork client ends.NotInside = ⊥
+EndsWork client (ends.TurnsSpent c) = c ≡ client
+
+-- The member is idle again, and its work ended early by this fault: of so many passes it made fewer, and it drew a ticket for each that it made and at most one besides
+pub record HasEnded (passes : ℕ) (fault : ClusterFault) (before after : MemberState) : Type 0 where
+  pub drawn : ℕ
+  pub passed : ℕ
+  pub worked : Worked drawn passed before after
+  pub fewer : 1 + passed ≤ passes
+  pub tickets : passed ≤ drawn
+  pub one_besides : drawn ≤ 1 + passed
+  pub idle : is_idle after.requester.phase ≡ true
+  pub ends : EndsWork after.requester.id fault
+
+-- The pass was not made, by this fault, and at most a ticket was drawn for it
+abbrev pub Stops : MemberState → MemberState → ClusterFault → Type 0
+Stops before after fault = ((drawn : ℕ) × (drawn ≤ 1) × Worked drawn 0 before after) × EndsWork before.requester.id fault
+
+-- the member's work was done, or it ended early by the fault that the member tells
+abbrev pub IsBackBy : ℕ → Option ClusterFault → MemberState → MemberState → Type 0
+IsBackBy passes None before after = HasServed passes before after
+IsBackBy passes (Some fault) before after = HasEnded passes fault before after
+
+abbrev pub IsBack : ℕ → MemberState → MemberState → Type 0
+IsBack passes before after = IsBackBy passes after.fault before after
+
+-- the work of this client ended early by this fault, and that of no client with a lesser number did
+pub record IsLeast (members : List MemberState) (client : ℕ) (fault : ClusterFault) : Type 0 where
+  pub member : MemberState
+  pub among : Contains members member
+  pub number : member.requester.id ≡ client
+  pub ended : member.fault ≡ Some fault
+  pub others : All (λ m. IfSome m.fault (λ f. client ≤ m.requester.id)) members
+
+-- the least client whose work ended early, and its fault; none where that of no member did
+abbrev pub IsLeastOf : List MemberState → Option (ℕ × ClusterFault) → Type 0
+IsLeastOf members None = All (λ m. m.fault ≡ None) members
+IsLeastOf members (Some x) = IsLeast members x.0 x.1
+
+-- of the members whose work ended early, that of the least client did by this fault
+abbrev pub IsLeastFault : List MemberState → ClusterFault → Type 0
+IsLeastFault members fault = (client : ℕ) × IsLeast members client fault

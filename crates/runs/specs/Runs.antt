@@ -1,0 +1,46 @@
+-- Runs of a plan's lock: their records, and why there is none.
+use Rattle.std.specs.Prelude.{◌≡◌, ℕ, ◌*◌, ◌<◌, ◌≤◌, length}
+use Rattle.std.specs.List.{All}
+use Rattle.certificate.specs.Certificates.{Weighted}
+use Rattle.board.specs.declared.fault.BoardFault.TheVariants as board
+use Rattle.dealer.specs.declared.fault.DealFault.TheVariants as deal
+use Rattle.requester.specs.declared.fault.ClientFault.TheVariants as client
+use Rattle.cluster.specs.declared.fault.ClusterFault.{ClusterFault}
+use Rattle.cluster.specs.declared.fault.ClusterFault.TheVariants as ends
+use Rattle.cluster.specs.declared.record.RunRecord.{RunRecord}
+use Rattle.replay.specs.Records.{IsSoundRecord, entries_of}
+use Rattle.runs.specs.declared.fault.RunFault.{RunFault}
+use Rattle.runs.specs.declared.fault.RunFault.TheVariants.{Cluster, OutOfMemory}
+
+-- The record of a run in which each of so many clients made so many passes: its tickets, their quorums and its pass numbers are those of a sound record by the plan, and there is one ticket for each pass
+pub record IsRun (plan : Weighted) (clients passes : ℕ) (r : RunRecord) : Type 0 where
+  pub sound : IsSoundRecord plan (entries_of r)
+  pub drawn : length r.draws.items ≡ clients * passes
+  pub register : r.register ≡ clients * passes
+  pub each_draw : All (λ d. (d.0 < clients) × (d.2 < length plan.system.quorums)) r.draws.items
+  pub each_pass : All (λ p. p.0 < clients) r.passes.items
+
+-- want of memory is one fault, wherever it comes from
+abbrev pub run_refusal : ClusterFault → RunFault
+run_refusal (ends.Deal deal.OutOfMemory) = OutOfMemory
+run_refusal (ends.Board board.OutOfMemory) = OutOfMemory
+run_refusal fault = Cluster fault
+
+-- what ends a run of so many clients: one of them has no stamp, no ticket or no turn left, the register is at its limit, or a vote is out at the end
+abbrev pub EndsRunBy : ℕ → ClusterFault → Type 0
+EndsRunBy clients (ends.Client client.StampsSpent) = Unit {0}
+EndsRunBy clients (ends.Client client.Busy) = ⊥
+EndsRunBy clients (ends.Client client.NotInside) = ⊥
+EndsRunBy clients (ends.Client client.NotAsking) = ⊥
+EndsRunBy clients (ends.Deal deal.QuotaSpent) = Unit {0}
+EndsRunBy clients (ends.Deal deal.OutOfMemory) = ⊥
+EndsRunBy clients (ends.Board board.RegisterFull) = Unit {0}
+EndsRunBy clients (ends.Board (board.VoteOut v)) = Unit {0}
+EndsRunBy clients (ends.Board (board.SeatsOut k)) = ⊥
+EndsRunBy clients (ends.Board board.OutOfMemory) = ⊥
+EndsRunBy clients ends.NotInside = ⊥
+EndsRunBy clients (ends.TurnsSpent c) = c < clients
+
+abbrev pub EndsRun : ℕ → RunFault → Type 0
+EndsRun clients OutOfMemory = Unit {0}
+EndsRun clients (Cluster fault) = EndsRunBy clients fault

@@ -1,0 +1,77 @@
+//! Runs, from the plan to the record.
+ghost use Rattle.std.specs.Prelude.{◌≡◌, ◌*◌, ◌^◌, ◌<◌, ◌≤◌, IfOk, IfErr};
+ghost use Rattle.certificate.specs.Certificates.{IsCertificate};
+ghost use Rattle.cluster.specs.Clusters.{ClusterState, IsCluster};
+ghost use Rattle.runs.specs.Runs.{IsRun, EndsRun};
+
+use crate::drives::drive;
+use crate::fault::RunFault;
+use crate::gate::Gate;
+use certificate::Plan;
+use cluster::{
+    Blank, CloseFault, ClusterName, RunRecord, records_are_in_range, records_count_passes,
+};
+use replay::records_of_runs_are_sound;
+use std::alloc::Global;
+use std::marker::Brand;
+use std::sync::Wait;
+use std::thread::Threads;
+
+/// Opens a cluster, has each of its members make so many passes, and closes it.
+fn run_blank<N: ClusterName + Send + Sync, R: Threads + Wait + Sync, G: Gate>(
+    rt: &R,
+    alloc: Global,
+    blank: Blank,
+    passes: u64,
+    turns: u64,
+    gate: &G,
+) -> Result<RunRecord, RunFault>
+    requires name { blank ≡ N.cluster }
+    requires cluster { IsCluster blank }
+    requires plan { IsCertificate blank.office.cycle }
+    ensures run { IfOk result (IsRun blank.office.cycle blank.board.clients passes) }
+    ensures ended { IfErr result (EndsRun blank.board.clients) }
+{
+    records_count_passes();
+    records_are_in_range();
+    records_of_runs_are_sound();
+    let Ok((cluster, members)) = blank.open::<N>(alloc) else {
+        return Err(RunFault::OutOfMemory);
+    };
+    let members = match drive(rt, &cluster, members, passes, turns, gate) {
+        Ok(members) => members,
+        Err(driven) => return Err(RunFault::from(driven.fault)),
+    };
+    match cluster.close(alloc, members) {
+        Ok(run) => Ok(run),
+        Err(CloseFault::Unready { .. }) => unreachable!(),
+        Err(CloseFault::Lost(fault)) => Err(RunFault::from(fault)),
+    }
+}
+
+/// Runs the lock of a plan with 1 to 64 clients, each of which makes so many passes in a thread of its own, and answers
+/// the record. It consumes the plan. Each pump and each question at the gate is a turn, and each client has so many turns
+/// for all its passes.
+///
+/// Where a client's work ends early, as when its turns are spent, the fault of the least such client is answered.
+pub fn record_of_run<R: Threads + Wait + Sync, G: Gate>(
+    rt: &R,
+    alloc: Global,
+    plan: Plan,
+    clients: u8,
+    passes: u64,
+    turns: u64,
+    gate: &G,
+) -> Result<RunRecord, RunFault>
+    requires some_client { 1 ≤ clients }
+    requires few_clients { clients ≤ 64 }
+    requires tickets { clients * passes ≤ 2 ^ 63 }
+    ensures run { IfOk result (IsRun plan clients passes) }
+    ensures ended { IfErr result (EndsRun clients) }
+{
+    let _ = plan.busiest();
+    match Blank::new(alloc, plan, clients, passes) {
+        Ok(blank) => run_blank::<Brand, _, _>(rt, alloc, blank, passes, turns, gate),
+        Err(_) => Err(RunFault::OutOfMemory),
+    }
+}

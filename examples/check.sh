@@ -1,0 +1,103 @@
+#!/bin/sh
+# Runs every example and compares what it prints with what stands in expected/: the output in NAME.out, or for an example
+# that is refused its one line in NAME.err.
+#
+#     examples/check.sh            says which examples differ, and ends with status 1 where one does
+#     examples/check.sh --write    writes expected/ anew
+set -eu
+here=$(CDPATH= cd -- "$(dirname -- "$0")" && pwd)
+qlock=$here/../qlock
+write=${1:-}
+work=$(mktemp -d)
+trap 'rm -rf "$work"' EXIT
+passed=0
+failed=0
+
+# compares a file with the expected one of this name
+compare() {
+    if [ "$write" = --write ]; then
+        cp "$1" "$here/expected/$2"
+    elif diff -u "$here/expected/$2" "$1"; then
+        passed=$((passed + 1))
+    else
+        failed=$((failed + 1))
+    fi
+}
+
+# example NAME INPUT STATUS WORDS..: runs qlock with these words on this input
+example() {
+    name=$1
+    input=$2
+    wanted=$3
+    shift 3
+    status=0
+    "$qlock" "$@" < "$input" > "$work/out" 2> "$work/err" || status=$?
+    if [ "$status" -ne "$wanted" ]; then
+        echo "$name: status $status, wanted $wanted" >&2
+        failed=$((failed + 1))
+    elif [ "$wanted" -eq 0 ]; then
+        compare "$work/out" "$name.out"
+    elif [ -s "$work/out" ]; then
+        echo "$name: refused, and yet something was written" >&2
+        failed=$((failed + 1))
+    else
+        compare "$work/err" "$name.err"
+    fi
+}
+
+# joins parts of an input by lines %%
+parts() {
+    cat "$1"
+    shift
+    for part; do
+        echo %%
+        cat "$part"
+    done
+}
+
+cd "$here"
+
+# coteries, made and planned
+example make-grid-3-3 /dev/null 0 make grid 3 3
+example make-majority-5 /dev/null 0 make majority 5
+example make-tree-2 /dev/null 0 make tree 2
+example make-wheel-3 /dev/null 0 make wheel 3
+example make-cyclic-7 /dev/null 0 make cyclic 7 0 1 3
+for coterie in grid-3-3 majority-5 wheel-3 cyclic-7; do
+    example "plan-$coterie" "$coterie.toml" 0 plan
+done
+
+# which of several optimal plans of a tree comes is not said; its load is
+"$qlock" plan < tree-2.toml > "$work/plan" || true
+parts tree-2.toml "$work/plan" > "$work/input"
+example check-tree-2 "$work/input" 0 check
+
+# plans, checked and dealt by
+example check-wheel-3 wheel-3-planned.txt 0 check
+example deal-wheel-3 wheel-3-planned.txt 0 deal 5
+
+# stories of the lock
+for world in race late-message withdrawal; do
+    example "world-$world" "world-$world.txt" 0 world
+done
+
+# runs: of one client as it is, of four by what the record comes to
+example run-one-client wheel-3-planned.txt 0 run 1 3 1000000
+"$qlock" run 4 100 1000000000000 < wheel-3-planned.txt > "$work/record" || true
+parts wheel-3-planned.txt "$work/record" > "$work/input"
+example replay-four-clients "$work/input" 0 replay
+example replay-record replay-record.txt 0 replay
+example replay-wheel-3 replay-wheel-3.txt 0 replay
+
+# refusals
+example two-disjoint-quorums refused-disjoint.toml 1 plan
+example plan-that-is-not-optimal refused-plan.txt 1 check
+example ticket-drawn-twice refused-record.txt 1 replay
+example script-without-world refused-script.txt 1 world
+example no-plan-at-all wheel-3.toml 1 check
+example no-turns wheel-3-planned.txt 1 run 2 1 0
+example wheel-of-1-rim /dev/null 1 make wheel 1
+example grid-of-one-number /dev/null 2 make grid 2
+
+[ "$write" = --write ] || echo "$passed examples print what they should, $failed do not"
+[ "$failed" -eq 0 ]
