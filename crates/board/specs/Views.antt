@@ -8,9 +8,11 @@ abbrev pub current_name : Option (ℕ × ℕ) → ℕ
 current_name None = 0
 current_name (Some x) = name_of x.0 x.1
 
+-- the view of a voter seat
 abbrev pub voter_view : ℕ → Option (ℕ × ℕ) → View
 voter_view v current = record { parts = 1; voters = slice_set nobody v (current_name current + 1); client = 0; held = []; reading = None; passes = [] }
 
+-- the view of a client seat
 abbrev pub client_view : ℕ → List ℕ → Option (ℕ × ℕ) → List ℕ → View
 client_view client held reading passes = record { parts = 1; voters = nobody; client = client; held = held; reading = reading; passes = passes }
 

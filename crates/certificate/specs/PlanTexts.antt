@@ -53,6 +53,7 @@ spaced numbers = join_with_byte 32 (map decimal numbers)
 abbrev pub weights_line : List ℕ → List ℕ → List ℕ
 weights_line word weights = word ++ spaced weights
 
+-- the five lines of a plan
 abbrev pub lines_of : Telling → List (List ℕ)
 lines_of t = title_line ∷ load_line t.load ∷ cycle_line t.cycle ∷ weights_line (codes "quorum ") t.quorum_weights ∷ weights_line (codes "voter ") t.voter_weights ∷ []
 
@@ -75,6 +76,7 @@ cut_at mark bytes = option_map (λ place. (take place bytes, drop (place + 1) by
 abbrev pub is_number : List ℕ → Bool
 is_number bytes = nat_lt 0 (length bytes) && (nat_lt (length bytes) 8 && ((length bytes == 1 || not (slice_index bytes 0 == 48)) && list_all is_ascii_digit bytes))
 
+-- the number that these bytes spell, if they do
 abbrev pub number_of : List ℕ → Option ℕ
 number_of bytes = if is_number bytes then Some (digits_value 10 bytes) else None
 
@@ -94,12 +96,15 @@ read_title line = if bytes_eq line title_line then Some tt else None
 abbrev pub read_pair : List ℕ × List ℕ → Option (ℕ × ℕ)
 read_pair sides = option_and_then (λ p. option_map (λ q. (p, q)) (number_of sides.1)) (number_of sides.0)
 
+-- what the line of the load tells, if it is one
 abbrev pub read_load : List ℕ → Option (ℕ × ℕ)
 read_load line = option_and_then (λ rest. option_and_then read_pair (cut_at 47 rest)) (behind (codes "load ") line)
 
+-- likewise of the cycle
 abbrev pub read_cycle : List ℕ → Option ℕ
 read_cycle line = option_and_then number_of (behind (codes "cycle ") line)
 
+-- likewise of weights, behind their word
 abbrev pub read_weights : List ℕ → List ℕ → Option (List ℕ)
 read_weights word line = option_and_then (λ rest. numbers_of (slice_split (λ b. b == 32) rest)) (behind word line)
 
@@ -138,6 +143,7 @@ unless_fault (Some e) w = Err e
 abbrev pub judged : Weighted → Telling → Result Weighted PlanFault
 judged w t = unless_fault (option_or (weights_fault w) (telling_fault w t)) w
 
+-- a system of quorums with the weights that a text tells
 abbrev pub weighted_by : QuorumSystem → Telling → Weighted
 weighted_by s t = record { system = s; quorum_weights = t.quorum_weights; voter_weights = t.voter_weights }
 
@@ -150,6 +156,7 @@ abbrev pub Fails : {Y : Type 0} → PlanFault → Result Y PlanFault → Type 0
 Fails OutOfMemory wanted = Unit {0}
 Fails e wanted = wanted ≡ Err e
 
+-- the answer is the wanted one, memory aside
 abbrev pub Gives : {X Y : Type 0} → (X → Y) → Result X PlanFault → Result Y PlanFault → Type 0
 Gives view (Ok x) wanted = wanted ≡ Ok (view x)
 Gives view (Err e) wanted = Fails e wanted

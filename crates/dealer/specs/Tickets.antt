@@ -19,6 +19,7 @@ pub record IsDealt (quota : ℕ) (words : List ℕ) (views : List Hand) : Type 0
   pub quota_kept : slice_index words 0 + sum_by (λ v. v.rest) views ≡ quota
   pub each_once : (h : ℕ → ℕ) → sum_by (λ v. sum_by h v.drawn) views ≡ sum_below h (slice_index words 0)
 
+-- what holds of the word and of all clerks, between any two draws
 abbrev pub Dealt : Sheet → State (Unit {0}) Hand → Type 0
 Dealt sheet s = IsDealt sheet.quota s.words s.views
 

@@ -13,6 +13,7 @@ abbrev pub IsBorder : List ℕ → Type 0
 IsBorder [] = Unit {0}
 IsBorder (b ∷ bs) = b ≡ 32
 
+-- no byte is a space
 abbrev pub HasNoSpace : List ℕ → Type 0
 HasNoSpace bytes = AllByRecursion (λ b. b ≢ 32) bytes
 

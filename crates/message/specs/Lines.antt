@@ -14,6 +14,7 @@ voter_word (asks.Request stamp) = codes "request"
 voter_word (asks.Relinquish grant) = codes "relinquish"
 voter_word (asks.Release stamp) = codes "release"
 
+-- the number at the end of a line to a voter: a stamp or a grant
 abbrev pub voter_number : VoterBody → ℕ
 voter_number (asks.Request stamp) = stamp
 voter_number (asks.Relinquish grant) = grant
@@ -25,11 +26,13 @@ client_word (tells.Locked stamp grant) = codes "locked"
 client_word (tells.Fail stamp) = codes "fail"
 client_word (tells.Inquire grant) = codes "inquire"
 
+-- the numbers at the end of a line to a client
 abbrev pub client_numbers : ClientBody → List ℕ
 client_numbers (tells.Locked stamp grant) = stamp ∷ grant ∷ []
 client_numbers (tells.Fail stamp) = stamp ∷ []
 client_numbers (tells.Inquire grant) = grant ∷ []
 
+-- the word that a line begins with
 abbrev pub word_of : Message → List ℕ
 word_of (kinds.ToVoter m) = voter_word m.body
 word_of (kinds.ToClient m) = client_word m.body
@@ -47,6 +50,7 @@ message_line m = word_of m ++ fields (numbers_of m)
 abbrev pub IsCount : ℕ → Type 0
 IsCount n = (1 ≤ n) × (n < 2 ^ 64)
 
+-- the stamps and grants that a message tells have a spelling
 abbrev pub AreCounts : ClientBody → Type 0
 AreCounts (tells.Locked stamp grant) = IsCount stamp × IsCount grant
 AreCounts (tells.Fail stamp) = IsCount stamp

@@ -81,5 +81,6 @@ abbrev pub coterie_or : Option CoterieFault → QuorumSystem → Result QuorumSy
 coterie_or None s = Ok s
 coterie_or (Some e) s = Err e
 
+-- the coterie of these sets, or their first fault
 abbrev pub coterie_of : ℕ → List (List ℕ) → Result QuorumSystem CoterieFault
 coterie_of n sets = coterie_or (first_fault n sets) (record { voters = n; quorums = sets })

@@ -34,6 +34,7 @@ event_word false = codes "leave "
 abbrev pub event_line : Event → List ℕ
 event_line e = event_word e.entered ++ (decimal e.client ++ 10 ∷ [])
 
+-- a client's refusal, as a script's output names it
 abbrev pub client_fault_text : ClientFault → List ℕ
 client_fault_text Busy = codes "C1 Busy"
 client_fault_text NotInside = codes "C2 NotInside"

@@ -23,9 +23,11 @@ use Rattle.replay.specs.Records.{Entries}
 abbrev pub title_line : List ℕ
 title_line = codes "quorum-record 1"
 
+-- client, ticket and quorum
 abbrev pub draw_numbers : Draw → List ℕ
 draw_numbers d = d.0 ∷ d.1 ∷ d.2 ∷ []
 
+-- client and number
 abbrev pub pass_numbers : Pass → List ℕ
 pass_numbers p = p.0 ∷ p.1 ∷ []
 
@@ -38,12 +40,15 @@ pass_line p = codes "pass" ++ fields (pass_numbers p)
 abbrev pub register_line : ℕ → List ℕ
 register_line n = codes "register" ++ fields (n ∷ [])
 
+-- the numbers of a draw are in range
 abbrev pub HasDrawLine : Draw → Type 0
 HasDrawLine d = (d.0 ≤ 63) × (d.1 < 2 ^ 64) × (d.2 ≤ 4095)
 
+-- the numbers of a pass are in range
 abbrev pub HasPassLine : Pass → Type 0
 HasPassLine p = (p.0 ≤ 63) × (p.1 < 2 ^ 64)
 
+-- the register is in range
 abbrev pub HasRegisterLine : ℕ → Type 0
 HasRegisterLine n = n < 2 ^ 64
 
@@ -51,9 +56,11 @@ HasRegisterLine n = n < 2 ^ 64
 abbrev pub draws_text : List Draw → List ℕ
 draws_text draws = text_of_lines (map draw_line draws)
 
+-- the lines of passes, in order
 abbrev pub passes_text : List Pass → List ℕ
 passes_text passes = text_of_lines (map pass_line passes)
 
+-- the last line
 abbrev pub register_text : ℕ → List ℕ
 register_text n = register_line n ++ 10 ∷ []
 

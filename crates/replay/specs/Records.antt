@@ -22,9 +22,11 @@ pub record Entries : Type 0 where
 abbrev pub entries_of : RunRecord → Entries
 entries_of r = record { draws = r.draws.items; passes = r.passes.items; register = r.register }
 
+-- the tickets that were drawn
 abbrev pub tickets_of : List Draw → List ℕ
 tickets_of draws = map (λ d. d.1) draws
 
+-- the pass numbers
 abbrev pub numbers_of : List Pass → List ℕ
 numbers_of passes = map (λ p. p.1) passes
 
@@ -38,6 +40,7 @@ EachOnce ns = (n : ℕ) → n < length ns → times n ns ≡ 1
 abbrev pub IsRight : Weighted → Draw → Type 0
 IsRight w d = d.2 ≡ quorum_of_ticket w d.1
 
+-- The tickets are 0, 1, 2 and so on, each drawn once, and each names its quorum by the cycle; the pass numbers are 0, 1, 2 and so on, each once; the register is how many they are
 pub record IsSoundRecord (w : Weighted) (e : Entries) : Type 0 where
   pub tickets : EachOnce (tickets_of e.draws)
   pub quorums : All (IsRight w) e.draws
@@ -46,9 +49,11 @@ pub record IsSoundRecord (w : Weighted) (e : Entries) : Type 0 where
 
 -- The first fault
 
+-- the number stands there more than once
 abbrev pub IsTwice : List ℕ → ℕ → Type 0
 IsTwice ns n = 2 ≤ times n ns
 
+-- the number is below how many there are, and stands nowhere
 abbrev pub IsMissing : List ℕ → ℕ → Type 0
 IsMissing ns n = (n < length ns) × (times n ns ≡ 0)
 

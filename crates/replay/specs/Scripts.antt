@@ -19,6 +19,7 @@ use Rattle.world.specs.declared.step.Step.TheVariants.{Ask, Deliver, Leave, Give
 use Rattle.replay.specs.declared.fault.ReplayFault.{ReplayFault}
 use Rattle.replay.specs.declared.fault.ReplayFault.TheVariants.{BadLine, OutOfMemory}
 
+-- what a script says: the sizes of a world, and its steps in order
 pub record Script : Type 0 where
   -- how many clients the world has
   pub clients : ℕ
@@ -28,6 +29,7 @@ pub record Script : Type 0 where
 
 -- Spelling
 
+-- the word of a step
 abbrev pub step_word : Step → List ℕ
 step_word (Ask client) = codes "ask"
 step_word (Deliver message) = codes "deliver"
@@ -36,6 +38,7 @@ step_word (GiveUp client) = codes "give-up"
 step_word (RemindClient client) = codes "remind-client"
 step_word (RemindVoter voter) = codes "remind-voter"
 
+-- the number of a step: of a message, a client or a voter
 abbrev pub step_number : Step → ℕ
 step_number (Ask client) = client
 step_number (Deliver message) = message
@@ -68,9 +71,11 @@ pub record AreSizes (clients limit : ℕ) : Type 0 where
   pub some_stamp : 1 ≤ limit
   pub few_stamps : limit ≤ 2 ^ 40
 
+-- each of these steps has a line
 abbrev pub HaveLines : List Step → Type 0
 HaveLines steps = AllByRecursion HasStepLine steps
 
+-- the script has a text: its sizes are in range, and each step has a line
 pub record IsScript (s : Script) : Type 0 where
   pub sizes : AreSizes s.clients s.limit
   pub steps : HaveLines s.steps
@@ -85,9 +90,11 @@ script_text s = world_line s.clients s.limit ++ 10 ∷ steps_text s.steps
 
 -- The first bad line
 
+-- the line spells the sizes of a world
 abbrev pub IsWorldLine : List ℕ → Type 0
 IsWorldLine line = (clients : ℕ) × (limit : ℕ) × AreSizes clients limit × (line ≡ world_line clients limit)
 
+-- the line spells a step
 abbrev pub IsStepLine : List ℕ → Type 0
 IsStepLine line = (s : Step) × HasStepLine s × (line ≡ step_line s)
 

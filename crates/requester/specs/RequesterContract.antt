@@ -23,6 +23,7 @@ Accepts x GivesUp = Unit {0}
 
 -- What came
 
+-- the message is a LOCKED of this voter, with this stamp and this grant
 abbrev pub Locks : ℕ → ClientBody → ℕ → ℕ → ℕ → Type 0
 Locks sender (tells.Locked s g) voter stamp grant = (voter ≡ sender) × (stamp ≡ s) × (grant ≡ g)
 Locks sender (tells.Fail s) voter stamp grant = ⊥
@@ -75,9 +76,11 @@ Says x cause y voter (asks.Relinquish grant) = (grant ≡ last_of y voter) × (h
 Says x cause y voter (asks.Release stamp) =
     ((stamp ≡ y.stamp) × (is_idle y.phase ≡ true)) ⊎ (IsLockedOf cause voter stamp × ((is_idle y.phase ≡ true) ⊎ (stamp ≢ y.stamp)))
 
+-- each of these messages is of this client, and says so
 abbrev pub AllSay : ClientState → Cause → ClientState → List ToVoter → Type 0
 AllSay x cause y out = AllByRecursion (λ m. (m.client ≡ x.id) × Says x cause y m.voter m.body) out
 
+-- what the world needs to know of a step of a client
 pub record MeetsContract (x : ClientState) (cause : Cause) (o : Outcome) : Type 0 where
   pub id : o.state.id ≡ x.id
   pub limit : o.state.limit ≡ x.limit
@@ -97,6 +100,7 @@ Repeats x voter (asks.Request stamp) = stamp ≡ x.stamp
 Repeats x voter (asks.Relinquish grant) = grant ≡ last_of x voter
 Repeats x voter (asks.Release stamp) = ⊥
 
+-- each of these messages is of this client, and repeats so
 abbrev pub AllRepeat : ClientState → List ToVoter → Type 0
 AllRepeat x out = AllByRecursion (λ m. (m.client ≡ x.id) × Repeats x m.voter m.body) out
 
@@ -110,6 +114,7 @@ IsStamp limit stamp = (1 ≤ stamp) × (stamp ≤ limit)
 abbrev pub ComesInRange : ℕ → Cause → Type 0
 ComesInRange limit cause = (voter stamp grant : ℕ) → IsLocked cause voter stamp grant → IsStamp limit stamp
 
+-- the stamp that the client tells is in range, and a grant is one
 abbrev pub SaysInRange : ℕ → VoterBody → Type 0
 SaysInRange limit (asks.Request stamp) = IsStamp limit stamp
 SaysInRange limit (asks.Relinquish grant) = 1 ≤ grant
@@ -119,6 +124,7 @@ SaysInRange limit (asks.Release stamp) = IsStamp limit stamp
 abbrev pub IsReached : Cause → ClientState → ℕ → Type 0
 IsReached cause y voter = (is_member y voter ≡ true) ⊎ ((stamp : ℕ) × IsLockedOf cause voter stamp)
 
+-- each of these messages goes to a voter that is reached, and is in range
 abbrev pub AllInRange : Cause → ClientState → List ToVoter → Type 0
 AllInRange cause y out = AllByRecursion (λ m. IsReached cause y m.voter × (m.voter < 64) × SaysInRange y.limit m.body) out
 

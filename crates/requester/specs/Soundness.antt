@@ -18,6 +18,7 @@ pub record HasPlaces (x : ClientState) : Type 0 where
   pub relinquished : length x.relinquished ≡ 64
   pub inquired : length x.inquired ≡ 64
 
+-- what holds of a client after any steps
 pub record IsSound (x : ClientState) : Type 0 where
   pub id : x.id < 64
   pub some : 1 ≤ x.limit

@@ -23,9 +23,11 @@ pub record Outcome : Type 0 where
   pub seen : Seen
   pub state : ClientState
 
+-- no message, nothing seen, and the state stays
 abbrev pub silent : ClientState → Outcome
 silent x = record { out = []; seen = Nothing; state = x }
 
+-- a message of this client to a voter
 abbrev pub tell : ClientState → ℕ → VoterBody → ToVoter
 tell x voter body = record { client = x.id; voter = voter; body = body }
 
@@ -61,10 +63,12 @@ asked x quorum = record {
   state = begun x quorum;
 }
 
+-- a client whose stamps are spent does not ask
 abbrev pub ask_unless : Bool → ClientState → List ℕ → Result Outcome ClientFault
 ask_unless true x quorum = Err StampsSpent
 ask_unless false x quorum = Ok (asked x quorum)
 
+-- only an idle client asks
 abbrev pub ask_in : Phase → ClientState → List ℕ → Result Outcome ClientFault
 ask_in Idle x quorum = ask_unless (is_spent x) x quorum
 ask_in Asking x quorum = Err Busy
@@ -90,6 +94,7 @@ relinquish_if true x voter = record {
   };
 }
 
+-- a vote that is held is given back, and the client goes on asking
 unfoldable pub relinquish : ClientState → ℕ → Outcome
 relinquish x voter = relinquish_if (holds x voter) x voter
 
@@ -107,6 +112,7 @@ abbrev pub relinquish_marked_if : Bool → ClientState → ℕ → Outcome
 relinquish_marked_if false x voter = silent x
 relinquish_marked_if true x voter = relinquish x voter
 
+-- a vote that its voter asked for is given back
 abbrev pub relinquish_marked : ClientState → ℕ → Outcome
 relinquish_marked x voter = relinquish_marked_if (is_inquired x voter) x voter
 
@@ -141,11 +147,14 @@ locked_by false fresh x voter stamp grant = record { out = tell x voter (asks.Re
 locked_by true false x voter stamp grant = silent x
 locked_by true true x voter stamp grant = enter_if (is_covered (hold x voter grant)) (hold x voter grant)
 
+-- LOCKED: a vote for another request than the one that runs is given back, one that does not count does nothing, and one that counts is
+-- held; with the last member's vote the client enters.
 unfoldable pub locked : ClientState → ℕ → ℕ → ℕ → Outcome
 locked x voter stamp grant = locked_by (is_current x stamp) (is_fresh x voter grant) x voter stamp grant
 
 -- FAIL
 
+-- the voter is marked as failed: it has told FAIL
 abbrev pub fail : ClientState → ℕ → ClientState
 fail x voter = record x { failed = slice_set x.failed voter true }
 
@@ -160,6 +169,7 @@ failed x voter stamp = failed_by (is_asking x.phase && stamp == x.stamp && is_me
 
 -- INQUIRE
 
+-- the voter is marked as asking for its vote
 abbrev pub inquire : ClientState → ℕ → ClientState
 inquire x voter = record x { inquired = slice_set x.inquired voter true }
 
@@ -180,6 +190,7 @@ inquired x voter grant = inquired_by (is_asking x.phase && holds_under x voter g
 abbrev pub see : ClientState → ℕ → ClientState
 see x stamp = record x { clock = max x.clock stamp }
 
+-- a message, by its kind
 abbrev pub take_body : ClientState → ℕ → ClientBody → Outcome
 take_body x voter (tells.Locked stamp grant) = locked x voter stamp grant
 take_body x voter (tells.Fail stamp) = failed x voter stamp
@@ -189,6 +200,7 @@ take_body x voter (tells.Inquire grant) = inquired x voter grant
 unfoldable pub take : ClientState → ToClient → Outcome
 take x m = take_body (see x m.seen) m.voter m.body
 
+-- whether a message brings a vote that the client would hold: a LOCKED that counts
 abbrev pub would_hold_body : ClientState → ℕ → ClientBody → Bool
 would_hold_body x voter (tells.Locked stamp grant) = is_current x stamp && is_fresh x voter grant
 would_hold_body x voter (tells.Fail stamp) = false
@@ -208,6 +220,7 @@ released x seen = record {
   state = record (cleared x) { phase = Idle };
 }
 
+-- only a client that is inside leaves
 abbrev pub leave_in : Phase → ClientState → Result Outcome ClientFault
 leave_in Idle x = Err NotInside
 leave_in Asking x = Err NotInside
@@ -217,6 +230,7 @@ leave_in Inside x = Ok (released x Left)
 unfoldable pub leave : ClientState → Result Outcome ClientFault
 leave x = leave_in x.phase x
 
+-- only a client that asks gives up
 abbrev pub give_up_in : Phase → ClientState → Result Outcome ClientFault
 give_up_in Idle x = Err NotAsking
 give_up_in Asking x = Ok (released x Nothing)
@@ -235,6 +249,7 @@ pub data Cause : Type 0 where
   Leaves : Cause
   GivesUp : Cause
 
+-- a step of a client, by its cause
 unfoldable pub step : ClientState → Cause → Result Outcome ClientFault
 step x (Asks quorum) = ask x quorum
 step x (Takes m) = Ok (take x m)
@@ -249,9 +264,11 @@ remind_by true given_back x voter = []
 remind_by false false x voter = tell x voter (asks.Request x.stamp) ∷ []
 remind_by false true x voter = tell x voter (asks.Relinquish (last_of x voter)) ∷ tell x voter (asks.Request x.stamp) ∷ []
 
+-- what a member is told again: nothing where its vote is held, else RELINQUISH where that was told, and REQUEST
 abbrev pub remind_member : ClientState → ℕ → List ToVoter
 remind_member x voter = remind_by (holds x voter) (is_relinquished x voter) x voter
 
+-- only a client that asks reminds
 abbrev pub remind_in : Phase → ClientState → List ToVoter
 remind_in Idle x = []
 remind_in Asking x = flat_map (remind_member x) (members x)

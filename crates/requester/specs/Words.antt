@@ -8,16 +8,19 @@ use Rattle.requester.specs.declared.state.ClientState.{ClientState}
 
 -- The request
 
+-- no request runs
 abbrev pub is_idle : Phase → Bool
 is_idle Idle = true
 is_idle Asking = false
 is_idle Inside = false
 
+-- a request runs, and not all members have voted
 abbrev pub is_asking : Phase → Bool
 is_asking Idle = false
 is_asking Asking = true
 is_asking Inside = false
 
+-- all members have voted: the client has the lock
 abbrev pub is_inside : Phase → Bool
 is_inside Idle = false
 is_inside Asking = false
@@ -27,6 +30,7 @@ is_inside Inside = true
 abbrev pub members : ClientState → List ℕ
 members x = x.quorum.items
 
+-- whether a voter is of the quorum that is asked
 abbrev pub is_member : ClientState → ℕ → Bool
 is_member x voter = has (members x) voter
 
@@ -41,9 +45,11 @@ is_spent x = nat_le x.limit x.clock
 -- Votes: a map from voter to the number of the grant under which its vote is held. Grants count from 1, and the state
 -- keeps 0 for a vote that is not held.
 
+-- the grant under which the vote of this voter is held, or 0
 abbrev pub held_of : ClientState → ℕ → ℕ
 held_of x voter = slice_index x.held voter
 
+-- whether the vote of this voter is held
 abbrev pub holds : ClientState → ℕ → Bool
 holds x voter = nat_lt 0 (held_of x voter)
 
@@ -51,6 +57,7 @@ holds x voter = nat_lt 0 (held_of x voter)
 abbrev pub holds_under : ClientState → ℕ → ℕ → Bool
 holds_under x voter grant = holds x voter && held_of x voter == grant
 
+-- a grant, where it is one
 abbrev pub grant_if : Bool → ℕ → Option ℕ
 grant_if false grant = None
 grant_if true grant = Some grant

@@ -19,9 +19,11 @@ TellsPlace v client (tells.Locked stamp grant) = Unit {0}
 TellsPlace v client (tells.Fail stamp) = get v.waiting client ≡ Some stamp
 TellsPlace v client (tells.Inquire grant) = (g : Grant) × (v.held ≡ Some g) × (g.client ≡ client) × (g.grant ≡ grant)
 
+-- each of these replies does
 abbrev pub AllTellPlace : VoterState → List ToClient → Type 0
 AllTellPlace v replies = AllByRecursion (λ r. TellsPlace v r.client r.body) replies
 
+-- 1 for a LOCKED, and else 0
 abbrev pub locked_in : ClientBody → ℕ
 locked_in (tells.Locked stamp grant) = 1
 locked_in (tells.Fail stamp) = 0
@@ -42,6 +44,7 @@ seen_after seen (asks.Release stamp) = max seen stamp
 abbrev pub AllCarry : ℕ → ℕ → List ToClient → Type 0
 AllCarry id seen replies = AllByRecursion (λ r. (r.voter ≡ id) × (r.seen ≡ seen)) replies
 
+-- the replies of one step: each tells its client where it stands, at most three, of which at most one is a LOCKED
 pub record AreAnswers (o : Outcome) : Type 0 where
   pub place : AllTellPlace o.state o.replies
   pub few : length o.replies ≤ 3

@@ -19,6 +19,7 @@ pub record Outcome : Type 0 where
   pub replies : List ToClient
   pub state : VoterState
 
+-- no reply, and the state stays
 abbrev pub silent : VoterState → Outcome
 silent v = record { replies = []; state = v }
 
@@ -62,11 +63,12 @@ abbrev pub held_stamp : Option Grant → ℕ → Option ℕ
 held_stamp None client = None
 held_stamp (Some g) client = if g.client == client then Some g.stamp else None
 
--- the stamp of the client's request that holds the vote, or else waits
+-- the first, where there is one, and else the second
 abbrev pub first_some : Option ℕ → Option ℕ → Option ℕ
 first_some None o = o
 first_some (Some s) o = Some s
 
+-- the stamp under which a client holds the vote, else that under which it waits; none where it does neither
 abbrev pub standing : VoterState → ℕ → Option ℕ
 standing v client = first_some (held_stamp v.held client) (get v.waiting client)
 
@@ -91,6 +93,7 @@ released_by true waits v client stamp = grant_front (freed (finish v client stam
 released_by false true v client stamp = silent (withdraw (finish v client stamp) client)
 released_by false false v client stamp = silent (finish v client stamp)
 
+-- RELEASE: the client's requests up to this stamp are over. A vote that one held goes to the front of the queue, and a place in it is given up.
 unfoldable pub released : VoterState → ℕ → ℕ → Outcome
 released v client stamp = released_by (is_up_to (held_stamp v.held client) stamp) (is_up_to (get v.waiting client) stamp) v client stamp
 
@@ -127,10 +130,13 @@ queued_by false false v g client stamp = record {
   state = record (queue v client stamp) { inquiring = true };
 }
 
+-- whether the front of the queue precedes this request
 abbrev pub is_before : Option Request → Request → Bool
 is_before None r = false
 is_before (Some q) r = precedes q r
 
+-- A new request while the vote is held: it waits. Where it precedes the granted request and all that wait, the holder is asked to give the
+-- vote back; else the client is told FAIL.
 unfoldable pub queued : VoterState → Grant → ℕ → ℕ → Outcome
 queued v g client stamp =
     queued_by (is_before (front v.waiting) (record { stamp = stamp; client = client }))
@@ -142,6 +148,7 @@ abbrev pub admitted_by : Option Grant → VoterState → ℕ → ℕ → Outcome
 admitted_by None v client stamp = grant_front (queue v client stamp)
 admitted_by (Some g) v client stamp = queued v g client stamp
 
+-- a new request: it gets the vote where the vote is free, and else waits
 unfoldable pub admitted : VoterState → ℕ → ℕ → Outcome
 admitted v client stamp = admitted_by v.held v client stamp
 
@@ -150,6 +157,7 @@ abbrev pub again_by : Bool → VoterState → Grant → ℕ → ℕ → List ToC
 again_by true v g client stamp = reply v client (tells.Locked stamp g.grant) ∷ []
 again_by false v g client stamp = reply v client (tells.Fail stamp) ∷ []
 
+-- the answer to a repeated request, by who holds the vote
 abbrev pub again : VoterState → Option Grant → ℕ → ℕ → List ToClient
 again v None client stamp = reply v client (tells.Fail stamp) ∷ []
 again v (Some g) client stamp = again_by (g.client == client) v g client stamp
@@ -171,6 +179,8 @@ abbrev pub requested_by : Bool → VoterState → ℕ → ℕ → Outcome
 requested_by true v client stamp = silent v
 requested_by false v client stamp = requested_beside v client stamp (standing v client)
 
+-- REQUEST: one that is finished, or older than the client's one that stands, does nothing; the one that stands is answered again; a new one
+-- is admitted.
 unfoldable pub requested : VoterState → ℕ → ℕ → Outcome
 requested v client stamp = requested_by (nat_le stamp (slice_index v.finished client)) v client stamp
 
@@ -186,10 +196,12 @@ abbrev pub put_back : Option Grant → VoterState → Outcome
 put_back None v = silent v
 put_back (Some g) v = grant_front (queue (freed v) g.client g.stamp)
 
+-- RELINQUISH of the current grant puts its request back among those that wait, and any other does nothing
 abbrev pub relinquished_by : Bool → VoterState → Outcome
 relinquished_by true v = put_back v.held v
 relinquished_by false v = silent v
 
+-- RELINQUISH: the holder gives the vote back but goes on waiting
 unfoldable pub relinquished : VoterState → ℕ → ℕ → Outcome
 relinquished v client grant = relinquished_by (is_grant v.held client grant) v
 
@@ -221,6 +233,7 @@ abbrev pub inquiry_again : Bool → VoterState → Grant → List ToClient
 inquiry_again true v g = reply v g.client (tells.Inquire g.grant) ∷ []
 inquiry_again false v g = []
 
+-- the holder is told LOCKED again, and INQUIRE again where it was asked to give the vote back
 abbrev pub remind_of : Option Grant → VoterState → List ToClient
 remind_of None v = []
 remind_of (Some g) v = reply v g.client (tells.Locked g.stamp g.grant) ∷ inquiry_again v.inquiring v g
@@ -241,6 +254,7 @@ abbrev pub is_ended : Option Grant → Option Grant → Bool
 is_ended None after = false
 is_ended (Some g) after = not (names_grant after g.grant)
 
+-- whether the message is refused, and else whether it ends the current grant
 abbrev pub effect_by : VoterState → Option Outcome → Effect
 effect_by v None = record { frees = false; refused = true }
 effect_by v (Some o) = record { frees = is_ended v.held o.state.held; refused = false }
@@ -257,6 +271,7 @@ start id limit = record { id = id; limit = limit; held = None; inquiring = false
 
 -- How the code looks ahead
 
+-- whether a stamp is above the one that stands, or none stands
 abbrev pub is_later : Option ℕ → ℕ → Bool
 is_later None stamp = true
 is_later (Some s) stamp = nat_lt s stamp

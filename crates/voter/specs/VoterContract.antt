@@ -18,6 +18,7 @@ TellsVote held client (tells.Locked stamp grant) = held ≡ Some (record { clien
 TellsVote held client (tells.Fail stamp) = Unit {0}
 TellsVote held client (tells.Inquire grant) = Unit {0}
 
+-- each of these replies does
 abbrev pub AllTell : Option Grant → List ToClient → Type 0
 AllTell held replies = AllByRecursion (λ r. TellsVote held r.client r.body) replies
 
@@ -39,6 +40,7 @@ Brings client (asks.Request stamp) c s = (c ≡ client) × (s ≡ stamp)
 Brings client (asks.Relinquish grant) c s = ⊥
 Brings client (asks.Release stamp) c s = ⊥
 
+-- what the world needs to know of a step of a voter
 pub record MeetsContract (v : VoterState) (m : ToVoter) (o : Outcome) : Type 0 where
   -- a grant stays, or the message ends it
   pub kept : (g : Grant) → v.held ≡ Some g → (o.state.held ≡ Some g) ⊎ Ends m.client m.body g

@@ -5,6 +5,7 @@ use Rattle.std.specs.List.{AllByRecursion, filter}
 use Rattle.std.specs.FinMap.{FinMap, entries, from_entries}
 use Rattle.message.specs.declared.request.Request.{Request}
 
+-- who waits: a finite map from client to the stamp of its request
 abbrev pub Waiting : Type 0
 Waiting = FinMap nat_cmp ℕ
 
@@ -12,9 +13,11 @@ Waiting = FinMap nat_cmp ℕ
 abbrev pub precedes : Request → Request → Bool
 precedes a b = nat_lt a.stamp b.stamp || (a.stamp == b.stamp && nat_lt a.client b.client)
 
+-- an entry of that map, as a request
 abbrev pub request : ℕ × ℕ → Request
 request e = record { stamp = e.1; client = e.0 }
 
+-- the one of two requests that precedes
 abbrev pub first_of : Request → Option Request → Request
 first_of r None = r
 first_of r (Some q) = if precedes q r then q else r
@@ -32,13 +35,16 @@ front w = least (entries w)
 abbrev pub entry : Request → ℕ × ℕ
 entry r = (r.client, r.stamp)
 
+-- who waits, where the code keeps these
 unfoldable pub waiting_of : List Request → Waiting
 waiting_of rs = from_entries (map entry rs)
 
+-- the first request precedes the second, and they are of two clients
 pub record Follows (r q : Request) : Type 0 where
   pub later : precedes r q ≡ true
   pub other : r.client ≢ q.client
 
+-- requests of clients below 64, each before all that follow it, and at most one of a client
 abbrev pub IsQueue : List Request → Type 0
 IsQueue [] = Unit {0}
 IsQueue (r ∷ rs) = (r.client < 64) × AllByRecursion (Follows r) rs × IsQueue rs

@@ -14,6 +14,7 @@ use Rattle.world.specs.Visible.{IsExclusive}
 abbrev pub IsWithin : ℕ → ℕ → Type 0
 IsWithin limit n = (1 ≤ n) × (n ≤ limit)
 
+-- the stamps and grants that a message tells are from 1 to the limit
 abbrev pub TellsWithin : ℕ → ClientBody → Type 0
 TellsWithin limit (tells.Locked stamp grant) = IsWithin limit stamp × IsWithin limit grant
 TellsWithin limit (tells.Fail stamp) = IsWithin limit stamp
@@ -25,6 +26,7 @@ abbrev pub IsInRange : ℕ → ℕ → ℕ → Message → Type 0
 IsInRange voters clients limit (kinds.ToVoter m) = (m.client < clients) × (m.voter < voters) × IsWithin limit (voter_number m.body)
 IsInRange voters clients limit (kinds.ToClient m) = (m.client < clients) × (m.voter < voters) × (m.seen ≤ limit) × TellsWithin limit m.body
 
+-- each of these messages is in range
 abbrev pub AreInRange : ℕ → ℕ → ℕ → List Message → Type 0
 AreInRange voters clients limit sent = AllByRecursion (IsInRange voters clients limit) sent
 

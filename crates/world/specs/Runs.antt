@@ -18,6 +18,7 @@ start voters clients limit = record {
   visible = [];
 }
 
+-- the world after a step; a refused step changes nothing
 abbrev pub after : WorldState → Result Outcome WorldFault → WorldState
 after w (Ok o) = o.state
 after w (Err fault) = w

@@ -22,6 +22,7 @@ use Rattle.world.specs.declared.step.Step.TheVariants.{Ask, Deliver, Leave, Give
 use Rattle.world.specs.declared.step.Event.{Event}
 use Rattle.world.specs.declared.step.Stepped.{Stepped}
 
+-- clients, voters, and everything that happened
 pub record WorldState : Type 0 where
   pub clients : List ClientState
   pub voters : List VoterState
@@ -75,10 +76,12 @@ voter_did w v o = record {
   };
 }
 
+-- a step of a client is a step of the world, and so is its refusal
 abbrev pub after_client : WorldState → ℕ → Result client.Outcome ClientFault → Result Outcome WorldFault
 after_client w c (Ok o) = Ok (client_did w c o)
 after_client w c (Err fault) = Err (faults.Client fault)
 
+-- likewise of a voter, whose only refusal is that its grants are spent
 abbrev pub after_voter : WorldState → ℕ → Option voter.Outcome → Result Outcome WorldFault
 after_voter w v (Some o) = Ok (voter_did w v o)
 after_voter w v None = Err (faults.Voter GrantsSpent)
