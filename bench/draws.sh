@@ -28,7 +28,7 @@ shifts() {
 }
 
 "$root/qlock" make wheel 63 > "$work/64"
-program=$root/crates/qlock_cli/out/qlock_cli
+program=$root/build/qlock
 shifts > "$work/4096"
 for quorums in 64 4096; do
     "$program" plan < "$work/$quorums" > "$work/plan"

@@ -39,7 +39,7 @@ least() {
 
 # builds the program where it has to be, so that no figure has that in it
 "$root/qlock" make wheel 3 > /dev/null
-program=$root/crates/qlock_cli/out/qlock_cli
+program=$root/build/qlock
 
 printf '%-28s %6s %8s %12s %10s %8s %8s %8s %7s\n' coterie voters quorums load optimum qlock glpsol exact ratio
 for file in "$folder"/*.toml; do

@@ -41,7 +41,7 @@ for shape in 'majority 3' 'grid 2 2' 'cyclic 7 0 1 3'; do
     { cat "$work/coterie"; echo %%; cat "$work/plan"; } > "$work/input"
     for clients in 1 2 4 8; do
         passes=$((clients * 1000))
-        took=$(fastest "$work/input" "$passes" "$root/crates/qlock_cli/out/qlock_cli" run "$clients" 1000 1000000000000)
+        took=$(fastest "$work/input" "$passes" "$root/build/qlock" run "$clients" 1000 1000000000000)
         beside=0
         [ -z "$plain" ] || beside=$(fastest /dev/null "$passes" "$plain" "$clients" 1000)
         awk -v shape="$(echo "$shape" | cut -d' ' -f1,2)" -v clients="$clients" -v n="$passes" -v ours="$took" -v plain="$beside" 'BEGIN {

@@ -18,7 +18,7 @@ awk -v rounds="$rounds" 'BEGIN {
 
 # builds the program where it has to be, so that no figure has that in it
 "$root/qlock" make wheel 3 > /dev/null
-program=$root/crates/qlock_cli/out/qlock_cli
+program=$root/build/qlock
 
 printf '%d steps, %d bytes in\n' $((5 * rounds)) "$(wc -c < "$work/script")"
 if [ -x /usr/bin/time ]; then

@@ -41,5 +41,6 @@ pub record IsKept (b : Setting) (words : List ℕ) (views : List View) : Type 0 
   pub small : b.limit ≤ 2 ^ 63
   pub few : b.voters + b.clients ≤ 128
 
+-- the rule that each step keeps
 abbrev pub Kept : Setting → State (Unit {0}) View → Type 0
 Kept b s = IsKept b s.words s.views

@@ -24,16 +24,18 @@ root_view voters clients = record { parts = voters + clients + 1; voters = repli
 abbrev pub spent_view : View
 spent_view = record { parts = 0; voters = nobody; client = 0; held = []; reading = None; passes = [] }
 
--- the root without the seat of voter n, or without a client's
+-- the root without the seat of voter n
 abbrev pub without_voter : ℕ → View → View
 without_voter n u = record u { parts = u.parts - 1; voters = slice_set u.voters n 0 }
 
+-- the root without a client's seat
 abbrev pub without_client : View → View
 without_client u = record u { parts = u.parts - 1 }
 
--- the root with voter n's seat again, or with a client's and its passes
+-- the root with voter n's seat again
 abbrev pub with_voter : ℕ → View → View → View
 with_voter n u w = record u { parts = u.parts + w.parts; voters = slice_set u.voters n 1 }
 
+-- the root with a client's seat again, and its passes
 abbrev pub with_client : View → View → View
 with_client u w = record u { parts = u.parts + w.parts; passes = u.passes ++ w.passes }

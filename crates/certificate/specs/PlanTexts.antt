@@ -36,6 +36,7 @@ telling_of w = record { load = load_of w; cycle = cycle_len w; quorum_weights = 
 abbrev pub IsShort : ℕ → Type 0
 IsShort n = n < 10000000
 
+-- the first line of a plan
 abbrev pub title_line : List ℕ
 title_line = codes "quorum-plan 1"
 
@@ -43,6 +44,7 @@ title_line = codes "quorum-plan 1"
 abbrev pub load_line : ℕ × ℕ → List ℕ
 load_line load = codes "load " ++ (decimal load.0 ++ 47 ∷ decimal load.1)
 
+-- the line of the length of the cycle
 abbrev pub cycle_line : ℕ → List ℕ
 cycle_line n = codes "cycle " ++ decimal n
 
@@ -50,6 +52,7 @@ cycle_line n = codes "cycle " ++ decimal n
 abbrev pub spaced : List ℕ → List ℕ
 spaced numbers = join_with_byte 32 (map decimal numbers)
 
+-- a line of weights, behind its word
 abbrev pub weights_line : List ℕ → List ℕ → List ℕ
 weights_line word weights = word ++ spaced weights
 
@@ -89,6 +92,7 @@ numbers_of (word ∷ words) = option_and_then (λ n. option_map (λ ns. n ∷ ns
 abbrev pub behind : List ℕ → List ℕ → Option (List ℕ)
 behind word line = if bytes_eq (take (length word) line) word then Some (drop (length word) line) else None
 
+-- whether the line is the title
 abbrev pub read_title : List ℕ → Option (Unit {0})
 read_title line = if bytes_eq line title_line then Some tt else None
 
@@ -151,15 +155,15 @@ weighted_by s t = record { system = s; quorum_weights = t.quorum_weights; voter_
 unfoldable pub plan_at : QuorumSystem → List ℕ → Result Weighted PlanFault
 plan_at s text = telling_at text >>= λ t. judged (weighted_by s t) t
 
--- what was answered, seen by view, is this, unless memory ran out
-abbrev pub Fails : {Y : Type 0} → PlanFault → Result Y PlanFault → Type 0
-Fails OutOfMemory wanted = Unit {0}
-Fails e wanted = wanted ≡ Err e
+-- the fault is want of memory, or the wanted answer is this fault
+abbrev pub Refuses : {Y : Type 0} → PlanFault → Result Y PlanFault → Type 0
+Refuses OutOfMemory wanted = Unit {0}
+Refuses e wanted = wanted ≡ Err e
 
--- the answer is the wanted one, memory aside
+-- what was answered, seen by view, is this, unless memory ran out
 abbrev pub Gives : {X Y : Type 0} → (X → Y) → Result X PlanFault → Result Y PlanFault → Type 0
 Gives view (Ok x) wanted = wanted ≡ Ok (view x)
-Gives view (Err e) wanted = Fails e wanted
+Gives view (Err e) wanted = Refuses e wanted
 
 -- what was answered is this, unless memory ran out
 abbrev pub MemoryAside : Result Weighted PlanFault → Result Weighted PlanFault → Type 0

@@ -16,29 +16,37 @@ use Rattle.command_line.specs.declared.command.Shape.TheVariants.{Cyclic, Grid, 
 abbrev pub any_count : ValueRange
 any_count = record { start_inclusive = 0; end_inclusive = usize_max }
 
--- the command lines of the program: a subcommand, and for `deal` how many tickets
+-- The command lines of the program.
+
+-- N, how many tickets to deal: at most 100,000
 abbrev pub tickets_rule : Rule
 tickets_rule = record (new_rule (codes "N")) { required = true; parser = Some (Unsigned 0 100000) }
 
--- for `make` a shape, and behind it any number of sizes
+-- SHAPE: any word
 abbrev pub shape_rule : Rule
 shape_rule = record (new_rule (codes "SHAPE")) { required = true }
 
+-- NUMBERS: any count of numbers of at most four digits
 abbrev pub sizes_rule : Rule
 sizes_rule = record (new_rule (codes "NUMBERS")) { range = Some any_count; parser = Some (Unsigned 0 9999) }
 
+-- qlock make
 abbrev pub make_app : App
 make_app = with_rule (with_rule (new_app (codes "make")) shape_rule) sizes_rule
 
+-- qlock plan
 abbrev pub plan_app : App
 plan_app = new_app (codes "plan")
 
+-- qlock check
 abbrev pub check_app : App
 check_app = new_app (codes "check")
 
+-- qlock deal
 abbrev pub deal_app : App
 deal_app = with_rule (new_app (codes "deal")) tickets_rule
 
+-- qlock world
 abbrev pub world_app : App
 world_app = new_app (codes "world")
 
@@ -46,30 +54,39 @@ world_app = new_app (codes "world")
 abbrev pub clients_rule : Rule
 clients_rule = record (new_rule (codes "CLIENTS")) { required = true; parser = Some (Unsigned 1 64) }
 
+-- PASSES: at most 1000
 abbrev pub passes_rule : Rule
 passes_rule = record (new_rule (codes "PASSES")) { required = true; parser = Some (Unsigned 0 1000) }
 
+-- TURNS: at most 10^12
 abbrev pub turns_rule : Rule
 turns_rule = record (new_rule (codes "TURNS")) { required = true; parser = Some (Unsigned 0 (10 ^ 12)) }
 
+-- qlock run
 abbrev pub run_app : App
 run_app = with_rule (with_rule (with_rule (new_app (codes "run")) clients_rule) passes_rule) turns_rule
 
+-- qlock replay
 abbrev pub replay_app : App
 replay_app = new_app (codes "replay")
 
+-- a subcommand has to be named
 abbrev pub required_subcommand : App → App
 required_subcommand a = record a { top = record a.top { subcommand_required = true } }
 
+-- qlock with the commands so far
 abbrev pub planning_app : App
 planning_app = with_subcommand (with_subcommand (required_subcommand (new_app (codes "qlock"))) make_app.top) plan_app.top
 
+-- and with these
 abbrev pub dealing_app : App
 dealing_app = with_subcommand (with_subcommand planning_app check_app.top) deal_app.top
 
+-- and with these
 abbrev pub running_app : App
 running_app = with_subcommand (with_subcommand dealing_app world_app.top) run_app.top
 
+-- and with the last one: the whole command line
 abbrev pub qlock_app : App
 qlock_app = with_subcommand running_app replay_app.top
 

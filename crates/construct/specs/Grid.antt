@@ -14,6 +14,7 @@ row_with_column r c i k = set_where (λ v. nat_lt v (r * c) && ((v / c == i) || 
 unfoldable pub grid_quorums : ℕ → ℕ → List (List ℕ)
 grid_quorums r c = map (λ j. row_with_column r c (j / c) (j % c)) (range_with_len 0 (r * c))
 
+-- the grid of r rows and c columns
 abbrev pub grid_system : ℕ → ℕ → QuorumSystem
 grid_system r c = record { voters = r * c; quorums = grid_quorums r c }
 

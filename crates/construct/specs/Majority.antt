@@ -20,6 +20,7 @@ choose (suc n) (suc k) = choose n k + choose n (suc k)
 abbrev pub majority_quorums : ℕ → List (List ℕ)
 majority_quorums n = sets_from 0 n (n / 2 + 1)
 
+-- the majorities of n voters
 abbrev pub majority_system : ℕ → QuorumSystem
 majority_system n = record { voters = n; quorums = majority_quorums n }
 

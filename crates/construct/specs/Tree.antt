@@ -28,6 +28,7 @@ quorums_under (suc h) i = node_quorums i (quorums_under h (2 * i + 1)) (quorums_
 abbrev pub tree_quorums : ℕ → List (List ℕ)
 tree_quorums h = quorums_under h 0
 
+-- the tree of height h
 abbrev pub tree_system : ℕ → QuorumSystem
 tree_system h = record { voters = 2 ^ (h + 1) - 1; quorums = tree_quorums h }
 

@@ -18,6 +18,7 @@ rim k = set_where (λ v. nat_le 1 v && nat_le v k)
 unfoldable pub wheel_quorums : ℕ → List (List ℕ)
 wheel_quorums k = map spoke (range_with_len 1 k) ++ rim k ∷ []
 
+-- the wheel of k rims
 abbrev pub wheel_system : ℕ → QuorumSystem
 wheel_system k = record { voters = k + 1; quorums = wheel_quorums k }
 

@@ -7,6 +7,7 @@ use Rattle.certificate.specs.Certificates.{Weighted}
 use Rattle.dealer.specs.declared.tickets.Hand.{Hand}
 use Rattle.dealer.specs.declared.tickets.Sheet.{Sheet}
 
+-- a clerk's hand: the cycle that names its quorums, how many tickets it may still draw, and those that it drew
 abbrev pub hand : Weighted → ℕ → List ℕ → Hand
 hand cycle rest drawn = record { cycle = cycle; rest = rest; drawn = drawn }
 

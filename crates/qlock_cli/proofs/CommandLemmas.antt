@@ -41,7 +41,7 @@ pub file_refused : {Y : Type 0} (fault : FileFault) (wanted : Result Y FileFault
 file_refused file.OutOfMemory wanted e = tt
 file_refused fault wanted e = ap (refused_as File) e
 
-pub plan_refused : {Y : Type 0} (fault : PlanFault) (wanted : Result Y PlanFault) → plan_texts.Fails fault wanted → Refuses (plan_refusal fault) (refused_as Plan wanted)
+pub plan_refused : {Y : Type 0} (fault : PlanFault) (wanted : Result Y PlanFault) → plan_texts.Refuses fault wanted → Refuses (plan_refusal fault) (refused_as Plan wanted)
 plan_refused plan.OutOfMemory wanted e = tt
 plan_refused fault wanted e = ap (refused_as Plan) e
 

@@ -13,7 +13,8 @@ pub record QuorumSystem : Type 0 where
   pub voters : ℕ
   pub quorums : List (List ℕ)
 
--- any two quorums at different places have a common member, and neither is within the other
+-- 1 to 64 voters and 1 to 4096 quorums, each of which is a set of voters and not empty; any two at different places have a common member,
+-- and neither is within the other
 pub record IsCoterie (s : QuorumSystem) : Type 0 where
   pub some_voter : 0 < s.voters
   pub few_voters : s.voters ≤ 64

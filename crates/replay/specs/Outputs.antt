@@ -26,6 +26,7 @@ abbrev pub sent_lines : ℕ → List Message → List ℕ
 sent_lines number [] = []
 sent_lines number (m ∷ ms) = sent_line number m ++ sent_lines (number + 1) ms
 
+-- by whether the client entered
 abbrev pub event_word : Bool → List ℕ
 event_word true = codes "enter "
 event_word false = codes "leave "

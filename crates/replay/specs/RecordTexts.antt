@@ -20,6 +20,7 @@ use Rattle.replay.specs.Records.{Entries}
 
 -- Spelling
 
+-- the first line
 abbrev pub title_line : List ℕ
 title_line = codes "quorum-record 1"
 
@@ -31,12 +32,15 @@ draw_numbers d = d.0 ∷ d.1 ∷ d.2 ∷ []
 abbrev pub pass_numbers : Pass → List ℕ
 pass_numbers p = p.0 ∷ p.1 ∷ []
 
+-- the line of a draw
 abbrev pub draw_line : Draw → List ℕ
 draw_line d = codes "draw" ++ fields (draw_numbers d)
 
+-- the line of a pass
 abbrev pub pass_line : Pass → List ℕ
 pass_line p = codes "pass" ++ fields (pass_numbers p)
 
+-- the last line, without its newline
 abbrev pub register_line : ℕ → List ℕ
 register_line n = codes "register" ++ fields (n ∷ [])
 
@@ -80,11 +84,13 @@ pub record HasText (e : Entries) : Type 0 where
 
 -- The first bad line
 
+-- the word of a line
 abbrev pub line_word : RecordLine → List ℕ
 line_word (kinds.Draw client ticket quorum) = codes "draw"
 line_word (kinds.Pass client number) = codes "pass"
 line_word (kinds.Register number) = codes "register"
 
+-- the numbers of a line
 abbrev pub line_numbers : RecordLine → List ℕ
 line_numbers (kinds.Draw client ticket quorum) = draw_numbers (client, ticket, quorum)
 line_numbers (kinds.Pass client number) = pass_numbers (client, number)
@@ -94,6 +100,7 @@ line_numbers (kinds.Register number) = number ∷ []
 abbrev pub record_line : RecordLine → List ℕ
 record_line l = line_word l ++ fields (line_numbers l)
 
+-- the numbers are in range
 abbrev pub HasLine : RecordLine → Type 0
 HasLine (kinds.Draw client ticket quorum) = HasDrawLine (client, ticket, quorum)
 HasLine (kinds.Pass client number) = HasPassLine (client, number)

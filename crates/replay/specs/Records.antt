@@ -19,6 +19,7 @@ pub record Entries : Type 0 where
   pub passes : List Pass
   pub register : ℕ
 
+-- the entries of a record
 abbrev pub entries_of : RunRecord → Entries
 entries_of r = record { draws = r.draws.items; passes = r.passes.items; register = r.register }
 
@@ -65,6 +66,7 @@ IsWrong w draws ticket = (d : Draw) × Contains draws d × (d.1 ≡ ticket) × �
 abbrev pub IsLeast : (ℕ → Type 0) → ℕ → Type 0
 IsLeast P n = P n × ((m : ℕ) → P m → n ≤ m)
 
+-- no number stands there twice
 abbrev pub NoneTwice : List ℕ → Type 0
 NoneTwice ns = (n : ℕ) → ¬ (IsTwice ns n)
 
@@ -91,18 +93,21 @@ IsFirstFault w e OutOfMemory = Unit {0}
 
 -- The same of each part of a record
 
+-- a fault of the tickets: the least one that stands twice, or where none does the least one that is missing
 abbrev pub IsTicketFault : List ℕ → ReplayFault → Type 0
 IsTicketFault tickets (TicketTwice t) = IsLeast (IsTwice tickets) t
 IsTicketFault tickets (TicketMissing t) = NoneTwice tickets × IsLeast (IsMissing tickets) t
 IsTicketFault tickets OutOfMemory = Unit {0}
 IsTicketFault tickets fault = ⊥
 
+-- likewise of the pass numbers
 abbrev pub IsNumberFault : List ℕ → ReplayFault → Type 0
 IsNumberFault numbers (PassTwice p) = IsLeast (IsTwice numbers) p
 IsNumberFault numbers (PassMissing p) = NoneTwice numbers × IsLeast (IsMissing numbers) p
 IsNumberFault numbers OutOfMemory = Unit {0}
 IsNumberFault numbers fault = ⊥
 
+-- a fault of the register: it is not the number of passes
 abbrev pub IsRegisterFault : Entries → ReplayFault → Type 0
 IsRegisterFault e (WrongRegister q) = (q ≡ length e.passes) × (e.register ≢ q)
 IsRegisterFault e fault = ⊥

@@ -238,7 +238,7 @@ abbrev pub remind_of : Option Grant → VoterState → List ToClient
 remind_of None v = []
 remind_of (Some g) v = reply v g.client (tells.Locked g.stamp g.grant) ∷ inquiry_again v.inquiring v g
 
--- LOCKED again to the holder
+-- what to tell the holder again, for messages that were lost
 unfoldable pub remind : VoterState → List ToClient
 remind v = remind_of v.held v
 

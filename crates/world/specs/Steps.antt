@@ -150,8 +150,7 @@ abbrev pub Does : Result Outcome WorldFault → WorldState → Result Stepped Wo
 Does wanted old (Ok s) new = wanted ≡ Ok (outcome_of s new)
 Does wanted old (Err fault) new = (wanted ≡ Err fault) × (new ≡ old)
 
--- A world and the plan by whose cycle its tickets name quorums
-
+-- a world and the plan by whose cycle its tickets name quorums
 pub record Planned : Type 0 where
   pub plan : Weighted
   pub state : WorldState
