@@ -12,7 +12,7 @@ use Rattle.quorum_set.specs.Coteries.{QuorumSystem}
 use Rattle.quorum_set.specs.Counts.{greatest_below}
 use Rattle.certificate.specs.declared.fault.PlanFault.{PlanFault}
 use Rattle.certificate.specs.declared.fault.PlanFault.TheVariants.{BadText}
-use Rattle.certificate.specs.Gcd.{gcd_of}
+use Rattle.divisor.specs.Gcd.{gcd_of}
 use Rattle.certificate.specs.Loads.{weight_on}
 use Rattle.certificate.specs.Certificates.{Weighted, IsCertificate, cycle_len, busiest_count, load_of, weights_fault}
 use Rattle.certificate.specs.PlanTexts.{IsShort, Telling, telling_of, title_line, load_line, cycle_line, weights_line, lines_of, text_of_lines, plan_text, read_title, read_load, read_cycle, read_weights, line_at, ◌>>=◌, telling_at, telling_fault, unless_fault, judged, weighted_by, plan_at, MemoryAside}

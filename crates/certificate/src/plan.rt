@@ -3,9 +3,9 @@ ghost use Rattle.std.specs.Prelude.{◌≡◌, ◌*◌, ◌<◌, length, IfOk, s
 ghost use Rattle.std.specs.Int.{IsGcd};
 ghost use Rattle.certificate.specs.Certificates.{IsCertificate, IsOptimal, AnswersPlan, cycle_len, busiest_count, load_of};
 
-use crate::divisor::gcd;
 use crate::fault::PlanFault;
 use crate::loads::{busiest_count, lightest_quorum, total};
+use divisor::gcd;
 use quorum_set::Coterie;
 use std::alloc::{AllocError, Global};
 use std::marker::Model;

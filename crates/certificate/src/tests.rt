@@ -213,16 +213,3 @@ fn a_copy_is_written_alike(rt: HostRuntime) -> Result<(), Fail> {
     assert_eq!(rt; copy.coterie().count(), 4);
     Ok(())
 }
-
-#[test]
-fn divisors(rt: HostRuntime) {
-    for (a, b, want) in [
-        (6u64, 10u64, 2u64),
-        (7, 0, 7),
-        (0, 7, 7),
-        (0, 0, 0),
-        (17, 5, 1),
-    ] {
-        assert_eq!(rt; gcd(a, b), want, "{a} {b}");
-    }
-}

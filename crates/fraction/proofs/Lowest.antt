@@ -1,11 +1,11 @@
 -- Lemmas on lowest terms.
-use Rattle.std.proofs.Common.{◌≡◌, ◌≢◌, ℕ, ◌*◌, ◌/◌, ◌<◌, ◌≤◌, ◌^◌, Bool, true, false, not, zero, suc, ℤ, pos, negsuc, neg_ℤ, ◌*ℤ◌, ◌<ℤ◌, unsigned_abs, sym, refl, ap, subst, ◌∙◌, inl, inr, arith}
+use Rattle.std.proofs.Common.{◌≡◌, ◌≢◌, ℕ, ◌*◌, ◌/◌, ◌<◌, ◌≤◌, ◌^◌, Bool, true, false, not, zero, suc, ℤ, pos, negsuc, neg_ℤ, ◌*ℤ◌, ◌<ℤ◌, unsigned_abs, sym, refl, ap, subst, ◌∙◌, arith}
 use Rattle.std.specs.Bool.{beq}
 use Rattle.std.proofs.lemmas.Int.{ints, unsigned_abs-mul}
-use Rattle.std.specs.Int.{IsGcd, ◌∣◌}
+use Rattle.std.specs.Int.{IsGcd}
 use Rattle.std.specs.Int.Signed.{lt_z}
-use Rattle.std.proofs.lemmas.Bool.{cases_lt}
-use Rattle.std.proofs.Math.Nat.{eq-zero_of_zero-dvd, one-dvd, mul-dvd-mul_left, dvd_of_mul-dvd-mul_left, mul-div_cancel', mul_assoc, mul_comm, mul-zero, zero-mul, div-le_self}
+use Rattle.std.proofs.Math.Nat.{mul-div_cancel', mul-zero, zero-mul, div-le_self}
+use Rattle.divisor.proofs.GcdLemmas.{gcd-some, lowest-IsGcd, lowest-exact}
 use Rattle.fraction.specs.Fractions.{Fraction, IsReduced, IsRatio, Fits, signed_of}
 
 -- a number that is not 0 has an absolute value above 0
@@ -13,42 +13,6 @@ pub abs-some : (z : ℤ) → z ≢ pos 0 → 0 < unsigned_abs z
 abs-some (pos zero) ne = absurd (ne refl)
 abs-some (pos (suc n)) ne = omega arith
 abs-some (negsuc n) ne = omega arith
-
--- the greatest common divisor with a number that is not 0 is not 0
-pub gcd-some : (a b g : ℕ) → IsGcd a b g → 0 < b → 0 < g
-gcd-some a b g is some =
-    elim (cases_lt 0 g) [
-      | inl above ↦ above
-      | inr low ↦
-          let none : g ≡ 0 = omega arith in
-          let at_b : b ≡ 0 = eq-zero_of_zero-dvd (subst (λ d. d ∣ b) none is.1) in
-          omega arith
-    ]
-
--- both numbers, divided by their greatest common divisor, have none but 1
-lowest-IsGcd : (a b g : ℕ) → IsGcd a b g → 0 < g → IsGcd (a / g) (b / g) 1
-lowest-IsGcd a b g is some = (
-  one-dvd (a / g),
-  one-dvd (b / g),
-  λ d da db.
-      let to_a = subst (λ x. g * d ∣ x) (mul-div_cancel' g is.0) (mul-dvd-mul_left d g da) in
-      let to_b = subst (λ x. g * d ∣ x) (mul-div_cancel' g is.1) (mul-dvd-mul_left d g db) in
-      let to_g = subst (λ x. g * d ∣ x) (sym (mul_one g)) (is.2 (g * d) to_a to_b) in
-      dvd_of_mul-dvd-mul_left d some to_g,
-)
-  where
-    mul_one : (g : ℕ) → g * 1 ≡ g
-    mul_one g = omega arith
-
--- the quotients are in the numbers' ratio
-lowest-exact : (a b g : ℕ) → IsGcd a b g → (a / g) * b ≡ a * (b / g)
-lowest-exact a b g is =
-    let left : (a / g) * b ≡ (a / g) * (g * (b / g)) = ap (λ x. (a / g) * x) (sym (mul-div_cancel' g is.1)) in
-    let right : a * (b / g) ≡ (g * (a / g)) * (b / g) = ap (λ x. x * (b / g)) (sym (mul-div_cancel' g is.0)) in
-    left ∙ regroup (a / g) g (b / g) ∙ sym right
-  where
-    regroup : (x g y : ℕ) → x * (g * y) ≡ (g * x) * y
-    regroup x g y = sym (mul_assoc x g y) ∙ ap (λ t. t * y) (mul_comm x g)
 
 unsigned_abs-signed_of : (b : Bool) (n : ℕ) → unsigned_abs (signed_of b n) ≡ n
 unsigned_abs-signed_of true n = refl

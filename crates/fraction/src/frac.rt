@@ -4,8 +4,8 @@ ghost use Rattle.std.specs.Ordering.{int_cmp};
 ghost use Rattle.fraction.specs.Fractions.{signed_of, IsRatio, IsReduced, Fits, SumFits, DifferenceFits, ProductFits, QuotientFits, ComparisonFits};
 
 use crate::checked::{difference, fitting, product, sum};
-use crate::divisor::gcd;
 use crate::fault::FracFault;
+use divisor::wide_gcd;
 use std::cmp::Ordering;
 use std::marker::Model;
 
@@ -60,7 +60,7 @@ fn reduced(num: i128, den: i128) -> Frac
 {
     let top = num.unsigned_abs();
     let bottom = den.unsigned_abs();
-    let common = gcd(top, bottom);
+    let common = wide_gcd(top, bottom);
     Frac {
         num: signed((num < 0) == (den < 0), quotient(top, common)),
         den: quotient(bottom, common) as i128,

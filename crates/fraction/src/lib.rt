@@ -3,7 +3,7 @@
 //! Nothing is rounded and nothing wraps. Where a number that a call forms on its way does not fit, the call
 //! answers `Overflow`; so whoever reckons with these fractions has the exact result or knows that there is none.
 //!
-//! This crate stands on no other. The simplex method above it reckons with these fractions.
+//! This crate stands on `divisor`. The simplex method above it reckons with these fractions.
 //!
 //! ```text
 //! let half = Frac::of(1, 2)?;
@@ -14,7 +14,6 @@
 #![tactic(auto)]
 
 mod checked;
-mod divisor;
 mod fault;
 mod frac;
 #[cfg(test)]

@@ -4,8 +4,9 @@ use Rattle.std.specs.Int.Signed.{lt_z}
 use Rattle.std.specs.Bool.{beq}
 use Rattle.std.proofs.lemmas.Int.{to_z-of_z, to_z_pos, fits_signed_from_abs}
 use Rattle.std.proofs.Math.Nat.{div-le_self}
+use Rattle.divisor.proofs.GcdLemmas.{gcd-some}
 use Rattle.fraction.specs.Fractions.{Fits, signed_of}
-use Rattle.fraction.proofs.Lowest.{IsDivided, divided-IsRatio, divided-IsReduced, abs-some, gcd-some}
+use Rattle.fraction.proofs.Lowest.{IsDivided, divided-IsRatio, divided-IsReduced, abs-some}
 use Rattle.fraction.proofs.frac.reduced.Goals as goal
 
 -- what the calls answered, where the numbers are seen as the code passes them
@@ -26,18 +27,18 @@ as_passed z fits = to_z-of_z w128 z (fits_signed_from_abs w128 z fits)
 below : (a b c : ℕ) → a ≤ b → b < c → a < c
 below a b c h k = omega arith
 
-is_divided : (c : goal.After-quotient-2) → IsDivided c.args.num c.args.den c.gcd-common.result (record { num = to_z w128 (of_z w128 c.signed.result); den = to_z w128 c.quotient-2.result })
+is_divided : (c : goal.After-quotient-2) → IsDivided c.args.num c.args.den c.wide_gcd-common.result (record { num = to_z w128 (of_z w128 c.signed.result); den = to_z w128 c.quotient-2.result })
 is_divided c =
     let num_is = as_passed c.args.num c.requires.num_fits in
     let den_is = as_passed c.args.den c.requires.den_fits in
     let bottom_is : c.unsigned_abs-bottom.result ≡ unsigned_abs c.args.den = c.unsigned_abs-bottom.ensures.value ∙ ap (λ z. unsigned_abs z) den_is in
     let bottom_fits : c.unsigned_abs-bottom.result < 2 ^ 127 = subst (λ n. n < 2 ^ 127) (sym bottom_is) c.requires.den_fits in
-    let top_is : c.quotient.result ≡ c.unsigned_abs-top.result / c.gcd-common.result = c.quotient.ensures in
-    let rest_is : c.quotient-2.result ≡ c.unsigned_abs-bottom.result / c.gcd-common.result = c.quotient-2.ensures in
-    let rest_fits : c.quotient-2.result < 2 ^ 127 = subst (λ n. n < 2 ^ 127) (sym rest_is) (below _ _ _ (div-le_self c.unsigned_abs-bottom.result c.gcd-common.result) bottom_fits) in
+    let top_is : c.quotient.result ≡ c.unsigned_abs-top.result / c.wide_gcd-common.result = c.quotient.ensures in
+    let rest_is : c.quotient-2.result ≡ c.unsigned_abs-bottom.result / c.wide_gcd-common.result = c.quotient-2.ensures in
+    let rest_fits : c.quotient-2.result < 2 ^ 127 = subst (λ n. n < 2 ^ 127) (sym rest_is) (below _ _ _ (div-le_self c.unsigned_abs-bottom.result c.wide_gcd-common.result) bottom_fits) in
     divided _ _ _ _ c.signed.result _ _ c.unsigned_abs-top.result c.unsigned_abs-bottom.result _ num_is den_is
     (to_z-of_z w128 c.signed.result (record { sfits = c.signed.type_inv }))
-    c.requires.den_fits c.unsigned_abs-top.ensures.value c.unsigned_abs-bottom.ensures.value c.gcd-common.ensures
+    c.requires.den_fits c.unsigned_abs-top.ensures.value c.unsigned_abs-bottom.ensures.value c.wide_gcd-common.ensures
     (c.signed.ensures ∙ ap (λ n. signed_of (beq (lt_z (to_z w128 (of_z w128 c.args.num)) (pos 0)) (lt_z (to_z w128 (of_z w128 c.args.den)) (pos 0))) n) top_is)
     (to_z_pos w128 _ rest_fits ∙ ap (λ n. pos n) rest_is)
 
@@ -48,10 +49,10 @@ some den den' top bottom g den_is ne bottom_is gcd none =
     omega arith
 
 pub quotient-requires : goal.quotient-requires
-quotient-requires c = some c.args.den _ _ _ _ (as_passed c.args.den c.requires.den_fits) c.requires.divisor c.unsigned_abs-bottom.ensures.value c.gcd-common.ensures
+quotient-requires c = some c.args.den _ _ _ _ (as_passed c.args.den c.requires.den_fits) c.requires.divisor c.unsigned_abs-bottom.ensures.value c.wide_gcd-common.ensures
 
 pub quotient-requires-2 : goal.quotient-requires-2
-quotient-requires-2 c = some c.args.den _ _ _ _ (as_passed c.args.den c.requires.den_fits) c.requires.divisor c.unsigned_abs-bottom.ensures.value c.gcd-common.ensures
+quotient-requires-2 c = some c.args.den _ _ _ _ (as_passed c.args.den c.requires.den_fits) c.requires.divisor c.unsigned_abs-bottom.ensures.value c.wide_gcd-common.ensures
 
 pub invariant_of-result : goal.invariant_of-result
 invariant_of-result c = divided-IsReduced _ _ _ _ (is_divided c) c.requires.divisor c.requires.num_fits c.requires.den_fits

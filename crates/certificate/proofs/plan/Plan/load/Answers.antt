@@ -1,6 +1,6 @@
 use Rattle.std.proofs.Common.{◌≡◌, rules, arith}
 use Rattle.certificate.specs.Certificates.{IsCertificate, busiest_count, cycle_len}
-use Rattle.certificate.proofs.GcdLemmas.{gcd-some, lowest-IsGcd, lowest-exact}
+use Rattle.divisor.proofs.GcdLemmas.{gcd-some, lowest-IsGcd, lowest-exact}
 use Rattle.certificate.proofs.Optimal.{IsOptimal-certificate}
 use Rattle.certificate.proofs.plan.Plan.load.Goals as goal
 

@@ -1,7 +1,7 @@
 use Rattle.std.proofs.Common.{arith}
 use Rattle.std.proofs.lemmas.Nat.Gcd.{IsGcd-from_mod, IsGcd-from_zero}
-use Rattle.certificate.proofs.GcdLemmas.{gcd_of-IsGcd}
-use Rattle.certificate.proofs.divisor.gcd.Goals as goal
+use Rattle.divisor.proofs.GcdLemmas.{gcd_of-IsGcd}
+use Rattle.divisor.proofs.euclid.gcd.Goals as goal
 
 pub steps-preserved : goal.steps-preserved
 steps-preserved c = λ g is. c.steps.invariant g (IsGcd-from_mod _ _ g is)

@@ -1,7 +1,7 @@
-//! The greatest common divisor.
+//! The greatest common divisor of two numbers.
 ghost use Rattle.std.specs.Prelude.{◌≡◌};
 ghost use Rattle.std.specs.Int.{IsGcd};
-ghost use Rattle.certificate.specs.Gcd.{gcd_of};
+ghost use Rattle.divisor.specs.Gcd.{gcd_of};
 
 /// The greatest common divisor of two numbers, by Euclid's algorithm. `gcd(x, 0)` is `x`, also where `x` is 0.
 pub fn gcd(a: u64, b: u64) -> u64

@@ -4,7 +4,7 @@ use Rattle.std.proofs.lemmas.Bool.{and_parts, cases_eq, cases_lt, eq-eqb, eqb-tr
 use Rattle.std.specs.Int.{IsGcd, ◌∣◌}
 use Rattle.std.proofs.lemmas.Nat.Gcd.{dvd-zero, le_of_dvd, dvd_of_mod-eq-zero, mod-eq-zero_of_dvd, le_from_IsGcd}
 use Rattle.std.proofs.Math.Nat.{eq-zero_of_zero-dvd, one-dvd, mul-dvd-mul_left, dvd_of_mul-dvd-mul_left, mul-div_cancel', mul_assoc, mul_comm}
-use Rattle.certificate.specs.Gcd.{common_divisor_up_to, gcd_of}
+use Rattle.divisor.specs.Gcd.{common_divisor_up_to, gcd_of}
 
 both_mod : (a b d : ℕ) → d ∣ a → d ∣ b → eqb (a % d) 0 && eqb (b % d) 0 ≡ true
 both_mod a b d da db = rw (eq-eqb _ 0 (mod-eq-zero_of_dvd d da), eq-eqb _ 0 (mod-eq-zero_of_dvd d db)) refl

@@ -1,6 +1,6 @@
 use Rattle.std.proofs.Common.{ℕ}
 use Rattle.std.specs.Int.{IsGcd}
-use Rattle.certificate.proofs.divisor.gcd.Given as goal
+use Rattle.divisor.proofs.wide.wide_gcd.Given as goal
 
 abbrev pub invariant-steps : goal.invariant-steps
 invariant-steps l = (g : ℕ) → IsGcd l.greater l.less g → IsGcd l.fn.a l.fn.b g
