@@ -1,36 +1,18 @@
 //! Reading a script.
-ghost use Rattle.std.specs.Prelude.{◌≡◌, ◌≤◌, ◌==◌, ◌++◌, ◌∷◌, ◌^◌, [], ℕ, List, IfErr, IfOk, IfSome, MatchOption, MatchResult, codes, position};
-ghost use Rattle.std.specs.Option.{option_map};
-ghost use Rattle.certificate.specs.PlanTexts.{cut_at};
+ghost use Rattle.std.specs.Prelude.{◌≡◌, ◌++◌, ◌∷◌, ℕ, List, IfErr, IfOk, IfSome, MatchOption, MatchResult, codes};
 ghost use Rattle.world.specs.declared.step.Step.{Step};
 ghost use Rattle.replay.specs.Scripts.{AreSizes, HasStepLine, HaveLines, IsBadRest, IsBadText, IsScript, IsStepOf, Script, script_text, step_line, steps_text, world_line};
 ghost use Rattle.replay.specs.declared.fault.ReplayFault.TheVariants.{OutOfMemory};
 
 use crate::fault::ReplayFault;
 use crate::script::Script;
+use certificate::cut as cut_at;
 use message::{cut, fields};
 use std::alloc::Global;
 use world::Step;
 
 /// The highest limit of stamps and grants.
 const HIGHEST_LIMIT: u64 = 1 << 40;
-
-/// The place of the first newline.
-fn newline(text: &[u8]) -> Option<usize>
-    ensures { result ≡ position (λ b. b == 10) text.now }
-{
-    text.iter().position(|b| *b == b'\n')
-}
-
-/// The first line, without its newline, and what follows it.
-pub(crate) fn first_line(text: &[u8]) -> Option<(&[u8], &[u8])>
-    ensures { option_map (λ x. (x.0.now, x.1.now)) result ≡ cut_at 10 text.now }
-{
-    match newline(text) {
-        Some(place) => Some((&text[..place], &text[place + 1..])),
-        None => None,
-    }
-}
 
 /// The step of a word and its number.
 fn step_of(word: &[u8], number: u64) -> Option<Step>
@@ -72,7 +54,7 @@ fn first_step(text: &[u8]) -> Option<(Step, &[u8])>
     ensures read { (s : Step) (rest : List ℕ) → HasStepLine s → text.now ≡ step_line s ++ 10 ∷ rest
         → MatchOption result ⊥ (λ x. (x.0 ≡ s) × (x.1.now ≡ rest)) }
 {
-    match first_line(text) {
+    match cut_at(text, b'\n') {
         Some((line, rest)) => match read_step(line) {
             Some(step) => Some((step, rest)),
             None => None,
@@ -140,7 +122,7 @@ fn first_sizes(text: &[u8]) -> Option<(u8, u64, &[u8])>
     ensures read { (clients limit : ℕ) (rest : List ℕ) → AreSizes clients limit → text.now ≡ world_line clients limit ++ 10 ∷ rest
         → MatchOption result ⊥ (λ x. (x.0 ≡ clients) × (x.1 ≡ limit) × (x.2.now ≡ rest)) }
 {
-    match first_line(text) {
+    match cut_at(text, b'\n') {
         Some((line, rest)) => match read_sizes(line) {
             Some((clients, limit)) => Some((clients, limit, rest)),
             None => None,

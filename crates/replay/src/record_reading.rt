@@ -8,7 +8,7 @@ ghost use Rattle.replay.specs.declared.fault.ReplayFault.TheVariants.{OutOfMemor
 ghost use Rattle.replay.specs.declared.record_reading.RecordLine.{RecordLine};
 
 use crate::fault::ReplayFault;
-use crate::reading::first_line;
+use certificate::cut as cut_at;
 use cluster::RunRecord;
 use message::{cut, fields};
 use std::alloc::{AllocError, Global};
@@ -139,7 +139,7 @@ fn next_line(text: &[u8]) -> Option<(RecordLine, &[u8])>
     ensures read { (l : RecordLine) (rest : List ℕ) → HasLine l → text.now ≡ record_line l ++ 10 ∷ rest
         → MatchOption result ⊥ (λ x. (x.0 ≡ l) × (x.1.now ≡ rest)) }
 {
-    match first_line(text) {
+    match cut_at(text, b'\n') {
         Some((line, rest)) => match read_line(line) {
             Some(told) => Some((told, rest)),
             None => None,
@@ -240,7 +240,7 @@ fn read_body(alloc: Global, text: &[u8]) -> Result<RunRecord, ReplayFault>
 fn behind_title(text: &[u8]) -> Option<&[u8]>
     ensures { MatchOption result ((body : List ℕ) → text.now ≢ title_line ++ 10 ∷ body) (λ body. text.now ≡ title_line ++ 10 ∷ body.now) }
 {
-    match first_line(text) {
+    match cut_at(text, b'\n') {
         Some((line, rest)) if line == TITLE => Some(rest),
         _ => None,
     }
