@@ -29,7 +29,7 @@ pub enum ReplayFault {
     /// The line with this number, from 1, is the first that is missing, is spelled otherwise, or has no newline.
     #[error("A7 BadLine {0}")]
     BadLine(usize),
-    /// An allocation failed.
+    /// Memory ran out.
     #[error("O1 OutOfMemory")]
     OutOfMemory,
 }

@@ -21,7 +21,7 @@ pub enum WorldFault {
     /// The voter refuses the message.
     #[error(transparent)]
     Voter(VoterFault),
-    /// An allocation failed.
+    /// Memory ran out.
     #[error("O1 OutOfMemory")]
     OutOfMemory,
 }
