@@ -1,10 +1,9 @@
 //! Reading the text of a plan.
-ghost use Rattle.std.specs.Prelude.{◌≡◌, ◌++◌, ◌==◌, ℕ, IfOk, option_map, position};
-ghost use Rattle.std.specs.Option.{option_and_then};
+ghost use Rattle.std.specs.Prelude.{◌≡◌, ◌==◌, IfOk, option_map, position};
 ghost use Rattle.std.specs.List.{slice_split, list_all};
 ghost use Rattle.std.specs.Char.{is_ascii_digit};
 ghost use Rattle.certificate.specs.Certificates.{Weighted, IsCertificate, IsOptimal};
-ghost use Rattle.certificate.specs.PlanTexts.{Telling, plan_text, cut_at, is_number, number_of, numbers_of, behind, read_title, read_pair, read_load, read_cycle, read_weights, line_at, telling_at, plan_at, Gives, MemoryAside};
+ghost use Rattle.certificate.specs.PlanTexts.{plan_text, cut_at, is_number, number_of, numbers_of, behind, read_title, read_pair, read_load, read_cycle, read_weights, line_at, telling_at, plan_at, Gives, MemoryAside};
 
 use crate::fault::PlanFault;
 use crate::plan::{Plan, check};

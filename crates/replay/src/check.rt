@@ -1,5 +1,5 @@
 //! Checking a record of a run.
-ghost use Rattle.std.specs.Prelude.{◌≡◌, ◌*◌, ◌<◌, ◌≤◌, ℕ, List, IfErr, IfOk, IfSome, MatchOption, None, min, MatchResult, length, map};
+ghost use Rattle.std.specs.Prelude.{◌≡◌, ◌*◌, ◌<◌, ℕ, List, IfErr, IfOk, IfSome, MatchOption, None, min, length, map};
 ghost use Rattle.std.specs.List.{All};
 ghost use Rattle.std.specs.List.Sorted.{IsNonDecreasing};
 ghost use Rattle.quorum_set.specs.Counts.{times};

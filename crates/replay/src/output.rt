@@ -1,10 +1,10 @@
 //! What a script's run writes.
-ghost use Rattle.std.specs.Prelude.{◌≡◌, ◌++◌, ◌≤◌, ◌^◌, IfErr, IfOk, MatchResult, Ok, OnOk, drop, length, string_bytes};
+ghost use Rattle.std.specs.Prelude.{◌≡◌, ◌++◌, IfErr, IfOk, MatchResult, Ok, OnOk, drop, string_bytes};
 ghost use Rattle.std.specs.List.{flat_map};
 ghost use Rattle.message.specs.Lines.{HasLine};
-ghost use Rattle.world.specs.Runs.{after, start_by};
-ghost use Rattle.world.specs.Steps.{quorum_by, step_of};
-ghost use Rattle.replay.specs.Outputs.{IsOutput, client_fault_text, event_line, fault_text, refusal_of, run_output, script_output, sent_line, sent_lines, step_output};
+ghost use Rattle.world.specs.Runs.{after};
+ghost use Rattle.world.specs.Steps.{step_of};
+ghost use Rattle.replay.specs.Outputs.{IsOutput, client_fault_text, event_line, fault_text, refusal_of, script_output, sent_line, sent_lines, step_output};
 ghost use Rattle.replay.specs.Scripts.{IsBadText, IsScript, Script, script_text};
 ghost use Rattle.replay.specs.declared.fault.ReplayFault.TheVariants.{OutOfMemory};
 

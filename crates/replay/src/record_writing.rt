@@ -2,7 +2,7 @@
 ghost use Rattle.std.specs.Prelude.{◌≡◌, ◌≤◌, ◌++◌, ◌∷◌, [], IfOk, OnOk, string_bytes};
 ghost use Rattle.std.specs.List.{All};
 ghost use Rattle.replay.specs.Records.{entries_of};
-ghost use Rattle.replay.specs.RecordTexts.{draw_line, draws_text, pass_line, passes_text, record_text, register_text, title_line};
+ghost use Rattle.replay.specs.RecordTexts.{draw_line, draws_text, pass_line, passes_text, record_text, register_text};
 
 use cluster::RunRecord;
 use std::alloc::{AllocError, Global};

@@ -1,5 +1,5 @@
 //! Why a step would be refused, told beforehand: want of memory is answered only where nothing else refuses.
-ghost use Rattle.std.specs.Prelude.{◌≡◌, ◌<◌, ℕ, List, length, slice_get, is_none};
+ghost use Rattle.std.specs.Prelude.{◌≡◌, ◌<◌, ℕ, List, length, is_none};
 ghost use Rattle.requester.specs.Steps as requesters;
 ghost use Rattle.voter.specs.Steps as polls;
 ghost use Rattle.world.specs.declared.step.Step.TheVariants as steps;
