@@ -1,5 +1,3 @@
-pub mod NodeLemmas
-pub mod VoteLemmas
 pub mod MemberLemmas
 pub mod BlankLemmas
 pub mod CountLemmas

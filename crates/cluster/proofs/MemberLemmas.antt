@@ -27,12 +27,12 @@ use Rattle.board.specs.declared.fault.BoardFault.{BoardFault}
 use Rattle.board.specs.declared.fault.BoardFault.TheVariants.{OutOfMemory, RegisterFull}
 use Rattle.dealer.specs.declared.receipt.Receipt.{Receipt}
 use Rattle.quorum_set.specs.Sets.{IsSet}
-use Rattle.cluster.specs.Mail.{IsMail}
+use Rattle.node.specs.Mail.{IsMail}
 use Rattle.cluster.specs.declared.fault.ClusterFault.{ClusterFault}
 use Rattle.cluster.specs.declared.fault.ClusterFault.TheVariants as refuses
 use Rattle.dealer.specs.Offices.{ClerkState, share_of}
 use Rattle.cluster.specs.Clusters.{ClusterState}
-use Rattle.cluster.specs.Votes.{HoldsWithin, HoldsFewer}
+use Rattle.node.specs.Votes.{HoldsWithin, HoldsFewer}
 use Rattle.cluster.specs.Members.{IsMember, with_receipt}
 
 -- Steps

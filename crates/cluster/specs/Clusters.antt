@@ -1,13 +1,8 @@
 -- Clusters, as contracts see them.
 use Rattle.std.specs.Prelude.{◌≡◌, ℕ, ◌+◌, ◌*◌, ◌^◌, ◌≤◌, [], false, nat_lt, slice_index_or}
 use Rattle.board.specs.Seats.{BoardState, RootState}
-use Rattle.dealer.specs.Offices.{OfficeName, OfficeState, ClerkState}
-
--- its board, its office, and how many tickets each client may draw
-pub record ClusterState : Type 0 where
-  pub board : BoardState
-  pub office : OfficeName
-  pub quota : ℕ
+use Rattle.dealer.specs.Offices.{OfficeState, ClerkState}
+pub use Rattle.node.specs.Names.{ClusterState, no_cluster}
 
 -- the board has the voters and the quorums of the plan by which the office deals, and 1 to 64 clients
 pub record IsCluster (c : ClusterState) : Type 0 where
@@ -42,14 +37,3 @@ pub record IsBlank (c : ClusterState) (quota : ℕ) (root : RootState) (clerk : 
   pub voter_seats : (v : ℕ) → slice_index_or root.voters v false ≡ nat_lt v voters
   pub client_seats : (k : ℕ) → slice_index_or root.clients k false ≡ nat_lt k clients
   pub clerk_is : clerk ≡ record { office = c.office; rest = c.board.clients * c.quota; receipts = [] }
-
--- a cluster of nobody, which stands where no cluster is named yet
-abbrev pub no_cluster : ClusterState
-no_cluster = record {
-  board = record { table = record { words = 0; slots = 0; views_name = 0; atom = 0; block = 0; offset = 0; slot_names = [] }; voters = 0; quorums = []; clients = 0; limit = 0 };
-  office = record {
-    table = record { words = 0; slots = 0; views_name = 0; atom = 0; block = 0; offset = 0; slot_names = [] };
-    cycle = record { system = record { voters = 0; quorums = [] }; quorum_weights = []; voter_weights = [] };
-  };
-  quota = 0;
-}

@@ -1,7 +1,4 @@
 pub mod Clusters
-pub mod Nodes
-pub mod Mail
 pub mod Members
-pub mod Votes
 pub mod Records
 pub mod Closes

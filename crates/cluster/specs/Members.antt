@@ -19,8 +19,8 @@ use Rattle.dealer.specs.Offices.{ClerkState, share_of}
 use Rattle.cluster.specs.declared.fault.ClusterFault.{ClusterFault}
 use Rattle.cluster.specs.declared.fault.ClusterFault.TheVariants as refuses
 use Rattle.cluster.specs.Clusters.{ClusterState}
-use Rattle.cluster.specs.Mail.{IsMail}
-use Rattle.cluster.specs.Votes.{HoldsWithin}
+use Rattle.node.specs.Mail.{IsMail}
+use Rattle.node.specs.Votes.{HoldsWithin}
 
 -- a member: its client, its seat on the board, its clerk, how many messages it lost, and why its work ended early when it was last driven
 pub record MemberState : Type 0 where

@@ -7,13 +7,11 @@ ghost use Rattle.cluster.specs.Clusters.{ClusterState, IsCluster};
 ghost use Rattle.cluster.specs.Members.{AreIdle, fresh_member};
 
 use crate::cluster::{Cluster, Left};
-use crate::mailbox::Mailbox;
 use crate::member::Member;
-use crate::name::ClusterName;
-use crate::node::Node;
 use board::{Board, BoardRoot};
 use certificate::Plan;
 use dealer::{Clerk, Cycle, Office};
+use node::{ClusterName, Mailbox, Node};
 use std::alloc::{AllocError, Global};
 use std::marker::{Model, PhantomData};
 use std::sync::Mutex;

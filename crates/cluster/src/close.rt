@@ -12,11 +12,10 @@ ghost use Rattle.cluster.specs.Records.{IsDraw, IsLoss, IsRecordOf, all_draws, a
 use crate::cluster::{Cluster, Left};
 use crate::fault::ClusterFault;
 use crate::member::Member;
-use crate::name::ClusterName;
-use crate::node::Node;
 use crate::record::RunRecord;
 use board::{Board, BoardFault, BoardRoot};
 use dealer::{Clerk, Office};
+use node::{ClusterName, Node};
 use requester::Phase;
 use std::alloc::{AllocError, Global};
 use std::fmt;

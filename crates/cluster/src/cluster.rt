@@ -3,14 +3,12 @@ ghost use Rattle.std.specs.Prelude.{◌≡◌, ◌<◌, ◌≤◌, IfSome, lengt
 ghost use Rattle.quorum_set.specs.Sets.{IsSet};
 ghost use Rattle.board.specs.Quorums.{quorum_at};
 ghost use Rattle.cluster.specs.Clusters.{ClusterState, IsLeft};
-ghost use Rattle.cluster.specs.Mail.{IsMail};
+ghost use Rattle.node.specs.Mail.{IsMail};
 
-use crate::mailbox::Mailbox;
-use crate::name::ClusterName;
-use crate::node::Node;
 use board::{Board, BoardRoot};
 use dealer::{Clerk, Office};
 use message::{ToClient, ToVoter};
+use node::{ClusterName, Mailbox, Node};
 use quorum_set::QSet;
 use std::marker::{Model, PhantomData};
 use std::sync::{Mutex, Wait};
@@ -74,7 +72,10 @@ impl<N: ClusterName> Cluster<N> {
     /// Puts a message into its client's mailbox. False where it is lost.
     fn post(&self, rt: &impl Wait, message: ToClient) -> bool {
         match self.mailboxes.get(usize::from(message.client)) {
-            Some(mailbox) => mailbox.lock(rt).put(message, self.nodes.len()),
+            Some(mailbox) => match mailbox.lock(rt).put(message, self.nodes.len()) {
+                Ok(put) => put,
+                Err(_) => false,
+            },
             None => false,
         }
     }

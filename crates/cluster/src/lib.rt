@@ -49,7 +49,8 @@
 //! and [`Member::lost`] counts it. Which lock is whose is tested when it is taken, and not proved; that a cluster closes whose
 //! members are all back and idle is tested too.
 //!
-//! This crate stands on `board`, `dealer`, `voter`, `requester`, `message`, `certificate` and `quorum_set`.
+//! This crate stands on `node`, which has the nodes, the mailboxes and how votes are taken and given back, and on `board`,
+//! `dealer`, `voter`, `requester`, `message`, `certificate` and `quorum_set`.
 #![tactic(auto)]
 
 mod blank;
@@ -59,14 +60,10 @@ mod close_tests;
 mod cluster;
 mod fault;
 mod laws;
-mod mailbox;
 mod member;
-mod name;
-mod node;
 mod record;
 #[cfg(test)]
 mod tests;
-mod votes;
 
 pub use blank::Blank;
 pub use close::CloseFault;
@@ -74,6 +71,5 @@ pub use cluster::Cluster;
 pub use fault::ClusterFault;
 pub use laws::{records_are_in_range, records_count_passes};
 pub use member::Member;
-pub use name::ClusterName;
-pub use node::Node;
+pub use node::{ClusterName, Node};
 pub use record::RunRecord;

@@ -10,16 +10,15 @@ ghost use Rattle.requester.specs.Steps.{Outcome, give_up, leave};
 ghost use Rattle.requester.specs.Words.{is_asking, is_idle, is_inside, is_spent};
 ghost use Rattle.cluster.specs.Clusters.{ClusterState};
 ghost use Rattle.cluster.specs.Members.{MemberState, MayAsk, Asked, Pumped, RefusesStart, RefusesAsk, RefusesPass, fresh_member, with_receipt, with_pass};
-ghost use Rattle.cluster.specs.Votes.{HoldsFewer, HoldsWithin};
+ghost use Rattle.node.specs.Votes.{HoldsFewer, HoldsWithin};
 
 use crate::cluster::Cluster;
 use crate::fault::ClusterFault;
-use crate::name::ClusterName;
-use crate::votes::{accept, give_back};
 use arrayvec::ArrayVec;
 use board::ClientSeat;
 use dealer::{Clerk, Receipt};
 use message::ToVoter;
+use node::{ClusterName, accept, give_back};
 use requester::{ClientFault, Messages, Phase, Requester, Seen};
 use std::marker::{Model, PhantomData};
 use std::sync::Wait;

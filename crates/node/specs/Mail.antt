@@ -1,5 +1,5 @@
--- Messages to a client.
-use Rattle.std.specs.Prelude.{◌≡◌, ℕ, ◌^◌, ◌<◌, Bool, true, ◌&&◌, nat_le}
+-- Messages to a client, and the mailbox where they wait.
+use Rattle.std.specs.Prelude.{◌≡◌, ℕ, ◌^◌, ◌<◌, ◌++◌, ◌∷◌, [], Bool, true, ◌&&◌, List, nat_le}
 use Rattle.message.specs.declared.message.ToClient.{ToClient}
 use Rattle.message.specs.declared.message.ClientBody.{ClientBody}
 use Rattle.message.specs.declared.message.ClientBody.TheVariants as tells
@@ -16,3 +16,12 @@ pub record IsMail (board : BoardState) (client : ℕ) (m : ToClient) : Type 0 wh
   pub client_is : m.client ≡ client
   pub voter : m.voter < board.voters
   pub grant : has_grant m.body ≡ true
+
+-- a mailbox: its client, and the messages that wait, the first one first
+pub record MailboxState : Type 0 where
+  pub client : ℕ
+  pub messages : List ToClient
+
+-- the message stands behind the others
+abbrev pub with_message : MailboxState → ToClient → MailboxState
+with_message b m = record b { messages = b.messages ++ m ∷ [] }

@@ -5,13 +5,13 @@ use std::marker::Brand;
 /// and what a thread is lent bear it as a type parameter, so that they belong to one cluster. Code that works on a
 /// cluster is generic in its name.
 pub trait ClusterName {
-    ghost use Rattle.cluster.specs.Clusters.{ClusterState};
+    ghost use Rattle.node.specs.Names.{ClusterState};
 
     ghost cluster: { ClusterState };
 }
 
 impl ClusterName for Brand {
-    ghost use Rattle.cluster.specs.Clusters.{no_cluster};
+    ghost use Rattle.node.specs.Names.{no_cluster};
 
     ghost cluster = { no_cluster };
 }

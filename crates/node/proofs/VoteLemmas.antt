@@ -13,7 +13,7 @@ use Rattle.requester.specs.declared.state.ClientState.{ClientState}
 use Rattle.requester.specs.Held.{HoldsBesides}
 use Rattle.requester.specs.Steps.{would_hold, would_hold_body, is_fresh}
 use Rattle.requester.specs.Words.{holds, is_member, is_current, last_of}
-use Rattle.cluster.specs.Votes.{HoldsWithin, HoldsFewer, HoldsLocked}
+use Rattle.node.specs.Votes.{HoldsWithin, HoldsFewer, HoldsLocked}
 
 -- the seat's votes, once those of the first voters were compared with the client's
 pub record Compared (voters count : ℕ) (held seat : List ℕ) : Type 0 where

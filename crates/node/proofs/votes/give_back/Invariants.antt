@@ -1,6 +1,6 @@
-use Rattle.std.proofs.Common.{◌≡◌}
-use Rattle.cluster.proofs.VoteLemmas.{Compared}
-use Rattle.cluster.proofs.votes.give_back.Given as goal
+use Rattle.std.proofs.Common.{◌≡◌, ◌⊎◌, None}
+use Rattle.node.proofs.VoteLemmas.{Compared}
+use Rattle.node.proofs.votes.give_back.Given as goal
 
 abbrev pub invariant-loop-voter : goal.invariant-loop-voter
 invariant-loop-voter l = record {
@@ -8,4 +8,6 @@ invariant-loop-voter l = record {
   table : l.seat.table ≡ l.initial.seat.table;
   client : l.seat.client ≡ l.initial.seat.client;
   passes : l.seat.passes ≡ l.initial.seat.passes;
+  idle : l.initial.seat.held ≡ l.requester.held → l.seat ≡ l.initial.seat;
+  reading : (l.seat ≡ l.initial.seat) ⊎ (l.seat.reading ≡ None);
 }

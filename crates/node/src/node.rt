@@ -2,8 +2,8 @@
 ghost use Rattle.std.specs.Prelude.{◌≡◌, ◌⊎◌, ◌<◌, ◌≤◌, ◌^◌, ◌++◌, ◌∷◌, [], true, false, None, Some, IfOk, IfErr, IfSome, MatchBool, MatchOption, IsSome};
 ghost use Rattle.voter.specs.Steps.{effect_of, remind, start, step};
 ghost use Rattle.board.specs.Seats.{BoardState};
-ghost use Rattle.cluster.specs.Clusters.{ClusterState};
-ghost use Rattle.cluster.specs.Nodes.{NodeState, IsFor, settled, offered};
+ghost use Rattle.node.specs.Names.{ClusterState};
+ghost use Rattle.node.specs.Nodes.{NodeState, IsFor, offered, seat_grant, settled};
 
 use crate::name::ClusterName;
 use board::{Board, VoterSeat};
@@ -29,8 +29,8 @@ pub struct Node<N: ClusterName> {
 }
 
 impl<N: ClusterName> Model for Node<N> {
-    ghost use Rattle.cluster.specs.Clusters.{ClusterState};
-    ghost use Rattle.cluster.specs.Nodes.{NodeState, IsNode};
+    ghost use Rattle.node.specs.Names.{ClusterState};
+    ghost use Rattle.node.specs.Nodes.{NodeState, IsNode};
     ghost use Rattle.std.specs.Coded.{codes};
     ghost use Rattle.voter.specs.contracts.state.VoterState as known;
 
@@ -68,8 +68,9 @@ fn offer(seat: &mut VoterSeat, board: &Board, held: Option<Grant>)
 }
 
 impl<N: ClusterName> Node<N> {
-    /// The node of a fresh voter.
-    pub(crate) fn new(alloc: Global, seat: VoterSeat) -> Node<N>
+    /// The node of a fresh voter, which may give 2^40 grants, of a cluster with at most 64 clients. The seat is of the
+    /// cluster's board, has no current grant, and never had one.
+    pub fn new(alloc: Global, seat: VoterSeat) -> Node<N>
         requires table { seat.table ≡ N.cluster.board.table }
         requires voter { (seat.voter < N.cluster.board.voters) × (seat.voter < 64) }
         requires fresh { (seat.current ≡ None) × (seat.last ≡ 0) }
@@ -121,11 +122,14 @@ impl<N: ClusterName> Node<N> {
         Ok(Some(replies))
     }
 
-    /// Its seat on the board, with the current grant settled where its vote is not taken.
-    pub(crate) fn into_seat(self, board: &Board) -> VoterSeat
+    /// Its seat on the board. The current grant is settled where its vote is not taken; where it is taken the seat keeps it.
+    pub fn into_seat(self, board: &Board) -> VoterSeat
         requires { board.now ≡ N.cluster.board }
         ensures table { result.table ≡ N.cluster.board.table }
-        ensures voter { result.voter < N.cluster.board.voters }
+        ensures voter { result.voter ≡ self.number }
+        ensures in_range { result.voter < N.cluster.board.voters }
+        ensures last { result.last ≡ self.voter.granted }
+        ensures current { (result.current ≡ None) ⊎ (result.current ≡ seat_grant self.voter.held) }
     {
         let Node {
             voter: _,

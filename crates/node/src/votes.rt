@@ -1,11 +1,11 @@
 //! The votes of a member, on the board.
-ghost use Rattle.std.specs.Prelude.{◌≡◌, ◌≢◌, ◌⊎◌, ℕ, ◌<◌, true, false, length, slice_index};
+ghost use Rattle.std.specs.Prelude.{◌≡◌, ◌≢◌, ◌⊎◌, ℕ, ◌<◌, true, false, None, length, slice_index};
 ghost use Rattle.board.specs.Seats.{BoardState, ClientSeatState};
 ghost use Rattle.requester.specs.Soundness.{IsSound};
 ghost use Rattle.requester.specs.Steps.{take, would_hold};
 ghost use Rattle.requester.specs.Words.{held_of};
-ghost use Rattle.cluster.specs.Mail.{IsMail, has_grant};
-ghost use Rattle.cluster.specs.Votes.{HoldsWithin, HoldsLocked, HoldsFewer};
+ghost use Rattle.node.specs.Mail.{IsMail, has_grant};
+ghost use Rattle.node.specs.Votes.{HoldsWithin, HoldsLocked, HoldsFewer};
 
 use board::{Board, ClientSeat};
 use message::{ClientBody, ToClient};
@@ -20,6 +20,8 @@ fn drop_vote(seat: &mut ClientSeat, board: &Board, voter: u8)
     ensures others { (v : ℕ) → v ≢ voter → slice_index seat.new.held v ≡ slice_index seat.old.held v }
     ensures len { length seat.new.held ≡ length seat.old.held }
     ensures same { (seat.new.table ≡ seat.old.table) × (seat.new.client ≡ seat.old.client) × (seat.new.passes ≡ seat.old.passes) }
+    ensures idle { slice_index seat.old.held voter ≡ 0 → seat.new ≡ seat.old }
+    ensures reading { (seat.new ≡ seat.old) ⊎ (seat.new.reading ≡ None) }
 {
     if seat.held(voter).is_some() {
         seat.give_back(board, voter);
@@ -36,6 +38,8 @@ fn keep_vote(seat: &mut ClientSeat, board: &Board, requester: &Requester, voter:
     ensures others { (v : ℕ) → v ≢ voter → slice_index seat.new.held v ≡ slice_index seat.old.held v }
     ensures len { length seat.new.held ≡ length seat.old.held }
     ensures same { (seat.new.table ≡ seat.old.table) × (seat.new.client ≡ seat.old.client) × (seat.new.passes ≡ seat.old.passes) }
+    ensures idle { slice_index seat.old.held voter ≡ slice_index requester.now.held voter → seat.new ≡ seat.old }
+    ensures reading { (seat.new ≡ seat.old) ⊎ (seat.new.reading ≡ None) }
 {
     match requester.held(voter) {
         Some(_) => {}
@@ -43,8 +47,9 @@ fn keep_vote(seat: &mut ClientSeat, board: &Board, requester: &Requester, voter:
     }
 }
 
-/// Gives back the votes that the seat holds and the client holds no longer.
-pub(crate) fn give_back(seat: &mut ClientSeat, board: &Board, requester: &Requester)
+/// Gives back the votes that the seat holds and the client holds no longer: afterwards both hold the same. What the seat read
+/// of the register counts no longer, where a vote is given back; else nothing changes. The seat is of this board.
+pub fn give_back(seat: &mut ClientSeat, board: &Board, requester: &Requester)
     requires table { seat.old.table ≡ board.now.table }
     requires places { (length seat.old.held ≡ 64) × (length requester.now.held ≡ 64) }
     requires within { HoldsWithin board.now.voters seat.old.held }
@@ -52,6 +57,8 @@ pub(crate) fn give_back(seat: &mut ClientSeat, board: &Board, requester: &Reques
     ensures held { seat.new.held ≡ requester.now.held }
     ensures within { HoldsWithin board.now.voters seat.new.held }
     ensures same { (seat.new.table ≡ seat.old.table) × (seat.new.client ≡ seat.old.client) × (seat.new.passes ≡ seat.old.passes) }
+    ensures idle { seat.old.held ≡ requester.now.held → seat.new ≡ seat.old }
+    ensures reading { (seat.new ≡ seat.old) ⊎ (seat.new.reading ≡ None) }
 {
     for voter in 0..64u8 {
         keep_vote(seat, board, requester, voter);
@@ -74,9 +81,11 @@ fn hold(seat: &mut ClientSeat, board: &Board, message: &ToClient) -> bool
     }
 }
 
-/// Takes the vote that a message brings on the board, where the client would hold it. False where it can't be taken, and
-/// then nothing changed. Else the seat holds at least the votes that the client will hold.
-pub(crate) fn accept(
+/// Takes the vote that a message to the client brings on the board, where the client would hold it. False where it can't be
+/// taken, as the board has it no longer offered to this client, and then nothing changed. Else the seat holds at least the
+/// votes that the client will hold. A message by which the client would hold no vote changes nothing. The seat is of this
+/// board, and holds the client's votes.
+pub fn accept(
     seat: &mut ClientSeat,
     board: &Board,
     requester: &Requester,
@@ -92,6 +101,8 @@ pub(crate) fn accept(
     ensures within { HoldsWithin board.now.voters seat.new.held }
     ensures len { length seat.new.held ≡ length seat.old.held }
     ensures same { seat.new ≡ record seat.old { held = seat.new.held } }
+    ensures taken { result ≡ true → would_hold requester.now message.now ≡ true → HoldsLocked seat.old.held message.now.voter message.now.body seat.new.held }
+    ensures else_same { would_hold requester.now message.now ≡ false → seat.new ≡ seat.old }
     ensures lost { result ≡ false → (seat.new ≡ seat.old) × (would_hold requester.now message.now ≡ true) }
 {
     messages_move_votes();

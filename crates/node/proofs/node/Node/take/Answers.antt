@@ -3,9 +3,9 @@ use Rattle.message.specs.declared.message.ToVoter.{ToVoter}
 use Rattle.voter.specs.declared.state.Effect.{Effect}
 use Rattle.voter.specs.Steps.{Outcome, effect_of}
 use Rattle.board.specs.Seats.{BoardState, VoterSeatState as SeatState}
-use Rattle.cluster.specs.Nodes.{NodeState, IsFor, IsNode, offered, settled}
-use Rattle.cluster.proofs.NodeLemmas.{Took, frees_held, not_refused, may_offer, stays_node}
-use Rattle.cluster.proofs.node.Node.take.Goals as goal
+use Rattle.node.specs.Nodes.{NodeState, IsFor, IsNode, offered, settled}
+use Rattle.node.proofs.NodeLemmas.{Took, frees_held, not_refused, may_offer, stays_node}
+use Rattle.node.proofs.node.Node.take.Goals as goal
 
 pub settle-requires-clause-current : goal.settle-requires-clause-current
 settle-requires-clause-current g c = λ e.

@@ -13,7 +13,7 @@ use Rattle.voter.specs.Steps.{Outcome, IsSound, start, step, effect_of, effect_b
 use Rattle.voter.specs.VoteMoves.{VoteMoves}
 use Rattle.voter.specs.VoterContract.{MeetsContract, IsEntry, Brings}
 use Rattle.board.specs.Seats.{BoardState, VoterSeatState as SeatState}
-use Rattle.cluster.specs.Nodes.{IsNode, IsFor, run, next, seat_grant, settled, offered, offered_by}
+use Rattle.node.specs.Nodes.{IsNode, IsFor, run, next, seat_grant, settled, offered, offered_by}
 
 run-push : (v : Option VoterState) (log : List ToVoter) (m : ToVoter) → run v (log ++ m ∷ []) ≡ next (run v log) m
 run-push v [] m = refl
