@@ -178,10 +178,7 @@ fn join_members<N: ClusterName>(
     ensures lost { IfErr result (IsLoss N.cluster) }
 {
     for member in members {
-        match join_member(board, office, root, clerk, member) {
-            Ok(()) => {}
-            Err(fault) => return Err(fault),
-        }
+        join_member(board, office, root, clerk, member)?;
     }
     Ok(())
 }
@@ -276,18 +273,9 @@ impl<N: ClusterName> Cluster<N> {
             mut clerk,
             of: _,
         } = left.into_inner();
-        match join_members(&board, &office, &mut root, &mut clerk, members) {
-            Ok(()) => {}
-            Err(fault) => return Err(fault),
-        }
-        match join_nodes(&board, &mut root, nodes) {
-            Ok(()) => {}
-            Err(fault) => return Err(fault),
-        }
-        match close_office(alloc, office, clerk) {
-            Ok(()) => {}
-            Err(fault) => return Err(fault),
-        }
+        join_members(&board, &office, &mut root, &mut clerk, members)?;
+        join_nodes(&board, &mut root, nodes)?;
+        close_office(alloc, office, clerk)?;
         let Ok(total) = board.close(root) else {
             unreachable!()
         };

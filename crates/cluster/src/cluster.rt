@@ -57,10 +57,7 @@ impl<N: ClusterName> Cluster<N> {
         if node.number() != message.voter {
             return None;
         }
-        match node.take(&self.board, message) {
-            Ok(replies) => replies,
-            Err(_) => None,
-        }
+        node.take(&self.board, message).unwrap_or(None)
     }
 
     /// What a voter's node reminds of.
@@ -71,13 +68,10 @@ impl<N: ClusterName> Cluster<N> {
 
     /// Puts a message into its client's mailbox. False where it is lost.
     fn post(&self, rt: &impl Wait, message: ToClient) -> bool {
-        match self.mailboxes.get(usize::from(message.client)) {
-            Some(mailbox) => match mailbox.lock(rt).put(message, self.nodes.len()) {
-                Ok(put) => put,
-                Err(_) => false,
-            },
-            None => false,
-        }
+        let Some(mailbox) = self.mailboxes.get(usize::from(message.client)) else {
+            return false;
+        };
+        mailbox.lock(rt).put(message, self.nodes.len()) == Ok(true)
     }
 
     /// Puts each of these messages into its client's mailbox, in order, and answers how many are lost. No messages at all
@@ -131,9 +125,7 @@ impl<N: ClusterName> Cluster<N> {
     pub(crate) fn next(&self, rt: &impl Wait, client: u8) -> Option<ToClient>
         ensures { IfSome result (IsMail N.cluster.board client) }
     {
-        match self.mailboxes.get(usize::from(client)) {
-            Some(mailbox) => mailbox.lock(rt).take(client),
-            None => None,
-        }
+        let mailbox = self.mailboxes.get(usize::from(client))?;
+        mailbox.lock(rt).take(client)
     }
 }

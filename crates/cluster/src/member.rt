@@ -17,7 +17,6 @@ use crate::fault::ClusterFault;
 use arrayvec::ArrayVec;
 use board::ClientSeat;
 use dealer::{Clerk, Receipt};
-use message::ToVoter;
 use node::{ClusterName, accept, give_back};
 use requester::{ClientFault, Messages, Phase, Requester, Seen};
 use std::marker::{Model, PhantomData};
@@ -72,16 +71,15 @@ fn may_ask(requester: &Requester) -> Result<(), ClientFault>
     Ok(())
 }
 
-/// Ends a step of a client: gives back the votes that it holds no longer, and then sends what it tells the voters. Adds the
-/// messages that are lost.
+/// Ends a step of a client: gives back the votes that it holds no longer, and then sends what it tells the voters. Answers
+/// how many messages are lost.
 fn finish<N: ClusterName>(
     rt: &impl Wait,
     cluster: &Cluster<N>,
     requester: &Requester,
-    out: &[ToVoter],
+    out: &Messages,
     seat: &mut ClientSeat,
-    lost: &mut u64,
-)
+) -> u64
     requires table { seat.old.table ≡ N.cluster.board.table }
     requires places { (length seat.old.held ≡ 64) × (length requester.now.held ≡ 64) }
     requires within { HoldsWithin N.cluster.board.voters seat.old.held }
@@ -91,8 +89,7 @@ fn finish<N: ClusterName>(
     ensures same { (seat.new.table ≡ seat.old.table) × (seat.new.client ≡ seat.old.client) × (seat.new.passes ≡ seat.old.passes) }
 {
     give_back(seat, &cluster.board, requester);
-    let more = cluster.send(rt, out);
-    *lost = lost.saturating_add(more);
+    cluster.send(rt, out.as_slice())
 }
 
 impl<N: ClusterName> Member<N> {
@@ -220,14 +217,8 @@ impl<N: ClusterName> Member<N> {
             return Some(Seen::Nothing);
         }
         let seen = self.requester.take_into(&message, &mut self.out);
-        finish(
-            rt,
-            cluster,
-            &self.requester,
-            self.out.as_slice(),
-            &mut self.seat,
-            &mut self.lost,
-        );
+        let lost = finish(rt, cluster, &self.requester, &self.out, &mut self.seat);
+        self.lost = self.lost.saturating_add(lost);
         Some(seen)
     }
 
@@ -247,14 +238,8 @@ impl<N: ClusterName> Member<N> {
         let Ok(_) = self.requester.leave_into(&mut self.out) else {
             return Err(ClusterFault::NotInside);
         };
-        finish(
-            rt,
-            cluster,
-            &self.requester,
-            self.out.as_slice(),
-            &mut self.seat,
-            &mut self.lost,
-        );
+        let lost = finish(rt, cluster, &self.requester, &self.out, &mut self.seat);
+        self.lost = self.lost.saturating_add(lost);
         Ok(())
     }
 
@@ -274,14 +259,8 @@ impl<N: ClusterName> Member<N> {
         let Ok(_) = self.requester.give_up_into(&mut self.out) else {
             return Err(ClusterFault::Client(ClientFault::NotAsking));
         };
-        finish(
-            rt,
-            cluster,
-            &self.requester,
-            self.out.as_slice(),
-            &mut self.seat,
-            &mut self.lost,
-        );
+        let lost = finish(rt, cluster, &self.requester, &self.out, &mut self.seat);
+        self.lost = self.lost.saturating_add(lost);
         Ok(())
     }
 

@@ -8,7 +8,7 @@ pub loop-member-preserved : goal.loop-member-preserved
 loop-member-preserved g c =
     let at = c.loop-member in
     let m = c.in-Some.member in
-    let joined = c.in-Ok.ensures in
+    let joined = c.in_ok-join_member.ensures in
     let long = length_push at.yielded m in
     record {
       table = c.join_member.ensures.table ∙ at.invariant.table;

@@ -9,17 +9,17 @@ pub returns-in_default-clause-refused : goal.returns-in_default-clause-refused
 returns-in_default-clause-refused g c =
     (refl, subst (λ (m : MemberState). is_asking m.requester.phase ≡ false) c.self.view_is (not_given_up c.self.inside.requester _ c.in_default.ensures.refused.0))
 
-pub finish-requires-clause-places : goal.finish-requires-clause-places
-finish-requires-clause-places g c =
+pub finish-lost-requires-clause-places : goal.finish-lost-requires-clause-places
+finish-lost-requires-clause-places g c =
     both_places _ _ _ _ _ c.self.invariant _ (ended_by_giving_up _ _ c.self.invariant.sound c.in-Ok.ensures.given_up).sound
 
-pub finish-requires-clause-fewer : goal.finish-requires-clause-fewer
-finish-requires-clause-fewer g c = holds_fewer c.give_up_into.new.self _ (ended_by_giving_up _ _ c.self.invariant.sound c.in-Ok.ensures.given_up).nothing
+pub finish-lost-requires-clause-fewer : goal.finish-lost-requires-clause-fewer
+finish-lost-requires-clause-fewer g c = holds_fewer c.give_up_into.new.self _ (ended_by_giving_up _ _ c.self.invariant.sound c.in-Ok.ensures.given_up).nothing
 
 pub invariant_of-self-2 : goal.invariant_of-self-2
 invariant_of-self-2 g c =
-    let same = c.finish.ensures.same in
-    ended_member _ _ _ _ _ c.self.invariant _ (ended_by_giving_up _ _ c.self.invariant.sound c.in-Ok.ensures.given_up) c.finish.new.seat same.0 same.1 c.finish.ensures.held c.finish.ensures.within
+    let same = c.finish-lost.ensures.same in
+    ended_member _ _ _ _ _ c.self.invariant _ (ended_by_giving_up _ _ c.self.invariant.sound c.in-Ok.ensures.given_up) c.finish-lost.new.seat same.0 same.1 c.finish-lost.ensures.held c.finish-lost.ensures.within
 
 pub returns-clause-given_up : goal.returns-clause-given_up
 returns-clause-given_up g c =

@@ -7,8 +7,8 @@ use Rattle.cluster.specs.Members.{MemberState}
 use Rattle.cluster.proofs.MemberLemmas.{both_places, seen_is, took, took_member}
 use Rattle.cluster.proofs.member.Member.pump.Goals as goal
 
-pub finish-requires-clause-places : goal.finish-requires-clause-places
-finish-requires-clause-places g c =
+pub finish-lost-requires-clause-places : goal.finish-lost-requires-clause-places
+finish-lost-requires-clause-places g c =
     let t = took _ _ _ _ _ c.self.invariant.sound c.in_ok-message.ensures c.id.ensures.value c.cluster.invariant.cluster.few_voters c.take_into-seen.ensures.taken in
     let both = both_places _ _ _ _ _ c.self.invariant _ t.sound in
     (c.if-not-accept.ensures.len ∙ both.0, both.1)
@@ -16,10 +16,10 @@ finish-requires-clause-places g c =
 pub invariant_of-self-2 : goal.invariant_of-self-2
 invariant_of-self-2 g c =
     let t = took _ _ _ _ _ c.self.invariant.sound c.in_ok-message.ensures c.id.ensures.value c.cluster.invariant.cluster.few_voters c.take_into-seen.ensures.taken in
-    let same = c.finish.ensures.same in
+    let same = c.finish-lost.ensures.same in
     let kept = c.if-not-accept.ensures.same in
-    took_member _ _ _ _ _ c.self.invariant _ _ t c.finish.new.seat
-    (same.0 ∙ ap (λ (s : SeatState). s.table) kept) (same.1 ∙ ap (λ (s : SeatState). s.client) kept) c.finish.ensures.held c.finish.ensures.within
+    took_member _ _ _ _ _ c.self.invariant _ _ t c.finish-lost.new.seat
+    (same.0 ∙ ap (λ (s : SeatState). s.table) kept) (same.1 ∙ ap (λ (s : SeatState). s.client) kept) c.finish-lost.ensures.held c.finish-lost.ensures.within
 
 pub returns-clause-entered : goal.returns-clause-entered
 returns-clause-entered g c = λ e.
