@@ -6,12 +6,14 @@ use Rattle.std.proofs.lemmas.List.{append-nil, append_assoc, length-append}
 use Rattle.requester.specs.Words.{is_idle, is_inside}
 use Rattle.board.specs.declared.fault.BoardFault.TheVariants.{SeatsOut, VoteOut, RegisterFull, OutOfMemory}
 use Rattle.board.specs.Seats.{ClientSeatState as SeatState}
+use Rattle.requester.specs.declared.fault.ClientFault.TheVariants.{Busy, NotInside as Outside, NotAsking, StampsSpent}
+use Rattle.dealer.specs.declared.fault.DealFault.TheVariants.{QuotaSpent, OutOfMemory as NoRoom}
 use Rattle.dealer.specs.declared.receipt.Receipt.{Receipt}
 use Rattle.dealer.specs.Offices.{ClerkState}
 use Rattle.cluster.specs.declared.fault.ClusterFault.{ClusterFault}
 use Rattle.cluster.specs.declared.fault.ClusterFault.TheVariants as ends
 use Rattle.cluster.specs.Members.{AreIdle, MemberState, RefusesPass, with_receipt}
-use Rattle.runs.specs.Drives.{EndsWork, HasMore, HasServed, IsBack, IsBackBy, KeepsWork, Stops, Worked}
+use Rattle.runs.specs.Drives.{EndsWork, HasMore, HasServed, IsBack, IsBackBy, KeepsWork, Stops, Worked, wasted}
 
 -- More of a list
 
@@ -21,23 +23,24 @@ more_and_more m n xs ys zs a b = (a.0 ++ b.0, b.1 ∙ ap (λ l. l ++ b.0) a.1 �
 -- One pass
 
 -- a ticket was drawn, and then nothing
-pub drew : (a b c : MemberState) (r : Receipt) → b.requester.id ≡ a.requester.id → b.clerk ≡ with_receipt a.clerk r → b.seat ≡ a.seat → KeepsWork b c → Worked 1 0 a c
-drew a b c r client clerk seat k = record {
+pub drew : (a b c : MemberState) (r : Receipt) → 0 < a.clerk.rest → b.requester.id ≡ a.requester.id → b.clerk ≡ with_receipt a.clerk r → b.seat ≡ a.seat → KeepsWork b c → Worked 1 0 a c
+drew a b c r some client clerk seat k = record {
   client = k.client ∙ client;
   receipts = (r ∷ [], ap (λ (x : ClerkState). x.receipts) (k.clerk ∙ clerk), refl);
+  rest = omega (arith, some, ap (λ (x : ClerkState). x.rest) (k.clerk ∙ clerk));
   passes = ([], k.passes ∙ ap (λ (s : SeatState). s.passes) seat ∙ sym (append-nil a.seat.passes), refl);
 }
 
--- who is inside is refused a pass only by what ends its work
-pub refused_pass : (m : MemberState) (fault : ClusterFault) (client : ℕ) → is_inside m.requester.phase ≡ true → RefusesPass m fault → EndsWork client fault
-refused_pass m (ends.Board RegisterFull) client inside r = tt
-refused_pass m (ends.Board OutOfMemory) client inside r = tt
-refused_pass m (ends.Board (SeatsOut k)) client inside r = r
-refused_pass m (ends.Board (VoteOut v)) client inside r = r
-refused_pass m (ends.Client e) client inside r = absurd r
-refused_pass m (ends.Deal e) client inside r = absurd r
-refused_pass m ends.NotInside client inside r = absurd (true≢false (sym inside ∙ r))
-refused_pass m (ends.TurnsSpent c) client inside r = absurd r
+-- who drew and is inside is refused a pass only by what ends its work
+pub refused_pass : (a b c : MemberState) (fault : ClusterFault) → 0 < a.clerk.rest → Worked 1 0 a c → is_inside b.requester.phase ≡ true → RefusesPass b fault → Stops a c fault
+refused_pass a b c (ends.Board RegisterFull) some w inside r = (w, some)
+refused_pass a b c (ends.Board OutOfMemory) some w inside r = (w, some)
+refused_pass a b c (ends.Board (SeatsOut k)) some w inside r = absurd r
+refused_pass a b c (ends.Board (VoteOut v)) some w inside r = absurd r
+refused_pass a b c (ends.Client e) some w inside r = absurd r
+refused_pass a b c (ends.Deal e) some w inside r = absurd r
+refused_pass a b c ends.NotInside some w inside r = absurd (true≢false (sym inside ∙ r))
+refused_pass a b c (ends.TurnsSpent k) some w inside r = absurd r
 
 -- All passes
 
@@ -45,32 +48,46 @@ then : (m n k l : ℕ) (a b c : MemberState) → Worked m n a b → Worked k l b
 then m n k l a b c first second = record {
   client = second.client ∙ first.client;
   receipts = more_and_more m k a.clerk.receipts b.clerk.receipts c.clerk.receipts first.receipts second.receipts;
+  rest = omega (arith, first.rest, second.rest);
   passes = more_and_more n l a.seat.passes b.seat.passes c.seat.passes first.passes second.passes;
 }
+
+-- what ends the work after so many passes more
+later_ends : (client tickets rest passed : ℕ) (fault : ClusterFault) → rest + passed ≡ tickets → EndsWork client rest 0 fault → EndsWork client tickets passed fault
+later_ends client tickets rest passed (ends.Client Busy) more h = h
+later_ends client tickets rest passed (ends.Client StampsSpent) more h = h
+later_ends client tickets rest passed (ends.Client Outside) more h = h
+later_ends client tickets rest passed (ends.Client NotAsking) more h = h
+later_ends client tickets rest passed (ends.Deal QuotaSpent) more h = omega (arith, more, h)
+later_ends client tickets rest passed (ends.Deal NoRoom) more h = omega (arith, more, h)
+later_ends client tickets rest passed (ends.Board RegisterFull) more h = omega (arith, more, h)
+later_ends client tickets rest passed (ends.Board OutOfMemory) more h = omega (arith, more, h)
+later_ends client tickets rest passed (ends.Board (SeatsOut k)) more h = h
+later_ends client tickets rest passed (ends.Board (VoteOut v)) more h = h
+later_ends client tickets rest passed ends.NotInside more h = h
+later_ends client tickets rest passed (ends.TurnsSpent k) more h = (h.0, omega (arith, more, h.1))
 
 -- a pass that was not made
 pub ended : (passes n : ℕ) (a b c d e : MemberState) (fault : ClusterFault) → HasServed n a b → n < passes → Stops b c fault → KeepsWork c d → is_idle d.requester.phase ≡ true → e ≡ record d { fault = Some fault } → IsBack passes a e
 ended passes n a b c d e fault r less stops kept idle told =
     subst (IsBack passes a) (sym told) (record {
-      drawn = n + stops.0.0;
       passed = n;
+      fewer = less;
       worked = worked;
-      fewer = omega (arith, less);
-      tickets = omega arith;
-      one_besides = omega (arith, stops.0.1);
       idle = idle;
-      ends = subst (λ k. EndsWork k fault) (sym (kept.client ∙ stops.0.2.client)) stops.1;
+      ends = subst (λ k. EndsWork k a.clerk.rest n fault) (sym (kept.client ∙ stops.0.client)) (later_ends b.requester.id a.clerk.rest b.clerk.rest n fault r.worked.rest stops.1);
     })
   where
-    last : Worked stops.0.0 0 b (record d { fault = Some fault })
+    last : Worked (wasted fault) 0 b (record d { fault = Some fault })
     last = record {
-      client = kept.client ∙ stops.0.2.client;
-      receipts = subst (λ (x : ClerkState). HasMore stops.0.0 b.clerk.receipts x.receipts) (sym kept.clerk) stops.0.2.receipts;
-      passes = subst (λ l. HasMore 0 b.seat.passes l) (sym kept.passes) stops.0.2.passes;
+      client = kept.client ∙ stops.0.client;
+      receipts = subst (λ (x : ClerkState). HasMore (wasted fault) b.clerk.receipts x.receipts) (sym kept.clerk) stops.0.receipts;
+      rest = subst (λ (x : ClerkState). x.rest + wasted fault ≡ b.clerk.rest) (sym kept.clerk) stops.0.rest;
+      passes = subst (λ l. HasMore 0 b.seat.passes l) (sym kept.passes) stops.0.passes;
     }
 
-    worked : Worked (n + stops.0.0) n a (record d { fault = Some fault })
-    worked = subst (λ k. Worked (n + stops.0.0) k a (record d { fault = Some fault })) (add-zero n) (then n n stops.0.0 0 a b (record d { fault = Some fault }) r.worked last)
+    worked : Worked (n + wasted fault) n a (record d { fault = Some fault })
+    worked = subst (λ k. Worked (n + wasted fault) k a (record d { fault = Some fault })) (add-zero n) (then n n (wasted fault) 0 a b (record d { fault = Some fault }) r.worked last)
 
 -- All members
 

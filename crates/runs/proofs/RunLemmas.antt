@@ -26,6 +26,7 @@ use Rattle.runs.specs.Runs.{EndsRun, IsRun, run_refusal}
 record IsFresh (c : ClusterState) (m : MemberState) : Type 0 where
   pub client : m.requester.id < c.board.clients
   pub receipts : m.clerk.receipts ≡ []
+  pub rest : m.clerk.rest ≡ c.quota
   pub passes : m.seat.passes ≡ []
 
 -- Lists
@@ -51,6 +52,7 @@ are_fresh : (c : ClusterState) (members : List MemberState) → members ≡ map 
 are_fresh c members e = subst (All (IsFresh c)) (sym e) (All-map (IsFresh c) (fresh_member c) (range_with_len 0 c.board.clients) (λ k d lt. record {
   client = below c.board.clients k d lt;
   receipts = refl;
+  rest = refl;
   passes = refl;
 }))
   where
@@ -87,26 +89,27 @@ all_ready c passes missing before after e served idle some out =
 
 -- Why a run ends
 
-ends_by : (client clients : ℕ) (fault : ClusterFault) → client < clients → EndsWork client fault → EndsRun clients (run_refusal fault)
-ends_by id clients (ends.Client client.StampsSpent) less h = tt
-ends_by id clients (ends.Client client.Busy) less h = absurd h
-ends_by id clients (ends.Client client.NotInside) less h = absurd h
-ends_by id clients (ends.Client client.NotAsking) less h = absurd h
-ends_by id clients (ends.Deal deal.QuotaSpent) less h = tt
-ends_by id clients (ends.Deal deal.OutOfMemory) less h = tt
-ends_by id clients (ends.Board board.RegisterFull) less h = tt
-ends_by id clients (ends.Board board.OutOfMemory) less h = tt
-ends_by id clients (ends.Board (board.SeatsOut k)) less h = absurd h
-ends_by id clients (ends.Board (board.VoteOut v)) less h = absurd h
-ends_by id clients ends.NotInside less h = absurd h
-ends_by id clients (ends.TurnsSpent c) less h = omega (arith, less, h)
+-- a client with a ticket for each pass
+ends_by : (client clients tickets passed passes : ℕ) (fault : ClusterFault) → client < clients → passed < passes → passes ≤ tickets → EndsWork client tickets passed fault → EndsRun clients (run_refusal fault)
+ends_by id clients tickets passed passes (ends.Client client.StampsSpent) less fewer quota h = tt
+ends_by id clients tickets passed passes (ends.Client client.Busy) less fewer quota h = absurd h
+ends_by id clients tickets passed passes (ends.Client client.NotInside) less fewer quota h = absurd h
+ends_by id clients tickets passed passes (ends.Client client.NotAsking) less fewer quota h = absurd h
+ends_by id clients tickets passed passes (ends.Deal deal.QuotaSpent) less fewer quota h = omega (arith, fewer, quota, h)
+ends_by id clients tickets passed passes (ends.Deal deal.OutOfMemory) less fewer quota h = tt
+ends_by id clients tickets passed passes (ends.Board board.RegisterFull) less fewer quota h = tt
+ends_by id clients tickets passed passes (ends.Board board.OutOfMemory) less fewer quota h = tt
+ends_by id clients tickets passed passes (ends.Board (board.SeatsOut k)) less fewer quota h = absurd h
+ends_by id clients tickets passed passes (ends.Board (board.VoteOut v)) less fewer quota h = absurd h
+ends_by id clients tickets passed passes ends.NotInside less fewer quota h = absurd h
+ends_by id clients tickets passed passes (ends.TurnsSpent c) less fewer quota h = omega (arith, less, h.0)
 
 abbrev EndsWell : ℕ → MemberState → Type 0
 EndsWell clients m = (fault : ClusterFault) → m.fault ≡ Some fault → EndsRun clients (run_refusal fault)
 
 pub driven_ends : (c : ClusterState) (passes : ℕ) (before after : List MemberState) (fault : ClusterFault) → before ≡ map (fresh_member c) (range_with_len 0 c.board.clients)
-    → AllZip (IsBack passes) before after → IsLeastFault after fault → EndsRun c.board.clients (run_refusal fault)
-driven_ends c passes before after fault e back least =
+    → passes ≤ c.quota → AllZip (IsBack passes) before after → IsLeastFault after fault → EndsRun c.board.clients (run_refusal fault)
+driven_ends c passes before after fault e quota back least =
     let r = least.1 in
     let found = each r.among.0 r.member r.among.1 in
     subst (EndsWell c.board.clients) r.among.2 found fault r.ended
@@ -114,7 +117,7 @@ driven_ends c passes before after fault e back least =
     one : (x y : MemberState) → IsFresh c x → IsBack passes x y → EndsWell c.board.clients y
     one x y fresh h fault told =
         let ended : HasEnded passes fault x y = subst (λ f. IsBackBy passes f x y) told h in
-        ends_by y.requester.id c.board.clients fault (omega (arith, ended.worked.client, fresh.client)) ended.ends
+        ends_by y.requester.id c.board.clients x.clerk.rest ended.passed passes fault (omega (arith, ended.worked.client, fresh.client)) ended.fewer (omega (arith, quota, fresh.rest)) ended.ends
 
     each : All (EndsWell c.board.clients) after
     each = zip_right (IsFresh c) (IsBack passes) (EndsWell c.board.clients) one before after (are_fresh c before e) back

@@ -1,6 +1,7 @@
 -- Drives of members: what becomes of each, and which fault is answered.
-use Rattle.std.specs.Prelude.{◌≡◌, ℕ, ◌+◌, ◌≤◌, ◌++◌, true, List, Option, None, Some, IfSome, All, Contains, length}
+use Rattle.std.specs.Prelude.{◌≡◌, ℕ, ◌+◌, ◌<◌, ◌≤◌, ◌++◌, true, List, Option, None, Some, IfSome, All, Contains, length}
 use Rattle.board.specs.declared.fault.BoardFault.TheVariants.{SeatsOut, VoteOut, RegisterFull, OutOfMemory}
+use Rattle.dealer.specs.declared.fault.DealFault.TheVariants.{QuotaSpent, OutOfMemory as NoRoom}
 use Rattle.requester.specs.declared.fault.ClientFault.TheVariants.{Busy, NotInside as Outside, NotAsking, StampsSpent}
 use Rattle.requester.specs.Words.{is_idle}
 use Rattle.cluster.specs.declared.fault.ClusterFault.{ClusterFault}
@@ -11,10 +12,11 @@ use Rattle.cluster.specs.Members.{MemberState}
 abbrev pub HasMore : {A : Type 0} → ℕ → List A → List A → Type 0
 HasMore {A} n before after = (more : List A) × (after ≡ before ++ more) × (length more ≡ n)
 
--- the same client, which drew so many tickets more and passed so many times more
+-- the same client, which drew so many of its tickets and passed so many times more
 pub record Worked (drawn passed : ℕ) (before after : MemberState) : Type 0 where
   pub client : after.requester.id ≡ before.requester.id
   pub receipts : HasMore drawn before.clerk.receipts after.clerk.receipts
+  pub rest : after.clerk.rest + drawn ≡ before.clerk.rest
   pub passes : HasMore passed before.seat.passes after.seat.passes
 
 -- the same client with the same tickets and pass numbers
@@ -30,34 +32,40 @@ pub record HasServed (passes : ℕ) (before after : MemberState) : Type 0 where
   pub idle : is_idle after.requester.phase ≡ true
   pub fault : after.fault ≡ None
 
--- What ends the work of this client early: no stamp or no ticket is left, the register is at its limit, there is no memory, or its turns are spent
-abbrev pub EndsWork : ℕ → ClusterFault → Type 0
-EndsWork client (ends.Client StampsSpent) = Unit {0}
-EndsWork client (ends.Client Busy) = ⊥
-EndsWork client (ends.Client Outside) = ⊥
-EndsWork client (ends.Client NotAsking) = ⊥
-EndsWork client (ends.Deal e) = Unit {0}
-EndsWork client (ends.Board RegisterFull) = Unit {0}
-EndsWork client (ends.Board OutOfMemory) = Unit {0}
-EndsWork client (ends.Board (SeatsOut k)) = ⊥
-EndsWork client (ends.Board (VoteOut v)) = ⊥
-EndsWork client ends.NotInside = ⊥
-EndsWork client (ends.TurnsSpent c) = c ≡ client
+-- What ends the work of this client early, which had so many tickets and passed so many times: no stamp is left, it passed once for each ticket, the register is at its limit, there is no memory, or its turns are spent. All but the first two need a ticket
+abbrev pub EndsWork : ℕ → ℕ → ℕ → ClusterFault → Type 0
+EndsWork client tickets passed (ends.Client StampsSpent) = Unit {0}
+EndsWork client tickets passed (ends.Client Busy) = ⊥
+EndsWork client tickets passed (ends.Client Outside) = ⊥
+EndsWork client tickets passed (ends.Client NotAsking) = ⊥
+EndsWork client tickets passed (ends.Deal QuotaSpent) = tickets ≡ passed
+EndsWork client tickets passed (ends.Deal NoRoom) = passed < tickets
+EndsWork client tickets passed (ends.Board RegisterFull) = passed < tickets
+EndsWork client tickets passed (ends.Board OutOfMemory) = passed < tickets
+EndsWork client tickets passed (ends.Board (SeatsOut k)) = ⊥
+EndsWork client tickets passed (ends.Board (VoteOut v)) = ⊥
+EndsWork client tickets passed ends.NotInside = ⊥
+EndsWork client tickets passed (ends.TurnsSpent c) = (c ≡ client) × (passed < tickets)
 
--- The member is idle again, and its work ended early by this fault: of so many passes it made fewer, and it drew a ticket for each that it made and at most one besides
+-- how many tickets this fault leaves without a pass: the one that was drawn before it came
+abbrev pub wasted : ClusterFault → ℕ
+wasted (ends.Client e) = 0
+wasted (ends.Deal e) = 0
+wasted (ends.Board e) = 1
+wasted ends.NotInside = 1
+wasted (ends.TurnsSpent c) = 1
+
+-- The member is idle again, and its work ended early by this fault: of so many passes it made fewer, and it drew a ticket for each that it made, and one besides where the fault came after the draw
 pub record HasEnded (passes : ℕ) (fault : ClusterFault) (before after : MemberState) : Type 0 where
-  pub drawn : ℕ
   pub passed : ℕ
-  pub worked : Worked drawn passed before after
-  pub fewer : 1 + passed ≤ passes
-  pub tickets : passed ≤ drawn
-  pub one_besides : drawn ≤ 1 + passed
+  pub fewer : passed < passes
+  pub worked : Worked (passed + wasted fault) passed before after
   pub idle : is_idle after.requester.phase ≡ true
-  pub ends : EndsWork after.requester.id fault
+  pub ends : EndsWork after.requester.id before.clerk.rest passed fault
 
--- The pass was not made, by this fault, and at most a ticket was drawn for it
+-- the pass was not made, by this fault
 abbrev pub Stops : MemberState → MemberState → ClusterFault → Type 0
-Stops before after fault = ((drawn : ℕ) × (drawn ≤ 1) × Worked drawn 0 before after) × EndsWork before.requester.id fault
+Stops before after fault = Worked (wasted fault) 0 before after × EndsWork before.requester.id before.clerk.rest 0 fault
 
 -- the member's work was done, or it ended early by the fault that the member tells
 abbrev pub IsBackBy : ℕ → Option ClusterFault → MemberState → MemberState → Type 0

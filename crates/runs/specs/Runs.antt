@@ -26,13 +26,13 @@ run_refusal (ends.Deal deal.OutOfMemory) = OutOfMemory
 run_refusal (ends.Board board.OutOfMemory) = OutOfMemory
 run_refusal fault = Cluster fault
 
--- what ends a run of so many clients: one of them has no stamp, no ticket or no turn left, the register is at its limit, or a vote is out at the end
+-- what ends a run of so many clients: one of them has no stamp or no turn left, the register is at its limit, or a vote is out at the end. Each has a ticket for each of its passes
 abbrev pub EndsRunBy : ℕ → ClusterFault → Type 0
 EndsRunBy clients (ends.Client client.StampsSpent) = Unit {0}
 EndsRunBy clients (ends.Client client.Busy) = ⊥
 EndsRunBy clients (ends.Client client.NotInside) = ⊥
 EndsRunBy clients (ends.Client client.NotAsking) = ⊥
-EndsRunBy clients (ends.Deal deal.QuotaSpent) = Unit {0}
+EndsRunBy clients (ends.Deal deal.QuotaSpent) = ⊥
 EndsRunBy clients (ends.Deal deal.OutOfMemory) = ⊥
 EndsRunBy clients (ends.Board board.RegisterFull) = Unit {0}
 EndsRunBy clients (ends.Board (board.VoteOut v)) = Unit {0}

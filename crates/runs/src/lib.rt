@@ -14,8 +14,9 @@
 //! # What is proved
 //!
 //! A drive hands all members back, in their order and idle. One that kept no fault drew a ticket for each of its passes and
-//! made them all; one that kept a fault made fewer, and drew at most one ticket besides. The record of a run is sound by the
-//! plan, and has a ticket and a pass number for each pass of each client.
+//! made them all; one that kept a fault made fewer, and drew at most one ticket besides. Its tickets run out only where it
+//! passed once for each that it had. The record of a run is sound by the plan, and has a ticket and a pass number for each
+//! pass of each client. In a run each client has a ticket for each of its passes, so that no run ends for want of one.
 //!
 //! Nothing is said of when a drive's threads run, or of what a gate does. That the record of a closed cluster is accepted is
 //! tested too.

@@ -29,6 +29,7 @@ fn run_blank<N: ClusterName + Send + Sync, R: Threads + Wait + Sync, G: Gate>(
     requires name { blank ≡ N.cluster }
     requires cluster { IsCluster blank }
     requires plan { IsCertificate blank.office.cycle }
+    requires quota { passes ≤ blank.quota }
     ensures run { IfOk result (IsRun blank.office.cycle blank.board.clients passes) }
     ensures ended { IfErr result (EndsRun blank.board.clients) }
 {

@@ -1,4 +1,4 @@
-use Rattle.std.proofs.Common.{ap, ◌∙◌, arith}
+use Rattle.std.proofs.Common.{ap, ◌∙◌}
 use Rattle.requester.specs.declared.state.ClientState.{ClientState}
 use Rattle.runs.specs.Drives.{KeepsWork}
 use Rattle.cluster.specs.Members.{MemberState}
@@ -8,7 +8,7 @@ use Rattle.runs.proofs.drives.pass_once.Goals as goal
 pub returns-in_default-wait_at-clause-stopped : goal.returns-in_default-wait_at-clause-stopped
 returns-in_default-wait_at-clause-stopped g c =
     let told = c.in_ok-ask.ensures in
-    ((1, omega arith, drew c.args.member.now c.ask.new.self c.enter.new.member c.in_ok-ask.field-0 told.client told.receipt told.seat c.enter.ensures.kept), c.client-client.ensures.value)
+    (drew c.args.member.now c.ask.new.self c.enter.new.member c.in_ok-ask.field-0 told.may.2 told.client told.receipt told.seat c.enter.ensures.kept, (c.client-client.ensures.value, told.may.2))
 
 pub returns-in-Err-clause-stopped : goal.returns-in-Err-clause-stopped
 returns-in-Err-clause-stopped g c =
@@ -20,7 +20,6 @@ returns-in-Err-clause-stopped g c =
       clerk = stays.clerk ∙ kept.clerk;
       passes = ap (λ (m : MemberState). m.seat.passes) stays.kept ∙ kept.passes;
       fault = stays.fault ∙ kept.fault;
-    } in (
-      (1, omega arith, drew c.args.member.now c.ask.new.self c.pass.new.self c.in_ok-ask.field-0 told.client told.receipt told.seat after),
-      refused_pass c.enter.new.member c.in-Err.fault c.args.member.now.requester.id c.in-Some.ensures.entered.1 stays.refused,
-    )
+    } in
+    let drawn = drew c.args.member.now c.ask.new.self c.pass.new.self c.in_ok-ask.field-0 told.may.2 told.client told.receipt told.seat after in
+    refused_pass c.args.member.now c.enter.new.member c.pass.new.self c.in-Err.fault told.may.2 drawn c.in-Some.ensures.entered.1 stays.refused

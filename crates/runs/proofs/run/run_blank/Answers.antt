@@ -1,4 +1,4 @@
-use Rattle.std.proofs.Common.{◌≡◌, sym, ap, ◌∙◌, subst}
+use Rattle.std.proofs.Common.{◌≡◌, ◌≤◌, sym, ap, ◌∙◌, subst}
 use Rattle.cluster.specs.Clusters.{ClusterState, IsCluster}
 use Rattle.certificate.specs.Certificates.{IsCertificate}
 use Rattle.cluster.specs.Closes.{RefusesClose}
@@ -9,7 +9,8 @@ use Rattle.runs.proofs.run.run_blank.Goals as goal
 pub returns-in-Err-clause-ended : goal.returns-in-Err-clause-ended
 returns-in-Err-clause-ended g c =
     let cluster = g.N.ClusterName.cluster in
-    let ended = driven_ends cluster c.args.passes c.in-Ok.members.items c.in-Err.driven.members.items c.in-Err.driven.fault c.in-Ok.ensures.members c.in-Err.ensures.back c.in-Err.ensures.least in
+    let quota = subst (λ (x : ClusterState). c.args.passes ≤ x.quota) c.requires.name c.requires.quota in
+    let ended = driven_ends cluster c.args.passes c.in-Ok.members.items c.in-Err.driven.members.items c.in-Err.driven.fault c.in-Ok.ensures.members quota c.in-Err.ensures.back c.in-Err.ensures.least in
     subst (λ (x : ClusterState). EndsRun x.board.clients c.from.result) (sym c.requires.name) (subst (EndsRun cluster.board.clients) (sym c.from.ensures) ended)
 
 pub returns-in-Ok-close-clause-run : goal.returns-in-Ok-close-clause-run
