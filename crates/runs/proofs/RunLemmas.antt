@@ -1,5 +1,5 @@
 -- What a run of driven members comes to.
-use Rattle.std.proofs.Common.{◌≡◌, ℕ, zero, suc, ◌+◌, ◌*◌, ◌<◌, ◌≤◌, ◌++◌, List, [], ◌∷◌, Option, None, Some, true, map, length, sum_by, get_or, refl, sym, ap, ◌∙◌, subst, cond, arith}
+use Rattle.std.proofs.Common.{◌≡◌, ℕ, zero, suc, ◌+◌, ◌*◌, ◌<◌, ◌≤◌, ◌++◌, List, [], ◌∷◌, Some, map, length, sum_by, get_or, refl, sym, ap, ◌∙◌, subst, cond, arith}
 use Rattle.std.specs.List.{All, AllZip, range_with_len}
 use Rattle.std.proofs.lemmas.List.{length-map}
 use Rattle.std.proofs.lemmas.List.FromFn.{get_or-range_with_len, length-range_with_len}
@@ -11,11 +11,10 @@ use Rattle.requester.specs.Words.{is_idle}
 use Rattle.cluster.specs.Clusters.{ClusterState}
 use Rattle.runs.specs.Drives.{HasMore, HasServed, HasEnded, IsBack, IsBackBy, IsLeastFault, EndsWork}
 use Rattle.cluster.specs.Members.{AreIdle, MemberState, fresh_member}
-use Rattle.cluster.specs.Records.{IsLoss, IsRecordOf, idle_count}
+use Rattle.cluster.specs.Records.{IsRecordOf, idle_count}
 use Rattle.cluster.specs.declared.record.RunRecord.{RunRecord}
 use Rattle.cluster.specs.declared.fault.ClusterFault.{ClusterFault}
 use Rattle.cluster.specs.declared.fault.ClusterFault.TheVariants as ends
-use Rattle.board.specs.declared.fault.BoardFault.{BoardFault}
 use Rattle.board.specs.declared.fault.BoardFault.TheVariants as board
 use Rattle.dealer.specs.declared.fault.DealFault.TheVariants as deal
 use Rattle.requester.specs.declared.fault.ClientFault.TheVariants as client
@@ -121,13 +120,6 @@ driven_ends c passes before after fault e quota back least =
 
     each : All (EndsWell c.board.clients) after
     each = zip_right (IsFresh c) (IsBack passes) (EndsWell c.board.clients) one before after (are_fresh c before e) back
-
--- a cluster that is not closed
-pub close_ends : (c : ClusterState) (fault : BoardFault) → IsLoss c fault → EndsRun c.board.clients (run_refusal (ends.Board fault))
-close_ends c (board.VoteOut v) h = tt
-close_ends c board.OutOfMemory h = tt
-close_ends c (board.SeatsOut k) h = absurd h
-close_ends c board.RegisterFull h = absurd h
 
 -- The record
 

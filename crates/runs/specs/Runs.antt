@@ -1,5 +1,5 @@
 -- Runs of a plan's lock: their records, and why there is none.
-use Rattle.std.specs.Prelude.{◌≡◌, ℕ, ◌*◌, ◌<◌, ◌≤◌, length}
+use Rattle.std.specs.Prelude.{◌≡◌, ℕ, ◌*◌, ◌<◌, length}
 use Rattle.std.specs.List.{All}
 use Rattle.certificate.specs.Certificates.{Weighted}
 use Rattle.board.specs.declared.fault.BoardFault.TheVariants as board

@@ -1,4 +1,4 @@
-use Rattle.std.proofs.Common.{◌≡◌, List, string_bytes, subst, sym}
+use Rattle.std.proofs.Common.{string_bytes, subst, sym}
 use Rattle.command_line.specs.declared.command.Command.{Command}
 use Rattle.qlock_cli.specs.Commands.{IsAnswer, IsRunText}
 use Rattle.qlock_cli.proofs.running.run_answer.Goals as goal

@@ -1,9 +1,9 @@
-use Rattle.std.proofs.Common.{◌≡◌, ◌≤◌, sym, ap, ◌∙◌, subst}
+use Rattle.std.proofs.Common.{◌≤◌, sym, subst}
 use Rattle.cluster.specs.Clusters.{ClusterState, IsCluster}
 use Rattle.certificate.specs.Certificates.{IsCertificate}
 use Rattle.cluster.specs.Closes.{RefusesClose}
 use Rattle.runs.specs.Runs.{EndsRun, IsRun}
-use Rattle.runs.proofs.RunLemmas.{all_ready, close_ends, driven_ends, each_passed, run_of}
+use Rattle.runs.proofs.RunLemmas.{all_ready, driven_ends, each_passed, run_of}
 use Rattle.runs.proofs.run.run_blank.Goals as goal
 
 pub returns-in-Err-clause-ended : goal.returns-in-Err-clause-ended
