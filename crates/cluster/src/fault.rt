@@ -1,10 +1,10 @@
-//! Why a member does not do what it is called for.
+//! Why a member does not do what it is called for, or a cluster has no record.
 use board::BoardFault;
 use dealer::DealFault;
 use requester::ClientFault;
 use thiserror::Error;
 
-/// Why a member does not do what it is called for.
+/// Why a member does not do what it is called for, or a cluster has no record.
 #[derive(Clone, Copy, Debug, PartialEq, Eq, Error)]
 pub enum ClusterFault {
     /// Its client refuses.
@@ -13,7 +13,7 @@ pub enum ClusterFault {
     /// No ticket is dealt to it.
     #[error("{0}")]
     Deal(DealFault),
-    /// The register is at its limit, or there is no memory for one more pass number.
+    /// The register is at its limit, or there is no memory for one more pass number; at the end of a cluster, a vote is out.
     #[error("{0}")]
     Board(BoardFault),
     /// It is not inside.

@@ -40,13 +40,13 @@
 //!
 //! Whenever a node's lock is free, its voter is what its definition makes of the log, and its seat has the voter's current
 //! grant. Whenever no call of a member runs, its client's votes are those that its seat holds; the client changes by its
-//! definition alone. Each refusal comes exactly where this page's calls say.
+//! definition alone. `ask`, `pass`, `leave` and `give_up` are refused exactly where they say.
 //!
 //! A record has each member's draws and passes, and no others; its tickets and its numbers are 0, 1, 2 and so on, each ticket
 //! names its quorum by the plan's cycle, and the register is the number of passes.
 //!
-//! Nothing is said of which messages a mailbox delivers, of waiting or of progress: a message may be lost for want of memory,
-//! and [`Member::lost`] counts it. Which lock is whose is tested when it is taken, and not proved; that a cluster closes whose
+//! Nothing is said of waiting or of progress. A message may be lost: a node drops it, there is no memory, or it is a LOCKED
+//! whose vote can't be taken; [`Member::lost`] counts it. Which lock is whose is tested when it is taken, and not proved; that a cluster closes whose
 //! members are all back and idle is tested too.
 //!
 //! This crate stands on `node`, which has the nodes, the mailboxes and how votes are taken and given back, and on `board`,

@@ -128,7 +128,8 @@ impl<N: ClusterName> Member<N> {
         self.requester.phase()
     }
 
-    /// How many messages its calls lost: dropped by a node, or for want of memory. It stays at its greatest value.
+    /// How many messages its calls lost: dropped by a node, for want of memory, or a LOCKED whose vote could not be taken. It
+    /// stays at its greatest value.
     pub fn lost(&self) -> u64
         ensures { result ≡ self.now.lost }
     {

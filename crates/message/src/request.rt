@@ -6,7 +6,7 @@
 /// (Maekawa, ACM TOCS 3(2), 1985, after Lamport's order).
 #[derive(Clone, Copy, Debug, Default, PartialEq, Eq)]
 pub struct Request {
-    /// The time at the client, from 1.
+    /// The stamp: the time of the client's clock, from 1.
     pub stamp: u64,
     /// The client's number, from 0.
     pub client: u8,

@@ -26,7 +26,8 @@ pub enum ReplayFault {
     /// The register is not this, the number of passes.
     #[error("A6 WrongRegister {0}")]
     WrongRegister(u64),
-    /// The line with this number, from 1, is the first that is missing, is spelled otherwise, or has no newline.
+    /// The line with this number, from 1, is the first that is missing, is spelled otherwise, is out of place, or has no
+    /// newline.
     #[error("A7 BadLine {0}")]
     BadLine(usize),
     /// Memory ran out.

@@ -31,7 +31,7 @@ impl Model for Voter {
 }
 
 impl Voter {
-    /// A voter of this number, from 0 to 63, that was told nothing and may give as many grants as the limit.
+    /// A voter of this number, from 0 to 63, that was told nothing and may give as many grants as the limit, 1 to 2^40.
     pub fn new(id: u8, limit: u64) -> Self
         requires id { id < 64 }
         requires least { 1 ≤ limit }
