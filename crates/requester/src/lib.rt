@@ -1,12 +1,13 @@
 //! A client of the voting lock: it asks a quorum of voters for their votes, and has the lock while it holds them all.
 //!
 //! A client that wants the lock sends REQUEST to each voter of a quorum, under a stamp of its clock. A vote comes by
-//! LOCKED, and once each member's vote is held the client is inside. A voter whose vote is granted answers FAIL
-//! where the granted request or one that waits precedes the new one, and else asks the holder for its vote (INQUIRE). A client whose
-//! request can't win yet, since a member failed or has its vote back, gives the vote back by RELINQUISH; else it waits,
-//! and gives it back on the next FAIL. RELEASE ends a request. This is the requester of Maekawa, "A sqrt(N) algorithm for
-//! mutual exclusion in decentralized systems", ACM TOCS 3(2), 1985; messages may be repeated, lost and late, so a grant
-//! counts only if it is newer than the last that was given back, and a vote for another request is answered by RELEASE.
+//! LOCKED, and once each member's vote is held the client is inside. A voter whose vote is granted answers FAIL where
+//! the granted request or one that waits precedes the new one, and else asks the holder for its vote (INQUIRE). A
+//! client whose request can't win yet, since a member failed or has its vote back, gives the vote back by RELINQUISH;
+//! else it waits, and gives it back on the next FAIL. RELEASE ends a request. This is the requester of Maekawa, "A
+//! sqrt(N) algorithm for mutual exclusion in decentralized systems", ACM TOCS 3(2), 1985; messages may be repeated,
+//! lost and late, so a grant counts only if it is newer than the last that was given back, and a vote for another
+//! request is answered by RELEASE.
 //!
 //! # Running a client
 //!

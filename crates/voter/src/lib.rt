@@ -1,11 +1,12 @@
 //! A voter of the voting lock: it has one vote, and grants it to one request at a time.
 //!
 //! A client that wants the lock asks every voter of a quorum for its vote, by REQUEST. A voter grants its vote to the
-//! request that precedes the others that it knows, and answers LOCKED; the others wait in a queue. A new one is told FAIL
-//! where the granted request or one that waits precedes it. Where none does, the voter asks the holder to give the vote
-//! back (INQUIRE), and a first one that waited is told FAIL; a holder that can't win gives the vote back (RELINQUISH), and
-//! goes on waiting. RELEASE ends a request. This is the arbiter of Maekawa, "A sqrt(N) algorithm for mutual exclusion in decentralized systems", ACM TOCS 3(2), 1985; messages may be
-//! repeated, lost and late, so grants are numbered and finished stamps are remembered.
+//! request that precedes the others that it knows, and answers LOCKED; the others wait in a queue. A new one is told
+//! FAIL where the granted request or one that waits precedes it. Where none does, the voter asks the holder to give the
+//! vote back (INQUIRE), and a first one that waited is told FAIL; a holder that can't win gives the vote back
+//! (RELINQUISH), and goes on waiting. RELEASE ends a request. This is the arbiter of Maekawa, "A sqrt(N) algorithm for
+//! mutual exclusion in decentralized systems", ACM TOCS 3(2), 1985; messages may be repeated, lost and late, so grants
+//! are numbered and finished stamps are remembered.
 //!
 //! # Running a voter
 //!
