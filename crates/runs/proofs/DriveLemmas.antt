@@ -1,5 +1,5 @@
 -- What becomes of members that are driven.
-use Rattle.std.proofs.Common.{◌≡◌, ℕ, zero, suc, ◌+◌, ◌<◌, true, true≢false, Option, None, Some, List, [], ◌∷◌, ◌++◌, refl, sym, ap, ◌∙◌, subst, length, add-zero, arith}
+use Rattle.std.proofs.Common.{◌≡◌, ℕ, zero, suc, ◌+◌, ◌<◌, Bool, true, true≢false, Option, None, Some, List, [], ◌∷◌, ◌++◌, refl, sym, ap, ◌∙◌, subst, length, add-zero, arith}
 use Rattle.std.specs.Prelude.{All, slice_index_or}
 use Rattle.std.specs.List.{AllZip}
 use Rattle.std.proofs.lemmas.List.{append-nil, append_assoc, length-append}
@@ -13,7 +13,7 @@ use Rattle.dealer.specs.Offices.{ClerkState}
 use Rattle.cluster.specs.declared.fault.ClusterFault.{ClusterFault}
 use Rattle.cluster.specs.declared.fault.ClusterFault.TheVariants as ends
 use Rattle.cluster.specs.Members.{AreIdle, MemberState, RefusesPass, with_receipt}
-use Rattle.runs.specs.Drives.{EndsWork, HasMore, HasServed, IsBack, IsBackBy, KeepsWork, Stops, Worked, wasted}
+use Rattle.runs.specs.Drives.{EndsWork, HasMore, HasServed, IsBack, IsBackBy, KeepsWork, Stops, WasLet, Worked, wasted}
 
 -- More of a list
 
@@ -68,15 +68,9 @@ later_ends client tickets rest passed ends.NotInside more h = h
 later_ends client tickets rest passed (ends.TurnsSpent k) more h = (h.0, omega (arith, more, h.1))
 
 -- a pass that was not made
-pub ended : (passes n : ℕ) (a b c d e : MemberState) (fault : ClusterFault) → HasServed n a b → n < passes → Stops b c fault → KeepsWork c d → is_idle d.requester.phase ≡ true → e ≡ record d { fault = Some fault } → IsBack passes a e
-ended passes n a b c d e fault r less stops kept idle told =
-    subst (IsBack passes a) (sym told) (record {
-      passed = n;
-      fewer = less;
-      worked = worked;
-      idle = idle;
-      ends = subst (λ k. EndsWork k a.clerk.rest n fault) (sym (kept.client ∙ stops.0.client)) (later_ends b.requester.id a.clerk.rest b.clerk.rest n fault r.worked.rest stops.1);
-    })
+pub stopped : (n : ℕ) (a b c d : MemberState) (fault : ClusterFault) → HasServed n a b → Stops b c fault → KeepsWork c d → Worked (n + wasted fault) n a (record d { fault = Some fault })
+stopped n a b c d fault r stops kept =
+    subst (λ k. Worked (n + wasted fault) k a (record d { fault = Some fault })) (add-zero n) (then n n (wasted fault) 0 a b (record d { fault = Some fault }) r.worked last)
   where
     last : Worked (wasted fault) 0 b (record d { fault = Some fault })
     last = record {
@@ -86,8 +80,21 @@ ended passes n a b c d e fault r less stops kept idle told =
       passes = subst (λ l. HasMore 0 b.seat.passes l) (sym kept.passes) stops.0.passes;
     }
 
-    worked : Worked (n + wasted fault) n a (record d { fault = Some fault })
-    worked = subst (λ k. Worked (n + wasted fault) k a (record d { fault = Some fault })) (add-zero n) (then n n (wasted fault) 0 a b (record d { fault = Some fault }) r.worked last)
+pub ended : (passes n : ℕ) (a b c d e : MemberState) (fault : ClusterFault) → HasServed n a b → n < passes → Stops b c fault → KeepsWork c d → is_idle d.requester.phase ≡ true → e ≡ record d { fault = Some fault } → IsBack passes a e
+ended passes n a b c d e fault r less stops kept idle told =
+    subst (IsBack passes a) (sym told) (record {
+      passed = n;
+      fewer = less;
+      worked = stopped n a b c d fault r stops kept;
+      idle = idle;
+      ends = subst (λ k. EndsWork k a.clerk.rest n fault) (sym (kept.client ∙ stops.0.client)) (later_ends b.requester.id a.clerk.rest b.clerk.rest n fault r.worked.rest stops.1);
+    })
+
+-- who was let pass each time
+pub was_let : (lets : ℕ → Bool) (drawn n : ℕ) (a b : MemberState) → Worked drawn n a b → (0 < n → lets a.requester.id ≡ true) → WasLet lets a b
+was_let lets drawn n a b worked h longer =
+    let more = worked.passes in
+    subst (λ k. lets k ≡ true) (sym worked.client) (h (omega (arith, longer, ap length more.1, length-append a.seat.passes more.0, more.2)))
 
 -- All members
 

@@ -1,15 +1,15 @@
 -- What a run of driven members comes to.
-use Rattle.std.proofs.Common.{◌≡◌, ℕ, zero, suc, ◌+◌, ◌*◌, ◌<◌, ◌≤◌, ◌++◌, List, [], ◌∷◌, Some, map, length, sum_by, get_or, refl, sym, ap, ◌∙◌, subst, cond, arith}
+use Rattle.std.proofs.Common.{◌≡◌, ℕ, zero, suc, ◌+◌, ◌*◌, ◌<◌, ◌≤◌, ◌++◌, List, [], ◌∷◌, Bool, true, Some, map, length, sum_by, get_or, refl, sym, ap, ◌∙◌, subst, cond, arith}
 use Rattle.std.specs.List.{All, AllZip, range_with_len}
-use Rattle.std.proofs.lemmas.List.{length-map}
-use Rattle.std.proofs.lemmas.List.FromFn.{get_or-range_with_len, length-range_with_len}
+use Rattle.std.proofs.lemmas.List.{length-append, length-map}
+use Rattle.std.proofs.lemmas.List.FromFn.{get_or-map-range_with_len, get_or-range_with_len, length-range_with_len}
 use Rattle.std.proofs.lemmas.Slice.Zip.{AllZip-long}
-use Rattle.std.proofs.lemmas.List.Elements.{All-map}
+use Rattle.std.proofs.lemmas.List.Elements.{All-map, AllZip-get_or}
 use Rattle.std.proofs.lemmas.List.Sums.{sum_by-cons}
 use native.Mathlib.Nat.{add-mul, zero-mul}
 use Rattle.requester.specs.Words.{is_idle}
 use Rattle.cluster.specs.Clusters.{ClusterState}
-use Rattle.runs.specs.Drives.{HasMore, HasServed, HasEnded, IsBack, IsBackBy, IsLeastFault, EndsWork}
+use Rattle.runs.specs.Drives.{HasMore, HasServed, HasEnded, IsBack, IsBackBy, IsLeastFault, EndsWork, WasLet}
 use Rattle.cluster.specs.Members.{AreIdle, MemberState, fresh_member}
 use Rattle.cluster.specs.Records.{IsRecordOf, idle_count}
 use Rattle.cluster.specs.declared.record.RunRecord.{RunRecord}
@@ -19,7 +19,7 @@ use Rattle.board.specs.declared.fault.BoardFault.TheVariants as board
 use Rattle.dealer.specs.declared.fault.DealFault.TheVariants as deal
 use Rattle.requester.specs.declared.fault.ClientFault.TheVariants as client
 use Rattle.replay.specs.Records.{IsSoundRecord, entries_of}
-use Rattle.runs.specs.Runs.{EndsRun, IsRun, run_refusal}
+use Rattle.runs.specs.Runs.{AreLet, EndsRun, IsRun, run_refusal}
 
 -- a member that drew and passed nothing yet
 record IsFresh (c : ClusterState) (m : MemberState) : Type 0 where
@@ -77,6 +77,21 @@ pub each_drew : (c : ClusterState) (passes : ℕ) (before after : List MemberSta
     → All (λ m. length m.clerk.receipts ≡ passes) after
 each_drew c passes before after e served =
     zip_right (IsFresh c) (HasServed passes) (λ m. length m.clerk.receipts ≡ passes) (λ x y fresh s. more_than_none passes x.clerk.receipts y.clerk.receipts fresh.receipts s.worked.receipts) before after (are_fresh c before e) served
+
+-- each passed, so each was let pass
+pub each_let : (c : ClusterState) (lets : ℕ → Bool) (passes : ℕ) (before after : List MemberState) → before ≡ map (fresh_member c) (range_with_len 0 c.board.clients) → AllZip (HasServed passes) before after → AllZip (WasLet lets) before after
+    → 0 < passes → AreLet lets c.board.clients
+each_let c lets passes before after e served zip some k less =
+    let d = fresh_member c k in
+    let x = get_or before k d in
+    let y = get_or after k d in
+    let there : k < length before = omega (arith, less, ap length e, length-map (range_with_len 0 c.board.clients) (fresh_member c), length-range_with_len 0 c.board.clients) in
+    let first : x ≡ d = ap (λ (l : List MemberState). get_or l k d) e ∙ get_or-map-range_with_len (fresh_member c) 0 c.board.clients k k d less (omega arith) in
+    let s : HasServed passes x y = AllZip-get_or (HasServed passes) before after k d d served there in
+    let w : WasLet lets x y = AllZip-get_or (WasLet lets) before after k d d zip there in
+    let more = s.worked.passes in
+    let longer : length x.seat.passes < length y.seat.passes = omega (arith, some, ap length more.1, length-append x.seat.passes more.0, more.2) in
+    subst (λ n. lets n ≡ true) (s.worked.client ∙ ap (λ (m : MemberState). m.requester.id) first) (w longer)
 
 -- no member is missing
 pub all_ready : (c : ClusterState) (passes missing : ℕ) (before after : List MemberState) → before ≡ map (fresh_member c) (range_with_len 0 c.board.clients) → AllZip (HasServed passes) before after

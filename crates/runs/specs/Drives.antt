@@ -1,5 +1,5 @@
 -- Drives of members: what becomes of each, and which fault is answered.
-use Rattle.std.specs.Prelude.{◌≡◌, ℕ, ◌+◌, ◌<◌, ◌≤◌, ◌++◌, true, List, Option, None, Some, IfSome, All, Contains, length}
+use Rattle.std.specs.Prelude.{◌≡◌, ℕ, ◌+◌, ◌<◌, ◌≤◌, ◌++◌, Bool, true, List, Option, None, Some, IfSome, All, Contains, length}
 use Rattle.board.specs.declared.fault.BoardFault.TheVariants.{SeatsOut, VoteOut, RegisterFull, OutOfMemory}
 use Rattle.dealer.specs.declared.fault.DealFault.TheVariants.{QuotaSpent, OutOfMemory as NoRoom}
 use Rattle.requester.specs.declared.fault.ClientFault.TheVariants.{Busy, NotInside as Outside, NotAsking, StampsSpent}
@@ -66,6 +66,10 @@ pub record HasEnded (passes : ℕ) (fault : ClusterFault) (before after : Member
 -- the pass was not made, by this fault
 abbrev pub Stops : MemberState → MemberState → ClusterFault → Type 0
 Stops before after fault = Worked (wasted fault) 0 before after × EndsWork before.requester.id before.clerk.rest 0 fault
+
+-- a client that passed was let pass
+abbrev pub WasLet : (ℕ → Bool) → MemberState → MemberState → Type 0
+WasLet lets before after = length before.seat.passes < length after.seat.passes → lets after.requester.id ≡ true
 
 -- the member's work was done, or it ended early by the fault that the member tells
 abbrev pub IsBackBy : ℕ → Option ClusterFault → MemberState → MemberState → Type 0

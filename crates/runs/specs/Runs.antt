@@ -1,5 +1,5 @@
 -- Runs of a plan's lock: their records, and why there is none.
-use Rattle.std.specs.Prelude.{◌≡◌, ℕ, ◌*◌, ◌<◌, length}
+use Rattle.std.specs.Prelude.{◌≡◌, ℕ, ◌*◌, ◌<◌, Bool, true, length}
 use Rattle.std.specs.List.{All}
 use Rattle.certificate.specs.Certificates.{Weighted}
 use Rattle.board.specs.declared.fault.BoardFault.TheVariants as board
@@ -19,6 +19,10 @@ pub record IsRun (plan : Weighted) (clients passes : ℕ) (r : RunRecord) : Type
   pub register : r.register ≡ clients * passes
   pub each_draw : All (λ d. (d.0 < clients) × (d.2 < length plan.system.quorums)) r.draws.items
   pub each_pass : All (λ p. p.0 < clients) r.passes.items
+
+-- each of so many clients is let pass
+abbrev pub AreLet : (ℕ → Bool) → ℕ → Type 0
+AreLet lets clients = (client : ℕ) → client < clients → lets client ≡ true
 
 -- want of memory is one fault, wherever it comes from
 abbrev pub run_refusal : ClusterFault → RunFault

@@ -1,5 +1,5 @@
 //! Drives: two members at once, gates that stay shut, and members that run out.
-ghost use Rattle.std.specs.Prelude.{◌≡◌, ◌*◌, ◌≤◌, ◌^◌};
+ghost use Rattle.std.specs.Prelude.{◌≡◌, ◌*◌, ◌≤◌, ◌^◌, nat_lt};
 ghost use Rattle.cluster.specs.Clusters.{ClusterState};
 
 use super::*;
@@ -167,6 +167,8 @@ fn two_members_run_at_once(rt: HostRuntime) -> Result<(), Fail> {
 struct Shut;
 
 impl Gate for Shut {
+    ghost lets = { λ _ client. nat_lt 0 client };
+
     fn before(&self, _client: u8) {}
 
     fn drawn(&self, _client: u8) {}

@@ -3,7 +3,7 @@ ghost use Rattle.std.specs.Prelude.{◌≡◌, ◌<◌, [], ◌∷◌, ◌++◌,
 ghost use Rattle.std.specs.List.{AllZip};
 ghost use Rattle.requester.specs.Words.{is_idle, is_inside};
 ghost use Rattle.cluster.specs.Members.{AreIdle, MemberState};
-ghost use Rattle.runs.specs.Drives.{HasServed, IsBack, IsLeastFault, IsLeastOf, KeepsWork, Stops, Worked};
+ghost use Rattle.runs.specs.Drives.{HasServed, IsBack, IsLeastFault, IsLeastOf, KeepsWork, Stops, WasLet, Worked};
 
 use crate::gate::Gate;
 use cluster::{Cluster, ClusterFault, ClusterName, Member};
@@ -74,7 +74,8 @@ fn enter<N: ClusterName>(
 /// Asks the gate, by a turn each, until the client may pass. Answers how many turns are left; None where they were spent
 /// before.
 fn wait_at<G: Gate>(gate: &G, client: u8, turns: u64) -> Option<u64>
-    ensures { IfSome result (λ left. left < turns) }
+    ensures fewer { IfSome result (λ left. left < turns) }
+    ensures let_pass { IfSome result (λ _. G.lets gate.now client ≡ true) }
 {
     for turn in 0..turns {
         if gate.may_pass(client) {
@@ -96,6 +97,7 @@ fn pass_once<N: ClusterName, G: Gate>(
     requires idle { is_idle member.old.requester.phase ≡ true }
     ensures passed { IfOk result (λ _. Worked 1 1 member.old member.new × (is_idle member.new.requester.phase ≡ true)) }
     ensures stopped { IfErr result (Stops member.old member.new) }
+    ensures let_pass { IfOk result (λ _. G.lets gate.now member.old.requester.id ≡ true) }
     ensures fault { member.new.fault ≡ member.old.fault }
 {
     let client = member.client();
@@ -144,7 +146,8 @@ fn serve<N: ClusterName, G: Gate>(
     gate: &G,
 )
     requires idle { is_idle member.old.requester.phase ≡ true }
-    ensures { IsBack passes member.old member.new }
+    ensures back { IsBack passes member.old member.new }
+    ensures let_pass { WasLet (G.lets gate.now) member.old member.new }
 {
     member.ends_by(None);
     let mut left = turns;
@@ -200,6 +203,7 @@ fn serve_all<N: ClusterName + Send + Sync, R: Threads + Wait + Sync, G: Gate>(
 )
     requires idle { AreIdle members.old }
     ensures back { AllZip (IsBack passes) members.old members.new }
+    ensures let_pass { AllZip (WasLet (G.lets gate.now)) members.old members.new }
     ensures idle { AreIdle members.new }
 {
     let threads = members.len();
@@ -212,7 +216,8 @@ fn serve_all<N: ClusterName + Send + Sync, R: Threads + Wait + Sync, G: Gate>(
         threads,
         &|_, member: &mut Member<N>|
             requires { is_idle member.old.requester.phase ≡ true }
-            ensures { IsBack passes member.old member.new }
+            ensures back { IsBack passes member.old member.new }
+            ensures let_pass { WasLet (G.lets gate.entry.now) member.old member.new }
         { serve(rt, cluster, member, passes, turns, gate) },
     );
 }
@@ -225,7 +230,8 @@ fn serve_all<N: ClusterName + Send + Sync, R: Threads + Wait + Sync, G: Gate>(
 /// At each empty pump beyond 16 in a row a member yields its thread, and at 1,000 it reminds and counts anew. A member whose
 /// turns are spent, or of which a call is refused, ends its work: it leaves or gives up, and keeps why ([`Member::fault`]).
 ///
-/// All members come back, in their order and idle. Where the work of some ended early, the fault of the least client is answered.
+/// All members come back, in their order and idle. Where the work of some ended early, the fault of the least client is
+/// answered. A client that the gate never lets pass makes no pass.
 pub fn drive<N: ClusterName + Send + Sync, R: Threads + Wait + Sync, G: Gate>(
     rt: &R,
     cluster: &Cluster<N>,
@@ -238,6 +244,7 @@ pub fn drive<N: ClusterName + Send + Sync, R: Threads + Wait + Sync, G: Gate>(
     ensures served { IfOk result (λ driven. AllZip (HasServed passes) members.items driven.items) }
     ensures back { IfErr result (λ driven. AllZip (IsBack passes) members.items driven.members.items) }
     ensures least { IfErr result (λ driven. IsLeastFault driven.members.items driven.fault) }
+    ensures let_pass { MatchResult result (λ driven. AllZip (WasLet (G.lets gate.now)) members.items driven.items) (λ driven. AllZip (WasLet (G.lets gate.now)) members.items driven.members.items) }
     ensures idle { MatchResult result (λ driven. AreIdle driven.items) (λ driven. AreIdle driven.members.items) }
 {
     serve_all(rt, cluster, members.as_mut_slice(), passes, turns, gate);

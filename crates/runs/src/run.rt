@@ -2,7 +2,7 @@
 ghost use Rattle.std.specs.Prelude.{◌≡◌, ◌*◌, ◌^◌, ◌<◌, ◌≤◌, IfOk, IfErr};
 ghost use Rattle.certificate.specs.Certificates.{IsCertificate};
 ghost use Rattle.cluster.specs.Clusters.{ClusterState, IsCluster};
-ghost use Rattle.runs.specs.Runs.{IsRun, EndsRun};
+ghost use Rattle.runs.specs.Runs.{AreLet, IsRun, EndsRun};
 
 use crate::drives::drive;
 use crate::fault::RunFault;
@@ -32,6 +32,7 @@ fn run_blank<N: ClusterName + Send + Sync, R: Threads + Wait + Sync, G: Gate>(
     requires quota { passes ≤ blank.quota }
     ensures run { IfOk result (IsRun blank.office.cycle blank.board.clients passes) }
     ensures ended { IfErr result (EndsRun blank.board.clients) }
+    ensures let_pass { IfOk result (λ _. 0 < passes → AreLet (G.lets gate.now) blank.board.clients) }
 {
     records_count_passes();
     records_are_in_range();
@@ -54,7 +55,8 @@ fn run_blank<N: ClusterName + Send + Sync, R: Threads + Wait + Sync, G: Gate>(
 /// the record. It consumes the plan. Each pump and each question at the gate is a turn, and each client has so many turns
 /// for all its passes.
 ///
-/// Where a client's work ends early, as when its turns are spent, the fault of the least such client is answered.
+/// Where a client's work ends early, as when its turns are spent, the fault of the least such client is answered. A client
+/// that the gate never lets pass spends its turns, so that there is no record.
 pub fn record_of_run<R: Threads + Wait + Sync, G: Gate>(
     rt: &R,
     alloc: Global,
@@ -69,6 +71,7 @@ pub fn record_of_run<R: Threads + Wait + Sync, G: Gate>(
     requires tickets { clients * passes ≤ 2 ^ 63 }
     ensures run { IfOk result (IsRun plan clients passes) }
     ensures ended { IfErr result (EndsRun clients) }
+    ensures let_pass { IfOk result (λ _. 0 < passes → AreLet (G.lets gate.now) clients) }
 {
     let _ = plan.busiest();
     match Blank::new(alloc, plan, clients, passes) {

@@ -1,7 +1,17 @@
-use Rattle.runs.proofs.DriveLemmas.{ended}
+use Rattle.std.proofs.Common.{◌+◌, sym, subst}
+use Rattle.cluster.specs.Members.{MemberState}
+use Rattle.runs.specs.Drives.{WasLet, wasted}
+use Rattle.runs.proofs.DriveLemmas.{ended, stopped, was_let}
 use Rattle.runs.proofs.drives.serve.Goals as goal
 
-pub returns-in-Err : goal.returns-in-Err
-returns-in-Err g c =
+pub returns-in-Err-clause-back : goal.returns-in-Err-clause-back
+returns-in-Err-clause-back g c =
     ended c.args.passes c.loop.counter c.args.member.now c.loop.member c.pass_once.new.member c.end.new.member c.ends_by-in-Err.new.self c.in-Err.fault
-    c.loop.invariant c.loop-test.true c.in-Err.ensures.stopped c.end.ensures.kept c.end.ensures.idle c.ends_by-in-Err.ensures
+    c.loop.invariant.0 c.loop-test.true c.in-Err.ensures.stopped c.end.ensures.kept c.end.ensures.idle c.ends_by-in-Err.ensures
+
+pub returns-in-Err-clause-let_pass : goal.returns-in-Err-clause-let_pass
+returns-in-Err-clause-let_pass g c =
+    let fault = c.in-Err.fault in
+    let worked = stopped c.loop.counter c.args.member.now c.loop.member c.pass_once.new.member c.end.new.member fault c.loop.invariant.0 c.in-Err.ensures.stopped c.end.ensures.kept in
+    let lets = g.G.Gate.lets c.args.gate.now in
+    subst (λ (m : MemberState). WasLet lets c.args.member.now m) (sym c.ends_by-in-Err.ensures) (was_let lets (c.loop.counter + wasted fault) c.loop.counter c.args.member.now _ worked c.loop.invariant.1)

@@ -2,8 +2,8 @@ use Rattle.std.proofs.Common.{◌≤◌, sym, subst}
 use Rattle.cluster.specs.Clusters.{ClusterState, IsCluster}
 use Rattle.certificate.specs.Certificates.{IsCertificate}
 use Rattle.cluster.specs.Closes.{RefusesClose}
-use Rattle.runs.specs.Runs.{EndsRun, IsRun}
-use Rattle.runs.proofs.RunLemmas.{all_ready, driven_ends, each_passed, run_of}
+use Rattle.runs.specs.Runs.{AreLet, EndsRun, IsRun}
+use Rattle.runs.proofs.RunLemmas.{all_ready, driven_ends, each_let, each_passed, run_of}
 use Rattle.runs.proofs.run.run_blank.Goals as goal
 
 pub returns-in-Err-clause-ended : goal.returns-in-Err-clause-ended
@@ -28,6 +28,13 @@ returns-in-Ok-close-clause-run g c =
     (c.records_count_passes.ensures.evenly cluster after run c.args.passes is (each_passed cluster c.args.passes c.in-Ok.members.items after c.in-Ok.ensures.members served))
     (c.records_are_in_range.ensures.quorums cluster after run whole plan is) in
     subst (λ (x : ClusterState). IsRun x.office.cycle x.board.clients c.args.passes run) (sym c.requires.name) made
+
+pub returns-in-Ok-close-clause-let_pass : goal.returns-in-Ok-close-clause-let_pass
+returns-in-Ok-close-clause-let_pass g c some =
+    let lets = g.G.Gate.lets c.args.gate.now in
+    let driven = c.in-Ok-drive.ensures in
+    let each = each_let g.N.ClusterName.cluster lets c.args.passes c.in-Ok.members.items c.in-Ok-drive.members.items c.in-Ok.ensures.members driven.served driven.let_pass some in
+    subst (λ (x : ClusterState). AreLet lets x.board.clients) (sym c.requires.name) each
 
 pub unreachable-requires : goal.unreachable-requires
 unreachable-requires g c =
