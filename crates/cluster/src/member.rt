@@ -129,7 +129,7 @@ impl<N: ClusterName> Member<N> {
     }
 
     /// How many messages its calls lost: dropped by a node, for want of memory, or a LOCKED whose vote could not be taken. It
-    /// stays at its greatest value.
+    /// never falls, and stays at its greatest value.
     pub fn lost(&self) -> u64
         ensures { result ≡ self.now.lost }
     {
@@ -179,6 +179,7 @@ impl<N: ClusterName> Member<N> {
         ensures kept { IfErr result (λ _. self.new ≡ self.old) }
         ensures client { self.new.requester.id ≡ self.old.requester.id }
         ensures fault { self.new.fault ≡ self.old.fault }
+        ensures lost { self.old.lost ≤ self.new.lost }
     {
         match may_ask(&self.requester) {
             Ok(()) => {}
@@ -211,6 +212,7 @@ impl<N: ClusterName> Member<N> {
         ensures passes { self.new.seat.passes ≡ self.old.seat.passes }
         ensures client { self.new.requester.id ≡ self.old.requester.id }
         ensures fault { self.new.fault ≡ self.old.fault }
+        ensures lost { self.old.lost ≤ self.new.lost }
     {
         let message = cluster.next(rt, self.requester.id())?;
         if !accept(&mut self.seat, &cluster.board, &self.requester, &message) {
@@ -235,6 +237,7 @@ impl<N: ClusterName> Member<N> {
         ensures passes { self.new.seat.passes ≡ self.old.seat.passes }
         ensures client { self.new.requester.id ≡ self.old.requester.id }
         ensures fault { self.new.fault ≡ self.old.fault }
+        ensures lost { self.old.lost ≤ self.new.lost }
     {
         let Ok(_) = self.requester.leave_into(&mut self.out) else {
             return Err(ClusterFault::NotInside);
@@ -256,6 +259,7 @@ impl<N: ClusterName> Member<N> {
         ensures passes { self.new.seat.passes ≡ self.old.seat.passes }
         ensures client { self.new.requester.id ≡ self.old.requester.id }
         ensures fault { self.new.fault ≡ self.old.fault }
+        ensures lost { self.old.lost ≤ self.new.lost }
     {
         let Ok(_) = self.requester.give_up_into(&mut self.out) else {
             return Err(ClusterFault::Client(ClientFault::NotAsking));
@@ -270,6 +274,7 @@ impl<N: ClusterName> Member<N> {
     pub fn remind(&mut self, rt: &impl Wait, cluster: &Cluster<N>)
         ensures same { self.new ≡ record self.old { lost = self.new.lost } }
         ensures else_nothing { is_asking self.old.requester.phase ≡ false → self.new ≡ self.old }
+        ensures lost { self.old.lost ≤ self.new.lost }
     {
         if self.requester.phase() != Phase::Asking {
             return;
