@@ -1,5 +1,5 @@
 -- What becomes of members that are driven.
-use Rattle.std.proofs.Common.{◌≡◌, ℕ, zero, suc, ◌+◌, ◌<◌, Bool, true, true≢false, Option, None, Some, List, [], ◌∷◌, ◌++◌, refl, sym, ap, ◌∙◌, subst, length, add-zero, arith}
+use Rattle.std.proofs.Common.{◌≡◌, ℕ, zero, suc, ◌+◌, ◌*◌, ◌<◌, ◌≤◌, Bool, true, true≢false, Option, None, Some, List, [], ◌∷◌, ◌++◌, refl, sym, ap, ◌∙◌, subst, length, add-zero, arith}
 use Rattle.std.specs.Prelude.{All, slice_index_or}
 use Rattle.std.specs.List.{AllZip}
 use Rattle.std.proofs.lemmas.List.{append-nil, append_assoc, length-append}
@@ -13,7 +13,7 @@ use Rattle.dealer.specs.Offices.{ClerkState}
 use Rattle.cluster.specs.declared.fault.ClusterFault.{ClusterFault}
 use Rattle.cluster.specs.declared.fault.ClusterFault.TheVariants as ends
 use Rattle.cluster.specs.Members.{AreIdle, MemberState, RefusesPass, with_receipt}
-use Rattle.runs.specs.Drives.{EndsWork, HasMore, HasServed, IsBack, IsBackBy, KeepsWork, Stops, WasLet, Worked, wasted}
+use Rattle.runs.specs.Drives.{EndsWork, HasMore, HasServed, IsBack, IsBackBy, KeepsWork, Stops, TookTurns, WasLet, Worked, wasted}
 
 -- More of a list
 
@@ -95,6 +95,12 @@ pub was_let : (lets : ℕ → Bool) (drawn n : ℕ) (a b : MemberState) → Work
 was_let lets drawn n a b worked h longer =
     let more = worked.passes in
     subst (λ k. lets k ≡ true) (sym worked.client) (h (omega (arith, longer, ap length more.1, length-append a.seat.passes more.0, more.2)))
+
+-- who had two turns for each pass
+pub took_turns : (turns drawn n : ℕ) (a b : MemberState) → Worked drawn n a b → 2 * n ≤ turns → TookTurns turns a b
+took_turns turns drawn n a b worked h =
+    let more = worked.passes in
+    omega (arith, h, ap length more.1, length-append a.seat.passes more.0, more.2)
 
 -- All members
 

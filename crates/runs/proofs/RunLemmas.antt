@@ -1,7 +1,7 @@
 -- What a run of driven members comes to.
 use Rattle.std.proofs.Common.{◌≡◌, ℕ, zero, suc, ◌+◌, ◌*◌, ◌<◌, ◌≤◌, ◌++◌, List, [], ◌∷◌, Bool, true, Some, map, length, sum_by, get_or, refl, sym, ap, ◌∙◌, subst, cond, arith}
 use Rattle.std.specs.List.{All, AllZip, range_with_len}
-use Rattle.std.proofs.lemmas.List.{length-append, length-map}
+use Rattle.std.proofs.lemmas.List.{length-map}
 use Rattle.std.proofs.lemmas.List.FromFn.{get_or-map-range_with_len, get_or-range_with_len, length-range_with_len}
 use Rattle.std.proofs.lemmas.Slice.Zip.{AllZip-long}
 use Rattle.std.proofs.lemmas.List.Elements.{All-map, AllZip-get_or}
@@ -9,7 +9,7 @@ use Rattle.std.proofs.lemmas.List.Sums.{sum_by-cons}
 use native.Mathlib.Nat.{add-mul, zero-mul}
 use Rattle.requester.specs.Words.{is_idle}
 use Rattle.cluster.specs.Clusters.{ClusterState}
-use Rattle.runs.specs.Drives.{HasMore, HasServed, HasEnded, IsBack, IsBackBy, IsLeastFault, EndsWork, WasLet}
+use Rattle.runs.specs.Drives.{HasMore, HasServed, HasEnded, IsBack, IsBackBy, IsLeastFault, EndsWork, TookTurns, WasLet}
 use Rattle.cluster.specs.Members.{AreIdle, MemberState, fresh_member}
 use Rattle.cluster.specs.Records.{IsRecordOf, idle_count}
 use Rattle.cluster.specs.declared.record.RunRecord.{RunRecord}
@@ -78,20 +78,28 @@ pub each_drew : (c : ClusterState) (passes : ℕ) (before after : List MemberSta
 each_drew c passes before after e served =
     zip_right (IsFresh c) (HasServed passes) (λ m. length m.clerk.receipts ≡ passes) (λ x y fresh s. more_than_none passes x.clerk.receipts y.clerk.receipts fresh.receipts s.worked.receipts) before after (are_fresh c before e) served
 
+-- what became of the client of this number
+became : (c : ClusterState) (R : MemberState → MemberState → Type 0) (before after : List MemberState) → before ≡ map (fresh_member c) (range_with_len 0 c.board.clients) → AllZip R before after
+    → (k : ℕ) → k < c.board.clients → R (fresh_member c k) (get_or after k (fresh_member c k))
+became c R before after e zip k less =
+    let d = fresh_member c k in
+    let there : k < length before = omega (arith, less, ap length e, length-map (range_with_len 0 c.board.clients) (fresh_member c), length-range_with_len 0 c.board.clients) in
+    let first : get_or before k d ≡ d = ap (λ (l : List MemberState). get_or l k d) e ∙ get_or-map-range_with_len (fresh_member c) 0 c.board.clients k k d less (omega arith) in
+    subst (λ (x : MemberState). R x (get_or after k d)) first (AllZip-get_or R before after k d d zip there)
+
 -- each passed, so each was let pass
 pub each_let : (c : ClusterState) (lets : ℕ → Bool) (passes : ℕ) (before after : List MemberState) → before ≡ map (fresh_member c) (range_with_len 0 c.board.clients) → AllZip (HasServed passes) before after → AllZip (WasLet lets) before after
     → 0 < passes → AreLet lets c.board.clients
 each_let c lets passes before after e served zip some k less =
-    let d = fresh_member c k in
-    let x = get_or before k d in
-    let y = get_or after k d in
-    let there : k < length before = omega (arith, less, ap length e, length-map (range_with_len 0 c.board.clients) (fresh_member c), length-range_with_len 0 c.board.clients) in
-    let first : x ≡ d = ap (λ (l : List MemberState). get_or l k d) e ∙ get_or-map-range_with_len (fresh_member c) 0 c.board.clients k k d less (omega arith) in
-    let s : HasServed passes x y = AllZip-get_or (HasServed passes) before after k d d served there in
-    let w : WasLet lets x y = AllZip-get_or (WasLet lets) before after k d d zip there in
-    let more = s.worked.passes in
-    let longer : length x.seat.passes < length y.seat.passes = omega (arith, some, ap length more.1, length-append x.seat.passes more.0, more.2) in
-    subst (λ n. lets n ≡ true) (s.worked.client ∙ ap (λ (m : MemberState). m.requester.id) first) (w longer)
+    let s = became c (HasServed passes) before after e served k less in
+    subst (λ n. lets n ≡ true) s.worked.client (became c (WasLet lets) before after e zip k less (omega (arith, some, more_than_none passes [] _ refl s.worked.passes)))
+
+-- and each had two turns for each pass
+pub two_turns : (c : ClusterState) (turns passes : ℕ) (before after : List MemberState) → before ≡ map (fresh_member c) (range_with_len 0 c.board.clients) → AllZip (HasServed passes) before after → AllZip (TookTurns turns) before after
+    → 1 ≤ c.board.clients → 2 * passes ≤ turns
+two_turns c turns passes before after e served zip some =
+    let s = became c (HasServed passes) before after e served 0 some in
+    omega (arith, became c (TookTurns turns) before after e zip 0 some, more_than_none passes [] _ refl s.worked.passes)
 
 -- no member is missing
 pub all_ready : (c : ClusterState) (passes missing : ℕ) (before after : List MemberState) → before ≡ map (fresh_member c) (range_with_len 0 c.board.clients) → AllZip (HasServed passes) before after

@@ -1,5 +1,5 @@
 -- Drives of members: what becomes of each, and which fault is answered.
-use Rattle.std.specs.Prelude.{◌≡◌, ℕ, ◌+◌, ◌<◌, ◌≤◌, ◌++◌, Bool, true, List, Option, None, Some, IfSome, All, Contains, length}
+use Rattle.std.specs.Prelude.{◌≡◌, ℕ, ◌+◌, ◌*◌, ◌<◌, ◌≤◌, ◌++◌, Bool, true, List, Option, None, Some, IfSome, All, Contains, length}
 use Rattle.board.specs.declared.fault.BoardFault.TheVariants.{SeatsOut, VoteOut, RegisterFull, OutOfMemory}
 use Rattle.dealer.specs.declared.fault.DealFault.TheVariants.{QuotaSpent, OutOfMemory as NoRoom}
 use Rattle.requester.specs.declared.fault.ClientFault.TheVariants.{Busy, NotInside as Outside, NotAsking, StampsSpent}
@@ -70,6 +70,10 @@ Stops before after fault = Worked (wasted fault) 0 before after × EndsWork befo
 -- a client that passed was let pass
 abbrev pub WasLet : (ℕ → Bool) → MemberState → MemberState → Type 0
 WasLet lets before after = length before.seat.passes < length after.seat.passes → lets after.requester.id ≡ true
+
+-- each pass took two turns at least, one to enter and one at the gate, and there were so many
+abbrev pub TookTurns : ℕ → MemberState → MemberState → Type 0
+TookTurns turns before after = 2 * length after.seat.passes ≤ 2 * length before.seat.passes + turns
 
 -- the member's work was done, or it ended early by the fault that the member tells
 abbrev pub IsBackBy : ℕ → Option ClusterFault → MemberState → MemberState → Type 0

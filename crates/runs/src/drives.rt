@@ -1,9 +1,9 @@
 //! Drives: members that work in threads of their own.
-ghost use Rattle.std.specs.Prelude.{◌≡◌, ◌<◌, [], ◌∷◌, ◌++◌, List, true, None, IfOk, IfErr, IfSome, MatchResult};
+ghost use Rattle.std.specs.Prelude.{◌≡◌, ◌+◌, ◌<◌, ◌≤◌, [], ◌∷◌, ◌++◌, List, true, None, IfOk, IfErr, IfSome, MatchResult};
 ghost use Rattle.std.specs.List.{AllZip};
 ghost use Rattle.requester.specs.Words.{is_idle, is_inside};
 ghost use Rattle.cluster.specs.Members.{AreIdle, MemberState};
-ghost use Rattle.runs.specs.Drives.{HasServed, IsBack, IsLeastFault, IsLeastOf, KeepsWork, Stops, WasLet, Worked};
+ghost use Rattle.runs.specs.Drives.{HasServed, IsBack, IsLeastFault, IsLeastOf, KeepsWork, Stops, TookTurns, WasLet, Worked};
 
 use crate::gate::Gate;
 use cluster::{Cluster, ClusterFault, ClusterName, Member};
@@ -98,6 +98,7 @@ fn pass_once<N: ClusterName, G: Gate>(
     ensures passed { IfOk result (λ _. Worked 1 1 member.old member.new × (is_idle member.new.requester.phase ≡ true)) }
     ensures stopped { IfErr result (Stops member.old member.new) }
     ensures let_pass { IfOk result (λ _. G.lets gate.now member.old.requester.id ≡ true) }
+    ensures in_turns { IfOk result (λ left. left + 2 ≤ turns) }
     ensures fault { member.new.fault ≡ member.old.fault }
 {
     let client = member.client();
@@ -148,6 +149,7 @@ fn serve<N: ClusterName, G: Gate>(
     requires idle { is_idle member.old.requester.phase ≡ true }
     ensures back { IsBack passes member.old member.new }
     ensures let_pass { WasLet (G.lets gate.now) member.old member.new }
+    ensures in_turns { TookTurns turns member.old member.new }
 {
     member.ends_by(None);
     let mut left = turns;
@@ -204,6 +206,7 @@ fn serve_all<N: ClusterName + Send + Sync, R: Threads + Wait + Sync, G: Gate>(
     requires idle { AreIdle members.old }
     ensures back { AllZip (IsBack passes) members.old members.new }
     ensures let_pass { AllZip (WasLet (G.lets gate.now)) members.old members.new }
+    ensures in_turns { AllZip (TookTurns turns) members.old members.new }
     ensures idle { AreIdle members.new }
 {
     let threads = members.len();
@@ -218,6 +221,7 @@ fn serve_all<N: ClusterName + Send + Sync, R: Threads + Wait + Sync, G: Gate>(
             requires { is_idle member.old.requester.phase ≡ true }
             ensures back { IsBack passes member.old member.new }
             ensures let_pass { WasLet (G.lets gate.entry.now) member.old member.new }
+            ensures in_turns { TookTurns turns member.old member.new }
         { serve(rt, cluster, member, passes, turns, gate) },
     );
 }
@@ -228,7 +232,8 @@ fn serve_all<N: ClusterName + Send + Sync, R: Threads + Wait + Sync, G: Gate>(
 ///
 /// Each pump and each question whether the gate lets it pass is a turn, of which each member has so many for all its passes.
 /// At each empty pump beyond 16 in a row a member yields its thread, and at 1,000 it reminds and counts anew. A member whose
-/// turns are spent, or of which a call is refused, ends its work: it leaves or gives up, and keeps why ([`Member::fault`]).
+/// turns are spent, or of which a call is refused, ends its work: it leaves or gives up, and keeps why ([`Member::fault`]). A
+/// pass takes two turns at least.
 ///
 /// All members come back, in their order and idle. Where the work of some ended early, the fault of the least client is
 /// answered. A client that the gate never lets pass makes no pass.
@@ -245,6 +250,7 @@ pub fn drive<N: ClusterName + Send + Sync, R: Threads + Wait + Sync, G: Gate>(
     ensures back { IfErr result (λ driven. AllZip (IsBack passes) members.items driven.members.items) }
     ensures least { IfErr result (λ driven. IsLeastFault driven.members.items driven.fault) }
     ensures let_pass { MatchResult result (λ driven. AllZip (WasLet (G.lets gate.now)) members.items driven.items) (λ driven. AllZip (WasLet (G.lets gate.now)) members.items driven.members.items) }
+    ensures in_turns { MatchResult result (λ driven. AllZip (TookTurns turns) members.items driven.items) (λ driven. AllZip (TookTurns turns) members.items driven.members.items) }
     ensures idle { MatchResult result (λ driven. AreIdle driven.items) (λ driven. AreIdle driven.members.items) }
 {
     serve_all(rt, cluster, members.as_mut_slice(), passes, turns, gate);

@@ -18,9 +18,9 @@
 //! passed once for each that it had. The record of a run is sound by the plan, and has a ticket and a pass number for each
 //! pass of each client. In a run each client has a ticket for each of its passes, so that no run ends for want of one.
 //!
-//! Who passed was let pass by the gate: a client that it never lets pass makes no pass. How often a gate is asked, how many
-//! turns are taken and when a drive's threads run is not proved. That the record of a closed cluster is accepted is
-//! tested too.
+//! Who passed was let pass by the gate: a client that it never lets pass makes no pass. Each pass takes two turns at least, of
+//! those that the client has. That turns are spent no sooner, that a gate is asked before each pass, and when a drive's
+//! threads run, is not proved. That the record of a closed cluster is accepted is tested too.
 //!
 //! This crate stands on `cluster`, whose members it drives, and on `replay` for what a sound record is; the program's command
 //! `run` stands on it.

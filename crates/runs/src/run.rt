@@ -33,6 +33,7 @@ fn run_blank<N: ClusterName + Send + Sync, R: Threads + Wait + Sync, G: Gate>(
     ensures run { IfOk result (IsRun blank.office.cycle blank.board.clients passes) }
     ensures ended { IfErr result (EndsRun blank.board.clients) }
     ensures let_pass { IfOk result (λ _. 0 < passes → AreLet (G.lets gate.now) blank.board.clients) }
+    ensures in_turns { IfOk result (λ _. 2 * passes ≤ turns) }
 {
     records_count_passes();
     records_are_in_range();
@@ -72,6 +73,7 @@ pub fn record_of_run<R: Threads + Wait + Sync, G: Gate>(
     ensures run { IfOk result (IsRun plan clients passes) }
     ensures ended { IfErr result (EndsRun clients) }
     ensures let_pass { IfOk result (λ _. 0 < passes → AreLet (G.lets gate.now) clients) }
+    ensures in_turns { IfOk result (λ _. 2 * passes ≤ turns) }
 {
     let _ = plan.busiest();
     match Blank::new(alloc, plan, clients, passes) {

@@ -1,6 +1,6 @@
 use Rattle.std.proofs.Common.{rules}
 use Rattle.std.specs.List.{AllZip}
-use Rattle.runs.specs.Drives.{IsBack, WasLet}
+use Rattle.runs.specs.Drives.{IsBack, TookTurns, WasLet}
 use Rattle.runs.proofs.DriveLemmas.{all_idle, zip_from}
 use Rattle.runs.proofs.drives.serve_all.Goals as goal
 
@@ -9,6 +9,9 @@ returns-clause-back g c = zip_from (IsBack c.args.passes) c.args.members.now c.f
 
 pub returns-clause-let_pass : goal.returns-clause-let_pass
 returns-clause-let_pass g c = zip_from (WasLet (g.G.Gate.lets c.args.gate.now)) c.args.members.now c.for_each_mut.new.s (search rules) (λ i d below. let k = (c.for_each_mut.ensures i d below).1 in search rules)
+
+pub returns-clause-in_turns : goal.returns-clause-in_turns
+returns-clause-in_turns g c = zip_from (TookTurns c.args.turns) c.args.members.now c.for_each_mut.new.s (search rules) (λ i d below. let k = (c.for_each_mut.ensures i d below).1 in search rules)
 
 pub returns-clause-idle : goal.returns-clause-idle
 returns-clause-idle g c =

@@ -3,7 +3,7 @@ use Rattle.cluster.specs.Clusters.{ClusterState, IsCluster}
 use Rattle.certificate.specs.Certificates.{IsCertificate}
 use Rattle.cluster.specs.Closes.{RefusesClose}
 use Rattle.runs.specs.Runs.{AreLet, EndsRun, IsRun}
-use Rattle.runs.proofs.RunLemmas.{all_ready, driven_ends, each_let, each_passed, run_of}
+use Rattle.runs.proofs.RunLemmas.{all_ready, driven_ends, each_let, each_passed, run_of, two_turns}
 use Rattle.runs.proofs.run.run_blank.Goals as goal
 
 pub returns-in-Err-clause-ended : goal.returns-in-Err-clause-ended
@@ -35,6 +35,12 @@ returns-in-Ok-close-clause-let_pass g c some =
     let driven = c.in-Ok-drive.ensures in
     let each = each_let g.N.ClusterName.cluster lets c.args.passes c.in-Ok.members.items c.in-Ok-drive.members.items c.in-Ok.ensures.members driven.served driven.let_pass some in
     subst (λ (x : ClusterState). AreLet lets x.board.clients) (sym c.requires.name) each
+
+pub returns-in-Ok-close-clause-in_turns : goal.returns-in-Ok-close-clause-in_turns
+returns-in-Ok-close-clause-in_turns g c =
+    let driven = c.in-Ok-drive.ensures in
+    let whole : IsCluster g.N.ClusterName.cluster = subst IsCluster c.requires.name c.requires.cluster in
+    two_turns g.N.ClusterName.cluster c.args.turns c.args.passes c.in-Ok.members.items c.in-Ok-drive.members.items c.in-Ok.ensures.members driven.served driven.in_turns whole.some_client
 
 pub unreachable-requires : goal.unreachable-requires
 unreachable-requires g c =
