@@ -3,9 +3,11 @@ use Rattle.std.proofs.Common.{◌≡◌, ℕ, true, List, Option, None, Some, su
 use Rattle.std.specs.Prelude.{IfSome}
 use Rattle.qlock_cli.specs.Commands.{ComesOf, IsRefusedBy, IsShortFor, reads_input}
 use Rattle.qlock_cli.specs.Devices.{IsOfReading, IsOwn}
+use Rattle.whole_io.specs.declared.fault.DeviceFault.TheVariants as device
+use Rattle.whole_io.specs.declared.fault.DeviceFault.TheVariants.{ReadFault, TooLong, WriteFault}
 use Rattle.qlock_cli.specs.declared.fault.Fault.{Fault}
 use Rattle.qlock_cli.specs.declared.fault.Fault.TheVariants as faults
-use Rattle.qlock_cli.specs.declared.fault.Fault.TheVariants.{MissingPart, TooLong, ReadFault, WriteFault, Construct, File, Planner, Replay, Cluster, OutOfMemory}
+use Rattle.qlock_cli.specs.declared.fault.Fault.TheVariants.{MissingPart, Device, Construct, File, Planner, Replay, Cluster, OutOfMemory}
 use Rattle.command_line.specs.declared.command.Command.{Command}
 use Rattle.command_line.specs.declared.command.Command.TheVariants as commands
 use Rattle.command_line.specs.declared.command.Command.TheVariants.{Check, Deal, Make, Plan, Run, World}
@@ -14,10 +16,11 @@ use Rattle.command_line.specs.declared.command.Shape.{Shape}
 -- a fault of reading comes of what was read
 pub reading_comes : (command : Command) (bytes : Option (List ℕ)) (fault : Fault) → reads_input command ≡ true → IsOfReading bytes fault → IfSome bytes (λ input. ComesOf command input fault)
 reading_comes command None fault reads h = tt
-reading_comes command (Some input) TooLong reads h = (reads, h)
-reading_comes command (Some input) ReadFault reads h = reads
+reading_comes command (Some input) (Device TooLong) reads h = (reads, h)
+reading_comes command (Some input) (Device ReadFault) reads h = reads
 reading_comes command (Some input) OutOfMemory reads h = tt
-reading_comes command (Some input) WriteFault reads h = absurd h
+reading_comes command (Some input) (Device WriteFault) reads h = absurd h
+reading_comes command (Some input) (Device device.OutOfMemory) reads h = absurd h
 reading_comes command (Some input) (MissingPart k) reads h = absurd h
 reading_comes command (Some input) (Construct fault) reads h = absurd h
 reading_comes command (Some input) (File fault) reads h = absurd h
@@ -28,9 +31,7 @@ reading_comes command (Some input) (Cluster fault) reads h = absurd h
 
 -- a fault of the command's own comes of the input
 own_comes : (command : Command) (input : List ℕ) (fault : Fault) → IsOwn fault → IsShortFor command input → IsRefusedBy command input fault → ComesOf command input fault
-own_comes command input TooLong own short h = absurd own
-own_comes command input ReadFault own short h = absurd own
-own_comes command input WriteFault own short h = absurd own
+own_comes command input (Device fault) own short h = absurd own
 own_comes command input OutOfMemory own short h = tt
 own_comes command input (MissingPart k) own short h = (short, h)
 own_comes command input (Construct fault) own short h = (short, h)
@@ -59,9 +60,7 @@ for_known P (Run clients passes turns) (Some known) input idle same h = of_known
 for_known P commands.Replay (Some known) input idle same h = of_known (P commands.Replay) (Some known) input (same refl) h
 
 idle_fault : (fault : Fault) (shape : Shape) (a b : List ℕ) → IsOwn fault → ComesOf (Make shape) a fault → ComesOf (Make shape) b fault
-idle_fault TooLong shape a b own h = absurd own
-idle_fault ReadFault shape a b own h = absurd own
-idle_fault WriteFault shape a b own h = absurd own
+idle_fault (Device fault) shape a b own h = absurd own
 idle_fault OutOfMemory shape a b own h = tt
 idle_fault (MissingPart k) shape a b own h = (λ reads. cc, h.1)
 idle_fault (Construct fault) shape a b own h = (λ reads. cc, h.1)

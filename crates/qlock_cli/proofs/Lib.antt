@@ -1,5 +1,4 @@
 pub mod CommandLemmas
-pub mod DeviceLemmas
 pub mod ExecuteLemmas
 pub mod PartLemmas
 pub mod TextLemmas

@@ -34,11 +34,12 @@ use Rattle.replay.specs.declared.fault.ReplayFault.TheVariants.{BadLine}
 use Rattle.cluster.specs.declared.fault.ClusterFault.{ClusterFault}
 use Rattle.cluster.specs.declared.record.RunRecord.{RunRecord}
 use Rattle.runs.specs.Runs.{EndsRunBy, IsRun}
-use Rattle.qlock_cli.specs.Devices.{AppendsBeginning}
+use Rattle.whole_io.specs.Devices.{AppendsBeginning}
+use Rattle.whole_io.specs.declared.fault.DeviceFault.TheVariants.{ReadFault, TooLong, WriteFault}
 use Rattle.qlock_cli.specs.Parts.{split}
 use Rattle.qlock_cli.specs.declared.fault.Fault.{Fault}
 use Rattle.qlock_cli.specs.declared.fault.Fault.TheVariants as faults
-use Rattle.qlock_cli.specs.declared.fault.Fault.TheVariants.{TooLong, ReadFault, WriteFault, OutOfMemory, Construct, File, Planner}
+use Rattle.qlock_cli.specs.declared.fault.Fault.TheVariants.{Device, OutOfMemory, Construct, File, Planner}
 use Rattle.qlock_cli.specs.declared.answer.Planned.{Planned}
 use Rattle.command_line.specs.declared.command.Command.{Command}
 use Rattle.command_line.specs.declared.command.Command.TheVariants.{Check, Deal, Make, Plan, Replay, Run, World}
@@ -332,13 +333,13 @@ BeginsAnswer command input old new = IsShortFor command input × ((output : List
 
 -- what a refusal leaves written: after a write fault a beginning of the answer to the input, where that is known, and after any other fault what there was
 abbrev pub LeavesWritten : Command → Option (List ℕ) → Fault → Option (List ℕ) → Option (List ℕ) → Type 0
-LeavesWritten command bytes WriteFault old new = IfSome bytes (λ input. BeginsAnswer command input old new)
+LeavesWritten command bytes (Device WriteFault) old new = IfSome bytes (λ input. BeginsAnswer command input old new)
 LeavesWritten command bytes fault old new = Keeps old new
 
 -- the fault is one that the input leads to: it is too long, or the command refuses it so; a device or memory may fail whatever the input is
 abbrev pub ComesOf : Command → List ℕ → Fault → Type 0
-ComesOf command input TooLong = (reads_input command ≡ true) × (16777216 < length input)
-ComesOf command input ReadFault = reads_input command ≡ true
-ComesOf command input WriteFault = (output : List ℕ) × IsAnswer command input output
+ComesOf command input (Device TooLong) = (reads_input command ≡ true) × (16777216 < length input)
+ComesOf command input (Device ReadFault) = reads_input command ≡ true
+ComesOf command input (Device WriteFault) = (output : List ℕ) × IsAnswer command input output
 ComesOf command input OutOfMemory = ⊤
 ComesOf command input fault = IsShortFor command input × IsRefusal command input fault

@@ -1,30 +1,24 @@
--- Readers and writers that fail.
-use Rattle.std.specs.Prelude.{◌≡◌, ℕ, ◌<◌, length, take, IfSome, Bool, true, false, List, Option, Result, Ok, Err, ⊤}
-use Rattle.std.specs.Io.KnownBytes.{Appends}
+-- The faults of devices, as faults of a command.
+use Rattle.std.specs.Prelude.{◌≡◌, ℕ, ◌<◌, length, IfSome, Bool, true, false, List, Option, Result, Ok, Err, ⊤}
+use Rattle.whole_io.specs.declared.fault.DeviceFault.TheVariants.{ReadFault, TooLong, WriteFault}
 use Rattle.qlock_cli.specs.declared.fault.Fault.{Fault}
-use Rattle.qlock_cli.specs.declared.fault.Fault.TheVariants.{OutOfMemory, ReadFault, TooLong, WriteFault}
+use Rattle.qlock_cli.specs.declared.fault.Fault.TheVariants.{Device, OutOfMemory}
 
 -- the fault of a device is answered exactly where that device has failed, and never both
 abbrev pub FailsAs : {A : Type 0} → Bool → Bool → Result A Fault → Type 0
 FailsAs read_failed write_failed (Ok x) = (read_failed ≡ false) × (write_failed ≡ false)
-FailsAs read_failed write_failed (Err ReadFault) = (read_failed ≡ true) × (write_failed ≡ false)
-FailsAs read_failed write_failed (Err WriteFault) = (read_failed ≡ false) × (write_failed ≡ true)
-FailsAs read_failed write_failed (Err e) = (read_failed ≡ false) × (write_failed ≡ false)
-
--- a beginning of the output was written behind what there was: none of it, some or all
-abbrev pub AppendsBeginning : Option (List ℕ) → Option (List ℕ) → List ℕ → Type 0
-AppendsBeginning old new output = (n : ℕ) × Appends old new (take n output)
+FailsAs read_failed write_failed (Err (Device ReadFault)) = (read_failed ≡ true) × (write_failed ≡ false)
+FailsAs read_failed write_failed (Err (Device WriteFault)) = (read_failed ≡ false) × (write_failed ≡ true)
+FailsAs read_failed write_failed (Err fault) = (read_failed ≡ false) × (write_failed ≡ false)
 
 -- a fault of reading these bytes, where they are known: there are too many, the reader failed, or memory ran out
 abbrev pub IsOfReading : Option (List ℕ) → Fault → Type 0
-IsOfReading bytes TooLong = IfSome bytes (λ input. 16777216 < length input)
-IsOfReading bytes ReadFault = ⊤
+IsOfReading bytes (Device TooLong) = IfSome bytes (λ input. 16777216 < length input)
+IsOfReading bytes (Device ReadFault) = ⊤
 IsOfReading bytes OutOfMemory = ⊤
 IsOfReading bytes fault = ⊥
 
--- a fault of a command's own: not of reading, nor of writing
+-- a fault of a command's own: not of a device
 abbrev pub IsOwn : Fault → Type 0
-IsOwn TooLong = ⊥
-IsOwn ReadFault = ⊥
-IsOwn WriteFault = ⊥
+IsOwn (Device fault) = ⊥
 IsOwn fault = ⊤

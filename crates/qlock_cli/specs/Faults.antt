@@ -1,4 +1,6 @@
 -- The refusals of parts, as faults of a command: want of memory is one fault, wherever it comes from.
+use Rattle.whole_io.specs.declared.fault.DeviceFault.{DeviceFault}
+use Rattle.whole_io.specs.declared.fault.DeviceFault.TheVariants as device
 use Rattle.construct.specs.declared.fault.ConstructFault.{ConstructFault}
 use Rattle.construct.specs.declared.fault.ConstructFault.TheVariants as construct
 use Rattle.coterie_file.specs.declared.fault.FileFault.{FileFault}
@@ -12,7 +14,11 @@ use Rattle.replay.specs.declared.fault.ReplayFault.TheVariants as replay
 use Rattle.runs.specs.declared.fault.RunFault.{RunFault}
 use Rattle.runs.specs.declared.fault.RunFault.TheVariants as runs
 use Rattle.qlock_cli.specs.declared.fault.Fault.{Fault}
-use Rattle.qlock_cli.specs.declared.fault.Fault.TheVariants.{OutOfMemory, Construct, File, Plan, Planner, Replay, Cluster}
+use Rattle.qlock_cli.specs.declared.fault.Fault.TheVariants.{OutOfMemory, Device, Construct, File, Plan, Planner, Replay, Cluster}
+
+abbrev pub device_refusal : DeviceFault → Fault
+device_refusal device.OutOfMemory = OutOfMemory
+device_refusal fault = Device fault
 
 abbrev pub construct_refusal : ConstructFault → Fault
 construct_refusal construct.OutOfMemory = OutOfMemory

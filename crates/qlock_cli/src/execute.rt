@@ -1,15 +1,18 @@
 //! Serving a command: the whole input is read, the whole answer is made, and then it is written.
-ghost use Rattle.std.specs.Prelude.{◌≡◌, true, false, IfErr, IfOk, IfSome, OnOk};
+ghost use Rattle.std.specs.Prelude.{◌≡◌, true, false, IfErr, IfOk, IfSome, OnErr, OnOk};
+ghost use Rattle.std.specs.Io.KnownBytes.{Appends};
+ghost use Rattle.whole_io.specs.Devices.{AppendsBeginning};
+ghost use Rattle.whole_io.specs.declared.fault.DeviceFault.TheVariants.{WriteFault};
 ghost use Rattle.qlock_cli.specs.Devices.{FailsAs, IsOfReading};
+ghost use Rattle.qlock_cli.specs.declared.fault.Fault.TheVariants.{Device};
 ghost use Rattle.qlock_cli.specs.Commands.{Answers, ComesOf, IsServed, IsShortFor, LeavesWritten, reads_input};
 
 use crate::answer::answer;
-use crate::device::{read_input, write_output};
 use crate::fault::Fault;
-use crate::watched::Watched;
 use command_line::Command;
 use std::alloc::Global;
 use std::io::{Read, Write};
+use whole_io::{Watched, read_input, write_output};
 
 /// The input of a command: all of it, or nothing where the command doesn't read it.
 pub fn input_for<R: Read>(
@@ -31,7 +34,24 @@ pub fn input_for<R: Read>(
         | Command::Deal(_)
         | Command::World
         | Command::Run { .. }
-        | Command::Replay => read_input(alloc, reader),
+        | Command::Replay => match read_input(alloc, reader) {
+            Ok(input) => Ok(input),
+            Err(fault) => Err(Fault::from(fault)),
+        },
+    }
+}
+
+/// Writes all of an answer.
+pub fn write_answer<W: Write>(writer: &mut Watched<W>, answer: &[u8]) -> Result<(), Fault>
+    requires { writer.old.failed ≡ false }
+    ensures ok { OnOk result (Appends (W.contents writer.old.inner) (W.contents writer.new.inner) answer.now) }
+    ensures begun { OnErr result (AppendsBeginning (W.contents writer.old.inner) (W.contents writer.new.inner) answer.now) }
+    ensures refused { IfErr result (λ fault. fault ≡ Device WriteFault) }
+    ensures failed { FailsAs false writer.new.failed result }
+{
+    match write_output(writer, answer) {
+        Ok(()) => Ok(()),
+        Err(fault) => Err(Fault::from(fault)),
     }
 }
 
@@ -75,5 +95,5 @@ pub fn execute<R: Read, W: Write>(
         Ok(output) => output,
         Err(fault) => return Err(fault),
     };
-    write_output(writer, output.as_bytes())
+    write_answer(writer, output.as_bytes())
 }

@@ -1,6 +1,6 @@
 //! Why a command was refused.
 ghost use Rattle.std.specs.Prelude.{◌≡◌};
-ghost use Rattle.qlock_cli.specs.Faults.{construct_refusal, file_refusal, plan_refusal, planner_refusal, replay_refusal, run_refusal};
+ghost use Rattle.qlock_cli.specs.Faults.{construct_refusal, device_refusal, file_refusal, plan_refusal, planner_refusal, replay_refusal, run_refusal};
 ghost use Rattle.qlock_cli.specs.declared.fault.Fault.TheVariants.{OutOfMemory};
 
 use certificate::PlanFault;
@@ -12,6 +12,7 @@ use replay::ReplayFault;
 use runs::RunFault;
 use std::alloc::{AllocError, AllocFailed};
 use thiserror::Error;
+use whole_io::DeviceFault;
 
 /// Why a command was refused. Its text is one line.
 #[derive(Clone, Copy, Debug, PartialEq, Eq, Error)]
@@ -19,15 +20,9 @@ pub enum Fault {
     /// The input has fewer parts than the command reads; the number of the first that is missing, from 1.
     #[error("I1 MissingPart {0}")]
     MissingPart(usize),
-    /// The input has more than 16,777,216 bytes.
-    #[error("I2 TooLong")]
-    TooLong,
-    /// A read failed.
-    #[error("I3 ReadFault")]
-    ReadFault,
-    /// A write failed, or took no byte.
-    #[error("I4 WriteFault")]
-    WriteFault,
+    /// The input is too long, or a read or a write failed.
+    #[error(transparent)]
+    Device(DeviceFault),
     /// There is no coterie of this shape and these sizes.
     #[error(transparent)]
     Construct(ConstructFault),
@@ -64,6 +59,17 @@ impl<T: Drop> From<AllocFailed<T>> for Fault {
 
     fn from(_error: AllocFailed<T>) -> Fault {
         Fault::OutOfMemory
+    }
+}
+
+impl From<DeviceFault> for Fault {
+    ghost from_gives = { λ fault e. e ≡ device_refusal fault };
+
+    fn from(fault: DeviceFault) -> Fault {
+        match fault {
+            DeviceFault::OutOfMemory => Fault::OutOfMemory,
+            _ => Fault::Device(fault),
+        }
     }
 }
 

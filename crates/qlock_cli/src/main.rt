@@ -1,13 +1,13 @@
 //! The program `qlock`: plans of coteries, and the lock that they serve, from the command line.
 //!
-//! `command_line` reads the words, `execute` serves a command over a reader and a writer: `device` reads and writes,
-//! `parts` splits the input, `answer` makes the output, `texts` its lines.
+//! The crate `command_line` reads the words, and `execute` serves a command over a reader and a writer, `running` the
+//! command `run`: the crate `whole_io` reads all the input and writes all the output, `parts` splits the input, `answer`
+//! makes the output, `texts` its lines.
 #![tactic(auto)]
 
 ghost use Rattle.qlock_cli.specs.Commands.{IsInRange};
 
 mod answer;
-mod device;
 mod execute;
 mod fault;
 mod parts;
@@ -17,7 +17,6 @@ mod running;
 #[cfg(test)]
 mod tests;
 mod texts;
-mod watched;
 
 use command_line::{Command, Usage, read_words};
 use execute::execute;
@@ -28,12 +27,12 @@ use std::process::ExitCode;
 use std::sync::Wait;
 use std::thread::Threads;
 use std::{env, io};
-use watched::Watched;
+use whole_io::{DeviceFault, Watched};
 
 /// The exit status of a fault: 3 for a device, 4 for memory, and else 1.
 fn status_of(fault: &Fault) -> u8 {
     match fault {
-        Fault::ReadFault | Fault::WriteFault => 3,
+        Fault::Device(DeviceFault::ReadFault | DeviceFault::WriteFault) => 3,
         Fault::OutOfMemory => 4,
         _ => 1,
     }

@@ -4,7 +4,6 @@ ghost use Rattle.std.specs.Prelude.{◌≤◌};
 use crate::fault::Fault;
 use crate::running::execute_run;
 use crate::tests::{MAJORITY, MAJORITY_PLAN, answer_text};
-use crate::watched::Watched;
 use command_line::Command;
 use runs::{Gate, NoGate};
 use std::alloc::{AllocError, Global};
@@ -13,6 +12,7 @@ use std::sync::atomic::{AtomicBool, Ordering};
 use std::test::Fail;
 use std::thread;
 use std::thread::Threads;
+use whole_io::Watched;
 
 /// More turns than any of these runs takes.
 const MANY: u64 = 1_000_000_000_000;

@@ -5,10 +5,8 @@ ghost use Rattle.qlock_cli.specs.Commands.{Answers, ComesOf, IsAnswered, IsRunna
 ghost use Rattle.runs.specs.Runs.{IsRun};
 
 use crate::answer::planned_of;
-use crate::device::write_output;
-use crate::execute::input_for;
+use crate::execute::{input_for, write_answer};
 use crate::fault::Fault;
-use crate::watched::Watched;
 use cluster::RunRecord;
 use command_line::Command;
 use replay::write_record;
@@ -17,6 +15,7 @@ use std::alloc::Global;
 use std::io::{Read, Write};
 use std::sync::Wait;
 use std::thread::Threads;
+use whole_io::Watched;
 
 /// What `run` writes for an input: the text of the record of a run.
 fn run_answer<T: Threads + Wait + Sync, G: Gate>(
@@ -90,5 +89,5 @@ pub fn execute_run<T: Threads + Wait + Sync, R: Read, W: Write, G: Gate>(
         Ok(output) => output,
         Err(fault) => return Err(fault),
     };
-    write_output(writer, output.as_bytes())
+    write_answer(writer, output.as_bytes())
 }

@@ -1,6 +1,6 @@
 use Rattle.std.proofs.Common.{◌≡◌, ◌≤◌, ◌-◌, length, false, take}
 use Rattle.std.specs.Io.KnownBytes.{Appends}
-use Rattle.qlock_cli.proofs.device.write_output.Given as goal
+use Rattle.whole_io.proofs.device.write_output.Given as goal
 
 abbrev pub invariant-writing : goal.invariant-writing
 invariant-writing g l = record {

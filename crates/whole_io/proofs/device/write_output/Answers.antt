@@ -1,7 +1,7 @@
 use Rattle.std.proofs.Common.{◌+◌, ◌≤◌, ◌∙◌, arith, length, drop, inr}
 use Rattle.std.proofs.lemmas.List.{take_rest, length-drop}
-use Rattle.qlock_cli.proofs.DeviceLemmas.{Appends-more}
-use Rattle.qlock_cli.proofs.device.write_output.Goals as goal
+use Rattle.whole_io.proofs.DeviceLemmas.{Appends-more}
+use Rattle.whole_io.proofs.device.write_output.Goals as goal
 
 pub writing-preserved : goal.writing-preserved
 writing-preserved g c =

@@ -1,10 +1,10 @@
 //! Reading the whole input, and writing the whole output.
 ghost use Rattle.std.specs.Prelude.{◌≡◌, ◌≤◌, length, false, IfErr, IfOk, IfSome, OnErr, OnOk};
-ghost use Rattle.std.specs.Io.KnownBytes.{Appends};
-ghost use Rattle.qlock_cli.specs.Devices.{AppendsBeginning, FailsAs, IsOfReading};
-ghost use Rattle.qlock_cli.specs.declared.fault.Fault.TheVariants.{WriteFault};
+ghost use Rattle.std.specs.Io.KnownBytes.{Appends, IsAtEnd};
+ghost use Rattle.whole_io.specs.Devices.{AppendsBeginning, FailsAs, IsOfReading};
+ghost use Rattle.whole_io.specs.declared.fault.DeviceFault.TheVariants.{WriteFault};
 
-use crate::fault::Fault;
+use crate::fault::DeviceFault;
 use crate::watched::Watched;
 use std::alloc::Global;
 use std::io::{Read, Write};
@@ -12,10 +12,14 @@ use std::io::{Read, Write};
 /// The most bytes that an input may have.
 pub const LONGEST: usize = 16_777_216;
 
-/// Reads to the end, or to one byte past the longest input.
-pub fn read_input<R: Read>(alloc: Global, reader: &mut Watched<R>) -> Result<Vec<u8>, Fault>
+/// Reads to the end: all the bytes that are left in the reader, at most [`LONGEST`].
+///
+/// `ReadFault` where a read fails, and `TooLong` where there is one byte more than the longest input, whichever comes first.
+/// `OutOfMemory` may come at any point. A reader that has failed before is not for this call.
+pub fn read_input<R: Read>(alloc: Global, reader: &mut Watched<R>) -> Result<Vec<u8>, DeviceFault>
     requires { reader.old.failed ≡ false }
     ensures all { IfOk result (λ v. IfSome (R.remaining reader.old.inner) (λ bytes. v.items ≡ bytes)) }
+    ensures end { OnOk result (IsAtEnd (R.remaining reader.new.inner)) }
     ensures short { IfOk result (λ v. length v.items ≤ LONGEST) }
     ensures refused { IfErr result (IsOfReading (R.remaining reader.old.inner)) }
     ensures failed { FailsAs reader.new.failed false result }
@@ -25,18 +29,21 @@ pub fn read_input<R: Read>(alloc: Global, reader: &mut Watched<R>) -> Result<Vec
     'reading: while input.len() <= LONGEST {
         let room = (LONGEST + 1 - input.len()).min(4096);
         let Ok(count) = reader.read(&mut chunk[..room]) else {
-            return Err(Fault::ReadFault);
+            return Err(DeviceFault::ReadFault);
         };
         if count == 0 {
             return Ok(input);
         }
         input.extend_from_slice(&chunk[..count])?;
     }
-    Err(Fault::TooLong)
+    Err(DeviceFault::TooLong)
 }
 
-/// Writes all the bytes. A write that fails or takes none of them is a fault, and what earlier writes took stays written.
-pub fn write_output<W: Write>(writer: &mut Watched<W>, output: &[u8]) -> Result<(), Fault>
+/// Writes all the bytes, in as many writes as the writer makes of them; none where there are no bytes. Nothing is flushed.
+///
+/// `WriteFault` where a write fails or takes no byte, and what earlier writes took, a beginning of the output, stays written.
+/// A writer that has failed before is not for this call. Takes no memory.
+pub fn write_output<W: Write>(writer: &mut Watched<W>, output: &[u8]) -> Result<(), DeviceFault>
     requires { writer.old.failed ≡ false }
     ensures ok { OnOk result (Appends (W.contents writer.old.inner) (W.contents writer.new.inner) output.now) }
     ensures begun { OnErr result (AppendsBeginning (W.contents writer.old.inner) (W.contents writer.new.inner) output.now) }
@@ -46,10 +53,10 @@ pub fn write_output<W: Write>(writer: &mut Watched<W>, output: &[u8]) -> Result<
     let mut at = 0;
     'writing: while at < output.len() {
         let Ok(count) = writer.write(&output[at..]) else {
-            return Err(Fault::WriteFault);
+            return Err(DeviceFault::WriteFault);
         };
         if count == 0 {
-            return Err(Fault::WriteFault);
+            return Err(DeviceFault::WriteFault);
         }
         at += count;
     }

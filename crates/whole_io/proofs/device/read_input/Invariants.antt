@@ -1,6 +1,6 @@
 use Rattle.std.proofs.Common.{◌≡◌, ◌≤◌, ◌-◌, length, false}
 use Rattle.std.specs.Io.KnownBytes.{Consumes}
-use Rattle.qlock_cli.proofs.device.read_input.Given as goal
+use Rattle.whole_io.proofs.device.read_input.Given as goal
 
 abbrev pub invariant-reading : goal.invariant-reading
 invariant-reading g l = record {

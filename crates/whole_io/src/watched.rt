@@ -2,11 +2,14 @@
 ghost use Rattle.std.specs.Prelude.{◌≡◌, ◌<◌, IsTrue, true, false, OnErr, OnOk, IfOk, length, ◌⊎◌};
 ghost use Rattle.std.specs.Io.{ReadsAtMost, WritesAtMost};
 ghost use Rattle.std.specs.Io.KnownBytes.{ReadConsumes, WriteAppends, Keeps};
+ghost use Rattle.whole_io.specs.Watching.{Watching};
 
 use std::io;
 use std::io::{Read, Write};
+use std::marker::Model;
 
-/// Passes reads and writes on, and notes whether one has failed.
+/// Passes reads, writes and flushes on, and notes whether one has failed: it answered an error, or it was a write that took
+/// no byte of some. A failure that was noted stays.
 #[derive(Drop)]
 pub struct Watched<T> {
     /// The reader or the writer.
@@ -15,8 +18,14 @@ pub struct Watched<T> {
     failed: bool,
 }
 
+impl<T> Model for Watched<T> {
+    ghost Value = { Watching T };
+
+    ghost view = { λ w. record { inner = w.inner; failed = w.failed } };
+}
+
 impl<T> Watched<T> {
-    /// Watches a reader or a writer.
+    /// Watches a reader or a writer, of which no failure is noted so far.
     pub fn of(inner: T) -> Watched<T>
         ensures inner { result.inner ≡ inner }
         ensures failed { result.failed ≡ false }
@@ -27,11 +36,22 @@ impl<T> Watched<T> {
         }
     }
 
-    /// Whether a read or a write has failed.
+    /// Whether a read, a write or a flush has failed since the watch began.
     pub fn failed(&self) -> bool
         ensures { result ≡ self.now.failed }
     {
         self.failed
+    }
+
+    /// Notes whether a call has failed.
+    fn note(&mut self, failed: bool)
+        ensures inner { self.new.inner ≡ self.old.inner }
+        ensures noted { failed ≡ true → self.new.failed ≡ true }
+        ensures kept { failed ≡ false → self.new.failed ≡ self.old.failed }
+    {
+        if failed {
+            self.failed = true;
+        }
     }
 }
 
@@ -45,9 +65,7 @@ impl<R: Read> Read for Watched<R> {
         ensures noted { OnErr result (self.new.failed ≡ true) }
     {
         let result = self.inner.read(buf);
-        if result.is_err() {
-            self.failed = true;
-        }
+        self.note(result.is_err());
         result
     }
 }
@@ -63,14 +81,10 @@ impl<W: Write> Write for Watched<W> {
         ensures noted { OnErr result (self.new.failed ≡ true) }
     {
         let result = self.inner.write(buf);
-        match &result {
-            Ok(count) => {
-                if *count == 0 && !buf.is_empty() {
-                    self.failed = true;
-                }
-            }
-            Err(_) => self.failed = true,
-        }
+        self.note(match &result {
+            Ok(count) => *count == 0 && !buf.is_empty(),
+            Err(_) => true,
+        });
         result
     }
 
@@ -80,9 +94,7 @@ impl<W: Write> Write for Watched<W> {
         ensures noted { OnErr result (self.new.failed ≡ true) }
     {
         let result = self.inner.flush();
-        if result.is_err() {
-            self.failed = true;
-        }
+        self.note(result.is_err());
         result
     }
 }

@@ -1,0 +1,23 @@
+-- Readers and writers that fail.
+use Rattle.std.specs.Prelude.{◌≡◌, ℕ, ◌<◌, length, take, IfSome, Bool, true, false, List, Option, Result, Ok, Err, ⊤}
+use Rattle.std.specs.Io.KnownBytes.{Appends}
+use Rattle.whole_io.specs.declared.fault.DeviceFault.{DeviceFault}
+use Rattle.whole_io.specs.declared.fault.DeviceFault.TheVariants.{OutOfMemory, ReadFault, TooLong, WriteFault}
+
+-- the fault of a device is answered exactly where that device has failed, and never both
+abbrev pub FailsAs : {A : Type 0} → Bool → Bool → Result A DeviceFault → Type 0
+FailsAs read_failed write_failed (Ok x) = (read_failed ≡ false) × (write_failed ≡ false)
+FailsAs read_failed write_failed (Err ReadFault) = (read_failed ≡ true) × (write_failed ≡ false)
+FailsAs read_failed write_failed (Err WriteFault) = (read_failed ≡ false) × (write_failed ≡ true)
+FailsAs read_failed write_failed (Err e) = (read_failed ≡ false) × (write_failed ≡ false)
+
+-- a beginning of the output was written behind what there was: none of it, some or all
+abbrev pub AppendsBeginning : Option (List ℕ) → Option (List ℕ) → List ℕ → Type 0
+AppendsBeginning old new output = (n : ℕ) × Appends old new (take n output)
+
+-- a fault of reading these bytes, where they are known: there are too many, the reader failed, or memory ran out
+abbrev pub IsOfReading : Option (List ℕ) → DeviceFault → Type 0
+IsOfReading bytes TooLong = IfSome bytes (λ input. 16777216 < length input)
+IsOfReading bytes ReadFault = ⊤
+IsOfReading bytes OutOfMemory = ⊤
+IsOfReading bytes WriteFault = ⊥
