@@ -74,6 +74,7 @@ Gives view (Err fault) wanted = Refuses fault wanted
 unfoldable pub coterie_part : List ℕ → Result NamedSystem Fault
 coterie_part bytes = if is_utf8 bytes then refused_as File (coterie_at bytes) else Err (File NotToml)
 
+-- a plan of the coterie in bytes
 unfoldable pub plan_part : QuorumSystem → List ℕ → Result Weighted Fault
 plan_part system bytes = refused_as faults.Plan (plan_at system bytes)
 
@@ -104,18 +105,23 @@ staged_in input = do
 abbrev pub ticket_line : Weighted → ℕ → List ℕ
 ticket_line w ticket = decimal ticket ++ (32 ∷ (decimal (quorum_of_ticket w ticket) ++ 10 ∷ []))
 
+-- how often a voter was named, with its name
 abbrev pub voter_line : List ℕ → ℕ → List ℕ
 voter_line name count = codes "voter " ++ (name ++ (32 ∷ (decimal count ++ 10 ∷ [])))
 
+-- how often the busiest was
 abbrev pub busiest_line : ℕ → List ℕ
 busiest_line count = codes "busiest " ++ (decimal count ++ 10 ∷ [])
 
+-- how many tickets were drawn
 abbrev pub drawn_line : ℕ → List ℕ
 drawn_line count = codes "drawn " ++ (decimal count ++ 10 ∷ [])
 
+-- the register
 abbrev pub register_line : ℕ → List ℕ
 register_line number = codes "register " ++ (decimal number ++ 10 ∷ [])
 
+-- a load and the length of a cycle
 abbrev pub load_line : ℕ × ℕ → ℕ → List ℕ
 load_line load cycle = codes "load " ++ (decimal load.0 ++ (47 ∷ (decimal load.1 ++ (codes " cycle " ++ (decimal cycle ++ 10 ∷ [])))))
 
@@ -145,6 +151,7 @@ record_lines names account register = drawn_line account.drawn ++ (account_text 
 abbrev pub replay_text : Planned → Entries → List ℕ
 replay_text p e = record_lines p.named.names (account_of p.plan (tickets_of e.draws)) e.register
 
+-- the text that `check` writes
 unfoldable pub check_text : Planned → List ℕ
 check_text p = load_line (load_of p.plan) (cycle_len p.plan)
 
@@ -162,12 +169,15 @@ shape_at (Cyclic n base) = cyclic_at n base.items
 abbrev pub numbered_text : QuorumSystem → List ℕ
 numbered_text system = coterie_text (record { system = system; names = numbered_names system.voters })
 
+-- what `make` answers
 abbrev pub make_answer_of : Shape → Result (List ℕ) Fault
 make_answer_of shape = refused_as Construct (shape_at shape) >>= λ system. Ok (numbered_text system)
 
+-- what `check` answers
 abbrev pub check_answer_of : List ℕ → Result (List ℕ) Fault
 check_answer_of input = planned_in input >>= λ p. Ok (check_text p)
 
+-- what `deal` answers
 abbrev pub deal_answer_of : ℕ → List ℕ → Result (List ℕ) Fault
 deal_answer_of n input = planned_in input >>= λ p. Ok (deal_text p n)
 

@@ -70,7 +70,7 @@ pub fn execute<R: Read, W: Write>(
     requires unread { reader.old.failed ≡ false }
     requires unwritten { writer.old.failed ≡ false }
 
-    // What is written is a stated function of what is read.
+    // What is written is an answer of the command to what is read: for all but `plan` there is one.
     ensures written { OnOk result (IfSome (R.remaining reader.old.inner) (λ input.
         Answers command.now input (W.contents writer.old.inner) (W.contents writer.new.inner))) }
 

@@ -38,7 +38,7 @@ pub enum Fault {
     /// The script or the record was refused.
     #[error(transparent)]
     Replay(ReplayFault),
-    /// A run ended early.
+    /// A run has no record.
     #[error(transparent)]
     Cluster(ClusterFault),
     /// Memory ran out.
