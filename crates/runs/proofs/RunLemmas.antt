@@ -1,17 +1,20 @@
 -- What a run of driven members comes to.
-use Rattle.std.proofs.Common.{◌≡◌, ℕ, zero, suc, ◌+◌, ◌*◌, ◌<◌, ◌≤◌, ◌++◌, List, [], ◌∷◌, Bool, true, Some, map, length, sum_by, get_or, refl, sym, ap, ◌∙◌, subst, cond, arith}
+use Rattle.std.proofs.Common.{◌≡◌, ℕ, zero, suc, ◌+◌, ◌*◌, ◌<◌, ◌≤◌, ◌++◌, ◌==◌, List, [], ◌∷◌, Bool, true, Some, IsPermutation, map, flat_map, length, sum_by, count_by, get_or, refl, sym, ap, ◌∙◌, subst, cond, inl, inr, arith}
 use Rattle.std.specs.List.{All, AllZip, range_with_len}
 use Rattle.std.proofs.lemmas.List.{length-map}
 use Rattle.std.proofs.lemmas.List.FromFn.{get_or-map-range_with_len, get_or-range_with_len, length-range_with_len}
 use Rattle.std.proofs.lemmas.Slice.Zip.{AllZip-long}
 use Rattle.std.proofs.lemmas.List.Elements.{All-map, AllZip-get_or}
-use Rattle.std.proofs.lemmas.List.Sums.{sum_by-cons}
+use Rattle.std.proofs.lemmas.Bool.{cases_eq, eq-eqb, ne_eqb}
+use Rattle.std.proofs.lemmas.List.Sorted.{sum_by-IsPermutation}
+use Rattle.std.proofs.lemmas.List.Sums.{sum_by-append, sum_by-cons}
 use native.Mathlib.Nat.{add-mul, zero-mul}
 use Rattle.requester.specs.Words.{is_idle}
 use Rattle.cluster.specs.Clusters.{ClusterState}
 use Rattle.runs.specs.Drives.{HasMore, HasServed, HasEnded, IsBack, IsBackBy, IsLeastFault, EndsWork, TookTurns, WasLet}
 use Rattle.cluster.specs.Members.{AreIdle, MemberState, fresh_member}
-use Rattle.cluster.specs.Records.{IsRecordOf, idle_count}
+use Rattle.cluster.specs.Records.{Draw, Pass, IsRecordOf, draws_of, idle_count, passes_of}
+use Rattle.dealer.specs.declared.receipt.Receipt.{Receipt}
 use Rattle.cluster.specs.declared.record.RunRecord.{RunRecord}
 use Rattle.cluster.specs.declared.fault.ClusterFault.{ClusterFault}
 use Rattle.cluster.specs.declared.fault.ClusterFault.TheVariants as ends
@@ -44,6 +47,30 @@ zip_right P R Q each [] (y ∷ ys) all zip k d lt = absurd zip
 zip_right P R Q each (x ∷ xs) [] all zip k d lt = absurd zip
 zip_right P R Q each (x ∷ xs) (y ∷ ys) all zip zero d lt = each x y (all 0 x (omega arith)) zip.0
 zip_right P R Q each (x ∷ xs) (y ∷ ys) all zip (suc k) d lt = zip_right P R Q each xs ys (λ j e below. all (suc j) e (omega (arith, below))) zip.1 k d (omega (arith, lt))
+
+sum_by-flat_map : {A B : Type 0} (f : B → ℕ) (g : A → List B) (xs : List A) → sum_by f (flat_map g xs) ≡ sum_by (λ x. sum_by f (g x)) xs
+sum_by-flat_map f g [] = refl
+sum_by-flat_map f g (x ∷ xs) = sum_by-append f (g x) (flat_map g xs) ∙ ap (λ n. sum_by f (g x) + n) (sum_by-flat_map f g xs) ∙ sym (sum_by-cons (λ y. sum_by f (g y)) x xs)
+
+-- the sum of what depends on the number alone
+sum_by_number : {A : Type 0} (number : A → ℕ) (f : A → ℕ) (v : ℕ → ℕ) (xs : List A) → All (λ x. f x ≡ v (number x)) xs → sum_by f xs ≡ sum_by v (map number xs)
+sum_by_number number f v [] all = refl
+sum_by_number number f v (x ∷ xs) all =
+    let rest = sum_by_number number f v xs (λ k d lt. all (suc k) d (omega (arith, lt))) in
+    omega (arith, all 0 x (omega arith), rest, sum_by-cons f x xs, sum_by-cons v (number x) (map number xs))
+
+-- in a range each number stands once, and none below its first
+none_below : (v : ℕ → ℕ) (c a n : ℕ) → ((k : ℕ) → (k ≡ c → ⊥) → v k ≡ 0) → c < a → sum_by v (range_with_len a n) ≡ 0
+none_below v c a zero other lt = refl
+none_below v c a (suc n) other lt =
+    omega (arith, sum_by-cons v a (range_with_len (a + 1) n), other a (λ e. omega (arith, e, lt)), none_below v c (a + 1) n other (omega (arith, lt)))
+
+once_within : (v : ℕ → ℕ) (c a n : ℕ) → ((k : ℕ) → (k ≡ c → ⊥) → v k ≡ 0) → a ≤ c → c < a + n → sum_by v (range_with_len a n) ≡ v c
+once_within v c a zero other le lt = absurd (omega (arith, le, lt))
+once_within v c a (suc n) other le lt = elim (cases_eq a c) [
+  | inl here ↦ omega (arith, sum_by-cons v a (range_with_len (a + 1) n), ap v here, none_below v c (a + 1) n other (omega (arith, here)))
+  | inr later ↦ omega (arith, sum_by-cons v a (range_with_len (a + 1) n), other a later, once_within v c (a + 1) n other (omega (arith, le, later)) (omega (arith, lt)))
+]
 
 -- Fresh members that were driven
 
@@ -144,6 +171,54 @@ driven_ends c passes before after fault e quota back least =
     each : All (EndsWell c.board.clients) after
     each = zip_right (IsFresh c) (IsBack passes) (EndsWell c.board.clients) one before after (are_fresh c before e) back
 
+-- What each client did
+
+-- 1 where the client is this one
+abbrev one_of : ℕ → ℕ → ℕ
+one_of c k = cond (k == c) 1 0
+
+-- how often a client stands in a list in which each member's part names it so many times and nobody else
+times_of_each : {Y : Type 0} (who : Y → ℕ) (did : MemberState → List Y) (clients times : ℕ) (members : List MemberState) (ys : List Y)
+    → IsPermutation (flat_map did members) ys → map (λ m. m.requester.id) members ≡ range_with_len 0 clients
+    → All (λ m. length (did m) ≡ times) members → ((m : MemberState) → All (λ y. who y ≡ m.requester.id) (did m))
+    → (c : ℕ) → c < clients → count_by (λ y. who y == c) ys ≡ times
+times_of_each {Y} who did clients times members ys same numbers long named c less =
+    sum_by-IsPermutation (λ y. one_of c (who y)) (flat_map did members) ys same
+    ∙ sum_by-flat_map (λ y. one_of c (who y)) did members
+    ∙ sum_by_number (λ m. m.requester.id) (λ m. sum_by (λ y. one_of c (who y)) (did m)) (λ k. times * one_of c k) members part
+    ∙ ap (sum_by (λ k. times * one_of c k)) numbers
+    ∙ once_within (λ k. times * one_of c k) c 0 clients none_else (omega arith) (omega (arith, less))
+    ∙ ap (λ n. times * n) here
+    ∙ omega arith
+  where
+    here : one_of c c ≡ 1
+    here = ap (λ b. cond {A = ℕ} b 1 0) (eq-eqb c c refl)
+
+    none_else : (k : ℕ) → (k ≡ c → ⊥) → times * one_of c k ≡ 0
+    none_else k other = ap (λ b. times * cond {A = ℕ} b 1 0) (ne_eqb k c other) ∙ omega arith
+
+    part : All (λ m. sum_by (λ y. one_of c (who y)) (did m) ≡ times * one_of c m.requester.id) members
+    part k m lt =
+        let one = get_or members k m in
+        sum_by_same (λ y. one_of c (who y)) (one_of c one.requester.id) (did one) (λ j y below. ap (one_of c) (named one j y below))
+        ∙ ap (λ n. n * one_of c one.requester.id) (long k m lt)
+
+numbers_of_fresh : (c : ClusterState) (ks : List ℕ) → map (λ m. m.requester.id) (map (fresh_member c) ks) ≡ ks
+numbers_of_fresh c [] = refl
+numbers_of_fresh c (k ∷ ks) = ap (λ l. k ∷ l) (numbers_of_fresh c ks)
+
+-- a drive keeps who the members are
+same_numbers : (passes : ℕ) (before after : List MemberState) → AllZip (HasServed passes) before after → map (λ m. m.requester.id) after ≡ map (λ m. m.requester.id) before
+same_numbers passes [] [] zip = refl
+same_numbers passes [] (y ∷ ys) zip = absurd zip
+same_numbers passes (x ∷ xs) [] zip = absurd zip
+same_numbers passes (x ∷ xs) (y ∷ ys) zip = λ i. zip.0.worked.client i ∷ same_numbers passes xs ys zip.1 i
+
+-- the members' numbers are those below the number of clients
+numbered : (c : ClusterState) (passes : ℕ) (before after : List MemberState) → before ≡ map (fresh_member c) (range_with_len 0 c.board.clients) → AllZip (HasServed passes) before after
+    → map (λ m. m.requester.id) after ≡ range_with_len 0 c.board.clients
+numbered c passes before after e served = same_numbers passes before after served ∙ ap (map (λ (m : MemberState). m.requester.id)) e ∙ numbers_of_fresh c (range_with_len 0 c.board.clients)
+
 -- The record
 
 pub run_of : (c : ClusterState) (passes : ℕ) (before after : List MemberState) (r : RunRecord) → before ≡ map (fresh_member c) (range_with_len 0 c.board.clients) → AllZip (HasServed passes) before after
@@ -159,4 +234,10 @@ run_of c passes before after r e served quorums is sound drawn register in_range
       register = register ∙ ap (λ n. n * passes) many;
       each_draw = λ k d lt. ((is.each_draw k d lt).client, omega (arith, in_range k d lt, ap length quorums));
       each_pass = is.each_pass;
+      draws_of_each = times_of_each (λ (d : Draw). d.0) draws_of c.board.clients passes after r.draws.items is.draws (numbered c passes before after e served)
+          (λ k m lt. length-map (get_or after k m).clerk.receipts (λ (x : Receipt). ((get_or after k m).requester.id, x.ticket, x.quorum)) ∙ each_drew c passes before after e served k m lt)
+          (λ m. All-map (λ (d : Draw). d.0 ≡ m.requester.id) (λ (x : Receipt). (m.requester.id, x.ticket, x.quorum)) m.clerk.receipts (λ k x lt. refl));
+      passes_of_each = times_of_each (λ (p : Pass). p.0) passes_of c.board.clients passes after r.passes.items is.passes (numbered c passes before after e served)
+          (λ k m lt. length-map (get_or after k m).seat.passes (λ (x : ℕ). ((get_or after k m).requester.id, x)) ∙ each_passed c passes before after e served k m lt)
+          (λ m. All-map (λ (p : Pass). p.0 ≡ m.requester.id) (λ (x : ℕ). (m.requester.id, x)) m.seat.passes (λ k x lt. refl));
     }

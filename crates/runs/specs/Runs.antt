@@ -1,6 +1,6 @@
 -- Runs of a plan's lock: their records, and why there is none.
-use Rattle.std.specs.Prelude.{◌≡◌, ℕ, ◌*◌, ◌<◌, Bool, true, length}
-use Rattle.std.specs.List.{All}
+use Rattle.std.specs.Prelude.{◌≡◌, ℕ, ◌*◌, ◌<◌, ◌==◌, Bool, true, length}
+use Rattle.std.specs.List.{All, count_by}
 use Rattle.certificate.specs.Certificates.{Weighted}
 use Rattle.board.specs.declared.fault.BoardFault.TheVariants as board
 use Rattle.dealer.specs.declared.fault.DealFault.TheVariants as deal
@@ -12,13 +12,15 @@ use Rattle.replay.specs.Records.{IsSoundRecord, entries_of}
 use Rattle.runs.specs.declared.fault.RunFault.{RunFault}
 use Rattle.runs.specs.declared.fault.RunFault.TheVariants.{Cluster, OutOfMemory}
 
--- The record of a run in which each of so many clients made so many passes: its tickets, their quorums and its pass numbers are those of a sound record by the plan, and there is one ticket for each pass
+-- The record of a run in which each of so many clients made so many passes: its tickets, their quorums and its pass numbers are those of a sound record by the plan. Each client has a ticket and a pass number for each of its passes
 pub record IsRun (plan : Weighted) (clients passes : ℕ) (r : RunRecord) : Type 0 where
   pub sound : IsSoundRecord plan (entries_of r)
   pub drawn : length r.draws.items ≡ clients * passes
   pub register : r.register ≡ clients * passes
   pub each_draw : All (λ d. (d.0 < clients) × (d.2 < length plan.system.quorums)) r.draws.items
   pub each_pass : All (λ p. p.0 < clients) r.passes.items
+  pub draws_of_each : (c : ℕ) → c < clients → count_by (λ d. d.0 == c) r.draws.items ≡ passes
+  pub passes_of_each : (c : ℕ) → c < clients → count_by (λ p. p.0 == c) r.passes.items ≡ passes
 
 -- each of so many clients is let pass
 abbrev pub AreLet : (ℕ → Bool) → ℕ → Type 0

@@ -15,8 +15,8 @@
 //!
 //! A drive hands all members back, in their order and idle. One that kept no fault drew a ticket for each of its passes and
 //! made them all; one that kept a fault made fewer, and drew at most one ticket besides. Its tickets run out only where it
-//! passed once for each that it had. The record of a run is sound by the plan, and has a ticket and a pass number for each
-//! pass of each client. In a run each client has a ticket for each of its passes, so that no run ends for want of one.
+//! passed once for each that it had. The record of a run is sound by the plan, and in it each client has a ticket and a
+//! pass number for each of its passes. No run ends for want of a ticket, as each client may draw one for each pass.
 //!
 //! Who passed was let pass by the gate: a client that it never lets pass makes no pass. Each pass takes two turns at least, of
 //! those that the client has. That turns are spent no sooner, that a gate is asked before each pass, and when a drive's
