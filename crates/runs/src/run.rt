@@ -56,8 +56,8 @@ fn run_blank<N: ClusterName + Send + Sync, R: Threads + Wait + Sync, G: Gate>(
 /// the record. It consumes the plan. Each pump and each question at the gate is a turn, and each client has so many turns
 /// for all its passes.
 ///
-/// Where a client's work ends early, as when its turns are spent, the fault of the least such client is answered. A client
-/// that the gate never lets pass spends its turns, so that there is no record.
+/// Where a client's work ends early, as when its turns are spent, the fault of the least such client is answered. Where the
+/// gate never lets one of the clients pass, or there are fewer than two turns for each pass, there is no record of a pass.
 pub fn record_of_run<R: Threads + Wait + Sync, G: Gate>(
     rt: &R,
     alloc: Global,
