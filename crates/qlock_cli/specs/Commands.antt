@@ -255,7 +255,7 @@ abbrev pub RefusesToReplay : List ℕ → Fault → Type 0
 RefusesToReplay input (faults.Replay fault) = IsBadRun input fault
 RefusesToReplay input fault = staged_in input ≡ Err fault
 
--- the input spells a coterie and a plan of it, and the output is the text of a record by that plan of a run in which each of so many clients made so many passes
+-- the input spells a coterie and a plan of it, and the output is the text of a record by that plan of a run in which each of so many clients made so many passes: each has a ticket and a pass number for each of them
 pub record IsRunText (clients passes : ℕ) (input output : List ℕ) : Type 0 where
   pub planned : Planned
   pub parts : planned_in input ≡ Ok planned
