@@ -1,5 +1,5 @@
 -- Lemmas on the parts of an input.
-use Rattle.std.proofs.Common.{◌≡◌, ℕ, Bool, true, false, cond, List, None, Some, Result, Ok, Err, ap, sym, refl, ◌∙◌}
+use Rattle.std.proofs.Common.{◌≡◌, ℕ, Bool, true, false, cond, List, None, Some, Result, Ok, Err, ap, subst, sym, refl, ◌∙◌}
 use Rattle.std.specs.Str.{IsUtf8, is_utf8}
 use Rattle.std.proofs.lemmas.Str.{IsUtf8-from_is_utf8, is_utf8-from_IsUtf8}
 use Rattle.coterie_file.specs.Answers as file_answers
@@ -9,9 +9,11 @@ use Rattle.coterie_file.specs.declared.fault.FileFault.TheVariants as file
 use Rattle.certificate.specs.PlanTexts as plan_texts
 use Rattle.certificate.specs.declared.fault.PlanFault.{PlanFault}
 use Rattle.certificate.specs.declared.fault.PlanFault.TheVariants as plan
-use Rattle.qlock_cli.specs.Commands.{IsInRange, IsRefusedBy, Refuses, coterie_part, refused_as, staged_in}
+use Rattle.qlock_cli.specs.Commands.{IsAnswer, IsInRange, IsRefusedBy, IsRunText, Refuses, coterie_part, planned_in, refused_as, staged_in}
 use Rattle.qlock_cli.specs.Faults.{file_refusal, plan_refusal, replay_refusal}
-use Rattle.replay.specs.Records.{Entries, IsFirstFault}
+use Rattle.cluster.specs.declared.record.RunRecord.{RunRecord}
+use Rattle.runs.specs.Runs.{IsRun}
+use Rattle.replay.specs.Records.{Entries, IsFirstFault, entries_of}
 use Rattle.replay.specs.RecordTexts.{HasText, IsBadRecord, record_text}
 use Rattle.replay.specs.Scripts.{IsBadText}
 use Rattle.replay.specs.declared.fault.ReplayFault.{ReplayFault}
@@ -74,3 +76,10 @@ named_in_range used commands.World named = tt
 named_in_range used commands.Replay named = tt
 named_in_range None (commands.Run clients passes turns) named = absurd named
 named_in_range (Some rows) (commands.Run clients passes turns) named = (named.1.1, named.1.2, named.2.2)
+
+-- the text of the record of a run is an answer of the command `run`
+pub run_told : (command : Command) (clients passes turns : ℕ) (input output : List ℕ) (planned : Planned) (run : RunRecord) → command ≡ commands.Run clients passes turns → planned_in input ≡ Ok planned
+    → IsRun planned.plan clients passes run → output ≡ record_text (entries_of run) → IsAnswer command input output
+run_told command clients passes turns input output planned run is parts is_run spelled =
+    let text : IsRunText clients passes input output = record { planned = planned; parts = parts; run = run; is_run = is_run; spelled = spelled } in
+    subst (λ (k : Command). IsAnswer k input output) (sym is) text

@@ -18,6 +18,7 @@ use std::thread::Threads;
 use whole_io::Watched;
 
 /// What `run` writes for an input: the text of the record of a run.
+#[tactic(auto, using(crate::proofs::CommandLemmas::run_told))]
 fn run_answer<T: Threads + Wait + Sync, G: Gate>(
     rt: &T,
     alloc: Global,
