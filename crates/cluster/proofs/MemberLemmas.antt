@@ -18,7 +18,7 @@ use Rattle.requester.proofs.SoundSteps.{sound-step}
 use Rattle.requester.proofs.VoteLemmas.{asked_holds_nothing, given_up_holds_nothing, idle_holds_nothing, left_holds_nothing}
 use Rattle.requester.specs.RequesterContract.{Sees}
 use Rattle.requester.specs.Soundness.{IsSound}
-use Rattle.requester.specs.Steps.{Outcome, Asks, Takes, Leaves, GivesUp, ask, ask_in, ask_unless, asked, give_up, give_up_in, leave, leave_in, step, take, take_body, see, locked, locked_by, enter_if, hold, is_fresh, failed, failed_by, fail, inquired, inquired_by, relinquish, relinquish_if, relinquish_each}
+use Rattle.requester.specs.Steps.{Outcome, Asks, Takes, Leaves, GivesUp, ask, ask_in, ask_unless, give_up, give_up_in, leave, leave_in, step, take, take_body, see, locked, locked_by, enter_if, hold, is_fresh, failed, failed_by, fail, inquired, inquired_by, relinquish, relinquish_if, relinquish_each}
 use Rattle.requester.specs.Words.{is_idle, is_asking, is_inside, is_spent, is_current, is_covered, is_inquired, is_hindered, is_member, holds, holds_under, members}
 use Rattle.board.specs.Seats.{BoardState, ClientSeatState as SeatState}
 use Rattle.board.specs.Quorums.{quorum_at}
@@ -30,10 +30,12 @@ use Rattle.quorum_set.specs.Sets.{IsSet}
 use Rattle.node.specs.Mail.{IsMail}
 use Rattle.cluster.specs.declared.fault.ClusterFault.{ClusterFault}
 use Rattle.cluster.specs.declared.fault.ClusterFault.TheVariants as refuses
-use Rattle.dealer.specs.Offices.{ClerkState, share_of}
+use Rattle.dealer.specs.declared.fault.DealFault.{DealFault}
+use Rattle.dealer.specs.declared.fault.DealFault.TheVariants.{QuotaSpent, OutOfMemory as NoRoom}
+use Rattle.dealer.specs.Offices.{ClerkState, RefusesTicket, share_of}
 use Rattle.cluster.specs.Clusters.{ClusterState}
 use Rattle.node.specs.Votes.{HoldsWithin, HoldsFewer}
-use Rattle.cluster.specs.Members.{IsMember, with_receipt}
+use Rattle.cluster.specs.Members.{IsMember, MemberState, RefusesAsk, RefusesStart, with_receipt}
 
 -- Steps
 
@@ -53,23 +55,50 @@ of_give_up : (x : ClientState) (o : Outcome) → give_up x ≡ Ok o → step x G
 unfolding step
 of_give_up x o e = e
 
--- who is idle and has a stamp left asks
-
-asks_in : (p : Phase) (x : ClientState) (q : List ℕ) → is_idle p ≡ true → is_spent x ≡ false → ask_in p x q ≡ Ok (asked x q)
-asks_in Idle x q idle left = ap (λ b. ask_unless b x q) left
-asks_in Asking x q idle left = absurd (true≢false (sym idle))
-asks_in Inside x q idle left = absurd (true≢false (sym idle))
+-- who asks was idle and had a stamp left
 
 abbrev is_fine : {A : Type 0} → Result A ClientFault → Bool
 is_fine (Ok o) = true
 is_fine (Err e) = false
 
-not_both : {A : Type 0} (r : Result A ClientFault) (o : A) (e : ClientFault) → r ≡ Ok o → r ≡ Err e → ⊥
+pub not_both : {A : Type 0} (r : Result A ClientFault) (o : A) (e : ClientFault) → r ≡ Ok o → r ≡ Err e → ⊥
 not_both r o e ok err = true≢false (ap is_fine (sym ok ∙ err))
 
-pub may_ask : (x : ClientState) (q : List ℕ) (e : ClientFault) → is_idle x.phase ≡ true → is_spent x ≡ false → ask x q ≡ Err e → ⊥
+unspent_if : (b : Bool) (x : ClientState) (q : List ℕ) (o : Outcome) → ask_unless b x q ≡ Ok o → b ≡ false
+unspent_if false x q o e = refl
+unspent_if true x q o e = absurd (true≢false (ap is_fine (sym e)))
+
+starts_in : (p : Phase) (x : ClientState) (q : List ℕ) (o : Outcome) → ask_in p x q ≡ Ok o → (is_idle p ≡ true) × (is_spent x ≡ false)
+starts_in Idle x q o e = (refl, unspent_if (is_spent x) x q o e)
+starts_in Asking x q o e = absurd (true≢false (ap is_fine (sym e)))
+starts_in Inside x q o e = absurd (true≢false (ap is_fine (sym e)))
+
+pub starts : (x : ClientState) (q : List ℕ) (o : Outcome) → ask x q ≡ Ok o → (is_idle x.phase ≡ true) × (is_spent x ≡ false)
 unfolding ask
-may_ask x q e idle left err = not_both (ask_in x.phase x q) (asked x q) e (asks_in x.phase x q idle left) err
+starts x q o e = starts_in x.phase x q o e
+
+-- why a client does not start, and a member with a client that would start does not ask
+
+abbrev fault_or : {A : Type 0} → ClientFault → Result A ClientFault → ClientFault
+fault_or other (Ok o) = other
+fault_or other (Err e) = e
+
+spent_if : (b : Bool) (x : ClientState) (q : List ℕ) (e : ClientFault) → is_spent x ≡ b → is_idle x.phase ≡ true → ask_unless b x q ≡ Err e → RefusesStart x e
+spent_if false x q e is idle err = absurd (true≢false (ap is_fine err))
+spent_if true x q e is idle err = subst (RefusesStart x) (ap (fault_or e) err) (idle, is)
+
+refuses_in : (p : Phase) (x : ClientState) (q : List ℕ) (e : ClientFault) → x.phase ≡ p → ask_in p x q ≡ Err e → RefusesStart x e
+refuses_in Idle x q e is err = spent_if (is_spent x) x q e refl (ap is_idle is) err
+refuses_in Asking x q e is err = subst (RefusesStart x) (ap (fault_or e) err) (ap is_idle is)
+refuses_in Inside x q e is err = subst (RefusesStart x) (ap (fault_or e) err) (ap is_idle is)
+
+pub refuses_start : (x : ClientState) (q : List ℕ) (e : ClientFault) → ask x q ≡ Err e → RefusesStart x e
+unfolding ask
+refuses_start x q e err = refuses_in x.phase x q e refl err
+
+pub refuses_ticket : (m : MemberState) (e : DealFault) → (is_idle m.requester.phase ≡ true) × (is_spent m.requester ≡ false) → RefusesTicket m.clerk.rest e → RefusesAsk m (refuses.Deal e)
+refuses_ticket m QuotaSpent start err = (start.0, start.1, err)
+refuses_ticket m NoRoom start err = (start.0, start.1, err)
 
 -- who leaves was inside, and who gives up asked
 
@@ -259,15 +288,15 @@ module _ (c : ClusterState) (x : ClientState) (seat : SeatState) (clerk : ClerkS
   both_places y sound = (ap length r.held ∙ r.sound.places.held, sound.places.held)
 
   -- it asked the quorum of this number, and its clerk keeps the receipt
-  pub asked_member : (q : List ℕ) (o : Outcome) → ask x q ≡ Ok o → is_idle x.phase ≡ true → IsSet q → 1 ≤ length q
+  pub asked_member : (q : List ℕ) (o : Outcome) → ask x q ≡ Ok o → IsSet q → 1 ≤ length q
       → (drawn : ClerkState) (receipt : Receipt) → drawn ≡ with_receipt clerk receipt → 0 < clerk.rest
       → receipt.quorum < length c.board.quorums → q ≡ quorum_at c.board.quorums receipt.quorum
       → IsMember c o.state seat drawn receipt.quorum
-  asked_member q o e idle set some drawn receipt kept left in_range is =
+  asked_member q o e set some drawn receipt kept left in_range is =
       let s = of_ask x q o e in
       let sound = sound-step x (Asks q) o r.sound (set, some) s in
       let meets = met-step x (Asks q) o r.sound (set, some) s in
-      let held = r.held ∙ no_votes x.held o.state.held r.sound.places.held sound.places.held (idle_holds_nothing x r.sound idle) (asked_holds_nothing x q o e) in
+      let held = r.held ∙ no_votes x.held o.state.held r.sound.places.held sound.places.held (idle_holds_nothing x r.sound (starts x q o e).0) (asked_holds_nothing x q o e) in
       next_member c x seat clerk quorum r o.state sound meets.id seat refl refl held r.within
       drawn (ap (λ (k : ClerkState). k.office) kept) (ap share_of kept ∙ share_drawn clerk receipt left) receipt.quorum (λ busy. (in_range, meets.quorum ∙ is))
 

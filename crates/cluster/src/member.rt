@@ -7,9 +7,9 @@ ghost use Rattle.board.specs.declared.fault.BoardFault.{BoardFault};
 ghost use Rattle.dealer.specs.Offices.{AreByCycle, ClerkState, receipt_of};
 ghost use Rattle.requester.specs.Soundness.{IsSound};
 ghost use Rattle.requester.specs.Steps.{Outcome, give_up, leave};
-ghost use Rattle.requester.specs.Words.{is_asking, is_idle, is_inside, is_spent};
+ghost use Rattle.requester.specs.Words.{is_asking, is_idle, is_inside};
 ghost use Rattle.cluster.specs.Clusters.{ClusterState};
-ghost use Rattle.cluster.specs.Members.{MemberState, MayAsk, Asked, Pumped, RefusesStart, RefusesAsk, RefusesPass, fresh_member, with_receipt, with_pass};
+ghost use Rattle.cluster.specs.Members.{MemberState, MayAsk, Asked, Pumped, RefusesAsk, RefusesPass, fresh_member, with_receipt, with_pass};
 ghost use Rattle.node.specs.Votes.{HoldsFewer, HoldsWithin};
 
 use crate::cluster::Cluster;
@@ -55,20 +55,6 @@ impl<N: ClusterName> Model for Member<N> {
     ghost view = { λ m. record { requester = m.requester; seat = m.seat; clerk = m.clerk; lost = m.lost; fault = m.fault } };
 
     ghost invariant = { λ m. IsMember N.cluster m.requester m.seat m.clerk m.quorum };
-}
-
-/// Whether a client may start a request, and else why not.
-fn may_ask(requester: &Requester) -> Result<(), ClientFault>
-    ensures may { IfOk result (λ _. (is_idle requester.now.phase ≡ true) × (is_spent requester.now ≡ false)) }
-    ensures refused { IfErr result (RefusesStart requester.now) }
-{
-    if requester.phase() != Phase::Idle {
-        return Err(ClientFault::Busy);
-    }
-    if requester.spent() {
-        return Err(ClientFault::StampsSpent);
-    }
-    Ok(())
 }
 
 /// Ends a step of a client: gives back the votes that it holds no longer, and then sends what it tells the voters. Answers
@@ -181,9 +167,8 @@ impl<N: ClusterName> Member<N> {
         ensures fault { self.new.fault ≡ self.old.fault }
         ensures lost { self.old.lost ≤ self.new.lost }
     {
-        match may_ask(&self.requester) {
-            Ok(()) => {}
-            Err(fault) => return Err(ClusterFault::Client(fault)),
+        if let Some(fault) = self.requester.ask_fault() {
+            return Err(ClusterFault::Client(fault));
         }
         let receipt = match cluster.office.draw(&mut self.clerk) {
             Ok(receipt) => receipt,

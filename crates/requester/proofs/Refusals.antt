@@ -6,7 +6,7 @@ use Rattle.requester.specs.declared.state.Phase.TheVariants.{Idle, Asking, Insid
 use Rattle.requester.specs.declared.state.Seen.TheVariants.{Nothing, Left}
 use Rattle.requester.specs.declared.state.ClientState.{ClientState}
 use Rattle.requester.specs.Words.{is_idle, is_asking, is_inside, is_spent}
-use Rattle.requester.specs.Steps.{ask, ask_in, ask_unless, asked, leave, leave_in, give_up, give_up_in, released}
+use Rattle.requester.specs.Steps.{Outcome, ask, ask_in, ask_unless, asked, leave, leave_in, give_up, give_up_in, released}
 use Rattle.requester.proofs.Members.{clash}
 
 busy_in : (p : Phase) (x : ClientState) (q : List ℕ) → is_idle p ≡ false → ask_in p x q ≡ Err Busy
@@ -31,6 +31,9 @@ pub unspent : (x : ClientState) (q : List ℕ) → is_idle x.phase ≡ true → 
 unfolding ask
 unspent x q e f = idle_in x.phase x q e ∙ ap (λ b. ask_unless b x q) f
 
+pub may_ask : (x : ClientState) → x.phase ≡ Idle → is_spent x ≡ false → (q : List ℕ) → (o : Outcome) × (ask x q ≡ Ok o)
+may_ask x e f q = (asked x q, unspent x q (ap is_idle e) f)
+
 not_inside_in : (p : Phase) (x : ClientState) → is_inside p ≡ false → leave_in p x ≡ Err NotInside
 not_inside_in Idle x e = refl
 not_inside_in Asking x e = refl
@@ -49,6 +52,9 @@ pub left : (x : ClientState) → is_inside x.phase ≡ true → leave x ≡ Ok (
 unfolding leave
 left x e = inside_in x.phase x e
 
+pub may_leave : (x : ClientState) → x.phase ≡ Inside → (o : Outcome) × (leave x ≡ Ok o)
+may_leave x e = (released x Left, left x (ap is_inside e))
+
 not_asking_in : (p : Phase) (x : ClientState) → is_asking p ≡ false → give_up_in p x ≡ Err NotAsking
 not_asking_in Idle x e = refl
 not_asking_in Asking x e = clash true refl e
@@ -66,3 +72,6 @@ asking_in Inside x e = clash false e refl
 pub given_up : (x : ClientState) → is_asking x.phase ≡ true → give_up x ≡ Ok (released x Nothing)
 unfolding give_up
 given_up x e = asking_in x.phase x e
+
+pub may_give_up : (x : ClientState) → x.phase ≡ Asking → (o : Outcome) × (give_up x ≡ Ok o)
+may_give_up x e = (released x Nothing, given_up x (ap is_asking e))

@@ -1,6 +1,6 @@
 -- The steps of a client: what a call or a message makes it send, what it sees, and what it is afterwards (Maekawa, ACM
 -- TOCS 3(2), 1985, with grant numbers for messages that are repeated, lost or late).
-use Rattle.std.specs.Prelude.{ℕ, ◌+◌, ◌==◌, nat_lt, Bool, true, false, ◌&&◌, not, List, [], ◌∷◌, ◌++◌, map, filter, max, replicate, slice_set, Result, Ok, Err}
+use Rattle.std.specs.Prelude.{ℕ, ◌≡◌, ◌+◌, ◌==◌, nat_lt, Bool, true, false, ◌&&◌, not, List, [], ◌∷◌, ◌++◌, map, filter, max, replicate, slice_set, Option, Some, None, Result, Ok, Err}
 use Rattle.std.specs.List.{flat_map}
 use Rattle.message.specs.declared.message.ToVoter.{ToVoter}
 use Rattle.message.specs.declared.message.ToClient.{ToClient}
@@ -255,6 +255,11 @@ step x (Asks quorum) = ask x quorum
 step x (Takes m) = Ok (take x m)
 step x Leaves = leave x
 step x GivesUp = give_up x
+
+-- what is said beforehand of a step: why it is refused, or that it is not
+abbrev pub Foretells : {F G : Type 0} → Option G → Result F G → Type 0
+Foretells (Some fault) result = result ≡ Err fault
+Foretells {F = F} None result = (o : F) × (result ≡ Ok o)
 
 -- Reminders
 

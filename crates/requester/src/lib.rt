@@ -14,9 +14,10 @@
 //! A [`Requester`] is a pure machine: it has no clock but its stamps, no socket and no thread, and no call takes memory.
 //! [`Requester::ask`] starts a request; give each message to [`Requester::take`], one at a time, and send what each call
 //! answers, in order. `Entered` says that the client has the lock, until [`Requester::leave`]. A request that takes too long
-//! may be given up ([`Requester::give_up`]), and [`Requester::remind`] may be sent at any time. Whoever keeps the votes
-//! elsewhere too, as a board between threads, asks [`Requester::would_hold`] before a message, takes the vote there first,
-//! and after each call gives back what the client holds no longer.
+//! may be given up ([`Requester::give_up`]), and [`Requester::remind`] may be sent at any time. Why a call would be refused
+//! is told beforehand by [`Requester::ask_fault`] and so on. Whoever keeps the votes elsewhere too, as a board between
+//! threads, asks [`Requester::would_hold`] before a message, takes the vote there first, and after each call gives back
+//! what the client holds no longer.
 //!
 //! [`Requester::ask_into`], [`Requester::take_into`] and so on do the same with the messages in a buffer that the caller
 //! keeps. They are for whoever makes many steps: no [`Reply`], which has room for 64 messages, is made and moved.

@@ -1,8 +1,8 @@
 //! A client.
-ghost use Rattle.std.specs.Prelude.{◌≡◌, ◌<◌, ◌≤◌, ◌^◌, [], IfErr, IfOk, Err, Ok, length};
+ghost use Rattle.std.specs.Prelude.{◌≡◌, ◌<◌, ◌≤◌, ◌^◌, ℕ, List, [], IfErr, IfOk, Err, Ok, length};
 ghost use Rattle.requester.specs.Soundness.{IsSound};
 ghost use Rattle.requester.specs.Words.{grant_of, is_spent};
-ghost use Rattle.requester.specs.Steps.{ask, give_up, leave, remind, start, take, would_hold};
+ghost use Rattle.requester.specs.Steps.{Foretells, ask, give_up, leave, remind, start, take, would_hold};
 
 use crate::fault::ClientFault;
 use crate::state::{ClientState, Messages, Phase, Reminders, Reply, Seen};
@@ -104,6 +104,27 @@ impl Requester {
             0 => None,
             grant => Some(grant),
         }
+    }
+
+    /// Why [`Requester::ask`] would be refused now, told beforehand; None where it would not be.
+    pub fn ask_fault(&self) -> Option<ClientFault>
+        ensures { (quorum : List ℕ) → Foretells result (ask self.now quorum) }
+    {
+        self.state.ask_fault()
+    }
+
+    /// Why [`Requester::leave`] would be refused now, told beforehand; None where it would not be.
+    pub fn leave_fault(&self) -> Option<ClientFault>
+        ensures { Foretells result (leave self.now) }
+    {
+        self.state.leave_fault()
+    }
+
+    /// Why [`Requester::give_up`] would be refused now, told beforehand; None where it would not be.
+    pub fn give_up_fault(&self) -> Option<ClientFault>
+        ensures { Foretells result (give_up self.now) }
+    {
+        self.state.give_up_fault()
     }
 
     /// Starts a request for the votes of a quorum that is not empty: REQUEST to each member, in ascending order, under

@@ -1,10 +1,10 @@
 //! What a client knows, and its steps.
-ghost use Rattle.std.specs.Prelude.{◌≡◌, ◌<◌, ◌≤◌, ◌+◌, ◌^◌, ◌++◌, [], eqb, Err, IfErr, IfOk, Ok};
+ghost use Rattle.std.specs.Prelude.{◌≡◌, ◌<◌, ◌≤◌, ◌+◌, ◌^◌, ◌++◌, [], ℕ, List, eqb, Err, IfErr, IfNone, IfOk, Ok};
 ghost use Rattle.std.specs.List.{AllByRecursion, IsDistinct};
 ghost use Rattle.arrayvec.specs.ArrayVec.{array_vec_len};
 ghost use Rattle.quorum_set.specs.Sets.{IsSet};
 ghost use Rattle.requester.specs.Words.{holds, holds_under, is_covered, is_current, is_hindered, is_member};
-ghost use Rattle.requester.specs.Steps.{ask, cleared, failed, give_up, hold, inquired, is_fresh, leave, locked, relinquish, relinquish_inquired, relinquish_marked, remind, remind_member, take, take_body, tell, tell_members, would_hold};
+ghost use Rattle.requester.specs.Steps.{Foretells, ask, cleared, failed, give_up, hold, inquired, is_fresh, leave, locked, relinquish, relinquish_inquired, relinquish_marked, remind, remind_member, take, take_body, tell, tell_members, would_hold};
 
 use crate::fault::ClientFault;
 use arrayvec::ArrayVec;
@@ -166,6 +166,19 @@ impl ClientState {
         self.inquired = [false; 64];
     }
 
+    /// Why it would not ask.
+    #[tactic(auto, unfolding(crate::specs::Steps::ask))]
+    pub fn ask_fault(&self) -> Option<ClientFault>
+        ensures fault { (quorum : List ℕ) → Foretells result (ask self.now quorum) }
+        ensures stamp { IfNone result (self.now.clock < self.now.limit) }
+    {
+        match self.phase {
+            Phase::Idle if self.clock >= self.limit => Some(ClientFault::StampsSpent),
+            Phase::Idle => None,
+            Phase::Asking | Phase::Inside => Some(ClientFault::Busy),
+        }
+    }
+
     /// A new request, of this quorum, under the next stamp.
     #[tactic(auto, unfolding(crate::specs::Steps::ask))]
     pub fn ask(&mut self, quorum: &QSet, out: &mut Messages) -> Result<Seen, ClientFault>
@@ -175,11 +188,8 @@ impl ClientState {
         ensures refused { IfErr result (λ fault. (ask self.old quorum.now ≡ Err fault) × (self.new ≡ self.old) × (out.new.items ≡ [])) }
         ensures set { IfOk result (λ _. IsSet quorum.now) }
     {
-        if self.phase != Phase::Idle {
-            return Err(ClientFault::Busy);
-        }
-        if self.clock >= self.limit {
-            return Err(ClientFault::StampsSpent);
+        if let Some(fault) = self.ask_fault() {
+            return Err(fault);
         }
         self.clear();
         self.clock += 1;
@@ -372,6 +382,17 @@ impl ClientState {
         self.phase = Phase::Idle;
     }
 
+    /// Why it would not leave.
+    #[tactic(auto, unfolding(crate::specs::Steps::leave))]
+    pub fn leave_fault(&self) -> Option<ClientFault>
+        ensures { Foretells result (leave self.now) }
+    {
+        match self.phase {
+            Phase::Inside => None,
+            Phase::Idle | Phase::Asking => Some(ClientFault::NotInside),
+        }
+    }
+
     /// Leaves, from inside.
     #[tactic(auto, unfolding(crate::specs::Steps::leave))]
     pub fn leave(&mut self, out: &mut Messages) -> Result<Seen, ClientFault>
@@ -380,11 +401,22 @@ impl ClientState {
         ensures left { IfOk result (λ seen. leave self.old ≡ Ok (record { out = out.new.items; seen = seen; state = self.new })) }
         ensures refused { IfErr result (λ fault. (leave self.old ≡ Err fault) × (self.new ≡ self.old) × (out.new.items ≡ [])) }
     {
-        if self.phase != Phase::Inside {
-            return Err(ClientFault::NotInside);
+        if let Some(fault) = self.leave_fault() {
+            return Err(fault);
         }
         self.release(out);
         Ok(Seen::Left)
+    }
+
+    /// Why it would not give up.
+    #[tactic(auto, unfolding(crate::specs::Steps::give_up))]
+    pub fn give_up_fault(&self) -> Option<ClientFault>
+        ensures { Foretells result (give_up self.now) }
+    {
+        match self.phase {
+            Phase::Asking => None,
+            Phase::Idle | Phase::Inside => Some(ClientFault::NotAsking),
+        }
     }
 
     /// Gives the request up, while asking.
@@ -395,8 +427,8 @@ impl ClientState {
         ensures given_up { IfOk result (λ seen. give_up self.old ≡ Ok (record { out = out.new.items; seen = seen; state = self.new })) }
         ensures refused { IfErr result (λ fault. (give_up self.old ≡ Err fault) × (self.new ≡ self.old) × (out.new.items ≡ [])) }
     {
-        if self.phase != Phase::Asking {
-            return Err(ClientFault::NotAsking);
+        if let Some(fault) = self.give_up_fault() {
+            return Err(fault);
         }
         self.release(out);
         Ok(Seen::Nothing)

@@ -219,6 +219,30 @@ fn refusals(rt: HostRuntime) -> Result<(), Fail> {
 }
 
 #[test]
+fn refusals_are_foretold(rt: HostRuntime) -> Result<(), Fail> {
+    let alloc = rt.alloc();
+    let mut client = Requester::new(0, 1);
+    assert_eq!(rt; client.ask_fault(), None);
+    assert_eq!(rt; client.leave_fault(), Some(ClientFault::NotInside));
+    assert_eq!(rt; client.give_up_fault(), Some(ClientFault::NotAsking));
+    assert_eq!(rt;
+        ask(alloc, &mut client)?.as_str(),
+        "request 0 0 1;request 0 1 1;"
+    );
+    assert_eq!(rt; client.ask_fault(), Some(ClientFault::Busy));
+    assert_eq!(rt; client.leave_fault(), Some(ClientFault::NotInside));
+    assert_eq!(rt; client.give_up_fault(), None);
+    let won = [("locked 0 0 1 1 1", ""), ("locked 1 0 1 1 1", "entered")];
+    assert!(rt; plays(alloc, &mut client, won.as_slice())?);
+    assert_eq!(rt; client.ask_fault(), Some(ClientFault::Busy));
+    assert_eq!(rt; client.leave_fault(), None);
+    assert_eq!(rt; client.give_up_fault(), Some(ClientFault::NotAsking));
+    assert!(rt; client.leave().is_ok());
+    assert_eq!(rt; client.ask_fault(), Some(ClientFault::StampsSpent));
+    Ok(())
+}
+
+#[test]
 fn readers(rt: HostRuntime) -> Result<(), Fail> {
     let alloc = rt.alloc();
     let mut client = Requester::new(0, 9);

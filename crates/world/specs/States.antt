@@ -1,5 +1,5 @@
 -- A world as the code keeps it, and room in it.
-use Rattle.std.specs.Prelude.{◌≡◌, ◌+◌, ◌≤◌, Option, Some, None, Result, Ok, Err, vec_capacity, vec_len}
+use Rattle.std.specs.Prelude.{◌+◌, ◌≤◌, vec_capacity, vec_len}
 use Rattle.world.specs.declared.state.State.{State}
 use Rattle.world.specs.Steps.{WorldState}
 
@@ -18,8 +18,3 @@ pub record HasRoom (s : State) : Type 0 where
   pub sent : vec_len s.sent + 128 ≤ vec_capacity s.sent
   pub draws : vec_len s.draws + 1 ≤ vec_capacity s.draws
   pub visible : vec_len s.visible + 1 ≤ vec_capacity s.visible
-
--- what is said beforehand of a step: why it is refused, or that it is not
-abbrev pub Foretells : {F G : Type 0} → Option G → Result F G → Type 0
-Foretells (Some fault) result = result ≡ Err fault
-Foretells {F = F} None result = (o : F) × (result ≡ Ok o)

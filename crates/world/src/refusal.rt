@@ -1,10 +1,10 @@
 //! Why a step would be refused, told beforehand: want of memory is answered only where nothing else refuses.
 ghost use Rattle.std.specs.Prelude.{◌≡◌, ◌<◌, ℕ, List, length, is_none};
-ghost use Rattle.requester.specs.Steps as requesters;
+ghost use Rattle.requester.specs.Steps.{Foretells};
 ghost use Rattle.voter.specs.Steps as polls;
 ghost use Rattle.world.specs.declared.step.Step.TheVariants as steps;
 ghost use Rattle.world.specs.Ranges.{IsNumbered};
-ghost use Rattle.world.specs.States.{Foretells, shown};
+ghost use Rattle.world.specs.States.{shown};
 ghost use Rattle.world.specs.Steps as worlds;
 ghost use Rattle.world.specs.Steps.{voter_at};
 
@@ -13,43 +13,7 @@ use crate::moves::{client_of, voter_of};
 use crate::state::State;
 use crate::step::Step;
 use message::{Message, ToVoter};
-use requester::{ClientFault, Phase, Requester};
 use voter::{Voter, VoterFault};
-
-/// Why this client would not ask.
-fn ask_fault(client: &Requester) -> Option<ClientFault>
-    ensures { (quorum : List ℕ) → Foretells result (requesters.step client.now (requesters.Cause.Asks quorum)) }
-{
-    if client.phase() != Phase::Idle {
-        Some(ClientFault::Busy)
-    } else if client.spent() {
-        Some(ClientFault::StampsSpent)
-    } else {
-        None
-    }
-}
-
-/// Why this client would not leave.
-fn leave_fault(client: &Requester) -> Option<ClientFault>
-    ensures { Foretells result (requesters.step client.now requesters.Cause.Leaves) }
-{
-    if client.phase() == Phase::Inside {
-        None
-    } else {
-        Some(ClientFault::NotInside)
-    }
-}
-
-/// Why this client would not give up.
-fn give_up_fault(client: &Requester) -> Option<ClientFault>
-    ensures { Foretells result (requesters.step client.now requesters.Cause.GivesUp) }
-{
-    if client.phase() == Phase::Asking {
-        None
-    } else {
-        Some(ClientFault::NotAsking)
-    }
-}
 
 /// Whether the voter that the message names would not take it.
 fn is_refused(voters: &[Voter], message: &ToVoter) -> bool
@@ -68,7 +32,7 @@ impl State {
         if usize::from(client) >= self.clients.len() {
             return Some(WorldFault::NoSuchClient(client));
         }
-        match ask_fault(client_of(&self.clients, client)) {
+        match client_of(&self.clients, client).ask_fault() {
             Some(fault) => Some(WorldFault::Client(fault)),
             None => None,
         }
@@ -97,7 +61,7 @@ impl State {
         if usize::from(client) >= self.clients.len() {
             return Some(WorldFault::NoSuchClient(client));
         }
-        match leave_fault(client_of(&self.clients, client)) {
+        match client_of(&self.clients, client).leave_fault() {
             Some(fault) => Some(WorldFault::Client(fault)),
             None => None,
         }
@@ -109,7 +73,7 @@ impl State {
         if usize::from(client) >= self.clients.len() {
             return Some(WorldFault::NoSuchClient(client));
         }
-        match give_up_fault(client_of(&self.clients, client)) {
+        match client_of(&self.clients, client).give_up_fault() {
             Some(fault) => Some(WorldFault::Client(fault)),
             None => None,
         }
