@@ -8,13 +8,13 @@ use thiserror::Error;
 #[derive(Clone, Copy, Debug, PartialEq, Eq, Error)]
 pub enum ClusterFault {
     /// Its client refuses.
-    #[error("{0}")]
+    #[error(transparent)]
     Client(ClientFault),
     /// No ticket is dealt to it.
-    #[error("{0}")]
+    #[error(transparent)]
     Deal(DealFault),
     /// The register is at its limit, or there is no memory for one more pass number; at the end of a cluster, a vote is out.
-    #[error("{0}")]
+    #[error(transparent)]
     Board(BoardFault),
     /// It is not inside.
     #[error("K1 NotInside")]

@@ -11,7 +11,7 @@ use thiserror::Error;
 #[derive(Clone, Copy, Debug, PartialEq, Eq, Error)]
 pub enum RunFault {
     /// A client's work ended early, or a vote was out at the end. Never for want of memory.
-    #[error("{0}")]
+    #[error(transparent)]
     Cluster(ClusterFault),
     /// Memory ran out.
     #[error("O1 OutOfMemory")]
