@@ -1,9 +1,9 @@
 -- what the code did is the step of the definition
-use Rattle.std.proofs.Common.{◌≡◌, ℕ, ◌<◌, ◌≤◌, List, ◌++◌, map, length, set, Option, Some, None, Ok, Err, true, false, refl, sym, ap, subst, ◌∙◌, arith}
+use Rattle.std.proofs.Common.{◌≡◌, ℕ, List, ◌++◌, map, length, set, Option, Some, None, Ok, Err, true, false, refl, sym, ap, subst, ◌∙◌}
 use Rattle.std.specs.Option.{is_none}
 use Rattle.std.proofs.lemmas.Bool.{false≢true}
 use Rattle.std.specs.Global.{Vec}
-use Rattle.std.specs.Vec.{vec_len, with_items}
+use Rattle.std.specs.Vec.{with_items}
 use Rattle.std.proofs.lemmas.List.{length-set, with_items_is}
 use Rattle.message.specs.declared.message.ToVoter.{ToVoter}
 use Rattle.message.specs.declared.message.ToClient.{ToClient}
@@ -22,12 +22,6 @@ use Rattle.world.specs.declared.step.Stepped.{Stepped}
 use Rattle.world.specs.Steps.{WorldState, Outcome, act, after_client, after_voter, client_at, client_did, events, outcome_of, say, vote, voter_at, voter_did}
 
 -- ---- lists that the code keeps
-
-pub within_len : {X : Type 0} (v : Vec X) (p n l : ℕ) → p ≡ n → l ≡ vec_len v → p < l → n < length v.items
-within_len v p n l same len less = let all = v.ok.0 in omega arith
-
-pub beyond_len : {X : Type 0} (v : Vec X) (p n l : ℕ) → p ≡ n → l ≡ vec_len v → l ≤ p → length v.items ≤ n
-beyond_len v p n l same len less = let all = v.ok.0 in omega arith
 
 -- a list after a write through its slice
 pub written : {X : Type 0} (v : Vec X) (os ns : List X) (n : ℕ) (x : X) → os ≡ v.items → ns ≡ set os n x → (with_items v ns).items ≡ ns

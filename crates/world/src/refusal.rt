@@ -29,8 +29,8 @@ impl State {
     fn ask_fault(&self, client: u8) -> Option<WorldFault>
         ensures { (deal : ℕ → List ℕ) → Foretells result (worlds.step deal (shown self.now) (steps.Ask client)) }
     {
-        if usize::from(client) >= self.clients.len() {
-            return Some(WorldFault::NoSuchClient(client));
+        if let Some(fault) = self.client_fault(client) {
+            return Some(fault);
         }
         match client_of(&self.clients, client).ask_fault() {
             Some(fault) => Some(WorldFault::Client(fault)),
@@ -58,8 +58,8 @@ impl State {
     fn leave_fault(&self, client: u8) -> Option<WorldFault>
         ensures { (deal : ℕ → List ℕ) → Foretells result (worlds.step deal (shown self.now) (steps.Leave client)) }
     {
-        if usize::from(client) >= self.clients.len() {
-            return Some(WorldFault::NoSuchClient(client));
+        if let Some(fault) = self.client_fault(client) {
+            return Some(fault);
         }
         match client_of(&self.clients, client).leave_fault() {
             Some(fault) => Some(WorldFault::Client(fault)),
@@ -70,8 +70,8 @@ impl State {
     fn give_up_fault(&self, client: u8) -> Option<WorldFault>
         ensures { (deal : ℕ → List ℕ) → Foretells result (worlds.step deal (shown self.now) (steps.GiveUp client)) }
     {
-        if usize::from(client) >= self.clients.len() {
-            return Some(WorldFault::NoSuchClient(client));
+        if let Some(fault) = self.client_fault(client) {
+            return Some(fault);
         }
         match client_of(&self.clients, client).give_up_fault() {
             Some(fault) => Some(WorldFault::Client(fault)),
@@ -82,19 +82,13 @@ impl State {
     fn remind_client_fault(&self, client: u8) -> Option<WorldFault>
         ensures { (deal : ℕ → List ℕ) → Foretells result (worlds.step deal (shown self.now) (steps.RemindClient client)) }
     {
-        if usize::from(client) >= self.clients.len() {
-            return Some(WorldFault::NoSuchClient(client));
-        }
-        None
+        self.client_fault(client)
     }
 
     fn remind_voter_fault(&self, voter: u8) -> Option<WorldFault>
         ensures { (deal : ℕ → List ℕ) → Foretells result (worlds.step deal (shown self.now) (steps.RemindVoter voter)) }
     {
-        if usize::from(voter) >= self.voters.len() {
-            return Some(WorldFault::NoSuchVoter(voter));
-        }
-        None
+        self.voter_fault(voter)
     }
 
     /// Why the step would be refused, memory aside.

@@ -1,5 +1,5 @@
 //! The clients, the voters and the messages of a world, and its steps where room was made.
-ghost use Rattle.std.specs.Prelude.{◌≡◌, ◌<◌, ◌≤◌, ◌+◌, ◌++◌, ℕ, List, OnOk, length, map, slice_get, vec_capacity, vec_len};
+ghost use Rattle.std.specs.Prelude.{◌≡◌, ◌<◌, ◌≤◌, ◌+◌, ◌++◌, ℕ, List, IfNone, IfSome, OnOk, length, map, slice_get, vec_capacity, vec_len};
 ghost use Rattle.message.specs.declared.message.Message.TheVariants as kinds;
 ghost use Rattle.world.specs.declared.step.Step.TheVariants as steps;
 ghost use Rattle.requester.specs.Steps.Cause.{Takes};
@@ -56,6 +56,30 @@ impl State {
         self.sent.get(number as usize).copied()
     }
 
+    /// The fault of a number that is no client's.
+    pub fn client_fault(&self, client: u8) -> Option<WorldFault>
+        ensures found { IfNone result (client < length self.now.clients.items) }
+        ensures missing { IfSome result (λ fault. (fault ≡ WorldFault.NoSuchClient client) × (length self.now.clients.items ≤ client)) }
+    {
+        if usize::from(client) < self.clients.len() {
+            None
+        } else {
+            Some(WorldFault::NoSuchClient(client))
+        }
+    }
+
+    /// The fault of a number that is no voter's.
+    pub fn voter_fault(&self, voter: u8) -> Option<WorldFault>
+        ensures found { IfNone result (voter < length self.now.voters.items) }
+        ensures missing { IfSome result (λ fault. (fault ≡ WorldFault.NoSuchVoter voter) × (length self.now.voters.items ≤ voter)) }
+    {
+        if usize::from(voter) < self.voters.len() {
+            None
+        } else {
+            Some(WorldFault::NoSuchVoter(voter))
+        }
+    }
+
     /// Notes what a client did, whose messages are in `out`.
     fn tell(&mut self, client: u8, seen: Seen) -> Stepped
         requires sent { vec_len self.old.sent + 64 ≤ vec_capacity self.old.sent }
@@ -80,8 +104,8 @@ impl State {
         requires quorum { 1 ≤ length quorum.now }
         ensures { (deal : ℕ → List ℕ) → deal (length self.old.draws.items) ≡ quorum.now → Does (worlds.step deal (shown self.old) (steps.Ask client)) (shown self.old) result (shown self.new) }
     {
-        if usize::from(client) >= self.clients.len() {
-            return Err(WorldFault::NoSuchClient(client));
+        if let Some(fault) = self.client_fault(client) {
+            return Err(fault);
         }
         match moves::ask(&mut self.clients, client, quorum, &mut self.out) {
             Ok(seen) => {
@@ -96,8 +120,8 @@ impl State {
         requires room { HasRoom self.old }
         ensures { (deal : ℕ → List ℕ) → Does (worlds.step deal (shown self.old) (steps.Leave client)) (shown self.old) result (shown self.new) }
     {
-        if usize::from(client) >= self.clients.len() {
-            return Err(WorldFault::NoSuchClient(client));
+        if let Some(fault) = self.client_fault(client) {
+            return Err(fault);
         }
         match moves::leave(&mut self.clients, client, &mut self.out) {
             Ok(seen) => Ok(self.tell(client, seen)),
@@ -109,8 +133,8 @@ impl State {
         requires room { HasRoom self.old }
         ensures { (deal : ℕ → List ℕ) → Does (worlds.step deal (shown self.old) (steps.GiveUp client)) (shown self.old) result (shown self.new) }
     {
-        if usize::from(client) >= self.clients.len() {
-            return Err(WorldFault::NoSuchClient(client));
+        if let Some(fault) = self.client_fault(client) {
+            return Err(fault);
         }
         match moves::give_up(&mut self.clients, client, &mut self.out) {
             Ok(seen) => Ok(self.tell(client, seen)),
@@ -164,8 +188,8 @@ impl State {
         requires room { HasRoom self.old }
         ensures { (deal : ℕ → List ℕ) → Does (worlds.step deal (shown self.old) (steps.RemindClient client)) (shown self.old) result (shown self.new) }
     {
-        if usize::from(client) >= self.clients.len() {
-            return Err(WorldFault::NoSuchClient(client));
+        if let Some(fault) = self.client_fault(client) {
+            return Err(fault);
         }
         let reminders = moves::client_of(&self.clients, client).remind();
         send_to_voters(&mut self.sent, reminders.as_slice());
@@ -179,8 +203,8 @@ impl State {
         requires room { HasRoom self.old }
         ensures { (deal : ℕ → List ℕ) → Does (worlds.step deal (shown self.old) (steps.RemindVoter voter)) (shown self.old) result (shown self.new) }
     {
-        if usize::from(voter) >= self.voters.len() {
-            return Err(WorldFault::NoSuchVoter(voter));
+        if let Some(fault) = self.voter_fault(voter) {
+            return Err(fault);
         }
         let reminders = moves::voter_of(&self.voters, voter).remind();
         send_to_clients(&mut self.sent, reminders.as_slice());

@@ -4,18 +4,18 @@ use Rattle.requester.specs.declared.state.ClientState.{ClientState}
 use Rattle.requester.specs.Steps.{GivesUp}
 use Rattle.world.specs.States.{shown}
 use Rattle.world.specs.Steps.{client_at, step}
-use Rattle.world.proofs.Acts.{beyond_len, ran, refused, within_len, written}
+use Rattle.world.proofs.Acts.{ran, refused, written}
 use Rattle.world.proofs.Foretold.{a_client, no_client}
 use Rattle.world.proofs.state.State.give_up.Goals as goal
 
-pub returns-then-from-len : goal.returns-then-from-len
+pub returns-in-Some : goal.returns-in-Some
 unfolding step
-returns-then-from-len c = λ deal. (no_client c.args.client (length c.args.self.now.clients.items) _ (beyond_len c.args.self.now.clients c.from.result c.args.client c.len.result c.from.ensures c.len.ensures c.if-from-len.true), refl)
+returns-in-Some c = λ deal. (no_client c.args.client (length c.args.self.now.clients.items) _ c.in-Some.fault c.in-Some.ensures.missing, refl)
 
 pub returns-in-Ok : goal.returns-in-Ok
 unfolding step
 returns-in-Ok c = λ deal.
-    a_client c.args.client (length c.args.self.now.clients.items) _ (within_len c.args.self.now.clients c.from.result c.args.client c.len.result c.from.ensures c.len.ensures c.if-from-len.false)
+    a_client c.args.client (length c.args.self.now.clients.items) _ c.in_default.ensures.found
     ∙ ran (shown c.args.self.now) c.deref_mut.result.now c.give_up.new.clients (with_items c.args.self.now.clients c.give_up.new.clients).items c.args.client GivesUp
     c.give_up.new.out.items c.in-Ok.seen c.tell.result (shown c.tell.new.self) c.deref_mut.ensures.value
     c.in-Ok.ensures.given_up
@@ -25,7 +25,7 @@ returns-in-Ok c = λ deal.
 pub returns-in-Err : goal.returns-in-Err
 unfolding step
 returns-in-Err c = λ deal. (
-  a_client c.args.client (length c.args.self.now.clients.items) _ (within_len c.args.self.now.clients c.from.result c.args.client c.len.result c.from.ensures c.len.ensures c.if-from-len.false)
+  a_client c.args.client (length c.args.self.now.clients.items) _ c.in_default.ensures.found
       ∙ refused (shown c.args.self.now) c.deref_mut.result.now (client_at c.deref_mut.result.now c.args.client) c.args.client GivesUp c.in-Err.fault c.deref_mut.ensures.value refl c.in-Err.ensures.refused.0,
   ap (λ (l : List ClientState). record (shown c.args.self.now) { clients = l })
       (written c.args.self.now.clients c.deref_mut.result.now c.give_up.new.clients c.args.client _ c.deref_mut.ensures.value c.in-Err.ensures.others ∙ c.in-Err.ensures.refused.1 ∙ c.deref_mut.ensures.value),

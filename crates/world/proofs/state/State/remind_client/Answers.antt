@@ -7,20 +7,20 @@ use Rattle.requester.specs.declared.state.ClientState.{ClientState}
 use Rattle.requester.specs.Steps.{remind}
 use Rattle.world.specs.States.{shown}
 use Rattle.world.specs.Steps.{client_at, step}
-use Rattle.world.proofs.Acts.{beyond_len, said, within_len}
+use Rattle.world.proofs.Acts.{said}
 use Rattle.world.proofs.Foretold.{a_client, no_client}
 use Rattle.world.proofs.state.State.remind_client.Goals as goal
 
-pub returns-then-from-len : goal.returns-then-from-len
+pub returns-in-Some : goal.returns-in-Some
 unfolding step
-returns-then-from-len c = λ deal. (no_client c.args.client (length c.args.self.now.clients.items) _ (beyond_len c.args.self.now.clients c.from.result c.args.client c.len.result c.from.ensures c.len.ensures c.if-from-len.true), refl)
+returns-in-Some c = λ deal. (no_client c.args.client (length c.args.self.now.clients.items) _ c.in-Some.fault c.in-Some.ensures.missing, refl)
 
 pub returns : goal.returns
 unfolding step
 returns c = λ deal.
     let out : c.remind-reminders.result.items ≡ remind (client_at c.args.self.now.clients.items c.args.client) =
     c.remind-reminders.ensures ∙ ap (λ (x : ClientState). remind x) (c.client_of.ensures ∙ ap (λ (l : List ClientState). client_at l c.args.client) c.deref.ensures.value) in
-    a_client c.args.client (length c.args.self.now.clients.items) _ (within_len c.args.self.now.clients c.from.result c.args.client c.len.result c.from.ensures c.len.ensures c.if-from-len.false)
-    ∙ ap (λ o. Ok o) (said (shown c.args.self.now) (map kinds.ToVoter (remind (client_at c.args.self.now.clients.items c.args.client))) c.len-2.result _
-    (c.len-2.ensures.value ∙ ap (λ (l : List ToVoter). length l) out ∙ sym (length-map (remind (client_at c.args.self.now.clients.items c.args.client)) kinds.ToVoter))
+    a_client c.args.client (length c.args.self.now.clients.items) _ c.in_default.ensures.found
+    ∙ ap (λ o. Ok o) (said (shown c.args.self.now) (map kinds.ToVoter (remind (client_at c.args.self.now.clients.items c.args.client))) c.len.result _
+    (c.len.ensures.value ∙ ap (λ (l : List ToVoter). length l) out ∙ sym (length-map (remind (client_at c.args.self.now.clients.items c.args.client)) kinds.ToVoter))
     (ap (λ (l : List Message). record (shown c.args.self.now) { sent = l }) (c.send_to_voters.ensures ∙ ap (λ (l : List ToVoter). c.args.self.now.sent.items ++ map kinds.ToVoter l) (c.as_slice.ensures.value ∙ out))))

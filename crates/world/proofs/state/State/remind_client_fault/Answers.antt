@@ -1,13 +1,7 @@
-use Rattle.std.proofs.Common.{length}
 use Rattle.world.specs.Steps.{step}
-use Rattle.world.proofs.Acts.{beyond_len, within_len}
-use Rattle.world.proofs.Foretold.{a_client, no_client}
+use Rattle.world.proofs.Foretold.{foretold_client}
 use Rattle.world.proofs.state.State.remind_client_fault.Goals as goal
-
-pub returns-then-from-len : goal.returns-then-from-len
-unfolding step
-returns-then-from-len c = λ deal. no_client c.args.client (length c.args.self.now.clients.items) _ (beyond_len c.args.self.now.clients c.from.result c.args.client c.len.result c.from.ensures c.len.ensures c.if-from-len.true)
 
 pub returns : goal.returns
 unfolding step
-returns c = λ deal. (_, a_client c.args.client (length c.args.self.now.clients.items) _ (within_len c.args.self.now.clients c.from.result c.args.client c.len.result c.from.ensures c.len.ensures c.if-from-len.false))
+returns c = λ deal. foretold_client _ _ _ _ c.client_fault.ensures.found c.client_fault.ensures.missing
