@@ -1,10 +1,13 @@
 -- What the seat of a voter knows, before and after a step.
-use Rattle.std.proofs.Common.{◌≡◌, ℕ, ◌+◌, ◌<◌, List, [], length, set, ap, ◌∙◌, arith, length-set, get_or-set_same}
+use Rattle.std.proofs.Common.{◌≡◌, ℕ, ◌+◌, ◌^◌, ◌<◌, List, [], Some, None, length, set, refl, ap, ◌∙◌, arith, length-set, get_or-set_same}
 use Rattle.std.specs.Prelude.{slice_index, Option}
 use Rattle.std.proofs.lemmas.List.{set-set, length-replicate}
 use Rattle.atomic_table.specs.Table.{Me}
 use Rattle.board.specs.declared.table.View.{View}
-use Rattle.board.specs.Words.{nobody}
+use Rattle.board.specs.declared.vote.Vote.{Vote}
+use Rattle.board.specs.declared.vote.Vote.TheVariants.{Free, Offered, Held, Returned}
+use Rattle.board.specs.Roots.{IsCurrent}
+use Rattle.board.specs.Words.{nobody, IsSettledFrom}
 use Rattle.board.specs.Views.{voter_view, current_name}
 
 abbrev M : Type 0
@@ -23,3 +26,11 @@ pub voter_after : (m n : M) (v k : ℕ) (current next : Option (ℕ × ℕ)) →
 voter_after m n v k current next e step same =
     step ∙ ap (λ (x : M). (record x.0 { voters = set x.0.voters v k }, x.1)) e
     ∙ ap (λ (l : List ℕ). (record (voter_view v next) { voters = l }, [])) (set-set nobody v (current_name current + 1) k ∙ ap (set nobody v) same)
+
+-- a grant in one of the states from which a voter settles has ended
+pub settled_after : (m n : M) (v : ℕ) (vote : Vote) → IsSettledFrom vote (λ current. (m ≡ (voter_view v (Some current), [])) × IsCurrent (Some current) (2 ^ 40))
+    → n ≡ (record m.0 { voters = set m.0.voters v 1 }, m.1) → n ≡ (voter_view v None, [])
+settled_after m n v Free known step = absurd known
+settled_after m n v (Held client grant) known step = absurd known
+settled_after m n v (Offered client grant) known step = voter_after m n v 1 (Some (client, grant)) None known.0 step refl
+settled_after m n v (Returned client grant) known step = voter_after m n v 1 (Some (client, grant)) None known.0 step refl

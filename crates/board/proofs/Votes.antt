@@ -1,5 +1,5 @@
 -- Steps on the word of one voter's vote keep the rule.
-use Rattle.std.proofs.Common.{◌≡◌, ◌≢◌, ◌⊎◌, inl, inr, ⊎_elim, ℕ, ◌+◌, ◌/◌, ◌%◌, ◌<◌, ◌≤◌, eqb, List, [], length, set, get_or, Some, None, refl, sym, ap, ◌∙◌, subst, arith, length-set, get_or-set_same, get_or-set_other, eq-eqb, ne_eqb}
+use Rattle.std.proofs.Common.{◌≡◌, ◌≢◌, ◌⊎◌, inl, inr, ⊎_elim, ℕ, ◌+◌, ◌^◌, ◌/◌, ◌%◌, ◌<◌, ◌≤◌, eqb, List, [], length, set, get_or, Some, None, refl, sym, ap, ◌∙◌, subst, arith, length-set, get_or-set_same, get_or-set_other, eq-eqb, ne_eqb}
 use Rattle.std.specs.Prelude.{slice_index, Option}
 use Rattle.std.specs.List.{sum_by}
 use Rattle.std.proofs.lemmas.List.{set-get_or}
@@ -15,7 +15,12 @@ use Rattle.quorum_set.proofs.SumLemmas.{sum_set, sum_at}
 use Rattle.board.specs.declared.table.View.{View}
 use Rattle.board.specs.Seats.{Setting}
 use Rattle.board.specs.Quorums.{quorum_at, HoldsAll}
-use Rattle.board.specs.Words.{name_of, offered, taken, returned, is}
+use Rattle.board.specs.declared.vote.Vote.{Vote}
+use Rattle.board.specs.declared.vote.Vote.TheVariants.{Free, Offered, Held, Returned}
+use Rattle.board.specs.Words.{name_of, offered, taken, returned, word_of, IsSettledFrom, is}
+use Rattle.board.specs.Roots.{IsCurrent}
+use Rattle.board.specs.Views.{voter_view}
+use Rattle.board.proofs.VoterFields.{voter_room, voter_here}
 use Rattle.board.specs.Rule.{stands, holds_vote, IsVote, IsReading, IsKept, Kept}
 use Rattle.board.specs.Moves.{Granted, Settled, Took, GaveBack}
 use Rattle.board.proofs.Words.{is-same, is-apart, is-one, is-next, is-taken, offered-name, taken-name, returned-name, offered-not_taken, returned-not_taken, free-not_taken}
@@ -121,8 +126,14 @@ grants sheet slots id me v name inside large room mine s r _ at _ =
       keeps,
       tt,
       vote_step sheet s r id u w at v (offered name) inside (λ k other. (get_or-set_other u.voters v k (offered name / 4 + 1) 0 other, refl)) after refl refl refl (r.readings id u at),
-      refl,
+      (free, ap offered (sym (offered-name name)), refl),
     )
+
+-- the same by the word
+pub grants_by : (sheet : Setting) (slots id : ℕ) (me : M) (v name word : ℕ) → v < sheet.voters → 64 ≤ name → v < length me.0.voters → slice_index me.0.voters v ≡ 1 → word ≡ offered name
+    → Allows (Kept sheet) slots id me v (λ _. word) (Granted (step slots v word 0 none) me)
+grants_by sheet slots id me v name word inside large room mine is_word =
+    subst (λ (x : ℕ). Allows (Kept sheet) slots id me v (λ _. x) (Granted (step slots v x 0 none) me)) (sym is_word) (grants sheet slots id me v name inside large room mine)
 
 -- a step that changes the word only where it is `old`
 module _ (sheet : Setting) (slots id : ℕ) (me : M) (v old new : ℕ) (w : View) where
@@ -147,6 +158,12 @@ module _ (sheet : Setting) (slots id : ℕ) (me : M) (v old new : ℕ) (w : View
         ((λ e. absurd (other e)), λ _. refl),
       ))
 
+-- a step that tells one thing tells what follows from it
+told : (sheet : Setting) (slots id : ℕ) (me : M) (v : ℕ) (f : ℕ → ℕ) (then more : ℕ → M → Type 0) → ((found : ℕ) (m : M) → then found m → more found m)
+    → Allows (Kept sheet) slots id me v f then → Allows (Kept sheet) slots id me v f more
+told sheet slots id me v f then more follow allowed s r long at small =
+    let x = allowed s r long at small in (x.0, x.1, x.2, x.3, follow _ _ x.4)
+
 -- a grant ends, where its word is offered or returned
 pub settles : (sheet : Setting) (slots id : ℕ) (me : M) (v name old : ℕ) → v < sheet.voters → 64 ≤ name → v < length me.0.voters → slice_index me.0.voters v ≡ name + 1
     → ((old ≡ offered name) ⊎ (old ≡ returned name))
@@ -157,7 +174,10 @@ settles sheet slots id me v name old inside large room mine which =
     let named : old / 4 ≡ name = ⊎_elim (λ (e : old ≡ offered name). ap (λ (y : ℕ). y / 4) e ∙ offered-name name) (λ (e : old ≡ returned name). ap (λ (y : ℕ). y / 4) e ∙ returned-name name) which in
     let none_taken : (k : ℕ) → is old (taken k) ≡ 0 = λ k. ⊎_elim (λ (e : old ≡ offered name). ap (λ (y : ℕ). is y (taken k)) e ∙ offered-not_taken name k) (λ (e : old ≡ returned name). ap (λ (y : ℕ). is y (taken k)) e ∙ returned-not_taken name k) which in
     let now : slice_index w.voters v ≡ 1 = get_or-set_same u.voters v 1 0 room in
-    swapped sheet slots id me v old 0 w
+    let f : ℕ → ℕ = λ n. either (eqb n old) 0 n in
+    let known : slice_index u.voters v ≡ old / 4 + 1 = mine ∙ ap (λ (y : ℕ). y + 1) (sym named) in
+    let state : (old ≡ offered (old / 4)) ⊎ (old ≡ returned (old / 4)) = ⊎_elim (λ (e : old ≡ offered name). inl (e ∙ ap offered (sym named))) (λ (e : old ≡ returned name). inr (e ∙ ap returned (sym named))) which in
+    told sheet slots id me v f (Then sheet slots id me v old 0 w) (Settled (step slots v old 0 none) me) (λ found m h. (known, state, refl, h.0, h.1)) (swapped sheet slots id me v old 0 w
     (λ s r at e.
     let word : ℕ = slice_index s.words v in
     let vote = r.votes v inside in
@@ -167,7 +187,21 @@ settles sheet slots id me v name old inside large room mine which =
     let c : is (word / 4) k ≡ is name k = ap (λ (y : ℕ). is y k) (ap (λ (y : ℕ). y / 4) e ∙ named) in
     omega arith)
     (λ k _. let a : is word (taken k) ≡ 0 = ap (λ (y : ℕ). is y (taken k)) e ∙ none_taken k in omega (arith, free-not_taken k)) in
-    vote_step sheet s r id u w at v 0 inside (λ k other. (get_or-set_other u.voters v k 1 0 other, refl)) after refl refl refl (r.readings id u at))
+    vote_step sheet s r id u w at v 0 inside (λ k other. (get_or-set_other u.voters v k 1 0 other, refl)) after refl refl refl (r.readings id u at)))
+
+-- the same by the state and its word, for the seat of the voter
+pub settles_by : (sheet : Setting) (slots id : ℕ) (me : M) (v : ℕ) (vote : Vote) (old new : ℕ) → v < sheet.voters → v < 64
+    → IsSettledFrom vote (λ current. (me ≡ (voter_view v (Some current), [])) × IsCurrent (Some current) (2 ^ 40))
+    → old ≡ word_of vote → new ≡ 0
+    → Allows (Kept sheet) slots id me v (λ n. either (eqb n old) new n) (Settled (step slots v old new none) me)
+settles_by sheet slots id me v Free old new inside few known is_old is_new = absurd known
+settles_by sheet slots id me v (Held client grant) old new inside few known is_old is_new = absurd known
+settles_by sheet slots id me v (Offered client grant) old new inside few known is_old is_new =
+    subst (λ (k : ℕ). Allows (Kept sheet) slots id me v (λ n. either (eqb n old) k n) (Settled (step slots v old k none) me)) (sym is_new)
+    (settles sheet slots id me v (name_of client grant) old inside (omega arith) (voter_room me v (Some (client, grant)) known.0 few) (voter_here me v (Some (client, grant)) known.0 few) (inl is_old))
+settles_by sheet slots id me v (Returned client grant) old new inside few known is_old is_new =
+    subst (λ (k : ℕ). Allows (Kept sheet) slots id me v (λ n. either (eqb n old) k n) (Settled (step slots v old k none) me)) (sym is_new)
+    (settles sheet slots id me v (name_of client grant) old inside (omega arith) (voter_room me v (Some (client, grant)) known.0 few) (voter_here me v (Some (client, grant)) known.0 few) (inr is_old))
 
 -- a reading stays where one more vote is held
 more_held : (q held : List ℕ) (v g : ℕ) → v < length held → g ≢ 0 → HoldsAll q held → HoldsAll q (set held v g)
@@ -189,7 +223,9 @@ takes sheet slots id me v grant inside large client room mine =
     let w : View = record u { held = set u.held v (offered name / 256) } in
     let is_grant : offered name / 256 ≡ grant = omega arith in
     let now : slice_index w.held v ≡ grant = get_or-set_same u.held v (offered name / 256) 0 room ∙ is_grant in
-    swapped sheet slots id me v (offered name) (taken name) w
+    let f : ℕ → ℕ = λ n. either (eqb n (offered name)) (taken name) n in
+    let named : name ≡ name_of u.client (offered name / 256) = ap (name_of u.client) (sym is_grant) in
+    told sheet slots id me v f (Then sheet slots id me v (offered name) (taken name) w) (Took (step slots v (offered name) (taken name) none) me) (λ found m h. (ap offered named, ap taken named, h.0, h.1)) (swapped sheet slots id me v (offered name) (taken name) w
     (λ s r at e.
     let word : ℕ = slice_index s.words v in
     let vote = r.votes v inside in
@@ -202,7 +238,7 @@ takes sheet slots id me v grant inside large client room mine =
     let c : is (name_of u.client (slice_index u.held v)) k ≡ 0 = is-apart (name_of u.client (slice_index u.held v)) k (λ z. omega arith) in
     omega (arith, is-taken name k)) in
     vote_step sheet s r id u w at v (taken name) inside (λ k other. (refl, ap (name_of u.client) (get_or-set_other u.held v k (offered name / 256) 0 other))) after refl refl refl
-    (reading_more sheet (slice_index s.words sheet.voters) u.reading u v (offered name / 256) room (λ z. omega arith) (r.readings id u at)))
+    (reading_more sheet (slice_index s.words sheet.voters) u.reading u v (offered name / 256) room (λ z. omega arith) (r.readings id u at))))
 
 pub gives_back : (sheet : Setting) (slots id : ℕ) (me : M) (v new : ℕ) → v < sheet.voters → me.0.client < 64 → v < length me.0.held → slice_index me.0.held v ≢ 0
     → new ≡ returned (name_of me.0.client (slice_index me.0.held v))
@@ -227,11 +263,15 @@ gives_back sheet slots id me v new inside client room mine which s r _ at _ =
       keeps,
       tt,
       vote_step sheet s r id u w at v new inside (λ k other. (refl, ap (name_of u.client) (get_or-set_other u.held v k 0 0 other))) after refl refl refl tt,
-      refl,
+      (e, which, refl),
     )
 
--- the same by the name of the grant
-pub takes_as : (sheet : Setting) (slots id : ℕ) (me : M) (v grant name : ℕ) → v < sheet.voters → 1 ≤ grant → me.0.client < 64 → name ≡ name_of me.0.client grant → v < length me.0.held → slice_index me.0.held v ≡ 0
-    → Allows (Kept sheet) slots id me v (λ n. either (eqb n (offered name)) (taken name) n) (Took (step slots v (offered name) (taken name) none) me)
-takes_as sheet slots id me v grant name inside large client is_name room mine =
-    subst (λ (k : ℕ). Allows (Kept sheet) slots id me v (λ n. either (eqb n (offered k)) (taken k) n) (Took (step slots v (offered k) (taken k) none) me)) (sym is_name) (takes sheet slots id me v grant inside large client room mine)
+-- the same by the words
+pub takes_by : (sheet : Setting) (slots id : ℕ) (me : M) (v grant old new : ℕ) → v < sheet.voters → 1 ≤ grant → me.0.client < 64 → v < length me.0.held → slice_index me.0.held v ≡ 0
+    → old ≡ offered (name_of me.0.client grant) → new ≡ taken (name_of me.0.client grant)
+    → Allows (Kept sheet) slots id me v (λ n. either (eqb n old) new n) (Took (step slots v old new none) me)
+takes_by sheet slots id me v grant old new inside large client room mine is_old is_new =
+    let name : ℕ = name_of me.0.client grant in
+    subst (λ (k : ℕ). Allows (Kept sheet) slots id me v (λ n. either (eqb n k) new n) (Took (step slots v k new none) me)) (sym is_old)
+    (subst (λ (k : ℕ). Allows (Kept sheet) slots id me v (λ n. either (eqb n (offered name)) k n) (Took (step slots v (offered name) k none) me)) (sym is_new)
+    (takes sheet slots id me v grant inside large client room mine))

@@ -1,5 +1,5 @@
 -- What the root's fields say of its seat, and a voter's of its own.
-use Rattle.std.specs.Prelude.{◌≡◌, ℕ, ◌+◌, ◌^◌, ◌<◌, ◌≤◌, cond, Bool, true, false, List, [], Option, None, Some, length, map, slice_index, slice_index_or}
+use Rattle.std.specs.Prelude.{◌≡◌, ◌≢◌, ℕ, ◌+◌, ◌^◌, ◌<◌, ◌≤◌, cond, Bool, true, false, List, [], Option, None, Some, length, map, slice_index, slice_index_or}
 use Rattle.std.specs.List.{sum_by}
 use Rattle.board.specs.declared.table.View.{View}
 
@@ -25,6 +25,10 @@ passes_of client numbers = map (λ x. (client, x)) numbers
 -- each of these voters has a word, beside the register's
 abbrev pub AreWithin : ℕ → List Bool → Type 0
 AreWithin words voters = (v : ℕ) → slice_index_or voters v false ≡ true → v + 1 < words
+
+-- each of these votes has a word, beside the register's
+abbrev pub AreOnBoard : ℕ → List ℕ → Type 0
+AreOnBoard words held = (v : ℕ) → slice_index held v ≢ 0 → v + 1 < words
 
 -- the current grant is of a client below 64 and the last grant or an earlier one
 abbrev pub IsCurrent : Option (ℕ × ℕ) → ℕ → Type 0

@@ -1,11 +1,17 @@
 -- What the word of a voter's vote says.
-use Rattle.std.specs.Prelude.{ℕ, ◌+◌, ◌*◌, ◌==◌, cond, List, replicate}
+use Rattle.std.specs.Prelude.{ℕ, ◌+◌, ◌*◌, ◌/◌, ◌^◌, ◌≤◌, ◌==◌, cond, List, replicate}
+use Rattle.board.specs.declared.vote.Vote.{Vote}
+use Rattle.board.specs.declared.vote.Vote.TheVariants.{Free, Offered, Held, Returned}
 
 -- a grant's name: its client, below 64, and its number, from 1 on. 0 names no grant
 abbrev pub name_of : ℕ → ℕ → ℕ
 name_of client grant = 64 * grant + client
 
--- The word of a free vote is 0. Else the vote is offered to the client of this grant,
+-- the word of a free vote
+abbrev pub free : ℕ
+free = 0
+
+-- Else the vote is offered to the client of this grant,
 abbrev pub offered : ℕ → ℕ
 offered name = 4 * name + 1
 
@@ -16,6 +22,35 @@ taken name = 4 * name + 2
 -- or given back by it, and not settled yet
 abbrev pub returned : ℕ → ℕ
 returned name = 4 * name + 3
+
+-- the word of each state of a vote
+abbrev pub word_of : Vote → ℕ
+word_of Free = free
+word_of (Offered client grant) = offered (name_of client grant)
+word_of (Held client grant) = taken (name_of client grant)
+word_of (Returned client grant) = returned (name_of client grant)
+
+-- the number of its grant is at most 2^40
+abbrev pub IsSmall : Vote → Type 0
+IsSmall Free = Unit {0}
+IsSmall (Offered client grant) = grant ≤ 2 ^ 40
+IsSmall (Held client grant) = grant ≤ 2 ^ 40
+IsSmall (Returned client grant) = grant ≤ 2 ^ 40
+
+-- a voter may settle a vote in this state, and its grant, by client and number, has the property
+abbrev pub IsSettledFrom : Vote → (ℕ × ℕ → Type 0) → Type 0
+IsSettledFrom Free P = ⊥
+IsSettledFrom (Offered client grant) P = P (client, grant)
+IsSettledFrom (Held client grant) P = ⊥
+IsSettledFrom (Returned client grant) P = P (client, grant)
+
+-- the name of the grant in a word
+abbrev pub name_in : ℕ → ℕ
+name_in word = word / 4
+
+-- the number of the grant in a word
+abbrev pub number_in : ℕ → ℕ
+number_in word = word / 256
 
 -- 1 where the numbers are equal, and else 0
 abbrev pub is : ℕ → ℕ → ℕ

@@ -10,6 +10,7 @@ ghost use Rattle.board.specs.Seats.{BoardState, ClientSeatState};
 use crate::board::Board;
 use crate::fault::BoardFault;
 use crate::table::{GiveBack, Number, ReadFor, Take, View, VoteTable, Write};
+use crate::vote::Vote;
 use atomic_table::Seat;
 use std::marker::{Brand, Model};
 
@@ -28,13 +29,14 @@ impl Model for ClientSeat {
     ghost use Rattle.std.specs.Prelude.{◌≡◌, ◌<◌, ◌≤◌, ◌^◌, [], IfSome};
     ghost use Rattle.std.specs.List.{All};
     ghost use Rattle.board.specs.Seats.{ClientSeatState};
+    ghost use Rattle.board.specs.Roots.{AreOnBoard};
     ghost use Rattle.board.specs.Views.{client_view};
 
     ghost Value = { ClientSeatState };
 
     ghost view = { λ s. record { table = s.seat.table_id; client = s.client; held = s.held; reading = s.reading; passes = s.passes.items } };
 
-    ghost invariant = { λ s. (s.seat.me ≡ (client_view s.client s.held s.reading s.passes.items, [])) × (s.client < 64) × All (λ g. g ≤ 2 ^ 40) s.held × IfSome s.reading (λ r. r.1 ≤ 2 ^ 63) };
+    ghost invariant = { λ s. (s.seat.me ≡ (client_view s.client s.held s.reading s.passes.items, [])) × (s.client < 64) × All (λ g. g ≤ 2 ^ 40) s.held × IfSome s.reading (λ r. r.1 ≤ 2 ^ 63) × AreOnBoard s.seat.table_id.words s.held };
 }
 
 impl ClientSeat {
@@ -84,15 +86,15 @@ impl ClientSeat {
         ensures holds { MatchBool result (slice_index self.new.held voter ≡ grant) (slice_index self.new.held voter ≡ 0) }
         ensures table { self.new.table ≡ self.old.table }
     {
-        let name = 64 * grant + u64::from(self.client);
-        let word = usize::from(voter);
-        let offered = 4 * name + 1;
+        let place = usize::from(voter);
+        let offered = Vote::Offered(self.client, grant).word();
+        let held = Vote::Held(self.client, grant).word();
         let found = board
             .table
             .shared
-            .compare_exchange::<Take>(&mut self.seat, word, offered, 4 * name + 2);
+            .compare_exchange::<Take>(&mut self.seat, place, offered, held);
         if found == offered {
-            self.held[word] = grant;
+            self.held[place] = grant;
             return true;
         }
         false
@@ -102,18 +104,17 @@ impl ClientSeat {
     /// counts no longer.
     pub fn give_back(&mut self, board: &Board, voter: u8)
         requires table { self.old.table ≡ board.now.table }
-        requires voter { voter < board.now.voters }
         requires held { slice_index self.old.held voter ≢ 0 }
         ensures given { self.new ≡ record self.old { held = slice_set self.old.held voter 0; reading = None } }
         ensures table { self.new.table ≡ self.old.table }
     {
-        let word = usize::from(voter);
-        let name = 64 * self.held[word] + u64::from(self.client);
+        let place = usize::from(voter);
+        let returned = Vote::Returned(self.client, self.held[place]).word();
         board
             .table
             .shared
-            .swap::<GiveBack>(&mut self.seat, word, 4 * name + 3);
-        self.held[word] = 0;
+            .swap::<GiveBack>(&mut self.seat, place, returned);
+        self.held[place] = 0;
         self.reading = None;
     }
 

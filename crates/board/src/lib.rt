@@ -47,6 +47,7 @@ mod root;
 mod table;
 #[cfg(test)]
 mod tests;
+mod vote;
 mod voter;
 
 pub use board::{Board, Total};

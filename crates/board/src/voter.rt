@@ -3,9 +3,11 @@ ghost use Rattle.std.specs.Prelude.{◌≡◌, ◌⊎◌, ℕ, ◌+◌, ◌<◌,
 ghost use Rattle.board.specs.Roots.{IsCurrent};
 ghost use Rattle.board.specs.Seats.{BoardState, VoterSeatState};
 ghost use Rattle.board.specs.Views.{voter_view};
+ghost use Rattle.board.specs.Words.{IsSettledFrom};
 
 use crate::board::Board;
 use crate::table::{Grant, Settle, View, VoteTable};
+use crate::vote::Vote;
 use atomic_table::Seat;
 use std::marker::Model;
 
@@ -59,11 +61,11 @@ impl VoterSeat {
         ensures granted { self.new ≡ record self.old { current = Some (client, grant); last = grant } }
         ensures table { self.new.table ≡ self.old.table }
     {
-        let name = 64 * grant + u64::from(client);
+        let offered = Vote::Offered(client, grant).word();
         board
             .table
             .shared
-            .swap::<Grant>(&mut self.seat, usize::from(self.voter), 4 * name + 1);
+            .swap::<Grant>(&mut self.seat, usize::from(self.voter), offered);
         self.current = Some((client, grant));
         self.last = grant;
     }
@@ -76,12 +78,14 @@ impl VoterSeat {
         ensures ended { MatchBool result (self.new ≡ record self.old { current = None }) (self.new ≡ self.old) }
         ensures table { self.new.table ≡ self.old.table }
     {
-        let Some(current) = self.current else {
+        let Some((client, grant)) = self.current else {
             unreachable!()
         };
+        let returned = Vote::Returned(client, grant);
+        let offered = Vote::Offered(client, grant);
         let table = &board.table;
-        let ended = frees(table, &mut self.seat, self.voter, current, 3)
-            || frees(table, &mut self.seat, self.voter, current, 1);
+        let ended = frees(table, &mut self.seat, self.voter, returned)
+            || frees(table, &mut self.seat, self.voter, offered);
         if ended {
             self.current = None;
         }
@@ -89,24 +93,17 @@ impl VoterSeat {
     }
 }
 
-/// Ends the grant where its word is in this state: 1 is offered, and 3 given back.
-fn frees(
-    table: &VoteTable,
-    seat: &mut Seat<(), View>,
-    voter: u8,
-    current: (u8, u64),
-    state: u64,
-) -> bool
+/// Ends the grant where its vote is in this state, offered or given back.
+fn frees(table: &VoteTable, seat: &mut Seat<(), View>, voter: u8, vote: Vote) -> bool
     requires table { (seat.old.table_id ≡ table.now.shared.table_id) × (table.now.shared.table_id.words ≡ table.now.shared.key.voters + 1) }
     requires voter { (voter < table.now.shared.key.voters) × (voter < 64) }
-    requires seat { (seat.old.me ≡ (voter_view voter (Some current), [])) × IsCurrent (Some current) (2 ^ 40) }
-    requires state { (state ≡ 1) ⊎ (state ≡ 3) }
+    requires seat { IsSettledFrom vote (λ current. (seat.old.me ≡ (voter_view voter (Some current), [])) × IsCurrent (Some current) (2 ^ 40)) }
     ensures table { seat.new.table_id ≡ seat.old.table_id }
     ensures seat { MatchBool result (seat.new.me ≡ (voter_view voter None, [])) (seat.new.me ≡ seat.old.me) }
 {
-    let word = 4 * (64 * current.1 + u64::from(current.0)) + state;
+    let word = vote.word();
     table
         .shared
-        .compare_exchange::<Settle>(seat, usize::from(voter), word, 0)
+        .compare_exchange::<Settle>(seat, usize::from(voter), word, Vote::Free.word())
         == word
 }

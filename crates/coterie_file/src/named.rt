@@ -1,11 +1,10 @@
 //! Coteries whose voters have names.
 ghost use Rattle.std.specs.Prelude.{◌≡◌, ◌<◌, None, Some, IfOk, map, length, slice_get, string_bytes, vec_len};
-ghost use Rattle.coterie_file.specs.Answers.{Gives};
 ghost use Rattle.coterie_file.specs.Named.{IsNamed, with_names, numbered_names};
 ghost use Rattle.coterie_file.specs.Names.{AreNames};
 
 use crate::fault::FileFault;
-use crate::names::voters_of;
+use crate::names::names_fault;
 use quorum_set::Coterie;
 use std::alloc::{AllocError, Global};
 use std::marker::Model;
@@ -30,14 +29,16 @@ impl Model for Named {
 }
 
 impl Named {
-    /// The coterie with these names, one for each voter. It is refused by `BadName` for the first text that is no name, and then by
-    /// `RepeatedName` for the first name that an earlier voter has; `OutOfMemory` may come at any point.
-    pub fn of(alloc: Global, coterie: Coterie, names: Vec<String>) -> Result<Named, FileFault>
+    /// Returns the coterie with these names, one for each voter. Fails with `BadName` for the first text that is no name, and
+    /// then with `RepeatedName` for the first name that an earlier voter has. Takes no memory, and drops both with a fault.
+    pub fn of(coterie: Coterie, names: Vec<String>) -> Result<Named, FileFault>
         requires one_each { vec_len names ≡ coterie.voters }
-        ensures exact { Gives (λ n. n) result (with_names coterie (map string_bytes names.items)) }
+        ensures exact { result ≡ with_names coterie (map string_bytes names.items) }
     {
-        voters_of(alloc, &names)?;
-        Ok(Named::with(coterie, names))
+        match names_fault(&names) {
+            Some(fault) => Err(fault),
+            None => Ok(Named::with(coterie, names)),
+        }
     }
 
     /// The coterie with names that are known to have no fault.

@@ -1,5 +1,5 @@
 //! Names of voters, and their numbers.
-ghost use Rattle.std.specs.Prelude.{◌≡◌, [], length, map, not, None, Some, IfOk, OnOk, MatchResult, position, string_bytes};
+ghost use Rattle.std.specs.Prelude.{◌≡◌, [], length, map, not, None, Some, IfNone, IfOk, OnOk, MatchResult, position, string_bytes};
 ghost use Rattle.std.specs.List.{list_all, list_any};
 ghost use Rattle.std.specs.Str.{bytes_eq};
 ghost use Rattle.coterie_file.specs.Answers.{Gives, unless};
@@ -35,6 +35,44 @@ fn first_bad_name(names: &[String]) -> Option<usize>
     ensures { result ≡ position (λ n. not (is_name (string_bytes n))) names.now }
 {
     names.iter().position(|name| !is_good_name(name.as_str()))
+}
+
+/// Whether one of the names is this text.
+fn has_name(names: &[String], text: &str) -> bool
+    ensures { result ≡ has_name (map string_bytes names.now) text.now }
+{
+    for name in names {
+        if text == name.as_str() {
+            return true;
+        }
+    }
+    false
+}
+
+/// The first place whose name stands earlier. Takes no memory, and so is for few names alone.
+fn first_repeat(names: &[String]) -> Option<usize>
+    ensures { result ≡ first_repeat [] (map string_bytes names.now) }
+{
+    for (i, name) in names.iter().enumerate() {
+        if has_name(&names[..i], name.as_str()) {
+            return Some(i);
+        }
+    }
+    None
+}
+
+/// The first fault of voters' names. Takes no memory.
+pub(crate) fn names_fault(names: &[String]) -> Option<FileFault>
+    ensures fault { result ≡ names_fault (map string_bytes names.now) }
+    ensures names { IfNone result (AreNames (map string_bytes names.now)) }
+{
+    if let Some(i) = first_bad_name(names) {
+        return Some(FileFault::BadName(i));
+    }
+    match first_repeat(names) {
+        Some(i) => Some(FileFault::RepeatedName(i)),
+        None => None,
+    }
 }
 
 /// The names in a set that numbers them by their places, or the first place whose name stands earlier.

@@ -105,9 +105,8 @@ fn layouts_read_alike(rt: HostRuntime) -> Result<(), Fail> {
     Ok(())
 }
 
-#[test]
-fn numbered_coterie_is_written(rt: HostRuntime) -> Result<(), Fail> {
-    let alloc = rt.alloc();
+/// The coterie of three voters of which any two are a quorum.
+fn majority(alloc: Global) -> Result<Coterie, Fail> {
     let mut sets = Vec::new(alloc);
     for (i, j) in [(0u8, 1u8), (2, 0), (1, 2)] {
         let mut set = QSet::empty();
@@ -115,14 +114,47 @@ fn numbered_coterie_is_written(rt: HostRuntime) -> Result<(), Fail> {
         set.insert(j);
         sets.push(set)?;
     }
-    let Ok(coterie) = Coterie::of(3, sets) else {
-        assert!(rt; false);
-        return Ok(());
-    };
-    let named = Named::numbered(alloc, coterie)?;
+    Ok(Coterie::of(3, sets)?)
+}
+
+#[test]
+fn numbered_coterie_is_written(rt: HostRuntime) -> Result<(), Fail> {
+    let alloc = rt.alloc();
+    let named = Named::numbered(alloc, majority(alloc)?)?;
     assert_eq!(rt; named.coterie().count(), 3);
     assert_eq!(rt; named.name(2), "v2");
     assert_eq!(rt; write_coterie(alloc, &named)?.as_str(), MAJORITY);
+    Ok(())
+}
+
+/// The text of the majority with these names, or their fault.
+fn text_with(alloc: Global, names: &[&str]) -> Result<String, Fail> {
+    let mut given = Vec::new(alloc);
+    for name in names {
+        given.push(name.to_string(alloc)?)?;
+    }
+    let coterie = majority(alloc)?;
+    if given.len() != coterie.voters() {
+        return Ok("another number of names".to_string(alloc)?);
+    }
+    match Named::of(coterie, given) {
+        Ok(named) => Ok(write_coterie(alloc, &named)?),
+        Err(fault) => Ok(fault.to_string(alloc)?),
+    }
+}
+
+#[test]
+fn names_are_given(rt: HostRuntime) -> Result<(), Fail> {
+    let alloc = rt.alloc();
+    let table = [
+        (["v0", "v1", "v2"], MAJORITY),
+        (["v0", "v1", "v0"], "F4 RepeatedName 2"),
+        (["v0", "v0", "v 2"], "F3 BadName 2"),
+        (["", "v0", "v0"], "F3 BadName 0"),
+    ];
+    for (names, want) in &table {
+        assert_eq!(rt; text_with(alloc, names.as_slice())?.as_str(), *want);
+    }
     Ok(())
 }
 

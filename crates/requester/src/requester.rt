@@ -95,12 +95,11 @@ impl Requester {
         self.state.clock >= self.state.limit
     }
 
-    /// The grant under which the vote of this voter, from 0 to 63, is held.
+    /// The grant under which the vote of this voter is held. None of a number from 64 on.
     pub fn held(&self, voter: u8) -> Option<u64>
-        requires { voter < 64 }
         ensures { result ≡ grant_of self.now voter }
     {
-        match self.state.held[voter as usize] {
+        match self.state.held_of(voter) {
             0 => None,
             grant => Some(grant),
         }
@@ -180,8 +179,6 @@ impl Requester {
 
     /// Whether `take` would hold a vote for this message: it is a LOCKED that counts.
     pub fn would_hold(&self, message: &ToClient) -> bool
-        requires client { message.now.client ≡ self.now.id }
-        requires voter { message.now.voter < 64 }
         ensures { result ≡ would_hold self.now message.now }
     {
         self.state.would_hold(message)

@@ -3,7 +3,7 @@ ghost use Rattle.std.specs.Prelude.{◌≡◌, ◌<◌, ◌≤◌, ◌+◌, ◌^
 ghost use Rattle.std.specs.List.{AllByRecursion, IsDistinct};
 ghost use Rattle.arrayvec.specs.ArrayVec.{array_vec_len};
 ghost use Rattle.quorum_set.specs.Sets.{IsSet};
-ghost use Rattle.requester.specs.Words.{holds, holds_under, is_covered, is_current, is_hindered, is_member};
+ghost use Rattle.requester.specs.Words.{held_of, holds, holds_under, is_covered, is_current, is_hindered, is_member, last_of};
 ghost use Rattle.requester.specs.Steps.{Foretells, ask, cleared, failed, give_up, hold, inquired, is_fresh, leave, locked, relinquish, relinquish_inquired, relinquish_marked, remind, remind_member, take, take_body, tell, tell_members, would_hold};
 
 use crate::fault::ClientFault;
@@ -111,25 +111,42 @@ impl ClientState {
         self.phase != Phase::Idle && stamp == self.stamp
     }
 
+    /// The grant under which the vote of a voter is held, or 0.
+    pub fn held_of(&self, voter: u8) -> u64
+        ensures { result ≡ held_of self.now voter }
+    {
+        match self.held.get(usize::from(voter)) {
+            Some(grant) => *grant,
+            None => 0,
+        }
+    }
+
+    /// The last grant of a voter that was given back, or 0.
+    fn last_of(&self, voter: u8) -> u64
+        ensures { result ≡ last_of self.now voter }
+    {
+        match self.last.get(usize::from(voter)) {
+            Some(grant) => *grant,
+            None => 0,
+        }
+    }
+
     fn holds(&self, voter: u8) -> bool
-        requires { voter < 64 }
         ensures { result ≡ holds self.now voter }
     {
-        self.held[voter as usize] > 0
+        self.held_of(voter) > 0
     }
 
     fn holds_under(&self, voter: u8, grant: u64) -> bool
-        requires { voter < 64 }
         ensures { result ≡ holds_under self.now voter grant }
     {
-        self.holds(voter) && self.held[voter as usize] == grant
+        self.holds(voter) && self.held_of(voter) == grant
     }
 
     fn is_fresh(&self, voter: u8, grant: u64) -> bool
-        requires { voter < 64 }
         ensures { result ≡ is_fresh self.now voter grant }
     {
-        self.is_member(voter) && !self.holds(voter) && grant > self.last[voter as usize]
+        self.is_member(voter) && !self.holds(voter) && grant > self.last_of(voter)
     }
 
     fn is_covered(&self) -> bool
@@ -359,7 +376,6 @@ impl ClientState {
     /// Whether a message is a LOCKED that counts.
     #[tactic(auto, unfolding(crate::specs::Steps::would_hold))]
     pub fn would_hold(&self, message: &ToClient) -> bool
-        requires voter { message.now.voter < 64 }
         ensures { result ≡ would_hold self.now message.now }
     {
         match message.body {

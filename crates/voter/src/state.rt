@@ -1,5 +1,5 @@
 //! What a voter knows, and its steps.
-ghost use Rattle.std.specs.Prelude.{◌≡◌, ◌<◌, ◌≤◌, ◌+◌, ◌^◌, ◌∷◌, ◌++◌, [], true};
+ghost use Rattle.std.specs.Prelude.{◌≡◌, ◌<◌, ◌≤◌, ◌+◌, ◌^◌, ◌∷◌, ◌++◌, [], true, slice_index};
 ghost use Rattle.arrayvec.specs.ArrayVec.{array_vec_len};
 ghost use Rattle.voter.specs.Steps.{admitted, again, ends_grant, grant_front, held_stamp, inquiry, is_before, is_grant, is_later, is_older, is_refused, is_up_to, needs_grant, outcome_of, queued, released, relinquished, remind, reply, requested, requested_beside, standing};
 
@@ -83,6 +83,16 @@ impl VoterState {
             });
             self.inquiring = false;
             replies.push(self.reply(client, ClientBody::Locked { stamp, grant }));
+        }
+    }
+
+    /// The highest stamp of this client that is finished, 0 if there is none.
+    fn finished_of(&self, client: u8) -> u64
+        ensures { result ≡ slice_index self.now.finished client }
+    {
+        match self.finished.get(usize::from(client)) {
+            Some(stamp) => *stamp,
+            None => 0,
         }
     }
 
@@ -239,7 +249,7 @@ impl VoterState {
         ensures state { self.new ≡ (requested self.old request.client request.stamp).state }
         ensures replies { replies.new.items ≡ (requested self.old request.client request.stamp).replies }
     {
-        if request.stamp > self.finished[request.client as usize] {
+        if request.stamp > self.finished_of(request.client) {
             let standing = self.standing(request.client);
             self.request_beside(request, standing, replies);
         }
@@ -269,13 +279,12 @@ impl VoterState {
     /// Whether a message needs a new grant.
     #[tactic(auto, unfolding(crate::specs::Steps::needs_grant))]
     fn needs_grant(&self, message: &ToVoter) -> bool
-        requires client { message.now.client < 64 }
         ensures { result ≡ needs_grant self.now message.now.client message.now.body }
     {
         let client = message.client;
         match message.body {
             VoterBody::Request { stamp } => {
-                stamp > self.finished[client as usize]
+                stamp > self.finished_of(client)
                     && is_later(self.standing(client), stamp)
                     && (self.held.is_none() || self.held_stamp(client).is_some())
             }
@@ -288,7 +297,6 @@ impl VoterState {
 
     /// Whether a message needs a new grant, and none is left.
     pub fn is_refused(&self, message: &ToVoter) -> bool
-        requires client { message.now.client < 64 }
         ensures { result ≡ is_refused self.now message.now }
     {
         self.needs_grant(message) && self.granted >= self.limit
@@ -297,13 +305,12 @@ impl VoterState {
     /// Whether a message ends the current grant.
     #[tactic(auto, unfolding(crate::specs::Steps::ends_grant))]
     pub fn ends_grant(&self, message: &ToVoter) -> bool
-        requires client { message.now.client < 64 }
         ensures { result ≡ ends_grant self.now message.now.client message.now.body }
     {
         let client = message.client;
         match message.body {
             VoterBody::Request { stamp } => {
-                stamp > self.finished[client as usize] && is_older(self.held_stamp(client), stamp)
+                stamp > self.finished_of(client) && is_older(self.held_stamp(client), stamp)
             }
             VoterBody::Relinquish { grant } => is_grant(self.held, client, grant),
             VoterBody::Release { stamp } => is_up_to(self.held_stamp(client), stamp),

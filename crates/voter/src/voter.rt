@@ -91,8 +91,6 @@ impl Voter {
 
     /// What `take` would do with this message.
     pub fn effect(&self, message: &ToVoter) -> Effect
-        requires voter { message.now.voter ≡ self.now.id }
-        requires client { message.now.client < 64 }
         ensures { result ≡ effect_of self.now message.now }
     {
         let refused = self.state.is_refused(message);

@@ -1,7 +1,8 @@
-use Rattle.std.proofs.Common.{ℕ, ◌≤◌, [], None, sym, ◌∙◌, subst, arith}
-use Rattle.std.specs.Prelude.{All}
+use Rattle.std.proofs.Common.{ℕ, ◌≤◌, [], None, sym, ap, ◌∙◌, subst, arith}
+use Rattle.std.specs.Prelude.{All, slice_index}
 use Rattle.std.proofs.lemmas.List.{length-replicate, get_or-replicate}
 use Rattle.board.specs.Words.{nobody}
+use Rattle.board.proofs.Giving.{nobody-at}
 use Rattle.board.specs.Views.{client_view}
 use Rattle.board.proofs.root.fresh_client.Goals as goal
 
@@ -14,4 +15,5 @@ invariant_of-result c = (
   c.requires.1,
   subst (λ l. All (λ g. g ≤ 1099511627776) l) (sym c.no_votes.ensures) small,
   tt,
+  λ v some_grant. absurd (some_grant (ap (λ l. slice_index l v) c.no_votes.ensures ∙ nobody-at v)),
 )

@@ -1,9 +1,11 @@
-use Rattle.std.proofs.Common.{◌≡◌, ℕ, ◌+◌, ◌*◌, length, List, sym, ap, ◌∙◌, arith}
+use Rattle.std.proofs.Common.{◌≡◌, ◌≢◌, ap₂, ◌<◌, ℕ, ◌+◌, length, List, sym, ap, ◌∙◌, arith}
 use Rattle.std.specs.Prelude.{slice_index}
 use Rattle.atomic_table.specs.Table.{Me}
 use Rattle.board.specs.declared.table.View.{View}
 use Rattle.board.specs.Seats.{Setting}
 use Rattle.board.specs.Seats.{BoardState, ClientSeatState}
+use Rattle.atomic_table.specs.Seated.{TableId}
+use Rattle.board.specs.Words.{name_of, returned}
 use Rattle.board.proofs.Votes.{gives_back}
 use Rattle.board.proofs.client.ClientSeat.give_back.Goals as goal
 
@@ -16,13 +18,17 @@ swap-requires c =
     let knows = c.self.invariant.0 in
     let mine = ap (λ (m : Me (Unit {0}) View). m.0.held) knows in
     let client = ap (λ (m : Me (Unit {0}) View). m.0.client) knows in
-    let at = c.from-word.ensures in
-    let here : slice_index c.self.inside.seat.me.0.held c.from-word.result ≡ slice_index c.self.inside.held c.from-word.result = ap (λ (l : List ℕ). slice_index l c.from-word.result) mine in
-    let old : slice_index c.self.inside.held c.from-word.result ≡ slice_index c.args.self.now.held c.args.voter = ap (slice_index c.self.inside.held) at ∙ ap (λ (l : List ℕ). slice_index l c.args.voter) held in (
-      ap (λ (s : ClientSeatState). s.table) c.self.view_is ∙ c.requires.table ∙ sym (ap (λ (b : BoardState). b.table) c.board.view_is),
-      omega (arith, c.board.invariant.1, c.requires.voter),
-      gives_back c.board.inside.table.shared.key _ _ _ c.from-word.result (4 * (64 * slice_index c.self.inside.held c.from-word.result + c.from.result) + 3) (omega (arith, c.requires.voter)) (omega (arith, c.self.invariant.1))
-          (let long : length c.self.inside.seat.me.0.held ≡ length c.self.inside.held = ap length mine in omega (arith, c.requires.voter, c.self.told))
-          (λ z. c.requires.held (sym old ∙ sym here ∙ z))
-          (omega (arith, here, c.from.ensures, client)),
+    let at = c.from-place.ensures in
+    let here : slice_index c.self.inside.seat.me.0.held c.from-place.result ≡ slice_index c.self.inside.held c.from-place.result = ap (λ (l : List ℕ). slice_index l c.from-place.result) mine in
+    let old : slice_index c.self.inside.held c.from-place.result ≡ slice_index c.args.self.now.held c.args.voter = ap (slice_index c.self.inside.held) at ∙ ap (λ (l : List ℕ). slice_index l c.args.voter) held in
+    let some_grant : slice_index c.self.inside.held c.from-place.result ≢ 0 = λ z. c.requires.held (sym old ∙ z) in
+    let table = ap (λ (s : ClientSeatState). s.table) c.self.view_is ∙ c.requires.table ∙ sym (ap (λ (b : BoardState). b.table) c.board.view_is) in
+    let words = ap (λ (t : TableId). t.words) table in
+    let inside : c.from-place.result + 1 < c.self.inside.seat.table_id.words = c.self.invariant.4 c.from-place.result some_grant in (
+      table,
+      omega (arith, c.board.invariant.1, words, inside),
+      gives_back c.board.inside.table.shared.key _ _ _ c.from-place.result _ (omega (arith, sheet, c.board.invariant.1, words, inside)) (omega (arith, c.self.invariant.1))
+          (let long : length c.self.inside.seat.me.0.held ≡ length c.self.inside.held = ap length mine in omega (arith, few, words, inside, c.board.invariant.1, c.self.told))
+          (λ z. some_grant (sym here ∙ z))
+          (c.word-returned.ensures ∙ ap₂ (λ (n g : ℕ). returned (name_of n g)) (sym client) (sym here)),
     )

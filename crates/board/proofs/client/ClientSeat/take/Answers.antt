@@ -1,10 +1,11 @@
-use Rattle.std.proofs.Common.{◌≡◌, ℕ, ◌+◌, ◌*◌, length, sym, ap, ◌∙◌, arith}
+use Rattle.std.proofs.Common.{◌≡◌, ℕ, length, sym, ap, ◌∙◌, arith}
 use Rattle.std.specs.Prelude.{slice_index}
 use Rattle.atomic_table.specs.Table.{Me}
 use Rattle.board.specs.declared.table.View.{View}
 use Rattle.board.specs.Seats.{Setting}
 use Rattle.board.specs.Seats.{BoardState, ClientSeatState}
-use Rattle.board.proofs.Votes.{takes_as}
+use Rattle.board.specs.Words.{name_of, offered, taken}
+use Rattle.board.proofs.Votes.{takes_by}
 use Rattle.board.proofs.client.ClientSeat.take.Goals as goal
 
 pub compare_exchange-found-requires : goal.compare_exchange-found-requires
@@ -16,11 +17,13 @@ compare_exchange-found-requires c =
     let knows = c.self.invariant.0 in
     let mine = ap (λ (m : Me (Unit {0}) View). m.0.held) knows in
     let client = ap (λ (m : Me (Unit {0}) View). m.0.client) knows in
-    let at = c.from-word.ensures in (
+    let at = c.from-place.ensures in
+    let named = λ (P : ℕ → ℕ) (x : ℕ) (e : x ≡ P (name_of c.self.inside.client c.args.grant)). e ∙ ap (λ (n : ℕ). P (name_of n c.args.grant)) (sym client) in (
       ap (λ (s : ClientSeatState). s.table) c.self.view_is ∙ c.requires.table ∙ sym (ap (λ (b : BoardState). b.table) c.board.view_is),
       omega (arith, c.board.invariant.1, c.requires.voter),
-      takes_as c.board.inside.table.shared.key _ _ _ c.from-word.result c.args.grant (64 * c.args.grant + c.from.result) (omega (arith, c.requires.voter)) (omega (arith, c.requires.grant)) (omega (arith, c.self.invariant.1))
-          (ap (λ (n : ℕ). 64 * c.args.grant + n) (c.from.ensures ∙ sym client))
+      takes_by c.board.inside.table.shared.key _ _ _ c.from-place.result c.args.grant _ _ (omega (arith, c.requires.voter)) (omega (arith, c.requires.grant)) (omega (arith, c.self.invariant.1))
           (let long : length c.self.inside.seat.me.0.held ≡ length c.self.inside.held = ap length mine in omega (arith, c.requires.voter, c.self.told))
-          (ap (slice_index c.self.inside.seat.me.0.held) at ∙ ap (λ l. slice_index l c.args.voter) (mine ∙ held) ∙ c.requires.free),
+          (ap (slice_index c.self.inside.seat.me.0.held) at ∙ ap (λ l. slice_index l c.args.voter) (mine ∙ held) ∙ c.requires.free)
+          (named offered _ c.word-offered.ensures)
+          (named taken _ c.word-held.ensures),
     )

@@ -1,10 +1,11 @@
-use Rattle.std.proofs.Common.{◌≡◌, ℕ, ◌+◌, ◌*◌, ◌/◌, ◌<◌, None, Some, length, set, sym, ap, ◌∙◌, subst, arith}
+use Rattle.std.proofs.Common.{◌≡◌, ℕ, ◌+◌, ◌<◌, None, Some, length, set, sym, ap, ◌∙◌, subst, arith}
 use Rattle.std.specs.Prelude.{Option, slice_index}
 use Rattle.atomic_table.specs.Seated.{TableId}
 use Rattle.board.specs.Seats.{BoardState, VoterSeatState}
 use Rattle.board.specs.Views.{current_name}
 use Rattle.board.specs.Seats.{Setting}
-use Rattle.board.proofs.Votes.{grants}
+use Rattle.board.specs.Words.{name_of, name_in}
+use Rattle.board.proofs.Votes.{grants_by}
 use Rattle.board.proofs.VoterFields.{voter_room, voter_here, voter_after}
 use Rattle.board.proofs.voter.VoterSeat.grant.Goals as goal
 
@@ -16,22 +17,23 @@ swap-requires c =
     let sheet = ap (λ (s : Setting). s.voters) c.board.invariant.0 in
     let here = voter_here c.self.inside.seat.me c.self.inside.voter c.self.inside.current c.self.invariant.0 c.self.invariant.1 in
     let room = voter_room c.self.inside.seat.me c.self.inside.voter c.self.inside.current c.self.invariant.0 c.self.invariant.1 in
-    let at : c.from-2.result ≡ c.self.inside.voter = c.from-2.ensures in
+    let at : c.from.result ≡ c.self.inside.voter = c.from.ensures in
     let words = ap (λ (z : TableId). z.words) (ap (λ (s : VoterSeatState). s.table) c.self.view_is ∙ c.requires.table ∙ sym (ap (λ (b : BoardState). b.table) c.board.view_is)) in
-    let in_board : c.from-2.result < c.board.inside.sheet.voters = omega (arith, c.self.invariant.3, c.board.invariant.1, words) in (
+    let in_board : c.from.result < c.board.inside.sheet.voters = omega (arith, c.self.invariant.3, c.board.invariant.1, words) in (
       ap (λ (s : VoterSeatState). s.table) c.self.view_is ∙ c.requires.table ∙ sym (ap (λ (b : BoardState). b.table) c.board.view_is),
       omega (arith, c.board.invariant.1),
-      grants c.board.inside.table.shared.key _ _ _ c.from-2.result (64 * c.args.grant + c.from.result) (omega arith) (omega (arith, c.requires.above))
+      grants_by c.board.inside.table.shared.key _ _ _ c.from.result (name_of c.args.client c.args.grant) _ (omega arith) (omega (arith, c.requires.above))
           (subst (λ (v : ℕ). v < length c.self.inside.seat.me.0.voters) (sym at) room)
-          (ap (slice_index c.self.inside.seat.me.0.voters) at ∙ here ∙ ap (λ (x : Option (ℕ × ℕ)). current_name x + 1) free),
+          (ap (slice_index c.self.inside.seat.me.0.voters) at ∙ here ∙ ap (λ (x : Option (ℕ × ℕ)). current_name x + 1) free)
+          c.word-offered.ensures,
     )
 
 pub invariant_of-self : goal.invariant_of-self
 invariant_of-self c =
     let in_range : c.args.client < 64 = omega (arith, c.requires.client, ap (λ (b : BoardState). b.clients) c.board.view_is, c.board.invariant.6) in (
       voter_after c.self.inside.seat.me c.swap.new.seat.me c.self.inside.voter _ c.self.inside.current (Some (c.args.client, c.args.grant)) c.self.invariant.0
-          (subst (λ (v : ℕ). c.swap.new.seat.me ≡ (record c.self.inside.seat.me.0 { voters = set c.self.inside.seat.me.0.voters v ((4 * (64 * c.args.grant + c.from.result) + 1) / 4 + 1) }, c.self.inside.seat.me.1)) c.from-2.ensures c.swap.ensures.2)
-          (omega (arith, c.from.ensures)),
+          (subst (λ (v : ℕ). c.swap.new.seat.me ≡ (record c.self.inside.seat.me.0 { voters = set c.self.inside.seat.me.0.voters v (name_in c.word-offered.result + 1) }, c.self.inside.seat.me.1)) c.from.ensures c.swap.ensures.2.2)
+          (omega (arith, c.word-offered.ensures)),
       c.self.invariant.1,
       (in_range, omega (arith, c.requires.above), omega arith, omega (arith, c.requires.fits)),
       subst (λ (z : TableId). c.self.inside.voter + 1 < z.words) (sym c.swap.ensures.0) c.self.invariant.3,
