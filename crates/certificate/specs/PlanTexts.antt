@@ -132,11 +132,23 @@ telling_at text = do
   voters ← line_at 5 (read_weights (codes "voter ")) quorums.1
   if length voters.1 == 0 then Ok (record { load = load.0; cycle = cycle.0; quorum_weights = quorums.0; voter_weights = voters.0 }) else Err (BadText 6)
 
--- the first fault of what was told of the load and of the cycle
+-- what the first three lines tell, the load and the cycle, and what follows them; or the first of them that is bad
+unfoldable pub head_at : List ℕ → Result ((ℕ × ℕ) × ℕ × List ℕ) PlanFault
+head_at text = do
+  title ← line_at 1 read_title text
+  load ← line_at 2 read_load title.1
+  cycle ← line_at 3 read_cycle load.1
+  Ok (load.0, cycle.0, cycle.1)
+
+-- the first fault of a load and of a cycle's length that were told of a plan
+abbrev pub head_fault : Weighted → ℕ × ℕ → ℕ → Option PlanFault
+head_fault w load cycle =
+    if not (((load_of w).0 == load.0) && ((load_of w).1 == load.1)) then Some WrongLoad else
+    if not (cycle_len w == cycle) then Some WrongCycle else None
+
+-- the same of all that was told
 abbrev pub telling_fault : Weighted → Telling → Option PlanFault
-telling_fault w t =
-    if not (((load_of w).0 == t.load.0) && ((load_of w).1 == t.load.1)) then Some WrongLoad else
-    if not (cycle_len w == t.cycle) then Some WrongCycle else None
+telling_fault w t = head_fault w t.load t.cycle
 
 -- the value, unless there is a fault
 abbrev pub unless_fault : Option PlanFault → Weighted → Result Weighted PlanFault
@@ -164,6 +176,16 @@ Refuses e wanted = wanted ≡ Err e
 abbrev pub Gives : {X Y : Type 0} → (X → Y) → Result X PlanFault → Result Y PlanFault → Type 0
 Gives view (Ok x) wanted = wanted ≡ Ok (view x)
 Gives view (Err e) wanted = Refuses e wanted
+
+-- what was answered, seen by view, is this, in any case
+abbrev pub Answers : {X Y : Type 0} → (X → Y) → Result X PlanFault → Result Y PlanFault → Type 0
+Answers view (Ok x) wanted = wanted ≡ Ok (view x)
+Answers view (Err e) wanted = wanted ≡ Err e
+
+-- what was answered is the fault of this, where it is one
+abbrev pub RefusesAs : {X Y : Type 0} → Result X PlanFault → Result Y PlanFault → Type 0
+RefusesAs (Ok x) answered = Unit {0}
+RefusesAs (Err e) answered = answered ≡ Err e
 
 -- what was answered is this, unless memory ran out
 abbrev pub MemoryAside : Result Weighted PlanFault → Result Weighted PlanFault → Type 0

@@ -3,7 +3,7 @@ ghost use Rattle.std.specs.Prelude.{◌≡◌, ◌==◌, IfOk, option_map, posit
 ghost use Rattle.std.specs.List.{slice_split, list_all};
 ghost use Rattle.std.specs.Char.{is_ascii_digit};
 ghost use Rattle.certificate.specs.Certificates.{Weighted, IsCertificate, IsOptimal};
-ghost use Rattle.certificate.specs.PlanTexts.{plan_text, cut_at, is_number, number_of, numbers_of, behind, read_title, read_pair, read_load, read_cycle, read_weights, line_at, telling_at, plan_at, Gives, MemoryAside};
+ghost use Rattle.certificate.specs.PlanTexts.{plan_text, cut_at, is_number, number_of, numbers_of, behind, read_title, read_pair, read_load, read_cycle, read_weights, line_at, telling_at, head_at, head_fault, plan_at, Answers, Gives, MemoryAside, RefusesAs};
 
 use crate::fault::PlanFault;
 use crate::plan::{Plan, check};
@@ -132,7 +132,7 @@ fn weights(alloc: Global, word: &[u8], line: &[u8]) -> Result<Option<Vec<u64>>, 
 
 /// The rest of a text behind its title.
 fn title_line(text: &[u8]) -> Result<&[u8], PlanFault>
-    ensures { Gives (λ rest. (tt, rest.now)) result (line_at 1 read_title text.now) }
+    ensures { Answers (λ rest. (tt, rest.now)) result (line_at 1 read_title text.now) }
 {
     match cut(text, b'\n') {
         Some((line, rest)) if line == b"quorum-plan 1".as_slice() => Ok(rest),
@@ -141,7 +141,7 @@ fn title_line(text: &[u8]) -> Result<&[u8], PlanFault>
 }
 
 fn load_line(text: &[u8]) -> Result<((u64, u64), &[u8]), PlanFault>
-    ensures { Gives (λ x. (x.0, x.1.now)) result (line_at 2 read_load text.now) }
+    ensures { Answers (λ x. (x.0, x.1.now)) result (line_at 2 read_load text.now) }
 {
     let Some((line, rest)) = cut(text, b'\n') else {
         return Err(PlanFault::BadText { line: 2 });
@@ -153,7 +153,7 @@ fn load_line(text: &[u8]) -> Result<((u64, u64), &[u8]), PlanFault>
 }
 
 fn cycle_line(text: &[u8]) -> Result<(u64, &[u8]), PlanFault>
-    ensures { Gives (λ x. (x.0, x.1.now)) result (line_at 3 read_cycle text.now) }
+    ensures { Answers (λ x. (x.0, x.1.now)) result (line_at 3 read_cycle text.now) }
 {
     let Some((line, rest)) = cut(text, b'\n') else {
         return Err(PlanFault::BadText { line: 3 });
@@ -182,9 +182,10 @@ fn weights_line<'a>(
 }
 
 /// What the lines tell, or the first bad line.
-#[tactic(auto, unfolding(crate::specs::PlanTexts::telling_at))]
+#[tactic(auto, unfolding(crate::specs::PlanTexts::telling_at, crate::specs::PlanTexts::head_at))]
 fn read_lines(alloc: Global, text: &[u8]) -> Result<LinesTold, PlanFault>
-    ensures { Gives (λ t. record { load = t.load; cycle = t.cycle; quorum_weights = t.quorum_weights.items; voter_weights = t.voter_weights.items }) result (telling_at text.now) }
+    ensures exact { Gives (λ t. record { load = t.load; cycle = t.cycle; quorum_weights = t.quorum_weights.items; voter_weights = t.voter_weights.items }) result (telling_at text.now) }
+    ensures head { RefusesAs (head_at text.now) result }
 {
     let rest = title_line(text)?;
     let (load, rest) = load_line(rest)?;
@@ -202,21 +203,32 @@ fn read_lines(alloc: Global, text: &[u8]) -> Result<LinesTold, PlanFault>
     })
 }
 
+/// The fault of a load and of the length of a cycle that are not the plan's.
+fn head_fault(plan: &Plan, load: (u64, u64), cycle: u64) -> Option<PlanFault>
+    ensures { result ≡ head_fault plan.now load cycle }
+{
+    if plan.load() != load {
+        return Some(PlanFault::WrongLoad);
+    }
+    if plan.cycle_len() != cycle {
+        return Some(PlanFault::WrongCycle);
+    }
+    None
+}
+
 /// The plan of a coterie that a text spells, or the first fault.
 #[tactic(auto, unfolding(crate::specs::PlanTexts::plan_at))]
 fn plan_of_text(alloc: Global, coterie: &Coterie, text: &[u8]) -> Result<Plan, PlanFault>
     ensures exact { MemoryAside result (plan_at coterie.now text.now) }
+    ensures head { RefusesAs (head_at text.now) result }
     ensures certificate { IfOk result IsCertificate }
 {
     let told = read_lines(alloc, text)?;
     let plan = check(alloc, coterie, told.quorum_weights, told.voter_weights)?;
-    if plan.load() != told.load {
-        return Err(PlanFault::WrongLoad);
+    match head_fault(&plan, told.load, told.cycle) {
+        Some(fault) => Err(fault),
+        None => Ok(plan),
     }
-    if plan.cycle_len() != told.cycle {
-        return Err(PlanFault::WrongCycle);
-    }
-    Ok(plan)
 }
 
 /// Reads the plan of a coterie from its text.
@@ -233,7 +245,8 @@ fn plan_of_text(alloc: Global, coterie: &Coterie, text: &[u8]) -> Result<Plan, P
 ///
 /// Refused are, in this order: the first line that is missing or not spelled so, or text behind the fifth
 /// (`BadText`); weights that `check` refuses; a load that is not the weights' in lowest terms (`WrongLoad`); a
-/// cycle's length that is not the sum of the quorums' weights (`WrongCycle`). Want of memory may come at any point.
+/// cycle's length that is not the sum of the quorums' weights (`WrongCycle`). Out of memory may come at any point behind the
+/// third line.
 pub fn read_plan(alloc: Global, coterie: &Coterie, text: &[u8]) -> Result<Plan, PlanFault>
     // What is read is spelled so.
     ensures spelled { IfOk result (λ p. (p.system ≡ coterie.now) × (text.now ≡ plan_text p)) }
@@ -241,6 +254,8 @@ pub fn read_plan(alloc: Global, coterie: &Coterie, text: &[u8]) -> Result<Plan, 
     ensures read { (w : Weighted) → w.system ≡ coterie.now → IsCertificate w → text.now ≡ plan_text w → MemoryAside result (Ok w) }
     // Which fault it is.
     ensures exact { MemoryAside result (plan_at coterie.now text.now) }
+    // A fault of the first three lines is found before any memory is taken.
+    ensures head { RefusesAs (head_at text.now) result }
 
     ensures certificate { IfOk result IsCertificate }
     ensures optimal { IfOk result IsOptimal }

@@ -1,5 +1,5 @@
 -- A sound record has no fault.
-use Rattle.std.proofs.Common.{◌≡◌, ℕ, ◌*◌, List, Result, Ok, Err, IfOk, IfErr, length, refl, ◌∙◌, subst, sym, arith}
+use Rattle.std.proofs.Common.{◌≡◌, ℕ, ◌*◌, List, Option, None, Some, MatchOption, length, refl, ◌∙◌, subst, sym, arith}
 use Rattle.std.specs.List.{All}
 use Rattle.std.proofs.lemmas.List.{length-map}
 use Rattle.std.proofs.lemmas.List.Elements.{All-contains}
@@ -8,13 +8,13 @@ use Rattle.dealer.specs.Accounts.{IsWholeCycles}
 use Rattle.replay.specs.declared.fault.ReplayFault.{ReplayFault}
 use Rattle.replay.specs.declared.fault.ReplayFault.TheVariants.{TicketTwice, TicketMissing, WrongQuorum, PassTwice, PassMissing, WrongRegister, BadLine, OutOfMemory}
 use Rattle.cluster.specs.Records.{Draw}
-use Rattle.replay.specs.Records.{EachOnce, Entries, IsFirstFault, IsNumberFault, IsRegisterFault, IsRight, IsSoundRecord, IsTicketFault, numbers_of, tickets_of}
+use Rattle.replay.specs.Records.{EachOnce, Entries, IsFirstFault, IsFound, IsNumberFault, IsRegisterFault, IsRight, IsSoundRecord, IsTicketFault, numbers_of, tickets_of}
 use Rattle.replay.proofs.AscendingLemmas.{none_missing, single_from_count}
 
 -- the faults of the parts, in their order
 
-pub first_of_tickets : (w : Weighted) (e : Entries) (fault : ReplayFault) → IsTicketFault (tickets_of e.draws) fault → IsFirstFault w e fault
-first_of_tickets w e OutOfMemory h = tt
+pub first_of_tickets : (w : Weighted) (e : Entries) (fault : ReplayFault) → IsTicketFault (tickets_of e.draws) fault → IsFound w e fault
+first_of_tickets w e OutOfMemory h = h
 first_of_tickets w e (TicketTwice t) h = h
 first_of_tickets w e (TicketMissing t) h = h
 first_of_tickets w e (WrongQuorum t) h = absurd h
@@ -23,8 +23,8 @@ first_of_tickets w e (PassMissing p) h = absurd h
 first_of_tickets w e (WrongRegister q) h = absurd h
 first_of_tickets w e (BadLine line) h = h
 
-pub first_of_numbers : (w : Weighted) (e : Entries) (fault : ReplayFault) → EachOnce (tickets_of e.draws) → All (IsRight w) e.draws → IsNumberFault (numbers_of e.passes) fault → IsFirstFault w e fault
-first_of_numbers w e OutOfMemory counts right h = tt
+pub first_of_numbers : (w : Weighted) (e : Entries) (fault : ReplayFault) → EachOnce (tickets_of e.draws) → All (IsRight w) e.draws → IsNumberFault (numbers_of e.passes) fault → IsFound w e fault
+first_of_numbers w e OutOfMemory counts right h = h
 first_of_numbers w e (PassTwice p) counts right h = ((counts, right), h)
 first_of_numbers w e (PassMissing p) counts right h = ((counts, right), h.0, h.1)
 first_of_numbers w e (TicketTwice t) counts right h = absurd h
@@ -33,7 +33,7 @@ first_of_numbers w e (WrongQuorum t) counts right h = absurd h
 first_of_numbers w e (WrongRegister q) counts right h = absurd h
 first_of_numbers w e (BadLine line) counts right h = h
 
-pub first_of_register : (w : Weighted) (e : Entries) (fault : ReplayFault) → EachOnce (tickets_of e.draws) → All (IsRight w) e.draws → EachOnce (numbers_of e.passes) → IsRegisterFault e fault → IsFirstFault w e fault
+pub first_of_register : (w : Weighted) (e : Entries) (fault : ReplayFault) → EachOnce (tickets_of e.draws) → All (IsRight w) e.draws → EachOnce (numbers_of e.passes) → IsRegisterFault e fault → IsFound w e fault
 first_of_register w e (WrongRegister q) counts right up h = ((counts, right), up, h.0, h.1)
 first_of_register w e (PassTwice p) counts right up h = absurd h
 first_of_register w e (PassMissing p) counts right up h = absurd h
@@ -41,7 +41,7 @@ first_of_register w e (TicketTwice t) counts right up h = absurd h
 first_of_register w e (TicketMissing t) counts right up h = absurd h
 first_of_register w e (WrongQuorum t) counts right up h = absurd h
 first_of_register w e (BadLine line) counts right up h = h
-first_of_register w e OutOfMemory counts right up h = tt
+first_of_register w e OutOfMemory counts right up h = h
 
 -- only want of memory stops a sound record
 pub sound_has_no_fault : (w : Weighted) (e : Entries) (fault : ReplayFault) → IsSoundRecord w e → IsFirstFault w e fault → fault ≡ OutOfMemory
@@ -61,14 +61,19 @@ whole_cycles v w draws tickets k same are counts long =
     let whole : IsWholeCycles w k (tickets_of draws) = record { in_all = all; each_once = λ t lt. counts t (omega (arith, all)) } in
     subst (λ (x : Weighted). IsWholeCycles x k tickets) (sym same) (subst (λ (ts : List ℕ). IsWholeCycles w k ts) (sym are) whole)
 
+-- a fault that was found is the first one
+pub first_from_found : (w : Weighted) (e : Entries) (fault : ReplayFault) → IsFound w e fault → IsFirstFault w e fault
+first_from_found w e OutOfMemory h = tt
+first_from_found w e (TicketTwice t) h = h
+first_from_found w e (TicketMissing t) h = h
+first_from_found w e (WrongQuorum t) h = h
+first_from_found w e (PassTwice p) h = h
+first_from_found w e (PassMissing p) h = h
+first_from_found w e (WrongRegister q) h = h
+first_from_found w e (BadLine line) h = h
+
 -- the register is looked at last
-
-pub sound_at_end : {X : Type 0} (w : Weighted) (e : Entries) (result : Result X ReplayFault) → EachOnce (tickets_of e.draws) → All (IsRight w) e.draws → EachOnce (numbers_of e.passes)
-    → IfOk result (λ _. e.register ≡ length e.passes) → IfOk result (λ _. IsSoundRecord w e)
-sound_at_end w e (Ok x) counts right up is = record { tickets = counts; quorums = right; numbers = up; register = is }
-sound_at_end w e (Err fault) counts right up is = tt
-
-pub fault_at_end : {X : Type 0} (w : Weighted) (e : Entries) (result : Result X ReplayFault) → EachOnce (tickets_of e.draws) → All (IsRight w) e.draws → EachOnce (numbers_of e.passes)
-    → IfErr result (IsRegisterFault e) → IfErr result (IsFirstFault w e)
-fault_at_end w e (Ok x) counts right up is = tt
-fault_at_end w e (Err fault) counts right up is = first_of_register w e fault counts right up is
+pub register_at_end : (w : Weighted) (e : Entries) (found : Option ReplayFault) → EachOnce (tickets_of e.draws) → All (IsRight w) e.draws → EachOnce (numbers_of e.passes)
+    → MatchOption found (e.register ≡ length e.passes) (IsRegisterFault e) → MatchOption found (IsSoundRecord w e) (IsFound w e)
+register_at_end w e None counts right up is = record { tickets = counts; quorums = right; numbers = up; register = is }
+register_at_end w e (Some fault) counts right up is = first_of_register w e fault counts right up is

@@ -91,20 +91,23 @@ IsFirstFault w e (WrongRegister q) = AreSoundDraws w e.draws × EachOnce (number
 IsFirstFault w e (BadLine line) = ⊥
 IsFirstFault w e OutOfMemory = Unit {0}
 
+-- the first fault of a record, which is no want of memory
+abbrev pub IsFound : Weighted → Entries → ReplayFault → Type 0
+IsFound w e OutOfMemory = ⊥
+IsFound w e fault = IsFirstFault w e fault
+
 -- The same of each part of a record
 
 -- a fault of the tickets: the least one that stands twice, or where none does the least one that is missing
 abbrev pub IsTicketFault : List ℕ → ReplayFault → Type 0
 IsTicketFault tickets (TicketTwice t) = IsLeast (IsTwice tickets) t
 IsTicketFault tickets (TicketMissing t) = NoneTwice tickets × IsLeast (IsMissing tickets) t
-IsTicketFault tickets OutOfMemory = Unit {0}
 IsTicketFault tickets fault = ⊥
 
 -- likewise of the pass numbers
 abbrev pub IsNumberFault : List ℕ → ReplayFault → Type 0
 IsNumberFault numbers (PassTwice p) = IsLeast (IsTwice numbers) p
 IsNumberFault numbers (PassMissing p) = NoneTwice numbers × IsLeast (IsMissing numbers) p
-IsNumberFault numbers OutOfMemory = Unit {0}
 IsNumberFault numbers fault = ⊥
 
 -- a fault of the register: it is not the number of passes

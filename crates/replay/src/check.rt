@@ -5,7 +5,7 @@ ghost use Rattle.std.specs.List.Sorted.{IsNonDecreasing};
 ghost use Rattle.quorum_set.specs.Counts.{times};
 ghost use Rattle.certificate.specs.Certificates.{IsCertificate, busiest_count, cycle_len};
 ghost use Rattle.dealer.specs.Accounts.{IsLeastBusiest, account_of};
-ghost use Rattle.replay.specs.Records.{EachOnce, IsFirstFault, IsFirstGap, IsLeast, IsMissing, IsNumberFault, IsRegisterFault, IsRight, IsSoundRecord, IsTicketFault, IsTwice, IsWrong, NoneTwice, entries_of, numbers_of, tickets_of};
+ghost use Rattle.replay.specs.Records.{EachOnce, IsFirstFault, IsFirstGap, IsFound, IsLeast, IsMissing, IsNumberFault, IsRegisterFault, IsRight, IsSoundRecord, IsTicketFault, IsTwice, IsWrong, NoneTwice, entries_of, numbers_of, tickets_of};
 ghost use Rattle.replay.specs.declared.fault.ReplayFault.TheVariants.{OutOfMemory};
 
 use crate::fault::ReplayFault;
@@ -147,59 +147,59 @@ fn cycle_of(alloc: Global, plan: &Plan) -> Result<Cycle, ReplayFault>
     }
 }
 
-/// Refuses tickets that are not those below how many they are, each once.
-fn refuse_tickets(alloc: Global, draws: &[(u8, u64, usize)]) -> Result<(), ReplayFault>
-    ensures counted { IfOk result (λ _. EachOnce (tickets_of draws.now)) }
-    ensures fault { IfErr result (IsTicketFault (tickets_of draws.now)) }
+/// The first fault of tickets: they have to be those below how many they are, each once.
+fn ticket_fault(tickets: Vec<u64>) -> Option<ReplayFault>
+    ensures { MatchOption result (EachOnce tickets.items) (IsTicketFault tickets.items) }
 {
-    match first_gap(tickets_of(alloc, draws)?) {
-        None => Ok(()),
-        Some(gap) => Err(gap.ticket_fault()),
+    match first_gap(tickets) {
+        Some(gap) => Some(gap.ticket_fault()),
+        None => None,
     }
 }
 
-/// Refuses numbers of passes that are not those below how many they are, each once.
-fn refuse_numbers(alloc: Global, passes: &[(u8, u64)]) -> Result<(), ReplayFault>
-    ensures counted { IfOk result (λ _. EachOnce (numbers_of passes.now)) }
-    ensures fault { IfErr result (IsNumberFault (numbers_of passes.now)) }
+/// The first fault of the numbers of passes: they have to be those below how many they are, each once.
+fn number_fault(numbers: Vec<u64>) -> Option<ReplayFault>
+    ensures { MatchOption result (EachOnce numbers.items) (IsNumberFault numbers.items) }
 {
-    match first_gap(numbers_of(alloc, passes)?) {
-        None => Ok(()),
-        Some(gap) => Err(gap.number_fault()),
+    match first_gap(numbers) {
+        Some(gap) => Some(gap.number_fault()),
+        None => None,
     }
 }
 
-/// Refuses a register that is not the number of passes.
-fn refuse_register(run: &RunRecord) -> Result<(), ReplayFault>
-    ensures right { IfOk result (λ _. run.now.register ≡ length run.now.passes.items) }
-    ensures fault { IfErr result (IsRegisterFault (entries_of run.now)) }
+/// The fault of a register that is not the number of passes.
+fn register_fault(run: &RunRecord) -> Option<ReplayFault>
+    ensures { MatchOption result (run.now.register ≡ length run.now.passes.items) (IsRegisterFault (entries_of run.now)) }
 {
     let passes = run.passes.len() as u64;
     if run.register == passes {
-        Ok(())
+        None
     } else {
-        Err(ReplayFault::WrongRegister(passes))
+        Some(ReplayFault::WrongRegister(passes))
     }
 }
 
-/// Refuses a record by its first fault.
-fn refuse(alloc: Global, cycle: &Cycle, run: &RunRecord) -> Result<(), ReplayFault>
-    ensures sound { IfOk result (λ _. IsSoundRecord cycle.now (entries_of run.now)) }
-    ensures fault { IfErr result (IsFirstFault cycle.now (entries_of run.now)) }
+/// The first fault of a record with these tickets and these numbers of passes. It is no want of memory: nothing grows here.
+fn fault_of(
+    cycle: &Cycle,
+    run: &RunRecord,
+    tickets: Vec<u64>,
+    numbers: Vec<u64>,
+) -> Option<ReplayFault>
+    requires tickets { tickets.items ≡ tickets_of run.now.draws.items }
+    requires numbers { numbers.items ≡ numbers_of run.now.passes.items }
+    ensures { MatchOption result (IsSoundRecord cycle.now (entries_of run.now)) (IsFound cycle.now (entries_of run.now)) }
 {
-    match refuse_tickets(alloc, &run.draws) {
-        Ok(()) => {}
-        Err(fault) => return Err(fault),
+    if let Some(fault) = ticket_fault(tickets) {
+        return Some(fault);
     }
-    match least_wrong(cycle, &run.draws) {
-        None => {}
-        Some(ticket) => return Err(ReplayFault::WrongQuorum(ticket)),
+    if let Some(ticket) = least_wrong(cycle, &run.draws) {
+        return Some(ReplayFault::WrongQuorum(ticket));
     }
-    match refuse_numbers(alloc, &run.passes) {
-        Ok(()) => {}
-        Err(fault) => return Err(fault),
+    if let Some(fault) = number_fault(numbers) {
+        return Some(fault);
     }
-    refuse_register(run)
+    register_fault(run)
 }
 
 /// Checks a record of a run by the plan that the run dealt quorums by, and answers the account of its tickets.
@@ -233,9 +233,10 @@ pub fn check_record(alloc: Global, plan: &Plan, run: &RunRecord) -> Result<Accou
         Ok(cycle) => cycle,
         Err(fault) => return Err(fault),
     };
-    match refuse(alloc, &cycle, run) {
-        Ok(()) => {}
-        Err(fault) => return Err(fault),
+    let tickets = tickets_of(alloc, &run.draws)?;
+    let numbers = numbers_of(alloc, &run.passes)?;
+    if let Some(fault) = fault_of(&cycle, run, tickets, numbers) {
+        return Err(fault);
     }
     let tickets = tickets_of(alloc, &run.draws)?;
     let account = cycle.account(alloc, &tickets)?;

@@ -5,8 +5,8 @@ ghost use Rattle.message.specs.Lines.{HasLine};
 ghost use Rattle.world.specs.Runs.{after};
 ghost use Rattle.world.specs.Steps.{step_of};
 ghost use Rattle.replay.specs.Outputs.{IsOutput, client_fault_text, event_line, fault_text, refusal_of, script_output, sent_line, sent_lines, step_output};
-ghost use Rattle.replay.specs.Scripts.{IsBadText, IsScript, Script, script_text};
-ghost use Rattle.replay.specs.declared.fault.ReplayFault.TheVariants.{OutOfMemory};
+ghost use Rattle.replay.specs.Scripts.{BeginsWith, IsBadText, IsScript, IsWorldLine, Script, script_text};
+ghost use Rattle.replay.specs.declared.fault.ReplayFault.TheVariants.{BadLine, OutOfMemory};
 
 use crate::fault::ReplayFault;
 use crate::reading::read_script;
@@ -172,6 +172,8 @@ pub fn run_script(alloc: Global, plan: Plan, text: &[u8]) -> Result<String, Repl
         → MatchResult result (λ output. string_bytes output ≡ script_output plan s) (λ fault. fault ≡ OutOfMemory) }
     // Which line is refused.
     ensures bad { IfErr result (IsBadText text.now) }
+    // The first line is read before any memory is taken.
+    ensures first { ¬ (BeginsWith IsWorldLine text.now) → IfErr result (λ fault. fault ≡ BadLine 1) }
 {
     let script = match read_script(alloc, text) {
         Ok(script) => script,

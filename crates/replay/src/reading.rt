@@ -1,8 +1,8 @@
 //! Reading a script.
 ghost use Rattle.std.specs.Prelude.{◌≡◌, ◌++◌, ◌∷◌, ℕ, List, IfErr, IfOk, IfSome, MatchOption, MatchResult, codes};
 ghost use Rattle.world.specs.declared.step.Step.{Step};
-ghost use Rattle.replay.specs.Scripts.{AreSizes, HasStepLine, HaveLines, IsBadRest, IsBadText, IsScript, IsStepOf, Script, script_text, step_line, steps_text, world_line};
-ghost use Rattle.replay.specs.declared.fault.ReplayFault.TheVariants.{OutOfMemory};
+ghost use Rattle.replay.specs.Scripts.{AreSizes, BeginsWith, HasStepLine, HaveLines, IsBadRest, IsBadText, IsScript, IsStepOf, IsWorldLine, Script, script_text, step_line, steps_text, world_line};
+ghost use Rattle.replay.specs.declared.fault.ReplayFault.TheVariants.{BadLine, OutOfMemory};
 
 use crate::fault::ReplayFault;
 use crate::script::Script;
@@ -133,8 +133,8 @@ fn first_sizes(text: &[u8]) -> Option<(u8, u64, &[u8])>
 
 /// Reads a script from its text.
 ///
-/// Refused is the first line that is missing, is spelled otherwise, or has no newline (`BadLine`). Want of memory may come
-/// at any point.
+/// Fails with `BadLine` for the first line that is missing, is spelled otherwise, or has no newline. Out of memory may come at
+/// any point behind the first line.
 pub fn read_script(alloc: Global, text: &[u8]) -> Result<Script, ReplayFault>
     // What is read is spelled so.
     ensures spelled { IfOk result (λ s. IsScript s × (text.now ≡ script_text s)) }
@@ -143,6 +143,8 @@ pub fn read_script(alloc: Global, text: &[u8]) -> Result<Script, ReplayFault>
         → MatchResult result (λ script. script ≡ s) (λ fault. fault ≡ OutOfMemory) }
     // Which line is refused.
     ensures bad { IfErr result (IsBadText text.now) }
+    // The first line is read before any memory is taken.
+    ensures first { ¬ (BeginsWith IsWorldLine text.now) → IfErr result (λ fault. fault ≡ BadLine 1) }
 {
     let Some((clients, limit, rest)) = first_sizes(text) else {
         return Err(ReplayFault::BadLine(1));

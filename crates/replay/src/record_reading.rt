@@ -4,7 +4,7 @@ ghost use Rattle.message.specs.Fields.{fields};
 ghost use Rattle.cluster.specs.Records.{Draw, Pass};
 ghost use Rattle.replay.specs.Records.{Entries, entries_of};
 ghost use Rattle.replay.specs.RecordTexts.{AreFirst, BeginsWithNone, HasDrawLine, HasLine, HasPassLine, HasRegisterLine, HasText, IsBadRecord, IsBadRest, IsLineOf, IsNext, body_text, draw_line, pass_line, record_line, record_text, register_line, title_line};
-ghost use Rattle.replay.specs.declared.fault.ReplayFault.TheVariants.{OutOfMemory};
+ghost use Rattle.replay.specs.declared.fault.ReplayFault.TheVariants.{BadLine, OutOfMemory};
 ghost use Rattle.replay.specs.declared.record_reading.RecordLine.{RecordLine};
 
 use crate::fault::ReplayFault;
@@ -259,6 +259,8 @@ pub fn read_record(alloc: Global, text: &[u8]) -> Result<RunRecord, ReplayFault>
         → MatchResult result (λ run. entries_of run ≡ e) (λ fault. fault ≡ OutOfMemory) }
     // Which line is refused.
     ensures bad { IfErr result (IsBadRecord text.now) }
+    // The first line is read before any memory is taken.
+    ensures first { ((body : List ℕ) → text.now ≢ title_line ++ 10 ∷ body) → IfErr result (λ fault. fault ≡ BadLine 1) }
     // No text says how many messages were lost.
     ensures lost { IfOk result (λ run. run.lost ≡ 0) }
 {

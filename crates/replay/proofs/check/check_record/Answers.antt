@@ -2,22 +2,26 @@ use Rattle.std.proofs.Common.{◌≡◌, ◌*◌, ℕ, List, map, ap, subst, ◌
 use Rattle.certificate.specs.Certificates.{Weighted, busiest_count}
 use Rattle.dealer.specs.Accounts.{IsLeastBusiest}
 use Rattle.cluster.specs.Records.{Draw}
-use Rattle.replay.specs.Records.{IsFirstFault, IsSoundRecord, entries_of, tickets_of}
-use Rattle.replay.proofs.SoundLemmas.{sound_has_no_fault, whole_cycles}
+use Rattle.replay.specs.Records.{IsFound, IsSoundRecord, entries_of, tickets_of}
+use Rattle.replay.proofs.SoundLemmas.{first_from_found, sound_has_no_fault, whole_cycles}
 use Rattle.replay.proofs.check.check_record.Goals as goal
 
-pub returns-in-Err-refuse-clause-accepted : goal.returns-in-Err-refuse-clause-accepted
-returns-in-Err-refuse-clause-accepted c = λ sound.
-    sound_has_no_fault c.args.plan.now (entries_of c.args.run.now) c.in-Err-refuse.fault sound
-    (subst (λ (w : Weighted). IsFirstFault w (entries_of c.args.run.now) c.in-Err-refuse.fault) c.in-Ok.ensures.cycle c.in-Err-refuse.ensures.fault)
+pub returns-in-Some-clause-accepted : goal.returns-in-Some-clause-accepted
+returns-in-Some-clause-accepted c = λ sound.
+    sound_has_no_fault c.args.plan.now (entries_of c.args.run.now) c.in-Some.fault sound
+    (first_from_found c.args.plan.now (entries_of c.args.run.now) c.in-Some.fault (subst (λ (w : Weighted). IsFound w (entries_of c.args.run.now) c.in-Some.fault) c.in-Ok.ensures.cycle c.in-Some.ensures))
+
+pub returns-in-Some-clause-fault : goal.returns-in-Some-clause-fault
+returns-in-Some-clause-fault c =
+    first_from_found c.args.plan.now (entries_of c.args.run.now) c.in-Some.fault (subst (λ (w : Weighted). IsFound w (entries_of c.args.run.now) c.in-Some.fault) c.in-Ok.ensures.cycle c.in-Some.ensures)
 
 pub returns-clause-shares : goal.returns-clause-shares
 returns-clause-shares c = λ k long.
     let plan = c.args.plan.now in
     let draws = c.args.run.now.draws.items in
     let same = c.in-Ok.ensures.cycle in
-    let are = c.deref-2.ensures.value ∙ c.in_ok-tickets.ensures ∙ ap (λ (ds : List Draw). tickets_of ds) c.deref.ensures.value in
-    let sound : IsSoundRecord plan (entries_of c.args.run.now) = subst (λ (w : Weighted). IsSoundRecord w (entries_of c.args.run.now)) same c.in-Ok-refuse.ensures.sound in
+    let are = c.deref-2.ensures.value ∙ c.in_ok-tickets-2.ensures ∙ ap (λ (ds : List Draw). tickets_of ds) c.deref.ensures.value in
+    let sound : IsSoundRecord plan (entries_of c.args.run.now) = subst (λ (w : Weighted). IsSoundRecord w (entries_of c.args.run.now)) same c.in_default.ensures in
     let whole = whole_cycles c.in-Ok.cycle plan draws c.deref-2.result.now k same are sound.tickets long in
     subst (λ (w : Weighted). c.in_ok-account.account.quorums ≡ map {A = ℕ} {B = ℕ} (λ weight. k * weight) w.quorum_weights) same (c.in_ok-account.ensures.shares k whole)
 
@@ -26,8 +30,8 @@ returns-clause-even c = λ k long.
     let plan = c.args.plan.now in
     let draws = c.args.run.now.draws.items in
     let same = c.in-Ok.ensures.cycle in
-    let are = c.deref-2.ensures.value ∙ c.in_ok-tickets.ensures ∙ ap (λ (ds : List Draw). tickets_of ds) c.deref.ensures.value in
-    let sound : IsSoundRecord plan (entries_of c.args.run.now) = subst (λ (w : Weighted). IsSoundRecord w (entries_of c.args.run.now)) same c.in-Ok-refuse.ensures.sound in
+    let are = c.deref-2.ensures.value ∙ c.in_ok-tickets-2.ensures ∙ ap (λ (ds : List Draw). tickets_of ds) c.deref.ensures.value in
+    let sound : IsSoundRecord plan (entries_of c.args.run.now) = subst (λ (w : Weighted). IsSoundRecord w (entries_of c.args.run.now)) same c.in_default.ensures in
     let whole = whole_cycles c.in-Ok.cycle plan draws c.deref-2.result.now k same are sound.tickets long in
     subst (λ (w : Weighted). c.in_ok-account.account.busiest ≡ k * busiest_count w) same (c.in_ok-account.ensures.even k whole)
 
@@ -36,7 +40,7 @@ returns-clause-least c = λ k long.
     let plan = c.args.plan.now in
     let draws = c.args.run.now.draws.items in
     let same = c.in-Ok.ensures.cycle in
-    let are = c.deref-2.ensures.value ∙ c.in_ok-tickets.ensures ∙ ap (λ (ds : List Draw). tickets_of ds) c.deref.ensures.value in
-    let sound : IsSoundRecord plan (entries_of c.args.run.now) = subst (λ (w : Weighted). IsSoundRecord w (entries_of c.args.run.now)) same c.in-Ok-refuse.ensures.sound in
+    let are = c.deref-2.ensures.value ∙ c.in_ok-tickets-2.ensures ∙ ap (λ (ds : List Draw). tickets_of ds) c.deref.ensures.value in
+    let sound : IsSoundRecord plan (entries_of c.args.run.now) = subst (λ (w : Weighted). IsSoundRecord w (entries_of c.args.run.now)) same c.in_default.ensures in
     let whole = whole_cycles c.in-Ok.cycle plan draws c.deref-2.result.now k same are sound.tickets long in
     subst (λ (w : Weighted). IsLeastBusiest w c.in_ok-account.account.drawn c.in_ok-account.account.busiest) same (c.in_ok-account.ensures.least k whole)
