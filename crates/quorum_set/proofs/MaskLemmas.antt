@@ -3,7 +3,7 @@ use Rattle.std.proofs.Common.{◌≡◌, ℕ, zero, suc, ◌+◌, ◌-◌, ◌*�
 use Rattle.std.specs.Prelude.{bit_and, bit_or, count_ones}
 use Rattle.std.specs.Int.{bit_at, bit_not, trailing_zeros}
 use Rattle.std.proofs.lemmas.Bool.{cases_lt, cases_eq, eqb-true, eq-eqb, ne_eqb, true≢false, false≢true, true_from_ne_false, not_from_false, not-true}
-use Rattle.std.proofs.lemmas.Nat.{or_lt, and_le_r, ones-le, zero_from_ones, ones_cat, mod-pow-add, div-add-mod'}
+use Rattle.std.proofs.lemmas.Nat.{or_lt, and_le_r, ones-le, zero_from_ones, ones_cat, div-add-mod'}
 use Rattle.std.proofs.Math.Nat.{pow-suc}
 use Rattle.std.proofs.lemmas.Nat.Bits.{bit_at-zero, bit_at_and, bit_at_or, bit_at_not, bit_at_above, bit_at-lt, bit_at_set_same, bit_at_set_other, bit_at-trailing_zeros, bit_at_cat_low, bit_at_cat_high, bit_at_ones_above, same_from_bits, same_from_bits_below, shr_and_one}
 use Rattle.std.proofs.lemmas.List.Folds.{list_any_at, Any-from_list_any}
@@ -67,61 +67,61 @@ members_within s t each = list_all-from_AllPass (has t) s (λ k d lt. each (get_
 pub meet-members_of : (a b : ℕ) → a < 2 ^ 64 → b < 2 ^ 64 → not (eqb (bit_and a b) 0) ≡ meet (members_of a) (members_of b)
 meet-members_of a b fits_a fits_b =
     same_true (not (eqb (bit_and a b) 0)) (meet (members_of a) (members_of b))
-      (λ some. true_from_ne_false (meet (members_of a) (members_of b)) (λ none.
-        let zero : bit_and a b ≡ 0 = same_from_bits (bit_and a b) 0 (λ i.
-              elim (cases_eq (bit_at a i) 1) as (λ _. bit_at (bit_and a b) i ≡ bit_at 0 i) [
-                | inl one ↦ elim (cases_eq (bit_at b i) 1) as (λ _. bit_at (bit_and a b) i ≡ bit_at 0 i) [
-                    | inl two ↦ absurd (false≢true (sym none ∙ common_meet (members_of a) (members_of b) i (set_bit a i fits_a one) (set_bit b i fits_b two)))
-                    | inr off ↦ omega (arith, bit_at_and a b i, bit_at-zero i, bit_at-lt b i)
-                  ]
-                | inr off ↦ omega (arith, bit_at_and a b i, bit_at-zero i, bit_at-lt a i)
-              ]) in
-        true≢false (sym (eq-eqb (bit_and a b) 0 zero) ∙ not-true (eqb (bit_and a b) 0) some)))
-      (λ common. let at = meet_common (members_of a) (members_of b) common in
-        not_from_false (eqb (bit_and a b) 0) (ne_eqb (bit_and a b) 0 (λ zero.
-          let one = bit_set a at.0 fits_a at.1 in
-          let two = bit_set b at.0 fits_b at.2 in
-          let bit : bit_at (bit_and a b) at.0 ≡ 0 = ap (λ n. bit_at n at.0) zero ∙ bit_at-zero at.0 in
-          omega (arith, bit_at_and a b at.0, bit))))
+    (λ some. true_from_ne_false (meet (members_of a) (members_of b)) (λ none.
+    let zero : bit_and a b ≡ 0 = same_from_bits (bit_and a b) 0 (λ i.
+    elim (cases_eq (bit_at a i) 1) as (λ _. bit_at (bit_and a b) i ≡ bit_at 0 i) [
+      | inl one ↦ elim (cases_eq (bit_at b i) 1) as (λ _. bit_at (bit_and a b) i ≡ bit_at 0 i) [
+        | inl two ↦ absurd (false≢true (sym none ∙ common_meet (members_of a) (members_of b) i (set_bit a i fits_a one) (set_bit b i fits_b two)))
+        | inr off ↦ omega (arith, bit_at_and a b i, bit_at-zero i, bit_at-lt b i)
+      ]
+      | inr off ↦ omega (arith, bit_at_and a b i, bit_at-zero i, bit_at-lt a i)
+    ]) in
+    true≢false (sym (eq-eqb (bit_and a b) 0 zero) ∙ not-true (eqb (bit_and a b) 0) some)))
+    (λ common. let at = meet_common (members_of a) (members_of b) common in
+    not_from_false (eqb (bit_and a b) 0) (ne_eqb (bit_and a b) 0 (λ zero.
+    let one = bit_set a at.0 fits_a at.1 in
+    let two = bit_set b at.0 fits_b at.2 in
+    let bit : bit_at (bit_and a b) at.0 ≡ 0 = ap (λ n. bit_at n at.0) zero ∙ bit_at-zero at.0 in
+    omega (arith, bit_at_and a b at.0, bit))))
 
 -- the first word has no 1 of its own if its set is within the other
 pub within-members_of : (a b : ℕ) → a < 2 ^ 64 → b < 2 ^ 64 → eqb (bit_and a (bit_not w64 b)) 0 ≡ within (members_of a) (members_of b)
 within-members_of a b fits_a fits_b =
     same_true (eqb (bit_and a (bit_not w64 b)) 0) (within (members_of a) (members_of b))
-      (λ none. members_within (members_of a) (members_of b) (λ i h.
-        let one = bit_set a i fits_a h in
-        elim (cases_lt i 64) as (λ _. has (members_of b) i ≡ true) [
-          | inl lt ↦
-            let zero : bit_at (bit_and a (bit_not w64 b)) i ≡ 0 = ap (λ n. bit_at n i) (eqb-true (bit_and a (bit_not w64 b)) 0 none) ∙ bit_at-zero i in
-            set_bit b i fits_b (omega (arith, zero, bit_at_and a (bit_not w64 b) i, bit_at_not w64 b i fits_b lt, bit_at-lt b i, one))
-          | inr ge ↦ absurd (omega (arith, one, bit_at_above a 64 i fits_a ge))
-        ]))
-      (λ all. eq-eqb (bit_and a (bit_not w64 b)) 0 (same_from_bits (bit_and a (bit_not w64 b)) 0 (λ i.
-        elim (cases_eq (bit_at a i) 1) as (λ _. bit_at (bit_and a (bit_not w64 b)) i ≡ bit_at 0 i) [
-          | inl one ↦ elim (cases_lt i 64) as (λ _. bit_at (bit_and a (bit_not w64 b)) i ≡ bit_at 0 i) [
-              | inl lt ↦
-                let two = bit_set b i fits_b (within_members (members_of a) (members_of b) all i (set_bit a i fits_a one)) in
-                omega (arith, two, bit_at_and a (bit_not w64 b) i, bit_at_not w64 b i fits_b lt, bit_at-zero i)
-              | inr ge ↦ absurd (omega (arith, one, bit_at_above a 64 i fits_a ge))
-            ]
-          | inr off ↦ omega (arith, bit_at_and a (bit_not w64 b) i, bit_at-zero i, bit_at-lt a i)
-        ])))
+    (λ none. members_within (members_of a) (members_of b) (λ i h.
+    let one = bit_set a i fits_a h in
+    elim (cases_lt i 64) as (λ _. has (members_of b) i ≡ true) [
+      | inl lt ↦
+          let zero : bit_at (bit_and a (bit_not w64 b)) i ≡ 0 = ap (λ n. bit_at n i) (eqb-true (bit_and a (bit_not w64 b)) 0 none) ∙ bit_at-zero i in
+          set_bit b i fits_b (omega (arith, zero, bit_at_and a (bit_not w64 b) i, bit_at_not w64 b i fits_b lt, bit_at-lt b i, one))
+      | inr ge ↦ absurd (omega (arith, one, bit_at_above a 64 i fits_a ge))
+    ]))
+    (λ all. eq-eqb (bit_and a (bit_not w64 b)) 0 (same_from_bits (bit_and a (bit_not w64 b)) 0 (λ i.
+    elim (cases_eq (bit_at a i) 1) as (λ _. bit_at (bit_and a (bit_not w64 b)) i ≡ bit_at 0 i) [
+      | inl one ↦ elim (cases_lt i 64) as (λ _. bit_at (bit_and a (bit_not w64 b)) i ≡ bit_at 0 i) [
+        | inl lt ↦
+            let two = bit_set b i fits_b (within_members (members_of a) (members_of b) all i (set_bit a i fits_a one)) in
+            omega (arith, two, bit_at_and a (bit_not w64 b) i, bit_at_not w64 b i fits_b lt, bit_at-zero i)
+        | inr ge ↦ absurd (omega (arith, one, bit_at_above a 64 i fits_a ge))
+      ]
+      | inr off ↦ omega (arith, bit_at_and a (bit_not w64 b) i, bit_at-zero i, bit_at-lt a i)
+    ])))
 
 -- one more bit
 pub members_of-insert : (m i : ℕ) → m < 2 ^ 64 → i < 64 → bit_or m (1 * 2 ^ i % 2 ^ 64) < 2 ^ 64 → members_of (bit_or m (1 * 2 ^ i % 2 ^ 64)) ≡ set_where (λ j. eqb j i || has (members_of m) j)
 members_of-insert m i fits lt fits_new =
     is_set_where (members_of (bit_or m (1 * 2 ^ i % 2 ^ 64))) (λ j. eqb j i || has (members_of m) j) (IsSet-set_where (λ j. eqb (bit_at (bit_or m (1 * 2 ^ i % 2 ^ 64)) j) 1)) (λ j lj.
-      has-members_of (bit_or m (1 * 2 ^ i % 2 ^ 64)) j fits_new ∙
-      elim (cases_eq j i) as (λ _. eqb (bit_at (bit_or m (1 * 2 ^ i % 2 ^ 64)) j) 1 ≡ (eqb j i || has (members_of m) j)) [
-        | inl at ↦
+    has-members_of (bit_or m (1 * 2 ^ i % 2 ^ 64)) j fits_new ∙
+    elim (cases_eq j i) as (λ _. eqb (bit_at (bit_or m (1 * 2 ^ i % 2 ^ 64)) j) 1 ≡ (eqb j i || has (members_of m) j)) [
+      | inl at ↦
           let same : bit_at (bit_or m (1 * 2 ^ i % 2 ^ 64)) j ≡ 1 = ap (bit_at (bit_or m (1 * 2 ^ i % 2 ^ 64))) at ∙ bit_at_set_same w64 m i lt in
           eq-eqb _ _ same ∙ sym (ap (λ b. b || has (members_of m) j) (eq-eqb j i at))
-        | inr off ↦
+      | inr off ↦
           ap (λ n. eqb n 1) (bit_at_set_other w64 m i lt j off) ∙ sym (has-members_of m j fits) ∙ sym (ap (λ b. b || has (members_of m) j) (ne_eqb j i off))
-      ])
+    ])
 
-pub bit_or-fits : (m x : ℕ) → m < 2 ^ 64 → bit_or m (x % 2 ^ 64) < 2 ^ 64
-bit_or-fits m x fits = or_lt 64 m (x % 2 ^ 64) fits (mod-lt x {m = 2 ^ 64} (lit< tt))
+pub word_with_bit_fits : (m x : ℕ) → m < 2 ^ 64 → bit_or m (x % 2 ^ 64) < 2 ^ 64
+word_with_bit_fits m x fits = or_lt 64 m (x % 2 ^ 64) fits (mod-lt x {m = 2 ^ 64} (lit< tt))
 
 one_long : (b n : ℕ) → b < 2 → length (cond (eqb b 1) (n ∷ []) []) ≡ count_ones b
 one_long zero n lt = omega (arith, ones-le 0 0 (omega arith))
@@ -145,8 +145,8 @@ unfolding set_where
 length-members_of m fits = ap count_ones (sym (mod-eq_of_lt fits)) ∙ sym (length-below m 64)
 
 -- both words' bits show the union
-pub bit_or-lt : (a b : ℕ) → a < 2 ^ 64 → b < 2 ^ 64 → bit_or a b < 2 ^ 64
-bit_or-lt a b fits_a fits_b = or_lt 64 a b fits_a fits_b
+pub words_joined_fit : (a b : ℕ) → a < 2 ^ 64 → b < 2 ^ 64 → bit_or a b < 2 ^ 64
+words_joined_fit a b fits_a fits_b = or_lt 64 a b fits_a fits_b
 
 either : (a b : ℕ) → a < 2 → b < 2 → eqb (max a b) 1 ≡ (eqb a 1 || eqb b 1)
 either zero zero la lb = refl
@@ -160,7 +160,7 @@ either (suc (suc a)) b la lb = absurd (omega arith)
 pub union-members_of : (a b : ℕ) → a < 2 ^ 64 → b < 2 ^ 64 → members_of (bit_or a b) ≡ union (members_of a) (members_of b)
 union-members_of a b fits_a fits_b =
     is_set_where (members_of (bit_or a b)) (λ v. has (members_of a) v || has (members_of b) v) (IsSet-members_of (bit_or a b)) (λ v lt.
-    has-members_of (bit_or a b) v (bit_or-lt a b fits_a fits_b) ∙ ap (λ n. eqb n 1) (bit_at_or a b v)
+    has-members_of (bit_or a b) v (words_joined_fit a b fits_a fits_b) ∙ ap (λ n. eqb n 1) (bit_at_or a b v)
     ∙ either (bit_at a v) (bit_at b v) (bit_at-lt a v) (bit_at-lt b v)
     ∙ sym (ap₂ (λ x y. x || y) (has-members_of a v fits_a) (has-members_of b v fits_b)))
 
@@ -256,3 +256,28 @@ taken_more taken s m some fits together =
 
 pub taken_all : (taken s : List ℕ) (m : ℕ) → m ≡ 0 → taken ++ members_of m ≡ s → taken ≡ s
 taken_all taken s m none together = sym (append-nil taken) ∙ ap (λ t. taken ++ t) (sym (ap members_of none ∙ members_of-zero)) ∙ together
+
+-- what each call of a set does, by the words behind the sets
+pub empty_word : members_of 0 ≡ []
+empty_word = members_of-zero
+
+pub has_by_word : (m i : ℕ) (s : List ℕ) → members_of m ≡ s → m < 2 ^ 64 → eqb (bit_and (m / 2 ^ i) 1) 1 ≡ has s i
+has_by_word m i s is fits = ap (λ n. eqb n 1) (shr_and_one m i) ∙ sym (has-members_of m i fits) ∙ ap (λ t. has t i) is
+
+pub has_above_word : (m i : ℕ) (s : List ℕ) → members_of m ≡ s → 64 ≤ i → has s i ≡ false
+has_above_word m i s is ge = ap (λ t. has t i) (sym is) ∙ has_none_above m i ge
+
+pub insert_by_word : (m i : ℕ) (s : List ℕ) → members_of m ≡ s → m < 2 ^ 64 → i < 64 → members_of (bit_or m (1 * 2 ^ i % 2 ^ 64)) ≡ set_where (λ j. eqb j i || has s j)
+insert_by_word m i s is fits lt = members_of-insert m i fits lt (word_with_bit_fits m (1 * 2 ^ i) fits) ∙ ap (λ t. set_where (λ j. eqb j i || has t j)) is
+
+pub meets_by_word : (a b : ℕ) (s t : List ℕ) → members_of a ≡ s → members_of b ≡ t → a < 2 ^ 64 → b < 2 ^ 64 → not (eqb (bit_and a b) 0) ≡ meet s t
+meets_by_word a b s t is_s is_t fits_a fits_b = meet-members_of a b fits_a fits_b ∙ ap₂ meet is_s is_t
+
+pub within_by_word : (a b : ℕ) (s t : List ℕ) → members_of a ≡ s → members_of b ≡ t → a < 2 ^ 64 → b < 2 ^ 64 → eqb (bit_and a (bit_not w64 b)) 0 ≡ within s t
+within_by_word a b s t is_s is_t fits_a fits_b = within-members_of a b fits_a fits_b ∙ ap₂ within is_s is_t
+
+pub join_by_word : (a b : ℕ) (s t : List ℕ) → members_of a ≡ s → members_of b ≡ t → a < 2 ^ 64 → b < 2 ^ 64 → members_of (bit_or a b) ≡ union s t
+join_by_word a b s t is_s is_t fits_a fits_b = union-members_of a b fits_a fits_b ∙ ap₂ union is_s is_t
+
+pub len_by_word : (m : ℕ) (s : List ℕ) → members_of m ≡ s → m < 2 ^ 64 → count_ones m ≡ length s
+len_by_word m s is fits = length-members_of m fits ∙ ap length is

@@ -1,7 +1,5 @@
-use Rattle.std.proofs.Common.{◌≡◌, ◌<◌, ◌%◌, ◌^◌, ◌++◌, ◌∷◌, [], w64, ap, ◌∙◌, arith, rules}
-use Rattle.std.specs.Int.{trailing_zeros}
-use Rattle.std.proofs.lemmas.Nat.Bits.{bit_at-trailing_zeros}
-use Rattle.quorum_set.specs.Sets.{IsSet, members_of}
+use Rattle.std.proofs.Common.{arith, rules}
+use Rattle.quorum_set.specs.Sets.{IsSet}
 use Rattle.quorum_set.proofs.MaskLemmas.{IsSet-members_of, room_for, taken_more, taken_all}
 use Rattle.quorum_set.proofs.qset.QSet.members.Goals as goal
 
