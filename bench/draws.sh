@@ -11,25 +11,9 @@ root=$(CDPATH= cd -- "$(dirname -- "$0")/.." && pwd)
 work=$(mktemp -d)
 trap 'rm -rf "$work"' EXIT
 
-# the 64 shifts of each of 64 sets: 31 voters in a row, and two more; any two sets of 33 of 64 have a common member
-shifts() {
-    awk 'BEGIN {
-        printf "voters = ["; for (v = 0; v < 64; v++) printf "%s\"v%d\"", v ? ", " : "", v; printf "]\nquorums = [\n"
-        for (x = 32; made < 64; x++)
-            for (y = x + 1; y < 63 && made < 64; y++) {
-                made++
-                for (shift = 0; shift < 64; shift++) {
-                    printf "    ["; for (v = 0; v < 31; v++) printf "\"v%d\", ", (v + shift) % 64
-                    printf "\"v%d\", \"v%d\"],\n", (x + shift) % 64, (y + shift) % 64
-                }
-            }
-        print "]"
-    }'
-}
-
 "$root/qlock" make wheel 63 > "$work/64"
 program=$root/build/qlock
-shifts > "$work/4096"
+awk -f "$root/bench/shifts.awk" > "$work/4096"
 for quorums in 64 4096; do
     "$program" plan < "$work/$quorums" > "$work/plan"
     { cat "$work/$quorums"; echo %%; cat "$work/plan"; } > "$work/input"

@@ -1,12 +1,33 @@
 -- Lemmas on sets by a test.
 use Rattle.std.proofs.Common.{◌≡◌, ℕ, ◌+◌, ◌<◌, Bool, true, false, ◌||◌, ◌&&◌, eqb, ltb, List, [], sym, refl, ap, ap₂, ◌∙◌, inl, inr, arith}
 use Rattle.std.proofs.lemmas.Bool.{true≢false, eq-eqb, ne_eqb, lt-ltb, le-ltb, cases_eq, cases_lt}
-use Rattle.quorum_set.specs.Sets.{has, set_where}
+use Rattle.quorum_set.specs.Sets.{has, union, set_where}
 use Rattle.quorum_set.proofs.SetLemmas.{is_set_where, IsSet-set_where, has-set_where, has-above}
 
 -- sets by tests that agree
 pub set_where-same : (p q : ℕ → Bool) → ((i : ℕ) → i < 64 → p i ≡ q i) → set_where p ≡ set_where q
 set_where-same p q e = is_set_where (set_where p) q (IsSet-set_where p) (λ i lt. has-set_where p i lt ∙ e i lt)
+
+-- the union of two sets by tests
+pub union-set_where : (p q : ℕ → Bool) → union (set_where p) (set_where q) ≡ set_where (λ v. p v || q v)
+union-set_where p q =
+    set_where-same (λ v. has (set_where p) v || has (set_where q) v) (λ v. p v || q v) (λ i lt.
+    ap₂ (λ a b. a || b) (has-set_where p i lt) (has-set_where q i lt))
+
+-- of a set by a test with another set
+pub union-set_where_left : (p : ℕ → Bool) (s : List ℕ) → union (set_where p) s ≡ set_where (λ v. p v || has s v)
+union-set_where_left p s =
+    set_where-same (λ v. has (set_where p) v || has s v) (λ v. p v || has s v) (λ i lt. ap (λ b. b || has s i) (has-set_where p i lt))
+
+and_over_or : (a b c : Bool) → ((a && b) || (a && c)) ≡ (a && (b || c))
+and_over_or true b c = refl
+and_over_or false b c = refl
+
+-- of two sets by tests within the same bounds
+pub union-within : (r p q : ℕ → Bool) → union (set_where (λ v. r v && p v)) (set_where (λ v. r v && q v)) ≡ set_where (λ v. r v && (p v || q v))
+union-within r p q =
+    union-set_where (λ v. r v && p v) (λ v. r v && q v)
+    ∙ set_where-same (λ v. (r v && p v) || (r v && q v)) (λ v. r v && (p v || q v)) (λ i lt. and_over_or (r i) (p i) (q i))
 
 -- a number that fails is no member
 pub has-failed : (p : ℕ → Bool) (i : ℕ) → p i ≡ false → has (set_where p) i ≡ false

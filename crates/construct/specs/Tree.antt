@@ -4,16 +4,13 @@ use Rattle.std.specs.Prelude.{ℕ, ◌+◌, ◌-◌, ◌*◌, ◌^◌, ◌==◌,
 use Rattle.std.specs.List.{flat_map}
 use Rattle.quorum_set.specs.Coteries.{QuorumSystem}
 use Rattle.quorum_set.specs.Sets.{has, set_where}
+pub use Rattle.quorum_set.specs.Sets.{union}
 use Rattle.construct.specs.Answers.{sized}
 use Rattle.construct.specs.declared.fault.ConstructFault.{ConstructFault}
 
 -- the set with the node
 abbrev pub with_node : ℕ → List ℕ → List ℕ
 with_node i s = set_where (λ v. (v == i) || has s v)
-
--- the members of both
-abbrev pub union : List ℕ → List ℕ → List ℕ
-union p q = set_where (λ v. has p v || has q v)
 
 -- the quorums of an inner node, from those of its children: the node with a left one, the node with a right one, and a left one with a right one
 abbrev pub node_quorums : ℕ → List (List ℕ) → List (List ℕ) → List (List ℕ)

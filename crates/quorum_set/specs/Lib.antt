@@ -3,3 +3,4 @@ pub mod Counts
 pub mod Meetings
 pub mod Sets
 pub mod Sums
+pub mod Words

@@ -1,5 +1,6 @@
 //! Grids.
-ghost use Rattle.std.specs.Prelude.{◌≡◌, ◌*◌, ◌/◌, ◌%◌, ◌<◌, ◌≤◌, map, IfOk};
+ghost use Rattle.std.specs.Prelude.{◌≡◌, ◌==◌, ◌&&◌, ◌*◌, ◌/◌, ◌%◌, ◌<◌, ◌≤◌, nat_lt, map, IfOk};
+ghost use Rattle.quorum_set.specs.Sets.{set_where};
 ghost use Rattle.construct.specs.Answers.{Gives};
 ghost use Rattle.construct.specs.Grid.{row_with_column, grid_quorums, grid_at};
 
@@ -9,14 +10,33 @@ use crate::set::{coterie_of, set_where};
 use quorum_set::{Coterie, QSet};
 use std::alloc::{AllocError, Global};
 
-/// Row i and column k of r rows of c voters.
+/// Returns the voters of row i of r rows of c voters.
+fn row(r: u32, c: u32, i: u32) -> QSet
+    requires some { 0 < c }
+    requires few { r * c ≤ 64 }
+    ensures { result ≡ set_where (λ v. nat_lt v (r * c) && (v / c == i)) }
+{
+    let voters = r * c;
+    set_where(|v| u32::from(v) < voters && u32::from(v) / c == i)
+}
+
+/// Returns the voters of column k of r rows of c voters.
+fn column(r: u32, c: u32, k: u32) -> QSet
+    requires some { 0 < c }
+    requires few { r * c ≤ 64 }
+    ensures { result ≡ set_where (λ v. nat_lt v (r * c) && (v % c == k)) }
+{
+    let voters = r * c;
+    set_where(|v| u32::from(v) < voters && u32::from(v) % c == k)
+}
+
+/// Returns row i joined with column k, of r rows of c voters.
 fn row_with_column(r: u32, c: u32, i: u32, k: u32) -> QSet
     requires some { 0 < c }
     requires few { r * c ≤ 64 }
     ensures { result ≡ row_with_column r c i k }
 {
-    let voters = r * c;
-    set_where(|v| { u32::from(v) < voters && (u32::from(v) / c == i || u32::from(v) % c == k) })
+    row(r, c, i).join(&column(r, c, k))
 }
 
 /// For each voter its row with its column.

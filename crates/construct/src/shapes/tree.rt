@@ -1,6 +1,7 @@
 //! Trees.
-ghost use Rattle.std.specs.Prelude.{◌≡◌, ◌+◌, ◌*◌, ◌^◌, ◌<◌, ◌≤◌, ◌++◌, map, IfOk, OnOk};
+ghost use Rattle.std.specs.Prelude.{◌≡◌, ◌==◌, ◌+◌, ◌*◌, ◌^◌, ◌<◌, ◌≤◌, ◌++◌, map, IfOk, OnOk};
 ghost use Rattle.std.specs.List.{flat_map};
+ghost use Rattle.quorum_set.specs.Sets.{set_where};
 ghost use Rattle.construct.specs.Answers.{Gives};
 ghost use Rattle.construct.specs.Tree.{with_node, union, node_quorums, quorums_under, tree_at};
 
@@ -10,18 +11,18 @@ use crate::set::{coterie_of, set_where};
 use quorum_set::{Coterie, QSet};
 use std::alloc::{AllocError, Global};
 
-/// The set with the node.
+/// Returns the set of this node alone.
+fn node(i: u32) -> QSet
+    ensures { result ≡ set_where (λ v. v == i) }
+{
+    set_where(|v| u32::from(v) == i)
+}
+
+/// Returns the set with the node.
 fn with_node(i: u32, set: &QSet) -> QSet
     ensures { result ≡ with_node i set.now }
 {
-    set_where(|v| u32::from(v) == i || set.has(v))
-}
-
-/// The members of both sets.
-fn union(left: &QSet, right: &QSet) -> QSet
-    ensures { result ≡ union left.now right.now }
-{
-    set_where(|v| left.has(v) || right.has(v))
+    node(i).join(set)
 }
 
 /// Adds each of the sets, with the node.
@@ -39,7 +40,7 @@ fn push_unions_with(quorums: &mut Vec<QSet>, set: &QSet, others: &[QSet]) -> Res
     ensures { OnOk result (quorums.new.items ≡ quorums.old.items ++ map (union set.now) others.now) }
 {
     for other in others {
-        quorums.push(union(set, other))?;
+        quorums.push(set.join(other))?;
     }
     Ok(())
 }
@@ -59,7 +60,7 @@ fn quorums_of_leaf(alloc: Global, i: u32) -> Result<Vec<QSet>, AllocError>
     ensures { IfOk result (λ v. v.items ≡ quorums_under 0 i) }
 {
     let mut quorums = Vec::with_capacity(alloc, 1)?;
-    quorums.push(set_where(|v| u32::from(v) == i))?;
+    quorums.push(node(i))?;
     Ok(quorums)
 }
 

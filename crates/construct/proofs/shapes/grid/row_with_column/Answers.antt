@@ -1,0 +1,10 @@
+use Rattle.std.proofs.Common.{ℕ, Bool, ◌*◌, ◌/◌, ◌%◌, ltb, eqb, ap₂, ◌∙◌}
+use Rattle.quorum_set.specs.Sets.{union}
+use Rattle.construct.proofs.SetLemmas.{union-within}
+use Rattle.construct.proofs.shapes.grid.row_with_column.Goals as goal
+
+pub returns : goal.returns
+returns c =
+    let voters = c.args.r * c.args.c in
+    c.join.ensures.value ∙ ap₂ union c.row.ensures c.column.ensures
+    ∙ union-within (λ v. ltb v voters) (λ v. eqb (v / c.args.c) c.args.i) (λ v. eqb (v % c.args.c) c.args.k)
