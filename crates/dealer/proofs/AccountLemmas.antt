@@ -1,8 +1,8 @@
 -- What an account counts.
-use Rattle.std.proofs.Common.{◌≡◌, ℕ, ◌+◌, ◌*◌, ◌%◌, ◌<◌, ◌≤◌, cond, eqb, List, [], ◌∷◌, ◌++◌, length, get_or, map, sum, sum_by, zero, suc, sym, refl, ap, ap₂, ◌∙◌, inl, inr, arith}
+use Rattle.std.proofs.Common.{◌≡◌, ℕ, ◌+◌, ◌*◌, ◌%◌, ◌<◌, ◌≤◌, cond, eqb, List, [], ◌∷◌, ◌++◌, length, get_or, map, set, sum, sum_by, take, zero, suc, sym, refl, ap, ap₂, ◌∙◌, inl, inr, arith}
 use Rattle.std.specs.List.{All}
-use Rattle.std.proofs.lemmas.Bool.{cases_lt, ne_eqb}
-use Rattle.std.proofs.lemmas.List.{get_or-map, get_or_past, length-map}
+use Rattle.std.proofs.lemmas.Bool.{cases_eq, cases_lt, eq-eqb, ne_eqb}
+use Rattle.std.proofs.lemmas.List.{get_or-map, get_or-set_other, get_or-set_same, get_or_past, length-map, map-append, take_more}
 use Rattle.std.proofs.lemmas.List.FromFn.{length-map-range_with_len, map-range_with_len_more, get_or-map-range_with_len, fill_by_all}
 use Rattle.std.proofs.lemmas.List.Sums.{sum_by-cons}
 use Rattle.std.proofs.Math.Nat.{le_of_mul-le-mul_right, mod-lt, mul_assoc, mul_comm}
@@ -14,7 +14,7 @@ use Rattle.dealer.specs.declared.account.Account.{Account}
 use Rattle.dealer.specs.Cycles.{cycle_of, quorum_of_ticket}
 use Rattle.dealer.specs.Accounts.{values_below, quorums_named, account_of, IsWholeCycles}
 use Rattle.dealer.proofs.Totals.{total, total-same, total-list, total-periods, length-total, sum_by-each_once}
-use Rattle.dealer.proofs.CycleLemmas.{length-cycle_of, times-cycle_of, times-cons, cycle_of-lt}
+use Rattle.dealer.proofs.CycleLemmas.{length-cycle_of, times-append, times-cycle_of, times-cons, cycle_of-lt}
 
 pub length-values_below : (n : ℕ) (f : ℕ → ℕ) → length (values_below n f) ≡ n
 length-values_below n f = length-map-range_with_len f 0 n
@@ -38,15 +38,15 @@ pub sum-times-le : (n : ℕ) (list : List ℕ) → sum (values_below n (λ j. ti
 sum-times-le n list = omega (arith, sum-values_below n (λ j. times j list), length-total n list)
 
 -- tickets name quorums of the plan alone
-pub quorum_of_ticket-lt : (w : Weighted) (ticket : ℕ) → IsCertificate w → quorum_of_ticket w ticket < length w.system.quorums
-quorum_of_ticket-lt w ticket is =
+pub ticket_in_range : (w : Weighted) (ticket : ℕ) → IsCertificate w → quorum_of_ticket w ticket < length w.system.quorums
+ticket_in_range w ticket is =
     let some = is.some_quorum in
     omega (arith, cycle_of-lt w.quorum_weights (ticket % cycle_len w) (mod-lt ticket {m = cycle_len w} some), is.quorums)
 
 times-past : (w : Weighted) (tickets : List ℕ) (j : ℕ) → IsCertificate w → length w.system.quorums ≤ j → times j (quorums_named w tickets) ≡ 0
 times-past w [] j is past = refl
 times-past w (x ∷ xs) j is past =
-    let off = ap (λ b. cond {A = ℕ} b 1 0) (ne_eqb (quorum_of_ticket w x) j (λ same. omega (arith, quorum_of_ticket-lt w x is))) in
+    let off = ap (λ b. cond {A = ℕ} b 1 0) (ne_eqb (quorum_of_ticket w x) j (λ same. omega (arith, ticket_in_range w x is))) in
     omega (arith, times-cons j (quorum_of_ticket w x) (quorums_named w xs), off, times-past w xs j is past)
 
 -- the counts of the quorums, at each number
@@ -130,3 +130,22 @@ least_busiest w k list is optimal long within =
     scaled k d n m top some long le =
         let same : k * m * d ≡ n * m = mul_assoc k m d ∙ ap (λ x. k * x) (mul_comm m d) ∙ sym (mul_assoc k d m) ∙ ap (λ x. x * m) (sym long) in
         le_of_mul-le-mul_right {k = d} (omega (arith, same, le)) some
+
+-- the counts of one ticket more
+pub counts_more : (w : Weighted) (tickets counts : List ℕ) (i j value : ℕ) → i < length tickets → ((k : ℕ) → get_or counts k 0 ≡ times k (quorums_named w (take i tickets)))
+    → j ≡ quorum_of_ticket w (get_or tickets i 0) → j < length counts → value ≡ get_or counts j 0
+    → (k : ℕ) → get_or (set counts j (value + 1)) k 0 ≡ times k (quorums_named w (take (i + 1) tickets))
+counts_more w tickets counts i j value lt counted names inside was k =
+    let more = ap (λ ts. times k (quorums_named w ts)) (take_more tickets i 0 lt)
+    ∙ ap (times k) (map-append (quorum_of_ticket w) (take i tickets) (get_or tickets i 0 ∷ []))
+    ∙ times-append k (quorums_named w (take i tickets)) (quorum_of_ticket w (get_or tickets i 0) ∷ [])
+    ∙ ap (λ q. times k (quorums_named w (take i tickets)) + times k (q ∷ [])) (sym names) in
+    elim (cases_eq j k) [
+      | inl at ↦
+          let here = ap (λ b. cond {A = ℕ} b 1 0) (eq-eqb j k at) in
+          let written : get_or (set counts j (value + 1)) k 0 ≡ value + 1 = ap (λ n. get_or (set counts j (value + 1)) n 0) (sym at) ∙ get_or-set_same counts j (value + 1) 0 inside in
+          omega (arith, more, times-cons k j [], here, written, was, ap (λ n. get_or counts n 0) at, counted k)
+      | inr off ↦
+          let here = ap (λ b. cond {A = ℕ} b 1 0) (ne_eqb j k off) in
+          omega (arith, more, times-cons k j [], here, get_or-set_other counts j k (value + 1) 0 (λ same. off (sym same)), counted k)
+    ]

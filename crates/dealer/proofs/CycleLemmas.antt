@@ -93,8 +93,13 @@ greatest_below-le (suc n) f i lt =
       | inr off ↦ omega (arith, greatest_below-le n f i (omega arith))
     ]
 
+pub greatest_below-bound : (n : ℕ) (f : ℕ → ℕ) (m : ℕ) → ((i : ℕ) → i < n → f i ≤ m) → greatest_below n f ≤ m
+greatest_below-bound zero f m most = omega arith
+greatest_below-bound (suc n) f m most =
+    omega (arith, greatest_below-bound n f m (λ i lt. most i (omega arith)), most n (omega arith))
+
 -- no weight is above the greatest
-weight-le : (weights : List ℕ) (j : ℕ) → get_or weights j 0 ≤ greatest_weight weights
+pub weight-le : (weights : List ℕ) (j : ℕ) → get_or weights j 0 ≤ greatest_weight weights
 weight-le weights j =
     elim (cases_lt j (length weights)) [
       | inl inside ↦ greatest_below-le (length weights) (λ k. get_or weights k 0) j inside
@@ -156,7 +161,7 @@ pub round_of-zero : (weights : List ℕ) → round_of weights 0 ≡ range_with_l
 round_of-zero weights =
     filter-all (λ j. leb 0 (get_or weights j 0)) (range_with_len 0 (length weights)) (λ j. le-leb 0 (get_or weights j 0) (omega arith))
 
-filter-filter : (p q : ℕ → Bool) (xs : List ℕ) → ((x : ℕ) → q x ≡ true → p x ≡ true) → filter q (filter p xs) ≡ filter q xs
+pub filter-filter : {X : Type 0} (p q : X → Bool) (xs : List X) → ((x : X) → q x ≡ true → p x ≡ true) → filter q (filter p xs) ≡ filter q xs
 filter-filter p q [] implies = refl
 filter-filter p q (x ∷ xs) implies =
     let rest = filter-filter p q xs implies in
@@ -193,7 +198,7 @@ unfolding cycle_of
 cycle_of_rounds weights = refl
 
 -- a number stands once among those below a bound above it
-times-range : (n j : ℕ) → j < n → times j (range_with_len 0 n) ≡ 1
+pub times-range : (n j : ℕ) → j < n → times j (range_with_len 0 n) ≡ 1
 times-range n j lt =
     ap (times j) (sym (filter-all (λ x. true) (range_with_len 0 n) (λ x. refl))) ∙ times-filter (λ x. true) 0 n j (omega arith) (omega arith)
 

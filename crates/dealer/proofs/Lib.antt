@@ -2,5 +2,8 @@ pub mod Totals
 pub mod CycleLemmas
 pub mod AccountLemmas
 pub mod TurnLemmas
+mod BlockLemmas
+mod MadeBlocks
+mod SearchLemmas
 mod ReceiptLemmas
 mod TicketSteps

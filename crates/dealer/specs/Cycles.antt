@@ -2,7 +2,7 @@
 use Rattle.std.specs.Prelude.{◌≡◌, ◌⊎◌, ℕ, ◌+◌, ◌%◌, ◌<◌, List, filter, length, nat_le, slice_index, take}
 use Rattle.std.specs.List.{flat_map, range_with_len}
 use Rattle.quorum_set.specs.Counts.{greatest_below, times}
-use Rattle.certificate.specs.Certificates.{Weighted, IsCertificate, IsOptimal, cycle_len}
+use Rattle.certificate.specs.Certificates.{Weighted, cycle_len}
 
 -- a round: the numbers of the quorums whose weight is at least r, in ascending order
 abbrev pub round_of : List ℕ → ℕ → List ℕ
@@ -30,9 +30,3 @@ GoesByTurns list =
 -- the quorum of a ticket: tickets go through the cycle in order, and begin again at its end
 abbrev pub quorum_of_ticket : Weighted → ℕ → ℕ
 quorum_of_ticket w ticket = slice_index (cycle_of w.quorum_weights) (ticket % cycle_len w)
-
--- what a cycle keeps: an optimal plan, and the quorums in the order of its cycle
-pub record IsCycleOf (plan : Weighted) (quorums : List ℕ) : Type 0 where
-  pub certificate : IsCertificate plan
-  pub optimal : IsOptimal plan
-  pub in_order : quorums ≡ cycle_of plan.quorum_weights

@@ -1,4 +1,5 @@
 pub mod Cycles
+pub mod Blocks
 pub mod Accounts
 pub mod Offices
 pub mod Tickets

@@ -1,14 +1,15 @@
 //! The cycle of a plan.
-ghost use Rattle.std.specs.Prelude.{◌≡◌, ◌<◌, ◌*◌, ℕ, filter, length, map, nat_le, slice_index, IfOk, IfErr};
-ghost use Rattle.std.specs.List.{range_with_len};
+ghost use Rattle.std.specs.Prelude.{◌≡◌, ◌<◌, ◌*◌, ℕ, length, map, slice_index, IfOk, IfErr};
 ghost use Rattle.quorum_set.specs.Counts.{times};
-ghost use Rattle.certificate.specs.Certificates.{IsCertificate, IsOptimal, busiest_count};
+ghost use Rattle.certificate.specs.Certificates.{IsCertificate, IsOptimal, busiest_count, cycle_len};
 ghost use Rattle.dealer.specs.Cycles.{cycle_of, quorum_of_ticket};
+ghost use Rattle.dealer.specs.Blocks.{listed_quorums, AreBlocksOf};
 ghost use Rattle.dealer.specs.Accounts.{account_of, quorums_named, values_below, IsWholeCycles, IsLeastBusiest};
 
 use crate::account::{Account, counts_of_voters, greatest_of};
 use crate::counts::Counts;
 use crate::laws::{voters_are_counted_by_quorum, whole_cycles_follow_weights};
+use crate::rounds::{Block, Listed, blocks_of, listed_of, lists_of, place_in, quorum_in};
 use certificate::Plan;
 use std::alloc::{AllocError, Global};
 use std::marker::Model;
@@ -17,24 +18,27 @@ use std::marker::Model;
 #[derive(Drop)]
 pub struct Cycle {
     plan: Plan,
-    /// The number of the quorum at each place of the cycle.
-    quorums: Vec<usize>,
+    /// The quorums of positive weight, in the order of their numbers.
+    listed: Vec<Listed>,
+    /// The rounds, in runs that list the same quorums.
+    blocks: Vec<Block>,
 }
 
 impl Model for Cycle {
     ghost use Rattle.certificate.specs.Certificates.{Weighted};
-    ghost use Rattle.dealer.specs.Cycles.{IsCycleOf};
+    ghost use Rattle.dealer.specs.Blocks.{IsCycleOf};
 
     ghost Value = { Weighted };
 
     ghost view = { λ c. c.plan };
 
-    ghost invariant = { λ c. IsCycleOf c.plan c.quorums.items };
+    ghost invariant = { λ c. IsCycleOf c.plan c.listed.items c.blocks.items };
 }
 
 /// The weights of a plan's quorums.
 fn weights_of(alloc: Global, plan: &Plan) -> Result<Vec<u64>, AllocError>
-    ensures { IfOk result (λ v. v.items ≡ plan.now.quorum_weights) }
+    ensures value { IfOk result (λ v. v.items ≡ plan.now.quorum_weights) }
+    ensures certificate { IfOk result (λ _. IsCertificate plan.now) }
 {
     let count = plan.coterie().count();
     let mut weights = Vec::with_capacity(alloc, count)?;
@@ -44,47 +48,21 @@ fn weights_of(alloc: Global, plan: &Plan) -> Result<Vec<u64>, AllocError>
     Ok(weights)
 }
 
-/// The numbers below `n`.
-fn numbers_below(alloc: Global, n: usize) -> Result<Vec<usize>, AllocError>
-    ensures { IfOk result (λ v. v.items ≡ range_with_len 0 n) }
-{
-    (0..n).collect(alloc)
-}
-
-/// Keeps the quorums whose weight is at least the round's number.
-fn keep_round(active: &mut Vec<usize>, weights: &[u64], round: u64)
-    requires { 0 < round }
-    ensures { active.new.items
-        ≡ filter (λ j. nat_le round (slice_index weights.now j)) active.old.items }
-{
-    active.retain(|j| weights.get(*j).is_some_and(|weight| round <= *weight));
-}
-
-/// The quorums of a cycle. A round goes through the quorums of the round before alone, so that the time
-/// is proportional to the cycle's length and the number of quorums.
-fn rounds_of(alloc: Global, weights: &[u64], cycle_len: usize) -> Result<Vec<usize>, AllocError>
-    ensures { IfOk result (λ v. v.items ≡ cycle_of weights.now) }
-{
-    let mut quorums = Vec::with_capacity(alloc, cycle_len)?;
-    let mut active = numbers_below(alloc, weights.len())?;
-    for round in 0..greatest_of(weights) {
-        keep_round(&mut active, weights, round + 1);
-        quorums.extend_from_slice(&active)?;
-    }
-    Ok(quorums)
-}
-
-/// The quorums of a plan's cycle.
-fn quorums_of(alloc: Global, plan: &Plan) -> Result<Vec<usize>, AllocError>
-    ensures { IfOk result (λ v. v.items ≡ cycle_of plan.now.quorum_weights) }
+/// The quorums of positive weight of a plan's cycle, and its blocks.
+fn rounds_of(alloc: Global, plan: &Plan) -> Result<(Vec<Listed>, Vec<Block>), AllocError>
+    ensures listed { IfOk result (λ rounds. rounds.0.items ≡ listed_quorums plan.now.quorum_weights) }
+    ensures blocks { IfOk result (λ rounds. AreBlocksOf plan.now.quorum_weights rounds.1.items) }
 {
     let weights = weights_of(alloc, plan)?;
-    rounds_of(alloc, &weights, plan.cycle_len() as usize)
+    let listed = listed_of(alloc, &weights)?;
+    let blocks = blocks_of(alloc, &weights)?;
+    Ok((listed, blocks))
 }
 
 impl Cycle {
-    /// The cycle of a plan: up to a million quorum numbers, listed in some ten milliseconds. A refusal,
-    /// for want of memory alone, hands the plan back.
+    /// The cycle of a plan: a list of its quorums of positive weight, and one entry for each weight that
+    /// they have. The time is that of sorting the weights, whatever the cycle's length. A refusal, for want of memory alone,
+    /// hands the plan back.
     pub fn of(alloc: Global, plan: Plan) -> Result<Cycle, (Plan, AllocError)>
         ensures ok { IfOk result (λ cycle. cycle ≡ plan) }
         ensures certificate { IfOk result IsCertificate }
@@ -92,8 +70,12 @@ impl Cycle {
     {
         // What is proved of every plan stands in this contract.
         let _ = plan.busiest();
-        match quorums_of(alloc, &plan) {
-            Ok(quorums) => Ok(Cycle { plan, quorums }),
+        match rounds_of(alloc, &plan) {
+            Ok((listed, blocks)) => Ok(Cycle {
+                plan,
+                listed,
+                blocks,
+            }),
             Err(error) => Err((plan, error)),
         }
     }
@@ -107,14 +89,24 @@ impl Cycle {
         &self.plan
     }
 
+    /// The number of the quorum at a place of the cycle.
+    fn named_at(&self, place: u64) -> usize
+        requires { place < cycle_len self.now }
+        ensures { result ≡ slice_index (cycle_of self.now.quorum_weights) place }
+    {
+        let (number, at) = place_in(&self.blocks, place);
+        quorum_in(&self.listed, self.blocks[number], at)
+    }
+
     /// The number of the quorum that a ticket names: the one at the ticket's place in the cycle, which
     /// begins again at its end. Takes no memory.
+    #[tactic(auto, using(crate::proofs::AccountLemmas::ticket_in_range))]
     pub fn quorum_at(&self, ticket: u64) -> usize
         ensures value { result ≡ quorum_of_ticket self.now ticket }
         ensures in_range { result < length self.now.system.quorums }
         ensures certificate { IsCertificate self.now }
     {
-        self.quorums[(ticket % self.plan.cycle_len()) as usize]
+        self.named_at(ticket % self.plan.cycle_len())
     }
 
     /// How many of the tickets name each quorum.
@@ -123,9 +115,11 @@ impl Cycle {
             ≡ values_below (length self.now.system.quorums)
             (λ j. times j (quorums_named self.now tickets.now))) }
     {
+        let lists = lists_of(alloc, &self.listed, &self.blocks)?;
         let mut counts = vec![in alloc; 0; self.plan.coterie().count()]?;
         for ticket in tickets {
-            counts[self.quorum_at(*ticket)] += 1;
+            let (number, at) = place_in(&self.blocks, *ticket % self.plan.cycle_len());
+            counts[lists[number][at]] += 1;
         }
         Ok(counts)
     }

@@ -54,6 +54,7 @@ mod office;
 #[cfg(test)]
 mod office_tests;
 mod receipt;
+mod rounds;
 #[cfg(test)]
 mod tests;
 mod tickets;
