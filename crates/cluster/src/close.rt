@@ -1,5 +1,5 @@
 //! The end of a cluster, and its record.
-ghost use Rattle.std.specs.Prelude.{◌≡◌, ◌+◌, ◌-◌, ◌*◌, ◌^◌, ◌<◌, ◌≤◌, ◌++◌, [], IfOk, IfErr, IsPermutation, length, map, min};
+ghost use Rattle.std.specs.Prelude.{◌≡◌, ◌+◌, ◌-◌, ◌*◌, ◌^◌, ◌<◌, ◌≤◌, ◌++◌, [], IfOk, IfErr, IfNone, IfSome, IsPermutation, length, map, min};
 ghost use Rattle.std.specs.List.{All, sum_by};
 ghost use Rattle.std.specs.List.Sorted.{IsNonDecreasingBy};
 ghost use Rattle.quorum_set.specs.Sums.{AreAllBelow};
@@ -58,6 +58,22 @@ fn count_idle<N: ClusterName>(members: &[Member<N>]) -> u64
         }
     }
     idle
+}
+
+/// How many of a cluster's members are missing among these or not idle; none where all are back. It only reads, so that a
+/// cluster that can't be closed yet is as it was.
+fn missing<N: ClusterName>(cluster: &Cluster<N>, members: &[Member<N>]) -> Option<u64>
+    ensures some { IfSome result (λ missing. (0 < missing) × (idle_count members.now + missing ≡ N.cluster.board.clients)) }
+    ensures none { IfNone result (N.cluster.board.clients ≤ idle_count members.now) }
+    ensures all { IfNone result (N.cluster.board.clients ≤ length members.now) }
+{
+    let clients = u64::from(cluster.board.clients());
+    let idle = count_idle(members);
+    if idle < clients {
+        Some(clients - idle)
+    } else {
+        None
+    }
 }
 
 /// How many messages the members lost, all together. It stays at its greatest value.
@@ -235,13 +251,11 @@ impl<N: ClusterName> Cluster<N> {
         ensures record { IfOk result (IsRecordOf N.cluster members.items) }
         ensures refused { IfErr result (RefusesClose N.cluster members.items) }
     {
-        let clients = u64::from(self.board.clients());
-        let idle = count_idle(&members);
-        if idle < clients {
+        if let Some(missing) = missing(&self, &members) {
             return Err(CloseFault::Unready {
                 cluster: self,
                 members,
-                missing: clients - idle,
+                missing,
             });
         }
         match self.end(alloc, members) {

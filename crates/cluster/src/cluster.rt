@@ -5,11 +5,12 @@ ghost use Rattle.board.specs.Quorums.{quorum_at};
 ghost use Rattle.cluster.specs.Clusters.{ClusterState, IsLeft};
 ghost use Rattle.node.specs.Mail.{IsMail};
 
-use board::{Board, BoardRoot};
+use board::{Board, BoardRoot, ClientSeat};
 use dealer::{Clerk, Office};
 use message::{ToClient, ToVoter};
 use node::{ClusterName, Mailbox, Node};
 use quorum_set::QSet;
+use requester::Requester;
 use std::marker::{Model, PhantomData};
 use std::sync::{Mutex, Wait};
 use voter::Replies;
@@ -22,7 +23,7 @@ pub struct Cluster<N: ClusterName> {
     pub(crate) office: Office,
     pub(crate) nodes: Vec<Mutex<Node<N>>>,
     pub(crate) mailboxes: Vec<Mutex<Mailbox<N>>>,
-    /// Nobody steps by it while the cluster runs. The lock lets threads share the cluster.
+    /// Unused until `close`. The lock lets threads share the cluster.
     pub(crate) left: Mutex<Left<N>>,
 }
 
@@ -89,9 +90,20 @@ impl<N: ClusterName> Cluster<N> {
         lost
     }
 
-    /// Gives each of these messages to its voter, in order, and the voter's replies to their clients. Answers how many
-    /// are lost. A node's lock is given up before a mailbox is locked.
-    pub(crate) fn send(&self, rt: &impl Wait, messages: &[ToVoter]) -> u64 {
+    /// Gives each of these messages of a client to its voter, in order, and the voter's replies to their clients. Returns how
+    /// many are lost. A node's lock is given up before a mailbox is locked.
+    ///
+    /// The client's seat has to hold just the votes that the client holds: a vote is given back on the board before the message
+    /// goes out that says so.
+    pub(crate) fn send(
+        &self,
+        rt: &impl Wait,
+        _requester: &Requester,
+        _seat: &ClientSeat,
+        messages: &[ToVoter],
+    ) -> u64
+        requires held { _seat.now.held ≡ _requester.now.held }
+    {
         let mut lost: u64 = 0;
         for message in messages {
             let replies = self.tell(rt, message);

@@ -75,7 +75,7 @@ fn finish<N: ClusterName>(
     ensures same { (seat.new.table ≡ seat.old.table) × (seat.new.client ≡ seat.old.client) × (seat.new.passes ≡ seat.old.passes) }
 {
     give_back(seat, &cluster.board, requester);
-    cluster.send(rt, out.as_slice())
+    cluster.send(rt, requester, seat, out.as_slice())
 }
 
 impl<N: ClusterName> Member<N> {
@@ -179,7 +179,7 @@ impl<N: ClusterName> Member<N> {
             unreachable!()
         };
         self.quorum = receipt.quorum;
-        let lost = cluster.send(rt, self.out.as_slice());
+        let lost = cluster.send(rt, &self.requester, &self.seat, self.out.as_slice());
         self.lost = self.lost.saturating_add(lost);
         Ok(receipt)
     }
@@ -265,7 +265,7 @@ impl<N: ClusterName> Member<N> {
             return;
         }
         let reminders = self.requester.remind();
-        let sent = cluster.send(rt, reminders.as_slice());
+        let sent = cluster.send(rt, &self.requester, &self.seat, reminders.as_slice());
         let told = cluster.remind(rt, self.requester.quorum());
         self.lost = self.lost.saturating_add(sent).saturating_add(told);
     }

@@ -1,8 +1,8 @@
 -- What each command writes, as a function of its input.
-use Rattle.std.specs.Prelude.{◌≡◌, ℕ, Bool, true, false, ◌<◌, ◌≤◌, List, [], ◌∷◌, ◌++◌, length, codes, slice_index, IfSome, Option, Result, Ok, Err, ⊤, if◌then◌else◌}
+use Rattle.std.specs.Prelude.{◌≡◌, ℕ, Bool, true, false, ◌*◌, ◌<◌, ◌≤◌, List, [], ◌∷◌, ◌++◌, length, codes, slice_index, IfSome, Option, Result, Ok, Err, ⊤, if◌then◌else◌}
 use Rattle.std.specs.List.{flat_map, range_with_len}
 use Rattle.std.specs.Fmt.{decimal}
-use Rattle.std.specs.Io.KnownBytes.{Appends, Keeps}
+use Rattle.std.specs.Io.KnownBytes.{Appends, IsAtEnd, Keeps}
 use Rattle.std.specs.Str.{is_utf8}
 use Rattle.quorum_set.specs.Coteries.{QuorumSystem}
 use Rattle.construct.specs.Cyclic.{cyclic_at}
@@ -33,7 +33,7 @@ use Rattle.replay.specs.declared.fault.ReplayFault.TheVariants as replay
 use Rattle.replay.specs.declared.fault.ReplayFault.TheVariants.{BadLine}
 use Rattle.cluster.specs.declared.fault.ClusterFault.{ClusterFault}
 use Rattle.cluster.specs.declared.record.RunRecord.{RunRecord}
-use Rattle.runs.specs.Runs.{EndsRunBy, IsRun}
+use Rattle.runs.specs.Runs.{AreLet, EndsRunBy, IsRun}
 use Rattle.whole_io.specs.Devices.{AppendsBeginning}
 use Rattle.whole_io.specs.declared.fault.DeviceFault.TheVariants.{ReadFault, TooLong, WriteFault}
 use Rattle.qlock_cli.specs.Parts.{split}
@@ -284,6 +284,16 @@ abbrev pub IsRunnable : Command → Type 0
 IsRunnable (Run clients passes turns) = (1 ≤ clients) × (clients ≤ 64) × (passes ≤ 1000)
 IsRunnable command = ⊥
 
+-- the gate lets each client of a run pass, where any passes are to be made
+abbrev pub LetsAll : (ℕ → Bool) → Command → Type 0
+LetsAll lets (Run clients passes turns) = 0 < passes → AreLet lets clients
+LetsAll lets command = ⊤
+
+-- a run has two turns at least for each pass of a client
+abbrev pub HasTurns : Command → Type 0
+HasTurns (Run clients passes turns) = 2 * passes ≤ turns
+HasTurns command = ⊤
+
 -- one of them serves it
 abbrev pub IsInRange : Command → Type 0
 IsInRange (Run clients passes turns) = IsRunnable (Run clients passes turns)
@@ -328,6 +338,11 @@ reads_input (Deal n) = true
 reads_input World = true
 reads_input (Run clients passes turns) = true
 reads_input Replay = true
+
+-- nothing is left of the input, where the command reads it
+abbrev pub EndsAfter : Command → Option (List ℕ) → Type 0
+EndsAfter (Make shape) bytes = ⊤
+EndsAfter command bytes = IsAtEnd bytes
 
 -- the input is not too long, where the command reads it
 abbrev pub IsShortFor : Command → List ℕ → Type 0

@@ -2,3 +2,4 @@ pub mod Commands
 pub mod Devices
 pub mod Faults
 pub mod Parts
+pub mod Statuses

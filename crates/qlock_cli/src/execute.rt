@@ -5,7 +5,7 @@ ghost use Rattle.whole_io.specs.Devices.{AppendsBeginning};
 ghost use Rattle.whole_io.specs.declared.fault.DeviceFault.TheVariants.{WriteFault};
 ghost use Rattle.qlock_cli.specs.Devices.{FailsAs, IsOfReading};
 ghost use Rattle.qlock_cli.specs.declared.fault.Fault.TheVariants.{Device};
-ghost use Rattle.qlock_cli.specs.Commands.{Answers, ComesOf, IsServed, IsShortFor, LeavesWritten, reads_input};
+ghost use Rattle.qlock_cli.specs.Commands.{Answers, ComesOf, EndsAfter, IsServed, IsShortFor, LeavesWritten, reads_input};
 
 use crate::answer::answer;
 use crate::fault::Fault;
@@ -22,6 +22,7 @@ pub fn input_for<R: Read>(
 ) -> Result<Vec<u8>, Fault>
     requires { reader.old.failed ≡ false }
     ensures all { IfOk result (λ v. reads_input command.now ≡ true → IfSome (R.remaining reader.old.inner) (λ bytes. v.items ≡ bytes)) }
+    ensures end { OnOk result (EndsAfter command.now (R.remaining reader.new.inner)) }
     ensures short { IfOk result (λ v. IsShortFor command.now v.items) }
     ensures refused { IfErr result (λ fault. (reads_input command.now ≡ true) × IsOfReading (R.remaining reader.old.inner) fault) }
     ensures failed { FailsAs reader.new.failed false result }
@@ -73,6 +74,9 @@ pub fn execute<R: Read, W: Write>(
     // What is written is an answer of the command to what is read: for all but `plan` there is one.
     ensures written { OnOk result (IfSome (R.remaining reader.old.inner) (λ input.
         Answers command.now input (W.contents writer.old.inner) (W.contents writer.new.inner))) }
+
+    // A command that reads its input reads all of it.
+    ensures end { OnOk result (EndsAfter command.now (R.remaining reader.new.inner)) }
 
     // A refusal comes only of an input that the command refuses so, or of a device or memory.
     ensures refused { IfErr result (λ fault. IfSome (R.remaining reader.old.inner) (λ input. ComesOf command.now input fault)) }

@@ -5,7 +5,9 @@
 //! makes the output, `texts` its lines.
 #![tactic(auto)]
 
+ghost use Rattle.std.specs.Prelude.{◌≡◌};
 ghost use Rattle.qlock_cli.specs.Commands.{IsInRange};
+ghost use Rattle.qlock_cli.specs.Statuses.{status_of};
 
 mod answer;
 mod execute;
@@ -29,8 +31,10 @@ use std::thread::Threads;
 use std::{env, io};
 use whole_io::{DeviceFault, Watched};
 
-/// The exit status of a fault: 3 for a device, 4 for memory, and else 1.
-fn status_of(fault: &Fault) -> u8 {
+/// The exit status of a fault: 3 for a device that failed, 4 for out of memory, and else 1.
+fn status_of(fault: &Fault) -> u8
+    ensures { result ≡ status_of fault.now }
+{
     match fault {
         Fault::Device(DeviceFault::ReadFault | DeviceFault::WriteFault) => 3,
         Fault::OutOfMemory => 4,
@@ -87,10 +91,11 @@ fn serve<T: Threads + Wait + Sync>(rt: &HostRuntime, threads: &T, command: &Comm
 
 /// The words of the command line, the program's name among them.
 fn words_of(rt: &HostRuntime) -> Result<Vec<String>, Usage> {
-    let Ok(words) = env::args(rt) else {
-        return Err(Usage::Arguments);
-    };
-    Ok(words.collect::<Vec<String>>(rt.alloc())?)
+    match env::args(rt) {
+        Ok(words) => Ok(words.collect::<Vec<String>>(rt.alloc())?),
+        Err(error) if error.kind() == io::ErrorKind::OutOfMemory => Err(Usage::OutOfMemory),
+        Err(_) => Err(Usage::Arguments),
+    }
 }
 
 /// Serves the command that the words of the command line name.

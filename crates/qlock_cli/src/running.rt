@@ -1,7 +1,8 @@
 //! The command `run`: clients in threads that share the lock of a plan, and the record of what they did.
 ghost use Rattle.std.specs.Prelude.{◌≡◌, ◌≤◌, false, IfErr, IfSome, OnOk, string_bytes};
 ghost use Rattle.qlock_cli.specs.Devices.{FailsAs, IsOwn};
-ghost use Rattle.qlock_cli.specs.Commands.{Answers, ComesOf, IsAnswered, IsRunnable, LeavesWritten};
+ghost use Rattle.qlock_cli.specs.Commands.{Answers, ComesOf, HasTurns, IsAnswered, IsRunnable, LeavesWritten, LetsAll};
+ghost use Rattle.std.specs.Io.KnownBytes.{IsAtEnd};
 ghost use Rattle.runs.specs.Runs.{IsRun};
 
 use crate::answer::planned_of;
@@ -29,6 +30,8 @@ fn run_answer<T: Threads + Wait + Sync, G: Gate>(
     requires { IsRunnable command.now }
     ensures exact { IsAnswered string_bytes command.now input.now result }
     ensures own { IfErr result IsOwn }
+    ensures let_pass { OnOk result (LetsAll (G.lets gate.now) command.now) }
+    ensures in_turns { OnOk result (HasTurns command.now) }
 {
     let Command::Run {
         clients,
@@ -71,6 +74,13 @@ pub fn execute_run<T: Threads + Wait + Sync, R: Read, W: Write, G: Gate>(
     // What is written is the text of the record of a run by the plan that is read.
     ensures written { OnOk result (IfSome (R.remaining reader.old.inner) (λ input.
         Answers command.now input (W.contents writer.old.inner) (W.contents writer.new.inner))) }
+
+    // All input was read.
+    ensures end { OnOk result (IsAtEnd (R.remaining reader.new.inner)) }
+
+    // The gate lets each client pass, and there are two turns at least for each pass.
+    ensures let_pass { OnOk result (LetsAll (G.lets gate.now) command.now) }
+    ensures in_turns { OnOk result (HasTurns command.now) }
 
     // A refusal comes only of an input that the command refuses so, or of a device or memory.
     ensures refused { IfErr result (λ fault. IfSome (R.remaining reader.old.inner) (λ input. ComesOf command.now input fault)) }

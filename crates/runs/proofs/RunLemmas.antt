@@ -230,6 +230,8 @@ run_of c passes before after r e served quorums is sound drawn register in_range
     let many = as_many c before after (HasServed passes) e served in
     record {
       sound = sound;
+      tickets = is.tickets;
+      numbers = is.numbers;
       drawn = drawn ∙ sum_by_same (λ (m : MemberState). length m.clerk.receipts) passes after (each_drew c passes before after e served) ∙ ap (λ n. n * passes) many;
       register = register ∙ ap (λ n. n * passes) many;
       each_draw = λ k d lt. ((is.each_draw k d lt).client, omega (arith, in_range k d lt, ap length quorums));

@@ -1,5 +1,5 @@
 -- Runs of a plan's lock: their records, and why there is none.
-use Rattle.std.specs.Prelude.{◌≡◌, ℕ, ◌*◌, ◌<◌, ◌==◌, Bool, true, length}
+use Rattle.std.specs.Prelude.{◌≡◌, ℕ, ◌*◌, ◌<◌, ◌==◌, Bool, true, length, map}
 use Rattle.std.specs.List.{All, count_by}
 use Rattle.certificate.specs.Certificates.{Weighted}
 use Rattle.board.specs.declared.fault.BoardFault.TheVariants as board
@@ -8,13 +8,16 @@ use Rattle.requester.specs.declared.fault.ClientFault.TheVariants as client
 use Rattle.cluster.specs.declared.fault.ClusterFault.{ClusterFault}
 use Rattle.cluster.specs.declared.fault.ClusterFault.TheVariants as ends
 use Rattle.cluster.specs.declared.record.RunRecord.{RunRecord}
+use Rattle.cluster.specs.Records.{AreInOrder}
 use Rattle.replay.specs.Records.{IsSoundRecord, entries_of}
 use Rattle.runs.specs.declared.fault.RunFault.{RunFault}
 use Rattle.runs.specs.declared.fault.RunFault.TheVariants.{Cluster, OutOfMemory}
 
--- The record of a run in which each of so many clients made so many passes: its tickets, their quorums and its pass numbers are those of a sound record by the plan. Each client has a ticket and a pass number for each of its passes
+-- The record of a run in which each of so many clients made so many passes: its tickets, their quorums and its pass numbers are those of a sound record by the plan, tickets and numbers stand in their order, and each client has a ticket and a pass number for each of its passes
 pub record IsRun (plan : Weighted) (clients passes : ℕ) (r : RunRecord) : Type 0 where
   pub sound : IsSoundRecord plan (entries_of r)
+  pub tickets : AreInOrder (map (λ d. d.1) r.draws.items)
+  pub numbers : AreInOrder (map (λ p. p.1) r.passes.items)
   pub drawn : length r.draws.items ≡ clients * passes
   pub register : r.register ≡ clients * passes
   pub each_draw : All (λ d. (d.0 < clients) × (d.2 < length plan.system.quorums)) r.draws.items

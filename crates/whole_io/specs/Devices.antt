@@ -1,6 +1,6 @@
 -- Readers and writers that fail.
 use Rattle.std.specs.Prelude.{◌≡◌, ℕ, ◌<◌, length, take, IfSome, Bool, true, false, List, Option, Result, Ok, Err, ⊤}
-use Rattle.std.specs.Io.KnownBytes.{Appends}
+use Rattle.std.specs.Io.KnownBytes.{Appends, Consumes}
 use Rattle.whole_io.specs.declared.fault.DeviceFault.{DeviceFault}
 use Rattle.whole_io.specs.declared.fault.DeviceFault.TheVariants.{OutOfMemory, ReadFault, TooLong, WriteFault}
 
@@ -14,6 +14,11 @@ FailsAs read_failed write_failed (Err e) = (read_failed ≡ false) × (write_fai
 -- a beginning of the output was written behind what there was: none of it, some or all
 abbrev pub AppendsBeginning : Option (List ℕ) → Option (List ℕ) → List ℕ → Type 0
 AppendsBeginning old new output = (n : ℕ) × Appends old new (take n output)
+
+-- what a fault leaves unread of these bytes: after too long an input, all but one byte more than the longest input has
+abbrev pub LeavesUnread : Option (List ℕ) → Option (List ℕ) → DeviceFault → Type 0
+LeavesUnread old new TooLong = (taken : List ℕ) × (length taken ≡ 16777217) × Consumes old new taken
+LeavesUnread old new fault = ⊤
 
 -- a fault of reading these bytes, where they are known: there are too many, the reader failed, or memory ran out
 abbrev pub IsOfReading : Option (List ℕ) → DeviceFault → Type 0

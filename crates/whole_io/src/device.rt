@@ -1,7 +1,7 @@
 //! Reading the whole input, and writing the whole output.
 ghost use Rattle.std.specs.Prelude.{◌≡◌, ◌≤◌, length, false, IfErr, IfOk, IfSome, OnErr, OnOk};
 ghost use Rattle.std.specs.Io.KnownBytes.{Appends, IsAtEnd};
-ghost use Rattle.whole_io.specs.Devices.{AppendsBeginning, FailsAs, IsOfReading};
+ghost use Rattle.whole_io.specs.Devices.{AppendsBeginning, FailsAs, IsOfReading, LeavesUnread};
 ghost use Rattle.whole_io.specs.declared.fault.DeviceFault.TheVariants.{WriteFault};
 
 use crate::fault::DeviceFault;
@@ -14,7 +14,8 @@ pub const LONGEST: usize = 16_777_216;
 
 /// Reads to the end: all the bytes that are left in the reader, at most [`LONGEST`].
 ///
-/// `ReadFault` where a read fails, and `TooLong` where there is one byte more than the longest input, whichever comes first.
+/// `ReadFault` where a read fails, and `TooLong` where there is one byte more than the longest input, whichever comes first; no
+/// byte behind that one is read.
 /// `OutOfMemory` may come at any point. A reader that has failed before is not for this call.
 pub fn read_input<R: Read>(alloc: Global, reader: &mut Watched<R>) -> Result<Vec<u8>, DeviceFault>
     requires { reader.old.failed ≡ false }
@@ -22,6 +23,7 @@ pub fn read_input<R: Read>(alloc: Global, reader: &mut Watched<R>) -> Result<Vec
     ensures end { OnOk result (IsAtEnd (R.remaining reader.new.inner)) }
     ensures short { IfOk result (λ v. length v.items ≤ LONGEST) }
     ensures refused { IfErr result (IsOfReading (R.remaining reader.old.inner)) }
+    ensures unread { IfErr result (LeavesUnread (R.remaining reader.old.inner) (R.remaining reader.new.inner)) }
     ensures failed { FailsAs reader.new.failed false result }
 {
     let mut input = Vec::new(alloc);

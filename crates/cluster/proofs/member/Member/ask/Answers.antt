@@ -22,6 +22,12 @@ unreachable-requires g c =
     let asked = c.in_default.ensures c.quorum-quorum.result.now in
     not_both (ask c.self.inside.requester c.quorum-quorum.result.now) asked.0 _ asked.1 c.in_default-ask_into.ensures.refused.0
 
+pub send-lost-requires : goal.send-lost-requires
+send-lost-requires g c =
+    let quorum = c.quorum-quorum.ensures in
+    let drawn = c.in-Ok.ensures in
+    record { held = (asked_member _ _ _ _ _ c.self.invariant _ _ c.in-Ok-ask_into.ensures.asked quorum.set quorum.some c.draw.new.clerk c.in-Ok.receipt drawn.kept drawn.some quorum.in_range quorum.value).held }
+
 pub invariant_of-self-2 : goal.invariant_of-self-2
 invariant_of-self-2 g c =
     let quorum = c.quorum-quorum.ensures in

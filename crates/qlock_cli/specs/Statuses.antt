@@ -1,0 +1,12 @@
+-- Exit statuses.
+use Rattle.std.specs.Prelude.{ℕ}
+use Rattle.whole_io.specs.declared.fault.DeviceFault.TheVariants.{ReadFault, WriteFault}
+use Rattle.qlock_cli.specs.declared.fault.Fault.{Fault}
+use Rattle.qlock_cli.specs.declared.fault.Fault.TheVariants.{Device, OutOfMemory}
+
+-- 3 where a device failed, 4 where memory ran out, and else 1
+abbrev pub status_of : Fault → ℕ
+status_of (Device ReadFault) = 3
+status_of (Device WriteFault) = 3
+status_of OutOfMemory = 4
+status_of fault = 1
