@@ -9,16 +9,22 @@ ghost use Rattle.construct.specs.Majority.{sets_from, majority_at};
 
 use crate::fault::ConstructFault;
 use crate::laws::majorities_are_coteries;
-use crate::set::{coterie_of, set_where};
+use crate::set::coterie_of;
 use itertools::{Combinations, Itertools};
 use quorum_set::{Coterie, QSet};
 use std::alloc::{AllocError, Global};
 
-/// The set of these members.
+/// Returns the set of these members. Numbers of 64 or more are left out.
 fn set_of(members: &[u8]) -> QSet
     ensures { result ≡ set_where (has members.now) }
 {
-    set_where(|v| members.contains(&v))
+    let mut set = QSet::empty();
+    for i in members {
+        if *i < 64 {
+            set.insert(*i);
+        }
+    }
+    set
 }
 
 /// The choices of k of the numbers below n.

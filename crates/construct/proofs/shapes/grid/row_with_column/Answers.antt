@@ -1,4 +1,4 @@
-use Rattle.std.proofs.Common.{ℕ, Bool, ◌*◌, ◌/◌, ◌%◌, ltb, eqb, ap₂, ◌∙◌}
+use Rattle.std.proofs.Common.{◌*◌, ◌/◌, ◌%◌, ltb, eqb, ap₂, ◌∙◌}
 use Rattle.quorum_set.specs.Sets.{union}
 use Rattle.construct.proofs.SetLemmas.{union-within}
 use Rattle.construct.proofs.shapes.grid.row_with_column.Goals as goal
