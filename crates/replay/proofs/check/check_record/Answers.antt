@@ -20,9 +20,9 @@ returns-clause-shares c = λ k long.
     let plan = c.args.plan.now in
     let draws = c.args.run.now.draws.items in
     let same = c.in-Ok.ensures.cycle in
-    let are = c.deref-2.ensures.value ∙ c.in_ok-tickets-2.ensures ∙ ap (λ (ds : List Draw). tickets_of ds) c.deref.ensures.value in
+    let are = c.deref-4.ensures.value ∙ c.in_ok-tickets-2.ensures ∙ ap (λ (ds : List Draw). tickets_of ds) c.deref-3.ensures.value in
     let sound : IsSoundRecord plan (entries_of c.args.run.now) = subst (λ (w : Weighted). IsSoundRecord w (entries_of c.args.run.now)) same c.in_default.ensures in
-    let whole = whole_cycles c.in-Ok.cycle plan draws c.deref-2.result.now k same are sound.tickets long in
+    let whole = whole_cycles c.in-Ok.cycle plan draws c.deref-4.result.now k same are sound.tickets long in
     subst (λ (w : Weighted). c.in_ok-account.account.quorums ≡ map {A = ℕ} {B = ℕ} (λ weight. k * weight) w.quorum_weights) same (c.in_ok-account.ensures.shares k whole)
 
 pub returns-clause-even : goal.returns-clause-even
@@ -30,9 +30,9 @@ returns-clause-even c = λ k long.
     let plan = c.args.plan.now in
     let draws = c.args.run.now.draws.items in
     let same = c.in-Ok.ensures.cycle in
-    let are = c.deref-2.ensures.value ∙ c.in_ok-tickets-2.ensures ∙ ap (λ (ds : List Draw). tickets_of ds) c.deref.ensures.value in
+    let are = c.deref-4.ensures.value ∙ c.in_ok-tickets-2.ensures ∙ ap (λ (ds : List Draw). tickets_of ds) c.deref-3.ensures.value in
     let sound : IsSoundRecord plan (entries_of c.args.run.now) = subst (λ (w : Weighted). IsSoundRecord w (entries_of c.args.run.now)) same c.in_default.ensures in
-    let whole = whole_cycles c.in-Ok.cycle plan draws c.deref-2.result.now k same are sound.tickets long in
+    let whole = whole_cycles c.in-Ok.cycle plan draws c.deref-4.result.now k same are sound.tickets long in
     subst (λ (w : Weighted). c.in_ok-account.account.busiest ≡ k * busiest_count w) same (c.in_ok-account.ensures.even k whole)
 
 pub returns-clause-least : goal.returns-clause-least
@@ -40,7 +40,7 @@ returns-clause-least c = λ k long.
     let plan = c.args.plan.now in
     let draws = c.args.run.now.draws.items in
     let same = c.in-Ok.ensures.cycle in
-    let are = c.deref-2.ensures.value ∙ c.in_ok-tickets-2.ensures ∙ ap (λ (ds : List Draw). tickets_of ds) c.deref.ensures.value in
+    let are = c.deref-4.ensures.value ∙ c.in_ok-tickets-2.ensures ∙ ap (λ (ds : List Draw). tickets_of ds) c.deref-3.ensures.value in
     let sound : IsSoundRecord plan (entries_of c.args.run.now) = subst (λ (w : Weighted). IsSoundRecord w (entries_of c.args.run.now)) same c.in_default.ensures in
-    let whole = whole_cycles c.in-Ok.cycle plan draws c.deref-2.result.now k same are sound.tickets long in
+    let whole = whole_cycles c.in-Ok.cycle plan draws c.deref-4.result.now k same are sound.tickets long in
     subst (λ (w : Weighted). IsLeastBusiest w c.in_ok-account.account.drawn c.in_ok-account.account.busiest) same (c.in_ok-account.ensures.least k whole)

@@ -7,3 +7,6 @@ returns-in-Some-clause-read c = read_back c.args.text.now c.in-Some.body.now c.r
 
 pub returns-in-None-clause-read : goal.returns-in-None-clause-read
 returns-in-None-clause-read c = λ e h is. absurd (never_both c.args.text.now 1 e (inl (refl, c.in-None.ensures)) h is)
+
+pub returns-in-Some-clause-first : goal.returns-in-Some-clause-first
+returns-in-Some-clause-first c = λ none. absurd (none c.in-Some.body.now c.in-Some.ensures)

@@ -1,13 +1,10 @@
-use Rattle.std.proofs.Common.{◌≡◌, sym, ap, ◌∙◌, Option, Some, None, refl}
+use Rattle.std.proofs.Common.{◌≡◌, ap, ◌∙◌, Option, Some, None, refl}
 use Rattle.std.specs.Option.{is_none}
 use Rattle.message.specs.declared.message.ToVoter.{ToVoter}
 use Rattle.voter.specs.declared.state.Effect.{Effect}
 use Rattle.voter.specs.declared.state.VoterState.{VoterState}
 use Rattle.voter.specs.Steps.{Outcome, effect_by, effect_of, step}
 use Rattle.world.proofs.refusal.is_refused.Goals as goal
-
-pub effect-requires-clause-voter : goal.effect-requires-clause-voter
-effect-requires-clause-voter c = sym c.requires.id ∙ sym (ap (λ (y : VoterState). y.id) c.voter_of.ensures)
 
 refused_by : (v : VoterState) (o : Option Outcome) → (effect_by v o).refused ≡ is_none o
 refused_by v None = refl
