@@ -48,6 +48,8 @@ mod account;
 mod clerk;
 mod counts;
 mod cycle;
+#[cfg(test)]
+mod cycle_tests;
 mod fault;
 mod laws;
 mod office;
