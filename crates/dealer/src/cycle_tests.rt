@@ -77,11 +77,13 @@ fn agrees(alloc: Global, weights: &[u64]) -> Result<bool, Fail> {
         tickets.push(ticket)?;
     }
     let account = cycle.account(alloc, &tickets)?;
-    Ok(len == quorums.len() as u64
-        && account.quorums.as_slice() == weights
-        && account.busiest == len
-        && names(&cycle, 0, &quorums)
-        && names(&cycle, len, &quorums))
+    Ok(
+        len == quorums.len() as u64
+            && account.quorums.as_slice() == weights
+            && account.busiest == len
+            && names(&cycle, 0, &quorums)
+            && names(&cycle, len, &quorums),
+    )
 }
 
 #[test]
