@@ -1,10 +1,16 @@
 //! Dealing quorums by a plan.
 //!
-//! A plan's weights say how often each quorum is named in a cycle. [`Cycle`] lists the quorums of a
-//! cycle once: round 1 has each quorum with a weight of 1 or more, in the order of their numbers, round
-//! 2 each one with 2 or more, and so on. A ticket is a number from 0 on, and names the quorum at its
-//! place in the cycle, which begins again at its end. So whoever hands out the tickets 0, 1, 2, ..
-//! deals the quorums in the plan's proportions.
+//! A plan's weights say how often each quorum is named in a cycle. A [`Cycle`] goes by rounds: round 1
+//! lists each quorum with a weight of 1 or more, in the order of their numbers, round 2 each one with 2
+//! or more, and so on. A ticket is a number from 0 on, and names the quorum at its place in the cycle,
+//! which begins again at its end. So whoever hands out the tickets 0, 1, 2, .. deals the quorums in the
+//! plan's proportions.
+//!
+//! A cycle may have a million places, and is not laid out. Rounds between which no weight lies list the
+//! same quorums: a run of such rounds is kept as a block, with its first place, the weight that a quorum
+//! needs to be listed there, and how many quorums are. Beside the blocks stand the quorums of positive
+//! weight. A look-up finds the block by binary search, and goes along these quorums to the place within
+//! the round; where the round lists them all, as the first block's do, the place is an index.
 //!
 //! An [`Account`] says how often a list of tickets names each quorum and each voter. What whole cycles
 //! are for is proved of it: each quorum stands there k times its weight, and no list of as many quorums
@@ -48,6 +54,8 @@ mod account;
 mod clerk;
 mod counts;
 mod cycle;
+#[cfg(test)]
+mod cycle_tests;
 mod fault;
 mod laws;
 mod office;
