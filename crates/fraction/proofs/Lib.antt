@@ -1,2 +1,6 @@
 pub mod Lowest
 pub mod Passed
+pub mod PivotLemmas
+pub mod RowLemmas
+pub mod RowsLemmas
+pub mod SolveLemmas
