@@ -4,3 +4,4 @@ pub mod PivotLemmas
 pub mod RowLemmas
 pub mod RowsLemmas
 pub mod SolveLemmas
+pub mod SumLemmas

@@ -3,7 +3,7 @@ use Rattle.std.specs.Prelude.{◌≡◌, ◌≢◌, ℕ, ◌<◌, ◌≤◌, ◌
 use Rattle.std.specs.declared.alloc.Global.{Global}
 use Rattle.std.specs.Int.{◌∣◌}
 use Rattle.fraction.specs.Fractions.{Fits}
-use Rattle.fraction.specs.Tables.{Table, IsPlace, row_of, pivoted}
+use Rattle.fraction.specs.Tables.{Table, IsPlace, row_of, pivoted, sum_in, SumFits}
 
 -- the entry in a column
 abbrev pub entry_of : List ℤ → ℕ → ℤ
@@ -95,3 +95,15 @@ pub record IsLowest (old new : List (List ℤ)) (den low : ℤ) : Type 0 where
   pub den_is : low *ℤ pos divisor ≡ den
   pub rows : EachRow (IsDivided divisor) old new
   pub lowest : (d : ℕ) → d ∣ unsigned_abs low → ((i j : ℕ) → i < length old → j < length (row_at old i) → d ∣ unsigned_abs (entry_of (row_at new i) j)) → d ≡ 1
+
+-- a row has at one column the sum of its entries in some columns, and else what it had
+abbrev pub IsSummedRow : List ℕ → ℕ → List ℤ → List ℤ → Type 0
+IsSummedRow columns into old new = (length new ≡ length old) × (entry_of new into ≡ sum_in old columns) × ((j : ℕ) → j ≢ into → entry_of new j ≡ entry_of old j)
+
+-- each row has a column
+abbrev pub HaveColumn : List (List ℤ) → ℕ → Type 0
+HaveColumn rows j = (i : ℕ) → i < length rows → j < length (row_at rows i)
+
+-- these sums fit in each row
+abbrev pub AllSumsFit : List (List ℤ) → List ℕ → Type 0
+AllSumsFit rows columns = (i : ℕ) → i < length rows → SumFits (row_at rows i) columns

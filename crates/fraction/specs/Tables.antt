@@ -1,5 +1,5 @@
 -- Tables of whole numbers over one denominator, and their pivots (Edmonds, Systems of distinct representatives and linear algebra, 1967; Bareiss, Math. Comp. 22, 1968, on whole-number elimination).
-use Rattle.std.specs.Prelude.{◌≡◌, ◌≢◌, ℕ, ◌<◌, ◌==◌, if◌then◌else◌, ℤ, pos, ◌-ℤ◌, ◌*ℤ◌, ◌<ℤ◌, unsigned_abs, List, [], length, slice_index_or}
+use Rattle.std.specs.Prelude.{◌≡◌, ◌≢◌, ℕ, ◌<◌, ◌≤◌, ◌==◌, if◌then◌else◌, ℤ, pos, ◌+ℤ◌, ◌-ℤ◌, ◌*ℤ◌, ◌<ℤ◌, unsigned_abs, List, [], length, take, fold, slice_index_or}
 use Rattle.std.specs.Int.{◌∣◌}
 use Rattle.fraction.specs.Fractions.{Fits}
 
@@ -51,3 +51,26 @@ pub record IsPivoted (t u : Table) (row col : ℕ) : Type 0 where
   pub den : u.den *ℤ pos divisor ≡ t.den *ℤ entry_at t row col
   pub entries : (i j : ℕ) → IsPlace t i j → entry_at u i j *ℤ pos divisor ≡ pivoted t row col i j
   pub lowest : (d : ℕ) → d ∣ unsigned_abs u.den → ((i j : ℕ) → IsPlace t i j → d ∣ unsigned_abs (entry_at u i j)) → d ≡ 1
+
+-- each row has this column
+abbrev pub IsColumn : Table → ℕ → Type 0
+IsColumn t j = (i : ℕ) → i < length t.rows → j < length (row_of t i)
+
+-- the sum of a row's entries in some columns
+abbrev pub sum_in : List ℤ → List ℕ → ℤ
+sum_in r columns = fold (λ s j. s +ℤ slice_index_or r j (pos 0)) (pos 0) columns
+
+-- the sum fits, and so does each sum on the way to it
+abbrev pub SumFits : List ℤ → List ℕ → Type 0
+SumFits r columns = (k : ℕ) → k ≤ length columns → Fits (sum_in r (take k columns))
+
+-- these sums fit in each row
+abbrev pub SumsFit : Table → List ℕ → Type 0
+SumsFit t columns = (i : ℕ) → i < length t.rows → SumFits (row_of t i) columns
+
+-- One column of the new table has the sums of the old one's entries in some columns; all else is as it was.
+pub record IsSummed (t u : Table) (columns : List ℕ) (into : ℕ) : Type 0 where
+  pub shape : HasSameShape t u
+  pub den : u.den ≡ t.den
+  pub sums : (i : ℕ) → i < length t.rows → entry_at u i into ≡ sum_in (row_of t i) columns
+  pub others : (i j : ℕ) → i < length t.rows → j ≢ into → entry_at u i j ≡ entry_at t i j

@@ -1,10 +1,12 @@
 //! One row of a table.
-ghost use Rattle.std.specs.Prelude.{◌≡◌, ◌≢◌, ◌↔◌, ◌<◌, ◌≤◌, ◌*◌, ◌^◌, ℕ, ℤ, pos, ◌-ℤ◌, ◌*ℤ◌, length, slice_index_or, unsigned_abs, IsTrue, IsOk, IfErr};
+ghost use Rattle.std.specs.Prelude.{◌≡◌, ◌≢◌, ◌↔◌, ◌<◌, ◌≤◌, ◌*◌, ◌^◌, ℕ, ℤ, pos, ◌-ℤ◌, ◌*ℤ◌, length, slice_index_or, unsigned_abs, IsTrue, IsOk, IfOk, IfErr};
+ghost use Rattle.std.specs.List.{All};
+ghost use Rattle.fraction.specs.Tables.{sum_in, SumFits};
 ghost use Rattle.fraction.specs.Fractions.{Fits};
 ghost use Rattle.std.specs.Int.{◌∣◌};
-ghost use Rattle.fraction.specs.Rows.{entry_of, IsSmall, CombineFits, combined, EliminateFits, IsEliminated, EachFits, IsDivisorOf};
+ghost use Rattle.fraction.specs.Rows.{entry_of, IsSmall, CombineFits, combined, EliminateFits, IsEliminated, EachFits, IsDivisorOf, IsSummedRow};
 
-use crate::checked::{difference, product};
+use crate::checked::{difference, product, sum};
 use crate::fault::FracFault;
 use crate::signed::{quotient, signed};
 use divisor::wide_gcd;
@@ -121,5 +123,31 @@ pub(crate) fn divide(row: &mut [i128], divisor: u128)
 {
     for entry in row.iter_mut() {
         *entry = signed(*entry >= 0, quotient(entry.unsigned_abs(), divisor));
+    }
+}
+
+/// Returns the sum of the entries in some columns.
+pub(crate) fn sum_of(row: &[i128], columns: &[usize]) -> Result<i128, FracFault>
+    requires { All (λ j. j < length row.now) columns.now }
+    ensures value { IfOk result (λ s. s ≡ sum_in row.now columns.now) }
+    ensures fits { IsOk result ↔ SumFits row.now columns.now }
+    ensures overflow { IfErr result (λ e. e ≡ FracFault.Overflow) }
+{
+    let mut total = 0;
+    for column in columns {
+        total = sum(total, row[*column])?;
+    }
+    Ok(total)
+}
+
+/// Writes the sum of the entries in some columns into one column.
+pub(crate) fn put_sum(row: &mut [i128], columns: &[usize], into: usize)
+    requires columns { All (λ j. j < length row.old) columns.now }
+    requires into { into < length row.old }
+    requires fits { SumFits row.old columns.now }
+    ensures { IsSummedRow columns.now into row.old row.new }
+{
+    if let Ok(total) = sum_of(row, columns) {
+        row[into] = total;
     }
 }

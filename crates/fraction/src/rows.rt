@@ -2,7 +2,8 @@
 ghost use Rattle.std.specs.Prelude.{◌≡◌, ◌≢◌, ◌↔◌, ◌<◌, ℕ, ℤ, pos, ◌<ℤ◌, length, IsTrue, IsOk, IfErr};
 ghost use Rattle.fraction.specs.Fractions.{Fits};
 ghost use Rattle.fraction.specs.Tables.{IsTable, IsPlace, IsPivoted, PivotFits, entry_at};
-ghost use Rattle.fraction.specs.Rows.{lists_of, table_of, row_at, entry_of, IsSmall, AllEliminateFit, IsEliminated, EachRow, DividesAll, IsDivided, IsDivisorOfAll, IsLevelWith, OthersFit, IsUnreduced, IsLowest};
+ghost use Rattle.fraction.specs.Rows.{lists_of, table_of, row_at, entry_of, IsSmall, AllEliminateFit, IsEliminated, EachRow, DividesAll, IsDivided, IsDivisorOfAll, IsLevelWith, OthersFit, IsUnreduced, IsLowest, HaveColumn, AllSumsFit, IsSummedRow};
+ghost use Rattle.std.specs.List.{All};
 
 use crate::checked::product;
 use crate::fault::FracFault;
@@ -134,4 +135,28 @@ pub(crate) fn solve(rows: &mut [Vec<i128>], den: i128, row: usize, column: usize
     let new_den = den * row::entry(row_of(rows, row), column);
     pivot(rows, den, row, column);
     reduce(rows, new_den)
+}
+
+/// Tests that the sums of the entries in some columns fit.
+pub(crate) fn test_sums(rows: &[Vec<i128>], columns: &[usize]) -> Result<(), FracFault>
+    requires { All (HaveColumn (lists_of rows.now)) columns.now }
+    ensures fits { IsOk result ↔ AllSumsFit (lists_of rows.now) columns.now }
+    ensures overflow { IfErr result (λ e. e ≡ FracFault.Overflow) }
+{
+    for i in 0..rows.len() {
+        row::sum_of(row_of(rows, i), columns)?;
+    }
+    Ok(())
+}
+
+/// Writes the sums of the entries in some columns into one column.
+pub(crate) fn put_sums(rows: &mut [Vec<i128>], columns: &[usize], into: usize)
+    requires columns { All (HaveColumn (lists_of rows.old)) columns.now }
+    requires into { HaveColumn (lists_of rows.old) into }
+    requires fits { AllSumsFit (lists_of rows.old) columns.now }
+    ensures { EachRow (IsSummedRow columns.now into) (lists_of rows.old) (lists_of rows.new) }
+{
+    for row in rows.iter_mut() {
+        row::put_sum(row, columns, into);
+    }
 }

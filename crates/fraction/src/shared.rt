@@ -1,7 +1,8 @@
 //! Tables of numbers over one denominator.
-ghost use Rattle.std.specs.Prelude.{◌≡◌, ◌↔◌, ◌<◌, ℕ, pos, ◌<ℤ◌, length, map, IsOk, OnOk, OnErr, IfErr};
+ghost use Rattle.std.specs.Prelude.{◌≡◌, ◌↔◌, ◌<◌, ℕ, pos, ◌<ℤ◌, length, map, IsOk, IfOk, OnOk, OnErr, IfErr};
+ghost use Rattle.std.specs.List.{All};
 ghost use Rattle.fraction.specs.Fractions.{IsRatio, IsReduced};
-ghost use Rattle.fraction.specs.Tables.{IsTable, IsPlace, entry_at, IsPivoted, PivotFits};
+ghost use Rattle.fraction.specs.Tables.{IsTable, IsPlace, IsColumn, row_of, entry_at, sum_in, SumFits, IsPivoted, PivotFits, IsSummed, SumsFit};
 
 use crate::fault::FracFault;
 use crate::frac::{Frac, reduced};
@@ -66,6 +67,19 @@ impl Shared {
         reduced(self.entry(row, col), self.den)
     }
 
+    /// Returns the sum of a row's entries in some columns, which may name a column more than once.
+    ///
+    /// Fails with `Overflow` if and only if the sum, or one on the way to it in the columns' order, does not fit.
+    pub fn sum(&self, row: usize, columns: &[usize]) -> Result<i128, FracFault>
+        requires row { row < length self.now.rows }
+        requires columns { All (λ j. j < length (row_of self.now row)) columns.now }
+        ensures value { IfOk result (λ s. s ≡ sum_in (row_of self.now row) columns.now) }
+        ensures fits { IsOk result ↔ SumFits (row_of self.now row) columns.now }
+        ensures overflow { IfErr result (λ e. e ≡ FracFault.Overflow) }
+    {
+        row::sum_of(rows::row_of(&self.rows, row), columns)
+    }
+
     /// Solves a row for a column: divides the row by its value p there, and takes from each other row its own value in the
     /// column times the new row.
     ///
@@ -84,6 +98,23 @@ impl Shared {
     {
         rows::test_pivot(&self.rows, self.den, row, col)?;
         self.den = rows::solve(&mut self.rows, self.den, row, col);
+        Ok(())
+    }
+
+    /// Writes into one column the sum of each row's entries in some columns, which may name a column more than once.
+    ///
+    /// Fails with `Overflow` if and only if a sum, or one on the way to it in the columns' order, does not fit. The table
+    /// is then as it was.
+    pub fn sum_columns(&mut self, columns: &[usize], into: usize) -> Result<(), FracFault>
+        requires columns { All (IsColumn self.old) columns.now }
+        requires into { IsColumn self.old into }
+        ensures value { OnOk result (IsSummed self.old self.new columns.now into) }
+        ensures same { OnErr result (self.new ≡ self.old) }
+        ensures fits { IsOk result ↔ SumsFit self.old columns.now }
+        ensures overflow { IfErr result (λ e. e ≡ FracFault.Overflow) }
+    {
+        rows::test_sums(&self.rows, columns)?;
+        rows::put_sums(&mut self.rows, columns, into);
         Ok(())
     }
 }
