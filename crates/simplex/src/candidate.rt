@@ -1,5 +1,5 @@
 //! Candidates, and the method that finds them.
-ghost use Rattle.std.specs.Prelude.{◌≡◌, ◌+◌, ◌<◌, ◌≤◌, ◌^◌, length, vec_len, IfOk, IfErr};
+ghost use Rattle.std.specs.Prelude.{◌≡◌, ℕ, ◌+◌, ◌<◌, ◌≤◌, ◌^◌, length, vec_len, IfOk, IfErr};
 ghost use Rattle.simplex.specs.Pivots.{NamesAtMost};
 
 use crate::choice::{Rule, entering, first_entering};
@@ -31,6 +31,16 @@ enum Step {
     Stalled,
     /// A pivot that improved the solution.
     Improved,
+}
+
+/// Returns the fault that a number does not fit, with the number of pivots that were made.
+fn overflow(method: &Method) -> SimplexFault
+    ensures value { result ≡ SimplexFault.Overflow method.now.made }
+    ensures named { (most : ℕ) → method.now.made ≤ most → NamesAtMost most result }
+{
+    SimplexFault::Overflow {
+        pivots: method.made(),
+    }
 }
 
 /// Makes one pivot, where one is needed: by the rule, or by Bland's rule after 2n pivots in a row that stalled.
@@ -73,19 +83,13 @@ fn improve(method: &mut Method, rule: Rule, pivots: u32) -> Result<(), SimplexFa
             Ok(Step::NoRow) => return Err(SimplexFault::NoRow),
             Ok(Step::Stalled) => stalled = stalled.saturating_add(1),
             Ok(Step::Improved) => stalled = 0,
-            Err(_) => {
-                return Err(SimplexFault::Overflow {
-                    pivots: method.made(),
-                });
-            }
+            Err(_) => return Err(overflow(method)),
         }
     }
     match first_entering(method) {
         Ok(None) => Ok(()),
         Ok(Some(_)) => Err(SimplexFault::PivotLimit),
-        Err(_) => Err(SimplexFault::Overflow {
-            pivots: method.made(),
-        }),
+        Err(_) => Err(overflow(method)),
     }
 }
 
@@ -104,9 +108,7 @@ fn quorum_weights(alloc: Global, method: &Method, quorums: usize) -> Result<Vec<
         let column = method.basis(row);
         if column < weights.len() {
             let Some(weight) = weight_of(method.tableau().right_side(row)) else {
-                return Err(SimplexFault::Overflow {
-                    pivots: method.made(),
-                });
+                return Err(overflow(method));
             };
             weights[column] = weight;
         }
@@ -122,9 +124,7 @@ fn voter_weights(alloc: Global, method: &Method) -> Result<Vec<u64>, SimplexFaul
     let mut weights = Vec::with_capacity(alloc, method.tableau().voters())?;
     for voter in 0..method.tableau().voters() {
         let Some(weight) = weight_of(method.tableau().slack_price(voter).saturating_neg()) else {
-            return Err(SimplexFault::Overflow {
-                pivots: method.made(),
-            });
+            return Err(overflow(method));
         };
         weights.push(weight)?;
     }
@@ -161,9 +161,10 @@ pub fn solve_by(
     improve(&mut method, rule, pivots)?;
     let quorum_weights = quorum_weights(alloc, &method, coterie.count())?;
     let voter_weights = voter_weights(alloc, &method)?;
+    let made = method.made();
     Ok(Candidate {
         quorum_weights,
         voter_weights,
-        pivots: method.made(),
+        pivots: made,
     })
 }
