@@ -1,2 +1,7 @@
 pub mod Lowest
 pub mod Passed
+pub mod PivotLemmas
+pub mod RowLemmas
+pub mod RowsLemmas
+pub mod SolveLemmas
+pub mod SumLemmas

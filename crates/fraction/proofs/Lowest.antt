@@ -20,7 +20,7 @@ unsigned_abs-signed_of false zero = refl
 unsigned_abs-signed_of false (suc n) = refl
 
 -- the product of two numbers with these signs and absolute values
-signed_of-*ℤ : (s t : Bool) (m n : ℕ) → signed_of s m *ℤ signed_of t n ≡ signed_of (beq s t) (m * n)
+pub signed_of-*ℤ : (s t : Bool) (m n : ℕ) → signed_of s m *ℤ signed_of t n ≡ signed_of (beq s t) (m * n)
 signed_of-*ℤ true true m n = refl
 signed_of-*ℤ true false m zero = none m
   where
@@ -51,7 +51,7 @@ ratio_of false true a b s t e = signed_of-*ℤ false false s b ∙ ap (λ n. sig
 ratio_of false false a b s t e = signed_of-*ℤ true true s b ∙ ap (λ n. signed_of true n) e ∙ sym (signed_of-*ℤ true true a t)
 
 -- a number is its absolute value with its sign
-signed_of-abs : (z : ℤ) → z ≡ signed_of (not (lt_z z (pos 0))) (unsigned_abs z)
+pub signed_of-abs : (z : ℤ) → z ≡ signed_of (not (lt_z z (pos 0))) (unsigned_abs z)
 signed_of-abs (pos n) = at n
   where
     below : (n : ℕ) → lt_z (pos n) (pos 0) ≡ false

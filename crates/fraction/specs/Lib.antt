@@ -1,1 +1,3 @@
 pub mod Fractions
+pub mod Rows
+pub mod Tables

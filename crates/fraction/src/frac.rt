@@ -1,10 +1,11 @@
 //! Fractions.
-ghost use Rattle.std.specs.Prelude.{◌≡◌, ◌≢◌, ◌↔◌, ◌<◌, ◌^◌, ◌/◌, pos, ◌+ℤ◌, ◌-ℤ◌, ◌*ℤ◌, IsOk, IfOk, IfErr};
+ghost use Rattle.std.specs.Prelude.{◌≡◌, ◌≢◌, ◌↔◌, pos, ◌+ℤ◌, ◌-ℤ◌, ◌*ℤ◌, IsOk, IfOk, IfErr};
 ghost use Rattle.std.specs.Ordering.{int_cmp};
-ghost use Rattle.fraction.specs.Fractions.{signed_of, IsRatio, IsReduced, Fits, SumFits, DifferenceFits, ProductFits, QuotientFits, ComparisonFits};
+ghost use Rattle.fraction.specs.Fractions.{IsRatio, IsReduced, Fits, SumFits, DifferenceFits, ProductFits, QuotientFits, ComparisonFits};
 
 use crate::checked::{difference, fitting, product, sum};
 use crate::fault::FracFault;
+use crate::signed::{quotient, signed};
 use divisor::wide_gcd;
 use std::cmp::Ordering;
 use std::marker::Model;
@@ -29,29 +30,8 @@ impl Model for Frac {
     ghost inverse = { λ f. record { num = f.num; den = f.den } };
 }
 
-/// The number of this absolute value that is at least 0, or the one that is at most 0.
-fn signed(is_positive: bool, size: u128) -> i128
-    requires { size < 2 ^ 127 }
-    ensures { result ≡ signed_of is_positive size }
-{
-    let number = size as i128;
-    if is_positive { number } else { -number }
-}
-
-/// The quotient of two numbers, for which nothing is divided by 1.
-fn quotient(number: u128, divisor: u128) -> u128
-    requires { divisor ≢ 0 }
-    ensures { result ≡ number / divisor }
-{
-    if divisor == 1 {
-        number
-    } else {
-        number / divisor
-    }
-}
-
 /// The fraction num / den in lowest terms.
-fn reduced(num: i128, den: i128) -> Frac
+pub(crate) fn reduced(num: i128, den: i128) -> Frac
     requires divisor { den ≢ pos 0 }
     requires num_fits { Fits num }
     requires den_fits { Fits den }

@@ -16,8 +16,13 @@
 mod checked;
 mod fault;
 mod frac;
+mod row;
+mod rows;
+mod shared;
+mod signed;
 #[cfg(test)]
 mod tests;
 
 pub use fault::FracFault;
 pub use frac::Frac;
+pub use shared::Shared;

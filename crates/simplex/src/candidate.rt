@@ -1,12 +1,11 @@
 //! Candidates, and the method that finds them.
-ghost use Rattle.std.specs.Prelude.{◌≡◌, ◌+◌, ◌≤◌, length, vec_len, IfOk};
+ghost use Rattle.std.specs.Prelude.{◌≡◌, ℕ, ◌+◌, ◌<◌, ◌≤◌, ◌^◌, length, vec_len, IfOk, IfErr};
+ghost use Rattle.simplex.specs.Pivots.{NamesAtMost};
 
 use crate::choice::{Rule, entering, first_entering};
 use crate::fault::SimplexFault;
 use crate::method::Method;
-use crate::tableau::Tableau;
-use crate::whole::{units, with_denominator};
-use fraction::{Frac, FracFault};
+use fraction::FracFault;
 use quorum_set::Coterie;
 use std::alloc::Global;
 
@@ -34,11 +33,22 @@ enum Step {
     Improved,
 }
 
+/// Returns the fault that a number does not fit, with the number of pivots that were made.
+fn overflow(method: &Method) -> SimplexFault
+    ensures value { result ≡ SimplexFault.Overflow method.now.made }
+    ensures named { (most : ℕ) → method.now.made ≤ most → NamesAtMost most result }
+{
+    SimplexFault::Overflow {
+        pivots: method.made(),
+    }
+}
+
 /// Makes one pivot, where one is needed: by the rule, or by Bland's rule after 2n pivots in a row that stalled.
 fn make_step(method: &mut Method, rule: Rule, stalled: usize) -> Result<Step, FracFault>
-    ensures { method.new.coterie ≡ method.old.coterie }
+    requires { method.old.made + 1 < 2 ^ 32 }
+    ensures coterie { method.new.coterie ≡ method.old.coterie }
+    ensures made { method.new.made ≤ method.old.made + 1 }
 {
-    method.read_prices()?;
     let entering = if stalled < 2 * method.tableau().voters() {
         entering(method, rule)?
     } else {
@@ -47,134 +57,95 @@ fn make_step(method: &mut Method, rule: Rule, stalled: usize) -> Result<Step, Fr
     let Some(column) = entering else {
         return Ok(Step::Best);
     };
-    method.read_column(column)?;
+    method.enter(column)?;
     let Some(exit) = method.leaving()? else {
         return Ok(Step::NoRow);
     };
     method.pivot(exit.row, column)?;
-    Ok(if exit.ratio.num() == 0 {
+    Ok(if exit.right == 0 {
         Step::Stalled
     } else {
         Step::Improved
     })
 }
 
-/// Whether no column improves the solution.
-fn is_best(method: &mut Method) -> Result<bool, FracFault>
-    ensures { method.new.coterie ≡ method.old.coterie }
-{
-    method.read_prices()?;
-    Ok(first_entering(method)?.is_none())
-}
-
-/// Pivots until no column improves the solution, and answers how many pivots were made.
-fn improve(method: &mut Method, rule: Rule, pivots: u32) -> Result<u32, SimplexFault>
+/// Pivots until no column improves the solution.
+fn improve(method: &mut Method, rule: Rule, pivots: u32) -> Result<(), SimplexFault>
+    requires { method.old.made ≡ 0 }
     ensures coterie { method.new.coterie ≡ method.old.coterie }
-    ensures limit { IfOk result (λ made. made ≤ pivots) }
+    ensures limit { method.new.made ≤ pivots }
+    ensures refused { IfErr result (NamesAtMost pivots) }
 {
     let mut stalled = 0usize;
-    for made in 0..pivots {
+    for step in 0..pivots {
         match make_step(method, rule, stalled) {
-            Ok(Step::Best) => return Ok(made),
+            Ok(Step::Best) => return Ok(()),
             Ok(Step::NoRow) => return Err(SimplexFault::NoRow),
             Ok(Step::Stalled) => stalled = stalled.saturating_add(1),
             Ok(Step::Improved) => stalled = 0,
-            Err(_) => return Err(SimplexFault::Overflow { pivots: made }),
+            Err(_) => return Err(overflow(method)),
         }
     }
-    match is_best(method) {
-        Ok(true) => Ok(pivots),
-        Ok(false) => Err(SimplexFault::PivotLimit),
-        Err(_) => Err(SimplexFault::Overflow { pivots }),
+    match first_entering(method) {
+        Ok(None) => Ok(()),
+        Ok(Some(_)) => Err(SimplexFault::PivotLimit),
+        Err(_) => Err(overflow(method)),
     }
 }
 
-/// The quorums' weights: the right side of the row that is solved for a quorum, and else 0.
-fn quorum_weights(
-    alloc: Global,
-    tableau: &Tableau,
-    quorums: usize,
-    zero: Frac,
-) -> Result<Vec<Frac>, SimplexFault>
-    ensures { IfOk result (λ v. vec_len v ≡ quorums) }
+/// Returns a weight as a whole number of the unit of all entries, where it is one of 64 bits that is not negative.
+fn weight_of(number: i128) -> Option<u64> {
+    u64::try_from(number).ok()
+}
+
+/// Returns the quorums' weights: the right side of the row that is solved for a quorum, and else 0.
+fn quorum_weights(alloc: Global, method: &Method, quorums: usize) -> Result<Vec<u64>, SimplexFault>
+    ensures length { IfOk result (λ v. vec_len v ≡ quorums) }
+    ensures refused { IfErr result (NamesAtMost method.now.made) }
 {
-    let mut weights = vec![in alloc; zero; quorums]?;
-    for row in 0..tableau.voters() {
-        let column = tableau.basis(row);
+    let mut weights = vec![in alloc; 0u64; quorums]?;
+    for row in 0..method.tableau().voters() {
+        let column = method.basis(row);
         if column < weights.len() {
-            weights[column] = tableau.right_side(row);
+            let Some(weight) = weight_of(method.tableau().right_side(row)) else {
+                return Err(overflow(method));
+            };
+            weights[column] = weight;
         }
     }
     Ok(weights)
 }
 
-/// The voters' weights: the slacks' improvements, with the other sign.
-fn voter_weights(
-    alloc: Global,
-    tableau: &Tableau,
-    zero: Frac,
-    pivots: u32,
-) -> Result<Vec<Frac>, SimplexFault>
-    ensures { IfOk result (λ v. vec_len v ≡ tableau.now.voters) }
+/// Returns the voters' weights: the slacks' prices, with the other sign.
+fn voter_weights(alloc: Global, method: &Method) -> Result<Vec<u64>, SimplexFault>
+    ensures length { IfOk result (λ v. vec_len v ≡ method.now.coterie.now.voters) }
+    ensures refused { IfErr result (NamesAtMost method.now.made) }
 {
-    let mut weights = Vec::with_capacity(alloc, tableau.voters())?;
-    for voter in 0..tableau.voters() {
-        let Ok(weight) = zero.sub(tableau.cell(tableau.voters(), voter)) else {
-            return Err(SimplexFault::Overflow { pivots });
+    let mut weights = Vec::with_capacity(alloc, method.tableau().voters())?;
+    for voter in 0..method.tableau().voters() {
+        let Some(weight) = weight_of(method.tableau().slack_price(voter).saturating_neg()) else {
+            return Err(overflow(method));
         };
         weights.push(weight)?;
     }
     Ok(weights)
 }
 
-/// The least common denominator of the weights.
-fn common_denominator(weights: &[Frac]) -> Result<i128, FracFault> {
-    let mut common = 1i128;
-    for weight in weights {
-        common = with_denominator(common, *weight)?;
-    }
-    Ok(common)
-}
-
-/// A weight in units of which `common` make 1, where it is a whole number that fits.
-fn weight_in(weight: Frac, common: i128) -> Option<u64> {
-    match units(weight, common) {
-        Ok(number) => u64::try_from(number).ok(),
-        Err(_) => None,
-    }
-}
-
-/// The weights as whole numbers in the same ratios.
-fn scaled(alloc: Global, weights: &[Frac], pivots: u32) -> Result<Vec<u64>, SimplexFault>
-    ensures { IfOk result (λ v. vec_len v ≡ length weights.now) }
-{
-    let Ok(common) = common_denominator(weights) else {
-        return Err(SimplexFault::Overflow { pivots });
-    };
-    let mut numbers = Vec::with_capacity(alloc, weights.len())?;
-    for weight in weights {
-        let Some(number) = weight_in(*weight, common) else {
-            return Err(SimplexFault::Overflow { pivots });
-        };
-        numbers.push(number)?;
-    }
-    Ok(numbers)
-}
-
-/// A candidate by at most so many pivots, by Dantzig's rule: one number for each quorum and one for each voter.
+/// Returns a candidate by at most `pivots` pivots, by Dantzig's rule: one number for each quorum and one for each voter.
 ///
-/// Refused by `Overflow` where a number does not fit, by `PivotLimit` where more pivots are needed, by `NoRow` where
-/// no row limits a column, and for want of memory.
+/// Fails with `Overflow` if a number does not fit, with `PivotLimit` if more pivots are needed, with `NoRow` if no row
+/// limits a column, and with `OutOfMemory`. The number that `Overflow` names is at most `pivots` too.
 pub fn solve(alloc: Global, coterie: &Coterie, pivots: u32) -> Result<Candidate, SimplexFault>
     ensures quorums { IfOk result (λ c. vec_len c.quorum_weights ≡ length coterie.now.quorums) }
     ensures voters { IfOk result (λ c. vec_len c.voter_weights ≡ coterie.now.voters) }
     ensures limit { IfOk result (λ c. c.pivots ≤ pivots) }
+    ensures refused { IfErr result (NamesAtMost pivots) }
 {
     solve_by(alloc, coterie, Rule::Dantzig, pivots)
 }
 
-/// A candidate by a rule of choice; else as `solve`. After 2n pivots in a row that left the solution where it was, for n
-/// voters, Bland's rule chooses, until a pivot improves the solution.
+/// Returns a candidate by a rule of choice; else as `solve`. After 2n pivots in a row that left the solution where it was,
+/// for n voters, Bland's rule chooses, until a pivot improves the solution.
 pub fn solve_by(
     alloc: Global,
     coterie: &Coterie,
@@ -184,17 +155,16 @@ pub fn solve_by(
     ensures quorums { IfOk result (λ c. vec_len c.quorum_weights ≡ length coterie.now.quorums) }
     ensures voters { IfOk result (λ c. vec_len c.voter_weights ≡ coterie.now.voters) }
     ensures limit { IfOk result (λ c. c.pivots ≤ pivots) }
+    ensures refused { IfErr result (NamesAtMost pivots) }
 {
-    let Ok(zero) = Frac::of(0, 1) else {
-        return Err(SimplexFault::Overflow { pivots: 0 });
-    };
     let mut method = Method::of(alloc, coterie)?;
-    let made = improve(&mut method, rule, pivots)?;
-    let quorum_weights = quorum_weights(alloc, method.tableau(), coterie.count(), zero)?;
-    let voter_weights = voter_weights(alloc, method.tableau(), zero, made)?;
+    improve(&mut method, rule, pivots)?;
+    let quorum_weights = quorum_weights(alloc, &method, coterie.count())?;
+    let voter_weights = voter_weights(alloc, &method)?;
+    let made = method.made();
     Ok(Candidate {
-        quorum_weights: scaled(alloc, &quorum_weights, made)?,
-        voter_weights: scaled(alloc, &voter_weights, made)?,
+        quorum_weights,
+        voter_weights,
         pivots: made,
     })
 }

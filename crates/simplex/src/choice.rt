@@ -1,17 +1,20 @@
 //! Which column enters the basis.
 ghost use Rattle.std.specs.Prelude.{◌≡◌, ◌+◌, ◌<◌, length, IfOk, IfSome};
 
-use crate::method::Method;
-use fraction::{Frac, FracFault};
-use std::cmp::Ordering;
+use crate::method::{Method, product};
+use fraction::FracFault;
+
+/// How many improving columns a search by `Rule::LeastPivot` looks at.
+const LOOKS: usize = 64;
 
 /// How the entering column is chosen among those that improve the solution. On ties the lowest column enters.
 #[derive(Clone, Copy, Debug, PartialEq, Eq)]
 pub enum Rule {
     /// The column of which a unit improves the solution most.
     Dantzig,
-    /// Columns that improve the solution at this pivot before those that don't; of these, the one whose pivot
-    /// entry is least; and then the greatest improvement by this pivot. The numbers stay smaller.
+    /// Of the next 64 columns that improve the solution, in order of their numbers from where the last search stopped and
+    /// round again: columns that improve the solution at this pivot before those that don't; of these, the one whose
+    /// pivot entry is least; and then the greatest improvement by this pivot. The numbers stay smaller.
     LeastPivot,
 }
 
@@ -20,28 +23,34 @@ pub enum Rule {
 struct Choice {
     column: usize,
     /// The entry of the row that it takes.
-    entry: Frac,
-    /// By how much the pivot improves the solution.
-    improvement: Frac,
+    entry: i128,
+    /// Its price times the right side of that row: for equal entries, in the order of the improvements by the pivot.
+    gain: i128,
 }
 
-/// Whether a column enters before another.
-fn enters(choice: &Choice, best: &Option<Choice>) -> Result<bool, FracFault> {
+/// A search by `Rule::LeastPivot`.
+#[derive(Clone, Copy)]
+struct Search {
+    best: Option<Choice>,
+    /// How many improving columns it may still look at.
+    looks: usize,
+    /// The column with which the next search begins.
+    stop: usize,
+}
+
+/// Returns whether a column enters before another.
+fn enters(choice: &Choice, best: &Option<Choice>) -> bool {
     let Some(best) = best else {
-        return Ok(true);
+        return true;
     };
-    let improves = choice.improvement.num() > 0;
-    if improves != (best.improvement.num() > 0) {
-        return Ok(improves);
+    let improves = choice.gain > 0;
+    if improves != (best.gain > 0) {
+        return improves;
     }
-    Ok(match choice.entry.compare(best.entry)? {
-        Ordering::Less => true,
-        Ordering::Equal => choice.improvement.compare(best.improvement)? == Ordering::Greater,
-        Ordering::Greater => false,
-    })
+    choice.entry < best.entry || (choice.entry == best.entry && choice.gain > best.gain)
 }
 
-/// The lowest column that improves the solution (Bland's rule).
+/// Returns the lowest column that improves the solution (Bland's rule).
 pub(crate) fn first_entering(method: &Method) -> Result<Option<usize>, FracFault>
     ensures { IfOk result (λ o. IfSome o (λ j. j < length method.now.coterie.now.quorums + method.now.coterie.now.voters)) }
 {
@@ -53,7 +62,7 @@ pub(crate) fn first_entering(method: &Method) -> Result<Option<usize>, FracFault
     Ok(None)
 }
 
-/// The column of the greatest improvement by a unit.
+/// Returns the column of the greatest price.
 fn greatest_entering(method: &Method) -> Result<Option<usize>, FracFault>
     ensures { IfOk result (λ o. IfSome o (λ j. j < length method.now.coterie.now.quorums + method.now.coterie.now.voters)) }
 {
@@ -69,49 +78,90 @@ fn greatest_entering(method: &Method) -> Result<Option<usize>, FracFault>
     Ok(best)
 }
 
-/// A column with the row that it takes, where it improves the solution and a row limits it.
-fn choice_of(method: &mut Method, column: usize) -> Result<Option<Choice>, FracFault>
+/// Returns a column of this price with the row that it takes, where a row limits it.
+fn choice_of(method: &mut Method, column: usize, price: i128) -> Result<Option<Choice>, FracFault>
     requires { column < length method.old.coterie.now.quorums + method.old.coterie.now.voters }
     ensures coterie { method.new.coterie ≡ method.old.coterie }
+    ensures made { method.new.made ≡ method.old.made }
     ensures column { IfOk result (λ o. IfSome o (λ e. e.column ≡ column)) }
 {
-    let price = method.price(column)?;
-    if price <= 0 {
-        return Ok(None);
-    }
-    method.read_column(column)?;
+    method.enter(column)?;
     let Some(exit) = method.leaving()? else {
         return Ok(None);
     };
     Ok(Some(Choice {
         column,
         entry: exit.entry,
-        improvement: method.improvement(price, exit.ratio)?,
+        gain: product(price, exit.right)?,
     }))
 }
 
-/// The column of the least pivot entry. A column that no row limits is left out.
+/// Returns the column so many places behind the one with which the search begins, round again at the end.
+fn column_after(method: &Method, places: usize) -> usize
+    requires { places < length method.now.coterie.now.quorums + method.now.coterie.now.voters }
+    ensures { result < length method.now.coterie.now.quorums + method.now.coterie.now.voters }
+{
+    let rest = method.columns() - places;
+    if method.next < rest {
+        method.next + places
+    } else {
+        (method.next - rest) % method.columns()
+    }
+}
+
+/// Looks at a column, where it improves the solution: it is the best one if it enters before the best so far.
+fn look_at(method: &mut Method, search: &mut Search, column: usize) -> Result<(), FracFault>
+    requires column { column < length method.old.coterie.now.quorums + method.old.coterie.now.voters }
+    requires looks { 0 < search.old.looks }
+    requires best { IfSome search.old.best (λ e. e.column < length method.old.coterie.now.quorums + method.old.coterie.now.voters) }
+    ensures coterie { method.new.coterie ≡ method.old.coterie }
+    ensures made { method.new.made ≡ method.old.made }
+    ensures best { IfSome search.new.best (λ e. e.column < length method.old.coterie.now.quorums + method.old.coterie.now.voters) }
+{
+    let price = method.price(column)?;
+    if price <= 0 {
+        return Ok(());
+    }
+    search.looks -= 1;
+    search.stop = column + 1;
+    let Some(choice) = choice_of(method, column, price)? else {
+        return Ok(());
+    };
+    if enters(&choice, &search.best) {
+        search.best = Some(choice);
+    }
+    Ok(())
+}
+
+/// Returns the column of the least pivot entry among the next columns that improve the solution. A column that no row
+/// limits is left out.
 fn least_entering(method: &mut Method) -> Result<Option<usize>, FracFault>
     ensures coterie { method.new.coterie ≡ method.old.coterie }
+    ensures made { method.new.made ≡ method.old.made }
     ensures column { IfOk result (λ o. IfSome o (λ j. j < length method.old.coterie.now.quorums + method.old.coterie.now.voters)) }
 {
-    let mut best: Option<Choice> = None;
-    for column in 0..method.columns() {
-        if let Some(choice) = choice_of(method, column)? {
-            if enters(&choice, &best)? {
-                best = Some(choice);
-            }
+    let mut search = Search {
+        best: None,
+        looks: LOOKS,
+        stop: method.next,
+    };
+    for places in 0..method.columns() {
+        if search.looks > 0 {
+            let column = column_after(method, places);
+            look_at(method, &mut search, column)?;
         }
     }
-    match best {
+    method.next = search.stop;
+    match search.best {
         Some(choice) => Ok(Some(choice.column)),
         None => Ok(None),
     }
 }
 
-/// The column that enters, or none where the solution is the best.
+/// Returns the column that enters, or none where the solution is the best.
 pub(crate) fn entering(method: &mut Method, rule: Rule) -> Result<Option<usize>, FracFault>
     ensures coterie { method.new.coterie ≡ method.old.coterie }
+    ensures made { method.new.made ≡ method.old.made }
     ensures column { IfOk result (λ o. IfSome o (λ j. j < length method.old.coterie.now.quorums + method.old.coterie.now.voters)) }
 {
     match rule {

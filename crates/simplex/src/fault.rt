@@ -17,7 +17,8 @@ pub enum SimplexFault {
     /// More pivots are needed than were allowed.
     #[error("S2 PivotLimit")]
     PivotLimit,
-    /// A column improves the solution without bound: no row limits it.
+    /// A column improves the solution without bound: no row limits it. This can't come from a coterie, since the sum that
+    /// is maximised is at most the number of voters; that is not proved.
     #[error("S3 NoRow")]
     NoRow,
     /// Memory ran out.

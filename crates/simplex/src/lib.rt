@@ -22,11 +22,9 @@ mod candidate;
 mod choice;
 mod fault;
 mod method;
-mod prices;
 mod tableau;
 #[cfg(test)]
 mod tests;
-mod whole;
 
 pub use candidate::{Candidate, solve, solve_by};
 pub use choice::Rule;

@@ -1,14 +1,11 @@
 //! The state of the simplex method between two pivots.
-ghost use Rattle.std.specs.Prelude.{◌≡◌, ◌+◌, ◌<◌, ◌≤◌, length, vec_len, IfErr, IfOk, IfSome};
+ghost use Rattle.std.specs.Prelude.{◌≡◌, ◌+◌, ◌<◌, ◌≤◌, ◌^◌, length, vec_len, IfOk, IfErr, IfSome, OnOk, OnErr};
 ghost use Rattle.std.specs.List.{All};
 
-use crate::fault::SimplexFault;
-use crate::prices::Prices;
 use crate::tableau::Tableau;
-use arrayvec::ArrayVec;
-use fraction::{Frac, FracFault};
+use fraction::FracFault;
 use quorum_set::Coterie;
-use std::alloc::Global;
+use std::alloc::{AllocError, Global};
 use std::cmp::Ordering;
 
 /// The row that a column takes.
@@ -19,70 +16,134 @@ pub(crate) struct Exit {
     /// The column that the row is solved for.
     basis: usize,
     /// The row's entry in the column.
-    pub(crate) entry: Frac,
-    /// The row's right side over its entry in the column.
-    pub(crate) ratio: Frac,
+    pub(crate) entry: i128,
+    /// The row's right side.
+    pub(crate) right: i128,
 }
 
-/// A tableau with what is reckoned from it before a pivot. Columns are numbered: first the quorums', then the slacks'.
+/// A tableau with what its columns are sums of. Columns are numbered: first the quorums', then the slacks'.
 #[derive(Drop)]
 pub(crate) struct Method<'a> {
     coterie: &'a Coterie,
+    /// For each column, the columns of the tableau that it is the sum of.
+    columns: Vec<Vec<usize>>,
     tableau: Tableau,
-    prices: Prices,
-    /// The entries of one column, the objective's last.
-    entries: Vec<Frac>,
+    /// The column that each voter's row is solved for: a quorum's number, or behind the quorums a voter's slack.
+    basis: Vec<usize>,
+    /// The column with which the next search by partial pricing begins.
+    pub(crate) next: usize,
+    /// How many pivots were made.
+    made: u32,
     ghost voters: { tableau.voters ≡ coterie.now.voters },
-    ghost priced: { vec_len prices.slacks ≡ coterie.now.voters },
-    ghost entered: { vec_len entries ≡ coterie.now.voters + 1 },
+    ghost listed: { vec_len columns ≡ length coterie.now.quorums + coterie.now.voters },
+    ghost in_range: { All (λ list. All (λ j. j < coterie.now.voters + 3) list.items) columns.items },
+    ghost based: { vec_len basis ≡ coterie.now.voters },
 }
 
-/// Whether a row gives way before another: by the lesser ratio, and then by the lesser basis column.
+/// Returns the product, or `Overflow` where it does not fit.
+pub(crate) fn product(a: i128, b: i128) -> Result<i128, FracFault> {
+    match a.checked_mul(b) {
+        Some(product) => Ok(product),
+        None => Err(FracFault::Overflow),
+    }
+}
+
+/// Returns whether a row gives way before another: by the smaller ratio of its right side to its entry, and then by the
+/// smaller basis column. Entries are positive.
 fn gives_way(exit: &Exit, best: &Option<Exit>) -> Result<bool, FracFault> {
     let Some(best) = best else {
         return Ok(true);
     };
-    Ok(match exit.ratio.compare(best.ratio)? {
+    let own = product(exit.right, best.entry)?;
+    Ok(match own.cmp(&product(best.right, exit.entry)?) {
         Ordering::Less => true,
         Ordering::Equal => exit.basis < best.basis,
         Ordering::Greater => false,
     })
 }
 
-/// The sum of a row's entries in the columns of these voters' slacks.
-fn sum_of(tableau: &Tableau, row: usize, members: &[u8]) -> Result<Frac, FracFault>
-    requires row { row ≤ tableau.now.voters }
-    requires members { All (λ i. i < tableau.now.voters) members.now }
+/// Returns the columns of the members' slacks and of the unit.
+fn summands(alloc: Global, members: &[u8], voters: usize) -> Result<Vec<usize>, AllocError>
+    requires members { All (λ i. i < voters) members.now }
+    requires voters { voters ≤ 64 }
+    ensures { IfOk result (λ v. All (λ j. j < voters + 3) v.items) }
 {
-    let mut sum = Frac::of(0, 1)?;
+    let mut columns = Vec::with_capacity(alloc, members.len() + 1)?;
+    columns.push(voters + 1)?;
     for voter in members {
-        let cell = tableau.cell(row, usize::from(*voter));
-        if cell.num() != 0 {
-            sum = sum.add(cell)?;
-        }
+        columns.push(usize::from(*voter))?;
     }
-    Ok(sum)
+    Ok(columns)
+}
+
+/// Returns the summands of each quorum's column.
+fn quorum_summands(alloc: Global, coterie: &Coterie) -> Result<Vec<Vec<usize>>, AllocError>
+    ensures count { IfOk result (λ v. vec_len v ≡ length coterie.now.quorums) }
+    ensures in_range { IfOk result (λ v. All (λ list. All (λ j. j < coterie.now.voters + 3) list.items) v.items) }
+{
+    let mut columns = Vec::with_capacity(alloc, coterie.count() + coterie.voters())?;
+    for quorum in 0..coterie.count() {
+        let members = coterie.quorum(quorum).members();
+        columns.push(summands(alloc, members.as_slice(), coterie.voters())?)?;
+    }
+    Ok(columns)
+}
+
+/// Returns the column of a slack alone.
+fn only(alloc: Global, voter: usize, voters: usize) -> Result<Vec<usize>, AllocError>
+    requires { voter < voters }
+    ensures { IfOk result (λ v. All (λ j. j < voters + 3) v.items) }
+{
+    let mut columns = Vec::with_capacity(alloc, 1)?;
+    columns.push(voter)?;
+    Ok(columns)
+}
+
+/// Returns the summands of all columns.
+fn all_summands(alloc: Global, coterie: &Coterie) -> Result<Vec<Vec<usize>>, AllocError>
+    ensures count { IfOk result (λ v. vec_len v ≡ length coterie.now.quorums + coterie.now.voters) }
+    ensures in_range { IfOk result (λ v. All (λ list. All (λ j. j < coterie.now.voters + 3) list.items) v.items) }
+{
+    let mut columns = quorum_summands(alloc, coterie)?;
+    for voter in 0..coterie.voters() {
+        columns.push(only(alloc, voter, coterie.voters())?)?;
+    }
+    Ok(columns)
+}
+
+/// Returns the numbers of the slacks' columns.
+fn slacks(alloc: Global, quorums: usize, voters: usize) -> Result<Vec<usize>, AllocError>
+    requires voters { voters ≤ 64 }
+    requires quorums { quorums ≤ 4096 }
+    ensures { IfOk result (λ v. vec_len v ≡ voters) }
+{
+    let mut columns = Vec::with_capacity(alloc, voters)?;
+    for voter in 0..voters {
+        columns.push(quorums + voter)?;
+    }
+    Ok(columns)
 }
 
 impl<'a> Method<'a> {
-    /// The method before the first pivot.
-    pub(crate) fn of(alloc: Global, coterie: &'a Coterie) -> Result<Method<'a>, SimplexFault>
-        ensures { IfOk result (λ m. m.coterie.now ≡ coterie.now) }
+    /// Returns the method before the first pivot.
+    pub(crate) fn of(alloc: Global, coterie: &'a Coterie) -> Result<Method<'a>, AllocError>
+        ensures coterie { IfOk result (λ m. m.coterie.now ≡ coterie.now) }
+        ensures none { IfOk result (λ m. m.made ≡ 0) }
     {
-        let Ok(zero) = Frac::of(0, 1) else {
-            return Err(SimplexFault::Overflow { pivots: 0 });
-        };
-        let tableau = Tableau::of(alloc, coterie)?;
-        let prices = Prices::of(alloc, coterie.voters())?;
-        let entries = vec![in alloc; zero; coterie.voters() + 1]?;
+        let columns = all_summands(alloc, coterie)?;
+        let tableau = Tableau::of(alloc, coterie.voters())?;
+        let basis = slacks(alloc, coterie.count(), coterie.voters())?;
         Ok(Method {
             coterie,
+            columns,
             tableau,
-            prices,
-            entries,
+            basis,
+            next: 0,
+            made: 0,
         })
     }
 
+    /// Returns the tableau.
     pub(crate) fn tableau(&self) -> &Tableau
         ensures value { result.now ≡ self.now.tableau }
         ensures voters { result.now.voters ≡ self.now.coterie.now.voters }
@@ -90,97 +151,57 @@ impl<'a> Method<'a> {
         &self.tableau
     }
 
-    /// The number of columns.
+    /// Returns how many pivots were made.
+    pub(crate) fn made(&self) -> u32
+        ensures { result ≡ self.now.made }
+    {
+        self.made
+    }
+
+    /// Returns the number of columns.
     pub(crate) fn columns(&self) -> usize
         ensures { result ≡ length self.now.coterie.now.quorums + self.now.coterie.now.voters }
     {
         self.coterie.count() + self.coterie.voters()
     }
 
-    /// The members of a quorum.
-    fn members(&self, quorum: usize) -> ArrayVec<u8, 64>
-        requires { quorum < length self.now.coterie.now.quorums }
-        ensures { All (λ i. i < self.now.coterie.now.voters) result.items }
+    /// Returns the column that a voter's row is solved for.
+    pub(crate) fn basis(&self, row: usize) -> usize
+        requires { row < self.now.coterie.now.voters }
     {
-        self.coterie.quorum(quorum).members()
+        self.basis[row]
     }
 
-    /// Reads the prices for the next pivot.
-    pub(crate) fn read_prices(&mut self) -> Result<(), FracFault>
-        ensures { self.new.coterie ≡ self.old.coterie }
-    {
-        self.prices.read(&self.tableau)
-    }
-
-    /// The improvement by a unit of a column, in the unit of all prices.
+    /// Returns the price of a column: by how much a unit of it improves the solution.
     pub(crate) fn price(&self, column: usize) -> Result<i128, FracFault>
         requires { column < length self.now.coterie.now.quorums + self.now.coterie.now.voters }
     {
-        let quorums = self.coterie.count();
-        if column < quorums {
-            self.prices.of_quorum(self.members(column).as_slice())
-        } else {
-            Ok(self.prices.of_slack(column - quorums))
-        }
+        self.tableau.price(self.columns[column].as_slice())
     }
 
-    /// The improvement by so many units of a column of this price.
-    pub(crate) fn improvement(&self, price: i128, units: Frac) -> Result<Frac, FracFault> {
-        self.prices.as_fraction(price)?.mul(units)
-    }
-
-    /// Reads the entries of a column.
-    pub(crate) fn read_column(&mut self, column: usize) -> Result<(), FracFault>
+    /// Has a column enter.
+    pub(crate) fn enter(&mut self, column: usize) -> Result<(), FracFault>
         requires { column < length self.old.coterie.now.quorums + self.old.coterie.now.voters }
-        ensures { self.new.coterie ≡ self.old.coterie }
+        ensures coterie { self.new.coterie ≡ self.old.coterie }
+        ensures made { self.new.made ≡ self.old.made }
     {
-        let quorums = self.coterie.count();
-        if column < quorums {
-            self.read_quorum(column)
-        } else {
-            self.read_slack(column - quorums);
-            Ok(())
-        }
+        self.tableau.enter(self.columns[column].as_slice())
     }
 
-    /// Reads the entries of a voter's slack.
-    fn read_slack(&mut self, voter: usize)
-        requires { voter < self.old.coterie.now.voters }
-        ensures { self.new.coterie ≡ self.old.coterie }
-    {
-        for row in 0..self.entries.len() {
-            self.entries[row] = self.tableau.cell(row, voter);
-        }
-    }
-
-    /// Reads the entries of a quorum.
-    fn read_quorum(&mut self, quorum: usize) -> Result<(), FracFault>
-        requires { quorum < length self.old.coterie.now.quorums }
-        ensures { self.new.coterie ≡ self.old.coterie }
-    {
-        let members = self.members(quorum);
-        for row in 0..self.entries.len() {
-            self.entries[row] = sum_of(&self.tableau, row, members.as_slice())?;
-        }
-        let last = self.coterie.voters();
-        self.entries[last] = self.entries[last].add(Frac::of(1, 1)?)?;
-        Ok(())
-    }
-
-    /// The row that limits the column that was read, if any does: of those with a positive entry the one with the least
-    /// ratio of the right side to the entry, and on ties the one solved for the lowest column.
+    /// Returns the row that limits the column that enters, if any does: of those with a positive entry the one with the
+    /// smallest ratio of the right side to the entry, and on ties the one solved for the lowest column.
     pub(crate) fn leaving(&self) -> Result<Option<Exit>, FracFault>
         ensures { IfOk result (λ o. IfSome o (λ e. e.row < self.now.coterie.now.voters)) }
     {
         let mut best: Option<Exit> = None;
         for row in 0..self.tableau.voters() {
-            let entry = self.entries[row];
-            if entry.num() > 0 {
+            let entry = self.tableau.entering(row);
+            if entry > 0 {
                 let exit = Exit {
                     row,
-                    basis: self.tableau.basis(row),
+                    basis: self.basis[row],
                     entry,
-                    ratio: self.tableau.right_side(row).div(entry)?,
+                    right: self.tableau.right_side(row),
                 };
                 if gives_way(&exit, &best)? {
                     best = Some(exit);
@@ -190,11 +211,17 @@ impl<'a> Method<'a> {
         Ok(best)
     }
 
-    /// Solves a row for the column that was read.
+    /// Solves a row for the column that enters, whose number is given.
     pub(crate) fn pivot(&mut self, row: usize, column: usize) -> Result<(), FracFault>
-        requires { row < self.old.coterie.now.voters }
-        ensures { self.new.coterie ≡ self.old.coterie }
+        requires row { row < self.old.coterie.now.voters }
+        requires made { self.old.made + 1 < 2 ^ 32 }
+        ensures coterie { self.new.coterie ≡ self.old.coterie }
+        ensures counted { OnOk result (self.new.made ≡ self.old.made + 1) }
+        ensures same { OnErr result (self.new.made ≡ self.old.made) }
     {
-        self.tableau.pivot(row, column, self.entries.as_slice())
+        self.tableau.pivot(row)?;
+        self.basis[row] = column;
+        self.made += 1;
+        Ok(())
     }
 }

@@ -1,63 +1,75 @@
 //! The tableau of the revised simplex method.
-ghost use Rattle.std.specs.Prelude.{◌≡◌, ◌+◌, ◌*◌, ◌<◌, ◌≤◌, length, vec_len, IfOk};
+ghost use Rattle.std.specs.Prelude.{◌≡◌, ◌+◌, ◌<◌, ◌≤◌, ℕ, pos, ◌<ℤ◌, length, vec_len, IfOk};
+ghost use Rattle.std.specs.List.{All};
+ghost use Rattle.fraction.specs.Tables.{row_of, entry_at};
+ghost use Rattle.simplex.specs.Starts.{IsStartRow, AreStartRows};
 
-use crate::fault::SimplexFault;
-use fraction::{Frac, FracFault};
-use quorum_set::Coterie;
+use fraction::{FracFault, Shared};
 use std::alloc::{AllocError, Global};
 
-/// A row for each voter and one for the objective; a column for each voter's slack, and the right side. A voter's row
-/// says that the quorums with the voter and the slack sum to the right side. The objective's row has each slack's
-/// improvement: by how much the sum of all quorums grows for each unit of it.
+/// A row for each voter and one for the objective, over one denominator. The columns are a slack for each voter, the right
+/// side, the unit, and the column that enters. A voter's row says that the quorums with the voter and the slack sum to the
+/// right side. The objective's row has the prices: by how much the sum of all quorums grows for each unit of a column.
 ///
-/// The columns of the quorums are not kept: a quorum's entry in a voter's row is the sum of its members' slacks there, and
-/// in the objective's row it is 1 more than that sum.
+/// The columns of the quorums are not kept. The unit is 1 in the objective's row and 0 in the others, before each pivot and
+/// after it, so a quorum's column is the sum of its members' slacks and of the unit.
 #[derive(Drop)]
 pub(crate) struct Tableau {
     voters: usize,
-    /// The cells, row by row.
-    cells: Vec<Frac>,
-    /// The column that each voter's row is solved for: a quorum's number, or behind the quorums a voter's slack.
-    basis: Vec<usize>,
+    cells: Shared,
     ghost few_voters: { voters ≤ 64 },
-    ghost sized: { vec_len cells ≡ (voters + 1) * (voters + 1) },
-    ghost based: { vec_len basis ≡ voters },
+    ghost rows: { length cells.rows ≡ voters + 1 },
+    ghost columns: { (i : ℕ) → i < voters + 1 → length (row_of cells i) ≡ voters + 3 },
 }
 
-/// The slacks' columns.
-fn slacks(alloc: Global, quorums: usize, voters: usize) -> Result<Vec<usize>, AllocError>
-    requires voters { voters ≤ 64 }
-    requires quorums { quorums ≤ 4096 }
-    ensures { IfOk result (λ v. vec_len v ≡ voters) }
+/// Returns a row of zeros with a one in two columns.
+fn row_with(
+    alloc: Global,
+    columns: usize,
+    first: usize,
+    second: usize,
+) -> Result<Vec<i128>, AllocError>
+    ensures { IfOk result (λ v. IsStartRow columns v.items) }
 {
-    let mut columns = Vec::with_capacity(alloc, voters)?;
-    for voter in 0..voters {
-        columns.push(quorums + voter)?;
+    let mut row = Vec::with_capacity(alloc, columns)?;
+    for column in 0..columns {
+        let is_one = column == first || column == second;
+        row.push(if is_one { 1i128 } else { 0 })?;
     }
-    Ok(columns)
+    Ok(row)
+}
+
+/// Returns the rows before the first pivot: no quorum is used, and each voter's slack is 1.
+fn start_rows(alloc: Global, voters: usize) -> Result<Vec<Vec<i128>>, AllocError>
+    requires { voters ≤ 64 }
+    ensures { IfOk result (λ v. AreStartRows (voters + 1) (voters + 3) v.items) }
+{
+    let mut rows = Vec::with_capacity(alloc, voters + 1)?;
+    for row in 0..voters + 1 {
+        let (first, second) = if row < voters {
+            (row, voters)
+        } else {
+            (voters + 1, voters + 1)
+        };
+        rows.push(row_with(alloc, voters + 3, first, second)?)?;
+    }
+    Ok(rows)
 }
 
 impl Tableau {
-    /// A tableau of zeros, solved for the slacks.
-    fn blank(
-        alloc: Global,
-        voters: usize,
-        quorums: usize,
-        zero: Frac,
-    ) -> Result<Tableau, AllocError>
-        requires voters { voters ≤ 64 }
-        requires quorums { quorums ≤ 4096 }
-        ensures voters { IfOk result (λ t. t.voters ≡ voters) }
+    /// Returns the tableau before the first pivot.
+    pub(crate) fn of(alloc: Global, voters: usize) -> Result<Tableau, AllocError>
+        requires { voters ≤ 64 }
+        ensures { IfOk result (λ t. t.voters ≡ voters) }
     {
-        let cells = vec![in alloc; zero; (voters + 1) * (voters + 1)]?;
-        let basis = slacks(alloc, quorums, voters)?;
+        let rows = start_rows(alloc, voters)?;
         Ok(Tableau {
             voters,
-            cells,
-            basis,
+            cells: Shared::of(rows, 1),
         })
     }
 
+    /// Returns the number of voters.
     pub(crate) fn voters(&self) -> usize
         ensures value { result ≡ self.now.voters }
         ensures few { result ≤ 64 }
@@ -65,113 +77,51 @@ impl Tableau {
         self.voters
     }
 
-    /// The place of a cell.
-    fn place(&self, row: usize, slack: usize) -> usize
-        requires row { row ≤ self.now.voters }
-        requires slack { slack ≤ self.now.voters }
-        ensures { result < vec_len self.now.cells }
-    {
-        row * (self.voters + 1) + slack
-    }
-
-    /// A row's entry in the column of a voter's slack.
-    pub(crate) fn cell(&self, row: usize, slack: usize) -> Frac
-        requires row { row ≤ self.now.voters }
-        requires slack { slack ≤ self.now.voters }
-    {
-        self.cells[self.place(row, slack)]
-    }
-
-    /// The right side of a row.
-    pub(crate) fn right_side(&self, row: usize) -> Frac
+    /// Returns the right side of a row, in units of which the denominator makes 1, as do all entries.
+    pub(crate) fn right_side(&self, row: usize) -> i128
         requires { row ≤ self.now.voters }
     {
-        self.cell(row, self.voters)
+        self.cells.entry(row, self.voters)
     }
 
-    fn set_cell(&mut self, row: usize, slack: usize, value: Frac)
-        requires row { row ≤ self.old.voters }
-        requires slack { slack ≤ self.old.voters }
+    /// Returns a row's entry in the column that enters.
+    pub(crate) fn entering(&self, row: usize) -> i128
+        requires { row ≤ self.now.voters }
+        ensures { result ≡ entry_at self.now.cells row (self.now.voters + 2) }
+    {
+        self.cells.entry(row, self.voters + 2)
+    }
+
+    /// Returns the price of a voter's slack.
+    pub(crate) fn slack_price(&self, voter: usize) -> i128
+        requires { voter < self.now.voters }
+    {
+        self.cells.entry(self.voters, voter)
+    }
+
+    /// Returns the price of the sum of some columns.
+    pub(crate) fn price(&self, columns: &[usize]) -> Result<i128, FracFault>
+        requires { All (λ j. j < self.now.voters + 3) columns.now }
+    {
+        self.cells.sum(self.voters, columns)
+    }
+
+    /// Has the sum of some columns enter.
+    pub(crate) fn enter(&mut self, columns: &[usize]) -> Result<(), FracFault>
+        requires { All (λ j. j < self.old.voters + 3) columns.now }
         ensures { self.new.voters ≡ self.old.voters }
     {
-        let place = self.place(row, slack);
-        self.cells[place] = value;
+        self.cells.sum_columns(columns, self.voters + 2)
     }
 
-    /// The column that a voter's row is solved for.
-    pub(crate) fn basis(&self, row: usize) -> usize
-        requires { row < self.now.voters }
-    {
-        self.basis[row]
-    }
-
-    /// The tableau of a coterie before the first pivot: no quorum is used, and each voter's slack is 1.
-    pub(crate) fn of(alloc: Global, coterie: &Coterie) -> Result<Tableau, SimplexFault>
-        ensures { IfOk result (λ t. t.voters ≡ coterie.now.voters) }
-    {
-        let (Ok(zero), Ok(one)) = (Frac::of(0, 1), Frac::of(1, 1)) else {
-            return Err(SimplexFault::Overflow { pivots: 0 });
-        };
-        let mut tableau = Tableau::blank(alloc, coterie.voters(), coterie.count(), zero)?;
-        for voter in 0..coterie.voters() {
-            tableau.set_cell(voter, voter, one);
-            tableau.set_cell(voter, coterie.voters(), one);
-        }
-        Ok(tableau)
-    }
-
-    /// Divides a row by its entry in the column that enters.
-    fn divide(&mut self, row: usize, entry: Frac) -> Result<(), FracFault>
+    /// Solves a voter's row for the column that enters. Its entry there has to be positive, or this fails with `Overflow`.
+    pub(crate) fn pivot(&mut self, row: usize) -> Result<(), FracFault>
         requires { row < self.old.voters }
         ensures { self.new.voters ≡ self.old.voters }
     {
-        for place in 0..self.voters + 1 {
-            let cell = self.cell(row, place);
-            if cell.num() != 0 {
-                self.set_cell(row, place, cell.div(entry)?);
-            }
+        if self.entering(row) <= 0 {
+            return Err(FracFault::Overflow);
         }
-        Ok(())
-    }
-
-    /// Takes the pivot's row from another so often that the other has 0 in the column that enters.
-    fn eliminate(&mut self, row: usize, pivot_row: usize, factor: Frac) -> Result<(), FracFault>
-        requires row { row ≤ self.old.voters }
-        requires pivot_row { pivot_row < self.old.voters }
-        ensures { self.new.voters ≡ self.old.voters }
-    {
-        if factor.num() == 0 {
-            return Ok(());
-        }
-        for place in 0..self.voters + 1 {
-            let above = self.cell(pivot_row, place);
-            if above.num() != 0 {
-                let cell = self.cell(row, place).sub(factor.mul(above)?)?;
-                self.set_cell(row, place, cell);
-            }
-        }
-        Ok(())
-    }
-
-    /// Solves a voter's row for a column with these entries, the objective's last, and the other rows with it. After
-    /// an overflow the tableau is good for nothing.
-    pub(crate) fn pivot(
-        &mut self,
-        row: usize,
-        column: usize,
-        entries: &[Frac],
-    ) -> Result<(), FracFault>
-        requires row { row < self.old.voters }
-        requires entries { length entries.now ≡ self.old.voters + 1 }
-        ensures { self.new.voters ≡ self.old.voters }
-    {
-        self.divide(row, entries[row])?;
-        for (other, factor) in entries.iter().enumerate() {
-            if other != row {
-                self.eliminate(other, row, *factor)?;
-            }
-        }
-        self.basis[row] = column;
-        Ok(())
+        self.cells.pivot(row, self.voters + 2)
     }
 }

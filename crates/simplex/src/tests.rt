@@ -1,4 +1,6 @@
 use super::*;
+use crate::method::Method;
+use fraction::FracFault;
 use quorum_set::{Coterie, QSet};
 use std::alloc::{AllocError, Global};
 use std::test::Fail;
@@ -47,5 +49,24 @@ fn the_wheel_is_solved(rt: HostRuntime) -> Result<(), Fail> {
         shown(alloc, solve_by(alloc, &wheel, Rule::LeastPivot, 10_000))?.as_str(),
         "[1, 1, 1, 2] [2, 1, 1, 1]"
     );
+    Ok(())
+}
+
+#[test]
+fn a_column_without_positive_entries_takes_no_row(rt: HostRuntime) -> Result<(), Fail> {
+    let alloc = rt.alloc();
+    let wheel = wheel(alloc)?;
+    // Before a column enters, its entries are all 0.
+    let mut method = Method::of(alloc, &wheel)?;
+    assert!(rt; matches!(&method.leaving(), Ok(None)));
+    if 0 < method.tableau().voters() {
+        assert_eq!(rt; method.pivot(0, 0), Err(FracFault::Overflow));
+    }
+    assert_eq!(rt; method.made(), 0);
+    assert_eq!(rt; SimplexFault::NoRow.to_string(alloc)?.as_str(), "S3 NoRow");
+    let overflow = SimplexFault::Overflow {
+        pivots: method.made(),
+    };
+    assert_eq!(rt; overflow.to_string(alloc)?.as_str(), "S1 Overflow");
     Ok(())
 }

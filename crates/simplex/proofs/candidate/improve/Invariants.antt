@@ -1,5 +1,5 @@
-use Rattle.std.proofs.Common.{◌≡◌}
+use Rattle.std.proofs.Common.{◌≡◌, ◌≤◌}
 use Rattle.simplex.proofs.candidate.improve.Given as goal
 
-abbrev pub invariant-loop-made : goal.invariant-loop-made
-invariant-loop-made l = l.method.coterie ≡ l.initial.method.coterie
+abbrev pub invariant-loop-step : goal.invariant-loop-step
+invariant-loop-step l = (l.method.coterie ≡ l.initial.method.coterie) × (l.method.made ≤ l.step)

@@ -1,0 +1,84 @@
+-- Lemmas on one row of a table, and on the numbers that are formed of it.
+use Rattle.std.proofs.Common.{◌≡◌, ◌≢◌, ℕ, ◌+◌, ◌*◌, ◌/◌, ◌<◌, ◌≤◌, ◌^◌, Bool, true, false, not, ℤ, pos, negsuc, ◌-ℤ◌, ◌*ℤ◌, unsigned_abs, to_z, of_z, List, length, get_or, refl, sym, subst, ap, ◌∙◌, arith, below_more, get_or-set_same, get_or-set_other}
+use Rattle.std.proofs.Math.ListN.{set}
+use Rattle.std.specs.Prelude.{FitsSigned}
+use Rattle.std.specs.Int.{w128, ◌∣◌, IsGcd}
+use Rattle.std.specs.Int.Signed.{le_z}
+use Rattle.std.proofs.lemmas.Int.{ints, to_z-of_z, fits_signed_from_abs, unsigned_abs-mul}
+use Rattle.std.proofs.Math.Nat.{mul-div_cancel', mul_comm, div-le_self}
+use Rattle.std.proofs.lemmas.Nat.Gcd.{dvd_trans}
+use Rattle.fraction.specs.Fractions.{Fits, signed_of}
+use Rattle.fraction.proofs.Lowest.{signed_of-*ℤ}
+
+-- a number is stored at i: what held of each entry below i, and holds of the number, holds of each below i + 1
+pub stored : (P : ℕ → ℤ → Type 0) (xs : List ℤ) (i : ℕ) (v : ℤ) → i < length xs → ((k : ℕ) → k < i → P k (get_or xs k (pos 0))) → P i v → (k : ℕ) → k < i + 1 → P k (get_or (set xs i v) k (pos 0))
+stored P xs i v lt below here =
+    below_more (λ k. P k (get_or (set xs i v) k (pos 0))) i
+    (λ k h. let ne : k ≢ i = omega arith in subst (P k) (sym (get_or-set_other xs i k v (pos 0) ne)) (below k h))
+    (subst (P i) (sym (get_or-set_same xs i v (pos 0) lt)) here)
+
+-- the entries above i are as they were
+pub kept : (old : ℕ → ℤ) (xs : List ℤ) (i : ℕ) (v : ℤ) → ((k : ℕ) → i ≤ k → get_or xs k (pos 0) ≡ old k) → (k : ℕ) → i + 1 ≤ k → get_or (set xs i v) k (pos 0) ≡ old k
+kept old xs i v left k le = let ne : k ≢ i = omega arith in get_or-set_other xs i k v (pos 0) ne ∙ left k (omega arith)
+
+-- a number that fits, as the code passes it
+pub as_passed : (z : ℤ) → Fits z → to_z w128 (of_z w128 z) ≡ z
+as_passed z fits = to_z-of_z w128 z (fits_signed_from_abs w128 z fits)
+
+-- a number that is one that fits, as the code passes it
+pub seen : (z z' : ℤ) → z ≡ z' → Fits z' → to_z w128 (of_z w128 z) ≡ z'
+seen z z' e fits = ap (λ t. to_z w128 (of_z w128 t)) e ∙ as_passed z' fits
+
+-- a product, as the code forms it
+pub product_is : (x y x' : ℤ) → FitsSigned w128 x → FitsSigned w128 y → x ≡ x' → Fits (x' *ℤ y) → to_z w128 (of_z w128 (to_z w128 (of_z w128 x) *ℤ to_z w128 (of_z w128 y))) ≡ x' *ℤ y
+product_is x y x' fits_x fits_y e fits =
+    ap (λ t. to_z w128 (of_z w128 (t *ℤ to_z w128 (of_z w128 y)))) (to_z-of_z w128 x fits_x ∙ e)
+    ∙ ap (λ t. to_z w128 (of_z w128 (x' *ℤ t))) (to_z-of_z w128 y fits_y)
+    ∙ as_passed (x' *ℤ y) fits
+
+pub product_fits : (x y x' : ℤ) → FitsSigned w128 x → FitsSigned w128 y → x ≡ x' → Fits (x' *ℤ y) → FitsSigned w128 (to_z w128 (of_z w128 x) *ℤ to_z w128 (of_z w128 y))
+product_fits x y x' fits_x fits_y e fits =
+    subst (FitsSigned w128) (sym (ap (λ t. t *ℤ to_z w128 (of_z w128 y)) (to_z-of_z w128 x fits_x ∙ e) ∙ ap (λ t. x' *ℤ t) (to_z-of_z w128 y fits_y))) (fits_signed_from_abs w128 (x' *ℤ y) fits)
+
+-- a difference, as the code forms it
+pub difference_is : (a b a' b' : ℤ) → a ≡ a' → b ≡ b' → Fits (a' -ℤ b') → to_z w128 (of_z w128 (a -ℤ b)) ≡ a' -ℤ b'
+difference_is a b a' b' ea eb fits = ap (λ t. to_z w128 (of_z w128 (t -ℤ b))) ea ∙ ap (λ t. to_z w128 (of_z w128 (a' -ℤ t))) eb ∙ as_passed (a' -ℤ b') fits
+
+pub difference_fits : (a b a' b' : ℤ) → a ≡ a' → b ≡ b' → Fits (a' -ℤ b') → FitsSigned w128 (a -ℤ b)
+difference_fits a b a' b' ea eb fits = subst (FitsSigned w128) (sym (ap (λ t. t -ℤ b) ea ∙ ap (λ t. a' -ℤ t) eb)) (fits_signed_from_abs w128 (a' -ℤ b') fits)
+
+-- what fits as the code passes it fits
+pub fit_product : (x y x' y' : ℤ) → x' ≡ x → y' ≡ y → Fits (x' *ℤ y') → Fits (x *ℤ y)
+fit_product x y x' y' ex ey fits = subst (λ t. Fits (t *ℤ y)) ex (subst (λ t. Fits (x' *ℤ t)) ey fits)
+
+pub fit_difference : (x y x' y' : ℤ) → x' ≡ x → y' ≡ y → Fits (x' -ℤ y') → Fits (x -ℤ y)
+fit_difference x y x' y' ex ey fits = subst (λ t. Fits (t -ℤ y)) ex (subst (λ t. Fits (x' -ℤ t)) ey fits)
+
+-- a number is its absolute value with its sign
+sign_of : (z : ℤ) → signed_of (le_z (pos 0) z) (unsigned_abs z) ≡ z
+sign_of (pos n) = at n
+  where
+    above : (n : ℕ) → le_z (pos 0) (pos n) ≡ true
+    above n = grind (arith, ints)
+
+    at : (n : ℕ) → signed_of (le_z (pos 0) (pos n)) n ≡ pos n
+    at n = rw (above n) refl
+sign_of (negsuc n) = refl
+
+-- a number is the quotient of its absolute value, with its sign, times the divisor
+pub quotient_exact : (z : ℤ) (g : ℕ) → g ∣ unsigned_abs z → signed_of (le_z (pos 0) z) (unsigned_abs z / g) *ℤ pos g ≡ z
+quotient_exact z g divides =
+    at (le_z (pos 0) z) (unsigned_abs z / g)
+    ∙ ap (signed_of (le_z (pos 0) z)) (mul_comm (unsigned_abs z / g) g ∙ mul-div_cancel' g divides)
+    ∙ sign_of z
+  where
+    at : (b : Bool) (n : ℕ) → signed_of b n *ℤ pos g ≡ signed_of b (n * g)
+    at true n = signed_of-*ℤ true true n g
+    at false n = signed_of-*ℤ false true n g
+
+-- an entry that is divided, as the code forms it
+pub divided_entry : (old passed r : ℤ) (q size g : ℕ) → passed ≡ old → r ≡ signed_of (le_z (pos 0) passed) q → q ≡ size / g → size ≡ unsigned_abs passed → g ∣ unsigned_abs old → FitsSigned w128 r → to_z w128 (of_z w128 r) *ℤ pos g ≡ old
+divided_entry old passed r q size g e signed quotient sized divides fits =
+    let whole : q ≡ unsigned_abs old / g = quotient ∙ ap (λ n. n / g) (sized ∙ ap unsigned_abs e) in
+    let shown : r ≡ signed_of (le_z (pos 0) old) (unsigned_abs old / g) = signed ∙ ap (λ z. signed_of (le_z (pos 0) z) q) e ∙ ap (signed_of (le_z (pos 0) old)) whole in
+    ap (λ z. z *ℤ pos g) (to_z-of_z w128 r fits ∙ shown) ∙ quotient_exact old g divides

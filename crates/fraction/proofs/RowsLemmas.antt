@@ -1,0 +1,33 @@
+-- Lemmas on all rows of a table.
+use Rattle.std.proofs.Common.{◌≡◌, ◌≢◌, ℕ, ◌+◌, ◌<◌, ◌≤◌, ℤ, pos, List, [], ◌∷◌, ◌++◌, length, map, get_or, sym, refl, subst, ap, ◌∙◌, arith, below_more, get_or-set_same, get_or-set_other, Vec}
+use Rattle.std.specs.declared.alloc.Global.{Global}
+use Rattle.std.proofs.Math.ListN.{set}
+use Rattle.std.proofs.lemmas.List.{get_or-map, map-set, length-map}
+use Rattle.std.proofs.lemmas.List.{with_items_is}
+use Rattle.std.specs.Vec.{with_items}
+use Rattle.fraction.specs.Rows.{lists_of, row_at}
+
+-- the entries of a row that a loop wrote as a slice
+pub written : (v : Vec ℤ Global) (ws : List ℤ) (xs : List ℤ) → length ws ≡ length xs → xs ≡ v.items → (with_items v ws).items ≡ ws
+written v ws xs e at = with_items_is v ws (e ∙ ap length at ∙ sym v.ok.0)
+
+-- a row is stored at i: what held of each row below i, and holds of the row, holds of each below i + 1
+pub stored_row : (P : ℕ → List ℤ → Type 0) (rows : List (Vec ℤ Global)) (i : ℕ) (v : Vec ℤ Global) → i < length rows → ((k : ℕ) → k < i → P k (row_at (lists_of rows) k)) → P i v.items → (k : ℕ) → k < i + 1 → P k (row_at (lists_of (set rows i v)) k)
+stored_row P rows i v lt below here =
+    let many : length (lists_of rows) ≡ length rows = length-map rows (λ row. row.items) in
+    below_more (λ k. P k (row_at (lists_of (set rows i v)) k)) i
+    (λ k h. let ne : k ≢ i = omega arith in subst (P k) (sym (at k ∙ get_or-set_other (lists_of rows) i k v.items [] ne)) (below k h))
+    (subst (P i) (sym (at i ∙ get_or-set_same (lists_of rows) i v.items [] (omega arith))) here)
+  where
+    at : (k : ℕ) → row_at (lists_of (set rows i v)) k ≡ row_at (set (lists_of rows) i v.items) k
+    at k = ap (λ rs. row_at rs k) (map-set (λ row. row.items) rows i v)
+
+-- the rows above i are as they were
+pub kept_row : (old : ℕ → List ℤ) (rows : List (Vec ℤ Global)) (i : ℕ) (v : Vec ℤ Global) → ((k : ℕ) → i ≤ k → row_at (lists_of rows) k ≡ old k) → (k : ℕ) → i + 1 ≤ k → row_at (lists_of (set rows i v)) k ≡ old k
+kept_row old rows i v left k le =
+    let ne : k ≢ i = omega arith in
+    ap (λ rs. row_at rs k) (map-set (λ row. row.items) rows i v) ∙ get_or-set_other (lists_of rows) i k v.items [] ne ∙ left k (omega arith)
+
+-- the entries that a loop reads as a slice, as they were at first
+pub was_row : (rows : List (Vec ℤ Global)) (old : List (List ℤ)) (i : ℕ) (item : Vec ℤ Global) (now : List ℤ) → i < length rows → now ≡ (get_or rows i item).items → ((k : ℕ) → i ≤ k → row_at (lists_of rows) k ≡ row_at old k) → now ≡ row_at old i
+was_row rows old i item now lt e left = e ∙ sym (get_or-map (λ row. row.items) rows i item [] lt) ∙ left i (omega arith)

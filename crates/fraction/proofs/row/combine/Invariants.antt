@@ -1,0 +1,11 @@
+use Rattle.std.proofs.Common.{◌≡◌, ◌≢◌, ℕ, ◌+◌, ◌<◌, ◌≤◌, ◌^◌, ℤ, pos, ◌*ℤ◌, ◌-ℤ◌, unsigned_abs, length, get_or}
+use Rattle.std.specs.Int.{◌∣◌}
+use Rattle.fraction.specs.Fractions.{Fits}
+use Rattle.fraction.specs.Rows.{combined}
+use Rattle.fraction.proofs.row.combine.Given as goal
+
+abbrev pub invariant-loop-j : goal.invariant-loop-j
+invariant-loop-j l = record {
+  done : (k : ℕ) → k < l.j → get_or l.row k (pos 0) ≡ combined l.fn.row l.fn.scale l.pivot_row l.fn.taken k;
+  left : (k : ℕ) → l.j ≤ k → get_or l.row k (pos 0) ≡ get_or l.fn.row k (pos 0);
+}

@@ -1,0 +1,31 @@
+use Rattle.std.proofs.Common.{rules, ◌≡◌, ◌≢◌, ℕ, ◌+◌, ◌<◌, ◌≤◌, ℤ, pos, ◌-ℤ◌, ◌*ℤ◌, to_z, of_z, unsigned_abs, length, get_or, not, sym, subst, ap, ◌∙◌, refl, arith, below_more}
+use Rattle.std.specs.Prelude.{FitsSigned}
+use Rattle.std.specs.Int.{w128, ◌∣◌, IsGcd}
+use Rattle.std.specs.Int.Signed.{lt_z}
+use Rattle.std.proofs.lemmas.Int.{to_z-of_z, fits_signed_from_abs}
+use Rattle.std.proofs.Math.Nat.{one-dvd, div-le_self}
+use Rattle.std.proofs.lemmas.Nat.Gcd.{dvd_trans}
+use Rattle.fraction.specs.Fractions.{Fits, signed_of}
+use Rattle.fraction.specs.Rows.{combined}
+use Rattle.fraction.proofs.Passed.{passed-product, product-unfit, difference-unfit, refused}
+use Rattle.fraction.proofs.RowLemmas.{stored, kept, as_passed, product_is, product_fits, difference_is, difference_fits, fit_product, fit_difference, quotient_exact}
+use Rattle.fraction.proofs.row.divisor_of.Goals as goal
+
+pub returns-then-common-eq1 : goal.returns-then-common-eq1
+returns-then-common-eq1 c = record {
+  number = one-dvd _;
+  entries = λ j lt. one-dvd _;
+  greatest = λ d number entries. subst (λ g. d ∣ g) c.if-common-eq1.true (c.loop-entry.invariant.greatest d number (λ j lt. entries j (omega arith)));
+}
+
+pub loop-entry-preserved : goal.loop-entry-preserved
+loop-entry-preserved c =
+    let i : ℕ = c.loop-entry.entry-index in
+    let at : FitsSigned w128 (get_or c.args.row.now i (pos 0)) = search rules in
+    let size = c.unsigned_abs.ensures.value ∙ ap (λ z. unsigned_abs z) (to_z-of_z w128 _ at) in
+    let is = subst (λ a. IsGcd a c.loop-entry.common c.wide_gcd-common.result) size c.wide_gcd-common.ensures in
+    record {
+      number = dvd_trans _ is.1 c.loop-entry.invariant.number;
+      entries = below_more (λ j. c.wide_gcd-common.result ∣ unsigned_abs (get_or c.args.row.now j (pos 0))) i (λ j lt. dvd_trans _ is.1 (c.loop-entry.invariant.entries j lt)) is.0;
+      greatest = λ d number entries. is.2 d (entries i (omega arith)) (c.loop-entry.invariant.greatest d number (λ j lt. entries j (omega arith)));
+    }

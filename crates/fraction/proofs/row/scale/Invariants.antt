@@ -1,0 +1,11 @@
+use Rattle.std.proofs.Common.{◌≡◌, ◌≢◌, ℕ, ◌+◌, ◌<◌, ◌≤◌, ◌^◌, ℤ, pos, ◌*ℤ◌, ◌-ℤ◌, unsigned_abs, length, get_or}
+use Rattle.std.specs.Int.{◌∣◌}
+use Rattle.fraction.specs.Fractions.{Fits}
+use Rattle.fraction.specs.Rows.{combined}
+use Rattle.fraction.proofs.row.scale.Given as goal
+
+abbrev pub invariant-loop-entry : goal.invariant-loop-entry
+invariant-loop-entry l = record {
+  done : (j : ℕ) → j < l.entry-index → get_or l.row j (pos 0) ≡ get_or l.fn.row j (pos 0) *ℤ l.fn.factor;
+  left : (j : ℕ) → l.entry-index ≤ j → get_or l.row j (pos 0) ≡ get_or l.fn.row j (pos 0);
+}

@@ -1,0 +1,41 @@
+use Rattle.std.proofs.Common.{rules, ◌≡◌, ◌≢◌, ℕ, ◌+◌, ◌<◌, ◌≤◌, ℤ, pos, ◌-ℤ◌, ◌*ℤ◌, to_z, of_z, unsigned_abs, length, get_or, not, sym, subst, ap, ◌∙◌, refl, arith, below_more}
+use Rattle.std.specs.Prelude.{FitsSigned}
+use Rattle.std.specs.Int.{w128, ◌∣◌, IsGcd}
+use Rattle.std.specs.Int.Signed.{lt_z}
+use Rattle.std.proofs.lemmas.Int.{to_z-of_z, fits_signed_from_abs}
+use Rattle.std.proofs.Math.Nat.{one-dvd, div-le_self}
+use Rattle.std.proofs.lemmas.Nat.Gcd.{dvd_trans}
+use Rattle.fraction.specs.Fractions.{Fits, signed_of}
+use Rattle.fraction.specs.Rows.{combined}
+use Rattle.fraction.proofs.Passed.{passed-product, product-unfit, difference-unfit, refused}
+use Rattle.fraction.proofs.RowLemmas.{stored, kept, as_passed, product_is, product_fits, difference_is, difference_fits, fit_product, fit_difference, quotient_exact}
+use Rattle.fraction.proofs.row.test_combine.Goals as goal
+
+pub returns-in_err-product-2-clause-fits : goal.returns-in_err-product-2-clause-fits
+returns-in_err-product-2-clause-fits c =
+    let other : FitsSigned w128 (get_or c.args.pivot_row.now c.loop-j.j (pos 0)) = search rules in
+    refused _ _ c.from_residual-in_err-product-2.ensures.0
+    (λ fits. product-unfit _ _ _ _ (to_z-of_z w128 c.args.taken c.ranges.taken) (to_z-of_z w128 _ other) c.in_err-product-2.ensures.1 (fits c.loop-j.j (omega arith)).1)
+
+pub returns-in_err-difference-clause-fits : goal.returns-in_err-difference-clause-fits
+returns-in_err-difference-clause-fits c =
+    let at : FitsSigned w128 (get_or c.args.row.now c.loop-j.j (pos 0)) = search rules in
+    let other : FitsSigned w128 (get_or c.args.pivot_row.now c.loop-j.j (pos 0)) = search rules in
+    let left = passed-product _ _ _ _ _ (to_z-of_z w128 _ at) (to_z-of_z w128 _ c.ranges.scale) c.in_ok-product.ensures in
+    let right = passed-product _ _ _ _ _ (to_z-of_z w128 _ c.ranges.taken) (to_z-of_z w128 _ other) c.in_ok-product-2.ensures in
+    refused _ _ c.from_residual-in_err-difference.ensures.0
+    (λ fits. difference-unfit _ _ _ _ left right c.in_err-difference.ensures.1 (fits c.loop-j.j (omega arith)).2)
+
+pub loop-j-preserved : goal.loop-j-preserved
+loop-j-preserved c =
+    let at : FitsSigned w128 (get_or c.args.row.now c.loop-j.j (pos 0)) = search rules in
+    let other : FitsSigned w128 (get_or c.args.pivot_row.now c.loop-j.j (pos 0)) = search rules in
+    let seen = to_z-of_z w128 _ at in
+    let seen_other = to_z-of_z w128 _ other in
+    let left = passed-product _ _ _ _ _ seen refl c.in_ok-product.ensures in
+    let right = passed-product _ _ _ _ _ refl seen_other c.in_ok-product-2.ensures in
+    below_more _ _ c.loop-j.invariant
+    ( fit_product _ _ _ _ seen refl c.in_ok-product.ensures.1
+    , fit_product _ _ _ _ refl seen_other c.in_ok-product-2.ensures.1
+    , fit_difference _ _ _ _ left right c.in_ok-difference.ensures.1
+    )

@@ -1,0 +1,42 @@
+use Rattle.std.proofs.Common.{rules, ◌≡◌, ◌≢◌, ℕ, ◌+◌, ◌<◌, ◌≤◌, ℤ, pos, ◌*ℤ◌, to_z, of_z, length, map, take, get_or, List, Vec, sym, subst, ap, ◌∙◌, refl, arith, below_more}
+use Rattle.std.specs.declared.alloc.Global.{Global}
+use Rattle.std.specs.Prelude.{FitsSigned}
+use Rattle.std.specs.Int.{w128}
+use Rattle.std.proofs.lemmas.Int.{to_z-of_z}
+use Rattle.std.proofs.lemmas.Bool.{false≢true}
+use Rattle.std.proofs.lemmas.List.{length-map, with_items_is}
+use Rattle.fraction.specs.Fractions.{Fits}
+use Rattle.fraction.specs.Tables.{Table, IsTable, IsSummed, SumFits, sum_in}
+use Rattle.fraction.specs.Rows.{lists_of, row_at, entry_of, EachRow, AllSumsFit, IsSummedRow}
+use Rattle.fraction.proofs.Passed.{refused}
+use Rattle.fraction.proofs.RowsLemmas.{was_row, stored_row, kept_row, written}
+use Rattle.fraction.proofs.SumLemmas.{sum_step, fits_step, summed, summed_table}
+use Rattle.fraction.proofs.rows.put_sums.Goals as goal
+
+pub put_sum-requires-clause-into : goal.put_sum-requires-clause-into
+put_sum-requires-clause-into c =
+    let i : ℕ = c.loop-row.row-index in
+    let was = was_row c.loop-row.rows (lists_of c.args.rows.now) i _ _ (omega arith) c.deref_mut.ensures.value c.loop-row.invariant.left in
+    let many = length-map c.args.rows.now (λ row. row.items) in
+    subst (λ r. c.args.into < length r) (sym was) (c.requires.into i (omega arith))
+
+pub put_sum-requires-clause-fits : goal.put_sum-requires-clause-fits
+put_sum-requires-clause-fits c =
+    let i : ℕ = c.loop-row.row-index in
+    let was = was_row c.loop-row.rows (lists_of c.args.rows.now) i _ _ (omega arith) c.deref_mut.ensures.value c.loop-row.invariant.left in
+    let many = length-map c.args.rows.now (λ row. row.items) in
+    subst (λ r. SumFits r c.args.columns.now) (sym was) (c.requires.fits i (omega arith))
+
+pub loop-row-preserved : goal.loop-row-preserved
+loop-row-preserved c =
+    let i : ℕ = c.loop-row.row-index in
+    let was = was_row c.loop-row.rows (lists_of c.args.rows.now) i _ _ (omega arith) c.deref_mut.ensures.value c.loop-row.invariant.left in
+    let lt : i < length c.loop-row.rows = omega arith in
+    let same : length c.put_sum.new.row ≡ length c.deref_mut.result.now = c.put_sum.ensures.0 in
+    let now = written (get_or c.loop-row.rows i c.row-item.result) c.put_sum.new.row _ same c.deref_mut.ensures.value in
+    let old = row_at (lists_of c.args.rows.now) i in
+    record {
+      done = stored_row (λ k r. IsSummedRow c.args.columns.now c.args.into (row_at (lists_of c.args.rows.now) k) r) _ _ _ lt c.loop-row.invariant.done
+      (subst (IsSummedRow c.args.columns.now c.args.into old) (sym now) (subst (λ r. IsSummedRow c.args.columns.now c.args.into r c.put_sum.new.row) was c.put_sum.ensures));
+      left = kept_row _ _ _ _ c.loop-row.invariant.left;
+    }

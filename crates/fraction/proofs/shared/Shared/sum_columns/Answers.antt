@@ -1,0 +1,39 @@
+use Rattle.std.proofs.Common.{rules, ◌≡◌, ◌≢◌, ℕ, ◌+◌, ◌<◌, ◌≤◌, ℤ, pos, ◌*ℤ◌, to_z, of_z, length, map, take, get_or, List, Vec, sym, subst, ap, ◌∙◌, refl, arith, below_more}
+use Rattle.std.specs.declared.alloc.Global.{Global}
+use Rattle.std.specs.Prelude.{FitsSigned}
+use Rattle.std.specs.Int.{w128}
+use Rattle.std.proofs.lemmas.Int.{to_z-of_z}
+use Rattle.std.proofs.lemmas.Bool.{false≢true}
+use Rattle.std.proofs.lemmas.List.{length-map, with_items_is}
+use Rattle.fraction.specs.Fractions.{Fits}
+use Rattle.fraction.specs.Tables.{Table, IsTable, IsSummed, SumFits, sum_in}
+use Rattle.fraction.specs.Rows.{lists_of, row_at, entry_of, EachRow, AllSumsFit, IsSummedRow}
+use Rattle.fraction.proofs.Passed.{refused}
+use Rattle.fraction.proofs.RowsLemmas.{was_row, stored_row, kept_row, written}
+use Rattle.fraction.proofs.SumLemmas.{sum_step, fits_step, summed, summed_table}
+use Rattle.fraction.proofs.shared.Shared.sum_columns.Goals as goal
+
+pub returns-in_err-test_sums-clause-fits : goal.returns-in_err-test_sums-clause-fits
+returns-in_err-test_sums-clause-fits c =
+    let rows_are = sym (ap (λ (t : Table). t.rows) c.self.view_is) ∙ sym (ap lists_of c.deref.ensures.value) in
+    refused _ _ c.from_residual.ensures.0 (λ fits. false≢true (c.in_err-test_sums.ensures.fits.1 (subst (λ rs. AllSumsFit rs c.args.columns.now) rows_are fits)))
+
+pub invariant_of-self : goal.invariant_of-self
+invariant_of-self c =
+    let new : List (Vec ℤ Global) = c.put_sums.new.rows in
+    let same : length new ≡ length c.deref_mut.result.now = c.put_sums.auto.rows in
+    let rows_are = ap lists_of (with_items_is c.self.inside.rows new (same ∙ ap length c.deref_mut.ensures.value ∙ sym c.self.inside.rows.ok.0)) in
+    let t : Table = record { rows = lists_of c.self.inside.rows.items; den = c.self.inside.den } in
+    let is = subst (λ rs. EachRow (IsSummedRow c.args.columns.now c.args.into) (lists_of rs) (lists_of new)) c.deref_mut.ensures.value c.put_sums.ensures in
+    let fits = subst (λ rs. AllSumsFit (lists_of rs) c.args.columns.now) c.deref.ensures.value (c.in_ok-test_sums.ensures.fits.0 refl) in
+    subst (λ rs. IsTable (record { rows = rs; den = c.self.inside.den })) (sym rows_are) (summed_table t (lists_of new) c.args.columns.now c.args.into c.self.invariant fits is)
+
+pub returns-clause-value : goal.returns-clause-value
+returns-clause-value c =
+    let new : List (Vec ℤ Global) = c.put_sums.new.rows in
+    let same : length new ≡ length c.deref_mut.result.now = c.put_sums.auto.rows in
+    let rows_are = ap lists_of (with_items_is c.self.inside.rows new (same ∙ ap length c.deref_mut.ensures.value ∙ sym c.self.inside.rows.ok.0)) in
+    let t : Table = record { rows = lists_of c.self.inside.rows.items; den = c.self.inside.den } in
+    let is = subst (λ rs. EachRow (IsSummedRow c.args.columns.now c.args.into) (lists_of rs) (lists_of new)) c.deref_mut.ensures.value c.put_sums.ensures in
+    subst (λ rs. IsSummed c.args.self.now (record { rows = rs; den = c.self.inside.den }) c.args.columns.now c.args.into) (sym rows_are)
+    (subst (λ (u : Table). IsSummed u (record { rows = lists_of new; den = c.self.inside.den }) c.args.columns.now c.args.into) c.self.view_is (summed t (lists_of new) c.args.columns.now c.args.into is))
