@@ -1,5 +1,5 @@
 #!/bin/sh
-# Runs every benchmark in turn: steps of the automata, draws of tickets, a world's script, members in threads,
+# Runs every benchmark in turn: steps of the automata, cycles, draws of tickets, a world's script, members in threads,
 # and plans where glpsol is found.
 #
 #     bench/all.sh
@@ -9,7 +9,7 @@ set -eu
 bench=$(CDPATH= cd -- "$(dirname -- "$0")" && pwd)
 
 printf '%s processors, %s\n' "$(getconf _NPROCESSORS_ONLN)" "$(uptime | sed 's/.*\(load average\)/\1/')"
-for name in steps draws world run; do
+for name in steps cycles draws world run; do
     printf '\n== %s\n' "$name"
     "$bench/$name.sh"
 done
