@@ -1,6 +1,6 @@
 #!/bin/sh
-# Runs every benchmark in turn: steps of the automata, sets of voters, draws of tickets, a world's script, members in
-# threads, and plans where glpsol is found.
+# Runs every benchmark in turn: steps of the automata, sets of voters, cycles, draws of tickets, a world's script, members
+# in threads, and plans where glpsol is found.
 #
 #     bench/all.sh
 #
@@ -9,7 +9,7 @@ set -eu
 bench=$(CDPATH= cd -- "$(dirname -- "$0")" && pwd)
 
 printf '%s processors, %s\n' "$(getconf _NPROCESSORS_ONLN)" "$(uptime | sed 's/.*\(load average\)/\1/')"
-for name in steps sets draws world run; do
+for name in steps sets cycles draws world run; do
     printf '\n== %s\n' "$name"
     "$bench/$name.sh"
 done
