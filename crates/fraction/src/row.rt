@@ -22,6 +22,13 @@ pub(crate) fn entry(row: &[i128], column: usize) -> i128
     row[column]
 }
 
+/// Returns whether a number is at most `SMALL` in absolute value.
+pub(crate) fn is_small_number(number: i128) -> bool
+    ensures { IsTrue result → unsigned_abs number ≤ 2 ^ 62 }
+{
+    number <= SMALL && number >= -SMALL
+}
+
 /// Returns whether each entry is at most `SMALL` in absolute value.
 pub(crate) fn is_small(row: &[i128]) -> bool
     ensures { IsTrue result → IsSmall row.now }

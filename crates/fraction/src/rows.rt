@@ -20,7 +20,7 @@ pub(crate) fn row_of(rows: &[Vec<i128>], row: usize) -> &[i128]
 
 /// Returns whether each entry of each row is small.
 pub(crate) fn are_small(rows: &[Vec<i128>]) -> bool
-    ensures { IsTrue result → (i : ℕ) → i < length rows.now → IsSmall (row_at (lists_of rows.now) i) }
+    ensures { IsTrue result → (i : ℕ) → i < length (lists_of rows.now) → IsSmall (row_at (lists_of rows.now) i) }
 {
     for i in 0..rows.len() {
         if !row::is_small(row_of(rows, i)) {
@@ -64,6 +64,9 @@ pub(crate) fn test_pivot(rows: &[Vec<i128>], den: i128, row: usize, column: usiz
     ensures fits { IsOk result ↔ PivotFits (table_of rows.now den) row column }
     ensures overflow { IfErr result (λ e. e ≡ FracFault.Overflow) }
 {
+    if row::is_small_number(den) && are_small(rows) {
+        return Ok(());
+    }
     let pivot_row = row_of(rows, row);
     let entry = row::entry(pivot_row, column);
     product(den, entry)?;

@@ -1,1 +1,3 @@
+pub mod Causes
 pub mod Uniform
+pub mod Weights

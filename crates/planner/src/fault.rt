@@ -19,7 +19,7 @@ pub enum Cause {
     /// The simplex method found no row to leave by.
     #[error("S3")]
     NoRow,
-    /// The weights found were too few or too many.
+    /// The weights found were too few or too many. This never comes: `plan` promises it.
     #[error("P1")]
     WrongLength,
     /// The weights found sum to more than 1,000,000.
@@ -45,8 +45,12 @@ pub enum PlannerFault {
 }
 
 impl PlannerFault {
-    /// What a fault of the simplex method means for the search.
-    pub(crate) fn of_simplex(fault: SimplexFault) -> PlannerFault {
+    ghost use Rattle.planner.specs.Causes.{of_simplex_fault, of_plan_fault};
+
+    /// Returns what a fault of the simplex method means for the search.
+    pub(crate) fn of_simplex(fault: SimplexFault) -> PlannerFault
+        ensures { result ≡ of_simplex_fault fault }
+    {
         match fault {
             SimplexFault::Overflow { .. } => PlannerFault::NoPlan(Cause::Overflow),
             SimplexFault::PivotLimit => PlannerFault::NoPlan(Cause::PivotLimit),
@@ -55,8 +59,10 @@ impl PlannerFault {
         }
     }
 
-    /// What a fault of the check means for the search. Faults of a plan's text don't come here.
-    pub(crate) fn of_check(fault: PlanFault) -> PlannerFault {
+    /// Returns what a fault of the check means for the search. Faults of a plan's text don't come here.
+    pub(crate) fn of_check(fault: PlanFault) -> PlannerFault
+        ensures { result ≡ of_plan_fault fault }
+    {
         match fault {
             PlanFault::WrongLength => PlannerFault::NoPlan(Cause::WrongLength),
             PlanFault::TooLarge => PlannerFault::NoPlan(Cause::TooLarge),

@@ -1,7 +1,9 @@
 //! The search for a plan.
-ghost use Rattle.std.specs.Prelude.{◌≡◌, IfOk, IfErr, IsOkUnless};
+ghost use Rattle.std.specs.Prelude.{◌≡◌, ◌≢◌, ◌<◌, ◌/◌, length, vec_len, map, sum, IfOk, IfErr, IsOkUnless};
 ghost use Rattle.certificate.specs.Certificates.{IsCertificate, IsOptimal};
-ghost use Rattle.planner.specs.Uniform.{IsUniform, IsWarranted};
+ghost use Rattle.planner.specs.Uniform.{IsUniform, IsWarranted, all_ones};
+ghost use Rattle.planner.specs.Weights.{HaveNoCommonDivisor, IsGreatestDivisor};
+ghost use Rattle.planner.specs.Causes.{CanCome};
 
 use crate::fault::PlannerFault;
 use crate::laws::ones_certify_uniform_coteries;
@@ -21,16 +23,35 @@ struct Miss {
     left: Option<u32>,
 }
 
-/// The weights, divided by their greatest common divisor. All 0 stay.
-fn divide(weights: &mut [u64]) {
+/// Returns the greatest common divisor of the weights; 0 if all are 0.
+fn divisor_of(weights: &[u64]) -> u64
+    ensures { IsGreatestDivisor weights.now result }
+{
     let mut common = 0;
-    for weight in weights.iter() {
+    for weight in weights {
         common = gcd(common, *weight);
     }
+    common
+}
+
+/// Divides the weights.
+fn divide_by(weights: &mut [u64], divisor: u64)
+    requires { divisor ≢ 0 }
+    ensures { weights.new ≡ map (λ weight. weight / divisor) weights.old }
+{
+    for weight in weights.iter_mut() {
+        *weight /= divisor;
+    }
+}
+
+/// Divides the weights by their greatest common divisor. All 0 stay.
+fn divide(weights: &mut [u64])
+    ensures length { length weights.new ≡ length weights.old }
+    ensures lowest { 0 < sum weights.new → HaveNoCommonDivisor weights.new }
+{
+    let common = divisor_of(weights);
     if common != 0 {
-        for weight in weights.iter_mut() {
-            *weight /= common;
-        }
+        divide_by(weights, common);
     }
 }
 
@@ -40,6 +61,8 @@ fn even(alloc: Global, coterie: &Coterie) -> Result<Plan, PlanFault>
     ensures certificate { IfOk result IsCertificate }
     ensures optimal { IfOk result IsOptimal }
     ensures uniform { IsUniform coterie.now → IsOkUnless result PlanFault.OutOfMemory }
+    ensures ones { IfOk result (λ p. p ≡ all_ones coterie.now) }
+    ensures certified { IsCertificate (all_ones coterie.now) → IsOkUnless result PlanFault.OutOfMemory }
 {
     ones_certify_uniform_coteries();
     certificates_have_no_fault();
@@ -50,9 +73,13 @@ fn even(alloc: Global, coterie: &Coterie) -> Result<Plan, PlanFault>
 
 /// The plan of a candidate's weights.
 fn checked(alloc: Global, coterie: &Coterie, candidate: Candidate, left: u32) -> Result<Plan, Miss>
+    requires quorums { vec_len candidate.quorum_weights ≡ length coterie.now.quorums }
+    requires voters { vec_len candidate.voter_weights ≡ coterie.now.voters }
     ensures coterie { IfOk result (λ p. p.system ≡ coterie.now) }
     ensures certificate { IfOk result IsCertificate }
     ensures optimal { IfOk result IsOptimal }
+    ensures lowest { IfOk result (λ p. HaveNoCommonDivisor p.quorum_weights × HaveNoCommonDivisor p.voter_weights) }
+    ensures unreachable { IfErr result (λ miss. CanCome miss.fault) }
 {
     let mut quorum_weights = candidate.quorum_weights;
     let mut voter_weights = candidate.voter_weights;
@@ -76,6 +103,8 @@ fn attempt(alloc: Global, coterie: &Coterie, rule: Rule, pivots: u32) -> Result<
     ensures coterie { IfOk result (λ p. p.system ≡ coterie.now) }
     ensures certificate { IfOk result IsCertificate }
     ensures optimal { IfOk result IsOptimal }
+    ensures lowest { IfOk result (λ p. HaveNoCommonDivisor p.quorum_weights × HaveNoCommonDivisor p.voter_weights) }
+    ensures unreachable { IfErr result (λ miss. CanCome miss.fault) }
 {
     match solve_by(alloc, coterie, rule, pivots) {
         Ok(candidate) => {
@@ -85,7 +114,7 @@ fn attempt(alloc: Global, coterie: &Coterie, rule: Rule, pivots: u32) -> Result<
         Err(fault) => Err(Miss {
             fault: PlannerFault::of_simplex(fault),
             left: match fault {
-                SimplexFault::Overflow { pivots: made } => Some(pivots.saturating_sub(made)),
+                SimplexFault::Overflow { pivots: made } => Some(pivots - made),
                 _ => None,
             },
         }),
@@ -97,6 +126,8 @@ fn found(alloc: Global, coterie: &Coterie) -> Result<Plan, PlannerFault>
     ensures coterie { IfOk result (λ p. p.system ≡ coterie.now) }
     ensures certificate { IfOk result IsCertificate }
     ensures optimal { IfOk result IsOptimal }
+    ensures lowest { IfOk result (λ p. HaveNoCommonDivisor p.quorum_weights × HaveNoCommonDivisor p.voter_weights) }
+    ensures unreachable { IfErr result CanCome }
 {
     let miss = match attempt(alloc, coterie, Rule::Dantzig, PIVOTS) {
         Ok(plan) => return Ok(plan),
@@ -111,18 +142,25 @@ fn found(alloc: Global, coterie: &Coterie) -> Result<Plan, PlannerFault>
     }
 }
 
-/// A plan of the coterie: weights of its quorums that load the busiest voter least, and the voters' weights that
+/// Returns a plan of the coterie: weights of its quorums that load the busiest voter least, and the voters' weights that
 /// certify it.
 ///
-/// All weights 1 are tried first, and answered for each uniform coterie. Else the simplex method looks for weights, by
-/// Dantzig's rule and, where its numbers grow too large, by the rule of the least pivot, with 10,000 pivots in all.
-/// `NoPlan` says that neither found any, and why. Want of memory may be answered at any point.
+/// All weights are 1 if and only if these are a certificate, which they are for uniform coteries. Else the simplex method
+/// looks for weights, by Dantzig's rule and, if its numbers grow too large, by the rule of the least pivot, with 10,000
+/// pivots in all. In each case no number above 1 divides all weights of a side. Fails with `NoPlan` if neither rule finds
+/// any, with the cause of the last attempt, and with `OutOfMemory` at any point.
 pub fn plan(alloc: Global, coterie: &Coterie) -> Result<Plan, PlannerFault>
     ensures coterie { IfOk result (λ p. p.system ≡ coterie.now) }
     ensures certificate { IfOk result IsCertificate }
     ensures optimal { IfOk result IsOptimal }
-    // There is always a plan of a uniform coterie, memory aside.
+    // Unless memory runs out, there is a plan of a uniform coterie.
     ensures uniform { IfErr result (IsWarranted coterie.now) }
+    // All weights are 1 if these are a certificate.
+    ensures ones { IfOk result (λ p. IsCertificate (all_ones coterie.now) → p ≡ all_ones coterie.now) }
+    // No number above 1 divides all weights of the quorums, or all of the voters.
+    ensures lowest { IfOk result (λ p. HaveNoCommonDivisor p.quorum_weights × HaveNoCommonDivisor p.voter_weights) }
+    // The weights found are never too few or too many.
+    ensures unreachable { IfErr result CanCome }
 {
     match even(alloc, coterie) {
         Ok(plan) => Ok(plan),

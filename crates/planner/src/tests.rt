@@ -113,7 +113,19 @@ fn the_tree_of_height_two_has_load_one_half(rt: HostRuntime) -> Result<(), Fail>
 #[test]
 fn causes_are_printed_by_their_codes(rt: HostRuntime) -> Result<(), Fail> {
     let alloc = rt.alloc();
-    let fault = PlannerFault::NoPlan(Cause::PivotLimit);
-    assert_eq!(rt; fault.to_string(alloc)?.as_str(), "N1 NoPlan S2");
+    let table = [
+        (Cause::Overflow, "N1 NoPlan S1"),
+        (Cause::PivotLimit, "N1 NoPlan S2"),
+        (Cause::NoRow, "N1 NoPlan S3"),
+        (Cause::WrongLength, "N1 NoPlan P1"),
+        (Cause::TooLarge, "N1 NoPlan P2"),
+        (Cause::Empty, "N1 NoPlan P3"),
+        (Cause::NotOptimal, "N1 NoPlan P4"),
+    ];
+    for (cause, want) in &table {
+        let fault = PlannerFault::NoPlan(*cause);
+        assert_eq!(rt; fault.to_string(alloc)?.as_str(), *want);
+    }
+    assert_eq!(rt; PlannerFault::OutOfMemory.to_string(alloc)?.as_str(), "O1 OutOfMemory");
     Ok(())
 }

@@ -9,7 +9,14 @@ use Rattle.fraction.specs.Rows.{lists_of, row_at, entry_of, EachFits, EachRow, E
 use Rattle.fraction.proofs.Passed.{refused, passed-product}
 use Rattle.fraction.proofs.RowLemmas.{as_passed, fit_product}
 use Rattle.fraction.proofs.PivotLemmas.{parted, above_fits, below_fits, own_fits, unreduced, eliminate_as, pivot_fits, others_fit}
+use Rattle.fraction.proofs.SmallLemmas.{small_pivot}
 use Rattle.fraction.proofs.rows.test_pivot.Goals as goal
+
+pub returns-then-are_small-clause-fits : goal.returns-then-are_small-clause-fits
+returns-then-are_small-clause-fits c =
+    let many = length-map c.args.rows.now (λ row. row.items) in
+    let small = small_pivot (lists_of c.args.rows.now) c.args.den c.args.row c.args.column (subst (λ z. unsigned_abs z ≤ 2 ^ 62) (to_z-of_z w128 c.args.den c.ranges.den) (c.is_small_number.ensures c.if-is_small_number.true)) (c.are_small.ensures c.if-are_small.true) (omega arith) c.requires.level c.requires.column in
+    (λ ok. small, λ fits. refl)
 
 pub returns-in_err-test_scale-clause-fits : goal.returns-in_err-test_scale-clause-fits
 returns-in_err-test_scale-clause-fits c =

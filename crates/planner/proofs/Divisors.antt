@@ -1,0 +1,56 @@
+-- Weights that are divided by their greatest common divisor.
+use Rattle.std.proofs.Common.{◌≡◌, ◌≢◌, ℕ, ◌+◌, ◌*◌, ◌/◌, ◌<◌, ◌≤◌, List, [], ◌∷◌, length, map, sum, get_or, zero, suc, sym, refl, subst, ap, ◌∙◌, arith, replicate}
+use Rattle.std.specs.List.{All}
+use Rattle.std.specs.Int.{◌∣◌}
+use Rattle.std.proofs.lemmas.List.{get_or-map, length-map}
+use Rattle.std.proofs.lemmas.List.Elements.{All-head, All-tail}
+use Rattle.std.proofs.lemmas.List.Sums.{sum_by-cons}
+use Rattle.std.proofs.Math.Nat.{eq-zero_of_zero-dvd, mul-dvd-mul_left, dvd_of_mul-dvd-mul_left, mul-div_cancel', eq-one_of_dvd-one}
+use Rattle.quorum_set.specs.Coteries.{QuorumSystem}
+use Rattle.certificate.specs.Certificates.{Weighted, IsCertificate}
+use Rattle.planner.specs.Uniform.{ones, all_ones}
+use Rattle.planner.specs.Weights.{HaveNoCommonDivisor, IsGreatestDivisor}
+
+-- numbers that 0 divides sum to 0
+zeros : (xs : List ℕ) → All (λ x. 0 ∣ x) xs → sum xs ≡ 0
+zeros [] h = refl
+zeros (x ∷ xs) h =
+    let first = eq-zero_of_zero-dvd (All-head (λ x. 0 ∣ x) x xs h) in
+    let rest = zeros xs (All-tail (λ x. 0 ∣ x) x xs h) in
+    omega (arith, first, rest, sum_by-cons (λ y. y) x xs)
+
+-- numbers whose greatest common divisor is 0 have no sum above 0
+pub no_sum : (xs : List ℕ) (g : ℕ) → IsGreatestDivisor xs g → g ≡ 0 → 0 < sum xs → HaveNoCommonDivisor xs
+no_sum xs g is none some = let flat = zeros xs (subst (λ d. All (λ x. d ∣ x) xs) none is.divides) in absurd (omega arith)
+
+-- numbers that are divided by their greatest common divisor have none but 1
+pub lowest : (xs ys : List ℕ) (g : ℕ) → IsGreatestDivisor xs g → g ≢ 0 → ys ≡ map (λ x. x / g) xs → HaveNoCommonDivisor ys
+lowest xs ys g is some e = λ d all.
+    let whole : g * d ∣ g * 1 = subst (λ n. g * d ∣ n) (sym (times_one g)) (is.greatest (g * d) (λ j x lt.
+      let at : get_or ys j x ≡ get_or xs j x / g = ap (λ zs. get_or zs j x) e ∙ get_or-map (λ y. y / g) xs j x x lt in
+      let long : length ys ≡ length xs = ap length e ∙ length-map xs (λ y. y / g) in
+      let quotient : d ∣ get_or xs j x / g = subst (λ n. d ∣ n) at (all j x (omega arith)) in
+      subst (λ n. g * d ∣ n) (mul-div_cancel' g (is.divides j x lt)) (mul-dvd-mul_left d g quotient))) in
+    eq-one_of_dvd-one (dvd_of_mul-dvd-mul_left d (omega arith) whole)
+  where
+    times_one : (g : ℕ) → g * 1 ≡ g
+    times_one g = omega arith
+
+-- the number 1, at least once, has no divisor but 1
+pub ones_lowest : (n : ℕ) → 0 < n → HaveNoCommonDivisor (ones n)
+ones_lowest zero some = absurd (omega arith)
+ones_lowest (suc n) some = λ d all. eq-one_of_dvd-one (all 0 0 (omega arith))
+
+-- a plan of all weights 1
+pub ones_plan : (s : QuorumSystem) (p : Weighted) → p ≡ all_ones s → IsCertificate p → HaveNoCommonDivisor p.quorum_weights × HaveNoCommonDivisor p.voter_weights
+ones_plan s p e is =
+    let quorums = subst (λ (w : Weighted). 0 < length w.system.quorums) e is.coterie.some_quorum in
+    let voters = subst (λ (w : Weighted). 0 < w.system.voters) e is.coterie.some_voter in
+    (subst HaveNoCommonDivisor (sym (ap (λ (w : Weighted). w.quorum_weights) e)) (ones_lowest (length s.quorums) quorums), subst HaveNoCommonDivisor (sym (ap (λ (w : Weighted). w.voter_weights) e)) (ones_lowest s.voters voters))
+
+-- a plan of weights that were divided
+pub divided_plan : (p w : Weighted) (qs vs : List ℕ) → p ≡ w → w.quorum_weights ≡ qs → w.voter_weights ≡ vs → IsCertificate p → (0 < sum qs → HaveNoCommonDivisor qs) → (0 < sum vs → HaveNoCommonDivisor vs) → HaveNoCommonDivisor p.quorum_weights × HaveNoCommonDivisor p.voter_weights
+divided_plan p w qs vs e eq ev is low_q low_v =
+    let at_q = ap (λ (x : Weighted). x.quorum_weights) e ∙ eq in
+    let at_v = ap (λ (x : Weighted). x.voter_weights) e ∙ ev in
+    (subst HaveNoCommonDivisor (sym at_q) (low_q (subst (λ x. 0 < sum x) at_q is.some_quorum)), subst HaveNoCommonDivisor (sym at_v) (low_v (subst (λ x. 0 < sum x) at_v is.some_voter)))

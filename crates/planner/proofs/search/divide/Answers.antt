@@ -1,0 +1,14 @@
+use Rattle.std.proofs.Common.{◌≡◌, ℕ, ◌+◌, ◌/◌, ◌<◌, get_or, length, sum, sym, subst, ap, ◌∙◌, refl, arith, below_more}
+use Rattle.std.specs.Int.{◌∣◌}
+use Rattle.std.proofs.lemmas.Grind.{get_or_default_zero}
+use Rattle.std.proofs.lemmas.Nat.Gcd.{dvd_trans}
+use Rattle.std.proofs.lemmas.List.Edits.{map_over_more}
+use Rattle.planner.specs.Weights.{HaveNoCommonDivisor, IsGreatestDivisor}
+use Rattle.planner.proofs.Divisors.{no_sum, lowest, ones_lowest}
+use Rattle.planner.proofs.search.divide.Goals as goal
+
+pub returns-then-common-ne0-clause-lowest : goal.returns-then-common-ne0-clause-lowest
+returns-then-common-ne0-clause-lowest c = λ some. lowest _ _ _ c.divisor_of-common.ensures c.if-common-ne0.true c.divide_by.ensures
+
+pub returns-else-common-ne0-clause-lowest : goal.returns-else-common-ne0-clause-lowest
+returns-else-common-ne0-clause-lowest c = λ some. no_sum _ _ c.divisor_of-common.ensures c.if-common-ne0.false some
