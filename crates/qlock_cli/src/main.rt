@@ -2,7 +2,7 @@
 //!
 //! The crate `command_line` reads the words, and `execute` serves a command over a reader and a writer, `running` the
 //! command `run`: the crate `whole_io` reads all the input and writes all the output, `parts` splits the input, `answer`
-//! makes the output, `texts` its lines.
+//! makes the output, `dealing` draws its tickets, `texts` makes its lines.
 #![tactic(auto)]
 
 ghost use Rattle.std.specs.Prelude.{◌≡◌};
@@ -10,6 +10,7 @@ ghost use Rattle.qlock_cli.specs.Commands.{IsInRange};
 ghost use Rattle.qlock_cli.specs.Statuses.{status_of};
 
 mod answer;
+mod dealing;
 mod execute;
 mod fault;
 mod parts;
