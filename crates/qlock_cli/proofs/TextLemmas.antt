@@ -1,12 +1,14 @@
 -- Lemmas on texts that are written line by line.
-use Rattle.std.proofs.Common.{◌≡◌, ℕ, ◌+◌, List, [], ◌++◌, suc, ap, ap₂, sym, ◌∙◌, arith}
+use Rattle.std.proofs.Common.{◌≡◌, ℕ, ◌+◌, List, [], ◌∷◌, ◌++◌, map, suc, refl, ap, ap₂, sym, ◌∙◌, arith}
 use Rattle.std.proofs.lemmas.List.{append_assoc}
 use Rattle.std.specs.List.{flat_map, range_with_len}
 use Rattle.certificate.specs.Certificates.{Weighted}
 use Rattle.dealer.specs.Accounts.{account_of}
 use Rattle.dealer.specs.declared.account.Account.{Account}
+use Rattle.dealer.specs.declared.receipt.Receipt.{Receipt}
+use Rattle.dealer.specs.Offices.{receipt_of}
 use Rattle.dealer.proofs.CycleLemmas.{flat_map_range_more}
-use Rattle.qlock_cli.specs.Commands.{account_text, deal_text, ticket_lines}
+use Rattle.qlock_cli.specs.Commands.{account_text, deal_text, receipt_line, ticket_line, ticket_lines}
 use Rattle.qlock_cli.specs.declared.answer.Planned.{Planned}
 
 -- what was written for the numbers below n, and then the line of n
@@ -16,11 +18,15 @@ lines_more line n before now after so_far one =
     one ∙ ap (λ t. t ++ line n) so_far ∙ append_assoc before (flat_map line (range_with_len 0 n)) (line n)
     ∙ ap (λ t. before ++ t) (sym (flat_map_range_more line 0 n n (omega arith)) ∙ ap (λ m. flat_map line (range_with_len 0 m)) next)
 
--- the lines of the tickets, and behind them those of the account
-pub deal_joined : (p : Planned) (n : ℕ) (cycle : Weighted) (account : Account) (start tickets all : List ℕ) → cycle ≡ p.plan → account ≡ account_of cycle (range_with_len 0 n) → start ≡ []
-    → tickets ≡ start ++ ticket_lines cycle n → all ≡ tickets ++ account_text p.named.names account → all ≡ deal_text p n
+-- the lines of the receipts of tickets are those of the tickets
+pub receipt_lines : (w : Weighted) (tickets : List ℕ) → flat_map receipt_line (map (receipt_of w) tickets) ≡ flat_map (ticket_line w) tickets
+receipt_lines w [] = refl
+receipt_lines w (t ∷ ts) = ap (λ rest. ticket_line w t ++ rest) (receipt_lines w ts)
+
+-- the lines of the receipts, and behind them those of the account
+pub deal_joined : (p : Planned) (n : ℕ) (receipts : List Receipt) (account : Account) (start tickets all : List ℕ) → receipts ≡ map (receipt_of p.plan) (range_with_len 0 n) → account ≡ account_of p.plan (range_with_len 0 n) → start ≡ []
+    → tickets ≡ start ++ flat_map receipt_line receipts → all ≡ tickets ++ account_text p.named.names account → all ≡ deal_text p n
 unfolding deal_text
-deal_joined p n cycle account start tickets all same counted empty dealt closed =
-    let lines : tickets ≡ ticket_lines p.plan n = dealt ∙ ap (λ t. t ++ ticket_lines cycle n) empty ∙ ap (λ w. ticket_lines w n) same in
-    let counts : account ≡ account_of p.plan (range_with_len 0 n) = counted ∙ ap (λ w. account_of w (range_with_len 0 n)) same in
+deal_joined p n receipts account start tickets all drawn counts empty dealt closed =
+    let lines : tickets ≡ ticket_lines p.plan n = dealt ∙ ap (λ t. t ++ flat_map receipt_line receipts) empty ∙ ap (flat_map receipt_line) drawn ∙ receipt_lines p.plan (range_with_len 0 n) in
     closed ∙ ap₂ (λ (t : List ℕ) (a : Account). t ++ account_text p.named.names a) lines counts

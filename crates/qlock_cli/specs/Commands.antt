@@ -23,6 +23,7 @@ use Rattle.planner.specs.declared.fault.PlannerFault.{PlannerFault}
 use Rattle.dealer.specs.Cycles.{quorum_of_ticket}
 use Rattle.dealer.specs.Accounts.{account_of}
 use Rattle.dealer.specs.declared.account.Account.{Account}
+use Rattle.dealer.specs.declared.receipt.Receipt.{Receipt}
 use Rattle.replay.specs.Outputs.{IsOutput}
 use Rattle.replay.specs.Records.{Entries, IsFirstFault, IsSoundRecord, entries_of, tickets_of}
 use Rattle.replay.specs.RecordTexts as record_texts
@@ -104,6 +105,10 @@ staged_in input = do
 -- 10 is a newline, 32 a space, 47 a slash
 abbrev pub ticket_line : Weighted → ℕ → List ℕ
 ticket_line w ticket = decimal ticket ++ (32 ∷ (decimal (quorum_of_ticket w ticket) ++ 10 ∷ []))
+
+-- the same of a ticket that was drawn
+abbrev pub receipt_line : Receipt → List ℕ
+receipt_line r = decimal r.ticket ++ (32 ∷ (decimal r.quorum ++ 10 ∷ []))
 
 -- how often a voter was named, with its name
 abbrev pub voter_line : List ℕ → ℕ → List ℕ

@@ -1,4 +1,5 @@
 pub mod Commands
+pub mod Dealing
 pub mod Devices
 pub mod Faults
 pub mod Parts

@@ -1,6 +1,5 @@
 //! What each command writes for its input.
-ghost use Rattle.std.specs.Prelude.{◌≡◌, ◌≤◌, ◌<◌, ◌++◌, length, IfErr, IfOk, slice_index, string_bytes};
-ghost use Rattle.std.specs.List.{range_with_len};
+ghost use Rattle.std.specs.Prelude.{◌≡◌, ◌≤◌, ◌<◌, ◌++◌, ◌^◌, length, IfErr, IfOk, slice_index, string_bytes};
 ghost use Rattle.construct.specs.Answers as construct_answers;
 ghost use Rattle.coterie_file.specs.Named.{IsNamed};
 ghost use Rattle.certificate.specs.Certificates.{IsCertificate, cycle_len, load_of};
@@ -10,15 +9,16 @@ ghost use Rattle.qlock_cli.specs.Commands.{Gives, IsAnswered, IsServed, account_
 ghost use Rattle.qlock_cli.specs.Devices.{IsOwn};
 ghost use Rattle.qlock_cli.specs.Faults.{IsBeforeScript, IsOfFile};
 
+use crate::dealing::dealt;
 use crate::fault::Fault;
 use crate::parts::split_part;
-use crate::texts::{load_line_of, push_account, push_tickets, record_lines_of};
+use crate::texts::{load_line_of, push_account, push_receipts, record_lines_of};
 use certificate::{Plan, read_plan, write_plan};
 use cluster::RunRecord;
 use command_line::{Command, Shape};
 use construct::{ConstructFault, cyclic, grid, majority, tree, wheel};
 use coterie_file::{FileFault, Named, read_coterie, write_coterie};
-use dealer::{Account, Cycle};
+use dealer::Account;
 use planner::plan;
 use quorum_set::Coterie;
 use replay::{ReplayFault, check_record, read_record, run_script};
@@ -123,44 +123,18 @@ fn check_text_of(alloc: Global, planned: &Planned) -> Result<String, AllocError>
     load_line_of(alloc, planned.plan.load(), planned.plan.cycle_len())
 }
 
-/// The tickets below `count`.
-fn tickets_below(alloc: Global, count: u64) -> Result<Vec<u64>, AllocError>
-    ensures { IfOk result (λ tickets. tickets.items ≡ range_with_len 0 count) }
-{
-    (0..count).collect(alloc)
-}
-
-/// The account of the tickets below `count`.
-fn account_below(alloc: Global, cycle: &Cycle, count: u64) -> Result<Account, AllocError>
-    ensures value { IfOk result (λ account. account ≡ account_of cycle.now (range_with_len 0 count)) }
-    ensures one_each { IfOk result (λ account. length account.voters ≡ cycle.now.system.voters) }
-{
-    let tickets = tickets_below(alloc, count)?;
-    cycle.account(alloc, &tickets)
-}
-
-/// The cycle of a plan.
-fn cycle_of_plan(alloc: Global, plan: Plan) -> Result<Cycle, AllocError>
-    ensures { IfOk result (λ cycle. cycle ≡ plan) }
-{
-    match Cycle::of(alloc, plan) {
-        Ok(cycle) => Ok(cycle),
-        Err((_, error)) => Err(error),
-    }
-}
-
-/// What `deal` writes for the tickets below `count`.
+/// What `deal` writes for the tickets below `count`: the receipts that an office with that quota gave for them, and its account.
 #[tactic(auto, unfolding(crate::specs::Commands::deal_text))]
 fn deal_text_of(alloc: Global, planned: Planned, count: u64) -> Result<String, AllocError>
-    requires { planned.plan.system ≡ planned.named.system }
+    requires same { planned.plan.system ≡ planned.named.system }
+    requires count { count ≤ 2 ^ 63 }
     ensures { IfOk result (λ text. string_bytes text ≡ deal_text planned count) }
 {
     let Planned { named, plan } = planned;
-    let cycle = cycle_of_plan(alloc, plan)?;
-    let account = account_below(alloc, &cycle, count)?;
+    let (account, receipts) = dealt(alloc, plan, count)?;
     let _ = named.coterie();
     let mut text = String::new(alloc);
-    push_tickets(alloc, &mut text, &cycle, count)?;
+    push_receipts(alloc, &mut text, &receipts)?;
     push_account(alloc, &mut text, &named, &account)?;
     Ok(text)
 }
@@ -236,7 +210,7 @@ fn check_answer(alloc: Global, input: &[u8]) -> Result<String, Fault>
 }
 
 /// What `deal` writes for an input.
-fn deal_answer(alloc: Global, count: u64, input: &[u8]) -> Result<String, Fault>
+fn deal_answer(alloc: Global, count: u32, input: &[u8]) -> Result<String, Fault>
     ensures exact { Gives string_bytes result (deal_answer_of count input.now) }
     ensures own { IfErr result IsOwn }
 {
@@ -244,7 +218,7 @@ fn deal_answer(alloc: Global, count: u64, input: &[u8]) -> Result<String, Fault>
         Ok(planned) => planned,
         Err(fault) => return Err(fault),
     };
-    match deal_text_of(alloc, planned, count) {
+    match deal_text_of(alloc, planned, u64::from(count)) {
         Ok(text) => Ok(text),
         Err(_) => Err(Fault::OutOfMemory),
     }
@@ -309,7 +283,7 @@ pub fn answer(alloc: Global, command: &Command, input: &[u8]) -> Result<String, 
         Command::Make(shape) => make_answer(alloc, shape),
         Command::Plan => plan_answer(alloc, input),
         Command::Check => check_answer(alloc, input),
-        Command::Deal(count) => deal_answer(alloc, u64::from(*count), input),
+        Command::Deal(count) => deal_answer(alloc, *count, input),
         Command::World => world_answer(alloc, input),
         Command::Run { .. } => unreachable!(),
         Command::Replay => replay_answer(alloc, input),

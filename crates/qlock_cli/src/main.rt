@@ -2,12 +2,13 @@
 //!
 //! The crate `command_line` reads the words, and `execute` serves a command over a reader and a writer, `running` the
 //! command `run`: the crate `whole_io` reads all the input and writes all the output, `parts` splits the input, `answer`
-//! makes the output, `texts` its lines.
+//! makes the output, `dealing` draws its tickets, `texts` makes its lines.
 #![tactic(auto)]
 
 ghost use Rattle.qlock_cli.specs.Commands.{IsInRange};
 
 mod answer;
+mod dealing;
 mod execute;
 mod fault;
 mod parts;

@@ -19,6 +19,9 @@ const WHEEL: &str =
 
 const WHEEL_PLAN: &str = "quorum-plan 1\nload 3/5\ncycle 5\nquorum 1 1 1 2\nvoter 2 1 1 1\n";
 
+/// The same load, with a cycle twice as long.
+const LONGER_PLAN: &str = "quorum-plan 1\nload 3/5\ncycle 10\nquorum 2 2 2 4\nvoter 2 1 1 1\n";
+
 pub const MAJORITY_PLAN: &str = "quorum-plan 1\nload 2/3\ncycle 3\nquorum 1 1 1\nvoter 1 1 1\n";
 
 /// What the command writes for a coterie and a plan with a separating line between them, or the text of its fault.
@@ -147,6 +150,11 @@ fn tickets_are_dealt(rt: HostRuntime) -> Result<(), Fail> {
     }
     let ten = answer_text(rt.alloc(), Command::Deal(10), WHEEL, WHEEL_PLAN)?;
     assert!(rt; ten.as_str().ends_with("busiest 6\n"));
+    let ten = answer_text(rt.alloc(), Command::Deal(10), WHEEL, LONGER_PLAN)?;
+    assert_eq!(rt;
+        ten.as_str(),
+        "0 0\n1 1\n2 2\n3 3\n4 0\n5 1\n6 2\n7 3\n8 3\n9 3\nvoter v0 6\nvoter v1 6\nvoter v2 6\nvoter v3 6\nbusiest 6\n"
+    );
     Ok(())
 }
 

@@ -1,20 +1,21 @@
 //! The lines that commands write.
 ghost use Rattle.std.specs.Prelude.{◌≡◌, ◌++◌, ◌<◌, ◌≤◌, ◌∷◌, ℕ, length, IfOk, OnOk, map, slice_index, string_bytes};
-ghost use Rattle.std.specs.List.{range_with_len};
+ghost use Rattle.std.specs.List.{flat_map, range_with_len};
 ghost use Rattle.coterie_file.specs.Named.{IsNamed};
 ghost use Rattle.coterie_file.specs.Names.{name_at};
 ghost use Rattle.dealer.specs.Accounts.{account_of};
-ghost use Rattle.qlock_cli.specs.Commands.{account_text, busiest_line, drawn_line, load_line, record_lines, register_line, ticket_line, ticket_lines, voter_line, voter_lines};
+ghost use Rattle.qlock_cli.specs.Commands.{account_text, busiest_line, drawn_line, load_line, receipt_line, record_lines, register_line, voter_line, voter_lines};
 
 use coterie_file::Named;
-use dealer::{Account, Cycle};
+use dealer::{Account, Receipt};
 use std::alloc::{AllocError, Global};
 
 /// `TICKET QUORUM`
-fn ticket_line_of(alloc: Global, cycle: &Cycle, ticket: u64) -> Result<String, AllocError>
-    ensures { IfOk result (λ line. string_bytes line ≡ ticket_line cycle.now ticket) }
+fn receipt_line_of(alloc: Global, receipt: &Receipt) -> Result<String, AllocError>
+    ensures { IfOk result (λ line. string_bytes line ≡ receipt_line receipt.now) }
 {
-    let quorum = cycle.quorum_at(ticket);
+    let ticket = receipt.ticket;
+    let quorum = receipt.quorum;
     format!(in alloc; "{ticket} {quorum}\n")
 }
 
@@ -54,17 +55,17 @@ pub fn load_line_of(alloc: Global, load: (u64, u64), cycle_len: u64) -> Result<S
     format!(in alloc; "load {busiest}/{cycle} cycle {cycle_len}\n")
 }
 
-/// Writes a line for each ticket below `count`.
-pub fn push_tickets(
+/// Writes a line for each receipt.
+pub fn push_receipts(
     alloc: Global,
     text: &mut String,
-    cycle: &Cycle,
-    count: u64,
+    receipts: &[Receipt],
 ) -> Result<(), AllocError>
-    ensures { OnOk result (string_bytes text.new ≡ string_bytes text.old ++ ticket_lines cycle.now count) }
+    ensures { OnOk result (string_bytes text.new
+        ≡ string_bytes text.old ++ flat_map receipt_line receipts.now) }
 {
-    for ticket in 0..count {
-        let line = ticket_line_of(alloc, cycle, ticket)?;
+    for receipt in receipts {
+        let line = receipt_line_of(alloc, receipt)?;
         text.push_str(&line)?;
     }
     Ok(())
