@@ -1,5 +1,5 @@
 -- Lemmas on the rows of a pivot: those above its row, its row, and those below.
-use Rattle.std.proofs.Common.{◌≡◌, ◌≢◌, ℕ, ◌+◌, ◌-◌, ◌*◌, ◌/◌, ◌<◌, ◌≤◌, ℤ, pos, negsuc, ◌*ℤ◌, ◌-ℤ◌, ◌<ℤ◌, unsigned_abs, List, [], ◌∷◌, ◌++◌, length, map, get_or, zero, suc, sym, refl, subst, ap, ◌∙◌, inl, inr, arith, Vec}
+use Rattle.std.proofs.Common.{◌≡◌, ◌≢◌, ℕ, ◌+◌, ◌-◌, ◌*◌, ◌/◌, ◌<◌, ℤ, pos, negsuc, ◌*ℤ◌, ◌<ℤ◌, unsigned_abs, List, [], ◌∷◌, ◌++◌, length, get_or, suc, sym, refl, subst, ap, ◌∙◌, inl, inr, arith, Vec}
 use Rattle.std.specs.declared.alloc.Global.{Global}
 use Rattle.std.specs.Int.{◌∣◌}
 use Rattle.std.proofs.lemmas.Bool.{cases_lt, cases_eq, eq-eqb, ne_eqb}
@@ -7,10 +7,10 @@ use Rattle.std.proofs.lemmas.List.{get_or_append_left, get_or-append-add, map-ap
 use Rattle.std.proofs.Math.Seq.{get_or-append_seam}
 use Rattle.std.proofs.Math.ListN.{set}
 use Rattle.std.proofs.lemmas.Int.{ints, unsigned_abs-mul}
-use Rattle.std.proofs.lemmas.Nat.Gcd.{dvd_trans, dvd_antisymm}
+use Rattle.std.proofs.lemmas.Nat.Gcd.{dvd_antisymm}
 use Rattle.std.proofs.Math.Nat.{one-dvd, eq-zero_of_zero-dvd, mul-dvd-mul_left, dvd_of_mul-dvd-mul_left, mul-div_cancel', mul_comm}
 use Rattle.fraction.specs.Fractions.{Fits}
-use Rattle.fraction.specs.Tables.{Table, IsPlace, PivotFits, pivoted, row_of}
+use Rattle.fraction.specs.Tables.{Table, PivotFits, pivoted, row_of}
 use Rattle.fraction.specs.Rows.{lists_of, row_at, entry_of, combined, EachFits, EliminateFits, IsEliminated, AllEliminateFit, EachRow, IsDivided, IsDivisorOfAll, IsLevelWith, OthersFit, IsUnreduced, IsLowest}
 use Rattle.fraction.proofs.Lowest.{abs-some, positive-some}
 
@@ -124,16 +124,16 @@ unreduced L M A B A' B' p p' den row col e f n above below same own =
             subst (λ r. Right i r) (sym (at_above M A' B' p' i f (omega arith)))
             (other_is t (row_at A i) (row_at A' i) p row col i (at_row L A B p row e n) (at_above L A B p i e before) (omega arith) (above.1 i before))
         | inr after ↦ elim (cases_eq i (length A)) [
-            | inl at ↦
-                subst (λ r. Right i r) (sym (at_row M A' B' p' i f (counts ∙ sym at)))
-                (own_is t p' p row col i (at_row L A B p row e n) (at ∙ n) same own)
-            | inr off ↦
-                let k : ℕ = i - suc (length A) in
-                let place : i ≡ length A + suc k = omega arith in
-                let place' : i ≡ length A' + suc k = omega arith in
-                subst (λ r. Right i r) (sym (ap (row_at M) place' ∙ at_below M A' B' p' k f))
-                (other_is t (row_at B k) (row_at B' k) p row col i (at_row L A B p row e n) (ap (row_at L) place ∙ at_below L A B p k e) (omega arith) (below.1 k (omega arith)))
-          ]
+          | inl at ↦
+              subst (λ r. Right i r) (sym (at_row M A' B' p' i f (counts ∙ sym at)))
+              (own_is t p' p row col i (at_row L A B p row e n) (at ∙ n) same own)
+          | inr off ↦
+              let k : ℕ = i - suc (length A) in
+              let place : i ≡ length A + suc k = omega arith in
+              let place' : i ≡ length A' + suc k = omega arith in
+              subst (λ r. Right i r) (sym (ap (row_at M) place' ∙ at_below M A' B' p' k f))
+              (other_is t (row_at B k) (row_at B' k) p row col i (at_row L A B p row e n) (ap (row_at L) place ∙ at_below L A B p k e) (omega arith) (below.1 k (omega arith)))
+        ]
       ];
     }
   where
@@ -170,12 +170,12 @@ lowest old new den low size g e above is rows low_is =
       den_is = ap (λ z. z *ℤ pos g) low_is ∙ ap pos (mul_comm (size / g) g ∙ mul-div_cancel' g is.number ∙ e) ∙ positive_is den above;
       rows = rows;
       lowest = λ d at_low at_entries.
-        let quotient : d ∣ size / g = subst (λ n. d ∣ n) (ap unsigned_abs low_is) at_low in
-        let at_den : g * d ∣ size = subst (λ n. g * d ∣ n) (mul-div_cancel' g is.number) (mul-dvd-mul_left d g quotient) in
-        let at_each : (i j : ℕ) → i < length old → j < length (row_at old i) → g * d ∣ unsigned_abs (entry_of (row_at old i) j) = λ i j lt within.
+          let quotient : d ∣ size / g = subst (λ n. d ∣ n) (ap unsigned_abs low_is) at_low in
+          let at_den : g * d ∣ size = subst (λ n. g * d ∣ n) (mul-div_cancel' g is.number) (mul-dvd-mul_left d g quotient) in
+          let at_each : (i j : ℕ) → i < length old → j < length (row_at old i) → g * d ∣ unsigned_abs (entry_of (row_at old i) j) = λ i j lt within.
           subst (λ n. g * d ∣ n) (mul_comm g (unsigned_abs (entry_of (row_at new i) j)) ∙ sym (unsigned_abs-mul (entry_of (row_at new i) j) (pos g)) ∙ ap unsigned_abs ((rows.1 i lt).1 j within)) (mul-dvd-mul_left d g (at_entries i j lt within)) in
-        let whole : g * d ∣ g * 1 = subst (λ n. g * d ∣ n) (sym (times_one g)) (is.greatest (g * d) at_den at_each) in
-        dvd_antisymm (dvd_of_mul-dvd-mul_left d some whole) (one-dvd d);
+          let whole : g * d ∣ g * 1 = subst (λ n. g * d ∣ n) (sym (times_one g)) (is.greatest (g * d) at_den at_each) in
+          dvd_antisymm (dvd_of_mul-dvd-mul_left d some whole) (one-dvd d);
     }
   where
     times_one : (g : ℕ) → g * 1 ≡ g

@@ -1,9 +1,9 @@
 -- Lemmas on small numbers, whose products fit.
-use Rattle.std.proofs.Common.{◌≡◌, ◌≢◌, ℕ, ◌+◌, ◌*◌, ◌<◌, ◌≤◌, ◌^◌, ℤ, pos, negsuc, neg_ℤ, ◌+ℤ◌, ◌-ℤ◌, ◌*ℤ◌, unsigned_abs, length, List, zero, suc, sym, subst, arith}
+use Rattle.std.proofs.Common.{◌≡◌, ℕ, ◌+◌, ◌*◌, ◌<◌, ◌≤◌, ◌^◌, ℤ, pos, negsuc, ◌-ℤ◌, ◌*ℤ◌, unsigned_abs, length, List, sym, subst, arith}
 use Rattle.std.proofs.lemmas.Int.{ints, unsigned_abs-mul}
 use Rattle.std.proofs.Math.Nat.{mul-le-mul}
 use Rattle.fraction.specs.Fractions.{Fits}
-use Rattle.fraction.specs.Tables.{Table, PivotFits}
+use Rattle.fraction.specs.Tables.{PivotFits}
 use Rattle.fraction.specs.Rows.{row_at, entry_of, IsSmall, IsLevelWith}
 
 -- the product of small numbers
@@ -41,9 +41,9 @@ small_pivot L den row col small_den small inside level within =
       den = fits_product den _ small_den top;
       pivot_row = λ j place. fits_product _ den (small row inside j place.1) small_den;
       others = λ i j ne place.
-        let same = level i place.0 in
-        let entry = small i place.0 j place.1 in
-        let taken = small i place.0 col (subst (λ n. col < n) (sym same) within) in
-        let above = small row inside j (subst (λ n. j < n) same place.1) in
-        small_entry (entry_of (row_at L i) j) (entry_of (row_at L row) col) (entry_of (row_at L i) col) (entry_of (row_at L row) j) entry top taken above;
+          let same = level i place.0 in
+          let entry = small i place.0 j place.1 in
+          let taken = small i place.0 col (subst (λ n. col < n) (sym same) within) in
+          let above = small row inside j (subst (λ n. j < n) same place.1) in
+          small_entry (entry_of (row_at L i) j) (entry_of (row_at L row) col) (entry_of (row_at L i) col) (entry_of (row_at L row) j) entry top taken above;
     }

@@ -1,12 +1,11 @@
 -- Lemmas on a pivot in lowest terms.
-use Rattle.std.proofs.Common.{◌≡◌, ◌≢◌, ℕ, ◌+◌, ◌*◌, ◌<◌, ◌≤◌, ◌^◌, ℤ, pos, negsuc, neg_ℤ, ◌*ℤ◌, ◌-ℤ◌, ◌<ℤ◌, unsigned_abs, List, false, true, length, zero, suc, sym, refl, subst, ap, ◌∙◌, inl, inr, arith, Vec}
-use Rattle.std.specs.declared.alloc.Global.{Global}
+use Rattle.std.proofs.Common.{◌≡◌, ◌≢◌, ℕ, ◌*◌, ◌<◌, ◌≤◌, ◌^◌, ℤ, pos, negsuc, neg_ℤ, ◌*ℤ◌, ◌<ℤ◌, unsigned_abs, List, false, true, length, zero, suc, sym, subst, ap, ◌∙◌, inl, inr, arith}
 use Rattle.std.proofs.lemmas.Bool.{cases_eq, eq-eqb, ne_eqb}
 use Rattle.std.proofs.lemmas.Int.{ints, unsigned_abs-mul}
 use Rattle.std.proofs.Math.Nat.{mul-le-mul_left}
 use Rattle.fraction.specs.Fractions.{Fits}
-use Rattle.fraction.specs.Tables.{Table, IsTable, IsPlace, IsPivoted, PivotFits, HasSameShape, pivoted, entry_at, row_of}
-use Rattle.fraction.specs.Rows.{lists_of, row_at, entry_of, IsLevelWith, IsUnreduced, IsLowest}
+use Rattle.fraction.specs.Tables.{Table, IsTable, IsPlace, IsPivoted, PivotFits, pivoted, entry_at, row_of}
+use Rattle.fraction.specs.Rows.{row_at, entry_of, IsUnreduced, IsLowest}
 use Rattle.fraction.proofs.Lowest.{signed_of-*ℤ}
 
 -- a number that fits, where it fits as a multiple
@@ -80,9 +79,9 @@ is_pivoted t M N low row col made lowest =
       positive = lowest.positive;
       den = lowest.den_is;
       entries = λ i j place.
-        (lowest.rows.1 i (in_m i place.0 count)).1 j (subst (λ n. j < n) (sym (made.entries i place.0).0) place.1) ∙ (made.entries i place.0).1 j place.1;
+          (lowest.rows.1 i (in_m i place.0 count)).1 j (subst (λ n. j < n) (sym (made.entries i place.0).0) place.1) ∙ (made.entries i place.0).1 j place.1;
       lowest = λ d at_low at_entries. lowest.lowest d at_low
-        (λ i j lt within. at_entries i j (in_t i lt count, subst (λ n. j < n) (made.entries i (in_t i lt count)).0 within));
+          (λ i j lt within. at_entries i j (in_t i lt count, subst (λ n. j < n) (made.entries i (in_t i lt count)).0 within));
     }
   where
     in_m : (i : ℕ) → i < length t.rows → length M ≡ length t.rows → i < length M
@@ -98,8 +97,8 @@ pivoted_table t u row col table fits positive is =
     record {
       level = λ i k li lk. is.shape.columns i (omega arith) ∙ table.level i k (omega arith) (omega arith) ∙ sym (is.shape.columns k (omega arith));
       entries_fit = λ i j place.
-        let old : IsPlace t i j = (omega arith, subst (λ n. j < n) (is.shape.columns i (omega arith)) place.1) in
-        smaller_fits _ _ is.divisor (is.entries i j old) is.positive (pivoted_fits t row col i j fits old);
+          let old : IsPlace t i j = (omega arith, subst (λ n. j < n) (is.shape.columns i (omega arith)) place.1) in
+          smaller_fits _ _ is.divisor (is.entries i j old) is.positive (pivoted_fits t row col i j fits old);
       positive = quotient_positive u.den _ is.divisor is.den (product_positive t.den _ table.positive positive);
       den_fits = smaller_fits u.den _ is.divisor is.den is.positive fits.den;
     }

@@ -1,12 +1,12 @@
 -- Lemmas on sums of columns.
-use Rattle.std.proofs.Common.{◌≡◌, ◌≢◌, ℕ, ◌+◌, ◌<◌, ◌≤◌, ℤ, pos, ◌+ℤ◌, to_z, of_z, List, [], ◌∷◌, length, take, get_or, sym, refl, subst, ap, ◌∙◌, inl, inr, arith}
-use Rattle.std.specs.Prelude.{FitsSigned, fold}
+use Rattle.std.proofs.Common.{◌≡◌, ℕ, ◌+◌, ◌<◌, ◌≤◌, ℤ, pos, ◌+ℤ◌, to_z, of_z, List, [], ◌∷◌, length, take, get_or, sym, refl, subst, ap, ◌∙◌, inl, inr, arith}
+use Rattle.std.specs.Prelude.{FitsSigned}
 use Rattle.std.specs.Int.{w128}
 use Rattle.std.proofs.lemmas.Bool.{cases_eq}
 use Rattle.std.proofs.lemmas.Int.{to_z-of_z}
 use Rattle.std.proofs.lemmas.List.Sums.{fold_more}
 use Rattle.fraction.specs.Fractions.{Fits}
-use Rattle.fraction.specs.Tables.{Table, IsTable, IsPlace, IsSummed, SumsFit, SumFits, sum_in, entry_at, row_of}
+use Rattle.fraction.specs.Tables.{Table, IsTable, IsSummed, SumsFit, sum_in, row_of}
 use Rattle.fraction.specs.Rows.{row_at, entry_of, EachRow, IsSummedRow}
 use Rattle.fraction.proofs.RowLemmas.{seen}
 

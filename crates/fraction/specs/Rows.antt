@@ -3,7 +3,7 @@ use Rattle.std.specs.Prelude.{◌≡◌, ◌≢◌, ℕ, ◌<◌, ◌≤◌, ◌
 use Rattle.std.specs.declared.alloc.Global.{Global}
 use Rattle.std.specs.Int.{◌∣◌}
 use Rattle.fraction.specs.Fractions.{Fits}
-use Rattle.fraction.specs.Tables.{Table, IsPlace, row_of, pivoted, sum_in, SumFits}
+use Rattle.fraction.specs.Tables.{Table, row_of, pivoted, sum_in, SumFits}
 
 -- the entry in a column
 abbrev pub entry_of : List ℤ → ℕ → ℤ

@@ -3,7 +3,9 @@
 //! Nothing is rounded and nothing wraps. Where a number that a call forms on its way does not fit, the call
 //! answers `Overflow`; so whoever reckons with these fractions has the exact result or knows that there is none.
 //!
-//! This crate stands on `divisor`. The simplex method above it reckons with these fractions.
+//! `Shared` is a table of numbers over one denominator, with the pivots of a simplex tableau. A refused call leaves it as it was.
+//!
+//! This crate depends on `divisor`. The simplex method keeps its tableau in a `Shared`.
 //!
 //! ```text
 //! let half = Frac::of(1, 2)?;

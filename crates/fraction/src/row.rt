@@ -53,7 +53,12 @@ pub(crate) fn test_scale(row: &[i128], factor: i128) -> Result<(), FracFault>
 }
 
 /// Tests that the numbers fit that are formed where `taken` times the pivot's row is taken from `scale` times this row.
-pub(crate) fn test_combine(row: &[i128], scale: i128, pivot_row: &[i128], taken: i128) -> Result<(), FracFault>
+pub(crate) fn test_combine(
+    row: &[i128],
+    scale: i128,
+    pivot_row: &[i128],
+    taken: i128,
+) -> Result<(), FracFault>
     requires { length row.now ≡ length pivot_row.now }
     ensures fits { IsOk result ↔ CombineFits row.now scale pivot_row.now taken }
     ensures overflow { IfErr result (λ e. e ≡ FracFault.Overflow) }
@@ -86,7 +91,12 @@ pub(crate) fn combine(row: &mut [i128], scale: i128, pivot_row: &[i128], taken: 
 }
 
 /// Tests that the numbers fit that `eliminate` forms.
-pub(crate) fn test_eliminate(row: &[i128], scale: i128, pivot_row: &[i128], column: usize) -> Result<(), FracFault>
+pub(crate) fn test_eliminate(
+    row: &[i128],
+    scale: i128,
+    pivot_row: &[i128],
+    column: usize,
+) -> Result<(), FracFault>
     requires lengths { length row.now ≡ length pivot_row.now }
     requires column { column < length row.now }
     ensures fits { IsOk result ↔ EliminateFits row.now scale pivot_row.now column }

@@ -57,7 +57,12 @@ fn test_others(rows: &[Vec<i128>], scale: i128, row: usize, column: usize) -> Re
 }
 
 /// Tests that the numbers fit that the pivot at a place forms.
-pub(crate) fn test_pivot(rows: &[Vec<i128>], den: i128, row: usize, column: usize) -> Result<(), FracFault>
+pub(crate) fn test_pivot(
+    rows: &[Vec<i128>],
+    den: i128,
+    row: usize,
+    column: usize,
+) -> Result<(), FracFault>
     requires row { row < length rows.now }
     requires level { IsLevelWith (lists_of rows.now) row }
     requires column { column < length (row_at (lists_of rows.now) row) }

@@ -67,7 +67,6 @@ fn fractions_are_reckoned_exactly(rt: HostRuntime) -> Result<(), Fail> {
     Ok(())
 }
 
-
 /// The table of two rows of two numbers over 1.
 fn square(alloc: Global, a: i128, b: i128, c: i128, d: i128) -> Result<Shared, AllocError>
     requires upper { Fits a × Fits b }
@@ -86,7 +85,14 @@ fn shown(alloc: Global, table: &Shared) -> Result<String, AllocError>
 {
     let upper = (table.entry(0, 0), table.entry(0, 1));
     let lower = (table.entry(1, 0), table.entry(1, 1));
-    format!(in alloc; "{} {}, {} {} over {}", upper.0, upper.1, lower.0, lower.1, table.den())
+    format!(in alloc;
+        "{} {}, {} {} over {}",
+        upper.0,
+        upper.1,
+        lower.0,
+        lower.1,
+        table.den()
+    )
 }
 
 /// What a pivot at the first place answers, and the table then.
@@ -123,6 +129,9 @@ fn columns_are_summed(rt: HostRuntime) -> Result<(), Fail> {
     assert_eq!(rt; table.sum(0, [0usize, 1, 1].as_slice()), Ok(4));
     assert_eq!(rt; table.sum_columns([0usize, 1].as_slice(), 0), Ok(()));
     let mut large = square(alloc, HUGE, HUGE, 0, 0)?;
-    assert_eq!(rt; large.sum_columns([0usize, 1].as_slice(), 1), Err(FracFault::Overflow));
+    assert_eq!(rt;
+        large.sum_columns([0usize, 1].as_slice(), 1),
+        Err(FracFault::Overflow)
+    );
     Ok(())
 }

@@ -1,5 +1,5 @@
 -- Weights that are divided by their greatest common divisor.
-use Rattle.std.proofs.Common.{◌≡◌, ◌≢◌, ℕ, ◌+◌, ◌*◌, ◌/◌, ◌<◌, ◌≤◌, List, [], ◌∷◌, length, map, sum, get_or, zero, suc, sym, refl, subst, ap, ◌∙◌, arith, replicate}
+use Rattle.std.proofs.Common.{◌≡◌, ◌≢◌, ℕ, ◌*◌, ◌/◌, ◌<◌, List, [], ◌∷◌, length, map, sum, get_or, zero, suc, sym, refl, subst, ap, ◌∙◌, arith}
 use Rattle.std.specs.List.{All}
 use Rattle.std.specs.Int.{◌∣◌}
 use Rattle.std.proofs.lemmas.List.{get_or-map, length-map}
@@ -27,10 +27,10 @@ no_sum xs g is none some = let flat = zeros xs (subst (λ d. All (λ x. d ∣ x)
 pub lowest : (xs ys : List ℕ) (g : ℕ) → IsGreatestDivisor xs g → g ≢ 0 → ys ≡ map (λ x. x / g) xs → HaveNoCommonDivisor ys
 lowest xs ys g is some e = λ d all.
     let whole : g * d ∣ g * 1 = subst (λ n. g * d ∣ n) (sym (times_one g)) (is.greatest (g * d) (λ j x lt.
-      let at : get_or ys j x ≡ get_or xs j x / g = ap (λ zs. get_or zs j x) e ∙ get_or-map (λ y. y / g) xs j x x lt in
-      let long : length ys ≡ length xs = ap length e ∙ length-map xs (λ y. y / g) in
-      let quotient : d ∣ get_or xs j x / g = subst (λ n. d ∣ n) at (all j x (omega arith)) in
-      subst (λ n. g * d ∣ n) (mul-div_cancel' g (is.divides j x lt)) (mul-dvd-mul_left d g quotient))) in
+    let at : get_or ys j x ≡ get_or xs j x / g = ap (λ zs. get_or zs j x) e ∙ get_or-map (λ y. y / g) xs j x x lt in
+    let long : length ys ≡ length xs = ap length e ∙ length-map xs (λ y. y / g) in
+    let quotient : d ∣ get_or xs j x / g = subst (λ n. d ∣ n) at (all j x (omega arith)) in
+    subst (λ n. g * d ∣ n) (mul-div_cancel' g (is.divides j x lt)) (mul-dvd-mul_left d g quotient))) in
     eq-one_of_dvd-one (dvd_of_mul-dvd-mul_left d (omega arith) whole)
   where
     times_one : (g : ℕ) → g * 1 ≡ g

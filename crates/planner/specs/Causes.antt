@@ -3,7 +3,6 @@ use Rattle.simplex.specs.declared.fault.SimplexFault.{SimplexFault}
 use Rattle.simplex.specs.declared.fault.SimplexFault.TheVariants.{Overflow as TooWide, PivotLimit as TooLong, NoRow as Unlimited, OutOfMemory as NoRoom}
 use Rattle.certificate.specs.declared.fault.PlanFault.{PlanFault}
 use Rattle.certificate.specs.declared.fault.PlanFault.TheVariants.{WrongLength as OtherLength, TooLarge as AboveLimit, Empty as AllZero, OutOfMemory as NoPlace}
-use Rattle.planner.specs.declared.fault.Cause.{Cause}
 use Rattle.planner.specs.declared.fault.Cause.TheVariants.{Overflow, PivotLimit, NoRow, WrongLength, TooLarge, Empty, NotOptimal}
 use Rattle.planner.specs.declared.fault.PlannerFault.{PlannerFault}
 use Rattle.planner.specs.declared.fault.PlannerFault.TheVariants.{NoPlan, OutOfMemory}

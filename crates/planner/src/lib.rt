@@ -1,10 +1,10 @@
 //! Plans for coteries: weights of quorums that load the busiest voter least, found and certified.
 //!
-//! `plan` tries all weights 1, which are optimal exactly for uniform coteries; then weights that the simplex method
+//! `plan` tries all weights 1, which are optimal if and only if the coterie is uniform; then weights that the simplex method
 //! finds. Each attempt is checked by `certificate::check`, so a plan that is answered is optimal however it was found,
 //! and only whether one is found for a coterie that is not uniform is left to the method.
 //!
-//! This crate stands on `certificate` and `simplex`.
+//! This crate depends on `certificate` and `simplex`.
 //!
 //! ```text
 //! // A hub 0 with three rims: {0, 1}, {0, 2}, {0, 3} and {1, 2, 3}.

@@ -126,6 +126,9 @@ fn causes_are_printed_by_their_codes(rt: HostRuntime) -> Result<(), Fail> {
         let fault = PlannerFault::NoPlan(*cause);
         assert_eq!(rt; fault.to_string(alloc)?.as_str(), *want);
     }
-    assert_eq!(rt; PlannerFault::OutOfMemory.to_string(alloc)?.as_str(), "O1 OutOfMemory");
+    assert_eq!(rt;
+        PlannerFault::OutOfMemory.to_string(alloc)?.as_str(),
+        "O1 OutOfMemory"
+    );
     Ok(())
 }

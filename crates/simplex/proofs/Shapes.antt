@@ -1,5 +1,5 @@
 -- Shapes of tables.
-use Rattle.std.proofs.Common.{◌≡◌, ℕ, ◌+◌, ◌<◌, false, ℤ, pos, ◌<ℤ◌, to_z, of_z, length, Result, Ok, Err, OnOk, OnErr, sym, subst, ap, ◌∙◌, arith}
+use Rattle.std.proofs.Common.{◌≡◌, ℕ, ◌<◌, false, ℤ, pos, ◌<ℤ◌, to_z, of_z, length, Result, Ok, Err, OnOk, OnErr, sym, subst, ◌∙◌, arith}
 use Rattle.std.specs.Prelude.{FitsSigned}
 use Rattle.std.specs.Int.{w128}
 use Rattle.std.specs.Int.Signed.{le_z}

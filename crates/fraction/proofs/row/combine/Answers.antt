@@ -1,14 +1,9 @@
-use Rattle.std.proofs.Common.{rules, ◌≡◌, ◌≢◌, ℕ, ◌+◌, ◌<◌, ◌≤◌, ℤ, pos, ◌-ℤ◌, ◌*ℤ◌, to_z, of_z, unsigned_abs, length, get_or, not, sym, subst, ap, ◌∙◌, refl, arith, below_more}
+use Rattle.std.proofs.Common.{rules, ◌≡◌, ℕ, ◌<◌, pos, to_z, of_z, length, get_or, sym, ap, ◌∙◌, refl, arith}
 use Rattle.std.specs.Prelude.{FitsSigned}
-use Rattle.std.specs.Int.{w128, ◌∣◌, IsGcd}
-use Rattle.std.specs.Int.Signed.{lt_z}
-use Rattle.std.proofs.lemmas.Int.{to_z-of_z, fits_signed_from_abs}
-use Rattle.std.proofs.Math.Nat.{one-dvd, div-le_self}
-use Rattle.std.proofs.lemmas.Nat.Gcd.{dvd_trans}
-use Rattle.fraction.specs.Fractions.{Fits, signed_of}
+use Rattle.std.specs.Int.{w128}
+use Rattle.std.proofs.lemmas.Int.{to_z-of_z}
 use Rattle.fraction.specs.Rows.{combined}
-use Rattle.fraction.proofs.Passed.{passed-product, product-unfit, difference-unfit, refused}
-use Rattle.fraction.proofs.RowLemmas.{stored, kept, as_passed, seen, product_is, product_fits, difference_is, difference_fits, fit_product, fit_difference, quotient_exact}
+use Rattle.fraction.proofs.RowLemmas.{stored, kept, product_is, difference_is, difference_fits}
 use Rattle.fraction.proofs.row.combine.Goals as goal
 
 pub overflow_sub-entry : goal.overflow_sub-entry
@@ -31,6 +26,6 @@ loop-j-preserved c =
     let back = sym (ap (λ t. combined c.args.row.now t c.args.pivot_row.now (to_z w128 (of_z w128 c.args.taken)) j) (to_z-of_z w128 c.args.scale c.ranges.scale) ∙ ap (λ t. combined c.args.row.now c.args.scale c.args.pivot_row.now t j) (to_z-of_z w128 c.args.taken c.ranges.taken)) in
     record {
       done = stored (λ k v. v ≡ combined c.args.row.now (to_z w128 (of_z w128 c.args.scale)) c.args.pivot_row.now (to_z w128 (of_z w128 c.args.taken)) k) _ _ _ lt c.loop-j.invariant.done
-      (difference_is _ _ _ _ (product_is _ _ _ at c.ranges.scale was fits.0) (product_is _ _ _ c.ranges.taken other refl fits.1) fits.2 ∙ back);
+          (difference_is _ _ _ _ (product_is _ _ _ at c.ranges.scale was fits.0) (product_is _ _ _ c.ranges.taken other refl fits.1) fits.2 ∙ back);
       left = kept _ _ _ _ c.loop-j.invariant.left;
     }

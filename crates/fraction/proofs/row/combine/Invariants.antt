@@ -1,6 +1,4 @@
-use Rattle.std.proofs.Common.{◌≡◌, ◌≢◌, ℕ, ◌+◌, ◌<◌, ◌≤◌, ◌^◌, ℤ, pos, ◌*ℤ◌, ◌-ℤ◌, unsigned_abs, length, get_or}
-use Rattle.std.specs.Int.{◌∣◌}
-use Rattle.fraction.specs.Fractions.{Fits}
+use Rattle.std.proofs.Common.{◌≡◌, ℕ, ◌<◌, ◌≤◌, pos, get_or}
 use Rattle.fraction.specs.Rows.{combined}
 use Rattle.fraction.proofs.row.combine.Given as goal
 

@@ -1,14 +1,9 @@
-use Rattle.std.proofs.Common.{rules, ◌≡◌, ◌≢◌, ℕ, ◌+◌, ◌<◌, ◌≤◌, ℤ, pos, ◌-ℤ◌, ◌*ℤ◌, to_z, of_z, unsigned_abs, length, get_or, not, sym, subst, ap, ◌∙◌, refl, arith, below_more}
+use Rattle.std.proofs.Common.{rules, ℕ, pos, unsigned_abs, get_or, subst, ap, ◌∙◌, arith, below_more}
 use Rattle.std.specs.Prelude.{FitsSigned}
 use Rattle.std.specs.Int.{w128, ◌∣◌, IsGcd}
-use Rattle.std.specs.Int.Signed.{lt_z}
-use Rattle.std.proofs.lemmas.Int.{to_z-of_z, fits_signed_from_abs}
-use Rattle.std.proofs.Math.Nat.{one-dvd, div-le_self}
+use Rattle.std.proofs.lemmas.Int.{to_z-of_z}
+use Rattle.std.proofs.Math.Nat.{one-dvd}
 use Rattle.std.proofs.lemmas.Nat.Gcd.{dvd_trans}
-use Rattle.fraction.specs.Fractions.{Fits, signed_of}
-use Rattle.fraction.specs.Rows.{combined}
-use Rattle.fraction.proofs.Passed.{passed-product, product-unfit, difference-unfit, refused}
-use Rattle.fraction.proofs.RowLemmas.{stored, kept, as_passed, product_is, product_fits, difference_is, difference_fits, fit_product, fit_difference, quotient_exact}
 use Rattle.fraction.proofs.row.divisor_of.Goals as goal
 
 pub returns-then-common-eq1 : goal.returns-then-common-eq1

@@ -1,7 +1,4 @@
-use Rattle.std.proofs.Common.{◌≡◌, ◌≢◌, ℕ, ◌+◌, ◌<◌, ◌≤◌, ◌^◌, ℤ, pos, ◌*ℤ◌, ◌-ℤ◌, unsigned_abs, length, get_or}
-use Rattle.std.specs.Int.{◌∣◌}
-use Rattle.fraction.specs.Fractions.{Fits}
-use Rattle.fraction.specs.Rows.{combined}
+use Rattle.std.proofs.Common.{ℕ, ◌<◌, ◌≤◌, ◌^◌, pos, unsigned_abs, get_or}
 use Rattle.fraction.proofs.row.is_small.Given as goal
 
 abbrev pub invariant-loop-entry : goal.invariant-loop-entry

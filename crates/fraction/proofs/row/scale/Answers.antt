@@ -1,14 +1,8 @@
-use Rattle.std.proofs.Common.{rules, ◌≡◌, ◌≢◌, ℕ, ◌+◌, ◌<◌, ◌≤◌, ℤ, pos, ◌-ℤ◌, ◌*ℤ◌, to_z, of_z, unsigned_abs, length, get_or, not, sym, subst, ap, ◌∙◌, refl, arith, below_more}
+use Rattle.std.proofs.Common.{rules, ◌≡◌, ℕ, ◌<◌, pos, ◌*ℤ◌, to_z, of_z, length, get_or, sym, ap, ◌∙◌, arith}
 use Rattle.std.specs.Prelude.{FitsSigned}
-use Rattle.std.specs.Int.{w128, ◌∣◌, IsGcd}
-use Rattle.std.specs.Int.Signed.{lt_z}
-use Rattle.std.proofs.lemmas.Int.{to_z-of_z, fits_signed_from_abs}
-use Rattle.std.proofs.Math.Nat.{one-dvd, div-le_self}
-use Rattle.std.proofs.lemmas.Nat.Gcd.{dvd_trans}
-use Rattle.fraction.specs.Fractions.{Fits, signed_of}
-use Rattle.fraction.specs.Rows.{combined}
-use Rattle.fraction.proofs.Passed.{passed-product, product-unfit, difference-unfit, refused}
-use Rattle.fraction.proofs.RowLemmas.{stored, kept, as_passed, seen, product_is, product_fits, difference_is, difference_fits, fit_product, fit_difference, quotient_exact}
+use Rattle.std.specs.Int.{w128}
+use Rattle.std.proofs.lemmas.Int.{to_z-of_z}
+use Rattle.fraction.proofs.RowLemmas.{stored, kept, product_is}
 use Rattle.fraction.proofs.row.scale.Goals as goal
 
 pub loop-entry-preserved : goal.loop-entry-preserved

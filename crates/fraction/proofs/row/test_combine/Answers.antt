@@ -1,14 +1,9 @@
-use Rattle.std.proofs.Common.{rules, ◌≡◌, ◌≢◌, ℕ, ◌+◌, ◌<◌, ◌≤◌, ℤ, pos, ◌-ℤ◌, ◌*ℤ◌, to_z, of_z, unsigned_abs, length, get_or, not, sym, subst, ap, ◌∙◌, refl, arith, below_more}
+use Rattle.std.proofs.Common.{rules, pos, get_or, refl, arith, below_more}
 use Rattle.std.specs.Prelude.{FitsSigned}
-use Rattle.std.specs.Int.{w128, ◌∣◌, IsGcd}
-use Rattle.std.specs.Int.Signed.{lt_z}
-use Rattle.std.proofs.lemmas.Int.{to_z-of_z, fits_signed_from_abs}
-use Rattle.std.proofs.Math.Nat.{one-dvd, div-le_self}
-use Rattle.std.proofs.lemmas.Nat.Gcd.{dvd_trans}
-use Rattle.fraction.specs.Fractions.{Fits, signed_of}
-use Rattle.fraction.specs.Rows.{combined}
+use Rattle.std.specs.Int.{w128}
+use Rattle.std.proofs.lemmas.Int.{to_z-of_z}
 use Rattle.fraction.proofs.Passed.{passed-product, product-unfit, difference-unfit, refused}
-use Rattle.fraction.proofs.RowLemmas.{stored, kept, as_passed, product_is, product_fits, difference_is, difference_fits, fit_product, fit_difference, quotient_exact}
+use Rattle.fraction.proofs.RowLemmas.{fit_product, fit_difference}
 use Rattle.fraction.proofs.row.test_combine.Goals as goal
 
 pub returns-in_err-product-2-clause-fits : goal.returns-in_err-product-2-clause-fits
@@ -34,8 +29,8 @@ loop-j-preserved c =
     let seen_other = to_z-of_z w128 _ other in
     let left = passed-product _ _ _ _ _ seen refl c.in_ok-product.ensures in
     let right = passed-product _ _ _ _ _ refl seen_other c.in_ok-product-2.ensures in
-    below_more _ _ c.loop-j.invariant
-    ( fit_product _ _ _ _ seen refl c.in_ok-product.ensures.1
-    , fit_product _ _ _ _ refl seen_other c.in_ok-product-2.ensures.1
-    , fit_difference _ _ _ _ left right c.in_ok-difference.ensures.1
+    below_more _ _ c.loop-j.invariant (
+      fit_product _ _ _ _ seen refl c.in_ok-product.ensures.1,
+      fit_product _ _ _ _ refl seen_other c.in_ok-product-2.ensures.1,
+      fit_difference _ _ _ _ left right c.in_ok-difference.ensures.1,
     )

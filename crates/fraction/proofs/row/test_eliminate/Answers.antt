@@ -1,11 +1,8 @@
-use Rattle.std.proofs.Common.{rules, ◌≡◌, ◌≢◌, ℕ, ◌+◌, ◌<◌, ◌≤◌, ◌↔◌, ℤ, pos, ◌*ℤ◌, to_z, of_z, unsigned_abs, length, map, get_or, sym, subst, ap, ◌∙◌, refl, arith, below_more, IsOk}
+use Rattle.std.proofs.Common.{rules, ◌↔◌, pos, to_z, of_z, get_or, subst, IsOk}
 use Rattle.std.specs.Prelude.{FitsSigned}
-use Rattle.std.specs.Int.{w128, ◌∣◌}
+use Rattle.std.specs.Int.{w128}
 use Rattle.std.proofs.lemmas.Int.{to_z-of_z}
-use Rattle.std.proofs.lemmas.List.{length-map}
-use Rattle.std.proofs.lemmas.Nat.Gcd.{dvd_trans}
-use Rattle.fraction.specs.Fractions.{Fits}
-use Rattle.fraction.specs.Rows.{lists_of, row_at, entry_of, combined, CombineFits, IsEliminated, IsDivided, EliminateFits}
+use Rattle.fraction.specs.Rows.{entry_of, CombineFits}
 use Rattle.fraction.proofs.row.test_eliminate.Goals as goal
 
 pub returns-clause-fits : goal.returns-clause-fits

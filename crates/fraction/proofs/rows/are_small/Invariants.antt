@@ -1,6 +1,5 @@
-use Rattle.std.proofs.Common.{◌≡◌, ℕ, ◌+◌, ◌<◌, ◌≤◌, ℤ, pos, ◌*ℤ◌, unsigned_abs, length, get_or, List, []}
-use Rattle.std.specs.Int.{◌∣◌}
-use Rattle.fraction.specs.Rows.{lists_of, row_at, entry_of, IsSmall, IsDivided}
+use Rattle.std.proofs.Common.{ℕ, ◌<◌}
+use Rattle.fraction.specs.Rows.{lists_of, row_at, IsSmall}
 use Rattle.fraction.proofs.rows.are_small.Given as goal
 
 abbrev pub invariant-loop-i : goal.invariant-loop-i

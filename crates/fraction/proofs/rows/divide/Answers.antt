@@ -1,11 +1,8 @@
-use Rattle.std.proofs.Common.{rules, ◌≡◌, ◌≢◌, ℕ, ◌+◌, ◌<◌, ◌≤◌, ◌↔◌, ℤ, pos, ◌*ℤ◌, to_z, of_z, unsigned_abs, length, map, get_or, sym, subst, ap, ◌∙◌, refl, arith, below_more, IsOk}
-use Rattle.std.specs.Prelude.{FitsSigned}
-use Rattle.std.specs.Int.{w128, ◌∣◌}
-use Rattle.std.proofs.lemmas.Int.{to_z-of_z}
+use Rattle.std.proofs.Common.{◌≡◌, ℕ, ◌<◌, unsigned_abs, length, get_or, sym, subst, arith}
+use Rattle.std.specs.Int.{◌∣◌}
 use Rattle.std.proofs.lemmas.List.{length-map}
-use Rattle.std.proofs.lemmas.Nat.Gcd.{dvd_trans}
 use Rattle.fraction.specs.Fractions.{Fits}
-use Rattle.fraction.specs.Rows.{lists_of, row_at, entry_of, combined, CombineFits, IsEliminated, IsDivided, EliminateFits}
+use Rattle.fraction.specs.Rows.{lists_of, row_at, entry_of, IsDivided}
 use Rattle.fraction.proofs.RowsLemmas.{was_row, stored_row, kept_row, written}
 use Rattle.fraction.proofs.rows.divide.Goals as goal
 
@@ -33,6 +30,6 @@ loop-row-preserved c =
     let old = row_at (lists_of c.args.rows.now) i in
     record {
       done = stored_row (λ k r. IsDivided c.args.divisor (row_at (lists_of c.args.rows.now) k) r) _ _ _ lt c.loop-row.invariant.done
-      (subst (IsDivided c.args.divisor old) (sym now) (subst (λ r. IsDivided c.args.divisor r c.divide.new.row) was (same, c.divide.ensures)));
+          (subst (IsDivided c.args.divisor old) (sym now) (subst (λ r. IsDivided c.args.divisor r c.divide.new.row) was (same, c.divide.ensures)));
       left = kept_row _ _ _ _ c.loop-row.invariant.left;
     }

@@ -1,10 +1,7 @@
-use Rattle.std.proofs.Common.{rules, ◌≡◌, ◌≢◌, ℕ, ◌+◌, ◌<◌, ◌≤◌, ℤ, pos, ◌*ℤ◌, to_z, of_z, unsigned_abs, length, map, get_or, sym, subst, ap, ◌∙◌, refl, arith, below_more}
-use Rattle.std.specs.Prelude.{FitsSigned}
-use Rattle.std.specs.Int.{w128, ◌∣◌}
-use Rattle.std.proofs.lemmas.Int.{to_z-of_z}
-use Rattle.std.proofs.lemmas.List.{length-map}
+use Rattle.std.proofs.Common.{ℕ, ◌<◌, unsigned_abs, length, sym, subst, arith, below_more}
+use Rattle.std.specs.Int.{◌∣◌}
 use Rattle.std.proofs.lemmas.Nat.Gcd.{dvd_trans}
-use Rattle.fraction.specs.Rows.{lists_of, row_at, entry_of, combined, CombineFits, IsEliminated, IsDivided, EliminateFits}
+use Rattle.fraction.specs.Rows.{lists_of, row_at, entry_of}
 use Rattle.fraction.proofs.rows.divisor_of.Goals as goal
 
 pub loop-i-preserved : goal.loop-i-preserved
@@ -13,8 +10,8 @@ loop-i-preserved c =
     record {
       number = dvd_trans _ is.number c.loop-i.invariant.number;
       entries = λ k j below. below_more (λ k. (j : ℕ) → j < length (row_at (lists_of c.args.rows.now) k) → c.divisor_of-common.result ∣ unsigned_abs (entry_of (row_at (lists_of c.args.rows.now) k) j)) c.loop-i.i
-      (λ k lt j within. dvd_trans _ is.number (c.loop-i.invariant.entries k j lt within))
-      (subst (λ r. (j : ℕ) → j < length r → c.divisor_of-common.result ∣ unsigned_abs (entry_of r j)) c.row_of.ensures is.entries) k below j;
+          (λ k lt j within. dvd_trans _ is.number (c.loop-i.invariant.entries k j lt within))
+          (subst (λ r. (j : ℕ) → j < length r → c.divisor_of-common.result ∣ unsigned_abs (entry_of r j)) c.row_of.ensures is.entries) k below j;
       greatest = λ d number entries. is.greatest d (c.loop-i.invariant.greatest d number (λ k j lt. entries k j (omega arith)))
-      (subst (λ r. (j : ℕ) → j < length r → d ∣ unsigned_abs (entry_of r j)) (sym c.row_of.ensures) (λ j. entries c.loop-i.i j (omega arith)));
+          (subst (λ r. (j : ℕ) → j < length r → d ∣ unsigned_abs (entry_of r j)) (sym c.row_of.ensures) (λ j. entries c.loop-i.i j (omega arith)));
     }

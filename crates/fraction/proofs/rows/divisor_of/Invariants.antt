@@ -1,6 +1,6 @@
-use Rattle.std.proofs.Common.{◌≡◌, ℕ, ◌+◌, ◌<◌, ◌≤◌, ℤ, pos, ◌*ℤ◌, unsigned_abs, length, get_or, List, []}
+use Rattle.std.proofs.Common.{ℕ, ◌<◌, unsigned_abs, length}
 use Rattle.std.specs.Int.{◌∣◌}
-use Rattle.fraction.specs.Rows.{lists_of, row_at, entry_of, IsSmall, IsDivided}
+use Rattle.fraction.specs.Rows.{lists_of, row_at, entry_of}
 use Rattle.fraction.proofs.rows.divisor_of.Given as goal
 
 abbrev pub invariant-loop-i : goal.invariant-loop-i

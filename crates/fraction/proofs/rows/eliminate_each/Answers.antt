@@ -1,11 +1,6 @@
-use Rattle.std.proofs.Common.{rules, ◌≡◌, ◌≢◌, ℕ, ◌+◌, ◌<◌, ◌≤◌, ◌↔◌, ℤ, pos, ◌*ℤ◌, to_z, of_z, unsigned_abs, length, map, get_or, sym, subst, ap, ◌∙◌, refl, arith, below_more, IsOk}
-use Rattle.std.specs.Prelude.{FitsSigned}
-use Rattle.std.specs.Int.{w128, ◌∣◌}
-use Rattle.std.proofs.lemmas.Int.{to_z-of_z}
-use Rattle.std.proofs.lemmas.List.{length-map}
-use Rattle.std.proofs.lemmas.Nat.Gcd.{dvd_trans}
-use Rattle.fraction.specs.Fractions.{Fits}
-use Rattle.fraction.specs.Rows.{lists_of, row_at, entry_of, combined, CombineFits, IsEliminated, IsDivided, EliminateFits}
+use Rattle.std.proofs.Common.{◌≡◌, ℕ, ◌<◌, to_z, of_z, length, get_or, sym, subst, arith}
+use Rattle.std.specs.Int.{w128}
+use Rattle.fraction.specs.Rows.{lists_of, row_at, IsEliminated}
 use Rattle.fraction.proofs.RowsLemmas.{was_row, stored_row, kept_row, written}
 use Rattle.fraction.proofs.rows.eliminate_each.Goals as goal
 
@@ -19,6 +14,6 @@ loop-row-preserved c =
     let old = row_at (lists_of c.args.rows.now) i in
     record {
       done = stored_row (λ k r. IsEliminated (row_at (lists_of c.args.rows.now) k) r (to_z w128 (of_z w128 c.args.scale)) c.args.pivot_row.now c.args.column) _ _ _ lt c.loop-row.invariant.done
-      (subst (λ r. IsEliminated old r (to_z w128 (of_z w128 c.args.scale)) c.args.pivot_row.now c.args.column) (sym now) (subst (λ r. IsEliminated r c.eliminate.new.row (to_z w128 (of_z w128 c.args.scale)) c.args.pivot_row.now c.args.column) was c.eliminate.ensures));
+          (subst (λ r. IsEliminated old r (to_z w128 (of_z w128 c.args.scale)) c.args.pivot_row.now c.args.column) (sym now) (subst (λ r. IsEliminated r c.eliminate.new.row (to_z w128 (of_z w128 c.args.scale)) c.args.pivot_row.now c.args.column) was c.eliminate.ensures));
       left = kept_row _ _ _ _ c.loop-row.invariant.left;
     }

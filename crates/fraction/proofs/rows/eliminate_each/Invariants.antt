@@ -1,6 +1,5 @@
-use Rattle.std.proofs.Common.{◌≡◌, ℕ, ◌+◌, ◌<◌, ◌≤◌, ℤ, pos, ◌*ℤ◌, unsigned_abs, length, get_or, List, []}
-use Rattle.std.specs.Int.{◌∣◌}
-use Rattle.fraction.specs.Rows.{lists_of, row_at, entry_of, IsSmall, IsEliminated, IsDivided}
+use Rattle.std.proofs.Common.{◌≡◌, ℕ, ◌<◌, ◌≤◌}
+use Rattle.fraction.specs.Rows.{lists_of, row_at, IsEliminated}
 use Rattle.fraction.proofs.rows.eliminate_each.Given as goal
 
 abbrev pub invariant-loop-row : goal.invariant-loop-row

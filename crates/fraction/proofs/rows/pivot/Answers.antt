@@ -1,14 +1,9 @@
-use Rattle.std.proofs.Common.{rules, ◌≡◌, ◌≢◌, ℕ, ◌+◌, ◌/◌, ◌<◌, ◌≤◌, ◌^◌, ◌↔◌, ℤ, pos, ◌*ℤ◌, ◌<ℤ◌, to_z, of_z, unsigned_abs, length, get_or, sym, subst, ap, ◌∙◌, refl, arith, IsOk, below_more}
-use Rattle.std.specs.Prelude.{FitsSigned}
+use Rattle.std.proofs.Common.{◌≡◌, ◌<◌, ℤ, to_z, of_z, length, get_or, sym, subst, ap, ◌∙◌, refl}
 use Rattle.std.specs.Int.{w128}
-use Rattle.std.proofs.lemmas.Int.{to_z-of_z, to_z_pos}
+use Rattle.std.proofs.lemmas.Int.{to_z-of_z}
 use Rattle.std.proofs.lemmas.List.{length-map}
-use Rattle.std.proofs.lemmas.Bool.{false≢true}
-use Rattle.fraction.specs.Fractions.{Fits}
-use Rattle.fraction.specs.Rows.{lists_of, row_at, entry_of, EachFits, EachRow, EliminateFits, IsEliminated, AllEliminateFit, OthersFit}
-use Rattle.fraction.proofs.Passed.{refused, passed-product}
-use Rattle.fraction.proofs.RowLemmas.{as_passed, fit_product}
-use Rattle.fraction.proofs.PivotLemmas.{at_row, single, single_set, scaled, all_eliminate_as, each_eliminated_as, parted, above_fits, below_fits, own_fits, unreduced, eliminate_as, pivot_fits, others_fit}
+use Rattle.fraction.specs.Rows.{lists_of, entry_of, EachFits}
+use Rattle.fraction.proofs.PivotLemmas.{at_row, single, single_set, scaled, all_eliminate_as, each_eliminated_as, parted, above_fits, below_fits, own_fits, unreduced}
 use Rattle.std.proofs.Common.{List, Vec}
 use Rattle.std.specs.declared.alloc.Global.{Global}
 use Rattle.std.specs.Vec.{with_items}

@@ -1,16 +1,8 @@
-use Rattle.std.proofs.Common.{rules, ◌≡◌, ◌≢◌, ℕ, ◌+◌, ◌<◌, ◌≤◌, ℤ, pos, ◌*ℤ◌, to_z, of_z, length, map, take, get_or, List, Vec, sym, subst, ap, ◌∙◌, refl, arith, below_more}
-use Rattle.std.specs.declared.alloc.Global.{Global}
-use Rattle.std.specs.Prelude.{FitsSigned}
-use Rattle.std.specs.Int.{w128}
-use Rattle.std.proofs.lemmas.Int.{to_z-of_z}
-use Rattle.std.proofs.lemmas.Bool.{false≢true}
-use Rattle.std.proofs.lemmas.List.{length-map, with_items_is}
-use Rattle.fraction.specs.Fractions.{Fits}
-use Rattle.fraction.specs.Tables.{Table, IsTable, IsSummed, SumFits, sum_in}
-use Rattle.fraction.specs.Rows.{lists_of, row_at, entry_of, EachRow, AllSumsFit, IsSummedRow}
-use Rattle.fraction.proofs.Passed.{refused}
+use Rattle.std.proofs.Common.{◌≡◌, ℕ, ◌<◌, length, get_or, sym, subst, arith}
+use Rattle.std.proofs.lemmas.List.{length-map}
+use Rattle.fraction.specs.Tables.{SumFits}
+use Rattle.fraction.specs.Rows.{lists_of, row_at, IsSummedRow}
 use Rattle.fraction.proofs.RowsLemmas.{was_row, stored_row, kept_row, written}
-use Rattle.fraction.proofs.SumLemmas.{sum_step, fits_step, summed, summed_table}
 use Rattle.fraction.proofs.rows.put_sums.Goals as goal
 
 pub put_sum-requires-clause-into : goal.put_sum-requires-clause-into
@@ -37,6 +29,6 @@ loop-row-preserved c =
     let old = row_at (lists_of c.args.rows.now) i in
     record {
       done = stored_row (λ k r. IsSummedRow c.args.columns.now c.args.into (row_at (lists_of c.args.rows.now) k) r) _ _ _ lt c.loop-row.invariant.done
-      (subst (IsSummedRow c.args.columns.now c.args.into old) (sym now) (subst (λ r. IsSummedRow c.args.columns.now c.args.into r c.put_sum.new.row) was c.put_sum.ensures));
+          (subst (IsSummedRow c.args.columns.now c.args.into old) (sym now) (subst (λ r. IsSummedRow c.args.columns.now c.args.into r c.put_sum.new.row) was c.put_sum.ensures));
       left = kept_row _ _ _ _ c.loop-row.invariant.left;
     }

@@ -1,13 +1,8 @@
-use Rattle.std.proofs.Common.{rules, ◌≡◌, ◌≢◌, ℕ, ◌+◌, ◌/◌, ◌<◌, ◌≤◌, ◌^◌, ◌↔◌, ℤ, pos, ◌*ℤ◌, ◌<ℤ◌, to_z, of_z, unsigned_abs, length, get_or, sym, subst, ap, ◌∙◌, refl, arith, IsOk}
-use Rattle.std.specs.Prelude.{FitsSigned}
+use Rattle.std.proofs.Common.{◌≡◌, ◌≢◌, ℕ, ◌/◌, ◌<◌, pos, unsigned_abs, ap, ◌∙◌, arith}
 use Rattle.std.specs.Int.{w128}
-use Rattle.std.proofs.lemmas.Int.{to_z-of_z, to_z_pos}
-use Rattle.std.proofs.lemmas.List.{length-map}
-use Rattle.std.proofs.Math.Nat.{div-le_self}
-use Rattle.fraction.specs.Fractions.{Fits}
-use Rattle.fraction.specs.Rows.{lists_of, row_at, entry_of, EachFits, EachRow, EliminateFits, IsEliminated, AllEliminateFit}
+use Rattle.std.proofs.lemmas.Int.{to_z-of_z}
 use Rattle.fraction.proofs.RowLemmas.{as_passed}
-use Rattle.fraction.proofs.PivotLemmas.{parted, above_fits, below_fits, own_fits, unreduced, divisor-some, lowest}
+use Rattle.fraction.proofs.PivotLemmas.{divisor-some, lowest}
 use Rattle.fraction.proofs.rows.reduce.Goals as goal
 
 some : (g : ℕ) → 0 < g → g ≢ 0

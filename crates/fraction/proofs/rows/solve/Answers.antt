@@ -1,12 +1,10 @@
-use Rattle.std.proofs.Common.{◌≡◌, ℕ, ◌<◌, ℤ, pos, ◌*ℤ◌, ◌<ℤ◌, to_z, of_z, length, map, List, Vec, sym, subst, ap, ◌∙◌, refl, arith}
-use Rattle.std.specs.declared.alloc.Global.{Global}
-use Rattle.std.specs.Prelude.{FitsSigned}
+use Rattle.std.proofs.Common.{◌≡◌, pos, ◌*ℤ◌, ◌<ℤ◌, sym, subst, ap, ◌∙◌, refl, arith}
 use Rattle.std.specs.Int.{w128}
 use Rattle.std.proofs.lemmas.Int.{to_z-of_z}
-use Rattle.std.proofs.lemmas.List.{length-map, with_items_is}
+use Rattle.std.proofs.lemmas.List.{length-map}
 use Rattle.fraction.specs.Fractions.{Fits}
 use Rattle.fraction.specs.Tables.{Table, IsTable, IsPivoted, entry_at}
-use Rattle.fraction.specs.Rows.{lists_of, row_at, entry_of, IsUnreduced, IsLowest}
+use Rattle.fraction.specs.Rows.{lists_of, entry_of, IsUnreduced, IsLowest}
 use Rattle.fraction.proofs.RowLemmas.{product_is}
 use Rattle.fraction.proofs.SolveLemmas.{product_positive, is_pivoted, pivoted_table, unreduced_fits}
 use Rattle.fraction.proofs.rows.solve.Goals as goal

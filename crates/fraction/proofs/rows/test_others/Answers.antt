@@ -1,14 +1,11 @@
-use Rattle.std.proofs.Common.{rules, ◌≡◌, ◌≢◌, ℕ, ◌+◌, ◌/◌, ◌<◌, ◌≤◌, ◌^◌, ◌↔◌, ℤ, pos, ◌*ℤ◌, ◌<ℤ◌, to_z, of_z, unsigned_abs, length, get_or, sym, subst, ap, ◌∙◌, refl, arith, IsOk, below_more}
-use Rattle.std.specs.Prelude.{FitsSigned}
+use Rattle.std.proofs.Common.{◌≢◌, to_z, of_z, sym, refl, arith, below_more}
 use Rattle.std.specs.Int.{w128}
-use Rattle.std.proofs.lemmas.Int.{to_z-of_z, to_z_pos}
+use Rattle.std.proofs.lemmas.Int.{to_z-of_z}
 use Rattle.std.proofs.lemmas.List.{length-map}
 use Rattle.std.proofs.lemmas.Bool.{false≢true}
-use Rattle.fraction.specs.Fractions.{Fits}
-use Rattle.fraction.specs.Rows.{lists_of, row_at, entry_of, EachFits, EachRow, EliminateFits, IsEliminated, AllEliminateFit, OthersFit}
-use Rattle.fraction.proofs.Passed.{refused, passed-product}
-use Rattle.fraction.proofs.RowLemmas.{as_passed, fit_product}
-use Rattle.fraction.proofs.PivotLemmas.{parted, above_fits, below_fits, own_fits, unreduced, eliminate_as, pivot_fits, others_fit}
+use Rattle.fraction.specs.Rows.{lists_of, row_at, EliminateFits}
+use Rattle.fraction.proofs.Passed.{refused}
+use Rattle.fraction.proofs.PivotLemmas.{eliminate_as}
 use Rattle.fraction.proofs.rows.test_others.Goals as goal
 use Rattle.fraction.proofs.rows.test_others.Goals.{then-i-row+in_ok-test_eliminate, else-i-row}
 

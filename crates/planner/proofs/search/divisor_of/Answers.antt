@@ -1,10 +1,7 @@
-use Rattle.std.proofs.Common.{◌≡◌, ℕ, ◌+◌, ◌/◌, ◌<◌, get_or, length, sum, sym, subst, ap, ◌∙◌, refl, arith, below_more}
+use Rattle.std.proofs.Common.{ℕ, get_or, sym, subst, arith, below_more}
 use Rattle.std.specs.Int.{◌∣◌}
 use Rattle.std.proofs.lemmas.Grind.{get_or_default_zero}
 use Rattle.std.proofs.lemmas.Nat.Gcd.{dvd_trans}
-use Rattle.std.proofs.lemmas.List.Edits.{map_over_more}
-use Rattle.planner.specs.Weights.{HaveNoCommonDivisor, IsGreatestDivisor}
-use Rattle.planner.proofs.Divisors.{no_sum, lowest, ones_lowest}
 use Rattle.planner.proofs.search.divisor_of.Goals as goal
 
 pub loop-weight-preserved : goal.loop-weight-preserved

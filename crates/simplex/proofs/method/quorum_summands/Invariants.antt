@@ -1,4 +1,4 @@
-use Rattle.std.proofs.Common.{◌≡◌, ◌+◌, ◌<◌, length, vec_len}
+use Rattle.std.proofs.Common.{◌≡◌, ◌+◌, ◌<◌, vec_len}
 use Rattle.std.specs.List.{All}
 use Rattle.simplex.proofs.method.quorum_summands.Given as goal
 

@@ -1,14 +1,10 @@
-use Rattle.std.proofs.Common.{rules, ◌≡◌, ℕ, ◌<◌, ℤ, pos, ◌*ℤ◌, ◌<ℤ◌, to_z, of_z, length, map, List, Vec, sym, subst, ap, ◌∙◌, refl, arith}
+use Rattle.std.proofs.Common.{rules, ◌≡◌, ℤ, to_z, of_z, length, List, Vec, sym, subst, ap, ◌∙◌}
 use Rattle.std.specs.declared.alloc.Global.{Global}
-use Rattle.std.specs.Prelude.{FitsSigned}
 use Rattle.std.specs.Int.{w128}
 use Rattle.std.proofs.lemmas.Int.{to_z-of_z}
-use Rattle.std.proofs.lemmas.List.{length-map, with_items_is}
-use Rattle.fraction.specs.Fractions.{Fits}
-use Rattle.fraction.specs.Tables.{Table, IsTable, IsPivoted, entry_at}
-use Rattle.fraction.specs.Rows.{lists_of, row_at, entry_of, IsUnreduced, IsLowest}
-use Rattle.fraction.proofs.RowLemmas.{product_is}
-use Rattle.fraction.proofs.SolveLemmas.{product_positive, is_pivoted, pivoted_table, unreduced_fits}
+use Rattle.std.proofs.lemmas.List.{with_items_is}
+use Rattle.fraction.specs.Tables.{Table, IsTable, IsPivoted}
+use Rattle.fraction.specs.Rows.{lists_of}
 use Rattle.fraction.proofs.shared.Shared.pivot.Goals as goal
 
 pub invariant_of-self : goal.invariant_of-self
@@ -27,9 +23,9 @@ returns-clause-value c =
     let rows_are = ap lists_of (with_items_is c.self.inside.rows new (same ∙ ap length c.deref_mut.ensures.value ∙ sym c.self.inside.rows.ok.0)) in
     let den_is = to_z-of_z w128 c.solve-self-inside.result (record { sfits = c.solve-self-inside.type_inv }) in
     let old : record { rows = lists_of c.deref_mut.result.now; den = to_z w128 (of_z w128 c.self.inside.den) } ≡ c.args.self.now =
-      ap (λ rs. record { rows = lists_of rs; den = to_z w128 (of_z w128 c.self.inside.den) }) c.deref_mut.ensures.value
-      ∙ ap (λ d. record { rows = lists_of c.self.inside.rows.items; den = d }) (to_z-of_z w128 c.self.inside.den (search rules))
-      ∙ c.self.view_is in
+    ap (λ rs. record { rows = lists_of rs; den = to_z w128 (of_z w128 c.self.inside.den) }) c.deref_mut.ensures.value
+    ∙ ap (λ d. record { rows = lists_of c.self.inside.rows.items; den = d }) (to_z-of_z w128 c.self.inside.den (search rules))
+    ∙ c.self.view_is in
     subst (λ rs. IsPivoted c.args.self.now (record { rows = rs; den = to_z w128 (of_z w128 c.solve-self-inside.result) }) c.args.row c.args.col) (sym rows_are)
     (subst (λ d. IsPivoted c.args.self.now (record { rows = lists_of new; den = d }) c.args.row c.args.col) (sym den_is)
     (subst (λ (t : Table). IsPivoted t (record { rows = lists_of new; den = c.solve-self-inside.result }) c.args.row c.args.col) old c.solve-self-inside.ensures.value))

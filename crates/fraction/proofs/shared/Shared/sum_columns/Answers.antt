@@ -1,16 +1,11 @@
-use Rattle.std.proofs.Common.{rules, ◌≡◌, ◌≢◌, ℕ, ◌+◌, ◌<◌, ◌≤◌, ℤ, pos, ◌*ℤ◌, to_z, of_z, length, map, take, get_or, List, Vec, sym, subst, ap, ◌∙◌, refl, arith, below_more}
+use Rattle.std.proofs.Common.{◌≡◌, ℤ, length, List, Vec, sym, subst, ap, ◌∙◌, refl}
 use Rattle.std.specs.declared.alloc.Global.{Global}
-use Rattle.std.specs.Prelude.{FitsSigned}
-use Rattle.std.specs.Int.{w128}
-use Rattle.std.proofs.lemmas.Int.{to_z-of_z}
 use Rattle.std.proofs.lemmas.Bool.{false≢true}
-use Rattle.std.proofs.lemmas.List.{length-map, with_items_is}
-use Rattle.fraction.specs.Fractions.{Fits}
-use Rattle.fraction.specs.Tables.{Table, IsTable, IsSummed, SumFits, sum_in}
-use Rattle.fraction.specs.Rows.{lists_of, row_at, entry_of, EachRow, AllSumsFit, IsSummedRow}
+use Rattle.std.proofs.lemmas.List.{with_items_is}
+use Rattle.fraction.specs.Tables.{Table, IsTable, IsSummed}
+use Rattle.fraction.specs.Rows.{lists_of, EachRow, AllSumsFit, IsSummedRow}
 use Rattle.fraction.proofs.Passed.{refused}
-use Rattle.fraction.proofs.RowsLemmas.{was_row, stored_row, kept_row, written}
-use Rattle.fraction.proofs.SumLemmas.{sum_step, fits_step, summed, summed_table}
+use Rattle.fraction.proofs.SumLemmas.{summed, summed_table}
 use Rattle.fraction.proofs.shared.Shared.sum_columns.Goals as goal
 
 pub returns-in_err-test_sums-clause-fits : goal.returns-in_err-test_sums-clause-fits
