@@ -1,0 +1,147 @@
+#!/usr/bin/env bash
+# Runs the program as it is built where memory is refused and devices fail, and looks at what it prints and how it ends.
+#
+#     hostile/run.sh [WORD]      (tries the cases alone whose label has the word, where one is given)
+#
+# Each case is a command with its input. It is run again and again, for N = 1, 2 and so on until a run meets nothing:
+#
+# - the Nth growth of memory is refused, once, and then each one from the Nth on. The command has to write what it always
+#   writes, or nothing with `O1 OutOfMemory` and status 4. `run` may also write another record, which `replay` has to accept, as
+#   a message that finds no memory is lost, or nothing with `K2 TurnsSpent` and status 1;
+# - the Nth read fails, and the Nth write, each of one byte: nothing is written with `I3 ReadFault` and status 3, or a beginning
+#   of the answer with `I4 WriteFault` and status 3;
+# - each read and each write moves one byte, once: the command has to write what it always writes.
+#
+# Says for each case how many runs there were, prints each run that was wrong, and ends with `N runs, M wrong`, with status 1
+# where M is not 0. It needs a C compiler and glibc (Debian: gcc, libc6-dev) for `refuse.c`, which refuses and fails.
+set -eu
+here=$(CDPATH= cd -- "$(dirname -- "$0")" && pwd)
+root=$(dirname -- "$here")
+word=${1:-}
+work=$(mktemp -d)
+trap 'rm -rf "$work"' EXIT
+runs=0
+wrong=0
+
+compiler=${CC:-cc}
+command -v "$compiler" > /dev/null || { echo "hostile/run.sh: there is no C compiler $compiler (Debian: gcc, libc6-dev)" >&2; exit 1; }
+"$compiler" -O2 -shared -fPIC -o "$work/refuse.so" "$here/refuse.c"
+
+# builds the program where it has to be
+"$root/qlock" make majority 3 > "$work/majority.toml"
+program=$root/build/qlock
+
+# runs the case with these settings, and keeps what it prints, its status, and whether it met anything
+hostile() {
+    status=0
+    env "$@" HOSTILE_MET="$work/met" LD_PRELOAD="$work/refuse.so" "$program" "${words[@]}" < "$input" > "$work/out" 2> "$work/err" || status=$?
+    runs=$((runs + 1))
+    met=
+    [ ! -s "$work/met" ] || met=1
+}
+
+# prints a run that was wrong
+complain() {
+    wrong=$((wrong + 1))
+    printf 'wrong: %s: %s: status %s, %s bytes written, %s\n' "$label" "$*" "$status" "$(wc -c < "$work/out")" "$(head -n 1 "$work/err")"
+}
+
+# whether the run wrote nothing, and ended by this line and status
+ended_by() {
+    [ "$status" -eq "$2" ] && [ ! -s "$work/out" ] && [ "$(cat "$work/err")" = "$1" ]
+}
+
+# whether the run wrote what the command always writes; `run` writes some record of all passes that is accepted
+answered() {
+    [ "$status" -eq 0 ] && [ ! -s "$work/err" ] || return 1
+    if [ -z "$passes" ]; then
+        cmp -s "$work/out" "$work/usual"
+    else
+        { cat "$input"; echo %%; cat "$work/out"; } | "$program" replay 2> /dev/null | grep -qx "register $passes"
+    fi
+}
+
+# whether what was written is a beginning of what the command always writes; of a record its first line has to be
+begun() {
+    if [ -z "$passes" ]; then
+        cmp -s -n "$(wc -c < "$work/out")" "$work/out" "$work/usual"
+    else
+        [ "$(head -c 15 "$work/out")" = "$(printf 'quorum-record 1' | head -c "$(wc -c < "$work/out")")" ]
+    fi
+}
+
+# whether a run that was refused memory ended as it may
+spared() {
+    answered || ended_by 'O1 OutOfMemory' 4 || { [ -n "$passes" ] && { ended_by 'K2 TurnsSpent 0' 1 || ended_by 'K2 TurnsSpent 1' 1; }; }
+}
+
+# tries all of a case: its label, how many passes its record has to have where it is `run`, its input, and its words
+try() {
+    label=$1 passes=$2 input=$3
+    shift 3
+    words=("$@")
+    case "$label" in *"$word"*) ;; *) return 0 ;; esac
+    local before=$runs n setting
+    "$program" "${words[@]}" < "$input" > "$work/usual"
+    for setting in HOSTILE_ONCE=1 HOSTILE_FOR_GOOD=1; do
+        n=1 met=1
+        while [ -n "$met" ]; do
+            hostile HOSTILE_GROWTH=$n $setting
+            if [ -n "$met" ]; then spared || complain "growth $n, $setting"; else answered || complain "no growth refused"; fi
+            n=$((n + 1))
+        done
+    done
+    n=1 met=1
+    while [ -n "$met" ]; do
+        hostile HOSTILE_READ=$n HOSTILE_BYTES=1
+        if [ -n "$met" ]; then ended_by 'I3 ReadFault' 3 || complain "read $n"; else answered || complain "one byte a read and a write"; fi
+        n=$((n + 1))
+    done
+    n=1 met=1
+    while [ -n "$met" ]; do
+        hostile HOSTILE_WRITE=$n HOSTILE_BYTES=1
+        if [ -n "$met" ]; then
+            { [ "$status" -eq 3 ] && [ "$(cat "$work/err")" = 'I4 WriteFault' ] && begun; } || complain "write $n"
+        else
+            answered || complain "one byte a read and a write"
+        fi
+        n=$((n + 1))
+    done
+    printf '%-40s %6d runs\n' "$label" $((runs - before))
+}
+
+# a coterie, a line %%, and a plan of it
+planned() {
+    { cat "$1"; echo %%; "$program" plan < "$1"; } > "$2"
+}
+
+for shape in 'wheel 3' 'tree 2' 'grid 2 2'; do
+    # the words of a shape are apart
+    "$program" make $shape > "$work/${shape%% *}.toml"
+done
+for name in majority wheel tree grid; do
+    planned "$work/$name.toml" "$work/$name"
+done
+{ cat "$work/majority"; printf '%%%%\nquorum-record 1\ndraw 0 0 0\ndraw 1 2 2\ndraw 0 1 1\npass 0 0\npass 1 1\nregister 2\n'; } > "$work/record"
+{ cat "$work/majority"; printf '%%%%\nworld 2 1000\nask 0\nask 1\ndeliver 2\ndeliver 0\ndeliver 3\ndeliver 4\ndeliver 6\ndeliver 5\nleave 1\ndeliver 7\n'; } > "$work/script"
+{ cat "$work/grid"; echo %%; "$program" run 2 2 100000 < "$work/grid"; } > "$work/run"
+
+try 'make majority 3' '' /dev/null make majority 3
+try 'make wheel 3' '' /dev/null make wheel 3
+try 'make tree 2' '' /dev/null make tree 2
+try 'make grid 2 2' '' /dev/null make grid 2 2
+try 'make cyclic 7 0 1 3' '' /dev/null make cyclic 7 0 1 3
+for name in majority wheel tree grid; do
+    try "plan $name" '' "$work/$name.toml" plan
+    try "check $name" '' "$work/$name" check
+done
+for count in 0 5 7 10; do
+    try "deal $count wheel" '' "$work/wheel" deal "$count"
+done
+try 'world majority' '' "$work/script" world
+try 'run 2 2 100000 grid' 4 "$work/grid" run 2 2 100000
+try 'replay grid' '' "$work/run" replay
+try 'replay majority' '' "$work/record" replay
+
+printf '%d runs, %d wrong\n' "$runs" "$wrong"
+[ "$wrong" -eq 0 ]
