@@ -10,7 +10,7 @@ use requester::Phase;
 use std::alloc::{AllocError, Global};
 use std::marker::Brand;
 use std::sync::Wait;
-use std::sync::atomic::{AtomicBool, AtomicU64, Ordering};
+use std::sync::atomic::{AtomicBool, Ordering};
 use std::test::Fail;
 use std::thread;
 use std::thread::Threads;
@@ -190,84 +190,6 @@ fn shut_gate_spends_the_turns(rt: HostRuntime) -> Result<(), Fail> {
     assert_eq!(rt; (outcome.idle, outcome.draws), (2, 2));
     let text = format!(in alloc; "{}", ClusterFault::TurnsSpent(0))?;
     assert_eq!(rt; text.as_str(), "K2 TurnsSpent 0");
-    Ok(())
-}
-
-/// Lets all pass or nobody, and counts its calls.
-#[derive(Drop)]
-struct Tally {
-    is_open: bool,
-    before: AtomicU64,
-    drawn: AtomicU64,
-    asked: AtomicU64,
-}
-
-impl Tally {
-    fn new(is_open: bool) -> Tally {
-        Tally {
-            is_open,
-            before: AtomicU64::new(0),
-            drawn: AtomicU64::new(0),
-            asked: AtomicU64::new(0),
-        }
-    }
-
-    /// How often each of its calls was made.
-    fn calls(&self) -> (u64, u64, u64) {
-        (
-            self.before.load(Ordering::SeqCst),
-            self.drawn.load(Ordering::SeqCst),
-            self.asked.load(Ordering::SeqCst),
-        )
-    }
-}
-
-impl Gate for Tally {
-    ghost lets = { λ gate _. gate.is_open };
-
-    fn before(&self, _client: u8) {
-        self.before.fetch_add(1, Ordering::SeqCst);
-    }
-
-    fn drawn(&self, _client: u8) {
-        self.drawn.fetch_add(1, Ordering::SeqCst);
-    }
-
-    fn may_pass(&self, _client: u8) -> bool {
-        self.asked.fetch_add(1, Ordering::SeqCst);
-        self.is_open
-    }
-}
-
-#[test]
-fn each_pump_and_each_question_is_one_turn(rt: HostRuntime) -> Result<(), Fail> {
-    let alloc = rt.alloc();
-    // The votes of a quorum of two come by two pumps.
-    for (turns, asked) in [(0, 0), (1, 0), (2, 0), (3, 1), (10, 8)] {
-        let Some(blank) = blank_of(alloc, 3, &MAJORITIES, 1, 1)? else {
-            assert!(rt; false, "no cluster");
-            return Ok(());
-        };
-        let gate = Tally::new(false);
-        let outcome = driven::<Brand, _, _>(&rt, alloc, blank, 1, turns, &gate)?;
-        assert_eq!(rt; outcome.fault, Some(ClusterFault::TurnsSpent(0)));
-        assert_eq!(rt; gate.calls(), (1, 1, asked), "{turns} turns");
-    }
-    Ok(())
-}
-
-#[test]
-fn gate_is_asked_anew_before_each_pass(rt: HostRuntime) -> Result<(), Fail> {
-    let alloc = rt.alloc();
-    let Some(blank) = blank_of(alloc, 3, &MAJORITIES, 1, 2)? else {
-        assert!(rt; false, "no cluster");
-        return Ok(());
-    };
-    let gate = Tally::new(true);
-    // Two pumps and one question for each pass: six turns do.
-    let outcome = driven::<Brand, _, _>(&rt, alloc, blank, 2, 6, &gate)?;
-    assert_eq!(rt; (outcome.passes, outcome.fault), (2, None));
-    assert_eq!(rt; gate.calls(), (2, 2, 2));
     Ok(())
 }
 
