@@ -120,7 +120,18 @@ fn majority(alloc: Global) -> Result<Coterie, Fail> {
 #[test]
 fn numbered_coterie_is_written(rt: HostRuntime) -> Result<(), Fail> {
     let alloc = rt.alloc();
-    let named = Named::numbered(alloc, majority(alloc)?)?;
+    let mut sets = Vec::new(alloc);
+    for (i, j) in [(0u8, 1u8), (2, 0), (1, 2)] {
+        let mut set = QSet::empty();
+        set.insert(i);
+        set.insert(j);
+        sets.push(set)?;
+    }
+    let Ok(coterie) = Coterie::of(3, sets) else {
+        assert!(rt; false);
+        return Ok(());
+    };
+    let named = Named::numbered(alloc, coterie)?;
     assert_eq!(rt; named.coterie().count(), 3);
     assert_eq!(rt; named.name(2), "v2");
     assert_eq!(rt; write_coterie(alloc, &named)?.as_str(), MAJORITY);
