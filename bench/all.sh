@@ -1,6 +1,7 @@
 #!/bin/sh
 # Runs every benchmark in turn: steps of the automata, sets of voters, cycles, draws of tickets, a world's script, members
-# in threads, and plans where glpsol is found.
+# in threads, the longest inputs where GNU time is found, and plans where glpsol is found. bench/soak.sh is apart, since it takes
+# minutes.
 #
 #     bench/all.sh
 #
@@ -13,6 +14,12 @@ for name in steps sets cycles draws world run; do
     printf '\n== %s\n' "$name"
     "$bench/$name.sh"
 done
+printf '\n== longest\n'
+if [ -x /usr/bin/time ]; then
+    "$bench/longest.sh"
+else
+    echo "/usr/bin/time is not found (Debian: time)"
+fi
 printf '\n== planner\n'
 if command -v glpsol > /dev/null; then
     "$bench/planner.sh" "$bench/coteries"

@@ -8,4 +8,4 @@ _qlock() {
     esac
 }
 
-complete -F _qlock qlock ./qlock
+complete -o default -F _qlock qlock ./qlock

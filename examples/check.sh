@@ -63,14 +63,16 @@ example make-majority-5 /dev/null 0 make majority 5
 example make-tree-2 /dev/null 0 make tree 2
 example make-wheel-3 /dev/null 0 make wheel 3
 example make-cyclic-7 /dev/null 0 make cyclic 7 0 1 3
-for coterie in grid-3-3 majority-5 wheel-3 cyclic-7; do
+for coterie in grid-3-3 majority-5 wheel-3 cyclic-7 three-racks; do
     example "plan-$coterie" "$coterie.toml" 0 plan
 done
 
-# which of several optimal plans of a tree comes is not said; its load is
-"$qlock" plan < tree-2.toml > "$work/plan" || true
-parts tree-2.toml "$work/plan" > "$work/input"
-example check-tree-2 "$work/input" 0 check
+# which of several optimal plans of these comes is not said; their loads are
+for coterie in tree-2 weighted-votes; do
+    "$qlock" plan < "$coterie.toml" > "$work/plan" || true
+    parts "$coterie.toml" "$work/plan" > "$work/input"
+    example "check-$coterie" "$work/input" 0 check
+done
 
 # plans, checked and dealt by
 example check-wheel-3 wheel-3-planned.txt 0 check

@@ -12,6 +12,10 @@
 #   of the answer with `I4 WriteFault` and status 3;
 # - each read and each write moves one byte, once: the command has to write what it always writes.
 #
+# After these comes a program of its own, `crates/hostile_member`, in which one member of a running cluster goes through the lock. A
+# growth that is refused once has to end it with `O1 OutOfMemory`, or to change nothing, or to lose exactly one message, which the
+# member makes up for by a reminder. The last has to happen in three runs, since the logs of two nodes and a mailbox grow.
+#
 # Says for each case how many runs there were, prints each run that was wrong, and ends with `N runs, M wrong`, with status 1
 # where M is not 0. It needs a C compiler and glibc (Debian: gcc, libc6-dev) for `refuse.c`, which refuses and fails.
 set -eu
@@ -142,6 +146,42 @@ try 'world majority' '' "$work/script" world
 try 'run 2 2 100000 grid' 4 "$work/grid" run 2 2 100000
 try 'replay grid' '' "$work/run" replay
 try 'replay majority' '' "$work/record" replay
+
+# whether the member said this, and nothing else
+said() {
+    [ "$status" -eq 0 ] && [ ! -s "$work/err" ] && [ "$(cat "$work/out")" = "$1" ]
+}
+
+# tries each growth of a member's cluster, once and for good
+try_member() {
+    label='a member of a cluster' passes='' input=/dev/null words=()
+    case "$label" in *"$word"*) ;; *) return 0 ;; esac
+    local before=$runs losses=0 n=1
+    (cd "$root/crates/hostile_member" && rt run > /dev/null 2>&1) || { echo "hostile/run.sh: crates/hostile_member does not build" >&2; exit 1; }
+    program=$root/crates/hostile_member/out/hostile_member
+    met=1
+    while [ -n "$met" ]; do
+        hostile HOSTILE_GROWTH=$n HOSTILE_ONCE=1
+        if [ -z "$met" ]; then
+            said 'passed, lost 0' || complain "no growth refused"
+        elif said 'passed, lost 1'; then
+            losses=$((losses + 1))
+        else
+            ended_by 'O1 OutOfMemory' 4 || said 'passed, lost 0' || complain "growth $n, once"
+        fi
+        n=$((n + 1))
+    done
+    [ "$losses" -eq 3 ] || complain "$losses runs lost a message, and not 3"
+    n=1 met=1
+    while [ -n "$met" ]; do
+        hostile HOSTILE_GROWTH=$n HOSTILE_FOR_GOOD=1
+        if [ -n "$met" ]; then ended_by 'O1 OutOfMemory' 4 || complain "growth $n, for good"; else said 'passed, lost 0' || complain "no growth refused"; fi
+        n=$((n + 1))
+    done
+    printf '%-40s %6d runs\n' "$label" $((runs - before))
+}
+
+try_member
 
 printf '%d runs, %d wrong\n' "$runs" "$wrong"
 [ "$wrong" -eq 0 ]

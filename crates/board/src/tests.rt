@@ -76,6 +76,18 @@ fn seat_that_is_out_is_told(rt: HostRuntime) -> Result<(), Fail> {
 }
 
 #[test]
+fn seats_that_are_lost_are_told(rt: HostRuntime) -> Result<(), Fail> {
+    let (board, mut root) = Board::new(rt.alloc(), &one(rt.alloc())?, 1, 1)?;
+    drop(root.voter(&board, 0));
+    drop(root.client(&board, 0));
+    let Err(fault) = board.close(root) else {
+        panic!(rt; "closed")
+    };
+    assert_eq!(rt; fault.to_string(rt.alloc())?.as_str(), "B1 SeatsOut 2");
+    Ok(())
+}
+
+#[test]
 fn vote_that_is_held_keeps_the_seat_out(rt: HostRuntime) -> Result<(), Fail> {
     let (board, mut root) = Board::new(rt.alloc(), &one(rt.alloc())?, 1, 1)?;
     let mut voter = root.voter(&board, 0);

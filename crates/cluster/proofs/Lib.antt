@@ -1,4 +1,1 @@
-pub mod MemberLemmas
-pub mod BlankLemmas
-pub mod CountLemmas
-pub mod RecordLemmas
+mod DriveLemmas

@@ -1,4 +1,1 @@
-pub mod Clusters
-pub mod Members
-pub mod Records
-pub mod Closes
+pub mod Drives

@@ -1,75 +1,43 @@
-//! A running lock cluster: one node for each voter, one mailbox and one member for each client, for any number of threads.
+//! A running lock cluster, and drives of its members: what `members` has, and each member in a thread of its own.
 //!
-//! A client that wants the lock draws a ticket, which names a quorum of a plan, and asks its voters for their votes
-//! (Maekawa, ACM TOCS 3(2), 1985). Here voters and clients stand in one process:
-//!
-//! - A [`Node`] is a voter with a log of what it took and with its seat on the board. It stands behind a lock, takes one
-//!   message at a time, and its lock is given up before its replies go into mailboxes.
-//! - A mailbox has the messages to one client, first in, first out, behind a lock.
-//! - A [`Member`] is a client with its seat on the board and its clerk. One thread at a time drives it:
-//!   [`Member::ask`], [`Member::pump`] until it answers `Entered`, [`Member::pass`] as often as it likes, [`Member::leave`].
-//! - [`Cluster::close`] takes the members back, once all are idle, and answers the [`RunRecord`]: who drew which ticket, who
-//!   passed by which number, and the register.
-//!
-//! Votes are taken and given back on the board, one atomic word for each voter, so that no two members are ever inside,
-//! whatever messages come. A member gives a vote back before the message goes out that says so.
-//!
-//! # A cluster's name
-//!
-//! What a lock gives belongs to one cluster, and a type says which: [`Blank::open`] takes a [`ClusterName`]. Code that
-//! works on a cluster is generic in that name, and is called at `Brand`:
+//! [`drive`] lends each member of a cluster to a thread of its own, which asks, enters, passes and leaves again and again. A
+//! [`Gate`] may hold it up before it asks, once it has asked, and before it passes; [`NoGate`] lets all through. The
+//! calls of clusters and members, as [`Blank::open`], [`Member::ask`] and [`Cluster::close`], are those of `members`, which
+//! tells of them; they are to be had from here too.
 //!
 //! ```
-//! fn once<N: ClusterName>(rt: &impl Wait, alloc: Global, blank: Blank) -> Result<Option<u64>, AllocError>
-//!     requires { blank ≡ N.cluster }
-//! {
-//!     let (cluster, mut members) = blank.open::<N>(alloc)?;
-//!     let Some(mut member) = members.pop() else {
-//!         return Ok(None);
-//!     };
-//!     let receipt = member.ask(rt, &cluster); // ticket 0, and the quorum that it names
-//!     for _ in 0..3 {
-//!         member.pump(rt, &cluster); // the votes come, and with the last one Entered
-//!     }
-//!     Ok(member.pass(&cluster).ok()) // pass number 0
+//! let (cluster, members) = blank.open::<N>(alloc)?;
+//! match drive(rt, &cluster, members, 100, 1_000_000, &NoGate) {
+//!     Ok(members) => {}  // all back and idle, each with 100 receipts and pass numbers more
+//!     Err(driven) => {}  // all back and idle; driven.fault is that of the least client whose work ended early
 //! }
-//! // once::<Brand>(rt, alloc, Blank::new(alloc, plan, 1, 100)?)
 //! ```
 //!
 //! # What is proved
 //!
-//! Whenever a node's lock is free, its voter is what its definition makes of the log, and its seat has the voter's current
-//! grant. Whenever no call of a member runs, its client's votes are those that its seat holds; the client changes by its
-//! definition alone. `ask`, `pass`, `leave` and `give_up` are refused exactly where they say.
+//! A drive hands all members back, in their order and idle. One that kept no fault drew a ticket for each of its passes and
+//! made them all; one that kept a fault made fewer, and drew at most one ticket besides. Its tickets run out only where it
+//! passed once for each that it had.
 //!
-//! A record has each member's draws and passes, and no others; its tickets and its numbers are 0, 1, 2 and so on, each ticket
-//! names its quorum by the plan's cycle, and the register is the number of passes.
+//! Who passed was let pass by the gate: a client that it never lets pass makes no pass. Each pass takes two turns at least, of
+//! those that the client has. That turns are spent no sooner, and that a gate is asked before each pass, is tested. When a
+//! drive's threads run is neither proved nor tested.
 //!
-//! Nothing is said of waiting or of progress. A message may be lost: a node drops it, there is no memory, or it is a LOCKED
-//! whose vote can't be taken; [`Member::lost`] counts it. Which lock is whose is tested when it is taken, and not proved; that a cluster closes whose
-//! members are all back and idle is tested too.
-//!
-//! This crate stands on `node`, which has the nodes, the mailboxes and how votes are taken and given back, and on `board`,
-//! `dealer`, `voter`, `requester`, `message`, `certificate` and `quorum_set`.
+//! This crate stands on `members`, whose public calls alone it makes.
 #![tactic(auto)]
 
-mod blank;
-mod close;
 #[cfg(test)]
-mod close_tests;
-mod cluster;
-mod fault;
-mod laws;
-mod member;
-mod record;
+mod drive_tests;
+mod drives;
+mod gate;
+#[cfg(test)]
+mod gate_tests;
 #[cfg(test)]
 mod tests;
 
-pub use blank::Blank;
-pub use close::CloseFault;
-pub use cluster::Cluster;
-pub use fault::ClusterFault;
-pub use laws::{records_are_in_range, records_count_passes};
-pub use member::Member;
-pub use node::{ClusterName, Node};
-pub use record::RunRecord;
+pub use drives::{Driven, drive};
+pub use gate::{Gate, NoGate};
+pub use members::{
+    Blank, CloseFault, Cluster, ClusterFault, ClusterName, Member, Node, RunRecord,
+    records_are_in_range, records_count_passes,
+};

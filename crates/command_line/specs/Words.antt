@@ -1,7 +1,9 @@
 -- The command line.
-use Rattle.std.specs.Prelude.{◌≡◌, ℕ, ◌≤◌, ◌^◌, List, [], ◌∷◌, Option, None, Some, Ok, codes, true, false, unwrap_or, ⊤}
+use Rattle.std.specs.Prelude.{◌≡◌, ◌≢◌, ◌⊎◌, ℕ, ◌≤◌, ◌^◌, List, [], ◌∷◌, Option, None, Some, Ok, codes, true, false, unwrap_or, ⊤}
 use Rattle.std.specs.Str.Parse.{ParsesUnsigned}
-use Rattle.clap.specs.Words.{App, Row, Rule, Text, all_of, first_of, new_app, new_rule, with_rule, with_subcommand}
+use Rattle.clap.specs.Words.{App, IsAmong, Row, Rule, Text, all_of, fault_of, first_of, kind_of, new_app, new_rule, subcommand_of, with_rule, with_subcommand}
+use Rattle.clap.specs.declared.error.Error.{Error}
+use Rattle.clap.specs.declared.error.kind.ErrorKind.TheVariants as kind
 use Rattle.clap.specs.declared.builder.value_parser.ValueParser.TheVariants.{Unsigned}
 use Rattle.clap.specs.Lexer.{usize_max}
 use Rattle.clap.specs.declared.builder.range.ValueRange.{ValueRange}
@@ -11,6 +13,8 @@ use Rattle.command_line.specs.declared.command.Command.{Command}
 use Rattle.command_line.specs.declared.command.Command.TheVariants.{Check, Deal, Make, Plan, Replay, Run, World}
 use Rattle.command_line.specs.declared.command.Shape.{Shape}
 use Rattle.command_line.specs.declared.command.Shape.TheVariants.{Cyclic, Grid, Majority, Tree, Wheel}
+use Rattle.command_line.specs.declared.usage.Usage.{Usage}
+use Rattle.command_line.specs.declared.usage.Usage.TheVariants.{Arguments, OutOfMemory, Refused}
 
 -- any number of values, from none to the greatest number that a count can be
 abbrev pub any_count : ValueRange
@@ -132,8 +136,34 @@ IsNamedBy (Some used) (Run clients passes turns) =
     × HasNumber (codes "CLIENTS") 1 64 used.1 clients
     × HasNumber (codes "PASSES") 0 1000 used.1 passes
     × HasNumber (codes "TURNS") 0 (10 ^ 12) used.1 turns
-IsNamedBy (Some used) (Deal n) = (used.0 ≡ codes "deal") × ((text : List ℕ) × (first_of (codes "N") used.1 ≡ Some text) × IsNumber text n) × (n ≤ 100000)
+IsNamedBy (Some used) (Deal n) = (used.0 ≡ codes "deal") × HasNumber (codes "N") 0 100000 used.1 n
 
 -- no argument of the parser is meant for its subcommands too
 abbrev pub IsLocal : Parser → Type 0
 IsLocal p = (out-Command p).has_globals ≡ false
+
+-- Why words name no command.
+
+-- no command is what the subcommand that was used and its values name
+abbrev pub NamesNone : Option (Text × List Row) → Type 0
+NamesNone used = (command : Command) → ¬ IsNamedBy used command
+
+-- the subcommand that was used is refused so: by its arguments only where they name no command, and never with clap's text
+abbrev pub RefusesUse : Option (Text × List Row) → Usage → Type 0
+RefusesUse used (Refused error) = ⊥
+RefusesUse used Arguments = NamesNone used
+RefusesUse used OutOfMemory = ⊤
+
+-- what becomes of clap's error: that memory ran out, or its text
+abbrev pub BecomesUsage : Error → Usage → Type 0
+BecomesUsage error usage = ((kind_of error ≡ kind.OutOfMemory) × (usage ≡ OutOfMemory)) ⊎ ((kind_of error ≢ kind.OutOfMemory) × (usage ≡ Refused error))
+
+-- clap finds no fault in the words, and the command is the one that they name
+abbrev pub Names : List Text → Command → Type 0
+Names words command = (fault_of qlock_app words ≡ []) × IsNamedBy (subcommand_of qlock_app words) command
+
+-- the words are refused so: with clap's text for the first fault that it finds in them, or by their arguments where it finds none and they name no command; memory may run out whatever they are
+abbrev pub Refuses : List Text → Usage → Type 0
+Refuses words (Refused error) = IsAmong (kind_of error) (fault_of qlock_app words)
+Refuses words Arguments = (fault_of qlock_app words ≡ []) × NamesNone (subcommand_of qlock_app words)
+Refuses words OutOfMemory = ⊤

@@ -1,4 +1,7 @@
 //! Why words name no command.
+ghost use Rattle.std.specs.Prelude.{◌≡◌};
+ghost use Rattle.command_line.specs.Words.{BecomesUsage};
+ghost use Rattle.command_line.specs.declared.usage.Usage.TheVariants.{OutOfMemory};
 
 use clap::error::ErrorKind;
 use std::alloc::AllocError;
@@ -15,12 +18,16 @@ pub enum Usage {
 }
 
 impl From<AllocError> for Usage {
+    ghost from_gives = { λ _ usage. usage ≡ OutOfMemory };
+
     fn from(_error: AllocError) -> Usage {
         Usage::OutOfMemory
     }
 }
 
 impl From<clap::Error> for Usage {
+    ghost from_gives = { BecomesUsage };
+
     fn from(error: clap::Error) -> Usage {
         match error.kind() {
             ErrorKind::OutOfMemory => Usage::OutOfMemory,

@@ -1,7 +1,8 @@
 //! The command line: which command its words name.
-ghost use Rattle.std.specs.Prelude.{◌≡◌, ◌<◌, ◌≤◌, [], length, slice_index_or, false, IfOk, IfSome, Some, codes, map, string_bytes};
+ghost use Rattle.std.specs.Prelude.{◌≡◌, ◌<◌, ◌≤◌, ℕ, List, [], length, slice_index_or, false, IfErr, IfOk, IfSome, None, Some, codes, map, string_bytes};
 ghost use Rattle.clap.specs.Words.{app_of, first_of, found_of, rows_of, rule_of, subcommand_of, subcommand_rows_of};
-ghost use Rattle.command_line.specs.Words.{AreSizes, HasNumber, IsLocal, IsNamedBy, IsNumber, IsShapeOf, check_app, clients_rule, deal_app, dealing_app, make_app, passes_rule, plan_app, planning_app, qlock_app, replay_app, run_app, running_app, shape_rule, size_texts, sizes_rule, turns_rule, world_app};
+ghost use Rattle.command_line.specs.declared.command.Shape.{Shape};
+ghost use Rattle.command_line.specs.Words.{AreSizes, HasNumber, IsLocal, IsNamedBy, IsNumber, IsShapeOf, Names, Refuses, RefusesUse, check_app, clients_rule, deal_app, dealing_app, make_app, passes_rule, plan_app, planning_app, qlock_app, replay_app, run_app, running_app, shape_rule, size_texts, sizes_rule, turns_rule, world_app};
 
 use crate::command::{Command, Shape};
 use crate::usage::Usage;
@@ -195,7 +196,8 @@ fn qlock_command<'a>(alloc: Global) -> Result<clap::Command<'a>, AllocError>
 
 /// The size that a text is, where it is a number and not too large.
 fn size_of(text: &str) -> Option<u32>
-    ensures { IfSome result (λ size. IsNumber text.now size × (size ≤ 9999)) }
+    ensures some { IfSome result (λ size. IsNumber text.now size × (size ≤ 9999)) }
+    ensures none { result ≡ None → (size : ℕ) → IsNumber text.now size → ¬ (size ≤ 9999) }
 {
     match text.parse::<u32>() {
         Ok(size) if u64::from(size) <= LARGEST_SIZE => Some(size),
@@ -213,7 +215,8 @@ fn text_at<'a>(texts: &[&'a str], i: usize) -> &'a str
 
 /// The sizes that the texts are; none where one is no number or too large.
 fn sizes_of(alloc: Global, texts: &[&str]) -> Result<Option<Vec<u32>>, AllocError>
-    ensures { IfOk result (λ o. IfSome o (λ sizes. AreSizes (map (λ t. t.now) texts.now) sizes.items)) }
+    ensures some { IfOk result (λ o. IfSome o (λ sizes. AreSizes (map (λ t. t.now) texts.now) sizes.items)) }
+    ensures none { IfOk result (λ o. o ≡ None → (sizes : List ℕ) → ¬ AreSizes (map (λ t. t.now) texts.now) sizes) }
 {
     let mut sizes = Vec::with_capacity(alloc, texts.len())?;
     for i in 0..texts.len() {
@@ -227,7 +230,8 @@ fn sizes_of(alloc: Global, texts: &[&str]) -> Result<Option<Vec<u32>>, AllocErro
 
 /// The numbers that stand behind the shape on the command line.
 fn sizes_given(alloc: Global, used: &ArgMatches) -> Result<Option<Vec<u32>>, AllocError>
-    ensures { IfOk result (λ o. IfSome o (λ sizes. AreSizes (size_texts (rows_of (found_of used.now))) sizes.items)) }
+    ensures some { IfOk result (λ o. IfSome o (λ sizes. AreSizes (size_texts (rows_of (found_of used.now))) sizes.items)) }
+    ensures none { IfOk result (λ o. o ≡ None → (sizes : List ℕ) → ¬ AreSizes (size_texts (rows_of (found_of used.now))) sizes) }
 {
     match used.get_strs("NUMBERS") {
         Some(texts) => sizes_of(alloc, texts),
@@ -237,7 +241,8 @@ fn sizes_given(alloc: Global, used: &ArgMatches) -> Result<Option<Vec<u32>>, All
 
 /// The cyclic shape with these sizes: the number of voters, and behind it the base.
 fn cyclic_shape(mut sizes: Vec<u32>) -> Option<Shape>
-    ensures { IfSome result (IsShapeOf (codes "cyclic") sizes.items) }
+    ensures some { IfSome result (IsShapeOf (codes "cyclic") sizes.items) }
+    ensures none { result ≡ None → sizes.items ≡ [] }
 {
     if sizes.is_empty() {
         return None;
@@ -248,7 +253,8 @@ fn cyclic_shape(mut sizes: Vec<u32>) -> Option<Shape>
 
 /// The shape with this name and these sizes, where there is one.
 fn shape_of(name: &str, sizes: Vec<u32>) -> Option<Shape>
-    ensures { IfSome result (IsShapeOf name.now sizes.items) }
+    ensures some { IfSome result (IsShapeOf name.now sizes.items) }
+    ensures none { result ≡ None → (shape : Shape) → ¬ IsShapeOf name.now sizes.items shape }
 {
     if name == "cyclic" {
         return cyclic_shape(sizes);
@@ -264,7 +270,8 @@ fn shape_of(name: &str, sizes: Vec<u32>) -> Option<Shape>
 
 /// `make` with its shape.
 fn make_of(alloc: Global, used: &ArgMatches) -> Result<Command, Usage>
-    ensures { IfOk result (IsNamedBy (Some (codes "make", rows_of (found_of used.now)))) }
+    ensures named { IfOk result (IsNamedBy (Some (codes "make", rows_of (found_of used.now)))) }
+    ensures refused { IfErr result (RefusesUse (Some (codes "make", rows_of (found_of used.now)))) }
 {
     let Some(name) = used.get_str("SHAPE") else {
         return Err(Usage::Arguments);
@@ -278,22 +285,10 @@ fn make_of(alloc: Global, used: &ArgMatches) -> Result<Command, Usage>
     }
 }
 
-/// `deal` with its number of tickets.
-fn deal_of(used: &ArgMatches) -> Result<Command, Usage>
-    ensures { IfOk result (IsNamedBy (Some (codes "deal", rows_of (found_of used.now)))) }
-{
-    let Some(text) = used.get_str("N") else {
-        return Err(Usage::Arguments);
-    };
-    match text.parse::<u32>() {
-        Ok(tickets) if u64::from(tickets) <= MOST_TICKETS => Ok(Command::Deal(tickets)),
-        _ => Err(Usage::Arguments),
-    }
-}
-
 /// The number that an argument is, where it goes from the least to the most.
 fn number_of(used: &ArgMatches, name: &str, least: u64, most: u64) -> Option<u64>
-    ensures { IfSome result (HasNumber name.now least most (rows_of (found_of used.now))) }
+    ensures some { IfSome result (HasNumber name.now least most (rows_of (found_of used.now))) }
+    ensures none { result ≡ None → (number : ℕ) → ¬ HasNumber name.now least most (rows_of (found_of used.now)) number }
 {
     let Some(text) = used.get_str(name) else {
         return None;
@@ -304,9 +299,21 @@ fn number_of(used: &ArgMatches, name: &str, least: u64, most: u64) -> Option<u64
     }
 }
 
+/// `deal` with its number of tickets.
+fn deal_of(used: &ArgMatches) -> Result<Command, Usage>
+    ensures named { IfOk result (IsNamedBy (Some (codes "deal", rows_of (found_of used.now)))) }
+    ensures refused { IfErr result (RefusesUse (Some (codes "deal", rows_of (found_of used.now)))) }
+{
+    match number_of(used, "N", 0, MOST_TICKETS) {
+        Some(tickets) => Ok(Command::Deal(tickets as u32)),
+        None => Err(Usage::Arguments),
+    }
+}
+
 /// `run` with its numbers.
 fn run_of(used: &ArgMatches) -> Result<Command, Usage>
-    ensures { IfOk result (IsNamedBy (Some (codes "run", rows_of (found_of used.now)))) }
+    ensures named { IfOk result (IsNamedBy (Some (codes "run", rows_of (found_of used.now)))) }
+    ensures refused { IfErr result (RefusesUse (Some (codes "run", rows_of (found_of used.now)))) }
 {
     let Some(clients) = number_of(used, "CLIENTS", 1, MOST_CLIENTS) else {
         return Err(Usage::Arguments);
@@ -326,7 +333,8 @@ fn run_of(used: &ArgMatches) -> Result<Command, Usage>
 
 /// The command that the subcommand in use and its values name.
 fn command_of(alloc: Global, matches: &ArgMatches) -> Result<Command, Usage>
-    ensures { IfOk result (IsNamedBy (subcommand_rows_of matches.now)) }
+    ensures named { IfOk result (IsNamedBy (subcommand_rows_of matches.now)) }
+    ensures refused { IfErr result (RefusesUse (subcommand_rows_of matches.now)) }
 {
     if matches.subcommand_matches("plan").is_some() {
         return Ok(Command::Plan);
@@ -352,10 +360,14 @@ fn command_of(alloc: Global, matches: &ArgMatches) -> Result<Command, Usage>
     Err(Usage::Arguments)
 }
 
-/// The command that the words name; the first word is the program's own name. Numbers out of range,
-/// words that are missing, surplus or unknown, and requests for help are refused with a text for the user.
+/// Returns the command that the words name. The first word is the program's own name.
+///
+/// Fails with `Refused` if clap finds a fault: a number out of range, a word that is missing, surplus or unknown, or a
+/// request for help. Fails with `Arguments` if clap finds none and the words still name no command: the shape of `make` is
+/// unknown, or doesn't have as many numbers as it takes. `OutOfMemory` may come for any words.
 pub fn read_words(alloc: Global, words: &[String]) -> Result<Command, Usage>
-    ensures { IfOk result (IsNamedBy (subcommand_of qlock_app (map string_bytes words.now))) }
+    ensures named { IfOk result (Names (map string_bytes words.now)) }
+    ensures refused { IfErr result (Refuses (map string_bytes words.now)) }
 {
     let matches = qlock_command(alloc)?.try_get_matches_from(words)?;
     command_of(alloc, &matches)

@@ -23,9 +23,13 @@ abbrev pub has_repeat : List ℕ → Bool
 has_repeat [] = false
 has_repeat (x ∷ xs) = has xs x || has_repeat xs
 
+-- there is no ring, or the base is empty, or a member of it is no place on the ring
+abbrev pub is_off_ring : ℕ → List ℕ → Bool
+is_off_ring n base = (n == 0) || (length base == 0) || not (list_all (λ x. nat_lt x n) base)
+
 -- there is no ring, or the base is no set of places on it
 abbrev pub is_bad_base : ℕ → List ℕ → Bool
-is_bad_base n base = (n == 0) || (length base == 0) || not (list_all (λ x. nat_lt x n) base) || has_repeat base
+is_bad_base n base = is_off_ring n base || has_repeat base
 
 -- the coterie of n voters and these sets, or their first fault
 abbrev pub as_construct : Result QuorumSystem CoterieFault → Result QuorumSystem ConstructFault

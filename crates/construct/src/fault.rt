@@ -19,7 +19,8 @@ pub enum ConstructFault {
     /// The shifted sets are no coterie: two of them are disjoint, or one lies within another. This comes from `cyclic` alone.
     #[error(transparent)]
     Coterie(CoterieFault),
-    /// Memory ran out. This may come at any point.
+    /// Memory ran out while the quorums were made, or while the base was searched for a repeat. It never stands for sizes that
+    /// are refused, nor for a base that is empty or has a member that is no voter's number.
     #[error("O1 OutOfMemory")]
     OutOfMemory,
 }

@@ -1,3 +1,4 @@
+pub mod BlankLemmas
 pub mod ListLemmas
 pub mod NameLaws
 pub mod NameLemmas

@@ -1,9 +1,11 @@
 //! The names that a TOML text lists.
-ghost use Rattle.std.specs.Prelude.{◌≡◌, map, option_map, ok_or, string_bytes};
+ghost use Rattle.std.specs.Prelude.{◌≡◌, Err, IfErr, map, option_map, ok_or, string_bytes};
+ghost use Rattle.toml.specs.Data.{no_members};
+ghost use Rattle.toml.specs.Errors.{IsBlank};
 ghost use Rattle.toml.specs.View.{table_view, items_view};
 ghost use Rattle.coterie_file.specs.Answers.{Gives};
 ghost use Rattle.coterie_file.specs.Lists.{table_at, texts_of, text_lists_of, items_at, listed, lists_in, lists_at};
-ghost use Rattle.coterie_file.specs.declared.fault.FileFault.TheVariants.{Keys};
+ghost use Rattle.coterie_file.specs.declared.fault.FileFault.TheVariants.{Keys, OutOfMemory};
 
 use crate::fault::FileFault;
 use std::alloc::Global;
@@ -18,7 +20,8 @@ pub(crate) struct NameLists {
 
 /// The table that a text spells.
 fn table_of(alloc: Global, text: &str) -> Result<Table, FileFault>
-    ensures { Gives table_view result (table_at text.now) }
+    ensures exact { Gives table_view result (table_at text.now) }
+    ensures memory { IfErr result (λ fault. fault ≡ OutOfMemory → ¬ IsBlank text.now) }
 {
     match toml::table_from_str(alloc, text) {
         Ok(table) => Ok(table),
@@ -75,7 +78,8 @@ fn text_lists_of(alloc: Global, values: &[Value]) -> Result<Vec<Vec<String>>, Fi
 
 /// The lists of a table with the keys `voters` and `quorums` and no other.
 fn lists_in(alloc: Global, table: &Table) -> Result<NameLists, FileFault>
-    ensures { Gives (λ l. listed l.names.items l.quorums.items) result (lists_in (table_view table.now)) }
+    ensures exact { Gives (λ l. listed l.names.items l.quorums.items) result (lists_in (table_view table.now)) }
+    ensures empty { table_view table.now ≡ no_members → result ≡ Err Keys }
 {
     if table.len() != 2 {
         return Err(FileFault::Keys);
@@ -94,7 +98,8 @@ fn lists_in(alloc: Global, table: &Table) -> Result<NameLists, FileFault>
 impl NameLists {
     /// The lists that a text spells.
     pub(crate) fn of(alloc: Global, text: &str) -> Result<NameLists, FileFault>
-        ensures { Gives (λ l. listed l.names.items l.quorums.items) result (lists_at text.now) }
+        ensures exact { Gives (λ l. listed l.names.items l.quorums.items) result (lists_at text.now) }
+        ensures blank { IsBlank text.now → result ≡ Err Keys }
     {
         let table = table_of(alloc, text)?;
         lists_in(alloc, &table)

@@ -1,10 +1,12 @@
 //! Reading of a coterie from its text.
-ghost use Rattle.std.specs.Prelude.{◌≡◌, ◌≤◌, [], length, map, not, IfOk, OnOk, position, is_some, string_bytes};
+ghost use Rattle.std.specs.Prelude.{◌≡◌, ◌≤◌, [], length, map, not, Err, IfOk, OnOk, position, is_some, string_bytes};
 ghost use Rattle.std.specs.List.{list_all};
+ghost use Rattle.toml.specs.Errors.{IsBlank};
 ghost use Rattle.coterie_file.specs.Answers.{Gives, unless};
 ghost use Rattle.coterie_file.specs.Lists.{listed};
 ghost use Rattle.coterie_file.specs.Names.{has_name, number_of, first_repeat, AreNames};
 ghost use Rattle.coterie_file.specs.Reading.{quorum_of, system_of, lists_fault, coterie_at};
+ghost use Rattle.coterie_file.specs.declared.fault.FileFault.TheVariants.{Keys};
 
 use crate::fault::FileFault;
 use crate::lists::NameLists;
@@ -120,10 +122,12 @@ fn coterie_of(
 }
 
 /// The coterie that a text spells. The text is a TOML document with two keys: `voters`, an array of names, and `quorums`, an array of
-/// arrays of these names. A voter's number is its place in `voters`. A text with a fault is refused by its first one; `OutOfMemory` may
-/// come at any point.
+/// arrays of these names. A voter's number is its place in `voters`. A text with a fault is refused by its first one, or with
+/// `OutOfMemory`, which may come for every text that is not blank: reading TOML takes memory. A blank text, of white space, line ends and
+/// comments, is refused with `Keys`.
 pub fn read_coterie(alloc: Global, text: &str) -> Result<Named, FileFault>
     ensures exact { Gives (λ n. n) result (coterie_at text.now) }
+    ensures blank { IsBlank text.now → result ≡ Err Keys }
 {
     let lists = NameLists::of(alloc, text)?;
     let coterie = coterie_of(alloc, &lists.names, &lists.quorums)?;

@@ -1,14 +1,21 @@
+ghost use Rattle.std.specs.Prelude.{◌≡◌, IfOk};
+
 use super::*;
 use quorum_set::{Coterie, QSet};
 use std::alloc::Global;
 use std::test::Fail;
 
-/// What a text is answered by: its fault, or the names and the quorums that were read, in the layout that is written.
-fn answer_to(alloc: Global, text: &str) -> Result<String, Fail> {
-    match read_coterie(alloc, text) {
+/// The text of the coterie in the layout that is written, or the text of the fault.
+fn shown(alloc: Global, answer: Result<Named, FileFault>) -> Result<String, Fail> {
+    match answer {
         Ok(named) => Ok(write_coterie(alloc, &named)?),
         Err(fault) => Ok(fault.to_string(alloc)?),
     }
+}
+
+/// What a text is answered by.
+fn answer_to(alloc: Global, text: &str) -> Result<String, Fail> {
+    shown(alloc, read_coterie(alloc, text))
 }
 
 #[test]
@@ -18,6 +25,7 @@ fn first_faults(rt: HostRuntime) -> Result<(), Fail> {
         ("voters = [", "F1 NotToml"),
         ("voters = []\nvoters = []\nquorums = []", "F1 NotToml"),
         ("", "F2 Keys"),
+        (" \t\n# no key\r\n", "F2 Keys"),
         ("voters = ['a']", "F2 Keys"),
         ("quorums = [['a']]", "F2 Keys"),
         (
@@ -106,7 +114,9 @@ fn layouts_read_alike(rt: HostRuntime) -> Result<(), Fail> {
 }
 
 /// The coterie of three voters of which any two are a quorum.
-fn majority(alloc: Global) -> Result<Coterie, Fail> {
+fn majority(alloc: Global) -> Result<Coterie, Fail>
+    ensures { IfOk result (λ c. c.voters ≡ 3) }
+{
     let mut sets = Vec::new(alloc);
     for (i, j) in [(0u8, 1u8), (2, 0), (1, 2)] {
         let mut set = QSet::empty();
@@ -120,18 +130,7 @@ fn majority(alloc: Global) -> Result<Coterie, Fail> {
 #[test]
 fn numbered_coterie_is_written(rt: HostRuntime) -> Result<(), Fail> {
     let alloc = rt.alloc();
-    let mut sets = Vec::new(alloc);
-    for (i, j) in [(0u8, 1u8), (2, 0), (1, 2)] {
-        let mut set = QSet::empty();
-        set.insert(i);
-        set.insert(j);
-        sets.push(set)?;
-    }
-    let Ok(coterie) = Coterie::of(3, sets) else {
-        assert!(rt; false);
-        return Ok(());
-    };
-    let named = Named::numbered(alloc, coterie)?;
+    let named = Named::numbered(alloc, majority(alloc)?)?;
     assert_eq!(rt; named.coterie().count(), 3);
     assert_eq!(rt; named.name(2), "v2");
     assert_eq!(rt; write_coterie(alloc, &named)?.as_str(), MAJORITY);
@@ -148,10 +147,7 @@ fn text_with(alloc: Global, names: &[&str]) -> Result<String, Fail> {
     if given.len() != coterie.voters() {
         return Ok("another number of names".to_string(alloc)?);
     }
-    match Named::of(coterie, given) {
-        Ok(named) => Ok(write_coterie(alloc, &named)?),
-        Err(fault) => Ok(fault.to_string(alloc)?),
-    }
+    shown(alloc, Named::of(coterie, given))
 }
 
 #[test]

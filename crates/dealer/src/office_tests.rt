@@ -83,6 +83,22 @@ fn a_clerk_that_is_out_has_to_join_before_the_account(rt: HostRuntime) -> Result
 }
 
 #[test]
+fn a_clerk_that_is_lost_keeps_its_share(rt: HostRuntime) -> Result<(), Fail> {
+    let alloc = rt.alloc();
+    let Some((office, mut root)) = majority_office(alloc, 8)? else {
+        assert!(rt; false, "no office");
+        return Ok(());
+    };
+    drop(root.split(&office, 5));
+    let Err(unclosed) = office.close(alloc, root) else {
+        assert!(rt; false, "closed");
+        return Ok(());
+    };
+    assert_eq!(rt; unclosed.fault.to_string(alloc)?.as_str(), "L2 ClerksOut 5");
+    Ok(())
+}
+
+#[test]
 fn deals_in_the_plan_s_proportions(rt: HostRuntime) -> Result<(), Fail> {
     let alloc = rt.alloc();
     let table = [

@@ -32,6 +32,8 @@ mod mailbox;
 mod name;
 mod node;
 #[cfg(test)]
+mod service_tests;
+#[cfg(test)]
 mod tests;
 mod votes;
 

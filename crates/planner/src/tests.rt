@@ -1,6 +1,7 @@
 use super::*;
 use certificate::write_plan;
 use quorum_set::{Coterie, QSet};
+use simplex::SimplexFault;
 use std::alloc::{AllocError, Global};
 use std::test::Fail;
 
@@ -23,11 +24,50 @@ fn coterie_of(alloc: Global, voters: usize, quorums: &[&[u8]]) -> Result<Coterie
 }
 
 /// The text of the plan, or of the fault.
-fn planned(alloc: Global, voters: usize, quorums: &[&[u8]]) -> Result<String, Fail> {
-    match plan(alloc, &coterie_of(alloc, voters, quorums)?) {
+fn answer_for(alloc: Global, coterie: &Coterie) -> Result<String, Fail> {
+    match plan(alloc, coterie) {
         Ok(plan) => Ok(write_plan(alloc, &plan)?),
         Err(fault) => Ok(fault.to_string(alloc)?),
     }
+}
+
+/// The text of the plan of these quorums, or of the fault.
+fn planned(alloc: Global, voters: usize, quorums: &[&[u8]]) -> Result<String, Fail> {
+    answer_for(alloc, &coterie_of(alloc, voters, quorums)?)
+}
+
+/// 33 of 64 voters: one, and then each time five times the last one and `step` more, modulo 64.
+fn walk(start: u8, step: u8) -> QSet {
+    let mut set = QSet::empty();
+    let mut voter = start;
+    for _ in 0..33 {
+        if voter < 64 {
+            set.insert(voter);
+        }
+        voter = voter.wrapping_mul(5).wrapping_add(step) % 64;
+    }
+    set
+}
+
+#[test]
+fn numbers_that_grow_too_large_end_the_search(rt: HostRuntime) -> Result<(), Fail> {
+    let alloc = rt.alloc();
+    let mut sets = Vec::new(alloc);
+    for number in 0..63u8 {
+        let start = number.wrapping_mul(9) % 64;
+        let step = number.wrapping_mul(4).wrapping_add(5);
+        sets.push(walk(start, step))?;
+    }
+    let walks = Coterie::of(64, sets)?;
+    assert_eq!(rt; answer_for(alloc, &walks)?.as_str(), "N1 NoPlan S1");
+    Ok(())
+}
+
+#[test]
+fn a_search_without_a_row_ends(rt: HostRuntime) -> Result<(), Fail> {
+    let fault = PlannerFault::of_simplex(SimplexFault::NoRow);
+    assert_eq!(rt; fault.to_string(rt.alloc())?.as_str(), "N1 NoPlan S3");
+    Ok(())
 }
 
 #[test]

@@ -6,12 +6,17 @@ use Rattle.coterie_file.specs.Answers as file_answers
 use Rattle.coterie_file.specs.Reading.{coterie_at}
 use Rattle.coterie_file.specs.declared.fault.FileFault.{FileFault}
 use Rattle.coterie_file.specs.declared.fault.FileFault.TheVariants as file
+use Rattle.coterie_file.specs.Named.{NamedSystem}
+use Rattle.planner.specs.Causes.{CanCome}
+use Rattle.planner.specs.Uniform.{IsWarranted}
+use Rattle.planner.specs.declared.fault.PlannerFault.{PlannerFault}
+use Rattle.planner.specs.declared.fault.PlannerFault.TheVariants as planner
 use Rattle.certificate.specs.PlanTexts as plan_texts
 use Rattle.certificate.specs.declared.fault.PlanFault.{PlanFault}
 use Rattle.certificate.specs.declared.fault.PlanFault.TheVariants as plan
 use Rattle.qlock_cli.specs.Commands.{IsAnswer, IsInRange, IsRefusedBy, IsRunText, Refuses, coterie_part, planned_in, refused_as, staged_in}
-use Rattle.qlock_cli.specs.Faults.{file_refusal, plan_refusal, replay_refusal}
-use Rattle.cluster.specs.declared.record.RunRecord.{RunRecord}
+use Rattle.qlock_cli.specs.Faults.{file_refusal, plan_refusal, planner_refusal, replay_refusal}
+use Rattle.members.specs.declared.record.RunRecord.{RunRecord}
 use Rattle.runs.specs.Runs.{IsRun}
 use Rattle.replay.specs.Records.{Entries, IsFirstFault, entries_of}
 use Rattle.replay.specs.RecordTexts.{HasText, IsBadRecord, record_text}
@@ -46,6 +51,12 @@ file_refused fault wanted e = ap (refused_as File) e
 pub plan_refused : {Y : Type 0} (fault : PlanFault) (wanted : Result Y PlanFault) → plan_texts.Refuses fault wanted → Refuses (plan_refusal fault) (refused_as Plan wanted)
 plan_refused plan.OutOfMemory wanted e = tt
 plan_refused fault wanted e = ap (refused_as Plan) e
+
+-- a refusal of the planner is one of the command `plan`
+pub unplanned_refused : (input : List ℕ) (named : NamedSystem) (fault : PlannerFault) → coterie_part input ≡ Ok named → IsWarranted named.system fault → CanCome fault
+    → IsRefusedBy commands.Plan input (planner_refusal fault)
+unplanned_refused input named planner.OutOfMemory e warranted can_come = tt
+unplanned_refused input named (planner.NoPlan cause) e warranted can_come = record { named = named; coterie = e; warranted = warranted; can_come = can_come }
 
 -- a refusal of the script is one of the command `world`
 pub script_refused : (input script : List ℕ) (planned : Planned) (fault : ReplayFault) → staged_in input ≡ Ok (planned, script) → IsBadText script fault → IsRefusedBy commands.World input (replay_refusal fault)

@@ -19,7 +19,10 @@ use Rattle.coterie_file.specs.declared.fault.FileFault.TheVariants.{NotToml}
 use Rattle.certificate.specs.Certificates.{Weighted, IsCertificate, IsOptimal, cycle_len, load_of}
 use Rattle.certificate.specs.PlanTexts.{plan_at, plan_text}
 use Rattle.planner.specs.Uniform.{IsWarranted}
-use Rattle.planner.specs.declared.fault.PlannerFault.{PlannerFault}
+use Rattle.planner.specs.Causes.{CanCome}
+use Rattle.planner.specs.declared.fault.Cause.{Cause}
+use Rattle.planner.specs.declared.fault.PlannerFault.TheVariants as planner
+use Rattle.planner.specs.declared.fault.PlannerFault.TheVariants.{NoPlan}
 use Rattle.dealer.specs.Cycles.{quorum_of_ticket}
 use Rattle.dealer.specs.Accounts.{account_of}
 use Rattle.dealer.specs.declared.account.Account.{Account}
@@ -32,8 +35,8 @@ use Rattle.replay.specs.Scripts.{IsFirstBad}
 use Rattle.replay.specs.declared.fault.ReplayFault.{ReplayFault}
 use Rattle.replay.specs.declared.fault.ReplayFault.TheVariants as replay
 use Rattle.replay.specs.declared.fault.ReplayFault.TheVariants.{BadLine}
-use Rattle.cluster.specs.declared.fault.ClusterFault.{ClusterFault}
-use Rattle.cluster.specs.declared.record.RunRecord.{RunRecord}
+use Rattle.members.specs.declared.fault.ClusterFault.{ClusterFault}
+use Rattle.members.specs.declared.record.RunRecord.{RunRecord}
 use Rattle.runs.specs.Runs.{AreLet, EndsRunBy, IsRun}
 use Rattle.whole_io.specs.Devices.{AppendsBeginning}
 use Rattle.whole_io.specs.declared.fault.DeviceFault.TheVariants.{ReadFault, TooLong, WriteFault}
@@ -196,15 +199,17 @@ pub record IsPlanText (input output : List ℕ) : Type 0 where
   pub optimal : IsOptimal plan
   pub spelled : output ≡ plan_text plan
 
--- the planner's fault comes of the coterie that the input spells
-pub record IsUnplanned (input : List ℕ) (fault : PlannerFault) : Type 0 where
+-- the input spells a coterie that is not uniform, and the planner found no plan of it, for this cause
+pub record IsUnplanned (input : List ℕ) (cause : Cause) : Type 0 where
   pub named : NamedSystem
   pub coterie : coterie_part input ≡ Ok named
-  pub warranted : IsWarranted named.system fault
+  pub warranted : IsWarranted named.system (NoPlan cause)
+  pub can_come : CanCome (NoPlan cause)
 
--- `plan` refuses the input so: it spells no coterie, or there is no plan of it
+-- `plan` refuses the input so: it spells no coterie, or there is no plan of it; that the planner ran out of memory is no such refusal
 abbrev pub RefusesToPlan : List ℕ → Fault → Type 0
-RefusesToPlan input (Planner fault) = IsUnplanned input fault
+RefusesToPlan input (Planner (NoPlan cause)) = IsUnplanned input cause
+RefusesToPlan input (Planner planner.OutOfMemory) = ⊥
 RefusesToPlan input fault = coterie_part input ≡ Err fault
 
 -- the output is that of the script in the third part, by the plan that the parts before it spell

@@ -3,4 +3,3 @@ pub mod Dealing
 pub mod Devices
 pub mod Faults
 pub mod Parts
-pub mod Statuses

@@ -176,6 +176,7 @@ fn make_answer(alloc: Global, shape: &Shape) -> Result<String, Fault>
 }
 
 /// What `plan` writes for an input: the text of a plan of the coterie that the input spells.
+#[tactic(auto, using(crate::proofs::CommandLemmas::unplanned_refused))]
 fn plan_answer(alloc: Global, input: &[u8]) -> Result<String, Fault>
     ensures exact { IsAnswered string_bytes Command.Plan input.now result }
     ensures own { IfErr result IsOwn }

@@ -6,12 +6,12 @@ ghost use Rattle.std.specs.Io.KnownBytes.{IsAtEnd};
 ghost use Rattle.runs.specs.Runs.{IsRun};
 
 use crate::answer::planned_of;
-use crate::execute::{input_for, write_answer};
 use crate::fault::Fault;
-use cluster::RunRecord;
+use crate::serving::{input_for, write_answer};
+use cluster::{Gate, RunRecord};
 use command_line::Command;
 use replay::write_record;
-use runs::{Gate, record_of_run};
+use runs::record_of_run;
 use std::alloc::Global;
 use std::io::{Read, Write};
 use std::sync::Wait;

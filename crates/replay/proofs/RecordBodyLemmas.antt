@@ -3,7 +3,7 @@ use Rattle.std.proofs.Common.{◌≡◌, ◌≢◌, ℕ, List, [], ◌∷◌, �
 use Rattle.std.specs.List.{AllByRecursion}
 use Rattle.replay.specs.declared.record_reading.RecordLine.{RecordLine}
 use Rattle.replay.specs.declared.record_reading.RecordLine.TheVariants as kinds
-use Rattle.cluster.specs.Records.{Draw, Pass}
+use Rattle.members.specs.Records.{Draw, Pass}
 use Rattle.replay.specs.Records.{Entries}
 use Rattle.replay.specs.RecordTexts.{AreFirst, BeginsWithNone, GoesOnBehind, HasDrawLine, HasLine, HasPassLine, HasRegisterLine, HasText, IsNext, MayFollow, StopsBehind, body_text, draw_line, draws_text, pass_line, passes_text, record_line, register_line}
 

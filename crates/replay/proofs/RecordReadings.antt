@@ -10,10 +10,10 @@ use Rattle.certificate.specs.PlanTexts.{cut_at}
 use Rattle.message.specs.Fields.{AllFit, fields}
 use Rattle.replay.specs.declared.record_reading.RecordLine.{RecordLine}
 use Rattle.replay.specs.declared.record_reading.RecordLine.TheVariants as kinds
-use Rattle.cluster.specs.declared.record.RunRecord.{RunRecord}
+use Rattle.members.specs.declared.record.RunRecord.{RunRecord}
 use Rattle.replay.specs.declared.fault.ReplayFault.{ReplayFault}
 use Rattle.replay.specs.declared.fault.ReplayFault.TheVariants.{TicketTwice, TicketMissing, WrongQuorum, PassTwice, PassMissing, WrongRegister, BadLine, OutOfMemory}
-use Rattle.cluster.specs.Records.{Draw, Pass}
+use Rattle.members.specs.Records.{Draw, Pass}
 use Rattle.replay.specs.Records.{Entries, entries_of}
 use Rattle.replay.specs.RecordTexts.{BeginsWithNone, HasDrawLine, HasLine, HasPassLine, HasText, IsBadBody, IsBadRest, IsFirstBad, MayFollow, StopsBehind, body_text, draw_line, draws_text, pass_line, passes_text, record_line, record_text, register_line, title_line}
 use Rattle.replay.proofs.LineLemmas.{Lacks-decimal, same_pair}

@@ -4,10 +4,10 @@ use Rattle.std.specs.List.{range_with_len}
 use Rattle.std.specs.List.Sorted.{IsPermutation}
 use Rattle.std.proofs.lemmas.List.Sorted.{IsPermutation-refl}
 use Rattle.dealer.proofs.CycleLemmas.{times-permuted}
-use Rattle.cluster.specs.declared.record.RunRecord.{RunRecord}
-use Rattle.cluster.specs.Clusters.{ClusterState}
-use Rattle.cluster.specs.Members.{MemberState}
-use Rattle.cluster.specs.Records.{AreInOrder, IsRecordOf}
+use Rattle.members.specs.declared.record.RunRecord.{RunRecord}
+use Rattle.members.specs.Clusters.{ClusterState}
+use Rattle.members.specs.Members.{MemberState}
+use Rattle.members.specs.Records.{AreInOrder, IsRecordOf}
 use Rattle.replay.specs.Records.{EachOnce, IsSoundRecord, entries_of}
 
 -- the numbers 0, 1, 2 and so on stand once each

@@ -7,7 +7,7 @@ use Rattle.certificate.specs.Certificates.{Weighted, cycle_len}
 use Rattle.dealer.specs.Accounts.{IsWholeCycles}
 use Rattle.replay.specs.declared.fault.ReplayFault.{ReplayFault}
 use Rattle.replay.specs.declared.fault.ReplayFault.TheVariants.{TicketTwice, TicketMissing, WrongQuorum, PassTwice, PassMissing, WrongRegister, BadLine, OutOfMemory}
-use Rattle.cluster.specs.Records.{Draw}
+use Rattle.members.specs.Records.{Draw}
 use Rattle.replay.specs.Records.{EachOnce, Entries, IsFirstFault, IsFound, IsNumberFault, IsRegisterFault, IsRight, IsSoundRecord, IsTicketFault, numbers_of, tickets_of}
 use Rattle.replay.proofs.AscendingLemmas.{none_missing, single_from_count}
 

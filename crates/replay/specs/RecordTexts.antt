@@ -15,7 +15,7 @@ use Rattle.replay.specs.declared.record_reading.RecordLine.{RecordLine}
 use Rattle.replay.specs.declared.record_reading.RecordLine.TheVariants as kinds
 use Rattle.replay.specs.declared.fault.ReplayFault.{ReplayFault}
 use Rattle.replay.specs.declared.fault.ReplayFault.TheVariants.{BadLine, OutOfMemory}
-use Rattle.cluster.specs.Records.{Draw, Pass}
+use Rattle.members.specs.Records.{Draw, Pass}
 use Rattle.replay.specs.Records.{Entries}
 
 -- Spelling

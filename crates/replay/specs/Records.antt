@@ -6,8 +6,8 @@ use Rattle.std.specs.List.{All, Contains}
 use Rattle.quorum_set.specs.Counts.{times}
 use Rattle.certificate.specs.Certificates.{Weighted}
 use Rattle.dealer.specs.Cycles.{quorum_of_ticket}
-use Rattle.cluster.specs.declared.record.RunRecord.{RunRecord}
-use Rattle.cluster.specs.Records.{Draw, Pass}
+use Rattle.members.specs.declared.record.RunRecord.{RunRecord}
+use Rattle.members.specs.Records.{Draw, Pass}
 use Rattle.replay.specs.declared.check.Gap.{Gap}
 use Rattle.replay.specs.declared.check.Gap.TheVariants.{Twice, Missing}
 use Rattle.replay.specs.declared.fault.ReplayFault.{ReplayFault}

@@ -1,9 +1,9 @@
 //! Laws of the definitions.
 ghost use Rattle.std.specs.Prelude.{◌≡◌, ◌≢◌, ◌++◌, ◌∷◌, ℕ, List, []};
-ghost use Rattle.cluster.specs.declared.record.RunRecord.{RunRecord};
-ghost use Rattle.cluster.specs.Clusters.{ClusterState};
-ghost use Rattle.cluster.specs.Members.{MemberState};
-ghost use Rattle.cluster.specs.Records.{IsRecordOf};
+ghost use Rattle.members.specs.declared.record.RunRecord.{RunRecord};
+ghost use Rattle.members.specs.Clusters.{ClusterState};
+ghost use Rattle.members.specs.Members.{MemberState};
+ghost use Rattle.members.specs.Records.{IsRecordOf};
 ghost use Rattle.replay.specs.Records.{Entries, IsSoundRecord, entries_of};
 ghost use Rattle.replay.specs.RecordTexts as record_texts;
 ghost use Rattle.replay.specs.RecordTexts.{HasText, record_text};

@@ -1,7 +1,7 @@
 //! Reading the record of a run.
 ghost use Rattle.std.specs.Prelude.{◌≡◌, ◌≢◌, ◌++◌, ◌∷◌, [], ℕ, List, IfErr, IfOk, IfSome, MatchOption, MatchResult};
 ghost use Rattle.message.specs.Fields.{fields};
-ghost use Rattle.cluster.specs.Records.{Draw, Pass};
+ghost use Rattle.members.specs.Records.{Draw, Pass};
 ghost use Rattle.replay.specs.Records.{Entries, entries_of};
 ghost use Rattle.replay.specs.RecordTexts.{AreFirst, BeginsWithNone, HasDrawLine, HasLine, HasPassLine, HasRegisterLine, HasText, IsBadRecord, IsBadRest, IsLineOf, IsNext, body_text, draw_line, pass_line, record_line, record_text, register_line, title_line};
 ghost use Rattle.replay.specs.declared.fault.ReplayFault.TheVariants.{BadLine, OutOfMemory};

@@ -128,7 +128,7 @@ fn plays(alloc: Global, client: &mut Requester, script: &[(&str, &str)]) -> Resu
 }
 
 #[test]
-fn vote_that_is_given_back_is_won_again(rt: HostRuntime) -> Result<(), Fail> {
+fn vote_that_is_given_back_is_won_again_and_released(rt: HostRuntime) -> Result<(), Fail> {
     let alloc = rt.alloc();
     let mut client = Requester::new(0, 9);
     assert_eq!(rt;
@@ -145,6 +145,12 @@ fn vote_that_is_given_back_is_won_again(rt: HostRuntime) -> Result<(), Fail> {
     assert_eq!(rt; client.held(0), None);
     let won = [("locked 0 0 1 2 1", ""), ("locked 1 0 1 5 1", "entered")];
     assert!(rt; plays(alloc, &mut client, won.as_slice())?);
+    assert_eq!(rt;
+        answer(alloc, client.leave())?.as_str(),
+        "release 0 0 1;release 0 1 1;left"
+    );
+    let late = [("locked 0 0 1 3 1", "release 0 0 1;")];
+    assert!(rt; plays(alloc, &mut client, late.as_slice())?);
     Ok(())
 }
 

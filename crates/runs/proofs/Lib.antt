@@ -1,2 +1,1 @@
-mod DriveLemmas
 mod RunLemmas

@@ -10,14 +10,14 @@ use Rattle.std.proofs.lemmas.List.Sorted.{sum_by-IsPermutation}
 use Rattle.std.proofs.lemmas.List.Sums.{sum_by-append, sum_by-cons}
 use native.Mathlib.Nat.{add-mul, zero-mul}
 use Rattle.requester.specs.Words.{is_idle}
-use Rattle.cluster.specs.Clusters.{ClusterState}
-use Rattle.runs.specs.Drives.{HasMore, HasServed, HasEnded, IsBack, IsBackBy, IsLeastFault, EndsWork, TookTurns, WasLet}
-use Rattle.cluster.specs.Members.{AreIdle, MemberState, fresh_member}
-use Rattle.cluster.specs.Records.{Draw, Pass, IsRecordOf, draws_of, idle_count, passes_of}
+use Rattle.members.specs.Clusters.{ClusterState}
+use Rattle.cluster.specs.Drives.{HasMore, HasServed, HasEnded, IsBack, IsBackBy, IsLeastFault, EndsWork, TookTurns, WasLet}
+use Rattle.members.specs.Members.{AreIdle, MemberState, fresh_member}
+use Rattle.members.specs.Records.{Draw, Pass, IsRecordOf, draws_of, idle_count, passes_of}
 use Rattle.dealer.specs.declared.receipt.Receipt.{Receipt}
-use Rattle.cluster.specs.declared.record.RunRecord.{RunRecord}
-use Rattle.cluster.specs.declared.fault.ClusterFault.{ClusterFault}
-use Rattle.cluster.specs.declared.fault.ClusterFault.TheVariants as ends
+use Rattle.members.specs.declared.record.RunRecord.{RunRecord}
+use Rattle.members.specs.declared.fault.ClusterFault.{ClusterFault}
+use Rattle.members.specs.declared.fault.ClusterFault.TheVariants as ends
 use Rattle.board.specs.declared.fault.BoardFault.TheVariants as board
 use Rattle.dealer.specs.declared.fault.DealFault.TheVariants as deal
 use Rattle.requester.specs.declared.fault.ClientFault.TheVariants as client

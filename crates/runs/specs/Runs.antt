@@ -5,10 +5,10 @@ use Rattle.certificate.specs.Certificates.{Weighted}
 use Rattle.board.specs.declared.fault.BoardFault.TheVariants as board
 use Rattle.dealer.specs.declared.fault.DealFault.TheVariants as deal
 use Rattle.requester.specs.declared.fault.ClientFault.TheVariants as client
-use Rattle.cluster.specs.declared.fault.ClusterFault.{ClusterFault}
-use Rattle.cluster.specs.declared.fault.ClusterFault.TheVariants as ends
-use Rattle.cluster.specs.declared.record.RunRecord.{RunRecord}
-use Rattle.cluster.specs.Records.{AreInOrder}
+use Rattle.members.specs.declared.fault.ClusterFault.{ClusterFault}
+use Rattle.members.specs.declared.fault.ClusterFault.TheVariants as ends
+use Rattle.members.specs.declared.record.RunRecord.{RunRecord}
+use Rattle.members.specs.Records.{AreInOrder}
 use Rattle.replay.specs.Records.{IsSoundRecord, entries_of}
 use Rattle.runs.specs.declared.fault.RunFault.{RunFault}
 use Rattle.runs.specs.declared.fault.RunFault.TheVariants.{Cluster, OutOfMemory}

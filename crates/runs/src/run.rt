@@ -1,15 +1,14 @@
 //! Runs, from the plan to the record.
 ghost use Rattle.std.specs.Prelude.{◌≡◌, ◌*◌, ◌^◌, ◌<◌, ◌≤◌, IfOk, IfErr};
 ghost use Rattle.certificate.specs.Certificates.{IsCertificate};
-ghost use Rattle.cluster.specs.Clusters.{ClusterState, IsCluster};
+ghost use Rattle.members.specs.Clusters.{ClusterState, IsCluster};
 ghost use Rattle.runs.specs.Runs.{AreLet, IsRun, EndsRun};
 
-use crate::drives::drive;
 use crate::fault::RunFault;
-use crate::gate::Gate;
 use certificate::Plan;
 use cluster::{
-    Blank, CloseFault, ClusterName, RunRecord, records_are_in_range, records_count_passes,
+    Blank, CloseFault, ClusterName, Gate, RunRecord, drive, records_are_in_range,
+    records_count_passes,
 };
 use replay::records_of_runs_are_sound;
 use std::alloc::Global;

@@ -1,7 +1,7 @@
 //! Runs: four clients, and one that has no turns.
 use super::*;
 use certificate::{Plan, check};
-use cluster::ClusterFault;
+use cluster::{ClusterFault, NoGate};
 use quorum_set::{Coterie, QSet};
 use std::alloc::Global;
 use std::test::Fail;

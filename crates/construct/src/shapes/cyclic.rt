@@ -1,8 +1,9 @@
 //! Cyclic coteries.
-ghost use Rattle.std.specs.Prelude.{◌≡◌, ◌==◌, ◌+◌, ◌%◌, ◌<◌, nat_lt, IfOk, IfErr};
+ghost use Rattle.std.specs.Prelude.{◌≡◌, ◌==◌, ◌+◌, ◌%◌, ◌<◌, nat_lt, true, Err, IfOk, IfErr};
 ghost use Rattle.std.specs.List.{list_all, list_any};
 ghost use Rattle.construct.specs.Answers.{Gives};
-ghost use Rattle.construct.specs.Cyclic.{shifted, cyclic_quorums, has_repeat, is_bad_base, cyclic_at, IsCyclicFault};
+ghost use Rattle.construct.specs.Cyclic.{shifted, cyclic_quorums, has_repeat, is_off_ring, cyclic_at, IsCyclicFault};
+ghost use Rattle.construct.specs.declared.fault.ConstructFault.TheVariants.{BadSize};
 
 use crate::fault::ConstructFault;
 use crate::laws::cyclic_sets_cross_or_not;
@@ -58,14 +59,11 @@ fn are_below(n: u32, base: &[u32]) -> bool
     base.iter().all(|x| *x < n)
 }
 
-/// Whether there is no ring, or the base is no set of places on it.
-fn is_bad_base(alloc: Global, n: u32, base: &[u32]) -> Result<bool, AllocError>
-    ensures { IfOk result (λ b. b ≡ is_bad_base n base.now) }
+/// Whether there is no ring, or the base is empty, or a member of it is no place on the ring.
+fn is_off_ring(n: u32, base: &[u32]) -> bool
+    ensures { result ≡ is_off_ring n base.now }
 {
-    if n == 0 || base.is_empty() || !are_below(n, base) {
-        return Ok(true);
-    }
-    has_repeat(alloc, base)
+    n == 0 || base.is_empty() || !are_below(n, base)
 }
 
 /// The cyclic coterie of a base set of voters on a ring of n: quorum s, for s below n, is the base moved on by s places, { (x + s) mod n, x in base }. Where the
@@ -74,9 +72,10 @@ fn is_bad_base(alloc: Global, n: u32, base: &[u32]) -> Result<bool, AllocError>
 /// above 64; then `Coterie(Disjoint)` or `Coterie(Contained)` for the least pair of quorums that are disjoint or of which one lies within the other.
 pub fn cyclic(alloc: Global, n: u32, base: &[u32]) -> Result<Coterie, ConstructFault>
     ensures exact { Gives result (cyclic_at n base.now) }
+    ensures ring { is_off_ring n base.now ≡ true → result ≡ Err BadSize }
     ensures faults { IfErr result IsCyclicFault }
 {
-    if is_bad_base(alloc, n, base)? {
+    if is_off_ring(n, base) || has_repeat(alloc, base)? {
         return Err(ConstructFault::BadSize);
     }
     if n > 64 {

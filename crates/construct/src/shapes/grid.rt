@@ -1,5 +1,5 @@
 //! Grids.
-ghost use Rattle.std.specs.Prelude.{◌≡◌, ◌==◌, ◌&&◌, ◌*◌, ◌/◌, ◌%◌, ◌<◌, ◌≤◌, nat_lt, map, IfOk};
+ghost use Rattle.std.specs.Prelude.{◌≡◌, ◌==◌, ◌&&◌, ◌*◌, ◌/◌, ◌%◌, ◌<◌, ◌≤◌, nat_lt, map, Err, IfErr, IfOk};
 ghost use Rattle.quorum_set.specs.Sets.{set_where};
 ghost use Rattle.construct.specs.Answers.{Gives};
 ghost use Rattle.construct.specs.Grid.{row_with_column, grid_quorums, grid_at};
@@ -55,6 +55,7 @@ fn quorums_of(alloc: Global, r: u32, c: u32) -> Result<Vec<QSet>, AllocError>
 /// than 64 voters.
 pub fn grid(alloc: Global, r: u32, c: u32) -> Result<Coterie, ConstructFault>
     ensures exact { Gives result (grid_at r c) }
+    ensures sizes { IfErr (grid_at r c) (λ fault. result ≡ Err fault) }
 {
     if r < 2 || c < 2 {
         return Err(ConstructFault::BadSize);

@@ -1,5 +1,5 @@
 //! Majorities.
-ghost use Rattle.std.specs.Prelude.{◌≡◌, ◌≤◌, [], IfOk, vec_len};
+ghost use Rattle.std.specs.Prelude.{◌≡◌, ◌≤◌, [], Err, IfErr, IfOk, vec_len};
 ghost use Rattle.std.specs.List.{range_with_len};
 ghost use Rattle.itertools.specs.Odometer.{ways};
 ghost use Rattle.itertools.specs.Pool.{ascending_low, ascending_high, combination_can, combination_left};
@@ -54,6 +54,7 @@ fn sets_of(alloc: Global, n: u8, k: usize) -> Result<Vec<QSet>, AllocError>
 /// above 14.
 pub fn majority(alloc: Global, n: u32) -> Result<Coterie, ConstructFault>
     ensures exact { Gives result (majority_at n) }
+    ensures sizes { IfErr (majority_at n) (λ fault. result ≡ Err fault) }
 {
     if n == 0 {
         return Err(ConstructFault::BadSize);

@@ -1,5 +1,5 @@
 //! Trees.
-ghost use Rattle.std.specs.Prelude.{◌≡◌, ◌==◌, ◌+◌, ◌*◌, ◌^◌, ◌<◌, ◌≤◌, ◌++◌, map, IfOk, OnOk};
+ghost use Rattle.std.specs.Prelude.{◌≡◌, ◌==◌, ◌+◌, ◌*◌, ◌^◌, ◌<◌, ◌≤◌, ◌++◌, map, Err, IfErr, IfOk, OnOk};
 ghost use Rattle.std.specs.List.{flat_map};
 ghost use Rattle.quorum_set.specs.Sets.{set_where};
 ghost use Rattle.construct.specs.Answers.{Gives};
@@ -99,6 +99,7 @@ fn quorums_under(alloc: Global, h: u32, i: u32) -> Result<Vec<QSet>, AllocError>
 /// each of the right one. `TooLarge` where h is above 3.
 pub fn tree(alloc: Global, h: u32) -> Result<Coterie, ConstructFault>
     ensures exact { Gives result (tree_at h) }
+    ensures sizes { IfErr (tree_at h) (λ fault. result ≡ Err fault) }
 {
     if h > 3 {
         return Err(ConstructFault::TooLarge);

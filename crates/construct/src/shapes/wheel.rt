@@ -1,5 +1,5 @@
 //! Wheels.
-ghost use Rattle.std.specs.Prelude.{◌≡◌, ◌<◌, ◌≤◌, map, IfOk};
+ghost use Rattle.std.specs.Prelude.{◌≡◌, ◌<◌, ◌≤◌, map, Err, IfErr, IfOk};
 ghost use Rattle.std.specs.List.{range_with_len};
 ghost use Rattle.construct.specs.Answers.{Gives};
 ghost use Rattle.construct.specs.Wheel.{spoke, rim, wheel_quorums, wheel_at};
@@ -47,6 +47,7 @@ fn quorums_of(alloc: Global, k: u32) -> Result<Vec<QSet>, AllocError>
 /// is above 63.
 pub fn wheel(alloc: Global, k: u32) -> Result<Coterie, ConstructFault>
     ensures exact { Gives result (wheel_at k) }
+    ensures sizes { IfErr (wheel_at k) (λ fault. result ≡ Err fault) }
 {
     if k < 2 {
         return Err(ConstructFault::BadSize);

@@ -1,9 +1,10 @@
-use Rattle.std.proofs.Common.{◌∙◌, sym, refl, codes, arith}
-use Rattle.clap.specs.Words.{found_of}
-use Rattle.clap.proofs.WalkLemmas.{first_value-rows}
+use Rattle.std.proofs.Common.{refl}
+use Rattle.clap.specs.Words.{found_of, rows_of}
+use Rattle.command_line.proofs.WordLemmas.{only_deal}
 use Rattle.command_line.proofs.words.deal_of.Goals as goal
 
-pub returns-in-Ok : goal.returns-in-Ok
-returns-in-Ok c =
-    let text = c.in-Some.ensures ∙ first_value-rows (found_of c.args.used.now) (codes "N") in
-    (refl, (c.in-Some.text.now, sym text, c.in-Ok.ensures.value.0), omega arith)
+pub returns-in-Some-clause-named : goal.returns-in-Some-clause-named
+returns-in-Some-clause-named c = (refl, c.in-Some.ensures.some)
+
+pub returns-in-None-clause-refused : goal.returns-in-None-clause-refused
+returns-in-None-clause-refused c = only_deal (rows_of (found_of c.args.used.now)) (c.in-None.ensures.none refl)

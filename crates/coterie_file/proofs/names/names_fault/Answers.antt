@@ -1,6 +1,6 @@
 use Rattle.std.proofs.Common.{◌≡◌, ◌∙◌, sym, not, map, None, string_bytes, refl}
 use Rattle.std.specs.List.{position}
-use Rattle.coterie_file.specs.Names.{is_name, names_fault}
+use Rattle.coterie_file.specs.Names.{is_name}
 use Rattle.coterie_file.proofs.ListLemmas.{position-map}
 use Rattle.coterie_file.proofs.NameLaws.{AreNames-from_no_fault}
 use Rattle.coterie_file.proofs.names.names_fault.Goals as goal

@@ -1,7 +1,7 @@
 use Rattle.std.proofs.Common.{◌≡◌, ◌*◌, ℕ, List, map, ap, subst, ◌∙◌}
 use Rattle.certificate.specs.Certificates.{Weighted, busiest_count}
 use Rattle.dealer.specs.Accounts.{IsLeastBusiest}
-use Rattle.cluster.specs.Records.{Draw}
+use Rattle.members.specs.Records.{Draw}
 use Rattle.replay.specs.Records.{IsFound, IsSoundRecord, entries_of, tickets_of}
 use Rattle.replay.proofs.SoundLemmas.{first_from_found, sound_has_no_fault, whole_cycles}
 use Rattle.replay.proofs.check.check_record.Goals as goal

@@ -1,7 +1,7 @@
 use Rattle.std.proofs.Common.{◌≤◌, sym, subst}
-use Rattle.cluster.specs.Clusters.{ClusterState, IsCluster}
+use Rattle.members.specs.Clusters.{ClusterState, IsCluster}
 use Rattle.certificate.specs.Certificates.{IsCertificate}
-use Rattle.cluster.specs.Closes.{RefusesClose}
+use Rattle.members.specs.Closes.{RefusesClose}
 use Rattle.runs.specs.Runs.{AreLet, EndsRun, IsRun}
 use Rattle.runs.proofs.RunLemmas.{all_ready, driven_ends, each_let, each_passed, run_of, two_turns}
 use Rattle.runs.proofs.run.run_blank.Goals as goal

@@ -1,6 +1,0 @@
-use Rattle.std.proofs.Common.{rules}
-use Rattle.std.proofs.lemmas.List.Sorted.{IsNonDecreasingBy-from_sort_by_key}
-use Rattle.cluster.proofs.close.by_number.Goals as goal
-
-pub returns-clause-ascending : goal.returns-clause-ascending
-returns-clause-ascending c = IsNonDecreasingBy-from_sort_by_key (λ p. p.1) _ c.sort_unstable_by_key.ensures.sorted (λ a r q k. search rules)

@@ -1,7 +1,0 @@
-use Rattle.std.proofs.Common.{◌≡◌, take}
-use Rattle.std.specs.List.{All}
-use Rattle.cluster.specs.Records.{IsDraw, all_draws}
-use Rattle.cluster.proofs.close.collect_draws.Given as goal
-
-abbrev pub invariant-loop-member : goal.invariant-loop-member
-invariant-loop-member g l = (l.draws.items ≡ all_draws (take l.member-index l.members)) × All (IsDraw g.N.ClusterName.cluster) l.draws.items

@@ -1,5 +1,0 @@
-use Rattle.cluster.proofs.RecordLemmas.{each_draw}
-use Rattle.cluster.proofs.close.push_draws.Goals as goal
-
-pub returns-clause-each : goal.returns-clause-each
-returns-clause-each g c = each_draw g.N.ClusterName.cluster c.args.member.now c.client-client.ensures.in_range c.receipts-receipt-items.ensures.quorums

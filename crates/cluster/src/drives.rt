@@ -1,0 +1,261 @@
+//! Drives: members that work in threads of their own.
+ghost use Rattle.std.specs.Prelude.{◌≡◌, ◌+◌, ◌<◌, ◌≤◌, [], ◌∷◌, ◌++◌, List, true, None, IfOk, IfErr, IfSome, MatchResult};
+ghost use Rattle.std.specs.List.{AllZip};
+ghost use Rattle.requester.specs.Words.{is_idle, is_inside};
+ghost use Rattle.members.specs.Members.{AreIdle, MemberState};
+ghost use Rattle.cluster.specs.Drives.{HasServed, IsBack, IsLeastFault, IsLeastOf, KeepsWork, Stops, TookTurns, WasLet, Worked};
+
+use crate::gate::Gate;
+use members::{Cluster, ClusterFault, ClusterName, Member};
+use requester::{Phase, Seen};
+use std::sync::Wait;
+use std::thread;
+use std::thread::Threads;
+
+/// After so many empty pumps in a row a member yields its thread at each further one.
+const EMPTY_BEFORE_YIELD: u64 = 16;
+
+/// At so many empty pumps in a row a member reminds, and counts anew.
+const EMPTY_BEFORE_REMINDER: u64 = 1_000;
+
+/// Members that come back with a fault.
+#[derive(Drop)]
+pub struct Driven<N: ClusterName> {
+    /// All members, in the order in which they were handed in. Each is idle.
+    pub members: Vec<Member<N>>,
+    /// Of the members whose work ended early, why that of the least client did.
+    pub fault: ClusterFault,
+}
+
+/// What a member does at an empty pump: nothing, or it yields its thread, or it reminds. Takes and answers how many empty
+/// pumps count.
+fn bide<N: ClusterName>(
+    rt: &impl Wait,
+    cluster: &Cluster<N>,
+    member: &mut Member<N>,
+    empty: u64,
+) -> u64
+    requires few { empty < 1000 }
+    ensures few { result < 1000 }
+    ensures same { member.new ≡ record member.old { lost = member.new.lost } }
+{
+    let empty = empty + 1;
+    if empty > EMPTY_BEFORE_YIELD {
+        thread::yield_now();
+    }
+    if empty < EMPTY_BEFORE_REMINDER {
+        return empty;
+    }
+    member.remind(rt, cluster);
+    0
+}
+
+/// Has a member pump until it is inside, by a turn each. Answers how many turns are left; None where they were spent before.
+fn enter<N: ClusterName>(
+    rt: &impl Wait,
+    cluster: &Cluster<N>,
+    member: &mut Member<N>,
+    turns: u64,
+) -> Option<u64>
+    ensures entered { IfSome result (λ left. (left < turns) × (is_inside member.new.requester.phase ≡ true)) }
+    ensures kept { KeepsWork member.old member.new }
+{
+    let mut empty: u64 = 0;
+    for turn in 0..turns {
+        match member.pump(rt, cluster) {
+            Some(Seen::Entered) => return Some(turns - turn - 1),
+            Some(_) => empty = 0,
+            None => empty = bide(rt, cluster, member, empty),
+        }
+    }
+    None
+}
+
+/// Asks the gate, by a turn each, until the client may pass. Answers how many turns are left; None where they were spent
+/// before.
+fn wait_at<G: Gate>(gate: &G, client: u8, turns: u64) -> Option<u64>
+    ensures fewer { IfSome result (λ left. left < turns) }
+    ensures let_pass { IfSome result (λ _. G.lets gate.now client ≡ true) }
+{
+    for turn in 0..turns {
+        if gate.may_pass(client) {
+            return Some(turns - turn - 1);
+        }
+        thread::yield_now();
+    }
+    None
+}
+
+/// Has a member ask, pass and leave once, or come as far as it can. Answers how many turns are left.
+fn pass_once<N: ClusterName, G: Gate>(
+    rt: &impl Wait,
+    cluster: &Cluster<N>,
+    member: &mut Member<N>,
+    turns: u64,
+    gate: &G,
+) -> Result<u64, ClusterFault>
+    requires idle { is_idle member.old.requester.phase ≡ true }
+    ensures passed { IfOk result (λ _. Worked 1 1 member.old member.new × (is_idle member.new.requester.phase ≡ true)) }
+    ensures stopped { IfErr result (Stops member.old member.new) }
+    ensures let_pass { IfOk result (λ _. G.lets gate.now member.old.requester.id ≡ true) }
+    ensures in_turns { IfOk result (λ left. left + 2 ≤ turns) }
+    ensures fault { member.new.fault ≡ member.old.fault }
+{
+    let client = member.client();
+    gate.before(client);
+    member.ask(rt, cluster)?;
+    gate.drawn(client);
+    let Some(turns) = enter(rt, cluster, member, turns) else {
+        return Err(ClusterFault::TurnsSpent(client));
+    };
+    let Some(turns) = wait_at(gate, client, turns) else {
+        return Err(ClusterFault::TurnsSpent(client));
+    };
+    match member.pass(cluster) {
+        Ok(_) => {}
+        Err(fault) => return Err(fault),
+    }
+    match member.leave(rt, cluster) {
+        Ok(()) => Ok(turns),
+        Err(_) => unreachable!(),
+    }
+}
+
+/// Ends a member's request, if one runs: it leaves, or gives up.
+fn end<N: ClusterName>(rt: &impl Wait, cluster: &Cluster<N>, member: &mut Member<N>)
+    ensures idle { is_idle member.new.requester.phase ≡ true }
+    ensures kept { KeepsWork member.old member.new }
+{
+    match member.phase() {
+        Phase::Idle => {}
+        Phase::Asking => {
+            let _ = member.give_up(rt, cluster);
+        }
+        Phase::Inside => {
+            let _ = member.leave(rt, cluster);
+        }
+    }
+}
+
+/// Has a member make so many passes. Where its work ends early, it keeps why.
+fn serve<N: ClusterName, G: Gate>(
+    rt: &impl Wait,
+    cluster: &Cluster<N>,
+    member: &mut Member<N>,
+    passes: u64,
+    turns: u64,
+    gate: &G,
+)
+    requires idle { is_idle member.old.requester.phase ≡ true }
+    ensures back { IsBack passes member.old member.new }
+    ensures let_pass { WasLet (G.lets gate.now) member.old member.new }
+    ensures in_turns { TookTurns turns member.old member.new }
+{
+    member.ends_by(None);
+    let mut left = turns;
+    for _ in 0..passes {
+        match pass_once(rt, cluster, member, left, gate) {
+            Ok(rest) => left = rest,
+            Err(fault) => {
+                end(rt, cluster, member);
+                member.ends_by(Some(fault));
+                return;
+            }
+        }
+    }
+}
+
+/// The least client whose work ended early and its fault, with one more member.
+fn least_with<N: ClusterName>(
+    least: Option<(u8, ClusterFault)>,
+    member: &Member<N>,
+) -> Option<(u8, ClusterFault)>
+    ensures { (members : List MemberState) → IsLeastOf members least → IsLeastOf (members ++ member.now ∷ []) result }
+{
+    let Some(fault) = member.fault() else {
+        return least;
+    };
+    let here = Some((member.client(), fault));
+    match least {
+        None => here,
+        Some((client, _)) if member.client() < client => here,
+        Some(_) => least,
+    }
+}
+
+/// The least client whose work ended early, and its fault. None where all did theirs.
+fn least_of<N: ClusterName>(members: &[Member<N>]) -> Option<(u8, ClusterFault)>
+    ensures { IsLeastOf members.now result }
+{
+    let mut least = None;
+    for member in members {
+        least = least_with(least, member);
+    }
+    least
+}
+
+/// Has each member make so many passes, in a thread of its own where the system gives one.
+fn serve_all<N: ClusterName + Send + Sync, R: Threads + Wait + Sync, G: Gate>(
+    rt: &R,
+    cluster: &Cluster<N>,
+    members: &mut [Member<N>],
+    passes: u64,
+    turns: u64,
+    gate: &G,
+)
+    requires idle { AreIdle members.old }
+    ensures back { AllZip (IsBack passes) members.old members.new }
+    ensures let_pass { AllZip (WasLet (G.lets gate.now)) members.old members.new }
+    ensures in_turns { AllZip (TookTurns turns) members.old members.new }
+    ensures idle { AreIdle members.new }
+{
+    let threads = members.len();
+    if threads == 0 {
+        return;
+    }
+    thread::for_each_mut(
+        rt,
+        members,
+        threads,
+        &|_, member: &mut Member<N>|
+            requires { is_idle member.old.requester.phase ≡ true }
+            ensures back { IsBack passes member.old member.new }
+            ensures let_pass { WasLet (G.lets gate.entry.now) member.old member.new }
+            ensures in_turns { TookTurns turns member.old member.new }
+        { serve(rt, cluster, member, passes, turns, gate) },
+    );
+}
+
+/// Lends each member to a thread of its own, or where the system gives none, has one after the other work. Each makes so
+/// many passes: it asks, pumps until it is inside, passes and leaves. All members have to be idle; an empty list is served
+/// at once.
+///
+/// Each pump and each question whether the gate lets it pass is a turn, of which each member has so many for all its passes.
+/// At each empty pump beyond 16 in a row a member yields its thread, and at 1,000 it reminds and counts anew. A member whose
+/// turns are spent, or of which a call is refused, ends its work: it leaves or gives up, and keeps why ([`Member::fault`]). A
+/// pass takes two turns at least.
+///
+/// All members come back, in their order and idle. Where the work of some ended early, the fault of the least client is
+/// answered. A client that the gate never lets pass makes no pass.
+pub fn drive<N: ClusterName + Send + Sync, R: Threads + Wait + Sync, G: Gate>(
+    rt: &R,
+    cluster: &Cluster<N>,
+    mut members: Vec<Member<N>>,
+    passes: u64,
+    turns: u64,
+    gate: &G,
+) -> Result<Vec<Member<N>>, Driven<N>>
+    requires idle { AreIdle members.items }
+    ensures served { IfOk result (λ driven. AllZip (HasServed passes) members.items driven.items) }
+    ensures back { IfErr result (λ driven. AllZip (IsBack passes) members.items driven.members.items) }
+    ensures least { IfErr result (λ driven. IsLeastFault driven.members.items driven.fault) }
+    ensures let_pass { MatchResult result (λ driven. AllZip (WasLet (G.lets gate.now)) members.items driven.items) (λ driven. AllZip (WasLet (G.lets gate.now)) members.items driven.members.items) }
+    ensures in_turns { MatchResult result (λ driven. AllZip (TookTurns turns) members.items driven.items) (λ driven. AllZip (TookTurns turns) members.items driven.members.items) }
+    ensures idle { MatchResult result (λ driven. AreIdle driven.items) (λ driven. AreIdle driven.members.items) }
+{
+    serve_all(rt, cluster, members.as_mut_slice(), passes, turns, gate);
+    match least_of(members.as_slice()) {
+        Some((_, fault)) => Err(Driven { members, fault }),
+        None => Ok(members),
+    }
+}

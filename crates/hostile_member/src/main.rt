@@ -1,0 +1,97 @@
+//! One member that goes through the lock of three voters once, where memory may be refused: `hostile/run.sh` refuses each growth
+//! in turn. Prints whether it was inside, and how many messages were lost.
+//!
+//! A growth that is refused in a node's log or in a mailbox loses a message; the member reminds at an empty mailbox, so that one
+//! loss keeps it out no longer than that. Any other one ends the program with `O1 OutOfMemory` and status 4.
+#![tactic(auto)]
+
+ghost use Rattle.std.specs.Prelude.{◌≡◌};
+ghost use Rattle.members.specs.Clusters.{ClusterState};
+
+use certificate::{Plan, check};
+use cluster::{Blank, Cluster, ClusterName, Member};
+use quorum_set::{Coterie, QSet};
+use requester::Seen;
+use std::alloc::Global;
+use std::marker::Brand;
+use std::process::ExitCode;
+use std::sync::Wait;
+
+/// How many times the member looks into its mailbox.
+const TURNS: u32 = 20;
+
+/// What came of it.
+struct Outcome {
+    /// Whether the member was inside, passed and left.
+    passed: bool,
+    /// How many messages its calls lost.
+    lost: u64,
+}
+
+/// The majorities of three voters, each used as often as the others. None where memory ran out.
+fn majority_plan(alloc: Global) -> Option<Plan> {
+    let mut sets = Vec::new(alloc);
+    for members in [[0, 1], [0, 2], [1, 2]] {
+        let mut set = QSet::empty();
+        for voter in members {
+            set.insert(voter);
+        }
+        sets.push(set).ok()?;
+    }
+    let coterie = Coterie::of(3, sets).ok()?;
+    let quorum_weights = vec![in alloc; 1; 3].ok()?;
+    let voter_weights = vec![in alloc; 1; 3].ok()?;
+    check(alloc, &coterie, quorum_weights, voter_weights).ok()
+}
+
+/// Has a member pump until it is inside, and remind at an empty mailbox. False where its turns were spent before.
+fn enters<N: ClusterName>(rt: &impl Wait, cluster: &Cluster<N>, member: &mut Member<N>) -> bool {
+    for _ in 0..TURNS {
+        match member.pump(rt, cluster) {
+            Some(Seen::Entered) => return true,
+            Some(_) => {}
+            None => member.remind(rt, cluster),
+        }
+    }
+    false
+}
+
+/// Opens a cluster of one client, which asks, enters, passes and leaves. None where memory ran out for more than messages.
+fn outcome_of<N: ClusterName>(rt: &impl Wait, alloc: Global, blank: Blank) -> Option<Outcome>
+    requires { blank ≡ N.cluster }
+{
+    let (cluster, mut members) = blank.open::<N>(alloc).ok()?;
+    let mut member = members.pop()?;
+    member.ask(rt, &cluster).ok()?;
+    let entered = enters(rt, &cluster, &mut member);
+    if entered {
+        member.pass(&cluster).ok()?;
+        member.leave(rt, &cluster).ok()?;
+    }
+    Some(Outcome {
+        passed: entered,
+        lost: member.lost(),
+    })
+}
+
+/// What came of it as a line. None where memory ran out for more than messages.
+fn line_of(rt: &impl Wait, alloc: Global) -> Option<String> {
+    let plan = majority_plan(alloc)?;
+    let blank = Blank::new(alloc, plan, 1, 1).ok()?;
+    let Outcome { passed, lost } = outcome_of::<Brand>(rt, alloc, blank)?;
+    let how = if passed { "passed" } else { "outside" };
+    format!(in alloc; "{how}, lost {lost}").ok()
+}
+
+fn main(rt: HostRuntime) -> ExitCode {
+    match line_of(&rt, rt.alloc()) {
+        Some(line) => {
+            let _ = rt.println(line.as_str());
+            ExitCode::SUCCESS
+        }
+        None => {
+            let _ = rt.eprintln("O1 OutOfMemory");
+            ExitCode::from(4)
+        }
+    }
+}

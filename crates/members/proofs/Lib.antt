@@ -1,0 +1,4 @@
+pub mod MemberLemmas
+pub mod BlankLemmas
+pub mod CountLemmas
+pub mod RecordLemmas

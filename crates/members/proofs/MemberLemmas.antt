@@ -1,0 +1,333 @@
+-- What a member keeps over its calls.
+use Rattle.std.proofs.Common.{◌≡◌, ◌≢◌, inr, ℕ, zero, suc, replicate, ◌<◌, ◌≤◌, Bool, true, false, true≢false, not, ◌&&◌, List, [], ◌∷◌, Result, Ok, Err, refl, sym, ap, ◌∙◌, subst, length, arith}
+use Rattle.std.specs.Prelude.{slice_index, filter, ◌==◌}
+use Rattle.std.proofs.lemmas.Grind.{same_number_lists}
+use Rattle.std.proofs.lemmas.List.{length_push}
+use Rattle.message.specs.declared.message.ToClient.{ToClient}
+use Rattle.message.specs.declared.message.ClientBody.{ClientBody}
+use Rattle.message.specs.declared.message.ClientBody.TheVariants as tells
+use Rattle.requester.specs.declared.fault.ClientFault.{ClientFault}
+use Rattle.requester.specs.declared.state.ClientState.{ClientState}
+use Rattle.requester.specs.declared.state.Phase.{Phase}
+use Rattle.requester.specs.declared.state.Phase.TheVariants.{Idle, Asking, Inside}
+use Rattle.requester.specs.declared.state.Seen.{Seen}
+use Rattle.requester.specs.declared.state.Seen.TheVariants.{Nothing, Entered, Left}
+use Rattle.requester.specs.Held.{HoldsNothing}
+use Rattle.requester.proofs.ContractLemmas.{met-step}
+use Rattle.requester.proofs.SoundSteps.{sound-step}
+use Rattle.requester.proofs.VoteLemmas.{asked_holds_nothing, given_up_holds_nothing, idle_holds_nothing, left_holds_nothing}
+use Rattle.requester.specs.RequesterContract.{Sees}
+use Rattle.requester.specs.Soundness.{IsSound}
+use Rattle.requester.specs.Steps.{Outcome, Asks, Takes, Leaves, GivesUp, ask, ask_in, ask_unless, give_up, give_up_in, leave, leave_in, step, take, take_body, see, locked, locked_by, enter_if, hold, is_fresh, failed, failed_by, fail, inquired, inquired_by, relinquish, relinquish_if, relinquish_each}
+use Rattle.requester.specs.Words.{is_idle, is_asking, is_inside, is_spent, is_current, is_covered, is_inquired, is_hindered, is_member, holds, holds_under, members}
+use Rattle.board.specs.Seats.{BoardState, ClientSeatState as SeatState}
+use Rattle.board.specs.Quorums.{quorum_at}
+use Rattle.board.specs.Words.{nobody}
+use Rattle.board.specs.declared.fault.BoardFault.{BoardFault}
+use Rattle.board.specs.declared.fault.BoardFault.TheVariants.{OutOfMemory, RegisterFull}
+use Rattle.dealer.specs.declared.receipt.Receipt.{Receipt}
+use Rattle.quorum_set.specs.Sets.{IsSet}
+use Rattle.node.specs.Mail.{IsMail}
+use Rattle.members.specs.declared.fault.ClusterFault.{ClusterFault}
+use Rattle.members.specs.declared.fault.ClusterFault.TheVariants as refuses
+use Rattle.dealer.specs.declared.fault.DealFault.{DealFault}
+use Rattle.dealer.specs.declared.fault.DealFault.TheVariants.{QuotaSpent, OutOfMemory as NoRoom}
+use Rattle.dealer.specs.Offices.{ClerkState, RefusesTicket, share_of}
+use Rattle.members.specs.Clusters.{ClusterState}
+use Rattle.node.specs.Votes.{HoldsWithin, HoldsFewer}
+use Rattle.members.specs.Members.{IsMember, MemberState, RefusesAsk, RefusesStart, with_receipt}
+
+-- Steps
+
+of_ask : (x : ClientState) (q : List ℕ) (o : Outcome) → ask x q ≡ Ok o → step x (Asks q) ≡ Ok o
+unfolding step
+of_ask x q o e = e
+
+of_take : (x : ClientState) (m : ToClient) (o : Outcome) → take x m ≡ o → step x (Takes m) ≡ Ok o
+unfolding step
+of_take x m o e = ap Ok e
+
+of_leave : (x : ClientState) (o : Outcome) → leave x ≡ Ok o → step x Leaves ≡ Ok o
+unfolding step
+of_leave x o e = e
+
+of_give_up : (x : ClientState) (o : Outcome) → give_up x ≡ Ok o → step x GivesUp ≡ Ok o
+unfolding step
+of_give_up x o e = e
+
+-- who asks was idle and had a stamp left
+
+abbrev is_fine : {A : Type 0} → Result A ClientFault → Bool
+is_fine (Ok o) = true
+is_fine (Err e) = false
+
+pub not_both : {A : Type 0} (r : Result A ClientFault) (o : A) (e : ClientFault) → r ≡ Ok o → r ≡ Err e → ⊥
+not_both r o e ok err = true≢false (ap is_fine (sym ok ∙ err))
+
+unspent_if : (b : Bool) (x : ClientState) (q : List ℕ) (o : Outcome) → ask_unless b x q ≡ Ok o → b ≡ false
+unspent_if false x q o e = refl
+unspent_if true x q o e = absurd (true≢false (ap is_fine (sym e)))
+
+starts_in : (p : Phase) (x : ClientState) (q : List ℕ) (o : Outcome) → ask_in p x q ≡ Ok o → (is_idle p ≡ true) × (is_spent x ≡ false)
+starts_in Idle x q o e = (refl, unspent_if (is_spent x) x q o e)
+starts_in Asking x q o e = absurd (true≢false (ap is_fine (sym e)))
+starts_in Inside x q o e = absurd (true≢false (ap is_fine (sym e)))
+
+pub starts : (x : ClientState) (q : List ℕ) (o : Outcome) → ask x q ≡ Ok o → (is_idle x.phase ≡ true) × (is_spent x ≡ false)
+unfolding ask
+starts x q o e = starts_in x.phase x q o e
+
+-- why a client does not start, and a member with a client that would start does not ask
+
+abbrev fault_or : {A : Type 0} → ClientFault → Result A ClientFault → ClientFault
+fault_or other (Ok o) = other
+fault_or other (Err e) = e
+
+spent_if : (b : Bool) (x : ClientState) (q : List ℕ) (e : ClientFault) → is_spent x ≡ b → is_idle x.phase ≡ true → ask_unless b x q ≡ Err e → RefusesStart x e
+spent_if false x q e is idle err = absurd (true≢false (ap is_fine err))
+spent_if true x q e is idle err = subst (RefusesStart x) (ap (fault_or e) err) (idle, is)
+
+refuses_in : (p : Phase) (x : ClientState) (q : List ℕ) (e : ClientFault) → x.phase ≡ p → ask_in p x q ≡ Err e → RefusesStart x e
+refuses_in Idle x q e is err = spent_if (is_spent x) x q e refl (ap is_idle is) err
+refuses_in Asking x q e is err = subst (RefusesStart x) (ap (fault_or e) err) (ap is_idle is)
+refuses_in Inside x q e is err = subst (RefusesStart x) (ap (fault_or e) err) (ap is_idle is)
+
+pub refuses_start : (x : ClientState) (q : List ℕ) (e : ClientFault) → ask x q ≡ Err e → RefusesStart x e
+unfolding ask
+refuses_start x q e err = refuses_in x.phase x q e refl err
+
+pub refuses_ticket : (m : MemberState) (e : DealFault) → (is_idle m.requester.phase ≡ true) × (is_spent m.requester ≡ false) → RefusesTicket m.clerk.rest e → RefusesAsk m (refuses.Deal e)
+refuses_ticket m QuotaSpent start err = (start.0, start.1, err)
+refuses_ticket m NoRoom start err = (start.0, start.1, err)
+
+-- who leaves was inside, and who gives up asked
+
+leaves_in : (p : Phase) (x : ClientState) (o : Outcome) → leave_in p x ≡ Ok o → is_inside p ≡ true
+leaves_in Idle x o e = absurd (true≢false (ap is_fine (sym e)))
+leaves_in Asking x o e = absurd (true≢false (ap is_fine (sym e)))
+leaves_in Inside x o e = refl
+
+pub left_inside : (x : ClientState) (o : Outcome) → leave x ≡ Ok o → is_inside x.phase ≡ true
+unfolding leave
+left_inside x o e = leaves_in x.phase x o e
+
+stays_in : (p : Phase) (x : ClientState) (f : ClientFault) → leave_in p x ≡ Err f → is_inside p ≡ false
+stays_in Idle x f e = refl
+stays_in Asking x f e = refl
+stays_in Inside x f e = absurd (true≢false (ap is_fine e))
+
+pub not_left : (x : ClientState) (f : ClientFault) → leave x ≡ Err f → is_inside x.phase ≡ false
+unfolding leave
+not_left x f e = stays_in x.phase x f e
+
+gives_up_in : (p : Phase) (x : ClientState) (o : Outcome) → give_up_in p x ≡ Ok o → is_asking p ≡ true
+gives_up_in Idle x o e = absurd (true≢false (ap is_fine (sym e)))
+gives_up_in Asking x o e = refl
+gives_up_in Inside x o e = absurd (true≢false (ap is_fine (sym e)))
+
+pub gave_up_asking : (x : ClientState) (o : Outcome) → give_up x ≡ Ok o → is_asking x.phase ≡ true
+unfolding give_up
+gave_up_asking x o e = gives_up_in x.phase x o e
+
+keeps_on_in : (p : Phase) (x : ClientState) (f : ClientFault) → give_up_in p x ≡ Err f → is_asking p ≡ false
+keeps_on_in Idle x f e = refl
+keeps_on_in Asking x f e = absurd (true≢false (ap is_fine e))
+keeps_on_in Inside x f e = refl
+
+pub not_given_up : (x : ClientState) (f : ClientFault) → give_up x ≡ Err f → is_asking x.phase ≡ false
+unfolding give_up
+not_given_up x f e = keeps_on_in x.phase x f e
+
+-- A message never makes a client leave
+
+abbrev is_left : Seen → Bool
+is_left Nothing = false
+is_left Entered = false
+is_left Left = true
+
+gives_one : (b : Bool) (x : ClientState) (v : ℕ) → is_left (relinquish_if b x v).seen ≡ false
+gives_one false x v = refl
+gives_one true x v = refl
+
+gives : (x : ClientState) (v : ℕ) → is_left (relinquish x v).seen ≡ false
+unfolding relinquish
+gives x v = gives_one (holds x v) x v
+
+gives_each : (x : ClientState) (vs : List ℕ) → is_left (relinquish_each x vs).seen ≡ false
+gives_each x [] = refl
+gives_each x (v ∷ vs) = refl
+
+enters : (b : Bool) (x : ClientState) → is_left (enter_if b x).seen ≡ false
+enters false x = refl
+enters true x = refl
+
+locks : (b fresh : Bool) (x : ClientState) (v s g : ℕ) → is_left (locked_by b fresh x v s g).seen ≡ false
+locks false fresh x v s g = refl
+locks true false x v s g = refl
+locks true true x v s g = enters (is_covered (hold x v g)) (hold x v g)
+
+locks_by : (x : ClientState) (v s g : ℕ) → is_left (locked x v s g).seen ≡ false
+unfolding locked
+locks_by x v s g = locks (is_current x s) (is_fresh x v g) x v s g
+
+fails : (b : Bool) (x : ClientState) (v : ℕ) → is_left (failed_by b x v).seen ≡ false
+fails false x v = refl
+fails true x v = gives_each (fail x v) (filter (is_inquired (fail x v)) (members x))
+
+fails_by : (x : ClientState) (v s : ℕ) → is_left (failed x v s).seen ≡ false
+unfolding failed
+fails_by x v s = fails (is_asking x.phase && s == x.stamp && is_member x v && not (holds x v)) x v
+
+inquires : (b hindered : Bool) (x : ClientState) (v : ℕ) → is_left (inquired_by b hindered x v).seen ≡ false
+inquires false hindered x v = refl
+inquires true false x v = refl
+inquires true true x v = gives x v
+
+inquires_by : (x : ClientState) (v g : ℕ) → is_left (inquired x v g).seen ≡ false
+unfolding inquired
+inquires_by x v g = inquires (is_asking x.phase && holds_under x v g) (is_hindered x) x v
+
+takes : (x : ClientState) (v : ℕ) (b : ClientBody) → is_left (take_body x v b).seen ≡ false
+takes x v (tells.Locked s g) = locks_by x v s g
+takes x v (tells.Fail s) = fails_by x v s
+takes x v (tells.Inquire g) = inquires_by x v g
+
+stays_seen : (x : ClientState) (m : ToClient) → is_left (take x m).seen ≡ false
+unfolding take
+stays_seen x m = takes (see x m.seen) m.voter m.body
+
+never_left : (x : ClientState) (m : ToClient) (o : Outcome) → take x m ≡ o → o.seen ≡ Left → ⊥
+never_left x m o e left = true≢false (sym (ap is_left left) ∙ sym (ap (λ (p : Outcome). is_left p.seen) e) ∙ stays_seen x m)
+
+-- What a client is once it took a message that names it
+pub record Took (x : ClientState) (m : ToClient) (o : Outcome) : Type 0 where
+  pub sound : IsSound o.state
+  pub id : o.state.id ≡ x.id
+  pub quorum : (members o.state ≡ members x) × (is_idle o.state.phase ≡ is_idle x.phase)
+  pub sees : Sees x.phase o.seen o.state.phase
+  pub stays : o.seen ≢ Left
+
+pub took : (board : BoardState) (x : ClientState) (m : ToClient) (o : Outcome) (id : ℕ) → IsSound x → IsMail board id m → id ≡ x.id → board.voters ≤ 64 → take x m ≡ o → Took x m o
+took board x m o id sound mail is few e =
+    let s = of_take x m o e in
+    let accepts : (m.client ≡ x.id) × (m.voter < 64) = (mail.client_is ∙ is, omega (arith, mail.voter, few)) in
+    let meets = met-step x (Takes m) o sound accepts s in
+    record { sound = sound-step x (Takes m) o sound accepts s; id = meets.id; quorum = meets.quorum; sees = meets.seen; stays = never_left x m o e }
+
+-- What a client is once it left, or gave its request up
+pub record Ended (x : ClientState) (o : Outcome) : Type 0 where
+  pub sound : IsSound o.state
+  pub id : o.state.id ≡ x.id
+  pub idle : is_idle o.state.phase ≡ true
+  pub nothing : HoldsNothing o.state
+
+pub ended_by_leaving : (x : ClientState) (o : Outcome) → IsSound x → leave x ≡ Ok o → Ended x o
+ended_by_leaving x o sound e =
+    let s = of_leave x o e in
+    let meets = met-step x Leaves o sound tt s in
+    record { sound = sound-step x Leaves o sound tt s; id = meets.id; idle = meets.quorum.1; nothing = left_holds_nothing x o e }
+
+pub ended_by_giving_up : (x : ClientState) (o : Outcome) → IsSound x → give_up x ≡ Ok o → Ended x o
+ended_by_giving_up x o sound e =
+    let s = of_give_up x o e in
+    let meets = met-step x GivesUp o sound tt s in
+    record { sound = sound-step x GivesUp o sound tt s; id = meets.id; idle = meets.quorum.1; nothing = given_up_holds_nothing x o e }
+
+-- Votes
+
+-- both hold nothing
+no_votes : (xs ys : List ℕ) → length xs ≡ 64 → length ys ≡ 64 → ((v : ℕ) → slice_index xs v ≡ 0) → ((v : ℕ) → slice_index ys v ≡ 0) → xs ≡ ys
+no_votes xs ys wide same_width empty none_held = same_number_lists xs ys (wide ∙ sym same_width) (λ k lt. empty k ∙ sym (none_held k))
+
+pub holds_none : (voters : ℕ) (held : List ℕ) → held ≡ nobody → HoldsWithin voters held
+holds_none voters held e = λ v some. absurd (some (ap (λ l. slice_index l v) e ∙ empty 64 v))
+  where
+    empty : (n v : ℕ) → slice_index (replicate n 0) v ≡ 0
+    empty zero v = refl
+    empty (suc n) zero = refl
+    empty (suc n) (suc v) = empty n v
+
+pub holds_fewer : (y : ClientState) (seat : List ℕ) → HoldsNothing y → HoldsFewer y.held seat
+holds_fewer y seat nothing = λ v. inr (nothing v)
+
+-- a clerk that draws keeps its share
+share_drawn : (k : ClerkState) (r : Receipt) → 0 < k.rest → share_of (with_receipt k r) ≡ share_of k
+share_drawn k r some = omega (arith, some, length_push k.receipts r)
+
+-- The member after a step of its client
+
+next_member : (c : ClusterState) (x : ClientState) (seat : SeatState) (clerk : ClerkState) (quorum : ℕ) → IsMember c x seat clerk quorum
+    → (y : ClientState) → IsSound y → y.id ≡ x.id
+    → (after : SeatState) → after.table ≡ seat.table → after.client ≡ seat.client → after.held ≡ y.held → HoldsWithin c.board.voters after.held
+    → (drawn : ClerkState) → drawn.office ≡ clerk.office → share_of drawn ≡ share_of clerk
+    → (number : ℕ) → (is_idle y.phase ≡ false → (number < length c.board.quorums) × (members y ≡ quorum_at c.board.quorums number))
+    → IsMember c y after drawn number
+next_member c x seat clerk quorum r y sound id after table client held within drawn office share number asks = record {
+  sound = sound;
+  client = id ∙ r.client ∙ sym client;
+  inside = subst (λ n. n < c.board.clients) (sym client) r.inside;
+  table = table ∙ r.table;
+  office = office ∙ r.office;
+  share = share ∙ r.share;
+  held = held;
+  within = within;
+  asks = asks;
+}
+
+module _ (c : ClusterState) (x : ClientState) (seat : SeatState) (clerk : ClerkState) (quorum : ℕ) (r : IsMember c x seat clerk quorum) where
+  -- its seat and a sound client have a place for each voter
+  pub both_places : (y : ClientState) → IsSound y → (length seat.held ≡ 64) × (length y.held ≡ 64)
+  both_places y sound = (ap length r.held ∙ r.sound.places.held, sound.places.held)
+
+  -- it asked the quorum of this number, and its clerk keeps the receipt
+  pub asked_member : (q : List ℕ) (o : Outcome) → ask x q ≡ Ok o → IsSet q → 1 ≤ length q
+      → (drawn : ClerkState) (receipt : Receipt) → drawn ≡ with_receipt clerk receipt → 0 < clerk.rest
+      → receipt.quorum < length c.board.quorums → q ≡ quorum_at c.board.quorums receipt.quorum
+      → IsMember c o.state seat drawn receipt.quorum
+  asked_member q o e set some drawn receipt kept left in_range is =
+      let s = of_ask x q o e in
+      let sound = sound-step x (Asks q) o r.sound (set, some) s in
+      let meets = met-step x (Asks q) o r.sound (set, some) s in
+      let held = r.held ∙ no_votes x.held o.state.held r.sound.places.held sound.places.held (idle_holds_nothing x r.sound (starts x q o e).0) (asked_holds_nothing x q o e) in
+      next_member c x seat clerk quorum r o.state sound meets.id seat refl refl held r.within
+      drawn (ap (λ (k : ClerkState). k.office) kept) (ap share_of kept ∙ share_drawn clerk receipt left) receipt.quorum (λ busy. (in_range, meets.quorum ∙ is))
+
+  -- its client took a message
+  pub took_member : (m : ToClient) (o : Outcome) → Took x m o
+      → (after : SeatState) → after.table ≡ seat.table → after.client ≡ seat.client → after.held ≡ o.state.held → HoldsWithin c.board.voters after.held
+      → IsMember c o.state after clerk quorum
+  took_member m o t after table client held within =
+      next_member c x seat clerk quorum r o.state t.sound t.id after table client held within clerk refl refl quorum
+      (λ busy. let asks = r.asks (sym t.quorum.1 ∙ busy) in (asks.0, t.quorum.0 ∙ asks.1))
+
+  -- its client ended its request
+  pub ended_member : (o : Outcome) → Ended x o
+      → (after : SeatState) → after.table ≡ seat.table → after.client ≡ seat.client → after.held ≡ o.state.held → HoldsWithin c.board.voters after.held
+      → IsMember c o.state after clerk quorum
+  ended_member o e after table client held within =
+      next_member c x seat clerk quorum r o.state e.sound e.id after table client held within clerk refl refl quorum
+      (λ busy. absurd (true≢false (sym e.idle ∙ busy)))
+
+-- What is answered for a fault of the board
+
+abbrev fault_in : Result ℕ ClusterFault → BoardFault
+fault_in (Err (refuses.Board e)) = e
+fault_in (Err e) = OutOfMemory
+fault_in (Ok x) = OutOfMemory
+
+pub board_fault : (r : Result ℕ ClusterFault) (a b : BoardFault) → r ≡ Err (refuses.Board a) → r ≡ Err (refuses.Board b) → a ≡ b
+board_fault r a b first second = ap fault_in (sym first ∙ second)
+
+abbrev is_answer : Result ℕ ClusterFault → Bool
+is_answer (Ok x) = true
+is_answer (Err e) = false
+
+pub not_refused : (r : Result ℕ ClusterFault) (x : ℕ) (e : ClusterFault) → r ≡ Ok x → r ≡ Err e → ⊥
+not_refused r x e fine refused = true≢false (ap is_answer (sym fine ∙ refused))
+
+abbrev is_full : Result ℕ BoardFault → Bool
+is_full (Err RegisterFull) = true
+is_full r = false
+
+pub full_or_not : (r : Result ℕ BoardFault) (e : BoardFault) → r ≡ Err RegisterFull → r ≡ Err e → e ≡ OutOfMemory → ⊥
+full_or_not r e full is other = true≢false (ap is_full (sym full ∙ is ∙ (λ i. Err (other i))))

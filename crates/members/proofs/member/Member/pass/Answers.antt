@@ -1,0 +1,34 @@
+use Rattle.std.proofs.Common.{◌≡◌, ℕ, Option, Some, IfSome, refl, sym, ap, ◌∙◌, subst}
+use Rattle.board.specs.Seats.{BoardState, ClientSeatState as SeatState}
+use Rattle.members.proofs.MemberLemmas.{board_fault, full_or_not, not_refused}
+use Rattle.members.proofs.member.Member.pass.Goals.{in-Ok, in-Err}
+use Rattle.members.proofs.member.Member.pass.Goals as goal
+
+pub returns-clause-full : goal.returns-clause-full
+returns-clause-full g c = λ e.
+    let read = ap (λ (s : SeatState). s.reading) c.read_register.ensures.read in
+    let limit = c.cluster.inside.board.limit in
+    elim c.match-write_register.branch [
+      | in-Ok w ↦ absurd (not_refused _ _ _ w.result-is e)
+      | in-Err w ↦
+          let full = subst (λ (r : Option (ℕ × ℕ)). IfSome r (λ p. p.1 ≡ limit)) read (w.in-Err.ensures.full (board_fault _ _ _ w.result-is e)) in
+          let number = full ∙ ap (λ (b : BoardState). b.limit) c.cluster.invariant.board_is in
+          (c.self.inside.quorum, ap (λ (s : SeatState). s.reading) w.in-Err.ensures.kept ∙ read ∙ (λ i. Some (c.self.inside.quorum, number i)))
+    ]
+
+pub returns-clause-room : goal.returns-clause-room
+returns-clause-room g c = λ e.
+    let read = ap (λ (s : SeatState). s.reading) c.read_register.ensures.read in
+    let limit = c.cluster.inside.board.limit in
+    elim c.match-write_register.branch [
+      | in-Ok w ↦ absurd (not_refused _ _ _ w.result-is e)
+      | in-Err w ↦ (
+        c.self.inside.quorum,
+        c.read_register.result,
+        ap (λ (s : SeatState). s.reading) w.in-Err.ensures.kept ∙ read,
+        λ same.
+            let number = same ∙ sym (ap (λ (b : BoardState). b.limit) c.cluster.invariant.board_is) in
+            let full = w.in-Err.ensures.limit (subst (λ (r : Option (ℕ × ℕ)). IfSome r (λ p. p.1 ≡ limit)) (sym read) number) in
+            full_or_not _ w.in-Err.fault full refl (board_fault _ _ _ w.result-is e),
+      )
+    ]

@@ -1,0 +1,5 @@
+pub mod Clusters
+pub mod Losses
+pub mod Members
+pub mod Records
+pub mod Closes

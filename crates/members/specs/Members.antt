@@ -1,0 +1,123 @@
+-- Members of a cluster, as contracts see them, and what their calls do.
+use Rattle.std.specs.Prelude.{◌≡◌, ◌⊎◌, ℕ, ◌-◌, ◌^◌, ◌<◌, ◌++◌, ◌∷◌, [], true, false, List, Option, None, Ok, All, length}
+use Rattle.message.specs.declared.message.ToClient.{ToClient}
+use Rattle.requester.specs.declared.fault.ClientFault.{ClientFault}
+use Rattle.requester.specs.declared.fault.ClientFault.TheVariants.{Busy, NotInside as Outside, NotAsking, StampsSpent}
+use Rattle.requester.specs.declared.state.Seen.{Seen}
+use Rattle.requester.specs.declared.state.Seen.TheVariants.{Nothing}
+use Rattle.requester.specs.declared.state.ClientState.{ClientState}
+use Rattle.requester.specs.Soundness.{IsSound}
+use Rattle.requester.specs.Steps.{Outcome, ask, give_up, leave, start, take, would_hold}
+use Rattle.requester.specs.Words.{is_idle, is_inside, is_spent, members}
+use Rattle.board.specs.declared.fault.BoardFault.TheVariants.{SeatsOut, VoteOut, RegisterFull, OutOfMemory as NoPlace}
+use Rattle.board.specs.Seats.{BoardState, ClientSeatState as SeatState}
+use Rattle.board.specs.Quorums.{quorum_at}
+use Rattle.board.specs.Words.{nobody}
+use Rattle.dealer.specs.declared.fault.DealFault.TheVariants.{QuotaSpent, OutOfMemory as NoRoom}
+use Rattle.dealer.specs.declared.receipt.Receipt.{Receipt}
+use Rattle.dealer.specs.Offices.{ClerkState, share_of}
+use Rattle.members.specs.declared.fault.ClusterFault.{ClusterFault}
+use Rattle.members.specs.declared.fault.ClusterFault.TheVariants as refuses
+use Rattle.members.specs.Clusters.{ClusterState}
+use Rattle.members.specs.Losses.{LosesAtMost, most_lost, one_more}
+use Rattle.node.specs.Mail.{IsMail}
+use Rattle.node.specs.Votes.{HoldsWithin}
+
+-- a member: its client, its seat on the board, its clerk, how many messages it lost, and why its work ended early when it was last driven
+pub record MemberState : Type 0 where
+  pub requester : ClientState
+  pub seat : SeatState
+  pub clerk : ClerkState
+  pub lost : ℕ
+  pub fault : Option ClusterFault
+
+-- each of these members is idle
+abbrev pub AreIdle : List MemberState → Type 0
+AreIdle members = All (λ m. is_idle m.requester.phase ≡ true) members
+
+-- The client is of this cluster, and the votes that it holds are those that its seat holds. While a request runs, its quorum is the one of this number
+pub record IsMember (c : ClusterState) (x : ClientState) (seat : SeatState) (clerk : ClerkState) (quorum : ℕ) : Type 0 where
+  pub sound : IsSound x
+  pub client : x.id ≡ seat.client
+  pub inside : seat.client < c.board.clients
+  pub table : seat.table ≡ c.board.table
+  pub office : clerk.office ≡ c.office
+  pub share : share_of clerk ≡ c.quota
+  pub held : seat.held ≡ x.held
+  pub within : HoldsWithin c.board.voters seat.held
+  pub asks : is_idle x.phase ≡ false → (quorum < length c.board.quorums) × (members x ≡ quorum_at c.board.quorums quorum)
+
+-- the member of this number, as the cluster was opened
+abbrev pub fresh_member : ClusterState → ℕ → MemberState
+fresh_member c client = record {
+  requester = start client (2 ^ 40);
+  seat = record { table = c.board.table; client = client; held = nobody; reading = None; passes = [] };
+  clerk = record { office = c.office; rest = c.quota; receipts = [] };
+  lost = 0;
+  fault = None;
+}
+
+-- The client afterwards is what this step makes of it. Of what it sends, and of the replies, no more are lost than can be
+abbrev pub Makes : Outcome → MemberState → MemberState → Type 0
+Makes o before after = (o.state ≡ after.requester) × LosesAtMost (most_lost (length o.out)) before.lost after.lost
+
+-- its client asked this quorum
+abbrev pub Asked : MemberState → List ℕ → MemberState → Type 0
+Asked before quorum after = (o : Outcome) × (ask before.requester quorum ≡ Ok o) × Makes o before after
+
+-- its client left
+abbrev pub HasLeft : MemberState → MemberState → Type 0
+HasLeft before after = (o : Outcome) × (leave before.requester ≡ Ok o) × Makes o before after
+
+-- its client gave its request up
+abbrev pub GaveUp : MemberState → MemberState → Type 0
+GaveUp before after = (o : Outcome) × (give_up before.requester ≡ Ok o) × Makes o before after
+
+-- A message came to the member. Its client took it. Or it would have brought a vote that could not be taken on the board: then the client made no step, and one message more is lost
+abbrev pub Met : MemberState → ToClient → Seen → MemberState → Type 0
+Met before m seen after =
+    (((take before.requester m).seen ≡ seen) × Makes (take before.requester m) before after)
+    ⊎ ((would_hold before.requester m ≡ true) × (seen ≡ Nothing) × (after ≡ record before { lost = one_more before.lost }))
+
+-- a message of its mailbox came to the member
+abbrev pub Pumped : BoardState → MemberState → Seen → MemberState → Type 0
+Pumped board before seen after = (m : ToClient) × IsMail board before.requester.id m × Met before m seen after
+
+-- why a client does not ask
+abbrev pub RefusesStart : ClientState → ClientFault → Type 0
+RefusesStart x Busy = is_idle x.phase ≡ false
+RefusesStart x StampsSpent = (is_idle x.phase ≡ true) × (is_spent x ≡ true)
+RefusesStart x Outside = ⊥
+RefusesStart x NotAsking = ⊥
+
+-- why a member does not ask
+abbrev pub RefusesAsk : MemberState → ClusterFault → Type 0
+RefusesAsk m (refuses.Client e) = RefusesStart m.requester e
+RefusesAsk m (refuses.Deal QuotaSpent) = (is_idle m.requester.phase ≡ true) × (is_spent m.requester ≡ false) × (m.clerk.rest ≡ 0)
+RefusesAsk m (refuses.Deal NoRoom) = (is_idle m.requester.phase ≡ true) × (is_spent m.requester ≡ false) × (0 < m.clerk.rest)
+RefusesAsk m (refuses.Board e) = ⊥
+RefusesAsk m refuses.NotInside = ⊥
+RefusesAsk m (refuses.TurnsSpent c) = ⊥
+
+-- what a member asks from: it is idle, and a stamp and a ticket are left
+abbrev pub MayAsk : MemberState → Type 0
+MayAsk m = (is_idle m.requester.phase ≡ true) × (is_spent m.requester ≡ false) × (0 < m.clerk.rest)
+
+-- its clerk keeps the receipt
+abbrev pub with_receipt : ClerkState → Receipt → ClerkState
+with_receipt clerk r = record clerk { rest = clerk.rest - 1; receipts = clerk.receipts ++ r ∷ [] }
+
+-- its seat keeps the pass number, and has no reading any more
+abbrev pub with_pass : SeatState → ℕ → SeatState
+with_pass seat x = record seat { reading = None; passes = seat.passes ++ x ∷ [] }
+
+-- why a member does not pass
+abbrev pub RefusesPass : MemberState → ClusterFault → Type 0
+RefusesPass m refuses.NotInside = is_inside m.requester.phase ≡ false
+RefusesPass m (refuses.Board RegisterFull) = is_inside m.requester.phase ≡ true
+RefusesPass m (refuses.Board NoPlace) = is_inside m.requester.phase ≡ true
+RefusesPass m (refuses.Board (SeatsOut k)) = ⊥
+RefusesPass m (refuses.Board (VoteOut v)) = ⊥
+RefusesPass m (refuses.Client e) = ⊥
+RefusesPass m (refuses.Deal e) = ⊥
+RefusesPass m (refuses.TurnsSpent c) = ⊥

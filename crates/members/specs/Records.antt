@@ -1,0 +1,70 @@
+-- The end of a cluster: which of its members are back, and the record of what they did.
+use Rattle.std.specs.Prelude.{◌≡◌, ℕ, ◌-◌, ◌^◌, ◌<◌, List, IsPermutation, length, map, min}
+use Rattle.std.specs.List.{All, count_by, flat_map, range_with_len, sum_by}
+use Rattle.requester.specs.Words.{is_idle}
+use Rattle.board.specs.declared.fault.BoardFault.{BoardFault}
+use Rattle.board.specs.declared.fault.BoardFault.TheVariants.{SeatsOut, VoteOut, RegisterFull, OutOfMemory}
+use Rattle.dealer.specs.declared.receipt.Receipt.{Receipt}
+use Rattle.dealer.specs.Cycles.{quorum_of_ticket}
+use Rattle.members.specs.declared.record.RunRecord.{RunRecord}
+use Rattle.members.specs.Clusters.{ClusterState}
+use Rattle.members.specs.Members.{MemberState}
+
+-- a client, the ticket that it drew, and the quorum that the ticket names
+abbrev pub Draw : Type 0
+Draw = ℕ × ℕ × ℕ
+
+-- a client, and the number by which it passed
+abbrev pub Pass : Type 0
+Pass = ℕ × ℕ
+
+-- how many of these members are idle
+abbrev pub idle_count : List MemberState → ℕ
+idle_count members = count_by (λ m. is_idle m.requester.phase) members
+
+-- what a member drew, in the order of its requests
+abbrev pub draws_of : MemberState → List Draw
+draws_of m = map (λ r. (m.requester.id, r.ticket, r.quorum)) m.clerk.receipts
+
+-- what these members drew, one member after the other
+abbrev pub all_draws : List MemberState → List Draw
+all_draws members = flat_map draws_of members
+
+-- these members' receipts, one member after the other
+abbrev pub all_receipts : List MemberState → List Receipt
+all_receipts members = flat_map (λ m. m.clerk.receipts) members
+
+-- by which numbers a member passed, in order
+abbrev pub passes_of : MemberState → List Pass
+passes_of m = map (λ x. (m.requester.id, x)) m.seat.passes
+
+-- by which numbers these members passed, one member after the other
+abbrev pub all_passes : List MemberState → List Pass
+all_passes members = flat_map passes_of members
+
+-- the numbers 0, 1, 2 and so on, in this order
+abbrev pub AreInOrder : List ℕ → Type 0
+AreInOrder numbers = numbers ≡ range_with_len 0 (length numbers)
+
+-- the draw is of a client of the cluster, and names the quorum at its ticket's place of the cycle
+pub record IsDraw (c : ClusterState) (d : Draw) : Type 0 where
+  pub client : d.0 < c.board.clients
+  pub quorum : d.2 ≡ quorum_of_ticket c.office.cycle d.1
+
+-- The record of a run of these members. It has each member's draws with its client, and no others, in the order of their tickets, which are 0, 1, 2 and so on; likewise each member's passes, in the order of their numbers; and the register is the number of passes. How many messages were lost stays at its greatest value
+pub record IsRecordOf (c : ClusterState) (members : List MemberState) (r : RunRecord) : Type 0 where
+  pub draws : IsPermutation (all_draws members) r.draws.items
+  pub tickets : AreInOrder (map (λ d. d.1) r.draws.items)
+  pub each_draw : All (IsDraw c) r.draws.items
+  pub passes : IsPermutation (all_passes members) r.passes.items
+  pub numbers : AreInOrder (map (λ p. p.1) r.passes.items)
+  pub each_pass : All (λ p. p.0 < c.board.clients) r.passes.items
+  pub register : r.register ≡ length r.passes.items
+  pub lost : r.lost ≡ min (sum_by (λ m. m.lost) members) (2 ^ 64 - 1)
+
+-- what may go wrong at the end: the vote of a voter is out, or there is no memory
+abbrev pub IsLoss : ClusterState → BoardFault → Type 0
+IsLoss c (VoteOut v) = v < c.board.voters
+IsLoss c OutOfMemory = Unit {0}
+IsLoss c (SeatsOut k) = ⊥
+IsLoss c RegisterFull = ⊥

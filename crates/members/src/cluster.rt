@@ -1,0 +1,168 @@
+//! A running cluster: its nodes and mailboxes, which all members share.
+ghost use Rattle.std.specs.Prelude.{◌≡◌, ◌<◌, ◌≤◌, true, false, None, IfSome, length, nat_le};
+ghost use Rattle.std.specs.List.{count_by};
+ghost use Rattle.quorum_set.specs.Sets.{IsSet};
+ghost use Rattle.board.specs.Quorums.{quorum_at};
+ghost use Rattle.members.specs.Clusters.{ClusterState, IsLeft};
+ghost use Rattle.members.specs.Losses.{is_stray, is_stray_reply, most_lost};
+ghost use Rattle.node.specs.Mail.{IsMail};
+
+use board::{Board, BoardRoot, ClientSeat};
+use dealer::{Clerk, Office};
+use message::{ToClient, ToVoter};
+use node::{ClusterName, Mailbox, Node};
+use quorum_set::QSet;
+use requester::Requester;
+use std::marker::{Model, PhantomData};
+use std::sync::{Mutex, Wait};
+use voter::Replies;
+
+/// A running cluster, which threads share through a `&`: its board, its office, a node for each voter and a mailbox for
+/// each client. Contracts see which cluster it is.
+#[derive(Drop)]
+pub struct Cluster<N: ClusterName> {
+    pub(crate) board: Board,
+    pub(crate) office: Office,
+    pub(crate) nodes: Vec<Mutex<Node<N>>>,
+    pub(crate) mailboxes: Vec<Mutex<Mailbox<N>>>,
+    /// Unused until `close`. The lock lets threads share the cluster.
+    pub(crate) left: Mutex<Left<N>>,
+}
+
+/// What is left of the rights to seats and tickets, as each node and each member has its own.
+#[derive(Drop)]
+pub(crate) struct Left<N: ClusterName> {
+    pub(crate) root: BoardRoot,
+    pub(crate) clerk: Clerk,
+    pub(crate) of: PhantomData<N>,
+    ghost left: { IsLeft N.cluster root clerk },
+}
+
+impl<N: ClusterName> Model for Cluster<N> {
+    ghost use Rattle.std.specs.Prelude.{length};
+    ghost use Rattle.members.specs.Clusters.{ClusterState, Runs};
+
+    ghost Value = { ClusterState };
+
+    ghost view = { λ c. N.cluster };
+
+    ghost invariant = { λ c. Runs N.cluster c.board c.office (length c.nodes.items) (length c.mailboxes.items) };
+}
+
+impl<N: ClusterName> Cluster<N> {
+    /// Gives a message to its voter's node. None where it is lost: the node dropped it, or had no memory, or the voter or
+    /// the client is none of the cluster's.
+    pub(crate) fn tell(&self, rt: &impl Wait, message: &ToVoter) -> Option<Replies>
+        ensures stray { is_stray N.cluster.board message.now ≡ true → result ≡ None }
+    {
+        if usize::from(message.client) >= self.mailboxes.len() {
+            return None;
+        }
+        let mut node = self.nodes.get(usize::from(message.voter))?.lock(rt);
+        if node.number() != message.voter {
+            return None;
+        }
+        node.take(&self.board, message).unwrap_or(None)
+    }
+
+    /// What a voter's node reminds of. None where the voter is none of the cluster's.
+    fn reminders(&self, rt: &impl Wait, voter: u8) -> Option<Replies>
+        ensures stray { N.cluster.board.voters ≤ voter → result ≡ None }
+    {
+        let node = self.nodes.get(usize::from(voter))?.lock(rt);
+        Some(node.remind())
+    }
+
+    /// Puts a message into its client's mailbox. False where it is lost: there is no memory, or it may not stand there.
+    pub(crate) fn post(&self, rt: &impl Wait, message: ToClient) -> bool
+        ensures stray { is_stray_reply N.cluster.board message ≡ true → result ≡ false }
+    {
+        let Some(mailbox) = self.mailboxes.get(usize::from(message.client)) else {
+            return false;
+        };
+        mailbox.lock(rt).put(message, self.nodes.len()) == Ok(true)
+    }
+
+    /// Puts each of these messages into its client's mailbox, in order, and returns how many are lost.
+    fn post_each(&self, rt: &impl Wait, replies: &[ToClient]) -> u64
+        ensures few { result ≤ length replies.now }
+        ensures strays { count_by (is_stray_reply N.cluster.board) replies.now ≤ result }
+    {
+        let mut lost: u64 = 0;
+        for reply in replies {
+            if !self.post(rt, *reply) {
+                lost += 1;
+            }
+        }
+        lost
+    }
+
+    /// Posts the replies to a message, and returns how many are lost. Where there are none the message itself is lost.
+    pub(crate) fn post_all(&self, rt: &impl Wait, replies: Option<Replies>) -> u64
+        ensures few { result ≤ most_lost 1 }
+        ensures none { replies ≡ None → result ≡ 1 }
+        ensures strays { IfSome replies (λ r. count_by (is_stray_reply N.cluster.board) r.items ≤ result) }
+    {
+        match replies {
+            Some(replies) => self.post_each(rt, replies.as_slice()),
+            None => 1,
+        }
+    }
+
+    /// Gives each of these messages of a client to its voter, in order, and the voter's replies to their clients. Returns how
+    /// many are lost: each that a node did not take, and each reply that did not come into a mailbox. A node's lock is given
+    /// up before a mailbox is locked.
+    ///
+    /// The client's seat has to hold just the votes that the client holds: a vote is given back on the board before the message
+    /// goes out that says so.
+    pub(crate) fn send(
+        &self,
+        rt: &impl Wait,
+        _requester: &Requester,
+        _seat: &ClientSeat,
+        messages: &[ToVoter],
+    ) -> u64
+        requires held { _seat.now.held ≡ _requester.now.held }
+        ensures few { result ≤ most_lost (length messages.now) }
+        ensures strays { count_by (is_stray N.cluster.board) messages.now ≤ result }
+    {
+        let mut lost: u64 = 0;
+        for message in messages {
+            let replies = self.tell(rt, message);
+            lost = lost.saturating_add(self.post_all(rt, replies));
+        }
+        lost
+    }
+
+    /// Has each of these voters remind the client that holds its vote. Returns how many messages are lost.
+    pub(crate) fn remind(&self, rt: &impl Wait, voters: &[u8]) -> u64
+        ensures few { result ≤ most_lost (length voters.now) }
+        ensures strays { count_by (nat_le N.cluster.board.voters) voters.now ≤ result }
+    {
+        let mut lost: u64 = 0;
+        for voter in voters {
+            let replies = self.reminders(rt, *voter);
+            lost = lost.saturating_add(self.post_all(rt, replies));
+        }
+        lost
+    }
+
+    /// The quorum with this number.
+    pub(crate) fn quorum(&self, number: usize) -> &QSet
+        requires { number < length N.cluster.office.cycle.system.quorums }
+        ensures value { result.now ≡ quorum_at N.cluster.board.quorums number }
+        ensures in_range { number < length N.cluster.board.quorums }
+        ensures set { IsSet result.now }
+        ensures some { 1 ≤ length result.now }
+    {
+        self.office.cycle().plan().coterie().quorum(number)
+    }
+
+    /// Takes the first message out of a client's mailbox. None where there is none.
+    pub(crate) fn next(&self, rt: &impl Wait, client: u8) -> Option<ToClient>
+        ensures { IfSome result (IsMail N.cluster.board client) }
+    {
+        let mailbox = self.mailboxes.get(usize::from(client))?;
+        mailbox.lock(rt).take(client)
+    }
+}

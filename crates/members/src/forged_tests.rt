@@ -1,0 +1,210 @@
+//! Members in threads, while other threads hand nodes and mailboxes messages that no client and no voter of the cluster would send.
+ghost use Rattle.std.specs.Prelude.{◌≡◌};
+ghost use Rattle.members.specs.Clusters.{ClusterState};
+
+use super::*;
+use crate::tests::majority_plan;
+use message::{ClientBody, ToClient, ToVoter, VoterBody};
+use requester::Seen;
+use std::alloc::{AllocError, Global};
+use std::marker::Brand;
+use std::sync::Wait;
+use std::test::Fail;
+use std::thread;
+use std::thread::Threads;
+
+/// How many passes each member tries to make.
+const PASSES: u32 = 40;
+
+/// How many times a member looks into its mailbox for one pass.
+const TURNS: u32 = 20_000;
+
+/// At so many looks a member reminds.
+const TURNS_BEFORE_REMINDER: u32 = 500;
+
+/// Stamps and grants are forged from 1 to this.
+const NUMBERS: u64 = 60;
+
+/// How often each number is forged.
+const ROUNDS: u32 = 8;
+
+/// What a thread does.
+#[derive(Drop)]
+enum Worker<N: ClusterName> {
+    /// Passes through the lock.
+    Passes(Member<N>),
+    /// Forges messages; the number is the first one that it forges.
+    Forges(u64),
+}
+
+/// Pumps until the member is inside. False where its turns were spent before.
+fn enters<N: ClusterName>(rt: &impl Wait, cluster: &Cluster<N>, member: &mut Member<N>) -> bool {
+    for turn in 0..TURNS {
+        match member.pump(rt, cluster) {
+            Some(Seen::Entered) => return true,
+            Some(_) => {}
+            None => thread::yield_now(),
+        }
+        if turn % TURNS_BEFORE_REMINDER == TURNS_BEFORE_REMINDER - 1 {
+            member.remind(rt, cluster);
+        }
+    }
+    false
+}
+
+/// Has a member pass as often as it can, and leaves it idle.
+fn passes<N: ClusterName>(rt: &impl Wait, cluster: &Cluster<N>, member: &mut Member<N>) {
+    for _ in 0..PASSES {
+        if member.ask(rt, cluster).is_err() {
+            return;
+        }
+        if enters(rt, cluster, member) {
+            let _ = member.pass(cluster);
+            let _ = member.leave(rt, cluster);
+        } else {
+            let _ = member.give_up(rt, cluster);
+        }
+    }
+}
+
+/// Hands a voter's node every kind of message from a client with this number, and hands on what it replies.
+fn forge_to_voter<N: ClusterName>(
+    rt: &impl Wait,
+    cluster: &Cluster<N>,
+    client: u8,
+    voter: u8,
+    number: u64,
+) {
+    let bodies = [
+        VoterBody::Request { stamp: number },
+        VoterBody::Relinquish { grant: number },
+        VoterBody::Release { stamp: number },
+    ];
+    for body in bodies {
+        let message = ToVoter {
+            client,
+            voter,
+            body,
+        };
+        let replies = cluster.tell(rt, &message);
+        cluster.post_all(rt, replies);
+    }
+}
+
+/// Puts every kind of message from a voter with this number into a client's mailbox.
+fn forge_to_client<N: ClusterName>(
+    rt: &impl Wait,
+    cluster: &Cluster<N>,
+    voter: u8,
+    client: u8,
+    number: u64,
+) {
+    let bodies = [
+        ClientBody::Locked {
+            stamp: number,
+            grant: number,
+        },
+        ClientBody::Fail { stamp: number },
+        ClientBody::Inquire { grant: number },
+    ];
+    for body in bodies {
+        let message = ToClient {
+            voter,
+            client,
+            seen: number,
+            body,
+        };
+        cluster.post(rt, message);
+    }
+}
+
+/// Forges messages of all voters, clients and numbers, round after round, from the first number on.
+fn forges<N: ClusterName>(rt: &impl Wait, cluster: &Cluster<N>, first: u64) {
+    for _ in 0..ROUNDS {
+        for step in 0..NUMBERS {
+            let number = (first % NUMBERS + step) % NUMBERS + 1;
+            for voter in 0..3u8 {
+                for client in 0..3u8 {
+                    forge_to_voter(rt, cluster, client, voter, number);
+                    forge_to_client(rt, cluster, voter, client, number);
+                }
+            }
+            thread::yield_now();
+        }
+    }
+}
+
+/// The record of a cluster whose members pass while two threads forge messages. None where it does not close.
+fn record_of<N: ClusterName + Send + Sync, R: Threads + Wait + Sync>(
+    rt: &R,
+    alloc: Global,
+    blank: Blank,
+) -> Result<Option<RunRecord>, AllocError>
+    requires { blank ≡ N.cluster }
+{
+    let (cluster, members) = blank.open::<N>(alloc)?;
+    let mut workers = Vec::new(alloc);
+    for member in members {
+        workers.push(Worker::Passes(member))?;
+    }
+    workers.push(Worker::Forges(0))?;
+    workers.push(Worker::Forges(30))?;
+    let threads = workers.len();
+    if threads > 0 {
+        thread::for_each_mut(
+            rt,
+            workers.as_mut_slice(),
+            threads,
+            &|_, worker: &mut Worker<N>| {
+                match worker {
+                    Worker::Passes(member) => passes(rt, &cluster, member),
+                    Worker::Forges(first) => forges(rt, &cluster, *first),
+                }
+            },
+        );
+    }
+    let mut back = Vec::new(alloc);
+    for worker in workers {
+        if let Worker::Passes(member) = worker {
+            back.push(member)?;
+        }
+    }
+    Ok(cluster.close(alloc, back).ok())
+}
+
+#[test]
+fn forged_messages_let_no_two_pass_at_once(rt: HostRuntime) -> Result<(), Fail> {
+    let alloc = rt.alloc();
+    let Some(plan) = majority_plan(alloc)? else {
+        assert!(rt; false, "no plan");
+        return Ok(());
+    };
+    let Ok(blank) = Blank::new(alloc, plan, 3, 40) else {
+        assert!(rt; false, "no cluster");
+        return Ok(());
+    };
+    let Some(record) = record_of::<Brand, _>(&rt, alloc, blank)? else {
+        assert!(rt; false, "not closed");
+        return Ok(());
+    };
+    // each pass went by a number of its own, so no two were between a read and a write of the register at once
+    assert_eq!(rt; record.register, record.passes.len() as u64);
+    assert!(rt;
+        record
+            .passes
+            .iter()
+            .enumerate()
+            .all(|(place, pass)| pass.1 == place as u64)
+    );
+    assert!(rt;
+        record
+            .draws
+            .iter()
+            .enumerate()
+            .all(|(place, draw)| draw.1 == place as u64)
+    );
+    // somebody passed, and somebody lost a message
+    assert!(rt; record.register > 0);
+    assert!(rt; record.lost > 0);
+    Ok(())
+}

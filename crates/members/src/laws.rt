@@ -1,0 +1,31 @@
+//! Laws of the definitions.
+ghost use Rattle.std.specs.Prelude.{◌≡◌, ◌*◌, ◌<◌, ◌≤◌, ℕ, List, length};
+ghost use Rattle.std.specs.List.{All, sum_by};
+ghost use Rattle.members.specs.declared.record.RunRecord.{RunRecord};
+ghost use Rattle.certificate.specs.Certificates.{IsCertificate};
+ghost use Rattle.members.specs.Clusters.{ClusterState, IsCluster};
+ghost use Rattle.members.specs.Members.{MemberState};
+ghost use Rattle.members.specs.Records.{IsRecordOf};
+
+/// A record has as many draws as its members have receipts, and as many passes as they have pass numbers. Where each of
+/// them passed n times, the register is n for each member.
+pub fn records_count_passes()
+    ensures draws { (c : ClusterState) (members : List MemberState) (r : RunRecord) → IsRecordOf c members r →
+        length r.draws.items ≡ sum_by (λ m. length m.clerk.receipts) members }
+    ensures passes { (c : ClusterState) (members : List MemberState) (r : RunRecord) → IsRecordOf c members r →
+        r.register ≡ sum_by (λ m. length m.seat.passes) members }
+    ensures evenly { (c : ClusterState) (members : List MemberState) (r : RunRecord) (n : ℕ) → IsRecordOf c members r →
+        All (λ m. length m.seat.passes ≡ n) members → r.register ≡ length members * n }
+{}
+
+/// The record of a cluster names clients below 64, and quorums that its plan has: below 4096.
+pub fn records_are_in_range()
+    ensures draws { (c : ClusterState) (members : List MemberState) (r : RunRecord) → IsCluster c →
+        IsCertificate c.office.cycle → IsRecordOf c members r →
+        All (λ d. (d.0 ≤ 63) × (d.2 ≤ 4095)) r.draws.items }
+    ensures quorums { (c : ClusterState) (members : List MemberState) (r : RunRecord) → IsCluster c →
+        IsCertificate c.office.cycle → IsRecordOf c members r →
+        All (λ d. d.2 < length c.board.quorums) r.draws.items }
+    ensures passes { (c : ClusterState) (members : List MemberState) (r : RunRecord) → IsCluster c →
+        IsRecordOf c members r → All (λ p. p.0 ≤ 63) r.passes.items }
+{}

@@ -1,0 +1,319 @@
+//! Members of a cluster, each of which a thread drives.
+ghost use Rattle.std.specs.Prelude.{◌≡◌, ◌≢◌, ◌⊎◌, ℕ, ◌+◌, ◌<◌, ◌≤◌, ◌^◌, [], true, false, None, Some, Ok, Err, IfOk, IfErr, IfSome, length, slice_index_or};
+ghost use Rattle.std.specs.List.{All};
+ghost use Rattle.board.specs.Quorums.{quorum_at};
+ghost use Rattle.board.specs.Seats.{BoardState, ClientSeatState};
+ghost use Rattle.board.specs.declared.fault.BoardFault.{BoardFault};
+ghost use Rattle.dealer.specs.Offices.{AreByCycle, ClerkState, receipt_of};
+ghost use Rattle.requester.specs.Soundness.{IsSound};
+ghost use Rattle.requester.specs.Steps.{remind};
+ghost use Rattle.requester.specs.Words.{is_asking, is_idle, is_inside, members};
+ghost use Rattle.members.specs.Clusters.{ClusterState};
+ghost use Rattle.members.specs.Losses.{LosesAtMost, most_lost};
+ghost use Rattle.members.specs.Members.{MemberState, MayAsk, Asked, HasLeft, GaveUp, Met, Pumped, RefusesAsk, RefusesPass, fresh_member, with_receipt, with_pass};
+ghost use Rattle.node.specs.Mail.{IsMail};
+ghost use Rattle.node.specs.Votes.{HoldsFewer, HoldsWithin};
+
+use crate::cluster::Cluster;
+use crate::fault::ClusterFault;
+use arrayvec::ArrayVec;
+use board::ClientSeat;
+use dealer::{Clerk, Receipt};
+use message::ToClient;
+use node::{ClusterName, accept, give_back};
+use requester::{ClientFault, Messages, Phase, Requester, Seen};
+use std::marker::{Model, PhantomData};
+use std::sync::Wait;
+
+/// How far the stamps of a cluster's clients go.
+const STAMPS: u64 = 1 << 40;
+
+/// A client of a cluster with its seat on the board and its clerk. It may be moved to a thread, which drives it. The votes
+/// that the client holds are those that the seat holds, whenever no call runs. Contracts see a `MemberState`.
+#[derive(Drop)]
+pub struct Member<N: ClusterName> {
+    pub(crate) requester: Requester,
+    pub(crate) seat: ClientSeat,
+    pub(crate) clerk: Clerk,
+    pub(crate) lost: u64,
+    /// Why its work ended early when it was last driven.
+    pub(crate) fault: Option<ClusterFault>,
+    /// The number of the quorum of the current or last request.
+    pub(crate) quorum: usize,
+    /// What its client sent last. It stands here so that no step has to make room for it.
+    pub(crate) out: Messages,
+    pub(crate) of: PhantomData<N>,
+}
+
+impl<N: ClusterName> Model for Member<N> {
+    ghost use Rattle.std.specs.Coded.{codes};
+    ghost use Rattle.requester.specs.contracts.state.ClientState as known;
+    ghost use Rattle.members.specs.Clusters.{ClusterState};
+    ghost use Rattle.members.specs.Members.{MemberState, IsMember};
+
+    ghost Value = { MemberState };
+
+    ghost coded = { Prim.hlevel (codes, known.the_row.coded) };
+
+    ghost view = { λ m. record { requester = m.requester; seat = m.seat; clerk = m.clerk; lost = m.lost; fault = m.fault } };
+
+    ghost invariant = { λ m. IsMember N.cluster m.requester m.seat m.clerk m.quorum };
+}
+
+/// Ends a step of a client: gives back the votes that it holds no longer, and then sends what it tells the voters. Answers
+/// how many messages are lost.
+fn finish<N: ClusterName>(
+    rt: &impl Wait,
+    cluster: &Cluster<N>,
+    requester: &Requester,
+    out: &Messages,
+    seat: &mut ClientSeat,
+) -> u64
+    requires table { seat.old.table ≡ N.cluster.board.table }
+    requires places { (length seat.old.held ≡ 64) × (length requester.now.held ≡ 64) }
+    requires within { HoldsWithin N.cluster.board.voters seat.old.held }
+    requires fewer { HoldsFewer requester.now.held seat.old.held }
+    ensures held { seat.new.held ≡ requester.now.held }
+    ensures few { result ≤ most_lost (length out.now.items) }
+    ensures within { HoldsWithin N.cluster.board.voters seat.new.held }
+    ensures same { (seat.new.table ≡ seat.old.table) × (seat.new.client ≡ seat.old.client) × (seat.new.passes ≡ seat.old.passes) }
+{
+    give_back(seat, &cluster.board, requester);
+    cluster.send(rt, requester, seat, out.as_slice())
+}
+
+impl<N: ClusterName> Member<N> {
+    /// The member of a seat that holds no vote and has not passed, and of a clerk.
+    pub(crate) fn new(seat: ClientSeat, clerk: Clerk) -> Member<N>
+        requires client { seat.client < N.cluster.board.clients }
+        requires few { N.cluster.board.clients ≤ 64 }
+        requires fresh { seat ≡ (fresh_member N.cluster seat.client).seat }
+        requires clerk { clerk ≡ (fresh_member N.cluster seat.client).clerk }
+        ensures { result ≡ fresh_member N.cluster seat.client }
+    {
+        Member {
+            requester: Requester::new(seat.client(), STAMPS),
+            seat,
+            clerk,
+            lost: 0,
+            fault: None,
+            quorum: 0,
+            out: ArrayVec::new(),
+            of: PhantomData,
+        }
+    }
+
+    /// The client's number, below that of the clients.
+    pub fn client(&self) -> u8
+        ensures value { result ≡ self.now.requester.id }
+        ensures in_range { self.now.requester.id < N.cluster.board.clients }
+    {
+        self.requester.id()
+    }
+
+    /// Where the client stands.
+    pub fn phase(&self) -> Phase
+        ensures { result ≡ self.now.requester.phase }
+    {
+        self.requester.phase()
+    }
+
+    /// How many messages its calls lost: dropped by a node, for want of memory, or a LOCKED whose vote could not be taken. It
+    /// never falls, and stays at its greatest value, 2^64 - 1.
+    pub fn lost(&self) -> u64
+        ensures { result ≡ self.now.lost }
+    {
+        self.lost
+    }
+
+    /// Why its work ended early when it was last driven, as [`Member::ends_by`] kept it. None where it did not, or where the
+    /// member was never driven.
+    pub fn fault(&self) -> Option<ClusterFault>
+        ensures { result ≡ self.now.fault }
+    {
+        self.fault
+    }
+
+    /// Keeps why a drive ended its work early; None where it did not.
+    pub fn ends_by(&mut self, fault: Option<ClusterFault>)
+        ensures { self.new ≡ record self.old { fault = fault } }
+    {
+        self.fault = fault;
+    }
+
+    /// The receipts of its tickets, in the order of its requests. Each names the quorum of its ticket.
+    pub fn receipts(&self) -> &[Receipt]
+        ensures value { result.now ≡ self.now.clerk.receipts }
+        ensures quorums { AreByCycle N.cluster.office.cycle self.now.clerk.receipts }
+    {
+        self.clerk.receipts()
+    }
+
+    /// The numbers by which it passed, in order.
+    pub fn passes(&self) -> &[u64]
+        ensures { result.now ≡ self.now.seat.passes }
+    {
+        self.seat.passes()
+    }
+
+    /// Starts a request: draws a ticket and sends REQUEST to each member of the quorum that it names. Refused in this order
+    /// unless the client is idle, if no stamp is left, if its clerk has no ticket left, and for want of memory for the
+    /// receipt. A refusal changes nothing.
+    pub fn ask(&mut self, rt: &impl Wait, cluster: &Cluster<N>) -> Result<Receipt, ClusterFault>
+        ensures asked { IfOk result (λ r. Asked self.old (quorum_at N.cluster.board.quorums r.quorum) self.new) }
+        ensures dealt { IfOk result (λ r. r ≡ receipt_of N.cluster.office.cycle r.ticket) }
+        ensures receipt { IfOk result (λ r. self.new.clerk ≡ with_receipt self.old.clerk r) }
+        ensures seat { IfOk result (λ _. self.new.seat ≡ self.old.seat) }
+        ensures may { IfOk result (λ _. MayAsk self.old) }
+        ensures refused { IfErr result (RefusesAsk self.old) }
+        ensures kept { IfErr result (λ _. self.new ≡ self.old) }
+        ensures client { self.new.requester.id ≡ self.old.requester.id }
+        ensures fault { self.new.fault ≡ self.old.fault }
+        ensures lost { self.old.lost ≤ self.new.lost }
+    {
+        if let Some(fault) = self.requester.ask_fault() {
+            return Err(ClusterFault::Client(fault));
+        }
+        let receipt = match cluster.office.draw(&mut self.clerk) {
+            Ok(receipt) => receipt,
+            Err(fault) => return Err(ClusterFault::Deal(fault)),
+        };
+        let quorum = cluster.quorum(receipt.quorum);
+        let Ok(_) = self.requester.ask_into(quorum, &mut self.out) else {
+            unreachable!()
+        };
+        self.quorum = receipt.quorum;
+        let lost = cluster.send(rt, &self.requester, &self.seat, self.out.as_slice());
+        self.lost = self.lost.saturating_add(lost);
+        Ok(receipt)
+    }
+
+    /// Takes one message of its mailbox, and sends what the client answers. None where the mailbox is empty. A LOCKED that
+    /// counts takes the vote on the board first; where that fails, the message is lost and the client makes no step.
+    pub fn pump(&mut self, rt: &impl Wait, cluster: &Cluster<N>) -> Option<Seen>
+        ensures pumped { IfSome result (λ seen. Pumped N.cluster.board self.old seen self.new) }
+        ensures entered { result ≡ Some Seen.Entered → (is_inside self.old.requester.phase ≡ false) × (is_inside self.new.requester.phase ≡ true) }
+        ensures stays { result ≡ Some Seen.Nothing → is_inside self.new.requester.phase ≡ is_inside self.old.requester.phase }
+        ensures not_left { result ≢ Some Seen.Left }
+        ensures busy { is_idle self.new.requester.phase ≡ is_idle self.old.requester.phase }
+        ensures empty { result ≡ None → self.new ≡ self.old }
+        ensures clerk { self.new.clerk ≡ self.old.clerk }
+        ensures passes { self.new.seat.passes ≡ self.old.seat.passes }
+        ensures client { self.new.requester.id ≡ self.old.requester.id }
+        ensures fault { self.new.fault ≡ self.old.fault }
+        ensures lost { self.old.lost ≤ self.new.lost }
+    {
+        let message = cluster.next(rt, self.requester.id())?;
+        Some(self.meet(rt, cluster, &message))
+    }
+
+    /// Takes a message that came, and sends what the client answers; where its vote can't be taken, it is lost.
+    pub(crate) fn meet(&mut self, rt: &impl Wait, cluster: &Cluster<N>, message: &ToClient) -> Seen
+        requires mail { IsMail N.cluster.board self.old.requester.id message.now }
+        ensures met { Met self.old message.now result self.new }
+        ensures entered { result ≡ Seen.Entered → (is_inside self.old.requester.phase ≡ false) × (is_inside self.new.requester.phase ≡ true) }
+        ensures stays { result ≡ Seen.Nothing → is_inside self.new.requester.phase ≡ is_inside self.old.requester.phase }
+        ensures not_left { result ≢ Seen.Left }
+        ensures busy { is_idle self.new.requester.phase ≡ is_idle self.old.requester.phase }
+        ensures clerk { self.new.clerk ≡ self.old.clerk }
+        ensures passes { self.new.seat.passes ≡ self.old.seat.passes }
+        ensures client { self.new.requester.id ≡ self.old.requester.id }
+        ensures fault { self.new.fault ≡ self.old.fault }
+        ensures lost { self.old.lost ≤ self.new.lost }
+    {
+        if !accept(&mut self.seat, &cluster.board, &self.requester, message) {
+            self.lost = self.lost.saturating_add(1);
+            return Seen::Nothing;
+        }
+        let seen = self.requester.take_into(message, &mut self.out);
+        let lost = finish(rt, cluster, &self.requester, &self.out, &mut self.seat);
+        self.lost = self.lost.saturating_add(lost);
+        seen
+    }
+
+    /// Leaves: gives each vote back, and then sends RELEASE to each member of its quorum. Refused unless it is inside; a
+    /// refusal changes nothing.
+    pub fn leave(&mut self, rt: &impl Wait, cluster: &Cluster<N>) -> Result<(), ClusterFault>
+        ensures left { IfOk result (λ _. HasLeft self.old self.new) }
+        ensures idle { IfOk result (λ _. is_idle self.new.requester.phase ≡ true) }
+        ensures may { IfOk result (λ _. is_inside self.old.requester.phase ≡ true) }
+        ensures refused { IfErr result (λ fault. (fault ≡ ClusterFault.NotInside) × (is_inside self.old.requester.phase ≡ false)) }
+        ensures kept { IfErr result (λ _. self.new ≡ self.old) }
+        ensures clerk { self.new.clerk ≡ self.old.clerk }
+        ensures passes { self.new.seat.passes ≡ self.old.seat.passes }
+        ensures client { self.new.requester.id ≡ self.old.requester.id }
+        ensures fault { self.new.fault ≡ self.old.fault }
+        ensures lost { self.old.lost ≤ self.new.lost }
+    {
+        let Ok(_) = self.requester.leave_into(&mut self.out) else {
+            return Err(ClusterFault::NotInside);
+        };
+        let lost = finish(rt, cluster, &self.requester, &self.out, &mut self.seat);
+        self.lost = self.lost.saturating_add(lost);
+        Ok(())
+    }
+
+    /// Gives its request up: gives each vote back, and then sends RELEASE to each member of its quorum. Refused unless it
+    /// asks; a refusal changes nothing.
+    pub fn give_up(&mut self, rt: &impl Wait, cluster: &Cluster<N>) -> Result<(), ClusterFault>
+        ensures given_up { IfOk result (λ _. GaveUp self.old self.new) }
+        ensures idle { IfOk result (λ _. is_idle self.new.requester.phase ≡ true) }
+        ensures may { IfOk result (λ _. is_asking self.old.requester.phase ≡ true) }
+        ensures refused { IfErr result (λ fault. (fault ≡ ClusterFault.Client ClientFault.NotAsking) × (is_asking self.old.requester.phase ≡ false)) }
+        ensures kept { IfErr result (λ _. self.new ≡ self.old) }
+        ensures clerk { self.new.clerk ≡ self.old.clerk }
+        ensures passes { self.new.seat.passes ≡ self.old.seat.passes }
+        ensures client { self.new.requester.id ≡ self.old.requester.id }
+        ensures fault { self.new.fault ≡ self.old.fault }
+        ensures lost { self.old.lost ≤ self.new.lost }
+    {
+        let Ok(_) = self.requester.give_up_into(&mut self.out) else {
+            return Err(ClusterFault::Client(ClientFault::NotAsking));
+        };
+        let lost = finish(rt, cluster, &self.requester, &self.out, &mut self.seat);
+        self.lost = self.lost.saturating_add(lost);
+        Ok(())
+    }
+
+    /// While it asks, sends its reminders, and has each voter of its quorum remind the client that holds the vote. Else
+    /// nothing.
+    pub fn remind(&mut self, rt: &impl Wait, cluster: &Cluster<N>)
+        ensures same { self.new ≡ record self.old { lost = self.new.lost } }
+        ensures else_nothing { is_asking self.old.requester.phase ≡ false → self.new ≡ self.old }
+        ensures lost { LosesAtMost (most_lost (length (remind self.old.requester) + length (members self.old.requester))) self.old.lost self.new.lost }
+    {
+        if self.requester.phase() != Phase::Asking {
+            return;
+        }
+        let reminders = self.requester.remind();
+        let sent = cluster.send(rt, &self.requester, &self.seat, reminders.as_slice());
+        let told = cluster.remind(rt, self.requester.quorum());
+        self.lost = self.lost.saturating_add(sent).saturating_add(told);
+    }
+
+    /// Passes: reads the register, writes one more, and keeps and answers the number that it read, which is above each that
+    /// it keeps. Refused unless it is inside, where the register is at its limit, and for want of memory. A refusal of the
+    /// board leaves a reading in the seat, and changes nothing else.
+    pub fn pass(&mut self, cluster: &Cluster<N>) -> Result<u64, ClusterFault>
+        ensures passed { IfOk result (λ x. self.new ≡ record self.old { seat = with_pass self.old.seat x }) }
+        ensures may { IfOk result (λ _. is_inside self.old.requester.phase ≡ true) }
+        ensures above { IfOk result (λ x. All (λ y. y < x) self.old.seat.passes) }
+        ensures refused { IfErr result (RefusesPass self.old) }
+        ensures full { result ≡ Err (ClusterFault.Board BoardFault.RegisterFull) → (j : ℕ) × (self.new.seat.reading ≡ Some (j, N.cluster.board.limit)) }
+        ensures room { result ≡ Err (ClusterFault.Board BoardFault.OutOfMemory) → (j : ℕ) × (x : ℕ) × (self.new.seat.reading ≡ Some (j, x)) × (x ≢ N.cluster.board.limit) }
+        ensures outside { result ≡ Err ClusterFault.NotInside → self.new ≡ self.old }
+        ensures requester { self.new.requester ≡ self.old.requester }
+        ensures clerk { self.new.clerk ≡ self.old.clerk }
+        ensures fault { self.new.fault ≡ self.old.fault }
+        ensures kept { IfErr result (λ _. self.new ≡ record self.old { seat = record self.old.seat { reading = self.new.seat.reading } }) }
+    {
+        if self.requester.phase() != Phase::Inside {
+            return Err(ClusterFault::NotInside);
+        }
+        self.seat.read_register(&cluster.board, self.quorum);
+        match self.seat.write_register(&cluster.board) {
+            Ok(number) => Ok(number),
+            Err(fault) => Err(ClusterFault::Board(fault)),
+        }
+    }
+}

@@ -1,0 +1,100 @@
+//! The program `qlock`: plans of coteries, and the lock that they serve, from the command line.
+//!
+//! The crate `qlock_cli` reads the words and serves the command. Here they are taken from the system, and what comes of the
+//! command becomes an exit status and at most one line on standard error.
+#![tactic(auto)]
+
+ghost use Rattle.std.specs.Prelude.{◌≡◌};
+ghost use Rattle.qlock_cli.specs.Commands.{IsInRange};
+ghost use Rattle.qlock.specs.Statuses.{status_of, usage_status};
+
+use qlock_cli::{
+    Command, DeviceFault, Fault, NoGate, Usage, Watched, execute, execute_run, read_words,
+};
+use std::process::ExitCode;
+use std::sync::Wait;
+use std::thread::Threads;
+use std::{env, io};
+
+/// The exit status of a fault: 3 for a device that failed, 4 for out of memory, and else 1.
+fn status_of(fault: &Fault) -> u8
+    ensures { result ≡ status_of fault.now }
+{
+    match fault {
+        Fault::Device(DeviceFault::ReadFault | DeviceFault::WriteFault) => 3,
+        Fault::OutOfMemory => 4,
+        _ => 1,
+    }
+}
+
+/// Says why the words name no command, and answers the exit status: 2, or 4 for memory.
+fn refuse_words(rt: &HostRuntime, usage: &Usage) -> u8
+    ensures { result ≡ usage_status usage.now }
+{
+    match usage {
+        Usage::Refused(error) => {
+            let _ = rt.eprint(error);
+            2
+        }
+        Usage::Arguments => {
+            let _ = rt.eprintln("I5 Arguments");
+            2
+        }
+        Usage::OutOfMemory => {
+            let _ = rt.eprintln(&Fault::OutOfMemory);
+            4
+        }
+    }
+}
+
+/// Serves the command over standard input and output, and answers the exit status. `threads` is the runtime once more, as
+/// what starts threads.
+fn serve<T: Threads + Wait + Sync>(rt: &HostRuntime, threads: &T, command: &Command) -> u8
+    requires in_range { IsInRange command.now }
+{
+    let mut reader = Watched::of(rt.reader());
+    let mut writer = Watched::of(io::writer(rt));
+    let served = match command {
+        Command::Run { .. } => {
+            execute_run(
+                threads,
+                rt.alloc(),
+                command,
+                &mut reader,
+                &mut writer,
+                &NoGate,
+            )
+        }
+        _ => execute(rt.alloc(), command, &mut reader, &mut writer),
+    };
+    match served {
+        Ok(()) => 0,
+        Err(fault) => {
+            let _ = rt.eprintln(&fault);
+            status_of(&fault)
+        }
+    }
+}
+
+/// The words of the command line, the program's name among them.
+fn words_of(rt: &HostRuntime) -> Result<Vec<String>, Usage> {
+    match env::args(rt) {
+        Ok(words) => Ok(words.collect::<Vec<String>>(rt.alloc())?),
+        Err(error) if error.kind() == io::ErrorKind::OutOfMemory => Err(Usage::OutOfMemory),
+        Err(_) => Err(Usage::Arguments),
+    }
+}
+
+/// Serves the command that the words of the command line name.
+fn run<T: Threads + Wait + Sync>(rt: &HostRuntime, threads: &T) -> Result<u8, Usage> {
+    let words = words_of(rt)?;
+    let command = read_words(rt.alloc(), words.as_slice())?;
+    Ok(serve(rt, threads, &command))
+}
+
+fn main(rt: HostRuntime) -> ExitCode {
+    ExitCode::from(match run(&rt, &rt) {
+        Ok(status) => status,
+        Err(usage) => refuse_words(&rt, &usage),
+    })
+}

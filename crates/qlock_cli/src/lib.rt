@@ -1,0 +1,39 @@
+//! The commands of the program `qlock`: what each writes for its input.
+//!
+//! [`read_words`] reads the words of a command line. [`execute`] then serves a [`Command`] over a reader and a writer, and
+//! [`execute_run`] serves the command `run`, whose clients work in threads. Each reads the whole input, makes the whole
+//! answer, and only then writes it. A reader and a writer are [`Watched`], so that a caller sees which of them failed.
+//!
+//! `parts` splits the input, `answer` makes the output, `dealing` draws its tickets, `texts` makes its lines.
+//!
+//! # What is proved
+//!
+//! What is written is a stated function of what was read. For `plan` it is the text of an optimal plan of the coterie that
+//! was read, for `run` the text of the record of such a run as the crate `runs` promises. A [`Fault`] comes only of an
+//! input that the command refuses so, of a device that failed, or of memory that ran out. A fault other than a failed
+//! write writes nothing; after a failed write a beginning of the answer was written.
+//!
+//! The program `qlock` calls this crate, and whoever embeds it can, too:
+//!
+//! ```
+//! let command = read_words(alloc, words)?; // of `qlock plan`: Command::Plan
+//! let mut reader = Watched::of(input.as_bytes());
+//! let mut writer = Watched::of(&mut written);
+//! execute(alloc, &command, &mut reader, &mut writer)?; // `written` is the text of a plan
+//! ```
+#![tactic(auto)]
+
+mod answer;
+mod dealing;
+mod fault;
+mod parts;
+mod running;
+mod serving;
+mod texts;
+
+pub use cluster::{Gate, NoGate};
+pub use command_line::{Command, Shape, Usage, read_words};
+pub use fault::Fault;
+pub use running::execute_run;
+pub use serving::execute;
+pub use whole_io::{DeviceFault, Watched};

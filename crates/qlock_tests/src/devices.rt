@@ -1,0 +1,380 @@
+//! Devices that fail at each read and at each write, and that move few bytes at a time.
+ghost use Rattle.qlock_cli.specs.Commands.{IsInRange};
+
+use crate::commands::{answer, command_of, serve};
+use crate::texts::{
+    GRID, GRID_PLAN, MAJORITY, MAJORITY_PLAN, RACE, RACE_OUTPUT, RECORD, RECORD_ACCOUNT, TREE_PLAN,
+    WHEEL, WHEEL_PLAN,
+};
+use qlock_cli::{Command, DeviceFault, Fault, NoGate, Watched};
+use std::alloc::{AllocError, Global};
+use std::io;
+use std::io::{Read, Write};
+use std::sync::Wait;
+use std::test::Fail;
+use std::thread::Threads;
+
+/// More reads or writes than any of these commands makes.
+const MANY: usize = 100_000;
+
+/// How often a run is tried again whose clients spend their turns.
+const TRIES: usize = 100;
+
+/// How a device moves bytes: at most so many at a time, and so often before it fails.
+#[derive(Clone, Copy, Debug)]
+struct Device {
+    piece: usize,
+    calls_left: usize,
+}
+
+/// Which of the two devices fails.
+#[derive(Clone, Copy, Debug)]
+enum Side {
+    Reading,
+    Writing,
+}
+
+/// Gives the bytes of an input.
+#[derive(Drop)]
+struct Source<'a> {
+    bytes: &'a [u8],
+    device: Device,
+}
+
+impl<'a> Read for Source<'a> {
+    fn read(&mut self, buf: &mut [u8]) -> io::Result<usize> {
+        if self.device.calls_left == 0 {
+            return Err(io::Error::other("no more reads"));
+        }
+        self.device.calls_left -= 1;
+        let count = buf.len().min(self.device.piece);
+        self.bytes.read(&mut buf[..count])
+    }
+}
+
+/// Takes the bytes of an output.
+#[derive(Drop)]
+struct Sink {
+    bytes: Vec<u8>,
+    device: Device,
+}
+
+impl Write for Sink {
+    fn write(&mut self, buf: &[u8]) -> io::Result<usize> {
+        if self.device.calls_left == 0 {
+            return Err(io::Error::other("no more writes"));
+        }
+        self.device.calls_left -= 1;
+        let count = buf.len().min(self.device.piece);
+        self.bytes.extend_from_slice(&buf[..count])?;
+        Ok(count)
+    }
+
+    fn flush(&mut self) -> io::Result<()> {
+        Ok(())
+    }
+}
+
+/// What came of a command: its fault, what was written, and which devices failed.
+#[derive(Drop)]
+struct Outcome {
+    fault: Option<Fault>,
+    written: Vec<u8>,
+    read_failed: bool,
+    write_failed: bool,
+}
+
+/// Whether a run ended since a client had no turn left. The clients of a busy machine may wait long for one another.
+fn spent_its_turns(outcome: &Outcome) -> bool {
+    matches!(
+        outcome.fault,
+        Some(Fault::Cluster(cluster::ClusterFault::TurnsSpent(_)))
+    )
+}
+
+/// Serves a command once over devices.
+fn served<T: Threads + Wait + Sync>(
+    rt: &T,
+    alloc: Global,
+    command: &Command,
+    input: &[u8],
+    reads: Device,
+    writes: Device,
+) -> Outcome
+    requires { IsInRange command.now }
+{
+    let mut reader = Watched::of(Source {
+        bytes: input,
+        device: reads,
+    });
+    let mut sink = Sink {
+        bytes: Vec::new(alloc),
+        device: writes,
+    };
+    let mut writer = Watched::of(&mut sink);
+    let result = serve(rt, alloc, command, &mut reader, &mut writer, &NoGate);
+    let write_failed = writer.failed();
+    Outcome {
+        fault: result.err(),
+        written: sink.bytes,
+        read_failed: reader.failed(),
+        write_failed,
+    }
+}
+
+/// Serves a command, and again where the clients of a run had too few turns.
+fn outcome_of<T: Threads + Wait + Sync>(
+    rt: &T,
+    alloc: Global,
+    command: &Command,
+    input: &[u8],
+    reads: Device,
+    writes: Device,
+) -> Outcome
+    requires { IsInRange command.now }
+{
+    for _ in 0..TRIES {
+        let outcome = served(rt, alloc, command, input, reads, writes);
+        if !spent_its_turns(&outcome) {
+            return outcome;
+        }
+    }
+    served(rt, alloc, command, input, reads, writes)
+}
+
+/// What a command writes: always this, or the record of a run with so many passes.
+#[derive(Clone, Copy, Debug)]
+enum Wanted<'a> {
+    Text(&'a str),
+    Record(usize),
+}
+
+/// Whether the bytes are a beginning of the other bytes.
+fn begins(written: &[u8], all: &[u8]) -> bool {
+    all.starts_with(written)
+}
+
+/// Whether a line has a place in the record of a run with so many passes: the header, a draw and a pass for each, the register.
+fn is_in_record(place: usize, line: &str, passes: usize) -> bool {
+    let word = match place {
+        0 => "quorum-record 1",
+        _ if place <= passes => "draw ",
+        _ if place.saturating_sub(passes) <= passes => "pass ",
+        _ => "register ",
+    };
+    begins(line.as_bytes(), word.as_bytes()) || line.starts_with(word)
+}
+
+/// Whether the bytes are a beginning of what is wanted.
+fn begins_wanted(written: &[u8], wanted: Wanted) -> bool {
+    match wanted {
+        Wanted::Text(text) => begins(written, text.as_bytes()),
+        Wanted::Record(passes) => match std::str::from_utf8(written) {
+            Ok(text) => text
+                .lines()
+                .enumerate()
+                .all(|(place, line)| is_in_record(place, line, passes)),
+            Err(_) => false,
+        },
+    }
+}
+
+/// Whether the bytes are all of what is wanted. A record ends with its register.
+fn is_wanted(written: &[u8], wanted: Wanted) -> bool {
+    match wanted {
+        Wanted::Text(text) => written == text.as_bytes(),
+        Wanted::Record(passes) => {
+            let last = written.split(|byte| *byte == b'\n').count();
+            begins_wanted(written, wanted) && last == passes.saturating_mul(2).saturating_add(3)
+        }
+    }
+}
+
+/// Whether a command without a fault left its devices sound and wrote what is wanted.
+fn is_done(outcome: &Outcome, wanted: Wanted) -> bool {
+    !outcome.read_failed && !outcome.write_failed && is_wanted(&outcome.written, wanted)
+}
+
+/// Whether a command ended as it has to where this device failed: after a read nothing is written, and after a write a
+/// beginning, of so many bytes.
+fn has_failed(outcome: &Outcome, side: Side, moved: usize, wanted: Wanted) -> bool {
+    match side {
+        Side::Reading => {
+            outcome.fault == Some(Fault::Device(DeviceFault::ReadFault))
+                && outcome.read_failed
+                && !outcome.write_failed
+                && outcome.written.is_empty()
+        }
+        Side::Writing => {
+            outcome.fault == Some(Fault::Device(DeviceFault::WriteFault))
+                && !outcome.read_failed
+                && outcome.write_failed
+                && outcome.written.len() == moved
+                && begins_wanted(&outcome.written, wanted)
+        }
+    }
+}
+
+/// Has each call of a device fail in turn, until a command meets none that fails. Returns how many failed; none if an answer
+/// was not as it has to be.
+fn calls_that_fail<T: Threads + Wait + Sync>(
+    rt: &T,
+    alloc: Global,
+    command: &Command,
+    input: &[u8],
+    side: Side,
+    piece: usize,
+    wanted: Wanted,
+) -> Option<usize>
+    requires { IsInRange command.now }
+{
+    let sound = Device {
+        piece,
+        calls_left: MANY,
+    };
+    for calls_left in 0..MANY {
+        let failing = Device { piece, calls_left };
+        let (reads, writes) = match side {
+            Side::Reading => (failing, sound),
+            Side::Writing => (sound, failing),
+        };
+        let outcome = outcome_of(rt, alloc, command, input, reads, writes);
+        if outcome.fault.is_none() {
+            return is_done(&outcome, wanted).then_some(calls_left);
+        }
+        if !has_failed(&outcome, side, piece.saturating_mul(calls_left), wanted) {
+            return None;
+        }
+    }
+    None
+}
+
+/// How many calls it takes to move so many bytes, each at most a piece.
+fn calls_for(bytes: usize, piece: usize) -> usize {
+    match piece {
+        0 => 0,
+        _ => bytes.div_ceil(piece),
+    }
+}
+
+/// Whether a command comes to what is wanted over devices that move pieces of this size, whichever call fails. A command that
+/// reads its input reads once more, at its end.
+fn holds_out_by<T: Threads + Wait + Sync>(
+    rt: &T,
+    alloc: Global,
+    command: &Command,
+    input: &[u8],
+    piece: usize,
+    wanted: Wanted,
+) -> bool
+    requires { IsInRange command.now }
+{
+    let all_read = match command {
+        Command::Make(_) => 0,
+        _ => calls_for(input.len(), piece).saturating_add(1),
+    };
+    let reads = calls_that_fail(rt, alloc, command, input, Side::Reading, piece, wanted);
+    let writes = calls_that_fail(rt, alloc, command, input, Side::Writing, piece, wanted);
+    let all_written = match wanted {
+        Wanted::Text(text) => writes == Some(calls_for(text.len(), piece)),
+        Wanted::Record(_) => writes.is_some(),
+    };
+    reads == Some(all_read) && all_written
+}
+
+/// Whether a command line holds out over devices of single bytes, and over those of larger pieces.
+fn holds_out<T: Threads + Wait + Sync>(
+    rt: &T,
+    alloc: Global,
+    line: &str,
+    input: &str,
+    wanted: Wanted,
+) -> Result<bool, AllocError> {
+    let Some(command) = command_of(alloc, line)? else {
+        return Ok(false);
+    };
+    let text = input.as_bytes();
+    Ok(
+        holds_out_by(rt, alloc, &command, text, 1, wanted)
+            && holds_out_by(rt, alloc, &command, text, 23, wanted),
+    )
+}
+
+#[test]
+fn making_and_planning_hold_out(rt: HostRuntime) -> Result<(), Fail> {
+    let table = [
+        ("make majority 3", "", MAJORITY),
+        ("make wheel 3", "", WHEEL),
+        ("make grid 2 2", "", GRID),
+        ("plan", MAJORITY, MAJORITY_PLAN),
+        ("plan", WHEEL, WHEEL_PLAN),
+        ("plan", GRID, GRID_PLAN),
+    ];
+    for (line, input, want) in table {
+        assert!(rt; holds_out(&rt, rt.alloc(), line, input, Wanted::Text(want))?);
+    }
+    Ok(())
+}
+
+#[test]
+fn checking_and_dealing_hold_out(rt: HostRuntime) -> Result<(), Fail> {
+    let alloc = rt.alloc();
+    let tree = answer(&rt, alloc, "make tree 2", b"")?;
+    let table = [
+        ("check", MAJORITY, MAJORITY_PLAN, "load 2/3 cycle 3\n"),
+        ("check", WHEEL, WHEEL_PLAN, "load 3/5 cycle 5\n"),
+        ("check", GRID, GRID_PLAN, "load 3/4 cycle 4\n"),
+        ("check", tree.as_str(), TREE_PLAN, "load 1/2 cycle 12\n"),
+        (
+            "deal 5",
+            WHEEL,
+            WHEEL_PLAN,
+            "0 0\n1 1\n2 2\n3 3\n4 3\nvoter v0 3\nvoter v1 3\nvoter v2 3\nvoter v3 3\nbusiest 3\n",
+        ),
+        (
+            "deal 2",
+            MAJORITY,
+            MAJORITY_PLAN,
+            "0 0\n1 1\nvoter v0 2\nvoter v1 1\nvoter v2 1\nbusiest 2\n",
+        ),
+    ];
+    for (line, coterie, plan, want) in table {
+        let input = format!(in alloc; "{coterie}%%\n{plan}")?;
+        assert!(rt; holds_out(&rt, alloc, line, input.as_str(), Wanted::Text(want))?);
+    }
+    Ok(())
+}
+
+#[test]
+fn playing_and_replaying_hold_out(rt: HostRuntime) -> Result<(), Fail> {
+    let alloc = rt.alloc();
+    let run =
+        "quorum-record 1\ndraw 1 0 0\ndraw 0 1 1\ndraw 1 2 2\ndraw 0 3 3\npass 1 0\npass 0 1\npass 1 2\npass 0 3\nregister 4\n";
+    let account =
+        "drawn 4\nvoter v0 3\nvoter v1 3\nvoter v2 3\nvoter v3 3\nbusiest 3\nregister 4\n";
+    let table = [
+        ("world", MAJORITY, MAJORITY_PLAN, RACE, RACE_OUTPUT),
+        ("replay", MAJORITY, MAJORITY_PLAN, RECORD, RECORD_ACCOUNT),
+        ("replay", GRID, GRID_PLAN, run, account),
+    ];
+    for (line, coterie, plan, text, want) in table {
+        let input = format!(in alloc; "{coterie}%%\n{plan}%%\n{text}")?;
+        assert!(rt; holds_out(&rt, alloc, line, input.as_str(), Wanted::Text(want))?);
+    }
+    Ok(())
+}
+
+#[test]
+fn running_holds_out(rt: HostRuntime) -> Result<(), Fail> {
+    let alloc = rt.alloc();
+    let input = format!(in alloc; "{GRID}%%\n{GRID_PLAN}")?;
+    let one = "quorum-record 1\ndraw 0 0 0\ndraw 0 1 1\npass 0 0\npass 0 1\nregister 2\n";
+    let table = [
+        ("run 1 2 100000", Wanted::Text(one)),
+        ("run 2 2 100000", Wanted::Record(4)),
+    ];
+    for (line, wanted) in table {
+        assert!(rt; holds_out(&rt, alloc, line, input.as_str(), wanted)?);
+    }
+    Ok(())
+}

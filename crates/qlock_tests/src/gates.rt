@@ -1,0 +1,161 @@
+//! Gates that hold the clients of a run up.
+use crate::commands::answer_at;
+use crate::texts::{MAJORITY, MAJORITY_PLAN};
+use qlock_cli::Gate;
+use std::sync::atomic::{AtomicBool, AtomicU64, Ordering};
+use std::test::Fail;
+use std::thread;
+
+/// How often each of two clients came to a place of the gate.
+#[derive(Drop)]
+struct Visits {
+    first: AtomicU64,
+    second: AtomicU64,
+}
+
+impl Visits {
+    fn new() -> Visits {
+        Visits {
+            first: AtomicU64::new(0),
+            second: AtomicU64::new(0),
+        }
+    }
+
+    /// Counts a visit, and returns how many there were before.
+    fn count(&self, client: u8) -> u64 {
+        match client {
+            0 => self.first.fetch_add(1, Ordering::SeqCst),
+            _ => self.second.fetch_add(1, Ordering::SeqCst),
+        }
+    }
+
+    /// How often each client came.
+    fn of_each(&self) -> (u64, u64) {
+        (
+            self.first.load(Ordering::SeqCst),
+            self.second.load(Ordering::SeqCst),
+        )
+    }
+}
+
+/// Keeps client 0 inside until client 1, which came meanwhile, has asked. Counts the calls of each client.
+#[derive(Drop)]
+struct Meeting {
+    inside: AtomicBool,
+    came: AtomicBool,
+    drew: AtomicBool,
+    late: AtomicBool,
+    before: Visits,
+    drawn: Visits,
+    asked: Visits,
+}
+
+impl Meeting {
+    fn new() -> Meeting {
+        Meeting {
+            inside: AtomicBool::new(false),
+            came: AtomicBool::new(false),
+            drew: AtomicBool::new(false),
+            late: AtomicBool::new(false),
+            before: Visits::new(),
+            drawn: Visits::new(),
+            asked: Visits::new(),
+        }
+    }
+
+    /// Waits until a call was made. The meeting is late if it never is.
+    fn wait_for(&self, call: &AtomicBool) {
+        for _ in 0..1_000_000_000u64 {
+            if call.load(Ordering::SeqCst) {
+                return;
+            }
+            thread::yield_now();
+        }
+        self.late.store(true, Ordering::SeqCst);
+    }
+}
+
+impl Gate for Meeting {
+    fn before(&self, client: u8) {
+        self.before.count(client);
+        if client == 1 {
+            self.came.store(true, Ordering::SeqCst);
+            self.wait_for(&self.inside);
+        }
+    }
+
+    fn drawn(&self, client: u8) {
+        self.drawn.count(client);
+        if client == 1 {
+            self.drew.store(true, Ordering::SeqCst);
+        }
+    }
+
+    fn may_pass(&self, client: u8) -> bool {
+        self.asked.count(client);
+        if client != 0 {
+            return true;
+        }
+        self.inside.store(true, Ordering::SeqCst);
+        self.wait_for(&self.came);
+        self.drew.load(Ordering::SeqCst)
+    }
+}
+
+#[test]
+fn two_clients_run_at_once(rt: HostRuntime) -> Result<(), Fail> {
+    let alloc = rt.alloc();
+    let input = format!(in alloc; "{MAJORITY}%%\n{MAJORITY_PLAN}")?;
+    let gate = Meeting::new();
+    let line = "run 2 1 1000000000000";
+    let text = answer_at(&rt, alloc, line, input.as_bytes(), &gate)?;
+    assert!(rt; text.as_str().ends_with("\nregister 2\n"));
+    assert!(rt; !gate.late.load(Ordering::SeqCst));
+    assert_eq!(rt; gate.before.of_each(), (1, 1));
+    assert_eq!(rt; gate.drawn.of_each(), (1, 1));
+    // the first client asks again until the second has drawn
+    let (first, second) = gate.asked.of_each();
+    assert!(rt; first > 0);
+    assert_eq!(rt; second, 1);
+    Ok(())
+}
+
+/// Lets a client pass each second time that it asks.
+#[derive(Drop)]
+struct Alternating {
+    before: Visits,
+    drawn: Visits,
+    asked: Visits,
+}
+
+impl Gate for Alternating {
+    fn before(&self, client: u8) {
+        self.before.count(client);
+    }
+
+    fn drawn(&self, client: u8) {
+        self.drawn.count(client);
+    }
+
+    fn may_pass(&self, client: u8) -> bool {
+        self.asked.count(client) % 2 == 1
+    }
+}
+
+#[test]
+fn the_gate_is_asked_anew_before_each_pass(rt: HostRuntime) -> Result<(), Fail> {
+    let alloc = rt.alloc();
+    let input = format!(in alloc; "{MAJORITY}%%\n{MAJORITY_PLAN}")?;
+    let gate = Alternating {
+        before: Visits::new(),
+        drawn: Visits::new(),
+        asked: Visits::new(),
+    };
+    let line = "run 2 2 1000000000000";
+    let text = answer_at(&rt, alloc, line, input.as_bytes(), &gate)?;
+    assert!(rt; text.as_str().ends_with("\nregister 4\n"));
+    assert_eq!(rt; gate.before.of_each(), (2, 2));
+    assert_eq!(rt; gate.drawn.of_each(), (2, 2));
+    assert_eq!(rt; gate.asked.of_each(), (4, 4));
+    Ok(())
+}

@@ -1,6 +1,0 @@
-use Rattle.std.proofs.Common.{◌<◌}
-use Rattle.runs.specs.Drives.{KeepsWork}
-use Rattle.runs.proofs.drives.enter.Given as goal
-
-abbrev pub invariant-loop-turn : goal.invariant-loop-turn
-invariant-loop-turn g l = KeepsWork l.initial.member l.member × (l.empty < 1000)

@@ -1,0 +1,77 @@
+//! A world that is played step by step, and what is read off its answer.
+ghost use Rattle.std.specs.Prelude.{◌≤◌, ◌^◌};
+
+use certificate::Plan;
+use std::alloc::{AllocError, Global};
+use world::{Event, Step, Stepped, Trace, World, WorldFault};
+
+/// How many clients a world has, and how far its stamps and grants go.
+#[derive(Clone, Copy)]
+pub struct Sizes {
+    /// 1 to 64.
+    pub clients: u8,
+    /// 1 to 2^40.
+    pub limit: u64,
+    ghost some: { 1 ≤ clients },
+    ghost few: { clients ≤ 64 },
+    ghost least: { 1 ≤ limit },
+    ghost most: { limit ≤ 2 ^ 40 },
+}
+
+/// A world, and the steps that it refused.
+#[derive(Drop)]
+pub struct Fold {
+    /// The world.
+    pub world: World,
+    refused: Vec<(usize, WorldFault)>,
+    steps: usize,
+}
+
+impl Fold {
+    /// Returns a new world.
+    pub fn new(alloc: Global, plan: Plan, sizes: Sizes) -> Result<Fold, AllocError> {
+        Ok(Fold {
+            world: World::new(alloc, plan, sizes.clients, sizes.limit)?,
+            refused: Vec::new(alloc),
+            steps: 0,
+        })
+    }
+
+    /// Plays a step, and returns what it did. A refused one is noted.
+    pub fn play(&mut self, step: Step) -> Result<Result<Stepped, WorldFault>, AllocError> {
+        let place = self.steps;
+        self.steps = self.steps.saturating_add(1);
+        let answer = self.world.step(step);
+        if let Err(fault) = answer {
+            self.refused.push((place, fault))?;
+        }
+        Ok(answer)
+    }
+
+    /// Whether a run made the same messages, events and refusals.
+    pub fn is_told_by(&self, trace: &Trace) -> bool {
+        if self.world.sent() != trace.messages.len() {
+            return false;
+        }
+        for (number, message) in trace.messages.iter().enumerate() {
+            if number >= self.world.sent() || self.world.message(number) != *message {
+                return false;
+            }
+        }
+        self.world.visible() == trace.visible.as_slice()
+            && self.refused.as_slice() == trace.refused.as_slice()
+    }
+}
+
+/// Whether at most one client is inside at a time: who enters finds nobody inside, and who leaves is inside.
+pub fn is_exclusive(events: &[Event]) -> bool {
+    let mut inside = None;
+    for event in events {
+        match inside {
+            None if event.entered => inside = Some(event.client),
+            Some(client) if !event.entered && client == event.client => inside = None,
+            _ => return false,
+        }
+    }
+    true
+}

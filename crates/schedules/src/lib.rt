@@ -1,0 +1,17 @@
+//! Hostile schedules of the lock: tests alone.
+//!
+//! A generator with a known seed draws long lists of steps, in which clients ask, leave, give up and remind, and messages
+//! come in order, late, again, before they are sent or never. Each list is played twice: by [`run`](world::run) at once,
+//! and step by step as it is drawn. Both have to make the same messages, the same events and the same refusals, and a
+//! checker of its own reads that at most one client is inside. `world` proves this of every list; here it is seen of a
+//! thousand. The tests also count what the lists tried, so that none passes because nothing happened.
+#![tactic(auto)]
+
+#[cfg(test)]
+mod fold;
+#[cfg(test)]
+mod plans;
+#[cfg(test)]
+mod schedule;
+#[cfg(test)]
+mod tests;

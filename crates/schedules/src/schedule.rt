@@ -1,0 +1,214 @@
+//! Schedules: lists of steps that a generator draws.
+ghost use Rattle.std.specs.Prelude.{◌<◌, ◌≤◌};
+
+use crate::fold::{Fold, Sizes};
+use crate::plans::Kind;
+use message::{ClientBody, Message};
+use rand_core::{Rng, SeedableRng};
+use rand_pcg::Pcg64;
+use requester::Seen;
+use std::alloc::{AllocError, Global};
+use std::test::Fail;
+use world::{Step, Stepped, WorldFault};
+
+/// How many steps a schedule has.
+const STEPS: usize = 2000;
+
+/// What schedules tried.
+#[derive(Clone, Copy, Debug, Default)]
+pub struct Tally {
+    /// Clients that entered.
+    pub entries: u64,
+    /// Messages that came once more.
+    pub repeats: u64,
+    /// LOCKEDs for a request that ran no more, whose vote went back.
+    pub late: u64,
+    /// REQUESTs, RELINQUISHs and RELEASEs that a voter refused, as it had no grant left.
+    pub spent: u64,
+    /// Messages that came before they were sent.
+    pub absent: u64,
+}
+
+/// A schedule that is being drawn, and the world in which its steps are played.
+#[derive(Drop)]
+pub struct Schedule {
+    /// Its world, after the steps so far.
+    pub fold: Fold,
+    /// Its steps so far.
+    pub steps: Vec<Step>,
+    /// How large its world is.
+    pub sizes: Sizes,
+    voters: u8,
+    rng: Pcg64,
+    /// The message that comes next, where they come in order.
+    next: u64,
+    /// Whether the message of each number came.
+    came: Vec<bool>,
+    ghost some: { 1 ≤ voters },
+}
+
+/// Returns a number below the bound.
+fn below(rng: &mut Pcg64, bound: u64) -> u64
+    requires { 0 < bound }
+    ensures { result < bound }
+{
+    rng.next_u64() % bound
+}
+
+/// Draws how large a world is.
+fn draw_sizes(rng: &mut Pcg64) -> Sizes {
+    let clients = 1 + below(rng, 4) as u8;
+    let limit = match below(rng, 3) {
+        0 => 1,
+        1 => 2,
+        _ => 1000,
+    };
+    Sizes { clients, limit }
+}
+
+impl Schedule {
+    /// Returns the schedule of a seed, with no step yet.
+    fn new(alloc: Global, kind: Kind, seed: u64) -> Result<Schedule, Fail> {
+        let mut rng = Pcg64::seed_from_u64(seed);
+        let sizes = draw_sizes(&mut rng);
+        Ok(Schedule {
+            fold: Fold::new(alloc, kind.plan(alloc)?, sizes)?,
+            steps: Vec::new(alloc),
+            sizes,
+            voters: kind.voters(),
+            rng,
+            next: 0,
+            came: Vec::new(alloc),
+        })
+    }
+
+    fn draw_client(&mut self) -> u8 {
+        below(&mut self.rng, u64::from(self.sizes.clients)) as u8
+    }
+
+    fn draw_voter(&mut self) -> u8 {
+        below(&mut self.rng, u64::from(self.voters)) as u8
+    }
+
+    /// Draws one of the messages that were sent; before the first it is absent.
+    fn draw_sent(&mut self) -> u64 {
+        let sent = self.fold.world.sent() as u64;
+        if sent == 0 {
+            return 0;
+        }
+        below(&mut self.rng, sent)
+    }
+
+    /// Draws the delivery of the next message in order; where all came, a client asks or leaves. One message in eight is
+    /// lost: it comes only where it is drawn among all.
+    fn draw_next(&mut self) -> Step {
+        if below(&mut self.rng, 8) == 0 {
+            self.next = self.next.saturating_add(1);
+        }
+        let number = self.next;
+        if number < self.fold.world.sent() as u64 {
+            self.next = number.saturating_add(1);
+            return Step::Deliver(number);
+        }
+        self.next = self.fold.world.sent() as u64;
+        if below(&mut self.rng, 2) == 0 {
+            Step::Ask(self.draw_client())
+        } else {
+            Step::Leave(self.draw_client())
+        }
+    }
+
+    /// Draws a message that was not sent yet.
+    fn draw_absent(&mut self) -> u64 {
+        (self.fold.world.sent() as u64).saturating_add(below(&mut self.rng, 4))
+    }
+
+    fn draw_step(&mut self) -> Step {
+        match below(&mut self.rng, 32) {
+            0..=2 => Step::Ask(self.draw_client()),
+            3..=5 => Step::Leave(self.draw_client()),
+            6 => Step::GiveUp(self.draw_client()),
+            7 => Step::RemindClient(self.draw_client()),
+            8 => Step::RemindVoter(self.draw_voter()),
+            9 => Step::Deliver(self.draw_absent()),
+            10..=14 => Step::Deliver(self.draw_sent()),
+            _ => self.draw_next(),
+        }
+    }
+
+    /// Notes that a message comes, and returns whether it came before. One that was not sent is not noted.
+    fn note(&mut self, number: u64) -> Result<bool, AllocError> {
+        for _ in self.came.len()..self.fold.world.sent() {
+            self.came.push(false)?;
+        }
+        match self.came.get_mut(number as usize) {
+            Some(came) => {
+                let again = *came;
+                *came = true;
+                Ok(again)
+            }
+            None => Ok(false),
+        }
+    }
+
+    /// The message of this number, if it was sent.
+    fn message(&self, number: u64) -> Option<Message> {
+        let number = number as usize;
+        if number < self.fold.world.sent() {
+            Some(self.fold.world.message(number))
+        } else {
+            None
+        }
+    }
+
+    /// Draws a step, plays it, and counts what it tries.
+    fn add_step(&mut self, tally: &mut Tally) -> Result<(), Fail> {
+        let step = self.draw_step();
+        self.steps.push(step)?;
+        let Step::Deliver(number) = step else {
+            let _ = self.fold.play(step)?;
+            return Ok(());
+        };
+        let Some(message) = self.message(number) else {
+            tally.absent = tally.absent.saturating_add(1);
+            let _ = self.fold.play(step)?;
+            return Ok(());
+        };
+        let again = self.note(number)?;
+        let answer = self.fold.play(step)?;
+        tally.count(&message, again, &answer);
+        Ok(())
+    }
+}
+
+impl Tally {
+    /// Counts a delivery and what it did.
+    fn count(&mut self, message: &Message, again: bool, answer: &Result<Stepped, WorldFault>) {
+        if again {
+            self.repeats = self.repeats.saturating_add(1);
+        }
+        match (message, answer) {
+            (Message::ToVoter(_), Err(WorldFault::Voter(_))) => {
+                self.spent = self.spent.saturating_add(1);
+            }
+            (Message::ToClient(told), Ok(stepped)) => {
+                if matches!(told.body, ClientBody::Locked { .. }) && stepped.sent > 0 {
+                    self.late = self.late.saturating_add(1);
+                }
+                if stepped.seen == Seen::Entered {
+                    self.entries = self.entries.saturating_add(1);
+                }
+            }
+            _ => {}
+        }
+    }
+}
+
+/// Draws the schedule of a seed, plays it as it is drawn, and counts what it tries.
+pub fn drawn(alloc: Global, kind: Kind, seed: u64, tally: &mut Tally) -> Result<Schedule, Fail> {
+    let mut schedule = Schedule::new(alloc, kind, seed)?;
+    for _ in 0..STEPS {
+        schedule.add_step(tally)?;
+    }
+    Ok(schedule)
+}

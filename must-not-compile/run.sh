@@ -1,0 +1,79 @@
+#!/bin/sh
+# Tries what must not compile: a clerk that draws after it was dropped, a client's seat that joins twice, and an office that
+# draws after it was closed.
+#
+#     must-not-compile/run.sh
+#
+# `owners.txt` is the source of a crate over `dealer` and `board` that uses them as it should (under this name, since no crate of
+# the tree has it). A copy of it is compiled as it stands, and has to
+# be accepted. Then each NAME.edit puts one line in the place of another, and that copy has to be refused in the words of
+# the edit. These are the compiler's own on a value that has moved, so that no case is refused for another reason.
+#
+# Says what each case was answered, and ends with `N cases, M wrong`, with status 1 where M is not 0. Nothing is proved here.
+set -eu
+here=$(CDPATH= cd -- "$(dirname -- "$0")" && pwd)
+root=$(dirname -- "$here")
+work=$(mktemp -d)
+trap 'rm -rf "$work"' EXIT
+below='divisor quorum_set certificate dealer board'
+cases=0
+wrong=0
+
+# copies the crates below
+for crate in $below; do
+    mkdir -p "$work/crates/$crate"
+    for part in src specs proofs; do
+        [ ! -d "$root/crates/$crate/$part" ] || cp -R "$root/crates/$crate/$part" "$work/crates/$crate/$part"
+    done
+    grep "^$crate:" "$root/crates.txt" >> "$work/crates.txt"
+done
+echo 'owners: dealer board' >> "$work/crates.txt"
+cp "$root/HANDLES" "$work/HANDLES"
+mkdir "$work/crates/owners"
+mkdir "$work/crates/owners/src"
+source=$work/crates/owners/src/lib.rt
+cp "$here/owners.txt" "$source"
+
+# compiles the copy, and keeps what is said and the status
+compile() {
+    status=0
+    (cd "$work/crates/owners" && rt try --test) > "$work/said" 2>&1 || status=$?
+}
+
+# prints what went wrong, and what was said
+complain() {
+    wrong=$((wrong + 1))
+    echo "$1"
+    tail -n 20 "$work/said"
+}
+
+compile
+if [ "$status" -ne 0 ]; then
+    complain 'the crate as it stands: refused'
+else
+    echo 'the crate as it stands: accepted'
+fi
+
+for edit in "$here"/*.edit; do
+    cases=$((cases + 1))
+    name=$(basename "$edit" .edit)
+    old=$(sed -n 's/^old: //p' "$edit")
+    new=$(sed -n 's/^new: //p' "$edit")
+    words=$(sed -n 's/^words: //p' "$edit")
+    if [ "$(grep -cxF -- "$old" "$here/owners.txt")" -ne 1 ] || [ -z "$words" ]; then
+        complain "$name: the line to be replaced does not stand once, or there are no words"
+        continue
+    fi
+    awk -v old="$old" -v new="$new" '{ print $0 == old ? new : $0 }' "$here/owners.txt" > "$source"
+    compile
+    if [ "$status" -eq 0 ]; then
+        complain "$name: accepted"
+    elif ! grep -qF -- "$words" "$work/said"; then
+        complain "$name: refused in other words"
+    else
+        echo "$name: refused, $words"
+    fi
+done
+
+echo "$cases cases, $wrong wrong"
+[ "$cases" -eq 3 ] && [ "$wrong" -eq 0 ]
