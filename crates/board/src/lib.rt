@@ -45,8 +45,6 @@ mod fault;
 mod laws;
 mod root;
 mod table;
-#[cfg(test)]
-mod tests;
 mod vote;
 mod voter;
 

@@ -26,14 +26,8 @@
 //! This crate stands on `members`, whose public calls alone it makes.
 #![tactic(auto)]
 
-#[cfg(test)]
-mod drive_tests;
 mod drives;
 mod gate;
-#[cfg(test)]
-mod gate_tests;
-#[cfg(test)]
-mod tests;
 
 pub use drives::{Driven, drive};
 pub use gate::{Gate, NoGate};

@@ -13,8 +13,6 @@
 #![tactic(auto)]
 
 mod command;
-#[cfg(test)]
-mod tests;
 mod usage;
 mod words;
 

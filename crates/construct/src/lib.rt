@@ -24,8 +24,6 @@ mod fault;
 mod laws;
 mod set;
 mod shapes;
-#[cfg(test)]
-mod tests;
 
 pub use fault::ConstructFault;
 pub use laws::{

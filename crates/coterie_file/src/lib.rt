@@ -21,8 +21,6 @@ mod lists;
 mod named;
 mod names;
 mod reading;
-#[cfg(test)]
-mod tests;
 mod writing;
 
 pub use fault::FileFault;

@@ -54,17 +54,11 @@ mod account;
 mod clerk;
 mod counts;
 mod cycle;
-#[cfg(test)]
-mod cycle_tests;
 mod fault;
 mod laws;
 mod office;
-#[cfg(test)]
-mod office_tests;
 mod receipt;
 mod rounds;
-#[cfg(test)]
-mod tests;
 mod tickets;
 
 pub use account::Account;

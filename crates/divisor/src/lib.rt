@@ -10,8 +10,6 @@
 #![tactic(auto)]
 
 mod euclid;
-#[cfg(test)]
-mod tests;
 mod wide;
 
 pub use euclid::gcd;

@@ -22,8 +22,6 @@ mod row;
 mod rows;
 mod shared;
 mod signed;
-#[cfg(test)]
-mod tests;
 
 pub use fault::FracFault;
 pub use frac::Frac;

@@ -8,10 +8,9 @@
 ghost use Rattle.std.specs.Prelude.{◌≡◌};
 ghost use Rattle.members.specs.Clusters.{ClusterState};
 
-use certificate::{Plan, check};
 use cluster::{Blank, Cluster, ClusterName, Member};
-use quorum_set::{Coterie, QSet};
 use requester::Seen;
+use small_plans::majority_plan;
 use std::alloc::Global;
 use std::marker::Brand;
 use std::process::ExitCode;
@@ -26,22 +25,6 @@ struct Outcome {
     passed: bool,
     /// How many messages its calls lost.
     lost: u64,
-}
-
-/// The majorities of three voters, each used as often as the others. None where memory ran out.
-fn majority_plan(alloc: Global) -> Option<Plan> {
-    let mut sets = Vec::new(alloc);
-    for members in [[0, 1], [0, 2], [1, 2]] {
-        let mut set = QSet::empty();
-        for voter in members {
-            set.insert(voter);
-        }
-        sets.push(set).ok()?;
-    }
-    let coterie = Coterie::of(3, sets).ok()?;
-    let quorum_weights = vec![in alloc; 1; 3].ok()?;
-    let voter_weights = vec![in alloc; 1; 3].ok()?;
-    check(alloc, &coterie, quorum_weights, voter_weights).ok()
 }
 
 /// Has a member pump until it is inside, and remind at an empty mailbox. False where its turns were spent before.

@@ -38,7 +38,7 @@ fn one_member_passes_twice(rt: HostRuntime) -> Result<(), Fail> {
         (0, Act::Pass(1)),
         (0, Act::Leave),
     ];
-    let Some(blank) = majority_blank(alloc, 1)? else {
+    let Some(blank) = majority_blank(alloc, 1) else {
         assert!(rt; false, "no cluster");
         return Ok(());
     };
@@ -76,7 +76,7 @@ fn draws_stand_by_ticket_and_passes_by_number(rt: HostRuntime) -> Result<(), Fai
         (0, Act::Pass(2)),
         (0, Act::Leave),
     ];
-    let Some(blank) = majority_blank(alloc, 2)? else {
+    let Some(blank) = majority_blank(alloc, 2) else {
         assert!(rt; false, "no cluster");
         return Ok(());
     };
@@ -100,7 +100,7 @@ fn draws_stand_by_ticket_and_passes_by_number(rt: HostRuntime) -> Result<(), Fai
 #[test]
 fn a_run_without_a_draw_has_an_empty_record(rt: HostRuntime) -> Result<(), Fail> {
     let alloc = rt.alloc();
-    let Some(blank) = majority_blank(alloc, 2)? else {
+    let Some(blank) = majority_blank(alloc, 2) else {
         assert!(rt; false, "no cluster");
         return Ok(());
     };
@@ -157,7 +157,7 @@ fn each_member_has_to_come_back(rt: HostRuntime) -> Result<(), Fail> {
         (1, Act::Pass(0)),
         (1, Act::Leave),
     ];
-    let Some(blank) = majority_blank(alloc, 2)? else {
+    let Some(blank) = majority_blank(alloc, 2) else {
         assert!(rt; false, "no cluster");
         return Ok(());
     };
@@ -211,7 +211,7 @@ fn each_member_has_to_be_idle(rt: HostRuntime) -> Result<(), Fail> {
         (0, Act::Pump(Some(Seen::Entered))),
         (0, Act::Pass(0)),
     ];
-    let Some(blank) = majority_blank(alloc, 2)? else {
+    let Some(blank) = majority_blank(alloc, 2) else {
         assert!(rt; false, "no cluster");
         return Ok(());
     };
@@ -339,8 +339,7 @@ fn a_cluster_that_is_not_closed_goes_on_as_it_was(rt: HostRuntime) -> Result<(),
         (0, Act::Leave),
     ];
     for (script, missing) in [(all_ask.as_slice(), 3), (the_last_asks.as_slice(), 1)] {
-        let (Some(blank), Some(twin)) = (majority_blank(alloc, 3)?, majority_blank(alloc, 3)?)
-        else {
+        let (Some(blank), Some(twin)) = (majority_blank(alloc, 3), majority_blank(alloc, 3)) else {
             assert!(rt; false, "no cluster");
             return Ok(());
         };
@@ -375,7 +374,7 @@ fn refusal_with_one_gone<N: ClusterName>(
 #[test]
 fn a_member_that_is_gone_is_missing(rt: HostRuntime) -> Result<(), Fail> {
     let alloc = rt.alloc();
-    let Some(blank) = majority_blank(alloc, 3)? else {
+    let Some(blank) = majority_blank(alloc, 3) else {
         assert!(rt; false, "no cluster");
         return Ok(());
     };

@@ -3,9 +3,9 @@ ghost use Rattle.std.specs.Prelude.{◌≡◌};
 ghost use Rattle.members.specs.Clusters.{ClusterState};
 
 use super::*;
-use crate::tests::majority_plan;
 use message::{ClientBody, ToClient, ToVoter, VoterBody};
 use requester::Seen;
+use small_plans::majority_plan;
 use std::alloc::{AllocError, Global};
 use std::marker::Brand;
 use std::sync::Wait;
@@ -175,7 +175,7 @@ fn record_of<N: ClusterName + Send + Sync, R: Threads + Wait + Sync>(
 #[test]
 fn forged_messages_let_no_two_pass_at_once(rt: HostRuntime) -> Result<(), Fail> {
     let alloc = rt.alloc();
-    let Some(plan) = majority_plan(alloc)? else {
+    let Some(plan) = majority_plan(alloc) else {
         assert!(rt; false, "no plan");
         return Ok(());
     };

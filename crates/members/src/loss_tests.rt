@@ -74,7 +74,7 @@ fn each_lost_message_counts_once(rt: HostRuntime) -> Result<(), Fail> {
         ([taken].as_slice(), 1, None),
         ([taken, request, no_voter].as_slice(), 2, Some(locked)),
     ] {
-        let Some(blank) = majority_blank(alloc, 2)? else {
+        let Some(blank) = majority_blank(alloc, 2) else {
             assert!(rt; false, "no cluster");
             return Ok(());
         };
@@ -126,7 +126,7 @@ fn each_call_counts_what_it_lost(rt: HostRuntime) -> Result<(), Fail> {
             0,
         ),
     ] {
-        let Some(blank) = majority_blank(alloc, 1)? else {
+        let Some(blank) = majority_blank(alloc, 1) else {
             assert!(rt; false, "no cluster");
             return Ok(());
         };
@@ -177,7 +177,7 @@ fn a_pump_counts_what_it_lost(rt: HostRuntime) -> Result<(), Fail> {
         ..told
     };
     for (message, lost) in [(told, 0), (not_offered, 1), (of_no_request, 1)] {
-        let Some(blank) = majority_blank(alloc, 1)? else {
+        let Some(blank) = majority_blank(alloc, 1) else {
             assert!(rt; false, "no cluster");
             return Ok(());
         };

@@ -3,10 +3,9 @@ ghost use Rattle.std.specs.Prelude.{◌≡◌, ◌*◌, ◌≤◌, ◌^◌, IfOk
 ghost use Rattle.members.specs.Clusters.{ClusterState};
 
 use super::*;
-use certificate::{Plan, check};
 use dealer::Receipt;
-use quorum_set::{Coterie, QSet};
 use requester::{ClientFault, Phase, Seen};
+use small_plans::{even_plan, majority_plan};
 use std::alloc::{AllocError, Global};
 use std::marker::Brand;
 use std::sync::Wait;
@@ -14,51 +13,21 @@ use std::test::Fail;
 use std::thread;
 use std::thread::Threads;
 
-/// The plan in which each of these quorums and each voter has weight 1.
-fn plan_of(alloc: Global, voters: usize, sets: Vec<QSet>) -> Result<Option<Plan>, Fail> {
-    let weights = vec![in alloc; 1; sets.len()]?;
-    let same = vec![in alloc; 1; voters]?;
-    let Ok(coterie) = Coterie::of(voters, sets) else {
-        return Ok(None);
-    };
-    Ok(check(alloc, &coterie, weights, same).ok())
-}
-
-/// The majorities of three voters, each as often as the others.
-pub(crate) fn majority_plan(alloc: Global) -> Result<Option<Plan>, Fail> {
-    let mut sets = Vec::new(alloc);
-    for members in [[0, 1], [0, 2], [1, 2]] {
-        let mut set = QSet::empty();
-        for i in members {
-            set.insert(i);
-        }
-        sets.push(set)?;
-    }
-    plan_of(alloc, 3, sets)
-}
-
 /// A cluster of 64 voters, all of which are asked each time, and of 64 clients, each of which may draw one ticket.
-fn largest_blank(alloc: Global) -> Result<Option<Blank>, Fail> {
-    let mut all = QSet::empty();
-    for voter in 0..64u8 {
-        all.insert(voter);
-    }
-    let sets = vec![in alloc; all]?;
-    let Some(plan) = plan_of(alloc, 64, sets)? else {
+fn largest_blank(alloc: Global) -> Result<Option<Blank>, AllocError> {
+    let all = (0..64u8).collect::<Vec<u8>>(alloc)?;
+    let Some(plan) = even_plan(alloc, 64, &[&all]) else {
         return Ok(None);
     };
     Ok(Blank::new(alloc, plan, 64, 1).ok())
 }
 
 /// A cluster of three voters and so many clients, each of which may draw four tickets.
-pub(crate) fn majority_blank(alloc: Global, clients: u8) -> Result<Option<Blank>, Fail>
+pub(crate) fn majority_blank(alloc: Global, clients: u8) -> Option<Blank>
     requires least { 1 ≤ clients }
     requires most { clients ≤ 64 }
 {
-    let Some(plan) = majority_plan(alloc)? else {
-        return Ok(None);
-    };
-    Ok(Blank::new(alloc, plan, clients, 4).ok())
+    Blank::new(alloc, majority_plan(alloc)?, clients, 4).ok()
 }
 
 /// What a member is called for, and what it has to answer.
@@ -166,7 +135,7 @@ fn three_members_on_one_thread(rt: HostRuntime) -> Result<(), Fail> {
         (2, empty),
         (2, Act::Leave),
     ];
-    let Some(blank) = majority_blank(alloc, 3)? else {
+    let Some(blank) = majority_blank(alloc, 3) else {
         assert!(rt; false, "no cluster");
         return Ok(());
     };
@@ -198,7 +167,7 @@ fn one_member_passes_and_gives_up(rt: HostRuntime) -> Result<(), Fail> {
         (0, Act::Pass(2)),
         (0, Act::Leave),
     ];
-    let Some(blank) = majority_blank(alloc, 1)? else {
+    let Some(blank) = majority_blank(alloc, 1) else {
         assert!(rt; false, "no cluster");
         return Ok(());
     };
@@ -263,7 +232,7 @@ fn refuses<N: ClusterName>(rt: &impl Wait, alloc: Global, blank: Blank) -> Resul
 #[test]
 fn fresh_members_refuse(rt: HostRuntime) -> Result<(), Fail> {
     let alloc = rt.alloc();
-    let Some(blank) = majority_blank(alloc, 2)? else {
+    let Some(blank) = majority_blank(alloc, 2) else {
         assert!(rt; false, "no cluster");
         return Ok(());
     };
@@ -335,7 +304,7 @@ fn both_pass<N: ClusterName + Send + Sync, R: Threads + Wait + Sync>(
 #[test]
 fn two_threads_pass(rt: HostRuntime) -> Result<(), Fail> {
     let alloc = rt.alloc();
-    let Some(blank) = majority_blank(alloc, 2)? else {
+    let Some(blank) = majority_blank(alloc, 2) else {
         assert!(rt; false, "no cluster");
         return Ok(());
     };

@@ -30,8 +30,6 @@ mod laws;
 mod message;
 mod reading;
 mod request;
-#[cfg(test)]
-mod tests;
 mod words;
 mod writing;
 

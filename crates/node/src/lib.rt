@@ -31,10 +31,6 @@
 mod mailbox;
 mod name;
 mod node;
-#[cfg(test)]
-mod service_tests;
-#[cfg(test)]
-mod tests;
 mod votes;
 
 pub use mailbox::Mailbox;

@@ -2,11 +2,10 @@
 ghost use Rattle.std.specs.Prelude.{◌≡◌};
 ghost use Rattle.members.specs.Clusters.{ClusterState};
 
-use crate::texts::MAJORITY_PLAN;
 use board::BoardFault;
-use certificate::{Plan, PlanFault, read_plan};
+use certificate::PlanFault;
 use cluster::{Blank, CloseFault, ClusterFault, ClusterName};
-use construct::{ConstructFault, majority};
+use construct::ConstructFault;
 use coterie_file::FileFault;
 use dealer::{DealFault, OfficeFault};
 use fraction::FracFault;
@@ -18,6 +17,7 @@ use replay::ReplayFault;
 use requester::ClientFault;
 use runs::RunFault;
 use simplex::SimplexFault;
+use small_plans::majority_plan;
 use std::alloc::{AllocError, Global};
 use std::fmt::Display;
 use std::marker::Brand;
@@ -243,12 +243,6 @@ fn closed_alone<N: ClusterName>(alloc: Global, blank: Blank) -> Result<String, A
         Ok(_) => String::from_str(alloc, "closed"),
         Err(fault) => fault.to_string(alloc),
     }
-}
-
-/// The majorities of three voters, planned.
-fn majority_plan(alloc: Global) -> Option<Plan> {
-    let coterie = majority(alloc, 3).ok()?;
-    read_plan(alloc, &coterie, MAJORITY_PLAN.as_bytes()).ok()
 }
 
 #[test]

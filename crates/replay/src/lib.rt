@@ -59,19 +59,13 @@
 #![tactic(auto)]
 
 mod check;
-#[cfg(test)]
-mod check_tests;
 mod fault;
 mod laws;
 mod output;
 mod reading;
 mod record_reading;
-#[cfg(test)]
-mod record_tests;
 mod record_writing;
 mod script;
-#[cfg(test)]
-mod tests;
 
 pub use check::check_record;
 pub use fault::ReplayFault;

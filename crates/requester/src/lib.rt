@@ -46,8 +46,6 @@ mod fault;
 mod laws;
 mod requester;
 mod state;
-#[cfg(test)]
-mod tests;
 
 pub use fault::ClientFault;
 pub use laws::{

@@ -20,11 +20,7 @@
 #![tactic(auto)]
 
 mod fault;
-#[cfg(test)]
-mod record_tests;
 mod run;
-#[cfg(test)]
-mod tests;
 
 pub use fault::RunFault;
 pub use run::record_of_run;

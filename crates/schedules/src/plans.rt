@@ -1,10 +1,9 @@
 //! The coteries of the schedules, each with an optimal plan.
 ghost use Rattle.std.specs.Prelude.{◌≤◌};
 
-use certificate::{Plan, check};
-use quorum_set::{Coterie, QSet};
-use std::alloc::Global;
-use std::test::Fail;
+use certificate::Plan;
+use small_plans::{grid_plan, majority_plan, wheel_plan};
+use std::alloc::{AllocError, Global};
 
 /// A coterie with weights that load its busiest voter least.
 #[derive(Clone, Copy)]
@@ -29,70 +28,13 @@ impl Kind {
         }
     }
 
-    /// Returns the plan.
-    pub fn plan(self, alloc: Global) -> Result<Plan, Fail> {
-        match self {
-            Kind::Majority => plan_of(
-                alloc,
-                3,
-                &[&[0, 1], &[0, 2], &[1, 2]],
-                &[1, 1, 1],
-                &[1, 1, 1],
-            ),
-            Kind::Grid => plan_of(
-                alloc,
-                4,
-                &[&[0, 1, 2], &[0, 1, 3], &[0, 2, 3], &[1, 2, 3]],
-                &[1, 1, 1, 1],
-                &[1, 1, 1, 1],
-            ),
-            Kind::Wheel => plan_of(
-                alloc,
-                4,
-                &[&[0, 1], &[0, 2], &[0, 3], &[1, 2, 3]],
-                &[1, 1, 1, 2],
-                &[2, 1, 1, 1],
-            ),
-        }
+    /// Returns the plan. Out of memory is the one reason to fail.
+    pub fn plan(self, alloc: Global) -> Result<Plan, AllocError> {
+        let plan = match self {
+            Kind::Majority => majority_plan(alloc),
+            Kind::Grid => grid_plan(alloc),
+            Kind::Wheel => wheel_plan(alloc),
+        };
+        plan.ok_or(AllocError)
     }
-}
-
-/// Returns the set of these members. Numbers of 64 or more are left out.
-fn set_of(members: &[u8]) -> QSet {
-    let mut set = QSet::empty();
-    for i in members {
-        if *i < 64 {
-            set.insert(*i);
-        }
-    }
-    set
-}
-
-/// Returns the weights as a list of their own.
-fn list_of(alloc: Global, weights: &[u64]) -> Result<Vec<u64>, Fail> {
-    let mut list = Vec::new(alloc);
-    for weight in weights {
-        list.push(*weight)?;
-    }
-    Ok(list)
-}
-
-/// Returns the plan of these quorums with these weights.
-fn plan_of(
-    alloc: Global,
-    voters: usize,
-    quorums: &[&[u8]],
-    quorum_weights: &[u64],
-    voter_weights: &[u64],
-) -> Result<Plan, Fail>
-    requires { voters ≤ 64 }
-{
-    let mut sets = Vec::new(alloc);
-    for members in quorums {
-        sets.push(set_of(members))?;
-    }
-    let coterie = Coterie::of(voters, sets)?;
-    let quorum_weights = list_of(alloc, quorum_weights)?;
-    let voter_weights = list_of(alloc, voter_weights)?;
-    Ok(check(alloc, &coterie, quorum_weights, voter_weights)?)
 }

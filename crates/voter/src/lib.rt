@@ -35,8 +35,6 @@ mod fault;
 mod laws;
 mod queue;
 mod state;
-#[cfg(test)]
-mod tests;
 mod voter;
 
 pub use fault::VoterFault;

@@ -20,8 +20,6 @@
 
 mod device;
 mod fault;
-#[cfg(test)]
-mod tests;
 mod watched;
 
 pub use device::{LONGEST, read_input, write_output};

@@ -34,8 +34,6 @@ mod moves;
 mod refusal;
 mod state;
 mod step;
-#[cfg(test)]
-mod tests;
 mod trace;
 mod world;
 

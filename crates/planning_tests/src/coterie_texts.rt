@@ -1,0 +1,203 @@
+//! Texts of coteries: read, refused and written.
+ghost use Rattle.std.specs.Prelude.{◌≡◌, IfOk};
+
+use coterie_file::{FileFault, Named, read_coterie, write_coterie};
+use quorum_set::Coterie;
+use small_plans::coterie_of;
+use std::alloc::Global;
+use std::test::Fail;
+
+/// The text of the coterie in the layout that is written, or the text of the fault.
+fn shown(alloc: Global, answer: Result<Named, FileFault>) -> Result<String, Fail> {
+    match answer {
+        Ok(named) => Ok(write_coterie(alloc, &named)?),
+        Err(fault) => Ok(fault.to_string(alloc)?),
+    }
+}
+
+/// What a text is answered by.
+fn answer_to(alloc: Global, text: &str) -> Result<String, Fail> {
+    shown(alloc, read_coterie(alloc, text))
+}
+
+#[test]
+fn first_faults(rt: HostRuntime) -> Result<(), Fail> {
+    let alloc = rt.alloc();
+    let table = [
+        ("voters = [", "F1 NotToml"),
+        ("voters = []\nvoters = []\nquorums = []", "F1 NotToml"),
+        ("", "F2 Keys"),
+        (" \t\n# no key\r\n", "F2 Keys"),
+        ("voters = ['a']", "F2 Keys"),
+        ("quorums = [['a']]", "F2 Keys"),
+        (
+            "voters = ['a']\nquorums = [['a']]\nweights = [1]",
+            "F2 Keys",
+        ),
+        ("voters = ['a']\nquorum = [['a']]", "F2 Keys"),
+        ("voters = 'a'\nquorums = [['a']]", "F2 Keys"),
+        ("voters = ['a', 1]\nquorums = [['a']]", "F2 Keys"),
+        ("voters = ['a']\nquorums = ['a']", "F2 Keys"),
+        ("voters = ['a']\nquorums = [['a', 1]]", "F2 Keys"),
+        ("voters = ['a b', 2]\nquorums = [['a']]", "F2 Keys"),
+        (
+            "voters = ['a b', 'c d']\nquorums = [['a b']]",
+            "F3 BadName 0",
+        ),
+        ("voters = ['a', '']\nquorums = [['a']]", "F3 BadName 1"),
+        (
+            "voters = ['a', 'a', 'é']\nquorums = [['a']]",
+            "F3 BadName 2",
+        ),
+        (
+            "voters = ['a', 'a']\nquorums = [['z']]",
+            "F4 RepeatedName 1",
+        ),
+        (
+            "voters = ['a', 'b', 'b', 'a']\nquorums = []",
+            "F4 RepeatedName 2",
+        ),
+        ("voters = ['a']\nquorums = [['z']]", "F5 UnknownName 0"),
+        (
+            "voters = ['a']\nquorums = [['a', 'a'], ['z']]",
+            "F5 UnknownName 1",
+        ),
+        (
+            "voters = ['a', 'A']\nquorums = [['A', 'a'], ['a', 'a']]",
+            "F6 RepeatedMember 1",
+        ),
+        (
+            "voters = ['a']\nquorums = [['a', 'a'], []]",
+            "F6 RepeatedMember 0",
+        ),
+        ("voters = []\nquorums = []", "E1 NoVoters"),
+        ("voters = ['a', 'b', 'c']\nquorums = []", "E3 NoQuorums"),
+        (
+            "voters = ['a', 'b', 'c']\nquorums = [[]]",
+            "E5 EmptyQuorum 0",
+        ),
+        (
+            "voters = ['a', 'b', 'c']\nquorums = [['a', 'b'], ['c']]",
+            "E7 Disjoint 0 1",
+        ),
+        (
+            "voters = ['a', 'b', 'c']\nquorums = [['a', 'b'], ['b', 'a']]",
+            "E8 Contained 0 1",
+        ),
+    ];
+    for (text, want) in &table {
+        assert_eq!(rt; answer_to(alloc, text)?.as_str(), *want, "{text}");
+    }
+    Ok(())
+}
+
+/// The coterie of three voters and their pairs, as it is written.
+const MAJORITY: &str = r#"voters = ["v0", "v1", "v2"]
+quorums = [
+  ["v0", "v1"],
+  ["v0", "v2"],
+  ["v1", "v2"],
+]
+"#;
+
+#[test]
+fn layouts_read_alike(rt: HostRuntime) -> Result<(), Fail> {
+    let alloc = rt.alloc();
+    let layouts = [
+        MAJORITY,
+        "quorums=[['v1','v0'],['v2','v0'],['v2','v1']]\nvoters=['v0','v1','v2']",
+        "# three voters\nvoters = [\n  'v0', # the first\n  'v1',\n  'v2',\n]\nquorums = [ ['v0', 'v1'], ['v0', 'v2'],\n  ['v1', # and\n 'v2'] ]\n",
+        "\"voters\" = [\"\\u0076\\u0030\", '''v1''', \"\"\"v2\"\"\"]\r\n'quorums' = [[\"v0\", \"v1\"], [\"v0\", \"v2\"], [\"v1\", \"v2\"]]\r\n",
+    ];
+    for text in &layouts {
+        assert_eq!(rt; answer_to(alloc, text)?.as_str(), MAJORITY, "{text}");
+    }
+    Ok(())
+}
+
+/// The coterie of three voters of which any two are a quorum.
+fn majority(alloc: Global) -> Result<Coterie, Fail>
+    ensures { IfOk result (λ c. c.voters ≡ 3) }
+{
+    coterie_of(alloc, 3, &[&[0, 1], &[0, 2], &[1, 2]])
+}
+
+#[test]
+fn numbered_coterie_is_written(rt: HostRuntime) -> Result<(), Fail> {
+    let alloc = rt.alloc();
+    let named = Named::numbered(alloc, majority(alloc)?)?;
+    assert_eq!(rt; named.coterie().count(), 3);
+    assert_eq!(rt; named.name(2), "v2");
+    assert_eq!(rt; write_coterie(alloc, &named)?.as_str(), MAJORITY);
+    Ok(())
+}
+
+/// The text of the majority with these names, or their fault.
+fn text_with(alloc: Global, names: &[&str]) -> Result<String, Fail> {
+    let mut given = Vec::new(alloc);
+    for name in names {
+        given.push(name.to_string(alloc)?)?;
+    }
+    let coterie = majority(alloc)?;
+    if given.len() != coterie.voters() {
+        return Ok("another number of names".to_string(alloc)?);
+    }
+    shown(alloc, Named::of(coterie, given))
+}
+
+#[test]
+fn names_are_given(rt: HostRuntime) -> Result<(), Fail> {
+    let alloc = rt.alloc();
+    let table = [
+        (["v0", "v1", "v2"], MAJORITY),
+        (["v0", "v1", "v0"], "F4 RepeatedName 2"),
+        (["v0", "v0", "v 2"], "F3 BadName 2"),
+        (["", "v0", "v0"], "F3 BadName 0"),
+    ];
+    for (names, want) in &table {
+        assert_eq!(rt; text_with(alloc, names.as_slice())?.as_str(), *want);
+    }
+    Ok(())
+}
+
+#[test]
+fn sizes_at_the_limits(rt: HostRuntime) -> Result<(), Fail> {
+    let alloc = rt.alloc();
+    let long = "n".repeat(alloc, 64)?;
+    let longer = "n".repeat(alloc, 65)?;
+    let mut names = String::new(alloc);
+    for i in 0..64 {
+        names.push_str(&format!(in alloc; "'n{i}',")?)?;
+    }
+    let many = "['n1'],".repeat(alloc, 4097)?;
+    let table = [
+        (
+            format!(in alloc; "voters=['{long}']\nquorums=[['{long}']]")?,
+            "voters = [",
+        ),
+        (
+            format!(in alloc; "voters=['{longer}']\nquorums=[['{longer}']]")?,
+            "F3 BadName 0",
+        ),
+        (
+            format!(in alloc; "voters=[{names}]\nquorums=[[{names}]]")?,
+            "voters = [",
+        ),
+        (
+            format!(in alloc; "voters=[{names}'m']\nquorums=[['n0']]")?,
+            "E2 TooManyVoters",
+        ),
+        (
+            format!(in alloc; "voters=[{names}'m']\nquorums=[['n0'],['m','m']]")?,
+            "F6 RepeatedMember 1",
+        ),
+        (
+            format!(in alloc; "voters=[{names}]\nquorums=[{many}]")?,
+            "E4 TooManyQuorums",
+        ),
+    ];
+    for (text, want) in &table {
+        assert!(rt; answer_to(alloc, text)?.starts_with(*want), "{want}");
+    }
+    Ok(())
+}

@@ -1,0 +1,155 @@
+//! Sets as plain ascending lists, which are walked number by number, beside sets in one word: each
+//! call has to give the same for both.
+use quorum_set::QSet;
+use std::alloc::{AllocError, Global};
+use std::test::Fail;
+
+/// A set, and the ascending list of the same numbers.
+#[derive(Drop)]
+struct Both {
+    set: QSet,
+    list: Vec<u8>,
+}
+
+fn list_has(list: &[u8], i: u8) -> bool {
+    for j in list {
+        if *j == i {
+            return true;
+        }
+    }
+    false
+}
+
+/// The list with the number in its place.
+fn list_insert(alloc: Global, list: &[u8], i: u8) -> Result<Vec<u8>, AllocError> {
+    let mut longer = Vec::new(alloc);
+    let mut is_placed = false;
+    for j in list {
+        if !is_placed && i <= *j {
+            longer.push(i)?;
+            is_placed = true;
+        }
+        if *j != i {
+            longer.push(*j)?;
+        }
+    }
+    if !is_placed {
+        longer.push(i)?;
+    }
+    Ok(longer)
+}
+
+fn list_meets(left: &[u8], right: &[u8]) -> bool {
+    for i in left {
+        if list_has(right, *i) {
+            return true;
+        }
+    }
+    false
+}
+
+fn list_within(left: &[u8], right: &[u8]) -> bool {
+    for i in left {
+        if !list_has(right, *i) {
+            return false;
+        }
+    }
+    true
+}
+
+fn list_join(alloc: Global, left: &[u8], right: &[u8]) -> Result<Vec<u8>, AllocError> {
+    let mut union = Vec::new(alloc);
+    for i in left {
+        union.push(*i)?;
+    }
+    for i in right {
+        let longer = list_insert(alloc, union.as_slice(), *i)?;
+        union = longer;
+    }
+    Ok(union)
+}
+
+/// Both forms of the set of a word's bits, and whether each insert said the same of both. The numbers
+/// go in out of order, each twice.
+fn both_of(alloc: Global, bits: u64) -> Result<(Both, bool), AllocError> {
+    let mut set = QSet::empty();
+    let mut list = Vec::new(alloc);
+    let mut is_same = true;
+    for turn in 0..128u32 {
+        let i = (turn * 37 % 64) as u8;
+        if (bits >> i) & 1 == 1 {
+            let is_new = !list_has(list.as_slice(), i);
+            let longer = list_insert(alloc, list.as_slice(), i)?;
+            list = longer;
+            is_same = set.insert(i) == is_new && is_same;
+        }
+    }
+    Ok((Both { set, list }, is_same))
+}
+
+/// Whether both forms have the same numbers below 256, in the same order, and as many.
+fn is_same_set(set: &QSet, list: &[u8]) -> bool {
+    for i in 0..256u32 {
+        if set.has(i as u8) != list_has(list, i as u8) {
+            return false;
+        }
+    }
+    set.members().as_slice() == list && set.len() == list.len()
+}
+
+/// Whether each call on two sets gives the same for both forms.
+fn is_same_pair(alloc: Global, left: &Both, right: &Both) -> Result<bool, AllocError> {
+    let union = list_join(alloc, left.list.as_slice(), right.list.as_slice())?;
+    Ok(
+        left.set.meets(&right.set) == list_meets(left.list.as_slice(), right.list.as_slice())
+            && left.set.within(&right.set)
+                == list_within(left.list.as_slice(), right.list.as_slice())
+            && is_same_set(&left.set.join(&right.set), union.as_slice()),
+    )
+}
+
+/// The next number of a multiplicative generator, with its high bits folded into its low ones.
+fn next(state: &mut u64) -> u64 {
+    *state = state
+        .wrapping_mul(6364136223846793005)
+        .wrapping_add(1442695040888963407);
+    *state ^ (*state >> 29)
+}
+
+/// The empty set, the ends, all numbers, and sets that are about half full, a quarter and a sixteenth.
+fn sample(alloc: Global) -> Result<Vec<u64>, AllocError> {
+    let mut words = Vec::new(alloc);
+    for word in [0, 1, 1 << 63, u64::MAX] {
+        words.push(word)?;
+    }
+    let mut state = 1;
+    for _ in 0..32 {
+        let half = next(&mut state);
+        let quarter = half & next(&mut state);
+        let few = quarter & next(&mut state) & next(&mut state);
+        words.push(half)?;
+        words.push(quarter)?;
+        words.push(few)?;
+    }
+    Ok(words)
+}
+
+#[test]
+fn words_do_what_lists_do(rt: HostRuntime) -> Result<(), Fail> {
+    let alloc = rt.alloc();
+    let mut sets = Vec::new(alloc);
+    for bits in sample(alloc)?.as_slice() {
+        let (both, is_same) = both_of(alloc, *bits)?;
+        assert!(rt; is_same);
+        assert!(rt; is_same_set(&both.set, both.list.as_slice()));
+        assert!(rt; is_same_set(&both.set.copy(), both.list.as_slice()));
+        sets.push(both)?;
+    }
+    assert_eq!(rt; sets.len(), 100);
+    for left in sets.as_slice() {
+        for right in sets.as_slice() {
+            assert!(rt; is_same_pair(alloc, left, right)?);
+        }
+    }
+    Ok(())
+}

@@ -1,0 +1,125 @@
+//! The blocks of a cycle beside the cycle laid out in full.
+use crate::cycles::cycle_of;
+use dealer::Cycle;
+use std::alloc::Global;
+use std::test::Fail;
+
+/// The next of a row of numbers that follow no pattern (Knuth's multiplier for 64 bits).
+fn next_number(number: u64) -> u64 {
+    number
+        .wrapping_mul(6_364_136_223_846_793_005)
+        .wrapping_add(1_442_695_040_888_963_407)
+}
+
+/// Some weights below a bound, made from a number.
+fn weights_below(alloc: Global, count: u8, bound: u64, seed: u64) -> Result<Vec<u64>, Fail> {
+    let mut weights = Vec::new(alloc);
+    let mut number = next_number(seed);
+    for _ in 0..count {
+        number = next_number(number);
+        weights.push((number >> 33) % bound.max(1))?;
+    }
+    Ok(weights)
+}
+
+/// The cycle with these weights of its quorums, where they are a plan's: quorum j has the voters 0 and j + 1 alone, so that
+/// voter 0 is in each quorum, and any weights are.
+fn star_cycle(alloc: Global, weights: &[u64]) -> Result<Option<Cycle>, Fail> {
+    let mut quorums = Vec::new(alloc);
+    let mut voter_weights = vec![in alloc; 1]?;
+    for rim in 1..64u8 {
+        if usize::from(rim) <= weights.len() {
+            quorums.push([0, rim])?;
+            voter_weights.push(0)?;
+        }
+    }
+    let mut members: Vec<&[u8]> = Vec::new(alloc);
+    for quorum in &quorums {
+        members.push(quorum)?;
+    }
+    Ok(cycle_of(alloc, &members, weights, &voter_weights))
+}
+
+/// The quorums of a cycle, round by round, as the definition has it.
+fn laid_out(alloc: Global, weights: &[u64]) -> Result<Vec<usize>, Fail> {
+    let mut quorums = Vec::new(alloc);
+    for round in 0..weights.iter().copied().max().unwrap_or(0) {
+        for (quorum, weight) in weights.iter().enumerate() {
+            if round < *weight {
+                quorums.push(quorum)?;
+            }
+        }
+    }
+    Ok(quorums)
+}
+
+/// Whether the tickets from this one on name these quorums.
+fn names(cycle: &Cycle, from: u64, quorums: &[usize]) -> bool {
+    let mut ticket = from;
+    for quorum in quorums {
+        if cycle.quorum_at(ticket) != *quorum {
+            return false;
+        }
+        ticket = ticket.wrapping_add(1);
+    }
+    true
+}
+
+/// Whether the tickets of two cycles of these weights name what the cycle laid out in full has, and each quorum as often as its
+/// weight says.
+fn agrees(alloc: Global, weights: &[u64]) -> Result<bool, Fail> {
+    let quorums = laid_out(alloc, weights)?;
+    if quorums.is_empty() {
+        return Ok(true);
+    }
+    let Some(cycle) = star_cycle(alloc, weights)? else {
+        return Ok(false);
+    };
+    let len = cycle.plan().cycle_len();
+    let mut tickets = Vec::new(alloc);
+    for ticket in (0..len).rev() {
+        tickets.push(ticket)?;
+    }
+    let account = cycle.account(alloc, &tickets)?;
+    Ok(
+        len == quorums.len() as u64
+            && account.quorums.as_slice() == weights
+            && account.busiest == len
+            && names(&cycle, 0, &quorums)
+            && names(&cycle, len, &quorums),
+    )
+}
+
+#[test]
+fn blocks_name_what_the_rounds_list(rt: HostRuntime) -> Result<(), Fail> {
+    let alloc = rt.alloc();
+    // Bound 1 makes zeros alone, 2 leaves one distinct positive weight, 4 a few, 50 nearly as many as there are quorums.
+    for bound in [2u64, 4, 9, 50] {
+        for count in 1..64u8 {
+            let weights = weights_below(alloc, count, bound, bound ^ u64::from(count))?;
+            assert!(rt; agrees(alloc, &weights)?, "{count} weights below {bound}");
+        }
+    }
+    Ok(())
+}
+
+#[test]
+fn blocks_of_weights_at_the_edges(rt: HostRuntime) -> Result<(), Fail> {
+    let alloc = rt.alloc();
+    let table: [&[u64]; 10] = [
+        &[1],
+        &[1000],
+        &[0, 0, 3],
+        &[3, 0, 0],
+        &[7, 7, 7, 7, 7],
+        &[1, 2, 3, 4, 5, 6, 7, 8],
+        &[8, 7, 6, 5, 4, 3, 2, 1],
+        &[0, 5, 0, 5, 0, 1],
+        &[1, 10_000],
+        &[2, 2, 1_000, 999, 1_000, 0, 1],
+    ];
+    for (row, weights) in table.iter().enumerate() {
+        assert!(rt; agrees(alloc, weights)?, "row {row}");
+    }
+    Ok(())
+}

@@ -1,0 +1,184 @@
+//! Worked rows of the voter.
+ghost use Rattle.std.specs.Prelude.{◌≡◌, ◌<◌, ◌≤◌, ◌^◌, IfSome};
+
+use arrayvec::ArrayVec;
+use message::{Message, ToVoter, read_message, write_message};
+use std::alloc::{AllocError, Global};
+use std::test::Fail;
+use voter::{Effect, Grant, Replies, Voter, VoterFault};
+
+/// The message to voter 0 that a line spells.
+fn asked(line: &str) -> Option<ToVoter>
+    ensures voter { IfSome result (λ m. m.voter ≡ 0) }
+    ensures client { IfSome result (λ m. m.client < 64) }
+{
+    match read_message(line.as_bytes()) {
+        Ok(Message::ToVoter(m)) if m.voter == 0 && m.client < 64 => Some(m),
+        _ => None,
+    }
+}
+
+/// The lines of the replies, each with a semicolon.
+fn lines(alloc: Global, replies: &Replies) -> Result<String, AllocError> {
+    let mut text = String::new(alloc);
+    for reply in replies.as_slice() {
+        let message = Message::ToClient(*reply);
+        if message.has_line() {
+            let line = write_message(alloc, &message)?;
+            text.push_str(line.as_str())?;
+            text.push(';')?;
+        }
+    }
+    Ok(text)
+}
+
+/// The lines of the replies, or the fault.
+fn answer(alloc: Global, replies: Result<Replies, VoterFault>) -> Result<String, AllocError> {
+    match replies {
+        Ok(replies) => lines(alloc, &replies),
+        Err(fault) => format!(in alloc; "{fault}"),
+    }
+}
+
+/// The voter that took each line in turn, where it answered the lines beside it.
+fn after(alloc: Global, limit: u64, script: &[(&str, &str)]) -> Result<Option<Voter>, AllocError>
+    requires least { 1 ≤ limit }
+    requires most { limit ≤ 2 ^ 40 }
+{
+    let mut voter = Voter::new(0, limit);
+    for (line, want) in script {
+        let Some(message) = asked(line) else {
+            return Ok(None);
+        };
+        let refused = voter.effect(&message).refused;
+        let got = answer(alloc, voter.take(&message))?;
+        if got.as_str() != *want || refused != (*want == "V1 GrantsSpent") {
+            return Ok(None);
+        }
+    }
+    Ok(Some(voter))
+}
+
+/// Whether a voter that takes each line in turn answers the lines beside it.
+fn plays(alloc: Global, limit: u64, script: &[(&str, &str)]) -> Result<bool, AllocError>
+    requires least { 1 ≤ limit }
+    requires most { limit ≤ 2 ^ 40 }
+{
+    Ok(after(alloc, limit, script)?.is_some())
+}
+
+#[test]
+fn vote_that_is_given_back(rt: HostRuntime) -> Result<(), Fail> {
+    let script = [
+        ("request 1 0 1", "locked 0 1 1 1 1;"),
+        ("request 0 0 1", "inquire 0 1 1 1;"),
+        ("request 2 0 1", "fail 0 2 1 1;"),
+        ("relinquish 1 0 1", "locked 0 0 1 2 1;"),
+        ("release 0 0 1", "V1 GrantsSpent"),
+        ("release 2 0 1", ""),
+        ("release 1 0 1", ""),
+        ("release 0 0 1", ""),
+    ];
+    match after(rt.alloc(), 2, script.as_slice())? {
+        Some(voter) => assert!(rt; voter.held().is_none()),
+        None => assert!(rt; false),
+    }
+    Ok(())
+}
+
+#[test]
+fn requests_in_their_places(rt: HostRuntime) -> Result<(), Fail> {
+    let script = [
+        ("request 2 0 2", "locked 0 2 2 1 2;"),
+        ("request 3 0 3", "fail 0 3 3 3;"),
+        ("request 1 0 1", "inquire 0 2 1 3;fail 0 3 3 3;"),
+        ("request 0 0 1", "fail 0 1 1 3;"),
+    ];
+    assert!(rt; plays(rt.alloc(), 10, script.as_slice())?);
+    Ok(())
+}
+
+#[test]
+fn former_front_is_told(rt: HostRuntime) -> Result<(), Fail> {
+    let script = [
+        ("request 0 0 5", "locked 0 0 5 1 5;"),
+        ("request 1 0 7", "fail 0 1 7 7;"),
+        ("request 2 0 6", "fail 0 2 6 7;fail 0 1 7 7;"),
+    ];
+    assert!(rt; plays(rt.alloc(), 10, script.as_slice())?);
+    Ok(())
+}
+
+#[test]
+fn vote_is_held_and_told_again(rt: HostRuntime) -> Result<(), Fail> {
+    let alloc = rt.alloc();
+    let mut voter = Voter::new(0, 2);
+    assert!(rt; voter.held().is_none());
+    assert_eq!(rt; voter.remind().len(), 0);
+    if let Some(message) = asked("request 1 0 5") {
+        assert!(rt; voter.take(&message).is_ok());
+    }
+    assert_eq!(rt;
+        voter.held(),
+        Some(Grant {
+            client: 1,
+            stamp: 5,
+            grant: 1
+        })
+    );
+    if let Some(message) = asked("request 0 0 4") {
+        assert!(rt; voter.take(&message).is_ok());
+    }
+    assert_eq!(rt;
+        lines(alloc, &voter.remind())?.as_str(),
+        "locked 0 1 5 1 5;inquire 0 1 1 5;"
+    );
+    if let Some(message) = asked("release 1 0 5") {
+        assert_eq!(rt;
+            voter.effect(&message),
+            Effect {
+                frees: true,
+                refused: false
+            }
+        );
+    }
+    Ok(())
+}
+
+/// Whether a voter that takes each line in turn answers in one buffer the lines beside it.
+fn plays_into(alloc: Global, limit: u64, script: &[(&str, &str)]) -> Result<bool, AllocError>
+    requires least { 1 ≤ limit }
+    requires most { limit ≤ 2 ^ 40 }
+{
+    let mut voter = Voter::new(0, limit);
+    let mut replies = ArrayVec::new();
+    for (line, want) in script {
+        let Some(message) = asked(line) else {
+            return Ok(false);
+        };
+        let taken = voter.take_into(&message, &mut replies);
+        let mut got = lines(alloc, &replies)?;
+        if let Err(fault) = taken {
+            write!(got, "{fault}")?;
+        }
+        if got.as_str() != *want {
+            return Ok(false);
+        }
+    }
+    Ok(true)
+}
+
+#[test]
+fn one_buffer_serves_each_message(rt: HostRuntime) -> Result<(), Fail> {
+    let script = [
+        ("request 2 0 2", "locked 0 2 2 1 2;"),
+        ("request 3 0 3", "fail 0 3 3 3;"),
+        ("request 1 0 1", "inquire 0 2 1 3;fail 0 3 3 3;"),
+        ("release 0 0 1", ""),
+        ("relinquish 2 0 1", "locked 0 1 1 2 3;"),
+        ("release 1 0 1", "V1 GrantsSpent"),
+        ("release 2 0 2", ""),
+    ];
+    assert!(rt; plays_into(rt.alloc(), 2, script.as_slice())?);
+    Ok(())
+}

@@ -1,0 +1,211 @@
+//! Runs of the automata together.
+ghost use Rattle.std.specs.Prelude.{◌≤◌, ◌^◌};
+
+use certificate::Plan;
+use message::write_message;
+use requester::Seen;
+use small_plans::{lone_plan, majority_plan};
+use std::alloc::{AllocError, Global};
+use std::test::Fail;
+use world::{Step, Stepped, Trace, World, run};
+
+/// What a run made: the lines of its messages, then what was seen, who drew which ticket, and what was refused.
+fn story(alloc: Global, trace: &Trace) -> Result<String, AllocError> {
+    let mut text = String::new(alloc);
+    for message in trace.messages.as_slice() {
+        if message.has_line() {
+            text.push_str(write_message(alloc, message)?.as_str())?;
+            text.push('\n')?;
+        }
+    }
+    for event in trace.visible.as_slice() {
+        let word = if event.entered { "enter" } else { "leave" };
+        write!(text, "{word} {}\n", event.client)?;
+    }
+    for (client, ticket) in trace.draws.as_slice() {
+        write!(text, "draw {client} {ticket}\n")?;
+    }
+    for (place, fault) in trace.refused.as_slice() {
+        write!(text, "{place}: {fault}\n")?;
+    }
+    Ok(text)
+}
+
+/// Whether a run of this plan makes this.
+fn makes(
+    alloc: Global,
+    plan: Option<Plan>,
+    clients: u8,
+    limit: u64,
+    steps: &[Step],
+    want: &str,
+) -> Result<bool, Fail>
+    requires some { 1 ≤ clients }
+    requires few { clients ≤ 64 }
+    requires least { 1 ≤ limit }
+    requires most { limit ≤ 2 ^ 40 }
+{
+    let Some(plan) = plan else {
+        return Ok(false);
+    };
+    let trace = run(alloc, plan, clients, limit, steps)?;
+    Ok(story(alloc, &trace)?.as_str() == want)
+}
+
+#[test]
+fn one_enters_and_leaves(rt: HostRuntime) -> Result<(), Fail> {
+    let alloc = rt.alloc();
+    let steps = [
+        Step::Ask(0),
+        Step::Ask(1),
+        Step::Deliver(2),
+        Step::Deliver(0),
+        Step::Deliver(3),
+        Step::Deliver(4),
+        Step::Deliver(6),
+        Step::Deliver(5),
+        Step::Leave(1),
+        Step::Deliver(7),
+    ];
+    let want = "request 0 0 1
+request 0 1 1
+request 1 0 1
+request 1 2 1
+locked 0 1 1 1 1
+inquire 0 1 1 1
+locked 2 1 1 1 1
+release 1 0 1
+release 1 2 1
+locked 0 0 1 2 1
+enter 1
+leave 1
+draw 0 0
+draw 1 1
+";
+    assert!(rt; makes(alloc, majority_plan(alloc), 2, 1000, &steps, want)?);
+    Ok(())
+}
+
+#[test]
+fn late_message_of_a_vote_given_back(rt: HostRuntime) -> Result<(), Fail> {
+    let alloc = rt.alloc();
+    let mut steps = Vec::new(alloc);
+    for client in [2, 1, 0] {
+        steps.push(Step::Ask(client))?;
+    }
+    for number in [0, 4, 1, 6, 8, 2, 9, 10, 6, 11, 3, 12] {
+        steps.push(Step::Deliver(number))?;
+    }
+    let want = "request 2 0 1
+request 2 1 1
+request 1 0 1
+request 1 2 1
+request 0 1 1
+request 0 2 1
+locked 0 2 1 1 1
+locked 1 0 1 1 1
+fail 1 2 1 1
+inquire 0 2 1 1
+relinquish 2 0 1
+locked 0 1 1 2 1
+locked 2 1 1 1 1
+enter 1
+draw 2 0
+draw 1 1
+draw 0 2
+";
+    assert!(rt; makes(alloc, majority_plan(alloc), 3, 1000, &steps, want)?);
+    Ok(())
+}
+
+#[test]
+fn spent_grants_and_stamps(rt: HostRuntime) -> Result<(), Fail> {
+    let alloc = rt.alloc();
+    let steps = [
+        Step::Ask(0),
+        Step::Ask(1),
+        Step::Deliver(0),
+        Step::Deliver(1),
+        Step::Deliver(2),
+        Step::Leave(0),
+        Step::Deliver(4),
+        Step::Ask(0),
+    ];
+    let want = "request 0 0 1
+request 1 0 1
+locked 0 0 1 1 1
+fail 0 1 1 1
+release 0 0 1
+enter 0
+leave 0
+draw 0 0
+draw 1 1
+6: V1 GrantsSpent
+7: C4 StampsSpent
+";
+    assert!(rt; makes(alloc, lone_plan(alloc), 2, 1, &steps, want)?);
+    Ok(())
+}
+
+#[test]
+fn reminders_and_refusals(rt: HostRuntime) -> Result<(), Fail> {
+    let alloc = rt.alloc();
+    let steps = [
+        Step::Ask(0),
+        Step::RemindClient(0),
+        Step::Deliver(0),
+        Step::Deliver(1),
+        Step::RemindVoter(0),
+        Step::Deliver(3),
+        Step::Deliver(4),
+        Step::RemindClient(0),
+        Step::GiveUp(0),
+        Step::Ask(0),
+        Step::Ask(7),
+        Step::RemindVoter(3),
+        Step::Deliver(9),
+        Step::Leave(0),
+        Step::Leave(0),
+    ];
+    let want = "request 0 0 1
+request 0 0 1
+locked 0 0 1 1 1
+locked 0 0 1 1 1
+locked 0 0 1 1 1
+release 0 0 1
+enter 0
+leave 0
+draw 0 0
+8: C3 NotAsking
+9: C1 Busy
+10: U2 NoSuchClient 7
+11: U3 NoSuchVoter 3
+12: U1 NoSuchMessage 9
+14: C2 NotInside
+";
+    assert!(rt; makes(alloc, lone_plan(alloc), 1, 1000, &steps, want)?);
+    Ok(())
+}
+
+#[test]
+fn steps_of_a_world(rt: HostRuntime) -> Result<(), Fail> {
+    let alloc = rt.alloc();
+    let Some(plan) = lone_plan(alloc) else {
+        assert!(rt; false, "no plan");
+        return Ok(());
+    };
+    let mut world = World::new(alloc, plan, 1, 1000)?;
+    let Ok(asked) = world.step(Step::Ask(0)) else {
+        assert!(rt; false, "refused");
+        return Ok(());
+    };
+    assert!(rt;
+        asked
+            == Stepped {
+                sent: 1,
+                seen: Seen::Nothing
+            }
+    );
+    assert!(rt; world.sent() == 1 && world.visible().is_empty());
+    Ok(())
+}

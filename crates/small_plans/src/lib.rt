@@ -1,0 +1,20 @@
+//! Small coteries and plans that tests and measurements share.
+//!
+//! | Plan | Voters | Quorums | Load |
+//! |---|---|---|---|
+//! | [`lone_plan`] | 1 | the voter alone | 1/1 |
+//! | [`majority_plan`] | 3 | any two | 2/3 |
+//! | [`grid_plan`] | 2 by 2 | a row and a column, which are any three | 3/4 |
+//! | [`wheel_plan`] | a hub and three rims | the hub with a rim, or all rims | 3/5 |
+//!
+//! [`plan_of`] makes others. Nothing but safety is proved here: a plan that comes out is one, since `certificate` checked it.
+//!
+//! This crate stands on `quorum_set` and `certificate`.
+#![tactic(auto)]
+
+mod plans;
+
+pub use plans::{
+    coterie_of, even_plan, grid_plan, lone_plan, majority_plan, plan_of, set_of, sets_of,
+    wheel_plan,
+};
