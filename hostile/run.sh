@@ -157,8 +157,11 @@ try_member() {
     label='a member of a cluster' passes='' input=/dev/null words=()
     case "$label" in *"$word"*) ;; *) return 0 ;; esac
     local before=$runs losses=0 n=1
-    (cd "$root/crates/hostile_member" && rt run > /dev/null 2>&1) || { echo "hostile/run.sh: crates/hostile_member does not build" >&2; exit 1; }
     program=$root/crates/hostile_member/out/hostile_member
+    # what `rt ci` has proved and built is taken as it is
+    if [ ! -x "$program" ] || [ -n "$(find "$root/crates.txt" "$root"/crates/*/src -newer "$program" -print -quit)" ]; then
+        (cd "$root/crates/hostile_member" && rt run > /dev/null 2>&1) || { echo "hostile/run.sh: crates/hostile_member does not build" >&2; exit 1; }
+    fi
     met=1
     while [ -n "$met" ]; do
         hostile HOSTILE_GROWTH=$n HOSTILE_ONCE=1
