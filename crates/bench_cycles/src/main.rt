@@ -1,8 +1,9 @@
-//! Work on cycles to be timed: a plan's cycle is made so often, and tickets are looked up. Prints the cycle's length and the sum
-//! of the quorums' numbers.
+//! Measures cycles: makes a plan's cycle a number of times, and looks tickets up in it. Prints the
+//! length of the cycle and the sum of the quorums' numbers.
 //!
-//! `bench_cycles KIND QUORUMS STEPS FACTOR MAKES LOOKUPS`, where KIND is `blocks` for a cycle of the crate `dealer`, or `list`
-//! for a list of all its places; the numbers are those of `Task`. `bench/cycles.sh` times it.
+//! `bench_cycles KIND QUORUMS STEPS FACTOR MAKES LOOKUPS`. KIND is `blocks` for a cycle of the
+//! crate `dealer`, or `list` for a list of all its places. The numbers are those of `Task`.
+//! `bench/cycles.sh` runs it and measures the time.
 #![tactic(auto)]
 
 mod work;
@@ -12,7 +13,7 @@ use std::env;
 use std::process::ExitCode;
 use work::Task;
 
-/// The task that the words of the command line name, the program's name among them.
+/// Returns the task of this command line. The first word is the program's name.
 fn task_of(words: &[String]) -> Option<Task> {
     if words.len() != 7 {
         return None;
@@ -27,7 +28,7 @@ fn task_of(words: &[String]) -> Option<Task> {
     })
 }
 
-/// The words of the command line.
+/// Returns the words of the command line.
 fn words_of(rt: &HostRuntime) -> Option<Vec<String>> {
     let Ok(words) = env::args(rt) else {
         return None;
@@ -35,7 +36,7 @@ fn words_of(rt: &HostRuntime) -> Option<Vec<String>> {
     words.collect::<Vec<String>>(rt.alloc()).ok()
 }
 
-/// What the task counts, as a line.
+/// Does the task, and returns its result as a line.
 fn line_of(alloc: Global, task: &Task) -> Option<String> {
     let (len, sum) = work::run(alloc, task)?;
     format!(in alloc; "cycle {len} sum {sum}").ok()

@@ -1,19 +1,20 @@
-//! Cycles, made of a plan or laid out in full, and looked up.
+//! The work that is timed: making cycles, from a plan or as a list of all places, and looking
+//! tickets up.
 use certificate::{Plan, check};
 use dealer::Cycle;
 use quorum_set::{Coterie, QSet};
 use std::alloc::{AllocError, Global};
 
-/// What is timed.
+/// What to time.
 #[derive(Clone, Copy, Drop)]
 pub struct Task {
     /// Whether the cycle is kept as a list of all its places, and not by the crate `dealer`.
     pub as_list: bool,
     /// How many quorums there are.
     pub quorums: u16,
-    /// The weights go 1, 2, .. up to this and again from 1 on, ..
+    /// The weights of the quorums go 1, 2, .. up to this number, and then again from 1 on, ..
     pub steps: u32,
-    /// .. each so many times.
+    /// .. each times this factor.
     pub factor: u32,
     /// How many times the cycle is made.
     pub makes: u32,
@@ -21,7 +22,7 @@ pub struct Task {
     pub lookups: u32,
 }
 
-/// The weights of a task's quorums.
+/// Returns the weights of a task's quorums.
 fn weights_of(alloc: Global, task: &Task) -> Result<Vec<u64>, AllocError> {
     let mut weights = Vec::new(alloc);
     let mut step = 0u64;
@@ -44,7 +45,7 @@ struct Three {
     third: u8,
 }
 
-/// The next three.
+/// Returns the next three.
 fn next_three(three: Three) -> Three {
     if three.third < 63 {
         Three {
@@ -67,7 +68,7 @@ fn next_three(three: Three) -> Three {
     }
 }
 
-/// Voter 0 and three others, those of them that are below 64.
+/// Returns the set of voter 0 and those of the three that are below 64.
 fn set_with(three: Three) -> QSet {
     let mut set = QSet::empty();
     set.insert(0);
@@ -83,7 +84,7 @@ fn set_with(three: Three) -> QSet {
     set
 }
 
-/// So many sets of voter 0 and three others.
+/// Returns `count` sets of voter 0 and three others.
 fn sets_of(alloc: Global, count: usize) -> Result<Vec<QSet>, AllocError> {
     let mut sets = Vec::new(alloc);
     let mut three = Three {
@@ -98,7 +99,7 @@ fn sets_of(alloc: Global, count: usize) -> Result<Vec<QSet>, AllocError> {
     Ok(sets)
 }
 
-/// A plan with these weights: voter 0 is in each quorum, so that any weights are a plan's.
+/// Returns a plan with these weights. Voter 0 is in each quorum, so any weights make a plan.
 fn plan_with(alloc: Global, weights: Vec<u64>) -> Option<Plan> {
     let sets = sets_of(alloc, weights.len()).ok()?;
     let coterie = Coterie::of(64, sets).ok()?;
@@ -109,7 +110,7 @@ fn plan_with(alloc: Global, weights: Vec<u64>) -> Option<Plan> {
     check(alloc, &coterie, weights, voter_weights).ok()
 }
 
-/// The quorums of a cycle, round by round.
+/// Returns the quorums of a cycle, round by round.
 fn laid_out(alloc: Global, weights: &[u64], len: usize) -> Result<Vec<usize>, AllocError> {
     let mut quorums = Vec::with_capacity(alloc, len)?;
     for round in 0..weights.iter().copied().max().unwrap_or(0) {
@@ -122,14 +123,14 @@ fn laid_out(alloc: Global, weights: &[u64], len: usize) -> Result<Vec<usize>, Al
     Ok(quorums)
 }
 
-/// The next of a row of tickets that follow no pattern (Knuth's multiplier for 64 bits).
+/// Returns the next ticket of a sequence without a pattern (Knuth's multiplier for 64 bits).
 fn next_ticket(ticket: u64) -> u64 {
     ticket
         .wrapping_mul(6_364_136_223_846_793_005)
         .wrapping_add(1_442_695_040_888_963_407)
 }
 
-/// The quorums of so many tickets, added up.
+/// Returns the sum of the quorums' numbers over `lookups` tickets.
 fn sum_of(cycle: &Cycle, lookups: u32) -> u64 {
     let mut sum = 0u64;
     let mut ticket = 1;
@@ -140,7 +141,7 @@ fn sum_of(cycle: &Cycle, lookups: u32) -> u64 {
     sum
 }
 
-/// The same by the list of all places.
+/// Returns the same sum, by the list of all places.
 fn sum_by_list(quorums: &[usize], lookups: u32) -> u64 {
     let len = (quorums.len() as u64).max(1);
     let mut sum = 0u64;
@@ -162,7 +163,7 @@ fn by_blocks(alloc: Global, plan: Plan, task: &Task) -> Option<u64> {
     Some(sum_of(&cycle, task.lookups))
 }
 
-/// The same with the list of all places.
+/// Does the same with the list of all places.
 fn by_list(alloc: Global, plan: &Plan, weights: &[u64], task: &Task) -> Option<u64> {
     let len = plan.cycle_len() as usize;
     let mut quorums = laid_out(alloc, weights, len).ok()?;
@@ -172,7 +173,7 @@ fn by_list(alloc: Global, plan: &Plan, weights: &[u64], task: &Task) -> Option<u
     Some(sum_by_list(&quorums, task.lookups))
 }
 
-/// Does the task: the length of the cycle, and the quorums of the tickets added up.
+/// Does the task, and returns the length of the cycle and the sum of the quorums' numbers.
 pub fn run(alloc: Global, task: &Task) -> Option<(u64, u64)> {
     let weights = weights_of(alloc, task).ok()?;
     let plan = plan_with(alloc, weights.as_slice().to_vec(alloc).ok()?)?;

@@ -1,7 +1,8 @@
-//! Times steps of the automata: two clients take turns at the lock of one voter, so many times. Prints how many steps were
-//! taken and how often a client was inside.
+//! Measures steps of the automata: two clients take turns at the lock of one voter, in a number of
+//! rounds. Prints how many steps were made, and how often a client was inside.
 //!
-//! `bench_steps ROUNDS`, with 0 to 4294967295 rounds of 11 steps; `bench/steps.sh` times it.
+//! `bench_steps ROUNDS`, with 0 to 4294967295 rounds of 11 steps. `bench/steps.sh` runs it and
+//! measures the time.
 #![tactic(auto)]
 
 ghost use Rattle.std.specs.Prelude.{◌≡◌};
@@ -14,10 +15,10 @@ use std::env;
 use std::process::ExitCode;
 use voter::{Replies, Voter};
 
-/// How far stamps and grants go: 2^40.
+/// The limit of stamps and grants: 2^40.
 const LIMIT: u64 = 1 << 40;
 
-/// One voter, two clients, and what was counted.
+/// One voter, two clients, and the counts.
 #[derive(Drop)]
 struct Lock {
     voter: Voter,
@@ -44,7 +45,7 @@ impl Lock {
         }
     }
 
-    /// Counts a step of a client.
+    /// Counts a step.
     fn count(&mut self, seen: Seen) {
         self.steps = self.steps.saturating_add(1);
         if seen == Seen::Entered {
@@ -52,7 +53,7 @@ impl Lock {
         }
     }
 
-    /// A client takes a reply.
+    /// Has a client take a reply.
     fn tell_client(&mut self, message: &ToClient) {
         if message.voter != 0 {
             return;
@@ -65,7 +66,7 @@ impl Lock {
         self.count(seen);
     }
 
-    /// The voter takes a message, and the clients its replies.
+    /// Has the voter take a message, and the clients its replies.
     fn tell_voter(&mut self, message: &ToVoter, replies: &mut Replies) {
         if message.voter != 0 || message.client > 1 {
             return;
@@ -79,7 +80,7 @@ impl Lock {
         }
     }
 
-    /// What a client's call sends goes to the voter.
+    /// Sends the messages of a client's call to the voter.
     fn send(&mut self, called: Result<Seen, ClientFault>, sent: &Messages, replies: &mut Replies) {
         let Ok(seen) = called else {
             return;
@@ -90,7 +91,8 @@ impl Lock {
         }
     }
 
-    /// Both ask; the first enters and leaves, and then the second. Nobody asks an empty quorum.
+    /// Has both clients ask. The first enters and leaves, and then the second. Nobody asks an empty
+    /// quorum.
     fn round(&mut self, quorum: &QSet, out: &mut Messages, replies: &mut Replies) {
         if quorum.len() == 0 {
             return;
@@ -106,7 +108,7 @@ impl Lock {
     }
 }
 
-/// The number of rounds on the command line.
+/// Returns the number of rounds on the command line.
 fn rounds_of(rt: &HostRuntime) -> Option<u32> {
     let Ok(mut words) = env::args(rt) else {
         return None;

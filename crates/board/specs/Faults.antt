@@ -3,7 +3,7 @@ use Rattle.std.specs.Prelude.{◌≡◌, ◌≢◌, ℕ, ◌<◌, List, slice_in
 use Rattle.board.specs.declared.fault.BoardFault.{BoardFault}
 use Rattle.board.specs.declared.fault.BoardFault.TheVariants.{SeatsOut, VoteOut, RegisterFull, OutOfMemory}
 
--- v is the least voter whose vote is held; or no vote is held, and memory was wanting
+-- v is the smallest voter whose vote is held; or no vote is held, and memory ran out
 abbrev pub IsOut : List ℕ → BoardFault → Type 0
 IsOut held (VoteOut v) = (slice_index held v ≢ 0) × ((k : ℕ) → k < v → slice_index held k ≡ 0)
 IsOut held OutOfMemory = (v : ℕ) → slice_index held v ≡ 0

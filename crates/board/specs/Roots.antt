@@ -1,13 +1,14 @@
--- What the root's fields say of its seat, and a voter's of its own.
+-- How the root's fields agree with its view, and what the fields of seats may be.
 use Rattle.std.specs.Prelude.{◌≡◌, ◌≢◌, ℕ, ◌+◌, ◌^◌, ◌<◌, ◌≤◌, cond, Bool, true, false, List, [], Option, None, Some, length, map, slice_index, slice_index_or}
 use Rattle.std.specs.List.{sum_by}
 use Rattle.board.specs.declared.table.View.{View}
 
--- 1 for true
+-- 1 for true, 0 for false
 abbrev pub weight : Bool → ℕ
 weight b = cond b 1 0
 
--- the root has this many seats, among them those never given, stands for each voter whose seat was never given, and has the joined seats' passes
+-- The root has `count` seats, among them all that were never given. It stands for each voter whose
+-- seat was never given, and has the passes of the joined seats.
 pub record IsRoot (u : View) (count : ℕ) (free_voters free_clients : List Bool) (kept : List (ℕ × ℕ)) : Type 0 where
   pub parts : u.parts ≡ count + 1
   pub enough : sum_by weight free_voters + sum_by weight free_clients ≤ count
@@ -18,19 +19,20 @@ pub record IsRoot (u : View) (count : ℕ) (free_voters free_clients : List Bool
   pub wide : length u.voters ≡ 64
   pub given : (v : ℕ) → slice_index_or free_voters v false ≡ true → slice_index u.voters v ≡ 1
 
--- these numbers of one client
+-- each of these numbers, with the client
 abbrev pub passes_of : ℕ → List ℕ → List (ℕ × ℕ)
 passes_of client numbers = map (λ x. (client, x)) numbers
 
--- each of these voters has a word, beside the register's
+-- each voter whose flag is true has a word besides the register's
 abbrev pub AreWithin : ℕ → List Bool → Type 0
 AreWithin words voters = (v : ℕ) → slice_index_or voters v false ≡ true → v + 1 < words
 
--- each of these votes has a word, beside the register's
+-- each voter whose vote is held has a word besides the register's
 abbrev pub AreOnBoard : ℕ → List ℕ → Type 0
 AreOnBoard words held = (v : ℕ) → slice_index held v ≢ 0 → v + 1 < words
 
--- the current grant is of a client below 64 and the last grant or an earlier one
+-- The current grant, if there is one, has a client below 64, and its number is from 1 to `last`,
+-- the number of the last grant. That is at most 2^40.
 abbrev pub IsCurrent : Option (ℕ × ℕ) → ℕ → Type 0
 IsCurrent None last = last ≤ 2 ^ 40
 IsCurrent (Some x) last = (x.0 < 64) × (1 ≤ x.1) × (x.1 ≤ last) × (last ≤ 2 ^ 40)

@@ -1,4 +1,5 @@
--- The rule that the words of the votes, the register and all seats keep between any two steps, as sums over the seats: how often a fact holds of a seat, all seats together.
+-- The rule that holds for the words of the votes, the register and all seats between any two steps.
+-- It is written as sums over all seats: for how many of them a fact holds.
 use Rattle.std.specs.Prelude.{◌≡◌, ◌⊎◌, ℕ, ◌+◌, ◌/◌, ◌%◌, ◌^◌, ◌<◌, ◌≤◌, List, [], length, slice_index, IfSome}
 use Rattle.std.specs.List.{sum_by}
 use mathlib.Core.Option.{some}
@@ -10,25 +11,30 @@ use Rattle.board.specs.Quorums.{quorum_at, HoldsAll}
 use Rattle.board.specs.Words.{name_of, taken, is}
 use Rattle.quorum_set.specs.Sums.{sum_below}
 
--- 1 where the seat stands for voter v and knows the current grant of this name, or none where the name is 0
+-- 1 if the seat stands for voter v and the grant that it knows has this name, else 0; name 0 means
+-- that it knows no current grant
 abbrev pub stands : ℕ → ℕ → View → ℕ
 stands v name u = is (slice_index u.voters v) (name + 1)
 
--- 1 where the seat holds the vote of voter v by the grant of this name
+-- 1 if the seat holds the vote of voter v under the grant with this name, else 0
 abbrev pub holds_vote : ℕ → ℕ → View → ℕ
 holds_vote v name u = is (name_of u.client (slice_index u.held v)) name
 
--- One seat stands for v, and it knows the grant that the word names. One seat holds v's vote where the word says so, by that grant, and else none does
+-- Exactly one seat stands for v, and it knows the grant that the word names. If the word says that
+-- v's vote is held, exactly one seat holds it, under that grant. Otherwise no seat holds it.
 pub record IsVote (v word : ℕ) (views : List View) : Type 0 where
   pub shape : (word ≡ 0) ⊎ ((64 ≤ word / 4) × (1 ≤ word % 4))
   pub current : (name : ℕ) → sum_by (stands v name) views ≡ is (word / 4) name
   pub held : (name : ℕ) → 64 ≤ name → sum_by (holds_vote v name) views ≡ is word (taken name)
 
--- where the seat has a reading, it holds the votes of the quorum that it read for, and the number is the register's
+-- if the seat has a reading, it holds the votes of the quorum that it read for, and the number read
+-- is the register's
 abbrev pub IsReading : Setting → ℕ → View → Type 0
 IsReading b register u = IfSome u.reading (λ r. (r.0 < length b.quorums) × HoldsAll (quorum_at b.quorums r.0) u.held × (r.1 ≡ register))
 
--- The pass numbers of all seats are those below the register, each once. Of all seats none is lost, and one that stands for no seat has no passes
+-- The pass numbers of all seats together are those below the register, each once. No seat is lost:
+-- together they stand for all voters' and clients' seats and the root. A seat that stands for none
+-- has no passes.
 pub record IsKept (b : Setting) (words : List ℕ) (views : List View) : Type 0 where
   pub long : length words ≡ b.voters + 1
   pub votes : (v : ℕ) → v < b.voters → IsVote v (slice_index words v) views

@@ -2,14 +2,18 @@
 use Rattle.std.specs.Prelude.{ℕ, List, Option, Bool}
 use Rattle.atomic_table.specs.Seated.{TableId}
 
--- what is fixed for good: voters 0 to voters - 1, the quorums, each as the list of its members, clients 0 to clients - 1, and the highest number of the register
+-- What never changes:
+-- - the voters 0 to voters - 1;
+-- - the quorums, each as the list of its members;
+-- - the clients 0 to clients - 1;
+-- - the limit: the highest number of the register.
 pub record Setting : Type 0 where
   pub voters : ℕ
   pub quorums : List (List ℕ)
   pub clients : ℕ
   pub limit : ℕ
 
--- the same, and which board it is
+-- a board: the same, and which board it is
 pub record BoardState : Type 0 where
   pub table : TableId
   pub voters : ℕ
@@ -17,14 +21,19 @@ pub record BoardState : Type 0 where
   pub clients : ℕ
   pub limit : ℕ
 
--- its board and voter, the current grant by client and number or none, and the number of the last grant
+-- A voter's seat: its board, its voter, the current grant (client and number) if there is one, and
+-- the number of the last grant.
 pub record VoterSeatState : Type 0 where
   pub table : TableId
   pub voter : ℕ
   pub current : Option (ℕ × ℕ)
   pub last : ℕ
 
--- its board and client, for each voter the grant by which its vote is held or 0, the quorum and the number of the last read where it still counts, and the pass numbers
+-- A client's seat:
+-- - its board and its client;
+-- - for each voter, the grant under which its vote is held, or 0;
+-- - the quorum and the number of the last reading, if it still counts;
+-- - the pass numbers.
 pub record ClientSeatState : Type 0 where
   pub table : TableId
   pub client : ℕ
@@ -32,7 +41,11 @@ pub record ClientSeatState : Type 0 where
   pub reading : Option (ℕ × ℕ)
   pub passes : List ℕ
 
--- its board, how many seats it has, which were never given or were joined again, for each voter and client whether its seat was never given, and the passes of the joined seats by client and number
+-- The root:
+-- - its board;
+-- - how many seats it has: those never given, and those joined again;
+-- - for each voter and each client, whether its seat was never given;
+-- - the passes of the joined seats, each as client and number.
 pub record RootState : Type 0 where
   pub table : TableId
   pub seats : ℕ

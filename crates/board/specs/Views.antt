@@ -8,34 +8,34 @@ abbrev pub current_name : Option (ℕ × ℕ) → ℕ
 current_name None = 0
 current_name (Some x) = name_of x.0 x.1
 
--- the view of a voter seat
+-- the view of a voter's seat
 abbrev pub voter_view : ℕ → Option (ℕ × ℕ) → View
 voter_view v current = record { parts = 1; voters = slice_set nobody v (current_name current + 1); client = 0; held = []; reading = None; passes = [] }
 
--- the view of a client seat
+-- the view of a client's seat
 abbrev pub client_view : ℕ → List ℕ → Option (ℕ × ℕ) → List ℕ → View
 client_view client held reading passes = record { parts = 1; voters = nobody; client = client; held = held; reading = reading; passes = passes }
 
--- the first seat stands for all seats, and for itself
+-- the view of the first seat, the root: it stands for all seats and for itself
 abbrev pub root_view : ℕ → ℕ → View
 root_view voters clients = record { parts = voters + clients + 1; voters = replicate 64 1; client = 0; held = []; reading = None; passes = [] }
 
--- a seat that was joined
+-- the view of a seat that was joined
 abbrev pub spent_view : View
 spent_view = record { parts = 0; voters = nobody; client = 0; held = []; reading = None; passes = [] }
 
--- the root without the seat of voter n
+-- the root's view without the seat of voter n
 abbrev pub without_voter : ℕ → View → View
 without_voter n u = record u { parts = u.parts - 1; voters = slice_set u.voters n 0 }
 
--- the root without a client's seat
+-- the root's view without a client's seat
 abbrev pub without_client : View → View
 without_client u = record u { parts = u.parts - 1 }
 
--- the root with voter n's seat again
+-- the root's view with voter n's seat again
 abbrev pub with_voter : ℕ → View → View → View
 with_voter n u w = record u { parts = u.parts + w.parts; voters = slice_set u.voters n 1 }
 
--- the root with a client's seat again, and its passes
+-- the root's view with a client's seat again, and its passes
 abbrev pub with_client : View → View → View
 with_client u w = record u { parts = u.parts + w.parts; passes = u.passes ++ w.passes }

@@ -3,7 +3,7 @@ use Rattle.std.specs.Prelude.{ℕ, ◌+◌, ◌*◌, ◌/◌, ◌^◌, ◌≤◌
 use Rattle.board.specs.declared.vote.Vote.{Vote}
 use Rattle.board.specs.declared.vote.Vote.TheVariants.{Free, Offered, Held, Returned}
 
--- a grant's name: its client, below 64, and its number, from 1 on. 0 names no grant
+-- A grant's name: one number for its client, below 64, and its number, from 1 on. 0 names no grant.
 abbrev pub name_of : ℕ → ℕ → ℕ
 name_of client grant = 64 * grant + client
 
@@ -11,15 +11,15 @@ name_of client grant = 64 * grant + client
 abbrev pub free : ℕ
 free = 0
 
--- Else the vote is offered to the client of this grant,
+-- the word of a vote that is offered to the client of this grant
 abbrev pub offered : ℕ → ℕ
 offered name = 4 * name + 1
 
--- or held by it,
+-- the word of a vote that is held under this grant
 abbrev pub taken : ℕ → ℕ
 taken name = 4 * name + 2
 
--- or given back by it, and not settled yet
+-- the word of a vote that was given back under this grant, and is not settled yet
 abbrev pub returned : ℕ → ℕ
 returned name = 4 * name + 3
 
@@ -30,14 +30,15 @@ word_of (Offered client grant) = offered (name_of client grant)
 word_of (Held client grant) = taken (name_of client grant)
 word_of (Returned client grant) = returned (name_of client grant)
 
--- the number of its grant is at most 2^40
+-- the number of the vote's grant, if it has one, is at most 2^40
 abbrev pub IsSmall : Vote → Type 0
 IsSmall Free = Unit {0}
 IsSmall (Offered client grant) = grant ≤ 2 ^ 40
 IsSmall (Held client grant) = grant ≤ 2 ^ 40
 IsSmall (Returned client grant) = grant ≤ 2 ^ 40
 
--- a voter may settle a vote in this state, and its grant, by client and number, has the property
+-- a voter may settle a vote in this state, and the vote's grant, as client and number, has property
+-- P
 abbrev pub IsSettledFrom : Vote → (ℕ × ℕ → Type 0) → Type 0
 IsSettledFrom Free P = ⊥
 IsSettledFrom (Offered client grant) P = P (client, grant)
@@ -52,7 +53,7 @@ name_in word = word / 4
 abbrev pub number_in : ℕ → ℕ
 number_in word = word / 256
 
--- 1 where the numbers are equal, and else 0
+-- 1 if the numbers are equal, else 0
 abbrev pub is : ℕ → ℕ → ℕ
 is a b = cond (a == b) 1 0
 

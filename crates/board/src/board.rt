@@ -1,4 +1,4 @@
-//! The board that all seats step on.
+//! The board, on which all seats make their steps.
 ghost use Rattle.std.specs.Prelude.{◌≡◌, ℕ, ◌+◌, ◌-◌, ◌<◌, ◌≤◌, ◌^◌, [], true, false, IfOk, IfErr, map, nat_lt, length, replicate, slice_index_or};
 ghost use Rattle.std.specs.List.{sum_by};
 ghost use Rattle.quorum_set.specs.Sums.{AreAllBelow};
@@ -13,7 +13,8 @@ use quorum_set::{Coterie, QSet, coteries_meet};
 use std::alloc::{AllocError, Global};
 use std::marker::Model;
 
-/// One word for each voter's vote and one for the register, for all threads through a `&`. Contracts see a `BoardState`.
+/// One word for each voter's vote and one for the register. Threads share it through a `&`.
+/// Contracts see a `BoardState`.
 #[derive(Drop)]
 pub struct Board {
     pub(crate) table: VoteTable,
@@ -33,8 +34,9 @@ impl Model for Board {
 }
 
 impl Board {
-    /// A board of a coterie's voters, all of whose votes are free, for 1 to 64 clients, with the register at 0 and its
-    /// limit from 1 to 2^63; and the root that has all seats.
+    /// Creates a board for a coterie's voters and `clients` clients (1 to 64), and the root with
+    /// all its seats. All votes are free, and the register is 0. Its highest number is `limit`,
+    /// from 1 to 2^63. Fails if it runs out of memory.
     pub fn new(
         alloc: Global,
         coterie: &Coterie,
@@ -73,7 +75,7 @@ impl Board {
         Ok((board, root))
     }
 
-    /// The number of voters, 1 to 64.
+    /// Returns the number of voters, 1 to 64.
     pub fn voters(&self) -> usize
         ensures value { result ≡ self.now.voters }
         ensures some_voter { 1 ≤ self.now.voters }
@@ -83,7 +85,7 @@ impl Board {
         self.sheet.voters()
     }
 
-    /// The number of clients, 1 to 64.
+    /// Returns the number of clients, 1 to 64.
     pub fn clients(&self) -> u8
         ensures value { result ≡ self.now.clients }
         ensures some_client { 1 ≤ self.now.clients }
@@ -92,7 +94,7 @@ impl Board {
         self.sheet.clients()
     }
 
-    /// The highest number of the register, 1 to 2^63.
+    /// Returns the highest number of the register, 1 to 2^63.
     pub fn limit(&self) -> u64
         ensures value { result ≡ self.now.limit }
         ensures some_number { 1 ≤ self.now.limit }
@@ -101,7 +103,8 @@ impl Board {
         self.sheet.limit()
     }
 
-    /// The register and all passes. `SeatsOut` where seats are given and not joined, with their number. Takes no memory.
+    /// Closes the board and returns the register and all passes. Fails with `SeatsOut(n)` if n
+    /// seats were given and not joined again. Allocates no memory.
     pub fn close(self, root: BoardRoot) -> Result<Total, BoardFault>
         requires { root.table ≡ self.table }
         ensures joined { IfOk result (λ _. root.seats ≡ self.voters + self.clients) }
@@ -129,16 +132,17 @@ impl Board {
     }
 }
 
-/// What a board has at its end.
+/// The register and the passes of a board that was closed.
 #[derive(Debug, Drop)]
 pub struct Total {
     /// The number of all passes.
     pub register: u64,
-    /// Each pass by its client and its number, from 0 on, by the order in which the seats were joined.
+    /// Each pass as its client and its number, in the order in which the seats were joined. Numbers
+    /// start at 0.
     pub passes: Vec<(u8, u64)>,
 }
 
-/// The sets of members of a coterie's quorums.
+/// Returns the quorums of a coterie, each as the set of its members.
 fn quorums_of(alloc: Global, coterie: &Coterie) -> Result<Vec<QSet>, AllocError>
     ensures { IfOk result (λ v. v.items ≡ coterie.now.quorums) }
 {
@@ -149,7 +153,7 @@ fn quorums_of(alloc: Global, coterie: &Coterie) -> Result<Vec<QSet>, AllocError>
     Ok(quorums)
 }
 
-/// True for the first so many numbers below 64.
+/// Returns 64 flags: the first `count` are true, the others false.
 fn first(count: u64) -> [bool; 64]
     requires { count ≤ 64 }
     ensures first { (k : ℕ) → slice_index_or result k false ≡ nat_lt k count }
@@ -162,14 +166,14 @@ fn first(count: u64) -> [bool; 64]
     flags
 }
 
-/// False for each number below 64.
+/// Returns 64 flags, all false.
 fn none() -> [bool; 64]
     ensures { result ≡ replicate 64 false }
 {
     [false; 64]
 }
 
-/// So many zeros.
+/// Returns `count` zeros.
 fn zeros(alloc: Global, count: usize) -> Result<Vec<u64>, AllocError>
     ensures { IfOk result (λ v. v.items ≡ replicate count 0) }
 {

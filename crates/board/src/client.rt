@@ -14,12 +14,13 @@ use crate::vote::Vote;
 use atomic_table::Seat;
 use std::marker::{Brand, Model};
 
-/// The one right to take votes for a client. It may be moved to a thread. Contracts see a `ClientSeatState`.
+/// The only right to take votes for a client. It may be moved to a thread. Contracts see a
+/// `ClientSeatState`.
 #[derive(Drop)]
 pub struct ClientSeat {
     pub(crate) seat: Seat<(), View>,
     pub(crate) client: u8,
-    /// For each voter the grant by which its vote is held, or 0.
+    /// For each voter, the grant under which its vote is held, or 0.
     pub(crate) held: [u64; 64],
     pub(crate) reading: Option<(usize, u64)>,
     pub(crate) passes: Vec<u64>,
@@ -40,7 +41,7 @@ impl Model for ClientSeat {
 }
 
 impl ClientSeat {
-    /// The client's number.
+    /// Returns the client's number.
     pub fn client(&self) -> u8
         ensures value { result ≡ self.now.client }
         ensures few { self.now.client < 64 }
@@ -48,7 +49,8 @@ impl ClientSeat {
         self.client
     }
 
-    /// The number of the grant by which it holds the voter's vote, or none.
+    /// Returns the number of the grant under which the client holds the voter's vote, or `None` if
+    /// it doesn't hold that vote.
     pub fn held(&self, voter: u8) -> Option<u64>
         ensures value { MatchOption result (slice_index self.now.held voter ≡ 0) (λ g. (slice_index self.now.held voter ≡ g) × (0 < g)) }
         ensures voters { length self.now.held ≡ 64 }
@@ -60,22 +62,25 @@ impl ClientSeat {
         }
     }
 
-    /// The quorum and the number of the last read, where it still counts.
+    /// Returns the quorum and the number of the last reading of the register, if it still counts.
     pub fn reading(&self) -> Option<(usize, u64)>
         ensures { result ≡ self.now.reading }
     {
         self.reading
     }
 
-    /// The numbers by which it passed, in order.
+    /// Returns the client's pass numbers, in order.
     pub fn passes(&self) -> &[u64]
         ensures { result.now ≡ self.now.passes }
     {
         &self.passes
     }
 
-    /// Takes the vote of a voter of this board that is offered to this client by this grant, from 1 to 2^40. True exactly
-    /// where it then holds it. False changes nothing. The board has to be the seat's, and the vote must not be held already.
+    /// Takes the vote of a voter, if it is offered to this client under this grant. Returns whether
+    /// the client now holds the vote; `false` changes nothing.
+    ///
+    /// The board must be the seat's and have this voter, and the grant must be from 1 to 2^40. The
+    /// seat must not hold the vote already.
     pub fn take(&mut self, board: &Board, voter: u8, grant: u64) -> bool
         requires table { self.old.table ≡ board.now.table }
         requires voter { voter < board.now.voters }
@@ -100,8 +105,8 @@ impl ClientSeat {
         false
     }
 
-    /// Gives a vote back that it holds, to a voter of this board, which has to be the seat's. What it read of the register
-    /// counts no longer.
+    /// Gives the voter's vote back. The seat must hold that vote, and the board must be the seat's.
+    /// A reading of the register no longer counts.
     pub fn give_back(&mut self, board: &Board, voter: u8)
         requires table { self.old.table ≡ board.now.table }
         requires held { slice_index self.old.held voter ≢ 0 }
@@ -118,8 +123,11 @@ impl ClientSeat {
         self.reading = None;
     }
 
-    /// Reads the register, for a quorum of this board of which it holds every member's vote: it is inside. The board has to
-    /// be the seat's. The number is above every number that it keeps, and stays the register's while the reading counts.
+    /// Reads the register for a quorum of this board, and returns the number read. The seat must
+    /// hold the vote of every member, so the client is inside. The board must be the seat's.
+    ///
+    /// The number is above each of the client's pass numbers. It stays the register's number while
+    /// the reading counts.
     pub fn read_register(&mut self, board: &Board, quorum: usize) -> u64
         requires table { self.old.table ≡ board.now.table }
         requires quorum { quorum < length board.now.quorums }
@@ -134,9 +142,12 @@ impl ClientSeat {
         number
     }
 
-    /// Passes: writes one more than it read, keeps the number that it read, and answers it. The board has to be the seat's.
-    /// There has to be a reading, which counts no longer then. `RegisterFull` where the number is the board's limit, and else want of memory for one
-    /// more number; a refusal changes nothing.
+    /// Passes: writes the number read plus one to the register, and returns the number read, which
+    /// is now a pass number of this client. There must be a reading, and it is used up. The board
+    /// must be the seat's.
+    ///
+    /// Fails with `RegisterFull` if the number read is the board's limit, and otherwise with
+    /// `OutOfMemory` if there is no memory for one more pass number. A failure changes nothing.
     pub fn write_register(&mut self, board: &Board) -> Result<u64, BoardFault>
         requires table { self.old.table ≡ board.now.table }
         requires reading { IsSome self.old.reading }
@@ -168,7 +179,7 @@ impl ClientSeat {
     }
 }
 
-/// Reads the register, which is this word, for a quorum.
+/// Reads the register, which is at place `word`, for a quorum.
 fn read<J: Number>(table: &VoteTable, seat: &mut Seat<(), View>, word: usize, quorum: usize) -> u64
     requires pick { quorum ≡ J.number }
     requires table { (seat.old.table_id ≡ table.now.shared.table_id) × (word < table.now.shared.table_id.words) × (word ≡ table.now.shared.key.voters) }

@@ -1,13 +1,13 @@
-//! Why a board does not do what it is asked.
+//! Why a call of a board fails.
 use thiserror::Error;
 
-/// Why a board does not do what it is asked.
+/// The reason why a call of a board failed.
 #[derive(Clone, Copy, Debug, PartialEq, Eq, Error)]
 pub enum BoardFault {
-    /// So many seats were given and not joined, as the board was closed.
+    /// This many seats were given and not joined again when the board was closed.
     #[error("B1 SeatsOut {0}")]
     SeatsOut(u64),
-    /// This voter has a current grant, or the client holds this voter's vote and that of no lesser one.
+    /// This voter has a current grant; or it is the smallest voter whose vote the client holds.
     #[error("B2 VoteOut {0}")]
     VoteOut(u8),
     /// The register is at its limit.

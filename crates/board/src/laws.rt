@@ -1,16 +1,21 @@
-//! Laws of the definitions: what the rule that all steps keep means for voters and clients.
+//! Laws of the definitions: what the rule that each step keeps means for voters and clients.
 ghost use Rattle.board.specs.VotesKept.{OneInside, VotesAreKept};
 
-/// Between any two steps the words, the register and all seats agree. A voter's word is free exactly where its seat has no
-/// current grant, and else names that grant. A client holds a vote by a grant exactly where the voter's word says so, and
-/// no two seats hold one vote. A reading that counts is the register's number, and its seat holds that quorum. The
-/// numbers of all passes are those below the register, each once.
+/// States that the words, the register and all seats agree between any two steps:
+///
+/// - A voter's word is free if and only if the voter has no current grant. Otherwise it names that
+///   grant.
+/// - A client holds a vote under a grant if and only if the voter's word says so.
+/// - No two seats hold one vote.
+/// - A reading that counts is the register's number, and its seat holds the quorum that it read
+///   for.
+/// - The numbers of all passes are those below the register, each once.
 pub fn votes_are_kept()
     ensures { VotesAreKept }
 {}
 
-/// Between any two steps at most one seat holds every member's vote of a quorum, where any two quorums meet: **one
-/// client is inside at a time**.
+/// States that if any two quorums meet, at most one seat holds the vote of every member of a quorum
+/// between any two steps: **one client is inside at a time**.
 pub fn one_client_inside()
     ensures { OneInside }
 {}

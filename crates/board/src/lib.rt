@@ -1,8 +1,10 @@
-//! One word for each voter's vote, and a register that only the client inside writes: a board for threads, without locks.
+//! A board that threads share without locks: one word for each voter's vote, and a register that
+//! only the client inside writes.
 //!
-//! Threads share a [`Board`] through a `&`. A voter's thread owns a [`VoterSeat`], the one right to grant that voter's vote;
-//! a client's thread owns a [`ClientSeat`], the one right to take votes for that client. A word says whether the vote is
-//! free, or by which grant it is offered, held or given back:
+//! Threads share a [`Board`] through a `&`. A voter's thread owns a [`VoterSeat`], the only right
+//! to grant that voter's vote. A client's thread owns a [`ClientSeat`], the only right to take
+//! votes for that client. A voter's word says that the vote is free, or under which grant it is
+//! offered, held or given back:
 //!
 //! ```text
 //!           grant             take            give_back
@@ -11,20 +13,27 @@
 //!     +-----------------+--------------- settle ---------------+
 //! ```
 //!
-//! Each arrow is one atomic exchange; no call waits. A client that holds the votes of every member of a quorum is inside
-//! (Maekawa, ACM TOCS 3(2), 1985). Inside it may pass: [`ClientSeat::read_register`] and then
-//! [`ClientSeat::write_register`], a plain store of one more, which gives it the number that it read as its own.
+//! Each arrow is one atomic exchange, and no call waits. A client that holds the vote of every
+//! member of a quorum is *inside* (Maekawa, ACM TOCS 3(2), 1985). A client that is inside may pass:
+//! it calls [`ClientSeat::read_register`] and then [`ClientSeat::write_register`], a plain store of
+//! the number read plus one. The number read is then its own: a *pass number*.
 //!
 //! # What is proved
 //!
-//! The rule in `specs/Rule.antt` holds between any two steps of any threads. [`votes_are_kept`] and [`one_client_inside`]
-//! say what it means: two clients are never inside at once, and the pass numbers of all clients together are the numbers
-//! below the register, each once. [`Board::close`] hands them over. It holds for any list of quorums of which any two
-//! meet. Nothing is said of waiting or progress.
+//! The rule in `specs/Rule.antt` holds between any two steps of any threads. The laws
+//! [`votes_are_kept`] and [`one_client_inside`] say what it means:
 //!
-//! [`BoardRoot`] gives each seat once and takes it back. A seat that is dropped stays out, and its votes with it.
+//! - Two clients are never inside at once.
+//! - The pass numbers of all clients together are the numbers below the register, each once.
+//!   [`Board::close`] returns them.
 //!
-//! This crate stands on `quorum_set` and `atomic_table`. A cluster of nodes stands on it.
+//! This holds for any list of quorums in which any two meet. Nothing is proved about waiting or
+//! progress.
+//!
+//! [`BoardRoot`] gives each seat once and takes it back. A seat that is dropped stays out, and so
+//! do the votes that it holds.
+//!
+//! This crate depends on `quorum_set` and `atomic_table`. A cluster of nodes depends on it.
 //!
 //! ```
 //! let (board, mut root) = Board::new(alloc, &coterie, 1, 1000)?; // one voter, one quorum {0}, one client

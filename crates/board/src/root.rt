@@ -1,4 +1,4 @@
-//! The root of a board gives out the seats, and takes them back.
+//! The root of a board, which gives the seats and takes them back.
 ghost use Rattle.std.specs.Prelude.{◌≡◌, ◌≢◌, ℕ, ◌+◌, ◌-◌, ◌<◌, ◌≤◌, ◌++◌, [], length, true, false, None, IsSome, MatchOption, MatchResult, IfOk, IfErr, slice_index, slice_index_or, slice_set};
 ghost use Rattle.board.specs.Faults.{IsOut};
 ghost use Rattle.board.specs.Roots.{passes_of};
@@ -15,17 +15,18 @@ use atomic_table::Seat;
 use std::alloc::{AllocError, Global};
 use std::marker::{Brand, Model};
 
-/// Gives each voter's and each client's seat once, and takes seats back. Contracts see a `RootState`.
+/// The root of a board. It gives each voter's and each client's seat once, and takes seats back.
+/// Contracts see a `RootState`.
 #[derive(Drop)]
 pub struct BoardRoot {
     pub(crate) seat: Seat<(), View>,
-    /// How many seats it has, of those never given and those joined again.
+    /// How many seats it has: those never given, and those joined again.
     pub(crate) seats: u64,
-    /// For each voter whether its seat was never given.
+    /// For each voter, whether its seat was never given.
     pub(crate) voters: [bool; 64],
-    /// For each client whether its seat was never given.
+    /// For each client, whether its seat was never given.
     pub(crate) clients: [bool; 64],
-    /// The passes of the joined seats, by client and number.
+    /// The passes of the joined seats, each as its client and its number.
     pub(crate) passes: Vec<(u8, u64)>,
 }
 
@@ -42,7 +43,7 @@ impl Model for BoardRoot {
 }
 
 impl BoardRoot {
-    /// Whether this is a voter's number and its seat was never given.
+    /// Returns whether this is a voter's number and its seat was never given.
     pub fn has_voter(&self, voter: u8) -> bool
         ensures { result ≡ slice_index_or self.now.voters voter false }
     {
@@ -52,7 +53,7 @@ impl BoardRoot {
         }
     }
 
-    /// Whether this is a client's number and its seat was never given.
+    /// Returns whether this is a client's number and its seat was never given.
     pub fn has_client(&self, client: u8) -> bool
         ensures { result ≡ slice_index_or self.now.clients client false }
     {
@@ -62,7 +63,8 @@ impl BoardRoot {
         }
     }
 
-    /// Gives the seat of a voter, which must not have been given before. It has no current grant.
+    /// Gives the seat of a voter. The seat must not have been given before. It has no current
+    /// grant.
     pub fn voter(&mut self, board: &Board, voter: u8) -> VoterSeat
         requires table { self.old.table ≡ board.now.table }
         requires there { slice_index_or self.old.voters voter false ≡ true }
@@ -81,7 +83,8 @@ impl BoardRoot {
         }
     }
 
-    /// Gives the seat of a client, which must not have been given before. It holds no vote and has not passed.
+    /// Gives the seat of a client. The seat must not have been given before. It holds no vote and
+    /// has not passed.
     pub fn client(&mut self, board: &Board, client: u8) -> ClientSeat
         requires table { self.old.table ≡ board.now.table }
         requires there { slice_index_or self.old.clients client false ≡ true }
@@ -95,8 +98,8 @@ impl BoardRoot {
         fresh_client(*self.passes.allocator(), seat, client)
     }
 
-    /// Takes a voter's seat back. Where the voter has a current grant the seat comes back with `VoteOut`, and nothing
-    /// changes. Takes no memory.
+    /// Takes a voter's seat back. If the voter has a current grant, returns the seat with `VoteOut`
+    /// and changes nothing. Allocates no memory.
     pub fn join_voter(
         &mut self,
         board: &Board,
@@ -124,9 +127,11 @@ impl BoardRoot {
         Ok(())
     }
 
-    /// Takes a client's seat back, and its passes behind those that the root has. Where the client holds a vote the seat
-    /// comes back with `VoteOut` of the least such voter, and else, where there is no memory for the passes, with
-    /// `OutOfMemory`. A refusal changes nothing.
+    /// Takes a client's seat back, and appends its passes to those that the root has.
+    ///
+    /// On failure, returns the seat with the fault and changes nothing. If the client holds votes,
+    /// the fault is `VoteOut` with the smallest such voter. Otherwise it is `OutOfMemory`: there is
+    /// no memory for the passes.
     pub fn join_client(
         &mut self,
         board: &Board,
@@ -163,7 +168,7 @@ impl BoardRoot {
     }
 }
 
-/// The least voter whose vote is held.
+/// Returns the smallest voter whose vote is held.
 fn first_held(held: &[u64; 64]) -> Option<u8>
     ensures { MatchOption result ((v : ℕ) → slice_index held.now v ≡ 0) (λ v. (slice_index held.now v ≢ 0) × ((k : ℕ) → k < v → slice_index held.now k ≡ 0)) }
 {
@@ -175,7 +180,7 @@ fn first_held(held: &[u64; 64]) -> Option<u8>
     None
 }
 
-/// Puts a client's numbers behind the passes, or leaves these where there is no memory.
+/// Appends a client's numbers to the passes. Changes nothing if it runs out of memory.
 fn append(passes: &mut Vec<(u8, u64)>, client: u8, numbers: &[u64]) -> Result<(), AllocError>
     ensures { MatchResult result (λ _. passes.new.items ≡ passes.old.items ++ passes_of client numbers.now) (λ _. passes.new.items ≡ passes.old.items) }
 {
@@ -186,7 +191,7 @@ fn append(passes: &mut Vec<(u8, u64)>, client: u8, numbers: &[u64]) -> Result<()
     Ok(())
 }
 
-/// Cuts the seat of a voter off the root's.
+/// Splits the seat of a voter off the root's.
 fn cut_voter<N: Number>(table: &VoteTable, seat: &mut Seat<(), View>, voter: u8) -> Seat<(), View>
     requires pick { voter ≡ N.number }
     requires table { (seat.old.table_id ≡ table.now.shared.table_id) × (0 < table.now.shared.table_id.words) }
@@ -197,7 +202,7 @@ fn cut_voter<N: Number>(table: &VoteTable, seat: &mut Seat<(), View>, voter: u8)
     table.shared.split_seat::<VoterPart<N>>(seat)
 }
 
-/// Joins a voter's seat into the root's, which then stands for no more seats than there are.
+/// Joins a voter's seat into the root's, which then stands for at most 129 seats, itself included.
 fn join_voter_seat<N: Number>(
     table: &VoteTable,
     seat: &mut Seat<(), View>,
@@ -214,7 +219,7 @@ fn join_voter_seat<N: Number>(
     table.shared.load::<Count>(seat, 0);
 }
 
-/// Cuts the seat of a client off the root's.
+/// Splits the seat of a client off the root's.
 fn cut_client<N: Number>(table: &VoteTable, seat: &mut Seat<(), View>, client: u8) -> Seat<(), View>
     requires pick { client ≡ N.number }
     requires table { (seat.old.table_id ≡ table.now.shared.table_id) × (0 < table.now.shared.table_id.words) }
@@ -225,7 +230,7 @@ fn cut_client<N: Number>(table: &VoteTable, seat: &mut Seat<(), View>, client: u
     table.shared.split_seat::<ClientPart<N>>(seat)
 }
 
-/// The seat of a client that has done nothing.
+/// Returns the seat of a client that has done nothing.
 fn fresh_client(alloc: Global, seat: Seat<(), View>, client: u8) -> ClientSeat
     requires { (seat.me ≡ (client_view client nobody None [], [])) × (client < 64) }
     ensures { result ≡ record { table = seat.table_id; client = client; held = nobody; reading = None; passes = [] } }
@@ -239,7 +244,7 @@ fn fresh_client(alloc: Global, seat: Seat<(), View>, client: u8) -> ClientSeat
     }
 }
 
-/// No vote held.
+/// Returns a 0 for each voter: no vote is held.
 fn no_votes() -> [u64; 64]
     ensures { result ≡ nobody }
 {

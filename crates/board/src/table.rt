@@ -1,4 +1,4 @@
-//! The words that all seats step on, what a seat knows, and the kinds of step.
+//! The words of a board, what a seat knows, and the kinds of step.
 ghost use Rattle.std.specs.Prelude.{◌≡◌};
 ghost use Rattle.board.specs.Seats.{Setting};
 
@@ -8,22 +8,24 @@ use std::alloc::Global;
 use std::collections::LinkedList;
 use std::marker::{Brand, Model, PhantomData};
 
-/// One word for each voter's vote, and then the register.
+/// A table with one word for each voter's vote, and then the register.
 pub type VoteTable = Table<(), View, Sheet, Votes, Global>;
 
-/// What a seat knows. No value of it is made: it says in proofs what the seat's fields say at run time.
+/// What a seat knows. No value of this type is ever made: it says in proofs what the seat's fields
+/// say at run time.
 pub struct View {
-    /// For how many seats of voters and clients it stands. The root counts itself too.
+    /// How many seats of voters and clients it stands for. The root counts itself too.
     pub parts: u64,
-    /// For each voter 0, or where it stands for that voter 1 more than the name of the current grant.
+    /// For each voter, 0 if the seat doesn't stand for it. Otherwise 1 more than the name of the
+    /// voter's current grant, which is 0 if there is none.
     pub voters: LinkedList<u64>,
     /// The client that it takes votes for.
     pub client: u64,
-    /// For each voter the grant by which its vote is held, or 0.
+    /// For each voter, the grant under which its vote is held, or 0.
     pub held: LinkedList<u64>,
-    /// The quorum and the number of the last read of the register, where it still counts.
+    /// The quorum and the number of the last reading of the register, if it still counts.
     pub reading: Option<(usize, u64)>,
-    /// The numbers by which it passed.
+    /// Its pass numbers.
     pub passes: LinkedList<u64>,
 }
 
@@ -45,21 +47,21 @@ impl Model for Sheet {
 }
 
 impl Sheet {
-    /// The number of voters, which is also the register's word.
+    /// Returns the number of voters, which is also the place of the register's word.
     pub(crate) fn voters(&self) -> usize
         ensures value { result ≡ self.now.voters }
     {
         self.voters
     }
 
-    /// The number of clients.
+    /// Returns the number of clients.
     pub(crate) fn clients(&self) -> u8
         ensures value { result ≡ self.now.clients }
     {
         self.clients
     }
 
-    /// The highest number of the register.
+    /// Returns the highest number of the register.
     pub(crate) fn limit(&self) -> u64
         ensures value { result ≡ self.now.limit }
     {
@@ -67,7 +69,7 @@ impl Sheet {
     }
 }
 
-/// The rule that the words and all seats keep between any two steps.
+/// The rule that holds for the words and all seats between any two steps.
 pub struct Votes;
 
 impl TableRule<(), View, Sheet> for Votes {
@@ -79,7 +81,7 @@ impl TableRule<(), View, Sheet> for Votes {
     ghost first = { λ sheet. root_view sheet.voters sheet.clients };
 }
 
-/// A voter's seat offers the free vote.
+/// The step by which a voter's seat offers its free vote.
 pub struct Grant;
 
 impl Play<(), View> for Grant {
@@ -88,7 +90,7 @@ impl Play<(), View> for Grant {
     ghost then = { Granted };
 }
 
-/// A voter's seat ends its grant.
+/// The step by which a voter's seat ends its grant.
 pub struct Settle;
 
 impl Play<(), View> for Settle {
@@ -97,7 +99,7 @@ impl Play<(), View> for Settle {
     ghost then = { Settled };
 }
 
-/// A client's seat takes an offered vote.
+/// The step by which a client's seat takes an offered vote.
 pub struct Take;
 
 impl Play<(), View> for Take {
@@ -106,7 +108,7 @@ impl Play<(), View> for Take {
     ghost then = { Took };
 }
 
-/// A client's seat gives a vote back.
+/// The step by which a client's seat gives a vote back.
 pub struct GiveBack;
 
 impl Play<(), View> for GiveBack {
@@ -115,7 +117,7 @@ impl Play<(), View> for GiveBack {
     ghost then = { GaveBack };
 }
 
-/// A number that is known at run time, named at a call.
+/// A number that is known only at run time, as a type that a call can name.
 pub trait Number {
     ghost use Rattle.std.specs.Prelude.{ℕ};
 
@@ -126,7 +128,7 @@ impl Number for Brand {
     ghost number = { 0 };
 }
 
-/// A client's seat reads the register for a quorum.
+/// The step by which a client's seat reads the register for a quorum.
 pub struct ReadFor<J: Number> {
     of: PhantomData<J>,
 }
@@ -137,7 +139,7 @@ impl<J: Number> Play<(), View> for ReadFor<J> {
     ghost then = { Read J.number };
 }
 
-/// A client's seat writes the register.
+/// The step by which a client's seat writes the register.
 pub struct Write;
 
 impl Play<(), View> for Write {
@@ -146,7 +148,7 @@ impl Play<(), View> for Write {
     ghost then = { Wrote };
 }
 
-/// The root looks how many seats it stands for.
+/// The step by which the root looks how many seats it stands for: at most 129. Nothing changes.
 pub struct Count;
 
 impl Play<(), View> for Count {
@@ -155,7 +157,7 @@ impl Play<(), View> for Count {
     ghost then = { Counted };
 }
 
-/// The root gives a voter's seat, or takes it back.
+/// The split and the join by which the root gives a voter's seat and takes it back.
 pub struct VoterPart<N: Number> {
     of: PhantomData<N>,
 }
@@ -177,7 +179,7 @@ impl<N: Number> Join<View> for VoterPart<N> {
     ghost spent = { spent_view };
 }
 
-/// The root gives a client's seat.
+/// The split by which the root gives a client's seat.
 pub struct ClientPart<N: Number> {
     of: PhantomData<N>,
 }
@@ -192,7 +194,7 @@ impl<N: Number> Split<View> for ClientPart<N> {
     ghost right = { λ v. client_view N.number nobody None [] };
 }
 
-/// The root takes a client's seat back.
+/// The join by which the root takes a client's seat back.
 pub struct ClientBack;
 
 impl Join<View> for ClientBack {

@@ -2,7 +2,7 @@
 ghost use Rattle.std.specs.Prelude.{◌≡◌, ◌≤◌, ◌^◌};
 ghost use Rattle.board.specs.Words.{IsSmall, name_of, word_of};
 
-/// The state of a voter's vote. A grant is named by its client, below 64, and its number, from 1 to 2^40.
+/// The state of a voter's vote. A grant has a client, below 64, and a number, from 1 to 2^40.
 #[derive(Clone, Copy)]
 pub enum Vote {
     /// No grant is current.
@@ -15,7 +15,7 @@ pub enum Vote {
     Returned(u8, u64),
 }
 
-/// The name of a grant: one number for its client and its number.
+/// Returns the name of a grant: one number that stands for its client and its number.
 fn name_of(client: u8, grant: u64) -> u64
     requires { grant ≤ 2 ^ 40 }
     ensures { result ≡ name_of client grant }
@@ -24,7 +24,7 @@ fn name_of(client: u8, grant: u64) -> u64
 }
 
 impl Vote {
-    /// The word that stands for this state.
+    /// Returns the word that stands for this state.
     pub(crate) fn word(self) -> u64
         requires { IsSmall self }
         ensures { result ≡ word_of self }

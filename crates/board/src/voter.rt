@@ -1,4 +1,4 @@
-//! The seat of a voter: it grants its vote, and settles the grant.
+//! The seat of a voter: it grants the voter's vote, and settles the grant.
 ghost use Rattle.std.specs.Prelude.{◌≡◌, ◌⊎◌, ℕ, ◌+◌, ◌<◌, ◌≤◌, ◌^◌, [], None, Some, IsSome, MatchBool};
 ghost use Rattle.board.specs.Roots.{IsCurrent};
 ghost use Rattle.board.specs.Seats.{BoardState, VoterSeatState};
@@ -11,7 +11,8 @@ use crate::vote::Vote;
 use atomic_table::Seat;
 use std::marker::Model;
 
-/// The one right to grant a voter's vote. It may be moved to a thread. Contracts see a `VoterSeatState`.
+/// The only right to grant a voter's vote. It may be moved to a thread. Contracts see a
+/// `VoterSeatState`.
 #[derive(Drop)]
 pub struct VoterSeat {
     pub(crate) seat: Seat<(), View>,
@@ -34,7 +35,7 @@ impl Model for VoterSeat {
 }
 
 impl VoterSeat {
-    /// The voter's number.
+    /// Returns the voter's number.
     pub fn voter(&self) -> u8
         ensures value { result ≡ self.now.voter }
         ensures few { self.now.voter < 64 }
@@ -42,7 +43,7 @@ impl VoterSeat {
         self.voter
     }
 
-    /// The current grant, by its client and its number, or none.
+    /// Returns the current grant as its client and its number, or `None` if there is none.
     pub fn current(&self) -> Option<(u8, u64)>
         ensures value { result ≡ self.now.current }
         ensures grant { IsCurrent self.now.current self.now.last }
@@ -50,8 +51,8 @@ impl VoterSeat {
         self.current
     }
 
-    /// Offers the vote to a client, by a grant with a number above the last one's and at most 2^40. There has to be no
-    /// current grant.
+    /// Offers the vote to a client of the board under a new grant. The grant's number must be above
+    /// the last one's and at most 2^40. There must be no current grant.
     pub fn grant(&mut self, board: &Board, client: u8, grant: u64)
         requires table { self.old.table ≡ board.now.table }
         requires free { self.old.current ≡ None }
@@ -70,8 +71,9 @@ impl VoterSeat {
         self.last = grant;
     }
 
-    /// Ends the current grant where its vote was given back, or else where it is still only offered. True exactly where
-    /// the grant ended. False changes nothing: the vote was taken. There has to be a current grant.
+    /// Ends the current grant if its vote was given back or is still only offered. Returns whether
+    /// the grant ended; `false` means that the vote was taken, and changes nothing. There must be a
+    /// current grant.
     pub fn settle(&mut self, board: &Board) -> bool
         requires table { self.old.table ≡ board.now.table }
         requires current { IsSome self.old.current }
@@ -93,7 +95,7 @@ impl VoterSeat {
     }
 }
 
-/// Ends the grant where its vote is in this state, offered or given back.
+/// Ends the grant if its vote is in this state, offered or given back. Returns whether it did.
 fn frees(table: &VoteTable, seat: &mut Seat<(), View>, voter: u8, vote: Vote) -> bool
     requires table { (seat.old.table_id ≡ table.now.shared.table_id) × (table.now.shared.table_id.words ≡ table.now.shared.key.voters + 1) }
     requires voter { (voter < table.now.shared.key.voters) × (voter < 64) }

@@ -1,4 +1,4 @@
--- Certificates: weights of quorums and of voters that show a plan to be optimal.
+-- Certificates: weights of quorums and of voters that show that a plan is optimal.
 use Rattle.std.specs.Prelude.{◌≡◌, ℕ, ◌*◌, ◌<◌, ◌≤◌, not, ◌&&◌, ◌||◌, ◌==◌, nat_lt, if◌then◌else◌, List, length, sum, Option, None, Some, Result, Ok, Err}
 use Rattle.std.specs.List.{All}
 use Rattle.quorum_set.specs.Coteries.{QuorumSystem, IsCoterie}
@@ -22,17 +22,19 @@ cycle_len w = sum w.quorum_weights
 abbrev pub voter_total : Weighted → ℕ
 voter_total w = sum w.voter_weights
 
--- how often the busiest voter is named in a cycle: the greatest weight that lies on the quorums with one voter
+-- how often a cycle uses its busiest voter: the greatest sum, over the voters, of the weights of
+-- the quorums with that voter
 abbrev pub busiest_count : Weighted → ℕ
 busiest_count w = greatest_below w.system.voters (λ i. weight_on i w.system.quorums w.quorum_weights)
 
--- the least weight of a quorum's members
+-- the smallest sum, over the quorums, of the weights of a quorum's members
 abbrev pub lightest_quorum : Weighted → ℕ
 lightest_quorum w = least_of (weight_within w.voter_weights) w.system.quorums
 
--- The weights show that a cycle is as even as can be: in any list of quorums each voter's count, weighed by the voters'
--- weights, sums to at least the lightest quorum's weight for each quorum, and here the cycle reaches that bound. It is the
--- duality of linear programs by which Naor and Wool (SIAM J. Comput. 27(2), 1998) determine the load, in whole numbers.
+-- The weights show that no cycle is more even. In any list of quorums, the voters' counts, each
+-- times the voter's weight, add up to at least the lightest quorum's weight for each entry. This
+-- cycle reaches that bound. It is the duality of linear programs by which Naor and Wool (SIAM J.
+-- Comput. 27(2), 1998) determine the load, in whole numbers.
 pub record IsCertificate (w : Weighted) : Type 0 where
   pub coterie : IsCoterie w.system
   pub quorums : length w.quorum_weights ≡ length w.system.quorums
@@ -43,15 +45,15 @@ pub record IsCertificate (w : Weighted) : Type 0 where
   pub few_voters : voter_total w ≤ 1000000
   pub balanced : busiest_count w * voter_total w ≡ lightest_quorum w * cycle_len w
 
--- what a plan keeps beside its weights
+-- the numbers that a plan stores next to its weights: the cycle's length and the busiest count
 abbrev pub IsKept : Weighted → ℕ → ℕ → Type 0
 IsKept w len top = IsCertificate w × (len ≡ cycle_len w) × (top ≡ busiest_count w)
 
--- no list of quorum numbers names its busiest voter less often, for its length, than the cycle
+-- no list of quorum numbers has, for its length, a smaller busiest count than the cycle
 abbrev pub IsOptimal : Weighted → Type 0
 IsOptimal w = (list : List ℕ) → All (λ j. j < length w.system.quorums) list → length list * busiest_count w ≤ busiest_of w.system list * cycle_len w
 
--- the load, in lowest terms: the part of a cycle's quorums that names the busiest voter
+-- the load, in lowest terms: the share of a cycle's quorums that have the busiest voter
 abbrev pub load_of : Weighted → ℕ × ℕ
 load_of w = lowest_terms (busiest_count w) (cycle_len w)
 
@@ -64,7 +66,8 @@ weights_fault w =
     if not (busiest_count w * voter_total w == lightest_quorum w * cycle_len w)
     then Some (NotOptimal (busiest_count w) (voter_total w) (lightest_quorum w) (cycle_len w)) else None
 
--- what was answered for the weights: a plan with them, the first fault, or want of memory where there is none
+-- the result for the weights: if they have no fault, a plan with them or out of memory; else their
+-- first fault
 abbrev pub AnswersPlan : Weighted → Result Weighted PlanFault → Type 0
 AnswersPlan w (Ok p) = (weights_fault w ≡ None) × (p ≡ w)
 AnswersPlan w (Err OutOfMemory) = weights_fault w ≡ None

@@ -19,18 +19,18 @@ use Rattle.certificate.specs.declared.fault.PlanFault.{PlanFault}
 use Rattle.certificate.specs.declared.fault.PlanFault.TheVariants.{BadText, WrongLoad, WrongCycle, OutOfMemory}
 use Rattle.certificate.specs.Certificates.{Weighted, cycle_len, load_of, weights_fault}
 
--- what the lines tell
+-- the values in the lines of a text
 pub record Telling : Type 0 where
   pub load : ℕ × ℕ
   pub cycle : ℕ
   pub quorum_weights : List ℕ
   pub voter_weights : List ℕ
 
--- what the lines of a plan tell
+-- the values in the lines of a plan's text
 abbrev pub telling_of : Weighted → Telling
 telling_of w = record { load = load_of w; cycle = cycle_len w; quorum_weights = w.quorum_weights; voter_weights = w.voter_weights }
 
--- Spelling
+-- Format
 
 -- the number has 1 to 7 digits
 abbrev pub IsShort : ℕ → Type 0
@@ -40,11 +40,11 @@ IsShort n = n < 10000000
 abbrev pub title_line : List ℕ
 title_line = codes "quorum-plan 1"
 
--- 47 is a slash
+-- the line of the load; 47 is a slash
 abbrev pub load_line : ℕ × ℕ → List ℕ
 load_line load = codes "load " ++ (decimal load.0 ++ 47 ∷ decimal load.1)
 
--- the line of the length of the cycle
+-- the line of the cycle's length
 abbrev pub cycle_line : ℕ → List ℕ
 cycle_line n = codes "cycle " ++ decimal n
 
@@ -52,7 +52,7 @@ cycle_line n = codes "cycle " ++ decimal n
 abbrev pub spaced : List ℕ → List ℕ
 spaced numbers = join_with_byte 32 (map decimal numbers)
 
--- a line of weights, behind its word
+-- a line of weights, after its word
 abbrev pub weights_line : List ℕ → List ℕ → List ℕ
 weights_line word weights = word ++ spaced weights
 
@@ -71,49 +71,49 @@ plan_text w = text_of_lines (lines_of (telling_of w))
 
 -- Reading
 
--- what stands before and behind the first byte that is the mark, where there is one
+-- the bytes before and after the first byte that is the mark, if there is one
 abbrev pub cut_at : ℕ → List ℕ → Option (List ℕ × List ℕ)
 cut_at mark bytes = option_map (λ place. (take place bytes, drop (place + 1) bytes)) (position (λ b. b == mark) bytes)
 
--- whether the bytes are a number: 1 to 7 decimal digits, of several the first not 0
+-- whether the bytes are a number: 1 to 7 decimal digits, without a leading zero
 abbrev pub is_number : List ℕ → Bool
 is_number bytes = nat_lt 0 (length bytes) && (nat_lt (length bytes) 8 && ((length bytes == 1 || not (slice_index bytes 0 == 48)) && list_all is_ascii_digit bytes))
 
--- the number that these bytes spell, if they do
+-- the number that these bytes are, if they are one
 abbrev pub number_of : List ℕ → Option ℕ
 number_of bytes = if is_number bytes then Some (digits_value 10 bytes) else None
 
--- the numbers that the words are, where each is one
+-- the numbers that the words are, if each is one
 abbrev pub numbers_of : List (List ℕ) → Option (List ℕ)
 numbers_of [] = Some []
 numbers_of (word ∷ words) = option_and_then (λ n. option_map (λ ns. n ∷ ns) (numbers_of words)) (number_of word)
 
--- what follows the word with which a line begins
+-- the rest of the line after this word, if the line begins with it
 abbrev pub behind : List ℕ → List ℕ → Option (List ℕ)
 behind word line = if bytes_eq (take (length word) line) word then Some (drop (length word) line) else None
 
--- whether the line is the title
+-- the title, if the line is the title
 abbrev pub read_title : List ℕ → Option (Unit {0})
 read_title line = if bytes_eq line title_line then Some tt else None
 
--- two numbers with a slash between them
+-- the numbers that the two sides are, if each is one
 abbrev pub read_pair : List ℕ × List ℕ → Option (ℕ × ℕ)
 read_pair sides = option_and_then (λ p. option_map (λ q. (p, q)) (number_of sides.1)) (number_of sides.0)
 
--- what the line of the load tells, if it is one
+-- the load in a line, if it is a line of a load
 abbrev pub read_load : List ℕ → Option (ℕ × ℕ)
 read_load line = option_and_then (λ rest. option_and_then read_pair (cut_at 47 rest)) (behind (codes "load ") line)
 
--- likewise of the cycle
+-- the cycle's length in a line, if it is the line of one
 abbrev pub read_cycle : List ℕ → Option ℕ
 read_cycle line = option_and_then number_of (behind (codes "cycle ") line)
 
--- likewise of weights, behind their word
+-- the weights in a line, if it is a line of weights after this word
 abbrev pub read_weights : List ℕ → List ℕ → Option (List ℕ)
 read_weights word line = option_and_then (λ rest. numbers_of (slice_split (λ b. b == 32) rest)) (behind word line)
 
--- The line at the front of a text, as it is read, and what follows it. Else the line with this number is bad: it is
--- missing, has no newline at its end, or is not spelled so.
+-- The value of the line at the front of a text, and the rest of the text. If the line is missing,
+-- has no newline at its end, or is not in the format, it is the fault `BadText` with this number.
 abbrev pub line_at : {X : Type 0} → ℕ → (List ℕ → Option X) → List ℕ → Result (X × List ℕ) PlanFault
 line_at number read text = ok_or (option_and_then (λ cut. option_map (λ x. (x, cut.1)) (read cut.0)) (cut_at 10 text)) (BadText number)
 
@@ -122,7 +122,7 @@ abbrev pub ◌>>=◌ : {A B : Type 0} → Result A PlanFault → (A → Result B
 (Ok x) >>= f = f x
 (Err e) >>= f = Err e
 
--- what a text tells, or its first bad line
+-- the values of a text, or its first bad line
 unfoldable pub telling_at : List ℕ → Result Telling PlanFault
 telling_at text = do
   title ← line_at 1 read_title text
@@ -132,7 +132,8 @@ telling_at text = do
   voters ← line_at 5 (read_weights (codes "voter ")) quorums.1
   if length voters.1 == 0 then Ok (record { load = load.0; cycle = cycle.0; quorum_weights = quorums.0; voter_weights = voters.0 }) else Err (BadText 6)
 
--- what the first three lines tell, the load and the cycle, and what follows them; or the first of them that is bad
+-- the load and the cycle's length in the first three lines, and the rest of the text; or the first
+-- of these lines that is bad
 unfoldable pub head_at : List ℕ → Result ((ℕ × ℕ) × ℕ × List ℕ) PlanFault
 head_at text = do
   title ← line_at 1 read_title text
@@ -140,53 +141,53 @@ head_at text = do
   cycle ← line_at 3 read_cycle load.1
   Ok (load.0, cycle.0, cycle.1)
 
--- the first fault of a load and of a cycle's length that were told of a plan
+-- the first fault of the load and the cycle's length that a text gives for a plan
 abbrev pub head_fault : Weighted → ℕ × ℕ → ℕ → Option PlanFault
 head_fault w load cycle =
     if not (((load_of w).0 == load.0) && ((load_of w).1 == load.1)) then Some WrongLoad else
     if not (cycle_len w == cycle) then Some WrongCycle else None
 
--- the same of all that was told
+-- the same for all values of a text
 abbrev pub telling_fault : Weighted → Telling → Option PlanFault
 telling_fault w t = head_fault w t.load t.cycle
 
--- the value, unless there is a fault
+-- the value, or the fault if there is one
 abbrev pub unless_fault : Option PlanFault → Weighted → Result Weighted PlanFault
 unless_fault None w = Ok w
 unless_fault (Some e) w = Err e
 
--- the plan of a coterie that was told, or the first fault
+-- the plan, or the first fault: of its weights, then of the values of its text
 abbrev pub judged : Weighted → Telling → Result Weighted PlanFault
 judged w t = unless_fault (option_or (weights_fault w) (telling_fault w t)) w
 
--- a system of quorums with the weights that a text tells
+-- a system of quorums with the weights of a text
 abbrev pub weighted_by : QuorumSystem → Telling → Weighted
 weighted_by s t = record { system = s; quorum_weights = t.quorum_weights; voter_weights = t.voter_weights }
 
--- the plan of a coterie that the text spells, or the first fault
+-- the plan of a coterie that the text describes, or the first fault
 unfoldable pub plan_at : QuorumSystem → List ℕ → Result Weighted PlanFault
 plan_at s text = telling_at text >>= λ t. judged (weighted_by s t) t
 
--- the fault is want of memory, or the wanted answer is this fault
+-- the fault is out of memory, or the wanted result is this fault
 abbrev pub Refuses : {Y : Type 0} → PlanFault → Result Y PlanFault → Type 0
 Refuses OutOfMemory wanted = Unit {0}
 Refuses e wanted = wanted ≡ Err e
 
--- what was answered, seen by view, is this, unless memory ran out
+-- the result, mapped by `view`, is the wanted one, unless memory ran out
 abbrev pub Gives : {X Y : Type 0} → (X → Y) → Result X PlanFault → Result Y PlanFault → Type 0
 Gives view (Ok x) wanted = wanted ≡ Ok (view x)
 Gives view (Err e) wanted = Refuses e wanted
 
--- what was answered, seen by view, is this, in any case
+-- the result, mapped by `view`, is the wanted one, in any case
 abbrev pub Answers : {X Y : Type 0} → (X → Y) → Result X PlanFault → Result Y PlanFault → Type 0
 Answers view (Ok x) wanted = wanted ≡ Ok (view x)
 Answers view (Err e) wanted = wanted ≡ Err e
 
--- what was answered is the fault of this, where it is one
+-- if the first result is a fault, the second is the same fault
 abbrev pub RefusesAs : {X Y : Type 0} → Result X PlanFault → Result Y PlanFault → Type 0
 RefusesAs (Ok x) answered = Unit {0}
 RefusesAs (Err e) answered = answered ≡ Err e
 
--- what was answered is this, unless memory ran out
+-- the result is the wanted one, unless memory ran out
 abbrev pub MemoryAside : Result Weighted PlanFault → Result Weighted PlanFault → Type 0
 MemoryAside answered wanted = Gives (λ w. w) answered wanted

@@ -1,4 +1,4 @@
-//! Sums of weights: on the quorums with a voter, and within a quorum.
+//! Sums of weights: of the quorums with a voter, and of a quorum's members.
 ghost use Rattle.std.specs.Prelude.{◌≡◌, ◌<◌, ◌≤◌, ◌^◌, length, sum, All, SomeIff};
 ghost use Rattle.quorum_set.specs.Coteries.{IsCoterie};
 ghost use Rattle.quorum_set.specs.Counts.{greatest_below};
@@ -6,10 +6,10 @@ ghost use Rattle.certificate.specs.Loads.{weight_on, weight_within, least_of};
 
 use quorum_set::{Coterie, QSet};
 
-/// The greatest sum of weights, of the quorums' and of the voters'.
+/// The greatest sum that the quorums' weights may have, and the voters' weights.
 const LARGEST: u64 = 1_000_000;
 
-/// The sum of the weights, where it is not too large.
+/// Returns the sum of the weights, or `None` if it is above 1,000,000.
 pub(crate) fn total(weights: &[u64]) -> Option<u64>
     ensures { SomeIff result (sum weights.now ≤ 1000000) (sum weights.now) }
 {
@@ -23,7 +23,8 @@ pub(crate) fn total(weights: &[u64]) -> Option<u64>
     Some(total)
 }
 
-/// The sum of the weights of the quorums with this voter. There is a weight for each quorum, and their sum is below 2^64.
+/// Returns the sum of the weights of the quorums with this voter. There has to be a weight for each
+/// quorum, and their sum has to be below 2^64.
 pub fn weight_on(coterie: &Coterie, weights: &[u64], voter: u8) -> u64
     requires lengths { length weights.now ≡ length coterie.now.quorums }
     requires fits { sum weights.now < 2 ^ 64 }
@@ -39,7 +40,7 @@ pub fn weight_on(coterie: &Coterie, weights: &[u64], voter: u8) -> u64
     weight
 }
 
-/// The greatest weight that lies on the quorums with one voter.
+/// Returns the greatest sum, over the voters, of the weights of the quorums with that voter.
 pub(crate) fn busiest_count(coterie: &Coterie, weights: &[u64]) -> u64
     requires lengths { length weights.now ≡ length coterie.now.quorums }
     requires small { sum weights.now ≤ 1000000 }
@@ -53,7 +54,7 @@ pub(crate) fn busiest_count(coterie: &Coterie, weights: &[u64]) -> u64
     most
 }
 
-/// The weight of a quorum's members.
+/// Returns the sum of the weights of a quorum's members.
 fn weight_within(quorum: &QSet, weights: &[u64]) -> u64
     requires members { All (λ i. i < length weights.now) quorum.now }
     requires small { sum weights.now ≤ 1000000 }
@@ -68,7 +69,7 @@ fn weight_within(quorum: &QSet, weights: &[u64]) -> u64
     weight
 }
 
-/// The least weight of a quorum's members.
+/// Returns the smallest sum, over the quorums, of the weights of a quorum's members.
 pub(crate) fn lightest_quorum(coterie: &Coterie, weights: &[u64]) -> u64
     requires coterie { IsCoterie coterie.now }
     requires lengths { length weights.now ≡ coterie.now.voters }

@@ -10,8 +10,8 @@ use quorum_set::Coterie;
 use std::alloc::{AllocError, Global};
 use std::marker::Model;
 
-/// A coterie with a weight for each quorum and, as a certificate that these are optimal, one for each voter.
-/// Contracts see the three.
+/// A coterie with a weight for each quorum, and a weight for each voter. The voters' weights are
+/// the certificate that the quorums' weights are optimal. Contracts see the three.
 #[derive(Drop)]
 pub struct Plan {
     coterie: Coterie,
@@ -31,12 +31,16 @@ impl Model for Plan {
     ghost invariant = { λ p. IsKept (record { system = p.coterie; quorum_weights = p.quorum_weights.items; voter_weights = p.voter_weights.items }) p.cycle_len p.busiest };
 }
 
-/// Checks weights of the quorums against weights of the voters, and answers the plan that has both and a copy of
-/// the coterie.
+/// Checks weights of the quorums against weights of the voters. Returns the plan that has both and
+/// a copy of the coterie.
 ///
-/// Refused are, in this order: a list of another length than the coterie has quorums or voters (`WrongLength`); a
-/// sum above 1,000,000 (`TooLarge`); a sum of 0 (`Empty`); weights that are no certificate (`NotOptimal`). Want of
-/// memory comes last.
+/// Fails with the first of these faults:
+///
+/// - `WrongLength` if there is not one weight for each quorum and one for each voter;
+/// - `TooLarge` if a sum of weights is above 1,000,000;
+/// - `Empty` if a sum of weights is 0;
+/// - `NotOptimal` if the weights are no certificate;
+/// - `OutOfMemory`.
 pub fn check(
     alloc: Global,
     coterie: &Coterie,
@@ -50,7 +54,7 @@ pub fn check(
     plan_of(alloc, coterie, quorum_weights, voter_weights)
 }
 
-/// The plan of these weights, or the first fault.
+/// Returns the plan of these weights, or the first fault.
 fn plan_of(
     alloc: Global,
     coterie: &Coterie,
@@ -95,7 +99,7 @@ fn plan_of(
 }
 
 impl Plan {
-    /// The coterie.
+    /// Returns the coterie.
     pub fn coterie(&self) -> &Coterie
         ensures value { result.now ≡ self.now.system }
         ensures certificate { IsCertificate self.now }
@@ -103,7 +107,7 @@ impl Plan {
         &self.coterie
     }
 
-    /// The length of a cycle: the sum of the quorums' weights, 1 to 1,000,000.
+    /// Returns the length of a cycle: the sum of the quorums' weights, 1 to 1,000,000.
     pub fn cycle_len(&self) -> u64
         ensures value { result ≡ cycle_len self.now }
         ensures certificate { IsCertificate self.now }
@@ -111,18 +115,18 @@ impl Plan {
         self.cycle_len
     }
 
-    /// How often a cycle names its busiest voter.
+    /// Returns how often a cycle uses its busiest voter.
     pub fn busiest(&self) -> u64
         ensures value { result ≡ busiest_count self.now }
         ensures certificate { IsCertificate self.now }
-        // No list of quorums names its busiest voter less often, for its length.
+        // No list of quorums has, for its length, a smaller busiest count.
         ensures optimal { IsOptimal self.now }
     {
         self.busiest
     }
 
-    /// The load: which part of a cycle's quorums names the busiest voter, as a numerator and a
-    /// denominator in lowest terms.
+    /// Returns the load: the share of a cycle's quorums that have the busiest voter, as a numerator
+    /// and a denominator in lowest terms.
     pub fn load(&self) -> (u64, u64)
         ensures value { result ≡ load_of self.now }
         ensures exact { result.0 * cycle_len self.now ≡ busiest_count self.now * result.1 }
@@ -134,7 +138,8 @@ impl Plan {
         (self.busiest / common, self.cycle_len / common)
     }
 
-    /// The weight of a quorum, whose number is below the number of quorums: how often a cycle names it.
+    /// Returns the weight of a quorum: how often a cycle uses it. The quorum's number has to be
+    /// below the number of quorums.
     pub fn weight(&self, j: usize) -> u64
         requires { j < length self.now.system.quorums }
         ensures value { result ≡ slice_index self.now.quorum_weights j }
@@ -143,7 +148,8 @@ impl Plan {
         self.quorum_weights[j]
     }
 
-    /// The weight in the certificate of a voter, whose number is below the number of voters.
+    /// Returns the weight of a voter in the certificate. The voter's number has to be below the
+    /// number of voters.
     pub fn voter_weight(&self, i: u8) -> u64
         requires { i < self.now.system.voters }
         ensures value { result ≡ slice_index self.now.voter_weights i }
@@ -152,21 +158,21 @@ impl Plan {
         self.voter_weights[usize::from(i)]
     }
 
-    /// The weight of each quorum.
+    /// Returns the weight of each quorum.
     pub(crate) fn quorum_weights(&self) -> &[u64]
         ensures { result.now ≡ self.now.quorum_weights }
     {
         self.quorum_weights.as_slice()
     }
 
-    /// The weight of each voter.
+    /// Returns the weight of each voter.
     pub(crate) fn voter_weights(&self) -> &[u64]
         ensures { result.now ≡ self.now.voter_weights }
     {
         self.voter_weights.as_slice()
     }
 
-    /// An equal plan.
+    /// Returns an equal plan, unless it runs out of memory.
     pub fn copy(&self, alloc: Global) -> Result<Plan, AllocError>
         ensures value { IfOk result (λ p. p ≡ self.now) }
         ensures certificate { IsCertificate self.now }

@@ -10,7 +10,7 @@ use crate::plan::{Plan, check};
 use quorum_set::Coterie;
 use std::alloc::{AllocError, Global};
 
-/// What the lines of a text tell, before it is checked.
+/// The values in the lines of a text, before they are checked.
 #[derive(Drop)]
 struct LinesTold {
     load: (u64, u64),
@@ -19,14 +19,14 @@ struct LinesTold {
     voter_weights: Vec<u64>,
 }
 
-/// The place of the first such byte.
+/// Returns the place of the first byte that is the mark.
 fn place_of(bytes: &[u8], mark: u8) -> Option<usize>
     ensures { result ≡ position (λ b. b == mark) bytes.now }
 {
     bytes.iter().position(|b| *b == mark)
 }
 
-/// What stands before and behind the first byte that is the mark, where there is one.
+/// Returns the bytes before and after the first byte that is the mark, or `None` if there is none.
 pub fn cut(bytes: &[u8], mark: u8) -> Option<(&[u8], &[u8])>
     ensures { option_map (λ x. (x.0.now, x.1.now)) result ≡ cut_at mark bytes.now }
 {
@@ -51,7 +51,7 @@ fn is_number(bytes: &[u8]) -> bool
         && are_digits(bytes)
 }
 
-/// The number that these digits are, all of them.
+/// Returns the number that the bytes are, or `None` if they are not a number.
 fn number(bytes: &[u8]) -> Option<u64>
     ensures { result ≡ number_of bytes.now }
 {
@@ -65,7 +65,7 @@ fn number(bytes: &[u8]) -> Option<u64>
     Some(value)
 }
 
-/// The numbers between the spaces, where each word is a number.
+/// Returns the numbers between the spaces, or `None` if a word is no number.
 fn numbers(alloc: Global, text: &[u8]) -> Result<Option<Vec<u64>>, AllocError>
     ensures { IfOk result (λ found. option_map (λ v. v.items) found ≡ numbers_of (slice_split (λ b. b == 32) text.now)) }
 {
@@ -130,7 +130,7 @@ fn weights(alloc: Global, word: &[u8], line: &[u8]) -> Result<Option<Vec<u64>>, 
     }
 }
 
-/// The rest of a text behind its title.
+/// Returns the rest of a text after its title.
 fn title_line(text: &[u8]) -> Result<&[u8], PlanFault>
     ensures { Answers (λ rest. (tt, rest.now)) result (line_at 1 read_title text.now) }
 {
@@ -181,7 +181,7 @@ fn weights_line<'a>(
     }
 }
 
-/// What the lines tell, or the first bad line.
+/// Returns the values of the lines, or the first bad line.
 #[tactic(auto, unfolding(crate::specs::PlanTexts::telling_at, crate::specs::PlanTexts::head_at))]
 fn read_lines(alloc: Global, text: &[u8]) -> Result<LinesTold, PlanFault>
     ensures exact { Gives (λ t. record { load = t.load; cycle = t.cycle; quorum_weights = t.quorum_weights.items; voter_weights = t.voter_weights.items }) result (telling_at text.now) }
@@ -203,7 +203,7 @@ fn read_lines(alloc: Global, text: &[u8]) -> Result<LinesTold, PlanFault>
     })
 }
 
-/// The fault of a load and of the length of a cycle that are not the plan's.
+/// Returns the first fault of a load and a cycle's length that a text gives for this plan.
 fn head_fault(plan: &Plan, load: (u64, u64), cycle: u64) -> Option<PlanFault>
     ensures { result ≡ head_fault plan.now load cycle }
 {
@@ -216,7 +216,7 @@ fn head_fault(plan: &Plan, load: (u64, u64), cycle: u64) -> Option<PlanFault>
     None
 }
 
-/// The plan of a coterie that a text spells, or the first fault.
+/// Returns the plan of a coterie that a text describes, or the first fault.
 #[tactic(auto, unfolding(crate::specs::PlanTexts::plan_at))]
 fn plan_of_text(alloc: Global, coterie: &Coterie, text: &[u8]) -> Result<Plan, PlanFault>
     ensures exact { MemoryAside result (plan_at coterie.now text.now) }
@@ -233,7 +233,8 @@ fn plan_of_text(alloc: Global, coterie: &Coterie, text: &[u8]) -> Result<Plan, P
 
 /// Reads the plan of a coterie from its text.
 ///
-/// The text has five lines, each ended by a newline; a number has 1 to 7 decimal digits and no leading zero:
+/// The text has five lines, each with a newline at its end. A number has 1 to 7 decimal digits and
+/// no leading zero:
 ///
 /// ```text
 /// quorum-plan 1
@@ -243,18 +244,23 @@ fn plan_of_text(alloc: Global, coterie: &Coterie, text: &[u8]) -> Result<Plan, P
 /// voter B0 B1 ..
 /// ```
 ///
-/// Refused are, in this order: the first line that is missing or not spelled so, or text behind the fifth
-/// (`BadText`); weights that `check` refuses; a load that is not the weights' in lowest terms (`WrongLoad`); a
-/// cycle's length that is not the sum of the quorums' weights (`WrongCycle`). Out of memory may come at any point behind the
-/// third line.
+/// Fails with the first of these faults:
+///
+/// - `BadText` with the first line that is missing or not in this format, or if there is text after
+///   the fifth line;
+/// - the fault of `check` for the weights;
+/// - `WrongLoad` if the load is not the weights' load in lowest terms;
+/// - `WrongCycle` if the cycle's length is not the sum of the quorums' weights.
+///
+/// It may run out of memory at any point after the third line.
 pub fn read_plan(alloc: Global, coterie: &Coterie, text: &[u8]) -> Result<Plan, PlanFault>
-    // What is read is spelled so.
+    // A text that is read is the text of the plan.
     ensures spelled { IfOk result (λ p. (p.system ≡ coterie.now) × (text.now ≡ plan_text p)) }
-    // What is spelled so is read.
+    // The text of a plan of this coterie is read.
     ensures read { (w : Weighted) → w.system ≡ coterie.now → IsCertificate w → text.now ≡ plan_text w → MemoryAside result (Ok w) }
-    // Which fault it is.
+    // The result is the plan or the first fault, by the definition.
     ensures exact { MemoryAside result (plan_at coterie.now text.now) }
-    // A fault of the first three lines is found before any memory is taken.
+    // A fault of the first three lines is found before anything is allocated.
     ensures head { RefusesAs (head_at text.now) result }
 
     ensures certificate { IfOk result IsCertificate }

@@ -1,11 +1,11 @@
-//! Writing the text of a plan.
+//! Writing a plan as text.
 ghost use Rattle.std.specs.Prelude.{◌≡◌, IfOk, string_bytes};
 ghost use Rattle.certificate.specs.PlanTexts.{spaced, plan_text};
 
 use crate::plan::Plan;
 use std::alloc::{AllocError, Global};
 
-/// The numbers, with a space between each two.
+/// Returns the numbers as text, with a space between each two.
 fn spaced(alloc: Global, numbers: &[u64]) -> Result<String, AllocError>
     ensures { IfOk result (λ text. string_bytes text ≡ spaced numbers.now) }
 {
@@ -19,7 +19,7 @@ fn spaced(alloc: Global, numbers: &[u64]) -> Result<String, AllocError>
     Ok(text)
 }
 
-/// Writes the one text of a plan.
+/// Returns the text of a plan. Each plan has exactly one.
 pub fn write_plan(alloc: Global, plan: &Plan) -> Result<String, AllocError>
     ensures { IfOk result (λ text. string_bytes text ≡ plan_text plan.now) }
 {

@@ -1,4 +1,4 @@
--- Drives of members: what becomes of each, and which fault is answered.
+-- Drives of members: what becomes of each, and which fault is returned.
 use Rattle.std.specs.Prelude.{◌≡◌, ℕ, ◌+◌, ◌*◌, ◌<◌, ◌≤◌, ◌++◌, Bool, true, List, Option, None, Some, IfSome, All, Contains, length}
 use Rattle.board.specs.declared.fault.BoardFault.TheVariants.{SeatsOut, VoteOut, RegisterFull, OutOfMemory}
 use Rattle.dealer.specs.declared.fault.DealFault.TheVariants.{QuotaSpent, OutOfMemory as NoRoom}
@@ -8,11 +8,11 @@ use Rattle.members.specs.declared.fault.ClusterFault.{ClusterFault}
 use Rattle.members.specs.declared.fault.ClusterFault.TheVariants as ends
 use Rattle.members.specs.Members.{MemberState}
 
--- the list afterwards is the list before and so many more
+-- the list afterwards is the list before and n more entries
 abbrev pub HasMore : {A : Type 0} → ℕ → List A → List A → Type 0
 HasMore {A} n before after = (more : List A) × (after ≡ before ++ more) × (length more ≡ n)
 
--- the same client, which drew so many of its tickets and passed so many times more
+-- the same client, which drew `drawn` more of its tickets and passed `passed` more times
 pub record Worked (drawn passed : ℕ) (before after : MemberState) : Type 0 where
   pub client : after.requester.id ≡ before.requester.id
   pub receipts : HasMore drawn before.clerk.receipts after.clerk.receipts
@@ -26,13 +26,20 @@ pub record KeepsWork (before after : MemberState) : Type 0 where
   pub passes : after.seat.passes ≡ before.seat.passes
   pub fault : after.fault ≡ before.fault
 
--- The member is idle again, drew one ticket for each of so many passes, and made each of them. Nothing ended its work early
+-- The member is idle again. It drew one ticket for each of `passes` passes, and made each of them.
+-- Nothing ended its work early.
 pub record HasServed (passes : ℕ) (before after : MemberState) : Type 0 where
   pub worked : Worked passes passes before after
   pub idle : is_idle after.requester.phase ≡ true
   pub fault : after.fault ≡ None
 
--- What ends the work of this client early, which had so many tickets and passed so many times: no stamp is left, it passed once for each ticket, the register is at its limit, there is no memory, or its turns are spent. All but the first two need a ticket
+-- What ends the work of this client early, if it had `tickets` tickets and passed `passed` times.
+-- All except the first two need a ticket.
+-- - No stamp is left.
+-- - It passed once for each ticket.
+-- - The register is at its limit.
+-- - Memory ran out.
+-- - Its turns are spent.
 abbrev pub EndsWork : ℕ → ℕ → ℕ → ClusterFault → Type 0
 EndsWork client tickets passed (ends.Client StampsSpent) = Unit {0}
 EndsWork client tickets passed (ends.Client Busy) = ⊥
@@ -47,7 +54,7 @@ EndsWork client tickets passed (ends.Board (VoteOut v)) = ⊥
 EndsWork client tickets passed ends.NotInside = ⊥
 EndsWork client tickets passed (ends.TurnsSpent c) = (c ≡ client) × (passed < tickets)
 
--- how many tickets this fault leaves without a pass: the one that was drawn before it came
+-- how many tickets this fault leaves without a pass: 1 if it came after the draw
 abbrev pub wasted : ClusterFault → ℕ
 wasted (ends.Client e) = 0
 wasted (ends.Deal e) = 0
@@ -55,7 +62,8 @@ wasted (ends.Board e) = 1
 wasted ends.NotInside = 1
 wasted (ends.TurnsSpent c) = 1
 
--- The member is idle again, and its work ended early by this fault: of so many passes it made fewer, and it drew a ticket for each that it made, and one besides where the fault came after the draw
+-- The member is idle again, and its work ended early by this fault. It made fewer than `passes`
+-- passes. It drew a ticket for each that it made, and one more if the fault came after the draw.
 pub record HasEnded (passes : ℕ) (fault : ClusterFault) (before after : MemberState) : Type 0 where
   pub passed : ℕ
   pub fewer : passed < passes
@@ -63,19 +71,19 @@ pub record HasEnded (passes : ℕ) (fault : ClusterFault) (before after : Member
   pub idle : is_idle after.requester.phase ≡ true
   pub ends : EndsWork after.requester.id before.clerk.rest passed fault
 
--- the pass was not made, by this fault
+-- the member did not make its pass, because of this fault
 abbrev pub Stops : MemberState → MemberState → ClusterFault → Type 0
 Stops before after fault = Worked (wasted fault) 0 before after × EndsWork before.requester.id before.clerk.rest 0 fault
 
--- a client that passed was let pass
+-- if the client passed, it was let pass
 abbrev pub WasLet : (ℕ → Bool) → MemberState → MemberState → Type 0
 WasLet lets before after = length before.seat.passes < length after.seat.passes → lets after.requester.id ≡ true
 
--- each pass took two turns at least, one to enter and one at the gate, and there were so many
+-- each pass took at least two of the `turns` turns: one to enter, and one question to the gate
 abbrev pub TookTurns : ℕ → MemberState → MemberState → Type 0
 TookTurns turns before after = 2 * length after.seat.passes ≤ 2 * length before.seat.passes + turns
 
--- the member's work was done, or it ended early by the fault that the member tells
+-- without a fault the member did all its work; with a fault its work ended early by it
 abbrev pub IsBackBy : ℕ → Option ClusterFault → MemberState → MemberState → Type 0
 IsBackBy passes None before after = HasServed passes before after
 IsBackBy passes (Some fault) before after = HasEnded passes fault before after
@@ -83,7 +91,8 @@ IsBackBy passes (Some fault) before after = HasEnded passes fault before after
 abbrev pub IsBack : ℕ → MemberState → MemberState → Type 0
 IsBack passes before after = IsBackBy passes after.fault before after
 
--- the work of this client ended early by this fault, and that of no client with a lesser number did
+-- the work of this client ended early by this fault, and no client with a smaller number has a
+-- fault
 pub record IsLeast (members : List MemberState) (client : ℕ) (fault : ClusterFault) : Type 0 where
   pub member : MemberState
   pub among : Contains members member
@@ -91,11 +100,11 @@ pub record IsLeast (members : List MemberState) (client : ℕ) (fault : ClusterF
   pub ended : member.fault ≡ Some fault
   pub others : All (λ m. IfSome m.fault (λ f. client ≤ m.requester.id)) members
 
--- the least client whose work ended early, and its fault; none where that of no member did
+-- the smallest client whose work ended early, and its fault; none if no member's did
 abbrev pub IsLeastOf : List MemberState → Option (ℕ × ClusterFault) → Type 0
 IsLeastOf members None = All (λ m. m.fault ≡ None) members
 IsLeastOf members (Some x) = IsLeast members x.0 x.1
 
--- of the members whose work ended early, that of the least client did by this fault
+-- this is the fault of the smallest client whose work ended early
 abbrev pub IsLeastFault : List MemberState → ClusterFault → Type 0
 IsLeastFault members fault = (client : ℕ) × IsLeast members client fault

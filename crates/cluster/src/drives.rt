@@ -12,23 +12,23 @@ use std::sync::Wait;
 use std::thread;
 use std::thread::Threads;
 
-/// After so many empty pumps in a row a member yields its thread at each further one.
+/// The number of empty pumps in a row after which a member yields its thread at each further one.
 const EMPTY_BEFORE_YIELD: u64 = 16;
 
-/// At so many empty pumps in a row a member reminds, and counts anew.
+/// The number of empty pumps in a row at which a member reminds, and counts anew.
 const EMPTY_BEFORE_REMINDER: u64 = 1_000;
 
-/// Members that come back with a fault.
+/// All members of a drive, and the fault of one whose work ended early.
 #[derive(Drop)]
 pub struct Driven<N: ClusterName> {
     /// All members, in the order in which they were handed in. Each is idle.
     pub members: Vec<Member<N>>,
-    /// Of the members whose work ended early, why that of the least client did.
+    /// The fault of the smallest client whose work ended early.
     pub fault: ClusterFault,
 }
 
-/// What a member does at an empty pump: nothing, or it yields its thread, or it reminds. Takes and answers how many empty
-/// pumps count.
+/// Does what a member does at an empty pump: nothing, or it yields its thread, or it reminds. Takes
+/// and returns how many empty pumps count.
 fn bide<N: ClusterName>(
     rt: &impl Wait,
     cluster: &Cluster<N>,
@@ -50,7 +50,8 @@ fn bide<N: ClusterName>(
     0
 }
 
-/// Has a member pump until it is inside, by a turn each. Answers how many turns are left; None where they were spent before.
+/// Has a member pump until it is inside, at one turn for each pump. Returns how many turns are
+/// left, or `None` if they were spent before.
 fn enter<N: ClusterName>(
     rt: &impl Wait,
     cluster: &Cluster<N>,
@@ -71,8 +72,8 @@ fn enter<N: ClusterName>(
     None
 }
 
-/// Asks the gate, by a turn each, until the client may pass. Answers how many turns are left; None where they were spent
-/// before.
+/// Asks the gate until the client may pass, at one turn for each question. Returns how many turns
+/// are left, or `None` if they were spent before.
 fn wait_at<G: Gate>(gate: &G, client: u8, turns: u64) -> Option<u64>
     ensures fewer { IfSome result (λ left. left < turns) }
     ensures let_pass { IfSome result (λ _. G.lets gate.now client ≡ true) }
@@ -86,7 +87,7 @@ fn wait_at<G: Gate>(gate: &G, client: u8, turns: u64) -> Option<u64>
     None
 }
 
-/// Has a member ask, pass and leave once, or come as far as it can. Answers how many turns are left.
+/// Has a member ask, pass and leave once, or get as far as it can. Returns how many turns are left.
 fn pass_once<N: ClusterName, G: Gate>(
     rt: &impl Wait,
     cluster: &Cluster<N>,
@@ -121,7 +122,7 @@ fn pass_once<N: ClusterName, G: Gate>(
     }
 }
 
-/// Ends a member's request, if one runs: it leaves, or gives up.
+/// Ends a member's request, if it has one: it leaves, or gives up.
 fn end<N: ClusterName>(rt: &impl Wait, cluster: &Cluster<N>, member: &mut Member<N>)
     ensures idle { is_idle member.new.requester.phase ≡ true }
     ensures kept { KeepsWork member.old member.new }
@@ -137,7 +138,7 @@ fn end<N: ClusterName>(rt: &impl Wait, cluster: &Cluster<N>, member: &mut Member
     }
 }
 
-/// Has a member make so many passes. Where its work ends early, it keeps why.
+/// Has a member make `passes` passes. If its work ends early, the member keeps the fault.
 fn serve<N: ClusterName, G: Gate>(
     rt: &impl Wait,
     cluster: &Cluster<N>,
@@ -165,7 +166,8 @@ fn serve<N: ClusterName, G: Gate>(
     }
 }
 
-/// The least client whose work ended early and its fault, with one more member.
+/// Returns the smallest client whose work ended early and its fault, taking one more member into
+/// account.
 fn least_with<N: ClusterName>(
     least: Option<(u8, ClusterFault)>,
     member: &Member<N>,
@@ -183,7 +185,8 @@ fn least_with<N: ClusterName>(
     }
 }
 
-/// The least client whose work ended early, and its fault. None where all did theirs.
+/// Returns the smallest client whose work ended early, and its fault. Returns `None` if no member's
+/// did.
 fn least_of<N: ClusterName>(members: &[Member<N>]) -> Option<(u8, ClusterFault)>
     ensures { IsLeastOf members.now result }
 {
@@ -194,7 +197,7 @@ fn least_of<N: ClusterName>(members: &[Member<N>]) -> Option<(u8, ClusterFault)>
     least
 }
 
-/// Has each member make so many passes, in a thread of its own where the system gives one.
+/// Has each member make `passes` passes, in a thread of its own if the system gives one.
 fn serve_all<N: ClusterName + Send + Sync, R: Threads + Wait + Sync, G: Gate>(
     rt: &R,
     cluster: &Cluster<N>,
@@ -226,17 +229,22 @@ fn serve_all<N: ClusterName + Send + Sync, R: Threads + Wait + Sync, G: Gate>(
     );
 }
 
-/// Lends each member to a thread of its own, or where the system gives none, has one after the other work. Each makes so
-/// many passes: it asks, pumps until it is inside, passes and leaves. All members have to be idle; an empty list is served
-/// at once.
+/// Has each member make `passes` passes, in a thread of its own. For each pass a member asks, pumps
+/// until it is inside, passes and leaves. If the system gives no threads, the members work one
+/// after the other.
 ///
-/// Each pump and each question whether the gate lets it pass is a turn, of which each member has so many for all its passes.
-/// At each empty pump beyond 16 in a row a member yields its thread, and at 1,000 it reminds and counts anew. A member whose
-/// turns are spent, or of which a call is refused, ends its work: it leaves or gives up, and keeps why ([`Member::fault`]). A
-/// pass takes two turns at least.
+/// All members must be idle. An empty list returns at once.
 ///
-/// All members come back, in their order and idle. Where the work of some ended early, the fault of the least client is
-/// answered. A client that the gate never lets pass makes no pass.
+/// Each pump and each question to the gate whether the member may pass is a turn. Each member has
+/// `turns` turns for all its passes, and a pass takes at least two. At each empty pump beyond 16 in
+/// a row a member yields its thread. At 1,000 it reminds and counts anew.
+///
+/// If its turns are spent or one of its calls fails, a member ends its work: it leaves or gives up,
+/// and keeps the fault ([`Member::fault`]).
+///
+/// Returns all members, in order and idle. If the work of some ended early, returns them in
+/// [`Driven`], with the fault of the smallest such client. A client that the gate never lets pass
+/// makes no pass.
 pub fn drive<N: ClusterName + Send + Sync, R: Threads + Wait + Sync, G: Gate>(
     rt: &R,
     cluster: &Cluster<N>,

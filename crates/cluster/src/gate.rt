@@ -1,23 +1,25 @@
-//! Gates, at which the members of a drive may be held up.
+//! Gates, which may hold up the members of a drive.
 ghost use Rattle.std.specs.Prelude.{◌≡◌, ℕ, Bool, true};
 
-/// Where the members of a drive may be held up: at three places of each pass. Their threads share it.
+/// A gate, which may hold up the members of a drive at three places of each pass. Their threads
+/// share it.
 pub trait Gate: Sync {
-    /// Whether this client may ever pass. A gate that tells nothing of it lets each.
+    /// Whether this client may ever pass. By default each may.
     ghost lets: { Self → ℕ → Bool } = { λ _ _. true };
 
-    /// This client is about to ask.
+    /// Called when this client is about to ask.
     fn before(&self, client: u8);
 
-    /// This client drew its ticket and has asked.
+    /// Called when this client has drawn its ticket and asked.
     fn drawn(&self, client: u8);
 
-    /// Whether this client, which is inside, may pass now. It is asked again until it answers yes.
+    /// Returns whether this client, which is inside, may pass now. Called again until it returns
+    /// `true` or the client's turns are spent.
     fn may_pass(&self, client: u8) -> bool
         ensures { result ≡ true → lets self.now client ≡ true };
 }
 
-/// Lets all through.
+/// A gate that lets all clients through.
 #[derive(Clone, Copy, Debug)]
 pub struct NoGate;
 

@@ -1,29 +1,33 @@
-//! A running lock cluster, and drives of its members: what `members` has, and each member in a thread of its own.
+//! A running lock cluster: everything in `members`, and drives, which run each member in a thread
+//! of its own.
 //!
-//! [`drive`] lends each member of a cluster to a thread of its own, which asks, enters, passes and leaves again and again. A
-//! [`Gate`] may hold it up before it asks, once it has asked, and before it passes; [`NoGate`] lets all through. The
-//! calls of clusters and members, as [`Blank::open`], [`Member::ask`] and [`Cluster::close`], are those of `members`, which
-//! tells of them; they are to be had from here too.
+//! [`drive`] lends each member of a cluster to a thread of its own, which asks, enters, passes and
+//! leaves again and again. A [`Gate`] may hold a member up before it asks, once it has asked, and
+//! before it passes; [`NoGate`] lets all through. The calls of clusters and members, such as
+//! [`Blank::open`], [`Member::ask`] and [`Cluster::close`], are re-exported from `members`, which
+//! documents them.
 //!
 //! ```
 //! let (cluster, members) = blank.open::<N>(alloc)?;
 //! match drive(rt, &cluster, members, 100, 1_000_000, &NoGate) {
-//!     Ok(members) => {}  // all back and idle, each with 100 receipts and pass numbers more
-//!     Err(driven) => {}  // all back and idle; driven.fault is that of the least client whose work ended early
+//!     Ok(members) => {}  // all back and idle, each with 100 more receipts and pass numbers
+//!     Err(driven) => {}  // all back and idle; driven.fault is the smallest failing client's
 //! }
 //! ```
 //!
 //! # What is proved
 //!
-//! A drive hands all members back, in their order and idle. One that kept no fault drew a ticket for each of its passes and
-//! made them all; one that kept a fault made fewer, and drew at most one ticket besides. Its tickets run out only where it
-//! passed once for each that it had.
+//! - A drive returns all members, in order and idle.
+//! - A member without a fault drew a ticket for each of its passes, and made them all.
+//! - A member with a fault made fewer passes, and drew at most one ticket more than it made passes.
+//! - A member's tickets run out only if it passed once for each that it had.
+//! - A client that the gate never lets pass makes no pass.
+//! - Each pass takes at least two of the client's turns.
 //!
-//! Who passed was let pass by the gate: a client that it never lets pass makes no pass. Each pass takes two turns at least, of
-//! those that the client has. That turns are spent no sooner, and that a gate is asked before each pass, is tested. When a
-//! drive's threads run is neither proved nor tested.
+//! It is only tested that turns are spent no sooner, and that the gate is asked before each pass.
+//! When a drive's threads run is neither proved nor tested.
 //!
-//! This crate stands on `members`, whose public calls alone it makes.
+//! This crate depends on `members`, and makes only its public calls.
 #![tactic(auto)]
 
 mod drives;

@@ -16,13 +16,13 @@ use Rattle.command_line.specs.declared.command.Shape.TheVariants.{Cyclic, Grid, 
 use Rattle.command_line.specs.declared.usage.Usage.{Usage}
 use Rattle.command_line.specs.declared.usage.Usage.TheVariants.{Arguments, OutOfMemory, Refused}
 
--- any number of values, from none to the greatest number that a count can be
+-- any number of values, from 0 to the greatest possible count
 abbrev pub any_count : ValueRange
 any_count = record { start_inclusive = 0; end_inclusive = usize_max }
 
 -- The command lines of the program.
 
--- N, how many tickets to deal: at most 100,000
+-- N, the number of tickets to deal: at most 100,000
 abbrev pub tickets_rule : Rule
 tickets_rule = record (new_rule (codes "N")) { required = true; parser = Some (Unsigned 0 100000) }
 
@@ -30,7 +30,7 @@ tickets_rule = record (new_rule (codes "N")) { required = true; parser = Some (U
 abbrev pub shape_rule : Rule
 shape_rule = record (new_rule (codes "SHAPE")) { required = true }
 
--- NUMBERS: any count of numbers of at most four digits
+-- NUMBERS: any count of numbers, each at most 9999
 abbrev pub sizes_rule : Rule
 sizes_rule = record (new_rule (codes "NUMBERS")) { range = Some any_count; parser = Some (Unsigned 0 9999) }
 
@@ -54,7 +54,7 @@ deal_app = with_rule (new_app (codes "deal")) tickets_rule
 abbrev pub world_app : App
 world_app = new_app (codes "world")
 
--- for `run` how many clients, how often each passes, and how many turns each has
+-- CLIENTS, for `run`: 1 to 64
 abbrev pub clients_rule : Rule
 clients_rule = record (new_rule (codes "CLIENTS")) { required = true; parser = Some (Unsigned 1 64) }
 
@@ -74,35 +74,36 @@ run_app = with_rule (with_rule (with_rule (new_app (codes "run")) clients_rule) 
 abbrev pub replay_app : App
 replay_app = new_app (codes "replay")
 
--- a subcommand has to be named
+-- the same app, with a subcommand required
 abbrev pub required_subcommand : App → App
 required_subcommand a = record a { top = record a.top { subcommand_required = true } }
 
--- qlock with the commands so far
+-- qlock with `make` and `plan`
 abbrev pub planning_app : App
 planning_app = with_subcommand (with_subcommand (required_subcommand (new_app (codes "qlock"))) make_app.top) plan_app.top
 
--- and with these
+-- and with `check` and `deal`
 abbrev pub dealing_app : App
 dealing_app = with_subcommand (with_subcommand planning_app check_app.top) deal_app.top
 
--- and with these
+-- and with `world` and `run`
 abbrev pub running_app : App
 running_app = with_subcommand (with_subcommand dealing_app world_app.top) run_app.top
 
--- and with the last one: the whole command line
+-- and with `replay`: the whole command line
 abbrev pub qlock_app : App
 qlock_app = with_subcommand running_app replay_app.top
 
--- the text is a numeral of n
+-- the text reads as the number n, of 32 bits
 abbrev pub IsNumber : List ℕ → ℕ → Type 0
 IsNumber text n = ParsesUnsigned {E = ℕ} 32 10 text (Ok n)
 
--- the value of the argument with this name is a numeral of n, which goes from the least to the most
+-- the value of the argument with this name reads as the number n, which is at least `least` and at
+-- most `most`
 abbrev pub HasNumber : Text → ℕ → ℕ → List Row → ℕ → Type 0
 HasNumber name least most rows n = ((text : List ℕ) × (first_of name rows ≡ Some text) × ParsesUnsigned {E = ℕ} 64 10 text (Ok n)) × (least ≤ n) × (n ≤ most)
 
--- the texts are numerals of the sizes, which are at most 9999
+-- the texts read as the sizes, which are at most 9999
 abbrev pub AreSizes : List Text → List ℕ → Type 0
 AreSizes [] [] = ⊤
 AreSizes [] (n ∷ sizes) = ⊥
@@ -117,11 +118,11 @@ IsShapeOf name sizes (Tree h) = (name ≡ codes "tree") × (sizes ≡ h ∷ [])
 IsShapeOf name sizes (Wheel k) = (name ≡ codes "wheel") × (sizes ≡ k ∷ [])
 IsShapeOf name sizes (Cyclic n base) = (name ≡ codes "cyclic") × (sizes ≡ n ∷ base.items)
 
--- the texts behind the shape
+-- the texts after the shape
 abbrev pub size_texts : List Row → List Text
 size_texts rows = unwrap_or (all_of (codes "NUMBERS") rows) []
 
--- the command is what the subcommand that was used and its values name
+-- the command is the one that the used subcommand and its values name
 abbrev pub IsNamedBy : Option (Text × List Row) → Command → Type 0
 IsNamedBy None command = ⊥
 IsNamedBy (Some used) (Make shape) =
@@ -138,31 +139,34 @@ IsNamedBy (Some used) (Run clients passes turns) =
     × HasNumber (codes "TURNS") 0 (10 ^ 12) used.1 turns
 IsNamedBy (Some used) (Deal n) = (used.0 ≡ codes "deal") × HasNumber (codes "N") 0 100000 used.1 n
 
--- no argument of the parser is meant for its subcommands too
+-- the parser has no argument that is meant for its subcommands too
 abbrev pub IsLocal : Parser → Type 0
 IsLocal p = (out-Command p).has_globals ≡ false
 
 -- Why words name no command.
 
--- no command is what the subcommand that was used and its values name
+-- the used subcommand and its values name no command
 abbrev pub NamesNone : Option (Text × List Row) → Type 0
 NamesNone used = (command : Command) → ¬ IsNamedBy used command
 
--- the subcommand that was used is refused so: by its arguments only where they name no command, and never with clap's text
+-- the used subcommand may fail with this usage: with `Arguments` only if it and its values name no
+-- command, never with clap's text
 abbrev pub RefusesUse : Option (Text × List Row) → Usage → Type 0
 RefusesUse used (Refused error) = ⊥
 RefusesUse used Arguments = NamesNone used
 RefusesUse used OutOfMemory = ⊤
 
--- what becomes of clap's error: that memory ran out, or its text
+-- clap's error becomes this usage: out of memory, or clap's text
 abbrev pub BecomesUsage : Error → Usage → Type 0
 BecomesUsage error usage = ((kind_of error ≡ kind.OutOfMemory) × (usage ≡ OutOfMemory)) ⊎ ((kind_of error ≢ kind.OutOfMemory) × (usage ≡ Refused error))
 
--- clap finds no fault in the words, and the command is the one that they name
+-- clap finds no fault in the words, and they name this command
 abbrev pub Names : List Text → Command → Type 0
 Names words command = (fault_of qlock_app words ≡ []) × IsNamedBy (subcommand_of qlock_app words) command
 
--- the words are refused so: with clap's text for the first fault that it finds in them, or by their arguments where it finds none and they name no command; memory may run out whatever they are
+-- The words may fail with this usage: with clap's text for the first fault that clap finds in them;
+-- with `Arguments` if clap finds none and they name no command; with out of memory whatever they
+-- are.
 abbrev pub Refuses : List Text → Usage → Type 0
 Refuses words (Refused error) = IsAmong (kind_of error) (fault_of qlock_app words)
 Refuses words Arguments = (fault_of qlock_app words ≡ []) × NamesNone (subcommand_of qlock_app words)

@@ -1,6 +1,6 @@
-//! What the program can be asked to do.
+//! The commands of the program.
 
-/// Which coterie is made, with its sizes. `construct` says what each is.
+/// The shape of a coterie to make, with its sizes. The crate `construct` defines the shapes.
 #[derive(Debug, Drop)]
 pub enum Shape {
     /// Rows and columns.
@@ -15,28 +15,28 @@ pub enum Shape {
     Cyclic(u32, Vec<u32>),
 }
 
-/// What the program is asked to do, with the numbers that stand on the command line.
+/// A command, with the numbers from the command line.
 #[derive(Debug, Drop)]
 pub enum Command {
     /// Write the coterie of this shape.
     Make(Shape),
     /// Find a plan of a coterie, and write it with its certificate.
     Plan,
-    /// Check a plan against its coterie, and say its load and the length of its cycle.
+    /// Check a plan against its coterie, and write its load and the length of its cycle.
     Check,
-    /// Deal this many tickets, 0 to 100,000, and count how often each voter was named.
+    /// Deal this many tickets, 0 to 100,000, and count how often each voter is used.
     Deal(u32),
-    /// Run a script of clients and voters by a plan, and say what its steps did.
+    /// Run a script of clients and voters by a plan, and write what its steps did.
     World,
-    /// Run clients in threads, each of which passes so often, and write the record of what they did.
+    /// Run clients in threads, and write the record of what they did.
     Run {
-        /// How many clients there are: 1 to 64.
+        /// The number of clients: 1 to 64.
         clients: u8,
-        /// How often each of them passes: 0 to 1000.
+        /// How often each client passes: 0 to 1000.
         passes: u64,
-        /// How many turns each of them has for all its passes: 0 to 10^12.
+        /// How many turns each client has for all its passes: 0 to 10^12.
         turns: u64,
     },
-    /// Check the record of a run by its plan, and count how often each voter was named.
+    /// Check the record of a run by its plan, and count how often each voter was used.
     Replay,
 }

@@ -1,11 +1,16 @@
 //! The command line of the program `qlock`: which [`Command`] its words name.
 //!
-//! `clap` splits the words by the program's commands and their arguments; this crate makes them, and turns what it
-//! found into a command with numbers in range. What is proved: a command is the one that clap's subcommand and its values
-//! name, and clap finds no fault in the words. Clap's text comes only for the first fault that it finds, and
-//! [`Usage::Arguments`] only for words without such a fault that name no command. Else memory ran out.
+//! This crate declares the program's commands and their arguments, and `clap` splits the words by
+//! them. This crate then turns what clap found into a command with numbers in range. What is
+//! proved:
 //!
-//! Above `clap`; the program serves the command.
+//! - A command that is returned is the one that clap's subcommand and its values name, and clap
+//!   finds no fault in the words.
+//! - Clap's text is returned only for the first fault that clap finds.
+//! - [`Usage::Arguments`] is returned only for words without such a fault that name no command.
+//! - Otherwise memory ran out.
+//!
+//! This crate depends on `clap`. It does not serve the command; the program does.
 //!
 //! ```
 //! let command = read_words(alloc, words)?; // of `qlock deal 5`: Command::Deal(5)

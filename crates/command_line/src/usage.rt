@@ -9,9 +9,9 @@ use std::alloc::AllocError;
 /// Why the words name no command.
 #[derive(Drop)]
 pub enum Usage {
-    /// The words are no command line of the program, or ask for help: the text for the user.
+    /// The words are not a command line of the program, or ask for help. Has the text for the user.
     Refused(clap::Error),
-    /// The command's arguments are not what it takes.
+    /// The command does not take these arguments.
     Arguments,
     /// Memory ran out.
     OutOfMemory,

@@ -10,22 +10,22 @@ use clap::builder::ValueParser;
 use clap::{Arg, ArgMatches};
 use std::alloc::{AllocError, Global};
 
-/// The most tickets that one call deals.
+/// The greatest number of tickets that one call deals.
 const MOST_TICKETS: u64 = 100_000;
 
-/// The most clients that run.
+/// The greatest number of clients that run.
 const MOST_CLIENTS: u64 = 64;
 
-/// The most passes of each client that runs.
+/// The greatest number of passes of each client that runs.
 const MOST_PASSES: u64 = 1_000;
 
-/// The most turns that a client is given for all its passes.
+/// The greatest number of turns that a client has for all its passes.
 const MOST_TURNS: u64 = 1_000_000_000_000;
 
 /// The greatest size of a shape that the command line takes.
 const LARGEST_SIZE: u64 = 9_999;
 
-/// SHAPE, any text.
+/// Returns the argument SHAPE: any text.
 fn shape_argument<'a>(alloc: Global) -> Arg<'a>
     ensures rule { rule_of result ≡ shape_rule }
     ensures local { result.global ≡ false }
@@ -35,7 +35,8 @@ fn shape_argument<'a>(alloc: Global) -> Arg<'a>
         .required(true)
 }
 
-/// NUMBERS, from none to any number of them: how many there have to be depends on the shape.
+/// Returns the argument NUMBERS: any count of numbers. How many there have to be depends on the
+/// shape.
 fn sizes_argument<'a>(alloc: Global) -> Arg<'a>
     ensures rule { rule_of result ≡ sizes_rule }
     ensures local { result.global ≡ false }
@@ -46,7 +47,7 @@ fn sizes_argument<'a>(alloc: Global) -> Arg<'a>
         .value_parser(ValueParser::unsigned(0, LARGEST_SIZE))
 }
 
-/// `make SHAPE NUMBERS..`.
+/// Returns the subcommand `make SHAPE NUMBERS..`.
 fn make_command<'a>(alloc: Global) -> Result<clap::Command<'a>, AllocError>
     ensures app { IfOk result (λ c. app_of c ≡ make_app) }
     ensures local { IfOk result IsLocal }
@@ -57,7 +58,7 @@ fn make_command<'a>(alloc: Global) -> Result<clap::Command<'a>, AllocError>
         .arg(sizes_argument(alloc))
 }
 
-/// `plan`, which has no arguments.
+/// Returns the subcommand `plan`, which has no arguments.
 fn plan_command<'a>(alloc: Global) -> clap::Command<'a>
     ensures app { app_of result ≡ plan_app }
     ensures local { IsLocal result }
@@ -65,7 +66,7 @@ fn plan_command<'a>(alloc: Global) -> clap::Command<'a>
     clap::Command::new(alloc, "plan").about("Find a plan: standard input has a coterie")
 }
 
-/// `check`, which has no arguments.
+/// Returns the subcommand `check`, which has no arguments.
 fn check_command<'a>(alloc: Global) -> clap::Command<'a>
     ensures app { app_of result ≡ check_app }
     ensures local { IsLocal result }
@@ -75,7 +76,7 @@ fn check_command<'a>(alloc: Global) -> clap::Command<'a>
     )
 }
 
-/// `deal N`.
+/// Returns the subcommand `deal N`.
 fn deal_command<'a>(alloc: Global) -> Result<clap::Command<'a>, AllocError>
     ensures app { IfOk result (λ c. app_of c ≡ deal_app) }
     ensures local { IfOk result IsLocal }
@@ -89,7 +90,7 @@ fn deal_command<'a>(alloc: Global) -> Result<clap::Command<'a>, AllocError>
         .arg(tickets)
 }
 
-/// `world`, which has no arguments.
+/// Returns the subcommand `world`, which has no arguments.
 fn world_command<'a>(alloc: Global) -> clap::Command<'a>
     ensures app { app_of result ≡ world_app }
     ensures local { IsLocal result }
@@ -99,7 +100,7 @@ fn world_command<'a>(alloc: Global) -> clap::Command<'a>
     )
 }
 
-/// CLIENTS, 1 to 64.
+/// Returns the argument CLIENTS: 1 to 64.
 fn clients_argument<'a>(alloc: Global) -> Arg<'a>
     ensures rule { rule_of result ≡ clients_rule }
     ensures local { result.global ≡ false }
@@ -110,7 +111,7 @@ fn clients_argument<'a>(alloc: Global) -> Arg<'a>
         .value_parser(ValueParser::unsigned(1, MOST_CLIENTS))
 }
 
-/// PASSES, 0 to 1000.
+/// Returns the argument PASSES: 0 to 1000.
 fn passes_argument<'a>(alloc: Global) -> Arg<'a>
     ensures rule { rule_of result ≡ passes_rule }
     ensures local { result.global ≡ false }
@@ -121,7 +122,7 @@ fn passes_argument<'a>(alloc: Global) -> Arg<'a>
         .value_parser(ValueParser::unsigned(0, MOST_PASSES))
 }
 
-/// TURNS, 0 to 10^12.
+/// Returns the argument TURNS: 0 to 10^12.
 fn turns_argument<'a>(alloc: Global) -> Arg<'a>
     ensures rule { rule_of result ≡ turns_rule }
     ensures local { result.global ≡ false }
@@ -132,7 +133,7 @@ fn turns_argument<'a>(alloc: Global) -> Arg<'a>
         .value_parser(ValueParser::unsigned(0, MOST_TURNS))
 }
 
-/// `run CLIENTS PASSES TURNS`.
+/// Returns the subcommand `run CLIENTS PASSES TURNS`.
 fn run_command<'a>(alloc: Global) -> Result<clap::Command<'a>, AllocError>
     ensures app { IfOk result (λ c. app_of c ≡ run_app) }
     ensures local { IfOk result IsLocal }
@@ -146,7 +147,7 @@ fn run_command<'a>(alloc: Global) -> Result<clap::Command<'a>, AllocError>
         .arg(turns_argument(alloc))
 }
 
-/// `replay`, which has no arguments.
+/// Returns the subcommand `replay`, which has no arguments.
 fn replay_command<'a>(alloc: Global) -> clap::Command<'a>
     ensures app { app_of result ≡ replay_app }
     ensures local { IsLocal result }
@@ -156,7 +157,7 @@ fn replay_command<'a>(alloc: Global) -> clap::Command<'a>
     )
 }
 
-/// The command line with the commands that make and plan.
+/// Returns the command line with `make` and `plan`.
 fn planning_command<'a>(alloc: Global) -> Result<clap::Command<'a>, AllocError>
     ensures { IfOk result (λ c. app_of c ≡ planning_app) }
 {
@@ -169,7 +170,7 @@ fn planning_command<'a>(alloc: Global) -> Result<clap::Command<'a>, AllocError>
         .subcommand(plan_command(alloc))
 }
 
-/// The command line with those, and with the commands that use a plan's weights.
+/// Returns the command line with these, and with `check` and `deal`.
 fn dealing_command<'a>(alloc: Global) -> Result<clap::Command<'a>, AllocError>
     ensures { IfOk result (λ c. app_of c ≡ dealing_app) }
 {
@@ -178,7 +179,7 @@ fn dealing_command<'a>(alloc: Global) -> Result<clap::Command<'a>, AllocError>
         .subcommand(deal_command(alloc)?)
 }
 
-/// The command line with those, and with the commands that run the lock.
+/// Returns the command line with these, and with `world` and `run`.
 fn running_command<'a>(alloc: Global) -> Result<clap::Command<'a>, AllocError>
     ensures { IfOk result (λ c. app_of c ≡ running_app) }
 {
@@ -187,14 +188,14 @@ fn running_command<'a>(alloc: Global) -> Result<clap::Command<'a>, AllocError>
         .subcommand(run_command(alloc)?)
 }
 
-/// The whole command line.
+/// Returns the whole command line.
 fn qlock_command<'a>(alloc: Global) -> Result<clap::Command<'a>, AllocError>
     ensures { IfOk result (λ c. app_of c ≡ qlock_app) }
 {
     running_command(alloc)?.subcommand(replay_command(alloc))
 }
 
-/// The size that a text is, where it is a number and not too large.
+/// Returns the size that a text is, or `None` if it is not a number or too large.
 fn size_of(text: &str) -> Option<u32>
     ensures some { IfSome result (λ size. IsNumber text.now size × (size ≤ 9999)) }
     ensures none { result ≡ None → (size : ℕ) → IsNumber text.now size → ¬ (size ≤ 9999) }
@@ -205,7 +206,7 @@ fn size_of(text: &str) -> Option<u32>
     }
 }
 
-/// The text at a place.
+/// Returns the text at a place.
 fn text_at<'a>(texts: &[&'a str], i: usize) -> &'a str
     requires { i < length texts.now }
     ensures { result.now ≡ slice_index_or (map (λ t. t.now) texts.now) i [] }
@@ -213,7 +214,7 @@ fn text_at<'a>(texts: &[&'a str], i: usize) -> &'a str
     texts[i]
 }
 
-/// The sizes that the texts are; none where one is no number or too large.
+/// Returns the sizes that the texts are, or `None` if one is not a number or too large.
 fn sizes_of(alloc: Global, texts: &[&str]) -> Result<Option<Vec<u32>>, AllocError>
     ensures some { IfOk result (λ o. IfSome o (λ sizes. AreSizes (map (λ t. t.now) texts.now) sizes.items)) }
     ensures none { IfOk result (λ o. o ≡ None → (sizes : List ℕ) → ¬ AreSizes (map (λ t. t.now) texts.now) sizes) }
@@ -228,7 +229,8 @@ fn sizes_of(alloc: Global, texts: &[&str]) -> Result<Option<Vec<u32>>, AllocErro
     Ok(Some(sizes))
 }
 
-/// The numbers that stand behind the shape on the command line.
+/// Returns the numbers after the shape on the command line, or `None` if one is not a number or too
+/// large.
 fn sizes_given(alloc: Global, used: &ArgMatches) -> Result<Option<Vec<u32>>, AllocError>
     ensures some { IfOk result (λ o. IfSome o (λ sizes. AreSizes (size_texts (rows_of (found_of used.now))) sizes.items)) }
     ensures none { IfOk result (λ o. o ≡ None → (sizes : List ℕ) → ¬ AreSizes (size_texts (rows_of (found_of used.now))) sizes) }
@@ -239,7 +241,8 @@ fn sizes_given(alloc: Global, used: &ArgMatches) -> Result<Option<Vec<u32>>, All
     }
 }
 
-/// The cyclic shape with these sizes: the number of voters, and behind it the base.
+/// Returns the cyclic shape with these sizes: the number of voters, and after it the base. Returns
+/// `None` if there are no sizes.
 fn cyclic_shape(mut sizes: Vec<u32>) -> Option<Shape>
     ensures some { IfSome result (IsShapeOf (codes "cyclic") sizes.items) }
     ensures none { result ≡ None → sizes.items ≡ [] }
@@ -251,7 +254,7 @@ fn cyclic_shape(mut sizes: Vec<u32>) -> Option<Shape>
     Some(Shape::Cyclic(voters, sizes))
 }
 
-/// The shape with this name and these sizes, where there is one.
+/// Returns the shape with this name and these sizes, or `None` if there is none.
 fn shape_of(name: &str, sizes: Vec<u32>) -> Option<Shape>
     ensures some { IfSome result (IsShapeOf name.now sizes.items) }
     ensures none { result ≡ None → (shape : Shape) → ¬ IsShapeOf name.now sizes.items shape }
@@ -268,7 +271,7 @@ fn shape_of(name: &str, sizes: Vec<u32>) -> Option<Shape>
     }
 }
 
-/// `make` with its shape.
+/// Returns `make` with its shape.
 fn make_of(alloc: Global, used: &ArgMatches) -> Result<Command, Usage>
     ensures named { IfOk result (IsNamedBy (Some (codes "make", rows_of (found_of used.now)))) }
     ensures refused { IfErr result (RefusesUse (Some (codes "make", rows_of (found_of used.now)))) }
@@ -285,7 +288,7 @@ fn make_of(alloc: Global, used: &ArgMatches) -> Result<Command, Usage>
     }
 }
 
-/// The number that an argument is, where it goes from the least to the most.
+/// Returns the number that an argument is, if it is at least `least` and at most `most`.
 fn number_of(used: &ArgMatches, name: &str, least: u64, most: u64) -> Option<u64>
     ensures some { IfSome result (HasNumber name.now least most (rows_of (found_of used.now))) }
     ensures none { result ≡ None → (number : ℕ) → ¬ HasNumber name.now least most (rows_of (found_of used.now)) number }
@@ -299,7 +302,7 @@ fn number_of(used: &ArgMatches, name: &str, least: u64, most: u64) -> Option<u64
     }
 }
 
-/// `deal` with its number of tickets.
+/// Returns `deal` with its number of tickets.
 fn deal_of(used: &ArgMatches) -> Result<Command, Usage>
     ensures named { IfOk result (IsNamedBy (Some (codes "deal", rows_of (found_of used.now)))) }
     ensures refused { IfErr result (RefusesUse (Some (codes "deal", rows_of (found_of used.now)))) }
@@ -310,7 +313,7 @@ fn deal_of(used: &ArgMatches) -> Result<Command, Usage>
     }
 }
 
-/// `run` with its numbers.
+/// Returns `run` with its numbers.
 fn run_of(used: &ArgMatches) -> Result<Command, Usage>
     ensures named { IfOk result (IsNamedBy (Some (codes "run", rows_of (found_of used.now)))) }
     ensures refused { IfErr result (RefusesUse (Some (codes "run", rows_of (found_of used.now)))) }
@@ -331,7 +334,7 @@ fn run_of(used: &ArgMatches) -> Result<Command, Usage>
     })
 }
 
-/// The command that the subcommand in use and its values name.
+/// Returns the command that the used subcommand and its values name.
 fn command_of(alloc: Global, matches: &ArgMatches) -> Result<Command, Usage>
     ensures named { IfOk result (IsNamedBy (subcommand_rows_of matches.now)) }
     ensures refused { IfErr result (RefusesUse (subcommand_rows_of matches.now)) }
@@ -362,9 +365,10 @@ fn command_of(alloc: Global, matches: &ArgMatches) -> Result<Command, Usage>
 
 /// Returns the command that the words name. The first word is the program's own name.
 ///
-/// Fails with `Refused` if clap finds a fault: a number out of range, a word that is missing, surplus or unknown, or a
-/// request for help. Fails with `Arguments` if clap finds none and the words still name no command: the shape of `make` is
-/// unknown, or doesn't have as many numbers as it takes. `OutOfMemory` may come for any words.
+/// Fails with `Refused` if clap finds a fault: a number out of range, a word that is missing, extra
+/// or unknown, or a request for help. Fails with `Arguments` if clap finds none and the words still
+/// name no command: the shape of `make` is unknown, or has too few or too many numbers. May fail
+/// with `OutOfMemory` for any words.
 pub fn read_words(alloc: Global, words: &[String]) -> Result<Command, Usage>
     ensures named { IfOk result (Names (map string_bytes words.now)) }
     ensures refused { IfErr result (Refuses (map string_bytes words.now)) }

@@ -1,19 +1,19 @@
--- What a construction answers.
+-- Results of constructions.
 use Rattle.std.specs.Prelude.{◌≡◌, Bool, if◌then◌else◌, Result, Ok, Err}
 use Rattle.quorum_set.specs.Coteries.{QuorumSystem}
 use Rattle.construct.specs.declared.fault.ConstructFault.{ConstructFault}
 use Rattle.construct.specs.declared.fault.ConstructFault.TheVariants.{BadSize, TooLarge, OutOfMemory}
 
--- what is built, unless the sizes are bad or too large; that they are bad is tested first
+-- `BadSize` if the sizes are bad, else `TooLarge` if they are too large, else what is built
 abbrev pub sized : Bool → Bool → Result QuorumSystem ConstructFault → Result QuorumSystem ConstructFault
 sized bad large built = if bad then Err BadSize else if large then Err TooLarge else built
 
--- the fault is want of memory, or the wanted answer is this fault
+-- the fault is out of memory, or the wanted result is this fault
 abbrev pub Refuses : ConstructFault → Result QuorumSystem ConstructFault → Type 0
 Refuses OutOfMemory wanted = Unit {0}
 Refuses fault wanted = wanted ≡ Err fault
 
--- the result is the wanted answer, memory aside
+-- the result is the wanted one, unless memory ran out
 abbrev pub Gives : Result QuorumSystem ConstructFault → Result QuorumSystem ConstructFault → Type 0
 Gives (Ok s) wanted = wanted ≡ Ok s
 Gives (Err fault) wanted = Refuses fault wanted

@@ -1,4 +1,5 @@
--- Grids (Maekawa, ACM TOCS 3(2), 1985, section 6): the voters stand in rows and columns, and a quorum is a row with a column.
+-- Grids (Maekawa, ACM TOCS 3(2), 1985, section 6): the voters are in rows and columns, and a quorum
+-- is a row with a column.
 use Rattle.std.specs.Prelude.{ℕ, ◌*◌, ◌/◌, ◌%◌, ◌==◌, ◌||◌, ◌&&◌, List, Result, Ok, map, nat_lt}
 use Rattle.std.specs.List.{range_with_len}
 use Rattle.quorum_set.specs.Coteries.{QuorumSystem}
@@ -6,11 +7,12 @@ use Rattle.quorum_set.specs.Sets.{set_where}
 use Rattle.construct.specs.Answers.{sized}
 use Rattle.construct.specs.declared.fault.ConstructFault.{ConstructFault}
 
--- the voters of row i and those of column k, where voter v of r rows of c stands in row v / c and in column v % c
+-- the voters of row i and those of column k, in a grid of r rows of c; voter v is in row v / c and
+-- column v % c
 abbrev pub row_with_column : ℕ → ℕ → ℕ → ℕ → List ℕ
 row_with_column r c i k = set_where (λ v. nat_lt v (r * c) && ((v / c == i) || (v % c == k)))
 
--- a quorum for each voter: the voter's row with its column
+-- a quorum for each voter: its row with its column
 unfoldable pub grid_quorums : ℕ → ℕ → List (List ℕ)
 grid_quorums r c = map (λ j. row_with_column r c (j / c) (j % c)) (range_with_len 0 (r * c))
 

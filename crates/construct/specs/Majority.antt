@@ -1,22 +1,24 @@
--- Majorities: each set of more than half of the voters that has no member to spare (Garcia-Molina and Barbara, JACM 32(4), 1985).
+-- Majorities: the minimal sets of more than half of the voters (Garcia-Molina and Barbara, JACM
+-- 32(4), 1985).
 use Rattle.std.specs.Prelude.{ℕ, ◌+◌, ◌/◌, ◌==◌, List, [], ◌∷◌, ◌++◌, Result, Ok, map, nat_lt, zero, suc}
 use Rattle.quorum_set.specs.Coteries.{QuorumSystem}
 use Rattle.construct.specs.Answers.{sized}
 use Rattle.construct.specs.declared.fault.ConstructFault.{ConstructFault}
 
--- the sets of k of the n numbers from low on, in lexicographic order: first those with low, then those without
+-- the sets of k of the n numbers from low on, in lexicographic order: first those with low, then
+-- those without
 unfoldable pub sets_from : ℕ → ℕ → ℕ → List (List ℕ)
 sets_from low n zero = [] ∷ []
 sets_from low zero (suc k) = []
 sets_from low (suc n) (suc k) = map (λ s. low ∷ s) (sets_from (low + 1) n k) ++ sets_from (low + 1) n (suc k)
 
--- the number of sets of k among n, by Pascal's triangle
+-- the number of ways to choose k of n, by Pascal's triangle
 unfoldable pub choose : ℕ → ℕ → ℕ
 choose n zero = 1
 choose zero (suc k) = 0
 choose (suc n) (suc k) = choose n k + choose n (suc k)
 
--- the sets of one more than half of the n voters, rounded down
+-- the sets of n / 2 + 1 of the n voters, rounded down
 abbrev pub majority_quorums : ℕ → List (List ℕ)
 majority_quorums n = sets_from 0 n (n / 2 + 1)
 

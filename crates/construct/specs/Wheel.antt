@@ -1,4 +1,5 @@
--- Wheels: a hub with each voter of the rim, and the rim (Naor and Wool, SIAM J. Comput. 27(2), 1998).
+-- Wheels: the hub with each voter of the rim, and the rim (Naor and Wool, SIAM J. Comput. 27(2),
+-- 1998).
 use Rattle.std.specs.Prelude.{ℕ, ◌+◌, ◌==◌, ◌||◌, ◌&&◌, List, [], ◌∷◌, ◌++◌, Result, Ok, map, nat_le, nat_lt}
 use Rattle.std.specs.List.{range_with_len}
 use Rattle.quorum_set.specs.Coteries.{QuorumSystem}
@@ -18,7 +19,7 @@ rim k = set_where (λ v. nat_le 1 v && nat_le v k)
 unfoldable pub wheel_quorums : ℕ → List (List ℕ)
 wheel_quorums k = map spoke (range_with_len 1 k) ++ rim k ∷ []
 
--- the wheel of k rims
+-- the wheel with k voters on its rim
 abbrev pub wheel_system : ℕ → QuorumSystem
 wheel_system k = record { voters = k + 1; quorums = wheel_quorums k }
 

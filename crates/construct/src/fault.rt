@@ -1,4 +1,4 @@
-//! Why there is no coterie of the wanted sizes.
+//! The faults of a construction.
 ghost use Rattle.std.specs.Prelude.{◌≡◌};
 ghost use Rattle.construct.specs.declared.fault.ConstructFault.TheVariants.{Coterie, OutOfMemory};
 
@@ -6,21 +6,23 @@ use quorum_set::CoterieFault;
 use std::alloc::{AllocError, AllocFailed};
 use thiserror::Error;
 
-/// The first fault of the numbers that a construction is given, tested in this order.
+/// The first fault of the numbers that a construction receives, in the order of the variants.
 #[derive(Clone, Copy, Debug, PartialEq, Eq, Error)]
 pub enum ConstructFault {
-    /// The sizes are too small, or the base set of a cyclic coterie is none: it is empty, has a member twice, or one that is no
-    /// voter's number.
+    /// The sizes are too small, or the base of a cyclic coterie is bad: it is empty, has a member
+    /// twice, or has a member that is no voter's number.
     #[error("G1 BadSize")]
     BadSize,
     /// The sizes are too large.
     #[error("G2 TooLarge")]
     TooLarge,
-    /// The shifted sets are no coterie: two of them are disjoint, or one lies within another. This comes from `cyclic` alone.
+    /// The shifted sets are no coterie: two of them are disjoint, or one lies within another. Only
+    /// `cyclic` returns this.
     #[error(transparent)]
     Coterie(CoterieFault),
-    /// Memory ran out while the quorums were made, or while the base was searched for a repeat. It never stands for sizes that
-    /// are refused, nor for a base that is empty or has a member that is no voter's number.
+    /// Memory ran out while the quorums were made, or while the base was searched for a repeat.
+    /// `grid`, `majority`, `tree` and `wheel` never return it for sizes that they refuse. `cyclic`
+    /// never returns it for a base that is empty or has a member that is no voter's number.
     #[error("O1 OutOfMemory")]
     OutOfMemory,
 }

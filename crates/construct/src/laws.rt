@@ -1,4 +1,5 @@
-//! Laws of the constructions: each is the contract of a function with an empty body, and holds for all sizes that it names.
+//! Laws about the constructions. Each is the contract of a function with an empty body, and holds
+//! for all sizes that it allows.
 ghost use Rattle.std.specs.Prelude.{◌≡◌, ◌+◌, ◌*◌, ◌^◌, ◌<◌, ◌≤◌, ℕ, List, [], false, length, slice_index_or, All, Contains, IfErr};
 ghost use Rattle.quorum_set.specs.Sets.{Ascends};
 ghost use Rattle.quorum_set.specs.Coteries.{IsCoterie, coterie_of};
@@ -39,7 +40,8 @@ pub fn trees_double_their_exponent()
     ensures { (h : ℕ) → length (tree_quorums h) + 1 ≡ 2 ^ (2 ^ h) }
 {}
 
-/// Sets that are shifted round a ring can only fail to be a coterie in that two of them are disjoint, or one lies within another.
+/// If sets that are shifted round a ring are no coterie, two of them are disjoint, or one lies
+/// within another.
 pub fn cyclic_sets_cross_or_not()
     ensures { (n : ℕ) (base : List ℕ) → n ≤ 64 → is_bad_base n base ≡ false → IfErr (as_construct (coterie_of n (cyclic_quorums n base))) IsCyclicFault }
 {}
@@ -49,13 +51,14 @@ pub fn majorities_are_coteries()
     ensures { (n : ℕ) → 0 < n → n ≤ 14 → IsCoterie (majority_system n) }
 {}
 
-/// The list has exactly the sets of k of the n numbers from low on: each of its members is one, and each one is among its members.
+/// The list has exactly the sets of k of the n numbers from low on: each entry is such a set, and
+/// each such set is an entry.
 pub fn majorities_are_all_sets_of_their_size()
     ensures listed { (low n k : ℕ) → All (λ s. Ascends low (low + n) s × (length s ≡ k)) (sets_from low n k) }
     ensures complete { (low n k : ℕ) (s : List ℕ) → Ascends low (low + n) s → length s ≡ k → Contains (sets_from low n k) s }
 {}
 
-/// There are n over k sets of k of n numbers.
+/// There are n choose k sets of k of n numbers.
 pub fn majorities_are_combinations()
     ensures { (low n k : ℕ) → length (sets_from low n k) ≡ choose n k }
 {}

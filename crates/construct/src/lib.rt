@@ -1,16 +1,24 @@
-//! Known families of coteries, made for any size: grids, majorities, trees, wheels, and cyclic coteries over a base set.
+//! Known families of coteries, made for any size: grids, majorities, trees, wheels, and cyclic
+//! coteries over a base set.
 //!
-//! Each construction answers exactly the list of quorums that its definition names, in the order that it names, or the fault of
-//! its sizes: `BadSize` where they are too small, and `TooLarge` where the coterie would be out of bounds. Grids, majorities, trees
-//! and wheels are proved to be coteries at every size that they take; a cyclic list is one if its base allows it, and
-//! `cyclic` names the first pair of quorums that is at fault where it does not. The crate stands on `quorum_set`, which says what a coterie is; texts of
-//! coteries and plans over them are the business of the crates beside it.
+//! Each construction returns exactly the quorums of its definition, in the definition's order, or
+//! the fault of its sizes: `BadSize` if they are too small, `TooLarge` if the coterie would be out
+//! of bounds. Grids, majorities, trees and wheels are proved to be coteries at every size that they
+//! take. A cyclic list is a coterie if its base allows it; if not, `cyclic` returns the first pair
+//! of quorums at fault. The crate depends on `quorum_set`, which defines coteries. Other crates
+//! deal with the texts of coteries and with plans.
 //!
-//! Which to choose is a matter of the load that the best plan puts on the busiest voter (Naor and Wool, SIAM J. Comput. 27(2), 1998), and of the
-//! members that a lock has to ask. Of n voters a grid of r rows of c asks r + c - 1, at a load of (r + c - 1) / n; a majority asks n / 2 + 1, at a load
-//! just above one half; a tree of height h asks h + 1 at best, at a load of 2 / (h + 2), and goes on without its root; a wheel of k voters on
-//! the rim asks 2 at best, at a load of k / (2 k - 1); and a perfect difference set of size c asks c, at the load c / n. (The loads are
-//! known from the literature; nothing is proved of them here.)
+//! Two things matter for the choice: the load that the best plan puts on the busiest voter (Naor
+//! and Wool, SIAM J. Comput. 27(2), 1998), and how many members a lock has to ask. Of n voters:
+//!
+//! - A grid of r rows of c asks r + c - 1, at a load of (r + c - 1) / n.
+//! - A majority asks n / 2 + 1, at a load just above one half.
+//! - A tree of height h asks h + 1 at best, at a load of 2 / (h + 2), and still works without its
+//!   root.
+//! - A wheel of k voters on the rim asks 2 at best, at a load of k / (2 k - 1).
+//! - A perfect difference set of size c asks c, at a load of c / n.
+//!
+//! The loads are known from the literature; nothing is proved about them here.
 //!
 //! ```
 //! let grid = grid(alloc, 3, 3)?;            // 9 voters; quorum 0 is 0, 1, 2, 3, 6

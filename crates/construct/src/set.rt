@@ -1,4 +1,4 @@
-//! Sets by a test, and coteries of sets that are one.
+//! Sets made by a test, and coteries made of sets that are known to be one.
 ghost use Rattle.std.specs.Prelude.{◌≡◌, ◌<◌, ℕ, Bool, Ok};
 ghost use Rattle.quorum_set.specs.Sets.{set_where};
 ghost use Rattle.quorum_set.specs.Coteries.{IsCoterie};
@@ -6,7 +6,7 @@ ghost use Rattle.quorum_set.specs.Coteries.{IsCoterie};
 use crate::fault::ConstructFault;
 use quorum_set::{Coterie, QSet, coteries_have_no_fault};
 
-/// The set of the numbers below 64 that pass the test.
+/// Returns the set of the numbers below 64 that pass the test.
 pub(crate) fn set_where<F: Fn(u8) -> bool>(passes: F) -> QSet
     requires { F.IsAlwaysCallable passes }
     ensures { (p : ℕ → Bool) → ((i : ℕ) (b : Bool) → i < 64 → F.post passes i b → b ≡ p i) → result ≡ set_where p }
@@ -20,7 +20,7 @@ pub(crate) fn set_where<F: Fn(u8) -> bool>(passes: F) -> QSet
     set
 }
 
-/// The coterie of n voters and these quorums, which have to be one.
+/// Returns the coterie of n voters and these quorums, which have to be a coterie.
 pub(crate) fn coterie_of(n: usize, quorums: Vec<QSet>) -> Result<Coterie, ConstructFault>
     requires { IsCoterie (record { voters = n; quorums = quorums.items }) }
     ensures { result ≡ Ok (record { voters = n; quorums = quorums.items }) }

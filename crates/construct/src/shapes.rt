@@ -1,4 +1,4 @@
-//! The constructions, a file each.
+//! The constructions, one file each.
 pub mod cyclic;
 pub mod grid;
 pub mod majority;

@@ -8,12 +8,12 @@ use Rattle.coterie_file.specs.Answers.{◌>>=◌}
 use Rattle.coterie_file.specs.declared.fault.FileFault.{FileFault}
 use Rattle.coterie_file.specs.declared.fault.FileFault.TheVariants.{NotToml, Keys}
 
--- the names of the voters, and for each quorum the names of its members, as they are listed
+-- the names of the voters, and for each quorum the names of its members, in the order of the text
 pub record NameLists : Type 0 where
   pub names : List (List ℕ)
   pub quorums : List (List (List ℕ))
 
--- the lists of these names
+-- the name lists of these strings
 abbrev pub listed : List (String Global) → List (Vec (String Global) Global) → NameLists
 listed names quorums =
     record { names = map string_bytes names; quorums = map (λ members. map string_bytes members.items) quorums }
@@ -35,11 +35,11 @@ abbrev pub key_count : Members → ℕ
 key_count no_members = 0
 key_count (member key d members) = key_count members + 1
 
--- the items of the array at a key
+-- the items of the array at a key, if there is one
 abbrev pub items_at : List ℕ → Members → Option Items
 items_at key table = option_and_then as_array (get_member key table)
 
--- the lists of a table with the two keys `voters` and `quorums` and no other
+-- the lists of a table that has the two keys `voters` and `quorums` and no other
 abbrev pub lists_of : Members → Option NameLists
 lists_of table =
     if key_count table == 2 then
@@ -48,15 +48,15 @@ lists_of table =
     (option_and_then texts_of (items_at (codes "voters") table))
     else None
 
--- the lists of a table, or the fault of its keys
+-- the lists of a table, or the fault `Keys`
 abbrev pub lists_in : Members → Result NameLists FileFault
 lists_in table = ok_or (lists_of table) Keys
 
--- the table that a text spells, if the text is a TOML document
+-- the table that a text describes, or the fault `NotToml`
 abbrev pub table_at : List ℕ → Result Members FileFault
 table_at text = ok_or (parse_document text) NotToml
 
--- the lists that a text spells
+-- the lists that a text describes
 abbrev pub lists_at : List ℕ → Result NameLists FileFault
 lists_at text = table_at text >>= lists_in
 

@@ -1,4 +1,4 @@
--- The coterie that a text spells.
+-- The coterie that a text describes.
 use Rattle.std.specs.Prelude.{◌≡◌, ℕ, Bool, false, not, ◌==◌, List, [], length, map, position, Option, None, Some, Result, Ok, All, Contains, option_map, is_some}
 use Rattle.std.specs.List.{list_any, list_all}
 use Rattle.std.specs.Option.{option_or}
@@ -11,7 +11,7 @@ use Rattle.coterie_file.specs.Names.{has_name, number_of, first_repeat, names_fa
 use Rattle.coterie_file.specs.declared.fault.FileFault.{FileFault}
 use Rattle.coterie_file.specs.declared.fault.FileFault.TheVariants.{UnknownName, RepeatedMember, Coterie}
 
--- whether this is the number
+-- whether this is the number i
 abbrev pub is_number : Option ℕ → ℕ → Bool
 is_number None i = false
 is_number (Some j) i = j == i
@@ -20,11 +20,11 @@ is_number (Some j) i = j == i
 abbrev pub quorum_of : List (List ℕ) → List (List ℕ) → List ℕ
 quorum_of names members = set_where (λ i. list_any (λ name. is_number (number_of names name) i) members)
 
--- as many voters as names, and the sets of the listed members
+-- a voter for each name, and a quorum for each list of members
 abbrev pub system_of : NameLists → QuorumSystem
 system_of lists = record { voters = length lists.names; quorums = map (quorum_of lists.names) lists.quorums }
 
--- the first fault of the lists; each fault is looked for in the whole text before the next
+-- the first fault of the lists; each fault is looked for in the whole text before the next one
 abbrev pub lists_fault : NameLists → Option FileFault
 lists_fault lists =
     option_or (names_fault lists.names)
@@ -36,18 +36,19 @@ lists_fault lists =
 abbrev pub coterie_in : NameLists → Result NamedSystem FileFault
 coterie_in lists = unless (lists_fault lists) (record { system = system_of lists; names = lists.names })
 
--- the coterie that a text spells, or the first fault
+-- the coterie that a text describes, or the first fault
 abbrev pub coterie_at : List ℕ → Result NamedSystem FileFault
 coterie_at text = lists_at text >>= coterie_in
 
--- what lists without a fault are: good names, quorums of voters' names that have no name twice, and these a coterie
+-- The lists have no fault: all names are good and differ, each quorum lists names of voters and
+-- none of them twice, and the quorums are a coterie.
 pub record ListsCoterie (lists : NameLists) : Type 0 where
   pub names : AreNames lists.names
   pub known : All (λ members. All (Contains lists.names) members) lists.quorums
   pub once : All AllDiffer lists.quorums
   pub coterie : IsCoterie (system_of lists)
 
--- the text spells this coterie with these names
+-- the text describes this coterie with these names
 abbrev pub Spells : List ℕ → NamedSystem → Type 0
 Spells text n =
     (lists : NameLists) × (lists_at text ≡ Ok lists) × ListsCoterie lists

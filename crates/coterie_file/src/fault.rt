@@ -1,4 +1,4 @@
-//! What keeps a text from being a coterie.
+//! The faults of a text that describes no coterie.
 ghost use Rattle.std.specs.Prelude.{◌≡◌};
 ghost use Rattle.coterie_file.specs.declared.fault.FileFault.TheVariants.{Coterie, OutOfMemory};
 
@@ -6,20 +6,21 @@ use quorum_set::CoterieFault;
 use std::alloc::{AllocError, AllocFailed};
 use thiserror::Error;
 
-/// The first fault of a text, in this order. Each is looked for in the whole text before the next, so that the number in it is the
-/// least that has the fault. Voters and quorums are numbered from 0 in the order in which they are listed.
+/// The first fault of a text, in the order of the variants. Each fault is looked for in the whole
+/// text before the next one, so its number is the smallest that has the fault. Voters and quorums
+/// are numbered from 0 in the order of the text.
 #[derive(Clone, Copy, Debug, PartialEq, Eq, Error)]
 pub enum FileFault {
-    /// The text is no TOML document.
+    /// The text is not a TOML document.
     #[error("F1 NotToml")]
     NotToml,
     /// A key is missing, or unknown, or its value is of the wrong kind.
     #[error("F2 Keys")]
     Keys,
-    /// The text that is listed for this voter is no name.
+    /// The text listed for this voter is not a name.
     #[error("F3 BadName {0}")]
     BadName(usize),
-    /// An earlier voter has the name of this one.
+    /// An earlier voter has the same name as this one.
     #[error("F4 RepeatedName {0}")]
     RepeatedName(usize),
     /// This quorum lists a name that no voter has.
@@ -31,7 +32,7 @@ pub enum FileFault {
     /// The quorums are no coterie.
     #[error(transparent)]
     Coterie(CoterieFault),
-    /// Memory ran out. This may come at any point.
+    /// Memory ran out. This may happen at any point.
     #[error("O1 OutOfMemory")]
     OutOfMemory,
 }

@@ -1,4 +1,4 @@
-//! What the definitions mean.
+//! Laws about names, lists and the coteries of texts.
 ghost use Rattle.std.specs.Prelude.{◌≡◌, ◌<◌, ◌≤◌, ◌↔◌, ℕ, List, [], length, map, true, None, Some, Ok, Contains, MatchOption};
 ghost use Rattle.quorum_set.specs.Sets.{has};
 ghost use Rattle.toml.specs.Data.{Items, array};
@@ -8,29 +8,32 @@ ghost use Rattle.coterie_file.specs.Named.{NamedSystem, IsNamed};
 ghost use Rattle.coterie_file.specs.Names.{IsName, is_name, name_at, AllDiffer, AreNames, IsLeastRepeat, first_repeat, names_fault};
 ghost use Rattle.coterie_file.specs.Reading.{quorum_of, lists_fault, coterie_at, ListsCoterie, Spells};
 
-/// The first repeat is the least place whose name stands earlier; where there is none, all names differ.
+/// The first repeat is the smallest place whose name is at an earlier place too. If there is none,
+/// all names differ.
 pub fn first_repeat_is_least()
     ensures { (names : List (List ℕ)) → MatchOption (first_repeat [] names) (AllDiffer names) (IsLeastRepeat names) }
 {}
 
-/// Names have no fault exactly where each text is a name, and all differ.
+/// Names have no fault if and only if each text is a name, and all differ.
 pub fn names_have_no_fault()
     ensures test { (name : List ℕ) → (is_name name ≡ true) ↔ IsName name }
     ensures names { (names : List (List ℕ)) → (names_fault names ≡ None) ↔ AreNames names }
 {}
 
-/// A table's lists are exactly its arrays of strings, and its arrays of arrays of strings.
+/// An array is read as texts if and only if it is the array of these strings. It is read as lists
+/// of texts if and only if it is the array of these arrays of strings.
 pub fn lists_are_arrays_of_strings()
     ensures texts { (items : Items) (texts : List (List ℕ)) → (texts_of items ≡ Some texts) ↔ (items ≡ strings texts) }
     ensures lists { (items : Items) (lists : List (List (List ℕ))) → (text_lists_of items ≡ Some lists) ↔ (items ≡ items_of (map (λ texts. array (strings texts)) lists)) }
 {}
 
-/// A voter is in the quorum that is read exactly where the quorum lists the voter's name.
+/// A voter is in the quorum that is read if and only if the quorum lists the voter's name.
 pub fn quorums_have_the_listed_voters()
     ensures { (names members : List (List ℕ)) (i : ℕ) → AllDiffer names → length names ≤ 64 → (has (quorum_of names members) i ≡ true) ↔ ((i < length names) × Contains members (name_at names i)) }
 {}
 
-/// A text reads as a coterie with names exactly where its lists have good names and quorums of these names that are a coterie.
+/// A text is read as a coterie with names if and only if its lists have good names, and quorums of
+/// these names that are a coterie.
 pub fn texts_read_as_coteries()
     ensures exact { (text : List ℕ) (n : NamedSystem) → (coterie_at text ≡ Ok n) ↔ Spells text n }
     ensures named { (text : List ℕ) (n : NamedSystem) → coterie_at text ≡ Ok n → IsNamed n }

@@ -1,9 +1,10 @@
 //! Coteries as texts: a coterie whose voters have names, read from TOML and written in one layout.
 //!
-//! A coterie (Garcia-Molina and Barbara, JACM 32(4), 1985) comes from `quorum_set` as sets of voters' numbers. Here its voters get
-//! names, and the text lists them: a voter's number is its place in `voters`, a quorum's number its place in `quorums`. What a text reads
-//! as is a function of the text, and `read_coterie` answers exactly that: the coterie, or the first fault of the text. The programs that
-//! plan, deal and run over a coterie start from this crate; it knows nothing of plans.
+//! In `quorum_set` a coterie (Garcia-Molina and Barbara, JACM 32(4), 1985) has sets of voters'
+//! numbers. Here the voters also have names, and a text lists them. A voter's number is its place
+//! in `voters`, and a quorum's number is its place in `quorums`. `read_coterie` returns the coterie
+//! or the first fault, as a function of the text alone (unless it runs out of memory). The programs
+//! that plan, deal and run over a coterie start from this crate. It knows nothing of plans.
 //!
 //! ```text
 //! let text = "voters = ['a', 'b', 'c']\nquorums = [['a', 'b'], ['b', 'c'], ['a', 'c']]";

@@ -11,14 +11,14 @@ use crate::fault::FileFault;
 use std::alloc::Global;
 use toml::{Table, Value};
 
-/// The names of the voters, and for each quorum the names of its members, as they are listed.
+/// The names of the voters, and for each quorum the names of its members, in the order of the text.
 #[derive(Drop)]
 pub(crate) struct NameLists {
     pub(crate) names: Vec<String>,
     pub(crate) quorums: Vec<Vec<String>>,
 }
 
-/// The table that a text spells.
+/// Returns the table that a text describes.
 fn table_of(alloc: Global, text: &str) -> Result<Table, FileFault>
     ensures exact { Gives table_view result (table_at text.now) }
     ensures memory { IfErr result (λ fault. fault ≡ OutOfMemory → ¬ IsBlank text.now) }
@@ -35,7 +35,7 @@ fn table_of(alloc: Global, text: &str) -> Result<Table, FileFault>
     }
 }
 
-/// The items of the array at a key.
+/// Returns the items of the array at a key, if there is one.
 fn array_at<'a>(table: &'a Table, key: &str) -> Option<&'a [Value]>
     ensures { option_map (λ a. items_view a.now) result ≡ items_at key.now (table_view table.now) }
 {
@@ -48,7 +48,7 @@ fn array_at<'a>(table: &'a Table, key: &str) -> Option<&'a [Value]>
     }
 }
 
-/// The texts of an array of strings.
+/// Returns the texts of an array of strings, or `Keys` if an item is not a string.
 fn texts_of(alloc: Global, values: &[Value]) -> Result<Vec<String>, FileFault>
     ensures { Gives (λ v. map string_bytes v.items) result (ok_or (texts_of (items_view values.now)) Keys) }
 {
@@ -62,7 +62,7 @@ fn texts_of(alloc: Global, values: &[Value]) -> Result<Vec<String>, FileFault>
     Ok(texts)
 }
 
-/// The texts of an array of arrays of strings.
+/// Returns the texts of an array of arrays of strings, or `Keys` if an item is not such an array.
 fn text_lists_of(alloc: Global, values: &[Value]) -> Result<Vec<Vec<String>>, FileFault>
     ensures { Gives (λ v. map (λ q. map string_bytes q.items) v.items) result (ok_or (text_lists_of (items_view values.now)) Keys) }
 {
@@ -76,7 +76,7 @@ fn text_lists_of(alloc: Global, values: &[Value]) -> Result<Vec<Vec<String>>, Fi
     Ok(lists)
 }
 
-/// The lists of a table with the keys `voters` and `quorums` and no other.
+/// Returns the lists of a table that has the keys `voters` and `quorums` and no other, or `Keys`.
 fn lists_in(alloc: Global, table: &Table) -> Result<NameLists, FileFault>
     ensures exact { Gives (λ l. listed l.names.items l.quorums.items) result (lists_in (table_view table.now)) }
     ensures empty { table_view table.now ≡ no_members → result ≡ Err Keys }
@@ -96,7 +96,7 @@ fn lists_in(alloc: Global, table: &Table) -> Result<NameLists, FileFault>
 }
 
 impl NameLists {
-    /// The lists that a text spells.
+    /// Returns the lists that a text describes.
     pub(crate) fn of(alloc: Global, text: &str) -> Result<NameLists, FileFault>
         ensures exact { Gives (λ l. listed l.names.items l.quorums.items) result (lists_at text.now) }
         ensures blank { IsBlank text.now → result ≡ Err Keys }

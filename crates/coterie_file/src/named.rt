@@ -9,8 +9,8 @@ use quorum_set::Coterie;
 use std::alloc::{AllocError, Global};
 use std::marker::Model;
 
-/// A coterie with a name for each voter. A name has 1 to 64 bytes out of `A-Z`, `a-z`, `0-9`, `_`, `-`, `.` and `:`, and no two voters
-/// have the same name.
+/// A coterie with a name for each voter. A name has 1 to 64 bytes out of `A-Z`, `a-z`, `0-9`, `_`,
+/// `-`, `.` and `:`. No two voters have the same name.
 #[derive(Drop)]
 pub struct Named {
     coterie: Coterie,
@@ -29,8 +29,9 @@ impl Model for Named {
 }
 
 impl Named {
-    /// Returns the coterie with these names, one for each voter. Fails with `BadName` for the first text that is no name, and
-    /// then with `RepeatedName` for the first name that an earlier voter has. Takes no memory, and drops both with a fault.
+    /// Returns the coterie with these names, one for each voter. Fails with `BadName` for the first
+    /// text that is not a name; then with `RepeatedName` for the first name that an earlier voter
+    /// has. Allocates nothing. A fault drops the coterie and the names.
     pub fn of(coterie: Coterie, names: Vec<String>) -> Result<Named, FileFault>
         requires one_each { vec_len names ≡ coterie.voters }
         ensures exact { result ≡ with_names coterie (map string_bytes names.items) }
@@ -41,7 +42,7 @@ impl Named {
         }
     }
 
-    /// The coterie with names that are known to have no fault.
+    /// Returns the coterie with names that are known to have no fault.
     pub(crate) fn with(coterie: Coterie, names: Vec<String>) -> Named
         requires one_each { vec_len names ≡ coterie.voters }
         requires names { AreNames (map string_bytes names.items) }
@@ -51,7 +52,7 @@ impl Named {
         Named { coterie, names }
     }
 
-    /// The coterie with the names `v0`, `v1` and so on.
+    /// Returns the coterie with the names `v0`, `v1` and so on, unless it runs out of memory.
     pub fn numbered(alloc: Global, coterie: Coterie) -> Result<Named, AllocError>
         ensures exact { IfOk result (λ n. n ≡ record { system = coterie; names = numbered_names coterie.voters }) }
     {
@@ -62,7 +63,7 @@ impl Named {
         Ok(Named::with(coterie, names))
     }
 
-    /// The coterie.
+    /// Returns the coterie.
     pub fn coterie(&self) -> &Coterie
         ensures value { result.now ≡ self.now.system }
         ensures named { IsNamed self.now }
@@ -70,7 +71,7 @@ impl Named {
         &self.coterie
     }
 
-    /// The name of the voter with this number, which is below the number of voters.
+    /// Returns the name of the voter with this number, which has to be below the number of voters.
     pub fn name(&self, i: usize) -> &str
         requires { i < self.now.system.voters }
         ensures value { slice_get self.now.names i ≡ Some result.now }
@@ -79,7 +80,7 @@ impl Named {
         self.names[i].as_str()
     }
 
-    /// The names of the voters, by number.
+    /// Returns the names of the voters, by number.
     pub(crate) fn names(&self) -> &[String]
         ensures value { map string_bytes result.now ≡ self.now.names }
         ensures named { IsNamed self.now }

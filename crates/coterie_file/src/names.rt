@@ -9,35 +9,35 @@ use crate::fault::FileFault;
 use indexmap::IndexSet;
 use std::alloc::{AllocError, Global};
 
-/// Whether a name may have the byte.
+/// Returns whether a name may have the byte.
 fn is_good_byte(b: u8) -> bool
     ensures { result ≡ is_name_byte b }
 {
     b.is_ascii_alphanumeric() || b == b'_' || b == b'-' || b == b'.' || b == b':'
 }
 
-/// Whether a name may have all these bytes.
+/// Returns whether a name may have all these bytes.
 fn are_good_bytes(bytes: &[u8]) -> bool
     ensures { result ≡ list_all is_name_byte bytes.now }
 {
     bytes.iter().all(|b| is_good_byte(*b))
 }
 
-/// Whether the text is a name.
+/// Returns whether the text is a name.
 fn is_good_name(name: &str) -> bool
     ensures { result ≡ is_name name.now }
 {
     0 < name.len() && name.len() <= 64 && are_good_bytes(name.as_bytes())
 }
 
-/// The first text that is no name.
+/// Returns the place of the first text that is not a name.
 fn first_bad_name(names: &[String]) -> Option<usize>
     ensures { result ≡ position (λ n. not (is_name (string_bytes n))) names.now }
 {
     names.iter().position(|name| !is_good_name(name.as_str()))
 }
 
-/// Whether one of the names is this text.
+/// Returns whether one of the names is this text.
 fn has_name(names: &[String], text: &str) -> bool
     ensures { result ≡ has_name (map string_bytes names.now) text.now }
 {
@@ -49,7 +49,8 @@ fn has_name(names: &[String], text: &str) -> bool
     false
 }
 
-/// The first place whose name stands earlier. Takes no memory, and so is for few names alone.
+/// Returns the first place whose name is at an earlier place too. Allocates nothing, but compares
+/// all pairs of names, so it is only for few names.
 fn first_repeat(names: &[String]) -> Option<usize>
     ensures { result ≡ first_repeat [] (map string_bytes names.now) }
 {
@@ -61,7 +62,7 @@ fn first_repeat(names: &[String]) -> Option<usize>
     None
 }
 
-/// The first fault of voters' names. Takes no memory.
+/// Returns the first fault of voters' names. Allocates nothing.
 pub(crate) fn names_fault(names: &[String]) -> Option<FileFault>
     ensures fault { result ≡ names_fault (map string_bytes names.now) }
     ensures names { IfNone result (AreNames (map string_bytes names.now)) }
@@ -75,7 +76,8 @@ pub(crate) fn names_fault(names: &[String]) -> Option<FileFault>
     }
 }
 
-/// The names in a set that numbers them by their places, or the first place whose name stands earlier.
+/// Returns a set that numbers the names by their places, or the first place whose name is at an
+/// earlier place too.
 pub(crate) fn numbered<'a>(
     alloc: Global,
     names: &'a [String],
@@ -92,7 +94,7 @@ pub(crate) fn numbered<'a>(
     Ok(Ok(seen))
 }
 
-/// The names of voters in a set that numbers them, or their first fault.
+/// Returns a set that numbers the names of voters, or their first fault.
 pub(crate) fn voters_of<'a>(
     alloc: Global,
     names: &'a [String],

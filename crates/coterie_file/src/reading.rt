@@ -1,4 +1,4 @@
-//! Reading of a coterie from its text.
+//! Reading a coterie from its text.
 ghost use Rattle.std.specs.Prelude.{◌≡◌, ◌≤◌, [], length, map, not, Err, IfOk, OnOk, position, is_some, string_bytes};
 ghost use Rattle.std.specs.List.{list_all};
 ghost use Rattle.toml.specs.Errors.{IsBlank};
@@ -16,21 +16,21 @@ use indexmap::IndexSet;
 use quorum_set::{Coterie, CoterieFault, QSet};
 use std::alloc::{AllocError, Global};
 
-/// Whether the name is a voter's.
+/// Returns whether a voter has the name.
 fn knows(voters: &IndexSet<&str>, name: &str) -> bool
     ensures { result ≡ has_name (map (λ k. k.now) voters.now.keys) name.now }
 {
     voters.contains(name)
 }
 
-/// Whether all these names are voters'.
+/// Returns whether each of these names is a voter's.
 fn knows_all(voters: &IndexSet<&str>, members: &[String]) -> bool
     ensures { result ≡ list_all (λ n. has_name (map (λ k. k.now) voters.now.keys) (string_bytes n)) members.now }
 {
     members.iter().all(|name| knows(voters, name.as_str()))
 }
 
-/// The first quorum with a name that is no voter's.
+/// Returns the first quorum with a name that no voter has.
 fn first_unknown(voters: &IndexSet<&str>, quorums: &[Vec<String>]) -> Option<usize>
     ensures { result ≡ position (λ q. not (list_all (λ n. has_name (map (λ k. k.now) voters.now.keys) (string_bytes n)) q.items)) quorums.now }
 {
@@ -39,7 +39,7 @@ fn first_unknown(voters: &IndexSet<&str>, quorums: &[Vec<String>]) -> Option<usi
         .position(|members| !knows_all(voters, members.as_slice()))
 }
 
-/// Whether a name stands twice.
+/// Returns whether a name occurs twice.
 fn repeats(alloc: Global, members: &[String]) -> Result<bool, AllocError>
     ensures { IfOk result (λ r. r ≡ is_some (first_repeat [] (map string_bytes members.now))) }
 {
@@ -49,7 +49,7 @@ fn repeats(alloc: Global, members: &[String]) -> Result<bool, AllocError>
     }
 }
 
-/// The first quorum in which a name stands twice.
+/// Returns the first quorum in which a name occurs twice.
 fn first_repeated(alloc: Global, quorums: &[Vec<String>]) -> Result<Option<usize>, AllocError>
     ensures { IfOk result (λ r. r ≡ position (λ q. is_some (first_repeat [] (map string_bytes q.items))) quorums.now) }
 {
@@ -61,14 +61,14 @@ fn first_repeated(alloc: Global, quorums: &[Vec<String>]) -> Result<Option<usize
     Ok(None)
 }
 
-/// The number of the voter with this name.
+/// Returns the number of the voter with this name, if there is one.
 fn number_in(voters: &IndexSet<&str>, name: &str) -> Option<usize>
     ensures { result ≡ number_of (map (λ k. k.now) voters.now.keys) name.now }
 {
     voters.get_index_of(name)
 }
 
-/// The set of the numbers of the members.
+/// Returns the set of the members' numbers.
 fn set_of(voters: &IndexSet<&str>, members: &[String]) -> QSet
     requires { length voters.now.keys ≤ 64 }
     ensures { result ≡ quorum_of (map (λ k. k.now) voters.now.keys) (map string_bytes members.now) }
@@ -82,7 +82,7 @@ fn set_of(voters: &IndexSet<&str>, members: &[String]) -> QSet
     set
 }
 
-/// The sets of the numbers of the quorums' members.
+/// Returns for each quorum the set of its members' numbers.
 fn sets_of(
     alloc: Global,
     voters: &IndexSet<&str>,
@@ -98,7 +98,7 @@ fn sets_of(
     Ok(sets)
 }
 
-/// The coterie of the lists, or their first fault.
+/// Returns the coterie of the lists, or their first fault.
 fn coterie_of(
     alloc: Global,
     names: &[String],
@@ -121,10 +121,14 @@ fn coterie_of(
     Ok(Coterie::of(names.len(), sets)?)
 }
 
-/// The coterie that a text spells. The text is a TOML document with two keys: `voters`, an array of names, and `quorums`, an array of
-/// arrays of these names. A voter's number is its place in `voters`. A text with a fault is refused by its first one, or with
-/// `OutOfMemory`, which may come for every text that is not blank: reading TOML takes memory. A blank text, of white space, line ends and
-/// comments, is refused with `Keys`.
+/// Returns the coterie that a text describes.
+///
+/// The text is a TOML document with two keys: `voters`, an array of names, and `quorums`, an array
+/// of arrays of these names. A voter's number is its place in `voters`.
+///
+/// Fails with the first fault of the text, or with `OutOfMemory`. Any text that is not blank may
+/// fail with `OutOfMemory`, since reading TOML allocates. A blank text, of white space, line ends
+/// and comments, fails with `Keys`.
 pub fn read_coterie(alloc: Global, text: &str) -> Result<Named, FileFault>
     ensures exact { Gives (λ n. n) result (coterie_at text.now) }
     ensures blank { IsBlank text.now → result ≡ Err Keys }

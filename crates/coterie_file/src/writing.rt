@@ -1,4 +1,4 @@
-//! Writing of a coterie's text.
+//! Writing a coterie as text.
 ghost use Rattle.std.specs.Prelude.{◌≡◌, ◌<◌, [], length, map, All, IfOk, slice_index_or, string_bytes};
 ghost use Rattle.coterie_file.specs.Names.{name_at};
 ghost use Rattle.coterie_file.specs.Writing.{name_list, quorum_line, coterie_text};
@@ -8,7 +8,7 @@ use quorum_set::QSet;
 use std::alloc::{AllocError, Global};
 use std::convert::AsStr;
 
-/// The names in brackets, each in quotation marks.
+/// Returns the names in brackets, each in quotation marks.
 fn list_of<S: AsStr>(alloc: Global, names: &[S]) -> Result<String, AllocError>
     requires { 0 < length names.now }
     ensures { IfOk result (λ t. string_bytes t ≡ name_list (map S.text names.now)) }
@@ -17,7 +17,7 @@ fn list_of<S: AsStr>(alloc: Global, names: &[S]) -> Result<String, AllocError>
     format!(in alloc; "[\"{names}\"]")
 }
 
-/// The names of a quorum's members.
+/// Returns the names of a quorum's members.
 fn members_of<'a>(
     alloc: Global,
     named: &'a Named,
@@ -34,7 +34,7 @@ fn members_of<'a>(
     Ok(names)
 }
 
-/// The line of a quorum.
+/// Returns the line of a quorum.
 fn line_of(alloc: Global, named: &Named, j: usize) -> Result<String, AllocError>
     requires { j < length named.now.system.quorums }
     ensures { IfOk result (λ t. string_bytes t ≡ quorum_line named.now.names (slice_index_or named.now.system.quorums j [])) }
@@ -44,8 +44,9 @@ fn line_of(alloc: Global, named: &Named, j: usize) -> Result<String, AllocError>
     format!(in alloc; "  {list},\n")
 }
 
-/// The text of a coterie: a TOML document that `read_coterie` reads back. The names stand in the order of their voters' numbers, each
-/// quorum on a line of its own, and its members in ascending order.
+/// Returns the text of a coterie: a TOML document that `read_coterie` reads back. The names are in
+/// the order of their voters' numbers. Each quorum is on a line of its own, with its members in
+/// ascending order.
 pub fn write_coterie(alloc: Global, named: &Named) -> Result<String, AllocError>
     ensures layout { IfOk result (λ t. string_bytes t ≡ coterie_text named.now) }
 {

@@ -1,4 +1,4 @@
--- Accounts: how often a list of tickets names each quorum and each voter.
+-- Accounts: how often a list of tickets uses each quorum and each voter.
 use Rattle.std.specs.Prelude.{◌≡◌, ℕ, ◌*◌, ◌<◌, ◌≤◌, List, length, map}
 use Rattle.std.specs.List.{All, range_with_len}
 use Rattle.quorum_set.specs.Counts.{times, count_of, busiest_of}
@@ -6,15 +6,16 @@ use Rattle.certificate.specs.Certificates.{Weighted, cycle_len}
 use Rattle.dealer.specs.Cycles.{quorum_of_ticket}
 use Rattle.dealer.specs.declared.account.Account.{Account}
 
--- the list of f's values at 0, 1, .. below n
+-- the list of the values of f at the numbers below n
 abbrev pub values_below : ℕ → (ℕ → ℕ) → List ℕ
 values_below n f = map f (range_with_len 0 n)
 
--- the quorums that the tickets name, in the tickets' order
+-- the quorums that the tickets stand for, in the tickets' order
 abbrev pub quorums_named : Weighted → List ℕ → List ℕ
 quorums_named w tickets = map (quorum_of_ticket w) tickets
 
--- how many tickets there are, how often each quorum and each voter is named, and how often the busiest voter is
+-- how many tickets there are, how often each quorum and each voter is used, and how often the
+-- busiest voter is
 abbrev pub account_of : Weighted → List ℕ → Account
 account_of w tickets =
     let named = quorums_named w tickets in
@@ -25,11 +26,12 @@ account_of w tickets =
       busiest = busiest_of w.system named;
     }
 
--- the tickets fill k cycles: they are the numbers below k times the cycle's length, each once, in any order
+-- the tickets fill k cycles: they are the numbers below k times the cycle's length, each once, in
+-- any order
 pub record IsWholeCycles (w : Weighted) (k : ℕ) (tickets : List ℕ) : Type 0 where
   pub in_all : length tickets ≡ k * cycle_len w
   pub each_once : (ticket : ℕ) → ticket < k * cycle_len w → times ticket tickets ≡ 1
 
--- no list of n quorums names its busiest voter less often than this
+-- no list of n quorums uses its busiest voter less often than this
 abbrev pub IsLeastBusiest : Weighted → ℕ → ℕ → Type 0
 IsLeastBusiest w n count = (list : List ℕ) → length list ≡ n → All (λ j. j < length w.system.quorums) list → count ≤ busiest_of w.system list

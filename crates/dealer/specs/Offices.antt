@@ -10,12 +10,12 @@ use Rattle.dealer.specs.declared.fault.DealFault.TheVariants.{QuotaSpent, OutOfM
 use Rattle.dealer.specs.declared.fault.OfficeFault.{OfficeFault}
 use Rattle.dealer.specs.declared.fault.OfficeFault.TheVariants.{ClerksOut, OutOfMemory}
 
--- which office it is: its table of tickets, and the plan of its cycle
+-- the name of an office: its table of tickets, and the plan of its cycle
 pub record OfficeName : Type 0 where
   pub table : TableId
   pub cycle : Weighted
 
--- an office: which one it is, and how many tickets its clerks may draw in all
+-- an office: its name, and how many tickets its clerks may draw in all
 pub record OfficeState : Type 0 where
   pub name : OfficeName
   pub quota : ℕ
@@ -30,24 +30,24 @@ pub record ClerkState : Type 0 where
 abbrev pub receipt_of : Weighted → ℕ → Receipt
 receipt_of w ticket = record { ticket = ticket; quorum = quorum_of_ticket w ticket }
 
--- the tickets of receipts, in their order
+-- the tickets of these receipts, in the same order
 abbrev pub tickets_of : List Receipt → List ℕ
 tickets_of receipts = map (λ r. r.ticket) receipts
 
--- each receipt names the quorum of its ticket
+-- each receipt has the quorum of its ticket
 abbrev pub AreByCycle : Weighted → List Receipt → Type 0
 AreByCycle w receipts = All (λ r. r.quorum ≡ quorum_of_ticket w r.ticket) receipts
 
--- how many of the office's tickets are this clerk's: those that it drew, and those that it may still draw
+-- a clerk's share of the office's tickets: how many it drew, and how many it may still draw
 abbrev pub share_of : ClerkState → ℕ
 share_of clerk = length clerk.receipts + clerk.rest
 
--- why no ticket is dealt to a clerk that may still draw this many
+-- when a draw may fail with this fault, by how many tickets the clerk may still draw
 abbrev pub RefusesTicket : ℕ → DealFault → Type 0
 RefusesTicket rest QuotaSpent = rest ≡ 0
 RefusesTicket rest NoRoom = 0 < rest
 
--- why there is no account of an office with this quota, by a clerk with this share of it
+-- when a close may fail with this fault, by the office's quota and the clerk's share of it
 abbrev pub RefusesAccount : ℕ → ℕ → OfficeFault → Type 0
 RefusesAccount quota share (ClerksOut q) = (0 < q) × (share + q ≡ quota)
 RefusesAccount quota share OutOfMemory = share ≡ quota

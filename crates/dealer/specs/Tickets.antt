@@ -1,4 +1,4 @@
--- The rule of an office's ticket word, and what the steps on it tell.
+-- The rule of an office's ticket word, and what the steps on it show.
 use Rattle.std.specs.Prelude.{◌≡◌, ℕ, ◌+◌, ◌-◌, ◌^◌, ◌<◌, ◌≤◌, List, [], ◌∷◌, ◌++◌, length, slice_index}
 use Rattle.std.specs.List.{All, sum_by}
 use Rattle.atomic_table.specs.Table.{State, Me, Step}
@@ -7,13 +7,13 @@ use Rattle.certificate.specs.Certificates.{Weighted}
 use Rattle.dealer.specs.declared.tickets.Hand.{Hand}
 use Rattle.dealer.specs.declared.tickets.Sheet.{Sheet}
 
--- a clerk's hand: the cycle that names its quorums, how many tickets it may still draw, and those that it drew
+-- a clerk's hand: the cycle of its tickets, how many it may still draw, and those that it drew
 abbrev pub hand : Weighted → ℕ → List ℕ → Hand
 hand cycle rest drawn = record { cycle = cycle; rest = rest; drawn = drawn }
 
--- There is one word, the next ticket. It and what all clerks may still draw are the quota, so that it never overflows. The
--- tickets of all clerks, taken together, are the numbers below the word, each once: they weigh as much as these, however
--- numbers are weighed.
+-- There is one word, the next ticket. It and what all clerks may still draw add up to the quota, so
+-- it never overflows. The tickets of all clerks, taken together, are the numbers below the word,
+-- each once: however numbers are weighed, both have the same sum.
 pub record IsDealt (quota : ℕ) (words : List ℕ) (views : List Hand) : Type 0 where
   pub one_word : length words ≡ 1
   pub fits : quota ≤ 2 ^ 63
@@ -24,15 +24,15 @@ pub record IsDealt (quota : ℕ) (words : List ℕ) (views : List Hand) : Type 0
 abbrev pub Dealt : Sheet → State (Unit {0}) Hand → Type 0
 Dealt sheet s = IsDealt sheet.quota s.words s.views
 
--- A draw from an office with this quota: the number found is the ticket. It is below the quota and above the seat's earlier
--- tickets, and their number, where the seat has the whole quota.
+-- A draw from an office with this quota: the number found is the ticket. It is below the quota and
+-- above the seat's earlier tickets. If the seat has the whole quota, it is the number of these.
 abbrev pub Draws : ℕ → Step (Unit {0}) → Me (Unit {0}) Hand → ℕ → Me (Unit {0}) Hand → Type 0
 Draws quota st m found after =
     (after ≡ (hand m.0.cycle (m.0.rest - 1) (m.0.drawn ++ found ∷ []), m.1))
     × All (λ t. t < found) m.0.drawn × (found < quota)
     × (length m.0.drawn + m.0.rest ≡ quota → found ≡ length m.0.drawn)
 
--- a look, which changes nothing: a seat may draw no more than the greatest quota
+-- a read, which changes nothing: a seat may draw no more than 2^63 tickets
 abbrev pub Looks : Step (Unit {0}) → Me (Unit {0}) Hand → ℕ → Me (Unit {0}) Hand → Type 0
 Looks st m found after = (after ≡ m) × (m.0.rest ≤ 2 ^ 63)
 
@@ -40,11 +40,12 @@ Looks st m found after = (after ≡ m) × (m.0.rest ≤ 2 ^ 63)
 abbrev pub joined : Hand → Hand → Hand
 joined v w = hand v.cycle (v.rest + w.rest) (v.drawn ++ w.drawn)
 
--- what is left of a seat that another took in
+-- what is left of a seat that joined another
 abbrev pub nothing : Hand
 nothing = hand (record { system = record { voters = 0; quorums = [] }; quorum_weights = []; voter_weights = [] }) 0 []
 
--- an end of an office, as a seat sees it: it has no more than the quota, and all tickets that were drawn where it has no less
+-- The end of an office, as a seat sees it. The seat has no more than the quota. If it has all of
+-- it, it has all tickets that were drawn.
 abbrev pub Ends : Sheet → Hand → Type 0
 Ends sheet v =
     (sheet.quota ≤ 2 ^ 63) × (length v.drawn + v.rest ≤ sheet.quota)

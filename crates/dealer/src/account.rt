@@ -9,20 +9,20 @@ use certificate::weight_on;
 use quorum_set::Coterie;
 use std::alloc::{AllocError, Global};
 
-/// How often a list of tickets names each quorum and each voter.
+/// How often a list of tickets uses each quorum and each voter.
 #[derive(Debug, Drop)]
 pub struct Account {
     /// How many tickets there are.
     pub drawn: u64,
-    /// How many of the tickets name each quorum, by the quorum's number.
+    /// For each quorum, by number, how many of the tickets stand for it.
     pub quorums: Counts,
-    /// How many of the tickets name a quorum with each voter, by the voter's number.
+    /// For each voter, by number, how many of the tickets stand for a quorum with this voter.
     pub voters: Counts,
-    /// The greatest count of a voter, or 0 where there is no ticket.
+    /// The greatest count of a voter, or 0 if there is no ticket.
     pub busiest: u64,
 }
 
-/// How often each voter is named, where each quorum is named as often as `counts` says.
+/// Returns how often each voter is used if each quorum is used as often as `counts` says.
 pub(crate) fn counts_of_voters(
     alloc: Global,
     coterie: &Coterie,
@@ -40,7 +40,7 @@ pub(crate) fn counts_of_voters(
     Ok(voters)
 }
 
-/// The greatest of the numbers, or 0.
+/// Returns the greatest of the numbers, or 0 if there is none.
 pub(crate) fn greatest_of(numbers: &[u64]) -> u64
     ensures { result ≡ greatest_below (length numbers.now) (λ j. slice_index numbers.now j) }
 {

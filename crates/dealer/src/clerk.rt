@@ -9,11 +9,13 @@ use atomic_table::Seat;
 use std::alloc::AllocError;
 use std::marker::{Brand, Model};
 
-/// The right to draw some tickets of one office, with a receipt for each that was drawn. A clerk may move to another
-/// thread. Where it is dropped, what it had is lost, and its office is never closed with an account.
+/// The right to draw some tickets of one office, with a receipt for each ticket that was drawn.
 ///
-/// Contracts see its office's name, how many tickets it may still draw (its rest), and its receipts in the order of its
-/// draws, those of each clerk that it took in behind its own.
+/// A clerk may move to another thread. If it is dropped, its share is lost: unless that was
+/// nothing, its office is never closed with an account.
+///
+/// Contracts see its office's name, how many tickets it may still draw (its rest), and its receipts
+/// in the order of its draws. The receipts of a clerk that joins it follow its own.
 #[derive(Drop)]
 pub struct Clerk {
     pub(crate) seat: Seat<(), Hand>,
@@ -39,14 +41,14 @@ impl Model for Clerk {
 }
 
 impl Clerk {
-    /// How many more tickets it may draw.
+    /// Returns how many more tickets it may draw.
     pub fn rest(&self) -> u64
         ensures { result ≡ self.now.rest }
     {
         self.rest
     }
 
-    /// Its receipts. Each names the quorum of its ticket.
+    /// Returns its receipts. Each has the quorum of its ticket.
     pub fn receipts(&self) -> &[Receipt]
         ensures value { result.now ≡ self.now.receipts }
         ensures quorums { AreByCycle self.now.office.cycle self.now.receipts }
@@ -54,8 +56,9 @@ impl Clerk {
         &self.receipts
     }
 
-    /// A new clerk of the same office, which may draw `quota` of the tickets that this one might have drawn, at most its
-    /// rest. The office has to be this clerk's. Takes no memory.
+    /// Splits off a new clerk of the same office. The new clerk may draw `quota` of the tickets
+    /// that this one might have drawn, which is at most this one's rest. The office has to be this
+    /// clerk's. Takes no memory.
     pub fn split(&mut self, office: &Office, quota: u64) -> Clerk
         requires office { self.old.office ≡ office.now.name }
         requires rest { quota ≤ self.old.rest }
@@ -72,8 +75,10 @@ impl Clerk {
         }
     }
 
-    /// Takes in another clerk, of this office as this one is: their rests are added, and the other's receipts follow the own ones. A
-    /// refusal, for want of memory alone, changes nothing and hands the other back.
+    /// Joins another clerk to this one. Their rests are added, and the other's receipts follow this
+    /// clerk's. Both have to be of this office.
+    ///
+    /// Fails only if it runs out of memory. It then changes nothing and returns the other clerk.
     pub fn join(&mut self, office: &Office, other: Clerk) -> Result<(), (Clerk, AllocError)>
         requires office { self.old.office ≡ office.now.name }
         requires other { other.office ≡ office.now.name }

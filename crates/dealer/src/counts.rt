@@ -3,7 +3,7 @@ ghost use Rattle.std.specs.Prelude.{◌≡◌};
 
 use std::marker::Model;
 
-/// A list of counts, by number: of quorums, or of voters. Contracts see it as the list.
+/// A list of counts of quorums or of voters, by number. Contracts see it as the list.
 #[derive(Debug, Drop)]
 pub struct Counts {
     counts: Vec<u64>,
@@ -20,21 +20,21 @@ impl Model for Counts {
 impl From<Vec<u64>> for Counts {
     ghost from_gives = { λ counts result. result ≡ counts.items };
 
-    /// These counts. Takes no memory.
+    /// Returns these counts as `Counts`. Takes no memory.
     fn from(counts: Vec<u64>) -> Counts {
         Counts { counts }
     }
 }
 
 impl Counts {
-    /// The counts in order.
+    /// Returns the counts, in order.
     pub fn as_slice(&self) -> &[u64]
         ensures { result.now ≡ self.now }
     {
         &self.counts
     }
 
-    /// The counts as a `Vec`. Takes no memory.
+    /// Returns the counts as a `Vec`. Takes no memory.
     pub fn into_vec(self) -> Vec<u64>
         ensures { result.items ≡ self }
     {

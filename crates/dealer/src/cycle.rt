@@ -20,7 +20,7 @@ pub struct Cycle {
     plan: Plan,
     /// The quorums of positive weight, in the order of their numbers.
     listed: Vec<Listed>,
-    /// The rounds, in runs that list the same quorums.
+    /// The rounds in blocks: runs of rounds that list the same quorums.
     blocks: Vec<Block>,
 }
 
@@ -35,7 +35,7 @@ impl Model for Cycle {
     ghost invariant = { λ c. IsCycleOf c.plan c.listed.items c.blocks.items };
 }
 
-/// The weights of a plan's quorums.
+/// Returns the weights of a plan's quorums.
 fn weights_of(alloc: Global, plan: &Plan) -> Result<Vec<u64>, AllocError>
     ensures value { IfOk result (λ v. v.items ≡ plan.now.quorum_weights) }
     ensures certificate { IfOk result (λ _. IsCertificate plan.now) }
@@ -48,7 +48,7 @@ fn weights_of(alloc: Global, plan: &Plan) -> Result<Vec<u64>, AllocError>
     Ok(weights)
 }
 
-/// The quorums of positive weight of a plan's cycle, and its blocks.
+/// Returns the quorums of positive weight of a plan's cycle, and its blocks.
 fn rounds_of(alloc: Global, plan: &Plan) -> Result<(Vec<Listed>, Vec<Block>), AllocError>
     ensures listed { IfOk result (λ rounds. rounds.0.items ≡ listed_quorums plan.now.quorum_weights) }
     ensures blocks { IfOk result (λ rounds. AreBlocksOf plan.now.quorum_weights rounds.1.items) }
@@ -60,15 +60,17 @@ fn rounds_of(alloc: Global, plan: &Plan) -> Result<(Vec<Listed>, Vec<Block>), Al
 }
 
 impl Cycle {
-    /// The cycle of a plan: a list of its quorums of positive weight, and one entry for each weight that
-    /// they have. The time is that of sorting the weights, whatever the cycle's length. A refusal, for want of memory alone,
-    /// hands the plan back.
+    /// Returns the cycle of a plan. It keeps a list of the quorums of positive weight, and one
+    /// entry for each weight that they have. The time is that of sorting the weights, whatever the
+    /// cycle's length.
+    ///
+    /// Fails only if it runs out of memory, and then returns the plan.
     pub fn of(alloc: Global, plan: Plan) -> Result<Cycle, (Plan, AllocError)>
         ensures ok { IfOk result (λ cycle. cycle ≡ plan) }
         ensures certificate { IfOk result IsCertificate }
         ensures err { IfErr result (λ refusal. refusal.0 ≡ plan) }
     {
-        // What is proved of every plan stands in this contract.
+        // Called for its contract alone, which says what is proved of every plan.
         let _ = plan.busiest();
         match rounds_of(alloc, &plan) {
             Ok((listed, blocks)) => Ok(Cycle {
@@ -80,7 +82,7 @@ impl Cycle {
         }
     }
 
-    /// The plan.
+    /// Returns the plan.
     pub fn plan(&self) -> &Plan
         ensures value { result.now ≡ self.now }
         ensures certificate { IsCertificate self.now }
@@ -89,7 +91,7 @@ impl Cycle {
         &self.plan
     }
 
-    /// The number of the quorum at a place of the cycle.
+    /// Returns the number of the quorum at a place of the cycle.
     fn named_at(&self, place: u64) -> usize
         requires { place < cycle_len self.now }
         ensures { result ≡ slice_index (cycle_of self.now.quorum_weights) place }
@@ -98,8 +100,8 @@ impl Cycle {
         quorum_in(&self.listed, self.blocks[number], at)
     }
 
-    /// The number of the quorum that a ticket names: the one at the ticket's place in the cycle, which
-    /// begins again at its end. Takes no memory.
+    /// Returns the number of the quorum that a ticket stands for: the one at the ticket's place in
+    /// the cycle, which begins again at its end. Takes no memory.
     #[tactic(auto, using(crate::proofs::AccountLemmas::ticket_in_range))]
     pub fn quorum_at(&self, ticket: u64) -> usize
         ensures value { result ≡ quorum_of_ticket self.now ticket }
@@ -109,7 +111,7 @@ impl Cycle {
         self.named_at(ticket % self.plan.cycle_len())
     }
 
-    /// How many of the tickets name each quorum.
+    /// Returns how many of the tickets stand for each quorum.
     fn counts_of_quorums(&self, alloc: Global, tickets: &[u64]) -> Result<Vec<u64>, AllocError>
         ensures { IfOk result (λ v. v.items
             ≡ values_below (length self.now.system.quorums)
@@ -124,18 +126,18 @@ impl Cycle {
         Ok(counts)
     }
 
-    /// The account of a list of tickets, in any order. The only refusal is for want of memory.
+    /// Returns the account of a list of tickets, in any order. Fails only if it runs out of memory.
     ///
-    /// The tickets of whole cycles name each quorum as often as its weight says, and their busiest voter
-    /// as seldom as any list of as many quorums does.
+    /// The tickets of whole cycles use each quorum as often as its weight says. No list of that
+    /// length uses its busiest voter less often.
     pub fn account(&self, alloc: Global, tickets: &[u64]) -> Result<Account, AllocError>
         ensures value { IfOk result (λ account. account ≡ account_of self.now tickets.now) }
 
-        // What the tickets of k whole cycles name: each quorum k times its weight, ..
+        // The tickets of k whole cycles use each quorum k times its weight, ..
         ensures shares { (k : ℕ) → IsWholeCycles self.now k tickets.now →
             IfOk result (λ account.
             account.quorums ≡ map (λ weight. k * weight) self.now.quorum_weights) }
-        // .. and the busiest voter k times the busiest count: no list of as many quorums does better.
+        // .. and the busiest voter k times the busiest count. No list of that length does better.
         ensures even { (k : ℕ) → IsWholeCycles self.now k tickets.now →
             IfOk result (λ account. account.busiest ≡ k * busiest_count self.now) }
         ensures least { (k : ℕ) → IsWholeCycles self.now k tickets.now →

@@ -1,4 +1,4 @@
-//! Laws of the definitions.
+//! Laws: what is proved about the definitions.
 ghost use Rattle.std.specs.Prelude.{◌≡◌, ◌*◌, ℕ, List, IsPermutation, length, slice_index, sum};
 ghost use Rattle.std.specs.List.{range_with_len};
 ghost use Rattle.quorum_set.specs.Counts.{count_of, busiest_of, times};
@@ -11,22 +11,22 @@ ghost use Rattle.dealer.specs.Accounts.{account_of, quorums_named, IsWholeCycles
 use certificate::whole_cycles_are_even;
 use quorum_set::all_below_stand_once;
 
-/// A cycle is as long as the weights add up to, and each quorum stands in it as often as its weight
-/// says. The cycle goes by turns: first each quorum once, in the order of their numbers, then each one
-/// a second time whose weight is 2 or more, and so on.
+/// A cycle is as long as the weights add up to, and contains each quorum as often as its weight
+/// says. It goes by turns. First comes each quorum once, in the order of their numbers. Then each
+/// quorum with a weight of 2 or more comes a second time, and so on.
 pub fn cycles_follow_weights()
     ensures len { (weights : List ℕ) → length (cycle_of weights) ≡ sum weights }
     ensures shares { (weights : List ℕ) (j : ℕ) → times j (cycle_of weights) ≡ slice_index weights j }
     ensures turns { (weights : List ℕ) → GoesByTurns (cycle_of weights) }
 {}
 
-/// The numbers below k times the cycle's length are the tickets of k whole cycles, in any order.
+/// The numbers below k times the cycle's length, in any order, are the tickets of k whole cycles.
 pub fn tickets_fill_cycles_in_any_order()
     ensures { (w : Weighted) (k : ℕ) (tickets : List ℕ) →
         IsPermutation (range_with_len 0 (k * cycle_len w)) tickets → IsWholeCycles w k tickets }
 {}
 
-/// So are they where they are told by sums, as of the tickets of an office.
+/// The same holds of tickets that are known by sums, as those of an office are.
 pub fn tickets_below_fill_cycles()
     ensures { (w : Weighted) (k : ℕ) (tickets : List ℕ) →
         AreAllBelow tickets (k * cycle_len w) → IsWholeCycles w k tickets }
@@ -34,7 +34,7 @@ pub fn tickets_below_fill_cycles()
     all_below_stand_once();
 }
 
-/// Tickets name a voter as often as they name the quorums with it, taken together.
+/// Tickets use a voter as often as they use the quorums with this voter, taken together.
 pub fn voters_are_counted_by_quorum()
     ensures { (w : Weighted) (tickets : List ℕ) → IsCertificate w → (i : ℕ) →
         count_of w.system i (quorums_named w tickets)
@@ -43,8 +43,8 @@ pub fn voters_are_counted_by_quorum()
     whole_cycles_are_even();
 }
 
-/// The tickets of k whole cycles name each quorum k times its weight, and their busiest voter k times
-/// the busiest count.
+/// The tickets of k whole cycles use each quorum k times its weight, and their busiest voter k
+/// times the busiest count.
 pub fn whole_cycles_follow_weights()
     ensures shares { (w : Weighted) (k : ℕ) (tickets : List ℕ) → IsWholeCycles w k tickets →
         (j : ℕ) → times j (quorums_named w tickets) ≡ k * slice_index w.quorum_weights j }

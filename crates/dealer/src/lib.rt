@@ -1,21 +1,24 @@
-//! Dealing quorums by a plan.
+//! Deals the quorums of a coterie by a plan.
 //!
-//! A plan's weights say how often each quorum is named in a cycle. A [`Cycle`] goes by rounds: round 1
-//! lists each quorum with a weight of 1 or more, in the order of their numbers, round 2 each one with 2
-//! or more, and so on. A ticket is a number from 0 on, and names the quorum at its place in the cycle,
-//! which begins again at its end. So whoever hands out the tickets 0, 1, 2, .. deals the quorums in the
-//! plan's proportions.
+//! A plan's weights say how often a cycle uses each quorum. A [`Cycle`] goes by rounds. Round 1
+//! lists each quorum with a weight of 1 or more, in the order of their numbers. Round 2 lists each
+//! quorum with a weight of 2 or more, and so on. A ticket is a number from 0 on. It stands for the
+//! quorum at its place in the cycle, which begins again at its end. So whoever hands out the
+//! tickets 0, 1, 2, .. deals the quorums in the plan's proportions.
 //!
-//! A cycle may have a million places, and is not laid out. Rounds between which no weight lies list the
-//! same quorums: a run of such rounds is kept as a block, with its first place, the weight that a quorum
-//! needs to be listed there, and how many quorums are. Beside the blocks stand the quorums of positive
-//! weight. A look-up finds the block by binary search, and goes along these quorums to the place within
-//! the round; where the round lists them all, as the first block's do, the place is an index.
+//! A cycle may have a million places, and is not stored as a list. Rounds list the same quorums if
+//! no weight lies between them. A run of such rounds is kept as a block: its first place, the
+//! weight that a quorum needs to be listed there, and the number of quorums that are. A list next
+//! to the blocks has the quorums of positive weight.
 //!
-//! An [`Account`] says how often a list of tickets names each quorum and each voter. What whole cycles
-//! are for is proved of it: each quorum stands there k times its weight, and no list of as many quorums
-//! names its busiest voter less often (Naor and Wool, SIAM J. Comput. 27(2), 1998, section 2: the load
-//! of a strategy).
+//! A look-up finds the block by binary search, and then walks along these quorums to the place
+//! within the round. If the round lists all of them, as the rounds of the first block do, the place
+//! is an index.
+//!
+//! An [`Account`] says how often a list of tickets uses each quorum and each voter. This is proved
+//! of k whole cycles: they use each quorum k times its weight, and no list of that length uses its
+//! busiest voter less often (Naor and Wool, SIAM J. Comput. 27(2), 1998, section 2: the load of a
+//! strategy).
 //!
 //! ```text
 //! // The wheel with three rims, quorums {0,1}, {0,2}, {0,3}, {1,2,3} with the weights 1, 1, 1, 2:
@@ -27,10 +30,10 @@
 //!
 //! # Many threads
 //!
-//! An [`Office`] hands out the tickets of a cycle to any number of threads. Each thread draws by a
-//! [`Clerk`] of its own, which may draw a part of the office's quota and keeps a [`Receipt`] for each
-//! draw. A draw is one atomic addition and waits for nobody. Clerks are split off one another and
-//! joined again, and the last one closes the office:
+//! An [`Office`] hands out the tickets of a cycle to any number of threads. Each thread draws with
+//! a [`Clerk`] of its own, which may draw a part of the office's quota and keeps a [`Receipt`] for
+//! each draw. A draw is one atomic addition and waits for nobody. Clerks are split off one another
+//! and joined again, and the last one closes the office:
 //!
 //! ```text
 //! let Ok((office, mut root)) = Office::new(alloc, cycle, 2000) else { .. };
@@ -40,14 +43,20 @@
 //! let (account, receipts) = office.close(alloc, root)?;
 //! ```
 //!
-//! Proved, whatever the threads do: a ticket is above all that its clerk drew before, and names the
-//! quorum at its place; `QuotaSpent` comes exactly where the clerk's rest is 0; `ClerksOut` comes
-//! exactly where the last clerk hasn't the whole quota; and otherwise the receipts at the close are
-//! those of the tickets 0, 1, 2, .. with none twice and none left out, so that the account of whole
-//! cycles is as even as the plan promises. Not said: in which order threads draw, and that memory for
-//! a receipt is found; where it isn't, no ticket is taken.
+//! Proved, whatever the threads do:
 //!
-//! Above `certificate`, whose [`Plan`](certificate::Plan) it consumes; below everything that draws quorums.
+//! - A ticket is above all that its clerk drew before, and its receipt has the quorum at the
+//!   ticket's place.
+//! - A draw fails with `QuotaSpent` if and only if the clerk's rest is 0.
+//! - A close fails with `ClerksOut` if and only if the last clerk doesn't have the whole quota.
+//! - A close that succeeds returns the receipts of the tickets 0, 1, 2, .., each once. So the
+//!   account of whole cycles is as even as the plan promises.
+//!
+//! Not proved: in which order threads draw, and that there is memory for a receipt. If there is
+//! none, no ticket is taken.
+//!
+//! Depends on `certificate`, whose [`Plan`](certificate::Plan) it takes. Everything that draws
+//! quorums depends on this crate.
 #![tactic(auto)]
 
 mod account;

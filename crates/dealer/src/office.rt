@@ -18,10 +18,10 @@ use quorum_set::all_below_stand_once;
 use std::alloc::{AllocError, Global};
 use std::marker::{Brand, Model};
 
-/// Deals the tickets 0, 1, 2, .. of a cycle, in the order of the draws, to clerks in any number of threads. A draw is
-/// one atomic addition: no clerk waits for another.
+/// An office that deals the tickets 0, 1, 2, .. of a cycle, in the order of the draws, to clerks in
+/// any number of threads. A draw is one atomic addition: no clerk waits for another.
 ///
-/// Contracts see its name, which its clerks bear, and its quota.
+/// Contracts see its name, which its clerks have too, and its quota.
 #[derive(Drop)]
 pub struct Office {
     pub(crate) table: TicketTable,
@@ -43,14 +43,14 @@ impl Model for Office {
         × (o.table.shared.table_id.words ≡ 1) × (o.table.shared.table_id.slots ≡ 0) };
 }
 
-/// The tickets of receipts.
+/// Returns the tickets of these receipts.
 fn ticket_numbers(alloc: Global, receipts: &[Receipt]) -> Result<Vec<u64>, AllocError>
     ensures { IfOk result (λ v. v.items ≡ tickets_of receipts.now) }
 {
     receipts.iter().map(|receipt| receipt.ticket).collect(alloc)
 }
 
-/// The account of all tickets of an office.
+/// Returns the account of all tickets of an office.
 fn account_of_all(alloc: Global, cycle: &Cycle, receipts: &[Receipt]) -> Result<Account, AllocError>
     requires { AreAllBelow (tickets_of receipts.now) (length receipts.now) }
     ensures value { IfOk result (λ account. account ≡ account_of cycle.now (tickets_of receipts.now)) }
@@ -67,8 +67,10 @@ fn account_of_all(alloc: Global, cycle: &Cycle, receipts: &[Receipt]) -> Result<
 }
 
 impl Office {
-    /// An office that deals at most `quota` tickets of the cycle, a quota of at most 2^63, and the clerk that may draw them
-    /// all. A refusal, for want of memory alone, hands the cycle back.
+    /// Returns a new office and the clerk that may draw all its tickets. The office deals at most
+    /// `quota` tickets of the cycle; the quota is at most 2^63.
+    ///
+    /// Fails only if it runs out of memory, and then returns the cycle.
     pub fn new(
         alloc: Global,
         cycle: Cycle,
@@ -96,24 +98,27 @@ impl Office {
         }
     }
 
-    /// The cycle that the tickets go through.
+    /// Returns the cycle of the tickets.
     pub fn cycle(&self) -> &Cycle
         ensures { result.now ≡ self.now.name.cycle }
     {
         &self.sheet.cycle
     }
 
-    /// Draws the next ticket, for a clerk of this office. The clerk keeps the receipt, and may draw one ticket less.
+    /// Draws the next ticket for a clerk of this office, and returns the receipt. The clerk keeps
+    /// the receipt too, and may draw one ticket less.
     ///
-    /// Refused by `QuotaSpent` exactly where the clerk's rest is 0, and otherwise for want of memory alone: room for the
-    /// receipt is made before the ticket is taken, so that a refused draw takes none.
+    /// Fails with `QuotaSpent` if and only if the clerk's rest is 0; otherwise only if it runs out
+    /// of memory. Memory for the receipt is reserved before the ticket is taken, so a draw that
+    /// fails takes no ticket.
     pub fn draw(&self, clerk: &mut Clerk) -> Result<Receipt, DealFault>
         requires { clerk.old.office ≡ self.now.name }
         ensures quorum { IfOk result (λ r. r ≡ receipt_of self.now.name.cycle r.ticket) }
         ensures in_range { IfOk result (λ r.
             r.quorum < length self.now.name.cycle.system.quorums) }
 
-        // The ticket is above all that the clerk has, and the next number where no other clerk has a share.
+        // The ticket is above all that the clerk has. It is the next number if no other clerk has a
+        // share.
         ensures above { IfOk result (λ r. All (λ t. t < r.ticket) (tickets_of clerk.old.receipts)) }
         ensures below { IfOk result (λ r. r.ticket < self.now.quota) }
         ensures next { share_of clerk.old ≡ self.now.quota →
@@ -142,16 +147,19 @@ impl Office {
         Ok(receipt)
     }
 
-    /// Closes the office with its last clerk, and answers the account of all tickets and the clerk's receipts.
+    /// Closes the office with its last clerk, and returns the account of all tickets and the
+    /// clerk's receipts.
     ///
-    /// Refused by `ClerksOut` exactly where the clerk's receipts and its rest are short of the quota, so that another
-    /// clerk has a share or had one; and otherwise for want of memory alone. The receipts come back with a refusal.
+    /// Fails with `ClerksOut` if and only if the clerk's receipts and its rest are short of the
+    /// quota: then another clerk has a share or had one. Otherwise it fails only if it runs out of
+    /// memory. If it fails, the receipts come back.
     pub fn close(self, alloc: Global, clerk: Clerk) -> Result<(Account, Vec<Receipt>), Unclosed>
         requires { clerk.office ≡ self.name }
         ensures receipts { IfOk result (λ closed. closed.1.items ≡ clerk.receipts) }
         ensures share { IfOk result (λ _. share_of clerk ≡ self.quota) }
 
-        // The tickets are the numbers from 0 on, each once and none left out, and each names the quorum at its place.
+        // The tickets are the numbers from 0 on, each once, and each receipt has the quorum at its
+        // ticket's place.
         ensures tickets { IfOk result (λ _.
             AreAllBelow (tickets_of clerk.receipts) (length clerk.receipts)) }
         ensures each_once { IfOk result (λ _. (ticket : ℕ) → ticket < length clerk.receipts →
@@ -160,11 +168,11 @@ impl Office {
         ensures account { IfOk result (λ closed.
             closed.0 ≡ account_of self.name.cycle (tickets_of clerk.receipts)) }
 
-        // Where k whole cycles were dealt, each quorum was named k times its weight, ..
+        // If k whole cycles were dealt, each quorum was used k times its weight, ..
         ensures shares { (k : ℕ) → length clerk.receipts ≡ k * cycle_len self.name.cycle →
             IfOk result (λ closed.
             closed.0.quorums ≡ map (λ weight. k * weight) self.name.cycle.quorum_weights) }
-        // .. and the busiest voter k times the busiest count: no list of as many quorums does better.
+        // .. and the busiest voter k times the busiest count. No list of that length does better.
         ensures even { (k : ℕ) → length clerk.receipts ≡ k * cycle_len self.name.cycle →
             IfOk result (λ closed. closed.0.busiest ≡ k * busiest_count self.name.cycle) }
         ensures least { (k : ℕ) → length clerk.receipts ≡ k * cycle_len self.name.cycle →

@@ -1,6 +1,6 @@
-//! What a draw answers.
+//! Receipts: what a draw returns.
 
-/// A ticket that was drawn, and the quorum that it names.
+/// A ticket that was drawn, and the quorum that it stands for.
 #[derive(Clone, Copy, Debug, PartialEq, Eq, Drop)]
 pub struct Receipt {
     /// The ticket's number, from 0 on.

@@ -1,4 +1,5 @@
-//! The word of an office's tickets: its rule, and the steps on it. Nothing else touches the word.
+//! The atomic word of an office's tickets: its rule, and the steps on it. Nothing else touches the
+//! word.
 ghost use Rattle.std.specs.Prelude.{◌≡◌, ◌+◌, ◌-◌, ◌<◌, ◌≤◌, ◌^◌, [], ◌∷◌, ◌++◌, length};
 ghost use Rattle.std.specs.List.{All};
 ghost use Rattle.dealer.specs.Tickets.{hand, joined, Ends};
@@ -9,18 +10,18 @@ use std::alloc::Global;
 use std::collections::LinkedList;
 use std::marker::{Brand, PhantomData};
 
-/// What a seat at the word knows: the office's cycle, how many tickets it may still draw, and those that it drew. Only
-/// proofs speak of it: no value of it is ever made.
+/// What a seat at the word knows: the office's cycle, how many tickets it may still draw, and those
+/// that it drew. Only proofs use this type: no value of it is ever made.
 pub struct Hand {
     pub cycle: Cycle,
     pub rest: u64,
     pub drawn: LinkedList<u64>,
 }
 
-/// What an office is made for.
+/// The cycle and the quota of an office.
 #[derive(Drop)]
 pub struct Sheet {
-    /// The cycle that its tickets go through.
+    /// The cycle of its tickets.
     pub cycle: Cycle,
     /// How many tickets may be drawn in all: at most 2^63.
     pub quota: u64,
@@ -41,7 +42,7 @@ impl TableRule<(), Hand, Sheet> for Tickets {
 /// The table with the word.
 pub type TicketTable = Table<(), Hand, Sheet, Tickets, Global>;
 
-/// A number that a call picks for a step.
+/// A number that a call chooses for a step.
 pub trait Amount {
     ghost use Rattle.std.specs.Prelude.{ℕ};
 
@@ -63,7 +64,7 @@ impl<Q: Amount> Play<(), Hand> for Draw<Q> {
     ghost then = { Draws Q.amount };
 }
 
-/// A look at the word, which tells that a seat's rest is in range.
+/// A read of the word, which shows that a seat's rest is in range.
 struct Look;
 
 impl Play<(), Hand> for Look {
@@ -86,7 +87,7 @@ impl<Q: Amount> Split<Hand> for Cut<Q> {
     ghost right = { λ v. hand v.cycle Q.amount [] };
 }
 
-/// A seat takes in another.
+/// A seat joins another.
 struct Merge;
 
 impl Join<Hand> for Merge {
@@ -98,7 +99,7 @@ impl Join<Hand> for Merge {
     ghost spent = { nothing };
 }
 
-/// The next ticket, by one step on the word.
+/// Draws the next ticket by one atomic addition to the word, and returns it.
 pub(crate) fn take_ticket<Q: Amount>(table: &TicketTable, seat: &mut Seat<(), Hand>) -> u64
     requires quota { table.now.shared.key.quota ≡ Q.amount }
     requires table { seat.old.table_id ≡ table.now.shared.table_id }
@@ -118,7 +119,7 @@ pub(crate) fn take_ticket<Q: Amount>(table: &TicketTable, seat: &mut Seat<(), Ha
     table.shared.fetch_add::<Draw<Q>>(seat, 0, 1)
 }
 
-/// A seat with this amount of what the other may draw.
+/// Splits off a new seat, which may draw `amount` of what this one might have drawn.
 pub(crate) fn split_off<Q: Amount>(
     table: &TicketTable,
     seat: &mut Seat<(), Hand>,
@@ -140,7 +141,7 @@ pub(crate) fn split_off<Q: Amount>(
     table.shared.split_seat::<Cut<Q>>(seat)
 }
 
-/// Takes in another seat. The look afterwards tells that the sum of the rests is in range.
+/// Joins another seat to this one. The read afterwards shows that the sum of the rests is in range.
 pub(crate) fn take_in(table: &TicketTable, seat: &mut Seat<(), Hand>, other: Seat<(), Hand>)
     requires table { seat.old.table_id ≡ table.now.shared.table_id }
     requires other_table { other.table_id ≡ table.now.shared.table_id }
@@ -154,7 +155,7 @@ pub(crate) fn take_in(table: &TicketTable, seat: &mut Seat<(), Hand>, other: Sea
     table.shared.load::<Look>(seat, 0);
 }
 
-/// Ends the table, with a seat whose view is known.
+/// Ends the table, with a seat that knows what it drew and may draw.
 pub(crate) fn end(table: TicketTable, seat: Seat<(), Hand>)
     requires table { seat.table_id ≡ table.shared.table_id }
     requires no_slots { table.shared.table_id.slots ≡ 0 }

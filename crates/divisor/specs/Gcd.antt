@@ -6,7 +6,7 @@ unfoldable pub common_divisor_up_to : ℕ → ℕ → ℕ → ℕ
 common_divisor_up_to zero a b = 0
 common_divisor_up_to (suc n) a b = if (a % suc n == 0) && (b % suc n == 0) then suc n else common_divisor_up_to n a b
 
--- the greatest number that divides both; 0 where both are 0
+-- the greatest number that divides both; 0 if both are 0
 unfoldable pub gcd_of : ℕ → ℕ → ℕ
 gcd_of a b = common_divisor_up_to (a + b) a b
 

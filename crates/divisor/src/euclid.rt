@@ -3,7 +3,8 @@ ghost use Rattle.std.specs.Prelude.{◌≡◌};
 ghost use Rattle.std.specs.Int.{IsGcd};
 ghost use Rattle.divisor.specs.Gcd.{gcd_of};
 
-/// The greatest common divisor of two numbers, by Euclid's algorithm. `gcd(x, 0)` is `x`, also where `x` is 0.
+/// Returns the greatest common divisor of two numbers, by Euclid's algorithm. `gcd(x, 0)` is `x`,
+/// and `gcd(0, 0)` is 0.
 pub fn gcd(a: u64, b: u64) -> u64
     ensures value { result ≡ gcd_of a b }
     // It divides both, and each common divisor divides it.

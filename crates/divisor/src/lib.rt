@@ -1,7 +1,8 @@
-//! The greatest common divisor of two numbers, of 64 or of 128 bits.
+//! Greatest common divisors of numbers of 64 or 128 bits.
 //!
-//! Two numbers that are divided by their greatest common divisor are in lowest terms. The loads of plans are told so, and
-//! the simplex method reckons with fractions that are kept so. This crate stands on no other.
+//! Dividing two numbers by their greatest common divisor brings them to lowest terms. Plans give
+//! their loads in lowest terms, and the simplex method keeps its fractions in lowest terms. This
+//! crate depends on no other.
 //!
 //! ```text
 //! assert_eq!(rt; gcd(6, 10), 2);

@@ -3,8 +3,9 @@ ghost use Rattle.std.specs.Int.{IsGcd};
 
 use crate::euclid::gcd;
 
-/// The greatest common divisor of two numbers, by Euclid's algorithm: by `gcd`, which is several times faster, from where
-/// both numbers fit into 64 bits. `wide_gcd(x, 0)` is `x`, also where `x` is 0.
+/// Returns the greatest common divisor of two numbers, by Euclid's algorithm. As soon as both
+/// numbers fit into 64 bits it calls `gcd`, which is several times faster. `wide_gcd(x, 0)` is `x`,
+/// and `wide_gcd(0, 0)` is 0.
 pub fn wide_gcd(a: u128, b: u128) -> u128
     // It divides both, and each common divisor divides it.
     ensures { IsGcd a b result }

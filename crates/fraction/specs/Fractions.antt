@@ -13,12 +13,12 @@ pub record Fraction : Type 0 where
 abbrev pub Fits : ℤ → Type 0
 Fits z = unsigned_abs z < 2 ^ 127
 
--- the number of this absolute value that is at least 0, or the one that is at most 0
+-- the number with this absolute value: at least 0 for true, at most 0 for false
 abbrev pub signed_of : Bool → ℕ → ℤ
 signed_of true n = pos n
 signed_of false n = neg_ℤ (pos n)
 
--- in lowest terms over a positive denominator, of numbers that fit
+-- a fraction in lowest terms over a positive denominator, with numbers that fit
 pub record IsReduced (f : Fraction) : Type 0 where
   pub positive : pos 0 <ℤ f.den
   pub lowest : IsGcd (unsigned_abs f.num) (unsigned_abs f.den) 1
@@ -29,7 +29,8 @@ pub record IsReduced (f : Fraction) : Type 0 where
 abbrev pub IsRatio : ℤ → ℤ → Fraction → Type 0
 IsRatio p q f = f.num *ℤ q ≡ p *ℤ f.den
 
--- The numbers that a call forms fit: for a sum, a difference, a product, a quotient and a comparison.
+-- The numbers that a call computes fit: for a sum, a difference, a product, a quotient and a
+-- comparison.
 
 abbrev pub SumFits : Fraction → Fraction → Type 0
 SumFits f g = Fits (f.num *ℤ g.den) × Fits (g.num *ℤ f.den) × Fits (f.den *ℤ g.den) × Fits ((f.num *ℤ g.den) +ℤ (g.num *ℤ f.den))
@@ -46,7 +47,7 @@ QuotientFits f g = Fits (f.num *ℤ g.den) × Fits (f.den *ℤ g.num)
 abbrev pub ComparisonFits : Fraction → Fraction → Type 0
 ComparisonFits f g = Fits (f.num *ℤ g.den) × Fits (g.num *ℤ f.den)
 
--- what was answered is the number, where it fits, and else that it does not
+-- the result is the number if it fits, else `Overflow`
 abbrev pub Checks : ℤ → Result ℤ FracFault → Type 0
 Checks z (Ok x) = (x ≡ z) × Fits z
 Checks z (Err e) = (e ≡ Overflow) × ¬ Fits z

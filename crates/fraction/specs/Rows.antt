@@ -17,7 +17,7 @@ IsSmall r = (j : ℕ) → j < length r → unsigned_abs (entry_of r j) ≤ 2 ^ 6
 abbrev pub EachFits : List ℤ → ℤ → Type 0
 EachFits r factor = (j : ℕ) → j < length r → Fits (entry_of r j *ℤ factor)
 
--- the entry of a column, times its factor, less the other row's times its factor
+-- the row's entry in a column times `scale`, minus `taken` times the other row's entry
 abbrev pub combined : List ℤ → ℤ → List ℤ → ℤ → ℕ → ℤ
 combined r scale other taken j = (entry_of r j *ℤ scale) -ℤ (taken *ℤ entry_of other j)
 
@@ -25,11 +25,13 @@ combined r scale other taken j = (entry_of r j *ℤ scale) -ℤ (taken *ℤ entr
 abbrev pub CombineFits : List ℤ → ℤ → List ℤ → ℤ → Type 0
 CombineFits r scale other taken = (j : ℕ) → j < length r → Fits (entry_of r j *ℤ scale) × Fits (taken *ℤ entry_of other j) × Fits (combined r scale other taken j)
 
--- what is formed of a row fits, where the other row is taken as often as the row's entry in the column says
+-- the numbers fit that are computed for a row when the other row, times the row's entry in the
+-- column, is subtracted from it
 abbrev pub EliminateFits : List ℤ → ℤ → List ℤ → ℕ → Type 0
 EliminateFits r scale other column = CombineFits r scale other (entry_of r column)
 
--- a row, times the scale, has lost the other row as often as its entry in the column said
+-- the new row is the old row times `scale`, minus the other row times the old row's entry in the
+-- column
 abbrev pub IsEliminated : List ℤ → List ℤ → ℤ → List ℤ → ℕ → Type 0
 IsEliminated old new scale other column = (length new ≡ length old) × ((j : ℕ) → j < length old → entry_of new j ≡ combined old scale other (entry_of old column) j)
 
@@ -49,15 +51,16 @@ lists_of rows = map (λ row. row.items) rows
 abbrev pub table_of : List (Vec ℤ Global) → ℤ → Table
 table_of rows den = record { rows = lists_of rows; den = den }
 
--- the row of a number
+-- the row with this number
 abbrev pub row_at : List (List ℤ) → ℕ → List ℤ
 row_at rows i = slice_index_or rows i []
 
--- each row has the column and the length of the pivot's row, and what is formed of it fits
+-- each row has the column and the length of the pivot's row, and the numbers that are computed for
+-- it fit
 abbrev pub AllEliminateFit : List (List ℤ) → ℤ → List ℤ → ℕ → Type 0
 AllEliminateFit rows scale pivot_row column = (i : ℕ) → i < length rows → (length (row_at rows i) ≡ length pivot_row) × (column < length pivot_row) × EliminateFits (row_at rows i) scale pivot_row column
 
--- as many rows, and the relation holds of each as it was and as it is
+-- the lists have the same length, and the relation holds for each old row and its new one
 abbrev pub EachRow : (List ℤ → List ℤ → Type 0) → List (List ℤ) → List (List ℤ) → Type 0
 EachRow R old new = (length new ≡ length old) × ((i : ℕ) → i < length old → R (row_at old i) (row_at new i))
 
@@ -67,7 +70,7 @@ pub record IsDivisorOfAll (start : ℕ) (rows : List (List ℤ)) (g : ℕ) : Typ
   pub entries : (i j : ℕ) → i < length rows → j < length (row_at rows i) → g ∣ unsigned_abs (entry_of (row_at rows i) j)
   pub greatest : (d : ℕ) → d ∣ start → ((i j : ℕ) → i < length rows → j < length (row_at rows i) → d ∣ unsigned_abs (entry_of (row_at rows i) j)) → d ∣ g
 
--- all entries fit, and the number divides them
+-- all entries fit, and the number divides each
 abbrev pub DividesAll : ℕ → List (List ℤ) → Type 0
 DividesAll g rows = (i j : ℕ) → i < length rows → j < length (row_at rows i) → Fits (entry_of (row_at rows i) j) × (g ∣ unsigned_abs (entry_of (row_at rows i) j))
 
@@ -79,16 +82,17 @@ IsDivided g old new = (length new ≡ length old) × ((j : ℕ) → j < length o
 abbrev pub IsLevelWith : List (List ℤ) → ℕ → Type 0
 IsLevelWith rows row = (i : ℕ) → i < length rows → length (row_at rows i) ≡ length (row_at rows row)
 
--- what is formed of each row but the pivot's fits
+-- the numbers that are computed for each row except the pivot's fit
 abbrev pub OthersFit : List (List ℤ) → ℤ → ℕ → ℕ → Type 0
 OthersFit rows scale row column = (i : ℕ) → i < length rows → i ≢ row → EliminateFits (row_at rows i) scale (row_at rows row) column
 
--- The rows have the numbers of the pivot at (row, column) of a table, before these are divided.
+-- The rows have the numbers of the pivot at (row, column) of a table, before they are divided.
 pub record IsUnreduced (t : Table) (rows : List (List ℤ)) (row column : ℕ) : Type 0 where
   pub count : length rows ≡ length t.rows
   pub entries : (i : ℕ) → i < length t.rows → (length (row_at rows i) ≡ length (row_of t i)) × ((j : ℕ) → j < length (row_of t i) → entry_of (row_at rows i) j ≡ pivoted t row column i j)
 
--- The new rows and denominator, times their divisor, are the old ones, and have no common divisor themselves.
+-- The new rows and denominator, times a divisor, are the old ones. They have no common divisor
+-- above 1 themselves.
 pub record IsLowest (old new : List (List ℤ)) (den low : ℤ) : Type 0 where
   pub divisor : ℕ
   pub positive : 0 < divisor
@@ -96,7 +100,7 @@ pub record IsLowest (old new : List (List ℤ)) (den low : ℤ) : Type 0 where
   pub rows : EachRow (IsDivided divisor) old new
   pub lowest : (d : ℕ) → d ∣ unsigned_abs low → ((i j : ℕ) → i < length old → j < length (row_at old i) → d ∣ unsigned_abs (entry_of (row_at new i) j)) → d ≡ 1
 
--- a row has at one column the sum of its entries in some columns, and else what it had
+-- a row has the sum of its entries in some columns at one column, and is otherwise unchanged
 abbrev pub IsSummedRow : List ℕ → ℕ → List ℤ → List ℤ → Type 0
 IsSummedRow columns into old new = (length new ≡ length old) × (entry_of new into ≡ sum_in old columns) × ((j : ℕ) → j ≢ into → entry_of new j ≡ entry_of old j)
 

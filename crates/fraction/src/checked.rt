@@ -1,10 +1,10 @@
-//! Numbers that fit, and their sums, differences and products, where these fit too.
+//! Numbers that fit, and their sums, differences and products, if these fit too.
 ghost use Rattle.std.specs.Prelude.{◌+ℤ◌, ◌-ℤ◌, ◌*ℤ◌};
 ghost use Rattle.fraction.specs.Fractions.{Checks};
 
 use crate::fault::FracFault;
 
-/// The number, unless it is -2^127.
+/// Returns the number, or `Overflow` if it is -2^127.
 pub(crate) fn fitting(z: i128) -> Result<i128, FracFault>
     ensures { Checks z result }
 {

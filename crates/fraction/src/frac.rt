@@ -10,8 +10,8 @@ use divisor::wide_gcd;
 use std::cmp::Ordering;
 use std::marker::Model;
 
-/// A fraction in lowest terms: a numerator over a positive denominator, both of absolute value at most
-/// 2^127 - 1. Zero is 0/1. Contracts see the two.
+/// A fraction in lowest terms: a numerator over a positive denominator, both of absolute value at
+/// most 2^127 - 1. Zero is 0/1. Contracts see both numbers.
 #[derive(Clone, Copy, Debug, PartialEq, Eq)]
 pub struct Frac {
     num: i128,
@@ -30,7 +30,7 @@ impl Model for Frac {
     ghost inverse = { λ f. record { num = f.num; den = f.den } };
 }
 
-/// The fraction num / den in lowest terms.
+/// Returns the fraction num / den in lowest terms.
 pub(crate) fn reduced(num: i128, den: i128) -> Frac
     requires divisor { den ≢ pos 0 }
     requires num_fits { Fits num }
@@ -48,8 +48,8 @@ pub(crate) fn reduced(num: i128, den: i128) -> Frac
 }
 
 impl Frac {
-    /// The fraction `num / den`. Refused are a denominator of 0 (`ZeroDivisor`), and then -2^127 as either number
-    /// (`Overflow`).
+    /// Returns the fraction `num / den`. Fails with `ZeroDivisor` if the denominator is 0, and
+    /// otherwise with `Overflow` if either number is -2^127.
     pub fn of(num: i128, den: i128) -> Result<Frac, FracFault>
         ensures value { IfOk result (IsRatio num den) }
         ensures reduced { IfOk result IsReduced }
@@ -62,7 +62,7 @@ impl Frac {
         Ok(reduced(fitting(num)?, fitting(den)?))
     }
 
-    /// The numerator, in lowest terms.
+    /// Returns the numerator, in lowest terms.
     pub fn num(self) -> i128
         ensures value { result ≡ self.num }
         ensures reduced { IsReduced self }
@@ -70,7 +70,7 @@ impl Frac {
         self.num
     }
 
-    /// The denominator, in lowest terms; at least 1.
+    /// Returns the denominator, in lowest terms. It is at least 1.
     pub fn den(self) -> i128
         ensures value { result ≡ self.den }
         ensures reduced { IsReduced self }
@@ -78,8 +78,8 @@ impl Frac {
         self.den
     }
 
-    /// The sum of `a/b` and `c/d`. Refused by `Overflow` exactly where `a * d`, `c * b`, `b * d` or
-    /// `a * d + c * b` does not fit.
+    /// Returns the sum of `a/b` and `c/d`. Fails with `Overflow` if and only if `a * d`, `c * b`,
+    /// `b * d` or `a * d + c * b` does not fit.
     pub fn add(self, other: Frac) -> Result<Frac, FracFault>
         ensures value { IfOk result (IsRatio ((self.num *ℤ other.den) +ℤ (other.num *ℤ self.den)) (self.den *ℤ other.den)) }
         ensures reduced { IfOk result IsReduced }
@@ -90,8 +90,8 @@ impl Frac {
         Ok(reduced(num, product(self.den, other.den)?))
     }
 
-    /// The difference of `a/b` and `c/d`. Refused by `Overflow` exactly where `a * d`, `c * b`, `b * d` or
-    /// `a * d - c * b` does not fit.
+    /// Returns the difference of `a/b` and `c/d`. Fails with `Overflow` if and only if `a * d`,
+    /// `c * b`, `b * d` or `a * d - c * b` does not fit.
     pub fn sub(self, other: Frac) -> Result<Frac, FracFault>
         ensures value { IfOk result (IsRatio ((self.num *ℤ other.den) -ℤ (other.num *ℤ self.den)) (self.den *ℤ other.den)) }
         ensures reduced { IfOk result IsReduced }
@@ -102,7 +102,8 @@ impl Frac {
         Ok(reduced(num, product(self.den, other.den)?))
     }
 
-    /// The product of `a/b` and `c/d`. Refused by `Overflow` exactly where `a * c` or `b * d` does not fit.
+    /// Returns the product of `a/b` and `c/d`. Fails with `Overflow` if and only if `a * c` or
+    /// `b * d` does not fit.
     pub fn mul(self, other: Frac) -> Result<Frac, FracFault>
         ensures value { IfOk result (IsRatio (self.num *ℤ other.num) (self.den *ℤ other.den)) }
         ensures reduced { IfOk result IsReduced }
@@ -113,8 +114,8 @@ impl Frac {
         Ok(reduced(num, product(self.den, other.den)?))
     }
 
-    /// The quotient of `a/b` by `c/d`. Refused where `c` is 0 (`ZeroDivisor`), and then exactly where `a * d` or
-    /// `b * c` does not fit (`Overflow`).
+    /// Returns the quotient of `a/b` by `c/d`. Fails with `ZeroDivisor` if `c` is 0, and otherwise
+    /// with `Overflow` if and only if `a * d` or `b * c` does not fit.
     pub fn div(self, other: Frac) -> Result<Frac, FracFault>
         ensures value { IfOk result (IsRatio (self.num *ℤ other.den) (self.den *ℤ other.num)) }
         ensures reduced { IfOk result IsReduced }
@@ -128,7 +129,8 @@ impl Frac {
         Ok(reduced(num, product(self.den, other.num)?))
     }
 
-    /// How `a/b` compares with `c/d`. Refused by `Overflow` exactly where `a * d` or `c * b` does not fit.
+    /// Returns how `a/b` compares with `c/d`. Fails with `Overflow` if and only if `a * d` or
+    /// `c * b` does not fit.
     pub fn compare(self, other: Frac) -> Result<Ordering, FracFault>
         ensures value { IfOk result (λ order. order ≡ int_cmp (self.num *ℤ other.den) (other.num *ℤ self.den)) }
         ensures fits { IsOk result ↔ ComparisonFits self other }

@@ -1,9 +1,10 @@
-//! Fractions of 128-bit numbers with exact answers: a call gives the exact value in lowest terms, or refuses.
+//! Exact fractions of 128-bit numbers: a call returns the exact value in lowest terms, or a fault.
 //!
-//! Nothing is rounded and nothing wraps. Where a number that a call forms on its way does not fit, the call
-//! answers `Overflow`; so whoever reckons with these fractions has the exact result or knows that there is none.
+//! Nothing is rounded and nothing wraps. If a number that a call computes on its way does not fit,
+//! the call returns `Overflow`. So you have the exact result, or know that there is none.
 //!
-//! `Shared` is a table of numbers over one denominator, with the pivots of a simplex tableau. A refused call leaves it as it was.
+//! `Shared` is a table of numbers over one denominator, with the pivots of a simplex tableau. A
+//! call that fails leaves it as it was.
 //!
 //! This crate depends on `divisor`. The simplex method keeps its tableau in a `Shared`.
 //!

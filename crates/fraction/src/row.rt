@@ -11,7 +11,8 @@ use crate::fault::FracFault;
 use crate::signed::{quotient, signed};
 use divisor::wide_gcd;
 
-/// Products of two numbers of at most this absolute value fit, and so do differences of two such products.
+/// Products of two numbers of at most this absolute value fit, and so do differences of two such
+/// products.
 const SMALL: i128 = 1 << 62;
 
 /// Returns the entry in a column.
@@ -52,7 +53,7 @@ pub(crate) fn test_scale(row: &[i128], factor: i128) -> Result<(), FracFault>
     Ok(())
 }
 
-/// Tests that the numbers fit that are formed where `taken` times the pivot's row is taken from `scale` times this row.
+/// Tests that the numbers fit that `combine` computes.
 pub(crate) fn test_combine(
     row: &[i128],
     scale: i128,
@@ -69,7 +70,7 @@ pub(crate) fn test_combine(
     Ok(())
 }
 
-/// Multiplies each entry.
+/// Multiplies each entry by a factor.
 pub(crate) fn scale(row: &mut [i128], factor: i128)
     requires { EachFits row.old factor }
     ensures { (j : ℕ) → j < length row.old → slice_index_or row.new j (pos 0) ≡ slice_index_or row.old j (pos 0) *ℤ factor }
@@ -79,7 +80,7 @@ pub(crate) fn scale(row: &mut [i128], factor: i128)
     }
 }
 
-/// Takes `taken` times the pivot's row from `scale` times this row.
+/// Subtracts `taken` times the pivot's row from `scale` times this row.
 pub(crate) fn combine(row: &mut [i128], scale: i128, pivot_row: &[i128], taken: i128)
     requires lengths { length row.old ≡ length pivot_row.now }
     requires fits { CombineFits row.old scale pivot_row.now taken }
@@ -90,7 +91,7 @@ pub(crate) fn combine(row: &mut [i128], scale: i128, pivot_row: &[i128], taken: 
     }
 }
 
-/// Tests that the numbers fit that `eliminate` forms.
+/// Tests that the numbers fit that `eliminate` computes.
 pub(crate) fn test_eliminate(
     row: &[i128],
     scale: i128,
@@ -106,7 +107,7 @@ pub(crate) fn test_eliminate(
     test_combine(row, scale, pivot_row, taken)
 }
 
-/// Takes the pivot's row from `scale` times this row, as often as this row's entry in the column says.
+/// Subtracts the pivot's row, times this row's entry in the column, from `scale` times this row.
 pub(crate) fn eliminate(row: &mut [i128], scale: i128, pivot_row: &[i128], column: usize)
     requires lengths { length row.old ≡ length pivot_row.now }
     requires column { column < length row.old }

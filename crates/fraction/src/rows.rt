@@ -30,7 +30,7 @@ pub(crate) fn are_small(rows: &[Vec<i128>]) -> bool
     true
 }
 
-/// Takes the pivot's row from `scale` times each row, as often as the row's entry in the column says.
+/// Subtracts the pivot's row, times the row's entry in the column, from `scale` times each row.
 fn eliminate_each(rows: &mut [Vec<i128>], scale: i128, pivot_row: &[i128], column: usize)
     requires { AllEliminateFit (lists_of rows.old) scale pivot_row.now column }
     ensures { EachRow (λ old new. IsEliminated old new scale pivot_row.now column) (lists_of rows.old) (lists_of rows.new) }
@@ -40,7 +40,7 @@ fn eliminate_each(rows: &mut [Vec<i128>], scale: i128, pivot_row: &[i128], colum
     }
 }
 
-/// Tests that the numbers fit that a pivot forms of all rows but its own.
+/// Tests that the numbers fit that a pivot computes for all rows except its own.
 fn test_others(rows: &[Vec<i128>], scale: i128, row: usize, column: usize) -> Result<(), FracFault>
     requires row { row < length rows.now }
     requires level { IsLevelWith (lists_of rows.now) row }
@@ -56,7 +56,7 @@ fn test_others(rows: &[Vec<i128>], scale: i128, row: usize, column: usize) -> Re
     Ok(())
 }
 
-/// Tests that the numbers fit that the pivot at a place forms.
+/// Tests that the numbers fit that the pivot at a place computes.
 pub(crate) fn test_pivot(
     rows: &[Vec<i128>],
     den: i128,
@@ -79,7 +79,7 @@ pub(crate) fn test_pivot(
     test_others(rows, entry, row, column)
 }
 
-/// Makes the numbers of the pivot at a place, but for the denominator.
+/// Computes the entries of the pivot at a place, before they are divided.
 fn pivot(rows: &mut [Vec<i128>], den: i128, row: usize, column: usize)
     requires row { row < length rows.old }
     requires level { IsLevelWith (lists_of rows.old) row }
@@ -96,7 +96,8 @@ fn pivot(rows: &mut [Vec<i128>], den: i128, row: usize, column: usize)
     row::scale(pivot_row, den);
 }
 
-/// Divides the entries and the denominator by the greatest common divisor of them all, and returns the new denominator.
+/// Divides the entries and the denominator by the greatest common divisor of them all. Returns the
+/// new denominator.
 fn reduce(rows: &mut [Vec<i128>], den: i128) -> i128
     requires positive { pos 0 <ℤ den }
     requires den_fits { Fits den }
@@ -131,7 +132,7 @@ fn divide(rows: &mut [Vec<i128>], divisor: u128)
     }
 }
 
-/// Makes the pivot at a place, in lowest terms, and returns the new denominator.
+/// Makes the pivot at a place, in lowest terms. Returns the new denominator.
 pub(crate) fn solve(rows: &mut [Vec<i128>], den: i128, row: usize, column: usize) -> i128
     requires table { IsTable (table_of rows.old den) }
     requires place { IsPlace (table_of rows.old den) row column }

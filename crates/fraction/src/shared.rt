@@ -9,11 +9,11 @@ use crate::frac::{Frac, reduced};
 use crate::{row, rows};
 use std::marker::Model;
 
-/// A table of numbers over one positive denominator: the value at a place is the whole number there over the
-/// denominator. All rows have one length, and each number is at most 2^127 - 1 in absolute value. Contracts see the rows
-/// and the denominator.
+/// A table of numbers over one positive denominator: the value at a place is the whole number there
+/// over the denominator. All rows have one length, and each number is at most 2^127 - 1 in absolute
+/// value. Contracts see the rows and the denominator.
 ///
-/// No call takes memory.
+/// No call allocates.
 #[derive(Drop)]
 pub struct Shared {
     rows: Vec<Vec<i128>>,
@@ -32,7 +32,7 @@ impl Model for Shared {
 }
 
 impl Shared {
-    /// Makes the table of these rows over a denominator. Keeps the rows as they are.
+    /// Returns the table of these rows over a denominator. Keeps the rows as they are.
     pub fn of(rows: Vec<Vec<i128>>, den: i128) -> Shared
         requires { IsTable (record { rows = map (λ row. row.items) rows.items; den = den }) }
         ensures rows { result.rows ≡ map (λ row. row.items) rows.items }
@@ -67,9 +67,10 @@ impl Shared {
         reduced(self.entry(row, col), self.den)
     }
 
-    /// Returns the sum of a row's entries in some columns, which may name a column more than once.
+    /// Returns the sum of a row's entries in some columns. A column may be listed more than once.
     ///
-    /// Fails with `Overflow` if and only if the sum, or one on the way to it in the columns' order, does not fit.
+    /// Fails with `Overflow` if and only if the sum, or a partial sum in the columns' order, does
+    /// not fit.
     pub fn sum(&self, row: usize, columns: &[usize]) -> Result<i128, FracFault>
         requires row { row < length self.now.rows }
         requires columns { All (λ j. j < length (row_of self.now row)) columns.now }
@@ -80,14 +81,16 @@ impl Shared {
         row::sum_of(rows::row_of(&self.rows, row), columns)
     }
 
-    /// Solves a row for a column: divides the row by its value p there, and takes from each other row its own value in the
-    /// column times the new row.
+    /// Solves a row for a column. It divides the row by its value there. From each other row it
+    /// subtracts the new row times the other row's value in the column.
     ///
-    /// With P the entry at the place, the denominator becomes `den * P`. An entry e of the row becomes `e * den`, and an
-    /// entry e of another row `e * P - f * g`, where f is its row's entry in the column and g the row's entry in its
-    /// column. All of these are then divided by the greatest common divisor of them all.
+    /// With P the entry at the place, the denominator becomes `den * P`. An entry e of the row
+    /// becomes `e * den`. An entry e of another row becomes `e * P - f * g`, where f is its row's
+    /// entry in the column and g is the solved row's entry in e's column. All of these are then
+    /// divided by their greatest common divisor.
     ///
-    /// Fails with `Overflow` if and only if one of these products or differences does not fit. The table is then as it was.
+    /// Fails with `Overflow` if and only if one of these products or differences does not fit. The
+    /// table is then as it was.
     pub fn pivot(&mut self, row: usize, col: usize) -> Result<(), FracFault>
         requires place { IsPlace self.old row col }
         requires positive { pos 0 <ℤ entry_at self.old row col }
@@ -101,10 +104,11 @@ impl Shared {
         Ok(())
     }
 
-    /// Writes into one column the sum of each row's entries in some columns, which may name a column more than once.
+    /// Writes into one column the sum of each row's entries in some columns. A column may be listed
+    /// more than once.
     ///
-    /// Fails with `Overflow` if and only if a sum, or one on the way to it in the columns' order, does not fit. The table
-    /// is then as it was.
+    /// Fails with `Overflow` if and only if a sum, or a partial sum in the columns' order, does not
+    /// fit. The table is then as it was.
     pub fn sum_columns(&mut self, columns: &[usize], into: usize) -> Result<(), FracFault>
         requires columns { All (IsColumn self.old) columns.now }
         requires into { IsColumn self.old into }

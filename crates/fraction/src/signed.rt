@@ -2,7 +2,8 @@
 ghost use Rattle.std.specs.Prelude.{◌≡◌, ◌≢◌, ◌<◌, ◌^◌, ◌/◌};
 ghost use Rattle.fraction.specs.Fractions.{signed_of};
 
-/// Returns the number of this absolute value that is at least 0, or the one that is at most 0.
+/// Returns the number with this absolute value: the one that is at least 0 if `is_positive`, else
+/// the one that is at most 0.
 pub(crate) fn signed(is_positive: bool, size: u128) -> i128
     requires { size < 2 ^ 127 }
     ensures { result ≡ signed_of is_positive size }
@@ -11,7 +12,7 @@ pub(crate) fn signed(is_positive: bool, size: u128) -> i128
     if is_positive { number } else { -number }
 }
 
-/// Returns `number / divisor`, in 64 bits where both fit, and without a division where the divisor is 1.
+/// Returns `number / divisor`: in 64 bits if both fit, and without a division if the divisor is 1.
 pub(crate) fn quotient(number: u128, divisor: u128) -> u128
     requires { divisor ≢ 0 }
     ensures { result ≡ number / divisor }

@@ -1,8 +1,10 @@
-//! One member that goes through the lock of three voters once, where memory may be refused: `hostile/run.sh` refuses each growth
-//! in turn. Prints whether it was inside, and how many messages were lost.
+//! One member of a cluster of three voters, which passes through the lock once while memory may be
+//! refused. `hostile/run.sh` refuses each allocation in turn. Prints whether the member was inside,
+//! and how many messages were lost.
 //!
-//! A growth that is refused in a node's log or in a mailbox loses a message; the member reminds at an empty mailbox, so that one
-//! loss keeps it out no longer than that. Any other one ends the program with `O1 OutOfMemory` and status 4.
+//! If the allocation is refused to a node's log or a mailbox, a message is lost. The member sends
+//! reminders when its mailbox is empty, so one loss keeps it out no longer than that. Any other
+//! refused allocation ends the program with `O1 OutOfMemory` and status 4.
 #![tactic(auto)]
 
 ghost use Rattle.std.specs.Prelude.{◌≡◌};
@@ -19,7 +21,7 @@ use std::sync::Wait;
 /// How many times the member looks into its mailbox.
 const TURNS: u32 = 20;
 
-/// What came of it.
+/// The result of the run.
 struct Outcome {
     /// Whether the member was inside, passed and left.
     passed: bool,
@@ -27,7 +29,8 @@ struct Outcome {
     lost: u64,
 }
 
-/// Has a member pump until it is inside, and remind at an empty mailbox. False where its turns were spent before.
+/// Has a member pump until it is inside, and remind when its mailbox is empty. Returns false if its
+/// turns are spent before.
 fn enters<N: ClusterName>(rt: &impl Wait, cluster: &Cluster<N>, member: &mut Member<N>) -> bool {
     for _ in 0..TURNS {
         match member.pump(rt, cluster) {
@@ -39,7 +42,8 @@ fn enters<N: ClusterName>(rt: &impl Wait, cluster: &Cluster<N>, member: &mut Mem
     false
 }
 
-/// Opens a cluster of one client, which asks, enters, passes and leaves. None where memory ran out for more than messages.
+/// Opens a cluster of one client, which asks, enters, passes and leaves. Returns `None` if memory
+/// ran out for more than messages.
 fn outcome_of<N: ClusterName>(rt: &impl Wait, alloc: Global, blank: Blank) -> Option<Outcome>
     requires { blank ≡ N.cluster }
 {
@@ -57,7 +61,7 @@ fn outcome_of<N: ClusterName>(rt: &impl Wait, alloc: Global, blank: Blank) -> Op
     })
 }
 
-/// What came of it as a line. None where memory ran out for more than messages.
+/// Returns the result as a line, or `None` if memory ran out for more than messages.
 fn line_of(rt: &impl Wait, alloc: Global) -> Option<String> {
     let plan = majority_plan(alloc)?;
     let blank = Blank::new(alloc, plan, 1, 1).ok()?;

@@ -1,14 +1,14 @@
-//! Devices that give and take in pieces, and that fail.
+//! Devices that move bytes in pieces, and that fail.
 use std::io;
 use std::io::{Read, Write};
 use std::test::Fail;
 use whole_io::{DeviceFault, LONGEST, Watched, read_input, write_output};
 
-/// Bytes that are read and written.
+/// The bytes that are read and written.
 const BYTES: &[u8] =
     b"0 0\n1 1\n2 2\n3 3\n4 3\n5 0\n6 1\nvoter v0 5\nvoter v1 4\nvoter v2 4\nvoter v3 3\nbusiest 5\nand so on to the end\n";
 
-/// Gives the bytes in pieces, and fails at the read with a number, counted from 1.
+/// A reader that gives the bytes in pieces. Its n-th read fails, where n counts from 1.
 #[derive(Drop)]
 struct Source<'a> {
     bytes: &'a [u8],
@@ -29,7 +29,8 @@ impl<'a> Read for Source<'a> {
     }
 }
 
-/// Takes the bytes in pieces, and fails at the write with a number, counted from 1, or takes nothing there.
+/// A writer that takes the bytes in pieces. Its n-th write, where n counts from 1, fails or takes
+/// nothing.
 #[derive(Drop)]
 struct Sink {
     bytes: Vec<u8>,

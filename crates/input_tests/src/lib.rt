@@ -1,8 +1,10 @@
-//! Tests of what the program takes in and gives out, by public calls: nothing here but tests.
+//! Tests of the program's input and output through public calls. This crate has nothing but tests.
 //!
-//! `words` has the words of the command line, and `devices` readers and writers that go in pieces or fail.
+//! `words` has the words of the command line, and `devices` has readers and writers that move bytes
+//! in pieces or fail.
 //!
-//! They stand apart from the crates that they test, which are then proved once and not once more with their tests.
+//! The tests are not in the crates that they test, so these are proved once, and not again together
+//! with their tests.
 #![tactic(auto)]
 
 #[cfg(test)]

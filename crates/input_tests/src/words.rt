@@ -4,7 +4,7 @@ use command_line::{Usage, read_words};
 use std::alloc::{AllocError, Global};
 use std::test::Fail;
 
-/// The words of a command line, with the program's name before them.
+/// Returns the words of a command line, with the program's name in front.
 fn given_words(alloc: Global, words: &[&str]) -> Result<Vec<String>, AllocError> {
     let mut given = Vec::new(alloc);
     given.push(String::from_str(alloc, "qlock")?)?;
@@ -14,7 +14,7 @@ fn given_words(alloc: Global, words: &[&str]) -> Result<Vec<String>, AllocError>
     Ok(given)
 }
 
-/// The command that the words name, or its refusal.
+/// Returns the command that the words name, or the text of its fault.
 fn command_text(alloc: Global, words: &[&str]) -> Result<String, AllocError> {
     let given = given_words(alloc, words)?;
     match read_words(alloc, given.as_slice()) {
@@ -84,7 +84,7 @@ fn words_name_commands(rt: HostRuntime) -> Result<(), Fail> {
     Ok(())
 }
 
-/// Why clap refuses the words. None where it does not.
+/// Returns why clap refuses the words, or `None` if it does not.
 fn refusal_of(alloc: Global, words: &[&str]) -> Result<Option<ErrorKind>, AllocError> {
     let given = given_words(alloc, words)?;
     match read_words(alloc, given.as_slice()) {
@@ -93,7 +93,7 @@ fn refusal_of(alloc: Global, words: &[&str]) -> Result<Option<ErrorKind>, AllocE
     }
 }
 
-/// The text with a number in place of its `_`.
+/// Returns the text with a number in place of its `_`.
 fn filled(alloc: Global, text: &str, number: u64) -> Result<String, AllocError> {
     match text.split_once('_') {
         Some((before, after)) => format!(in alloc; "{before}{number}{after}"),
@@ -104,7 +104,8 @@ fn filled(alloc: Global, text: &str, number: u64) -> Result<String, AllocError> 
 #[test]
 fn numbers_in_range_are_taken_and_others_are_not(rt: HostRuntime) -> Result<(), Fail> {
     let alloc = rt.alloc();
-    // a command line, the least and the most that its `_` may be, and the command that it then names
+    // a command line, the smallest and the greatest value of its `_`, and the command that it then
+    // names
     let table = [
         ("deal _", 0, 100_000, "Deal(_)"),
         ("make grid _ 2", 0, 9_999, "Make(Grid(_, 2))"),

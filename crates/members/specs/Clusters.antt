@@ -4,7 +4,8 @@ use Rattle.board.specs.Seats.{BoardState, RootState}
 use Rattle.dealer.specs.Offices.{OfficeState, ClerkState}
 pub use Rattle.node.specs.Names.{ClusterState, no_cluster}
 
--- the board has the voters and the quorums of the plan by which the office deals, and 1 to 64 clients
+-- The board has the voters and the quorums of the plan by which the office deals, 1 to 64 clients,
+-- and the limit 2^63.
 pub record IsCluster (c : ClusterState) : Type 0 where
   pub voters : c.board.voters ≡ c.office.cycle.system.voters
   pub quorums : c.board.quorums ≡ c.office.cycle.system.quorums
@@ -21,7 +22,8 @@ pub record Runs (c : ClusterState) (board : BoardState) (office : OfficeState) (
   pub nodes_are : nodes ≡ c.board.voters
   pub mailboxes_are : mailboxes ≡ c.board.clients
 
--- the rights that are left where each node and each member has its own: all seats and all tickets are out
+-- the rights that are left after each node and each member got its own: all seats and all tickets
+-- are out
 abbrev pub IsLeft : ClusterState → RootState → ClerkState → Type 0
 IsLeft c root clerk =
     (root.table ≡ c.board.table) × (root.seats ≡ 0) × (root.passes ≡ [])

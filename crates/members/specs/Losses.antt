@@ -4,22 +4,23 @@ use Rattle.message.specs.declared.message.ToClient.{ToClient}
 use Rattle.message.specs.declared.message.ToVoter.{ToVoter}
 use Rattle.board.specs.Seats.{BoardState}
 
--- the message is to a voter that the board has not, or of a client that it has not
+-- the message is to a voter, or from a client, that the board doesn't have
 abbrev pub is_stray : BoardState → ToVoter → Bool
 is_stray board m = nat_le board.voters m.voter || nat_le board.clients m.client
 
--- the reply is of a voter that the board has not, or to a client that it has not
+-- the reply is from a voter, or to a client, that the board doesn't have
 abbrev pub is_stray_reply : BoardState → ToClient → Bool
 is_stray_reply board m = nat_le board.voters m.voter || nat_le board.clients m.client
 
--- where so many voters are told something: what one is told is lost, or of its replies, of which there are at most three, so many are
+-- How many messages are lost at most when `told` messages are sent to voters: for each, either the
+-- message itself, or some of the replies to it. There are at most three replies.
 abbrev pub most_lost : ℕ → ℕ
 most_lost told = 3 * told
 
--- no fewer are lost than before, and at most so many more
+-- no fewer are lost than before, and at most n more
 abbrev pub LosesAtMost : ℕ → ℕ → ℕ → Type 0
 LosesAtMost n before after = (before ≤ after) × (after ≤ before + n)
 
--- one more is lost; the count stays at its greatest value
+-- the count after one more loss; it stays at its greatest value, 2^64 - 1
 abbrev pub one_more : ℕ → ℕ
 one_more lost = min (lost + 1) (2 ^ 64 - 1)

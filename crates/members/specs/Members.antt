@@ -23,7 +23,8 @@ use Rattle.members.specs.Losses.{LosesAtMost, most_lost, one_more}
 use Rattle.node.specs.Mail.{IsMail}
 use Rattle.node.specs.Votes.{HoldsWithin}
 
--- a member: its client, its seat on the board, its clerk, how many messages it lost, and why its work ended early when it was last driven
+-- a member: its client, its seat on the board, its clerk, how many messages it lost, and why its
+-- work ended early when it was last driven
 pub record MemberState : Type 0 where
   pub requester : ClientState
   pub seat : SeatState
@@ -35,7 +36,8 @@ pub record MemberState : Type 0 where
 abbrev pub AreIdle : List MemberState → Type 0
 AreIdle members = All (λ m. is_idle m.requester.phase ≡ true) members
 
--- The client is of this cluster, and the votes that it holds are those that its seat holds. While a request runs, its quorum is the one of this number
+-- The client is of this cluster, and the votes that it holds are those that its seat holds. While a
+-- request runs, its quorum is the one with this number.
 pub record IsMember (c : ClusterState) (x : ClientState) (seat : SeatState) (clerk : ClerkState) (quorum : ℕ) : Type 0 where
   pub sound : IsSound x
   pub client : x.id ≡ seat.client
@@ -47,7 +49,7 @@ pub record IsMember (c : ClusterState) (x : ClientState) (seat : SeatState) (cle
   pub within : HoldsWithin c.board.voters seat.held
   pub asks : is_idle x.phase ≡ false → (quorum < length c.board.quorums) × (members x ≡ quorum_at c.board.quorums quorum)
 
--- the member of this number, as the cluster was opened
+-- the member with this number, just after the cluster was opened
 abbrev pub fresh_member : ClusterState → ℕ → MemberState
 fresh_member c client = record {
   requester = start client (2 ^ 40);
@@ -57,7 +59,8 @@ fresh_member c client = record {
   fault = None;
 }
 
--- The client afterwards is what this step makes of it. Of what it sends, and of the replies, no more are lost than can be
+-- The client afterwards is what this step makes of it. Of the messages that it sends and of the
+-- replies to them, at most `most_lost` are lost.
 abbrev pub Makes : Outcome → MemberState → MemberState → Type 0
 Makes o before after = (o.state ≡ after.requester) × LosesAtMost (most_lost (length o.out)) before.lost after.lost
 
@@ -69,28 +72,29 @@ Asked before quorum after = (o : Outcome) × (ask before.requester quorum ≡ Ok
 abbrev pub HasLeft : MemberState → MemberState → Type 0
 HasLeft before after = (o : Outcome) × (leave before.requester ≡ Ok o) × Makes o before after
 
--- its client gave its request up
+-- its client gave up its request
 abbrev pub GaveUp : MemberState → MemberState → Type 0
 GaveUp before after = (o : Outcome) × (give_up before.requester ≡ Ok o) × Makes o before after
 
--- A message came to the member. Its client took it. Or it would have brought a vote that could not be taken on the board: then the client made no step, and one message more is lost
+-- A message came to the member. Either its client took it, or the message would have brought a vote
+-- that could not be taken on the board. Then the client made no step, and one more message is lost.
 abbrev pub Met : MemberState → ToClient → Seen → MemberState → Type 0
 Met before m seen after =
     (((take before.requester m).seen ≡ seen) × Makes (take before.requester m) before after)
     ⊎ ((would_hold before.requester m ≡ true) × (seen ≡ Nothing) × (after ≡ record before { lost = one_more before.lost }))
 
--- a message of its mailbox came to the member
+-- a message from its mailbox came to the member
 abbrev pub Pumped : BoardState → MemberState → Seen → MemberState → Type 0
 Pumped board before seen after = (m : ToClient) × IsMail board before.requester.id m × Met before m seen after
 
--- why a client does not ask
+-- why a client can't ask
 abbrev pub RefusesStart : ClientState → ClientFault → Type 0
 RefusesStart x Busy = is_idle x.phase ≡ false
 RefusesStart x StampsSpent = (is_idle x.phase ≡ true) × (is_spent x ≡ true)
 RefusesStart x Outside = ⊥
 RefusesStart x NotAsking = ⊥
 
--- why a member does not ask
+-- why a member can't ask
 abbrev pub RefusesAsk : MemberState → ClusterFault → Type 0
 RefusesAsk m (refuses.Client e) = RefusesStart m.requester e
 RefusesAsk m (refuses.Deal QuotaSpent) = (is_idle m.requester.phase ≡ true) × (is_spent m.requester ≡ false) × (m.clerk.rest ≡ 0)
@@ -99,19 +103,19 @@ RefusesAsk m (refuses.Board e) = ⊥
 RefusesAsk m refuses.NotInside = ⊥
 RefusesAsk m (refuses.TurnsSpent c) = ⊥
 
--- what a member asks from: it is idle, and a stamp and a ticket are left
+-- what a member needs to ask: it is idle, and a stamp and a ticket are left
 abbrev pub MayAsk : MemberState → Type 0
 MayAsk m = (is_idle m.requester.phase ≡ true) × (is_spent m.requester ≡ false) × (0 < m.clerk.rest)
 
--- its clerk keeps the receipt
+-- the clerk after it drew the ticket of this receipt
 abbrev pub with_receipt : ClerkState → Receipt → ClerkState
 with_receipt clerk r = record clerk { rest = clerk.rest - 1; receipts = clerk.receipts ++ r ∷ [] }
 
--- its seat keeps the pass number, and has no reading any more
+-- the seat after it passed by this number; it no longer has a reading
 abbrev pub with_pass : SeatState → ℕ → SeatState
 with_pass seat x = record seat { reading = None; passes = seat.passes ++ x ∷ [] }
 
--- why a member does not pass
+-- why a member can't pass
 abbrev pub RefusesPass : MemberState → ClusterFault → Type 0
 RefusesPass m refuses.NotInside = is_inside m.requester.phase ≡ false
 RefusesPass m (refuses.Board RegisterFull) = is_inside m.requester.phase ≡ true

@@ -34,15 +34,15 @@ all_draws members = flat_map draws_of members
 abbrev pub all_receipts : List MemberState → List Receipt
 all_receipts members = flat_map (λ m. m.clerk.receipts) members
 
--- by which numbers a member passed, in order
+-- the passes of a member, in order
 abbrev pub passes_of : MemberState → List Pass
 passes_of m = map (λ x. (m.requester.id, x)) m.seat.passes
 
--- by which numbers these members passed, one member after the other
+-- the passes of these members, one member after the other
 abbrev pub all_passes : List MemberState → List Pass
 all_passes members = flat_map passes_of members
 
--- the numbers 0, 1, 2 and so on, in this order
+-- the numbers are 0, 1, 2 and so on, in this order
 abbrev pub AreInOrder : List ℕ → Type 0
 AreInOrder numbers = numbers ≡ range_with_len 0 (length numbers)
 
@@ -51,7 +51,13 @@ pub record IsDraw (c : ClusterState) (d : Draw) : Type 0 where
   pub client : d.0 < c.board.clients
   pub quorum : d.2 ≡ quorum_of_ticket c.office.cycle d.1
 
--- The record of a run of these members. It has each member's draws with its client, and no others, in the order of their tickets, which are 0, 1, 2 and so on; likewise each member's passes, in the order of their numbers; and the register is the number of passes. How many messages were lost stays at its greatest value
+-- The record of a run of these members:
+-- - It has each member's draws with its client, and no others, in the order of their tickets. These
+--   are 0, 1, 2 and so on.
+-- - It has each member's passes with its client, and no others, in the order of their numbers.
+--   These are 0, 1, 2 and so on.
+-- - The register is the number of passes.
+-- - How many messages were lost is the members' sum, at most 2^64 - 1.
 pub record IsRecordOf (c : ClusterState) (members : List MemberState) (r : RunRecord) : Type 0 where
   pub draws : IsPermutation (all_draws members) r.draws.items
   pub tickets : AreInOrder (map (λ d. d.1) r.draws.items)
@@ -62,7 +68,7 @@ pub record IsRecordOf (c : ClusterState) (members : List MemberState) (r : RunRe
   pub register : r.register ≡ length r.passes.items
   pub lost : r.lost ≡ min (sum_by (λ m. m.lost) members) (2 ^ 64 - 1)
 
--- what may go wrong at the end: the vote of a voter is out, or there is no memory
+-- what may go wrong at the end: the vote of a voter is out, or memory ran out
 abbrev pub IsLoss : ClusterState → BoardFault → Type 0
 IsLoss c (VoteOut v) = v < c.board.voters
 IsLoss c OutOfMemory = Unit {0}

@@ -16,10 +16,10 @@ use std::alloc::{AllocError, Global};
 use std::marker::{Model, PhantomData};
 use std::sync::Mutex;
 
-/// The most passes of a cluster.
+/// The greatest number of passes of a cluster.
 const PASSES: u64 = 1 << 63;
 
-/// A cluster that is made and not yet named. Contracts see which cluster it is.
+/// A cluster that was created and has no name yet. Contracts see which cluster it is.
 #[derive(Drop)]
 pub struct Blank {
     board: Board,
@@ -41,7 +41,7 @@ impl Model for Blank {
     ghost invariant = { λ b. IsBlank (record { board = b.board; office = b.office.name; quota = b.quota }) b.office.quota b.root b.clerk b.voters b.clients };
 }
 
-/// A node for each voter, which takes the voters' seats from the root.
+/// Creates a node for each voter, with the voter's seat from the root.
 fn nodes_of<N: ClusterName>(
     alloc: Global,
     board: &Board,
@@ -67,7 +67,7 @@ fn nodes_of<N: ClusterName>(
     Ok(nodes)
 }
 
-/// A mailbox for each client.
+/// Creates a mailbox for each client.
 fn mailboxes_of<N: ClusterName>(
     alloc: Global,
     clients: u8,
@@ -81,7 +81,8 @@ fn mailboxes_of<N: ClusterName>(
     Ok(mailboxes)
 }
 
-/// A member for each client, which takes the clients' seats from the root, and from the clerk its quota for each.
+/// Creates a member for each client, with the client's seat from the root and with `quota` of the
+/// clerk's tickets.
 fn members_of<N: ClusterName>(
     alloc: Global,
     board: &Board,
@@ -114,8 +115,9 @@ fn members_of<N: ClusterName>(
 }
 
 impl Blank {
-    /// A cluster of a plan's voters and of 1 to 64 clients, each of which may draw so many tickets: no more than 2^63 in
-    /// all. It consumes the plan; the only refusal is for want of memory.
+    /// Creates a cluster of a plan's voters and of 1 to 64 clients. Each client may draw `quota`
+    /// tickets; all clients together may draw at most 2^63. Consumes the plan. Fails only if it
+    /// runs out of memory.
     pub fn new(alloc: Global, plan: Plan, clients: u8, quota: u64) -> Result<Blank, AllocError>
         requires some_client { 1 ≤ clients }
         requires few_clients { clients ≤ 64 }
@@ -146,8 +148,9 @@ impl Blank {
         })
     }
 
-    /// Opens the cluster under a name: the running cluster, and a member for each client, in order. Each is idle, with the
-    /// quota of the blank and with no receipts, votes or pass numbers. The only refusal is for want of memory.
+    /// Opens the cluster under a name. Returns the running cluster, and a member for each client,
+    /// in order. Each member is idle, with the quota of the blank and with no receipts, votes or
+    /// pass numbers. Fails only if it runs out of memory.
     pub fn open<N: ClusterName>(
         self,
         alloc: Global,

@@ -21,10 +21,11 @@ use std::alloc::{AllocError, Global};
 use std::fmt;
 use std::sync::Mutex;
 
-/// Why a cluster is not closed.
+/// The reason why a cluster was not closed.
 #[derive(Drop)]
 pub enum CloseFault<N: ClusterName> {
-    /// So many of its members are missing or not idle. The cluster and the members that were handed in come back.
+    /// Some of its members are missing or not idle. Contains the cluster and the members that were
+    /// handed in.
     Unready {
         /// The cluster, as it was.
         cluster: Cluster<N>,
@@ -33,7 +34,7 @@ pub enum CloseFault<N: ClusterName> {
         /// How many are missing or not idle, at least 1.
         missing: u64,
     },
-    /// The vote of a voter is out, or there is no memory. Cluster and members are lost.
+    /// The vote of a voter is out, or memory ran out. Cluster and members are lost.
     Lost(ClusterFault),
 }
 
@@ -46,7 +47,7 @@ impl<N: ClusterName> fmt::Display for CloseFault<N> {
     }
 }
 
-/// How many members are idle.
+/// Returns how many members are idle.
 fn count_idle<N: ClusterName>(members: &[Member<N>]) -> u64
     ensures value { result ≡ idle_count members.now }
     ensures within { result ≤ length members.now }
@@ -60,8 +61,8 @@ fn count_idle<N: ClusterName>(members: &[Member<N>]) -> u64
     idle
 }
 
-/// How many of a cluster's members are missing among these or not idle; none where all are back. It only reads, so that a
-/// cluster that can't be closed yet is as it was.
+/// Returns how many of a cluster's members are missing among these or not idle, or `None` if all
+/// are back and idle. It only reads, so a cluster that can't be closed yet stays as it was.
 fn missing<N: ClusterName>(cluster: &Cluster<N>, members: &[Member<N>]) -> Option<u64>
     ensures some { IfSome result (λ missing. (0 < missing) × (idle_count members.now + missing ≡ N.cluster.board.clients)) }
     ensures none { IfNone result (N.cluster.board.clients ≤ idle_count members.now) }
@@ -76,7 +77,8 @@ fn missing<N: ClusterName>(cluster: &Cluster<N>, members: &[Member<N>]) -> Optio
     }
 }
 
-/// How many messages the members lost, all together. It stays at its greatest value.
+/// Returns how many messages the members lost, all together. The sum stays at its greatest value,
+/// 2^64 - 1.
 fn lost_by<N: ClusterName>(members: &[Member<N>]) -> u64
     ensures { result ≡ min (sum_by (λ m. m.lost) members.now) (2 ^ 64 - 1) }
 {
@@ -87,7 +89,7 @@ fn lost_by<N: ClusterName>(members: &[Member<N>]) -> u64
     lost
 }
 
-/// Puts a member's draws behind the others.
+/// Appends a member's draws to the others.
 fn push_draws<N: ClusterName>(
     draws: &mut Vec<(u8, u64, usize)>,
     member: &Member<N>,
@@ -102,7 +104,7 @@ fn push_draws<N: ClusterName>(
     Ok(())
 }
 
-/// The draws of all members, one member after the other.
+/// Returns the draws of all members, one member after the other.
 fn collect_draws<N: ClusterName>(
     alloc: Global,
     members: &[Member<N>],
@@ -117,7 +119,7 @@ fn collect_draws<N: ClusterName>(
     Ok(draws)
 }
 
-/// The draws in the order of their tickets.
+/// Returns the draws in the order of their tickets.
 fn by_ticket(mut draws: Vec<(u8, u64, usize)>) -> Vec<(u8, u64, usize)>
     ensures same { IsPermutation draws.items result.items }
     ensures ascending { IsNonDecreasingBy (λ d. d.1) result.items }
@@ -126,7 +128,7 @@ fn by_ticket(mut draws: Vec<(u8, u64, usize)>) -> Vec<(u8, u64, usize)>
     draws
 }
 
-/// The passes in the order of their numbers.
+/// Returns the passes in the order of their numbers.
 fn by_number(mut passes: Vec<(u8, u64)>) -> Vec<(u8, u64)>
     ensures same { IsPermutation passes.items result.items }
     ensures ascending { IsNonDecreasingBy (λ p. p.1) result.items }
@@ -135,7 +137,7 @@ fn by_number(mut passes: Vec<(u8, u64)>) -> Vec<(u8, u64)>
     passes
 }
 
-/// Joins a member's clerk and its seat to the last clerk and to the root.
+/// Joins a member's clerk to the last clerk, and its seat to the root.
 fn join_member<N: ClusterName>(
     board: &Board,
     office: &Office,
@@ -222,7 +224,7 @@ fn join_nodes<N: ClusterName>(
     Ok(())
 }
 
-/// Closes an office with a clerk that has all its tickets' receipts and rests.
+/// Closes an office with a clerk that has all its tickets, drawn or left.
 fn close_office(alloc: Global, office: Office, clerk: Clerk) -> Result<(), BoardFault>
     requires office { clerk.office ≡ office.name }
     requires whole { office.quota ≤ share_of clerk }
@@ -239,13 +241,17 @@ fn close_office(alloc: Global, office: Office, clerk: Clerk) -> Result<(), Board
 }
 
 impl<N: ClusterName> Cluster<N> {
-    /// Closes the cluster with its members, and answers the record of its run: who drew which ticket and was told which
-    /// quorum, in the order of the tickets, who passed by which number, in the order of the numbers, the register, and how
-    /// many messages were lost.
+    /// Closes the cluster with its members, and returns the record of its run:
     ///
-    /// Each client's member has to come back and has to be idle: else cluster and members are handed back as they are, and
-    /// the fault says how many are missing. Where a vote is out or there is no memory, all is lost. That no vote is out where
-    /// all members are back and idle is tested, and not proved.
+    /// - who drew which ticket and received which quorum, in the order of tickets;
+    /// - who passed by which number, in the order of numbers;
+    /// - the register;
+    /// - how many messages were lost.
+    ///
+    /// Each client's member must be back and idle. Otherwise fails with `Unready`, which contains
+    /// cluster and members as they are, and how many are missing or not idle. If a vote is out or
+    /// memory runs out, fails with `Lost`, and all is lost. That no vote is out when all members
+    /// are back and idle is tested, and not proved.
     pub fn close(self, alloc: Global, members: Vec<Member<N>>) -> Result<RunRecord, CloseFault<N>>
         ensures ready { IfOk result (λ _. N.cluster.board.clients ≤ idle_count members.items) }
         ensures record { IfOk result (IsRecordOf N.cluster members.items) }
@@ -264,7 +270,7 @@ impl<N: ClusterName> Cluster<N> {
         }
     }
 
-    /// The record of a run, where each client's member is back.
+    /// Returns the record of a run. Each client's member must be back.
     fn end(self, alloc: Global, members: Vec<Member<N>>) -> Result<RunRecord, BoardFault>
         requires { N.cluster.board.clients ≤ length members.items }
         ensures record { IfOk result (IsRecordOf N.cluster members.items) }

@@ -11,7 +11,8 @@ use std::marker::Brand;
 use std::sync::Wait;
 use std::test::Fail;
 
-/// The record of a cluster that is opened for a script. None where the script or the close goes wrong.
+/// Opens a cluster, plays a script on it, closes it, and returns its record. Returns `None` if the
+/// script or the close goes wrong.
 fn recorded<N: ClusterName>(
     rt: &impl Wait,
     alloc: Global,
@@ -113,8 +114,8 @@ fn a_run_without_a_draw_has_an_empty_record(rt: HostRuntime) -> Result<(), Fail>
     Ok(())
 }
 
-/// Plays a script, closes the cluster without its last member, and then with all. Answers the refusal's text, and the
-/// record.
+/// Plays a script, and closes the cluster without its last member, and then with all. Returns the
+/// text of the first fault, and the record.
 fn without_the_last<N: ClusterName>(
     rt: &impl Wait,
     alloc: Global,
@@ -173,8 +174,8 @@ fn each_member_has_to_come_back(rt: HostRuntime) -> Result<(), Fail> {
     Ok(())
 }
 
-/// Closes a cluster of which a member is inside, and then, once it has left, again. Answers how many members were missing
-/// at first, and the register.
+/// Closes a cluster while a member is inside, and again once it has left. Returns how many members
+/// were missing at first, and the register.
 fn with_one_inside<N: ClusterName>(
     rt: &impl Wait,
     alloc: Global,
@@ -220,7 +221,8 @@ fn each_member_has_to_be_idle(rt: HostRuntime) -> Result<(), Fail> {
     Ok(())
 }
 
-/// Takes the messages that wait for a member, notes each, and has the member pass and leave where it enters.
+/// Takes the messages that wait for a member, notes each, and has the member pass and leave if it
+/// enters.
 fn hears<N: ClusterName>(
     rt: &impl Wait,
     cluster: &Cluster<N>,
@@ -255,7 +257,8 @@ fn goes_on<N: ClusterName>(
     Ok(())
 }
 
-/// Hands all members but the last back to a cluster that still misses so many, and takes up what comes back.
+/// Tries to close a cluster without its last member. Returns the cluster and all members, if the
+/// fault says that `wanted` members are missing or not idle.
 fn handed_back<N: ClusterName>(
     alloc: Global,
     cluster: Cluster<N>,
@@ -282,9 +285,10 @@ fn handed_back<N: ClusterName>(
     Ok(Some((cluster, members)))
 }
 
-/// Plays a script with three members, and goes on until all have passed. In the midst it tries to close the cluster without
-/// its last member, where it is said how many it still misses. Returns all messages that then came, in order, and how many
-/// passes the record has.
+/// Plays a script with three members, and goes on until all have passed. If `missing` is given, it
+/// tries in between to close the cluster without its last member, and this many are missing or not
+/// idle. Returns all messages that came after the script, in order, and how many passes the record
+/// has.
 fn heard_by_all<N: ClusterName>(
     rt: &impl Wait,
     alloc: Global,
@@ -356,7 +360,7 @@ fn a_cluster_that_is_not_closed_goes_on_as_it_was(rt: HostRuntime) -> Result<(),
     Ok(())
 }
 
-/// The refusal to close a cluster of which a member is gone for good.
+/// Returns the text of the fault when a cluster is closed after one of its members was dropped.
 fn refusal_with_one_gone<N: ClusterName>(
     alloc: Global,
     blank: Blank,

@@ -17,8 +17,8 @@ use std::marker::{Model, PhantomData};
 use std::sync::{Mutex, Wait};
 use voter::Replies;
 
-/// A running cluster, which threads share through a `&`: its board, its office, a node for each voter and a mailbox for
-/// each client. Contracts see which cluster it is.
+/// A running cluster: its board, its office, a node for each voter and a mailbox for each client.
+/// Threads share it through a `&`. Contracts see which cluster it is.
 #[derive(Drop)]
 pub struct Cluster<N: ClusterName> {
     pub(crate) board: Board,
@@ -29,7 +29,7 @@ pub struct Cluster<N: ClusterName> {
     pub(crate) left: Mutex<Left<N>>,
 }
 
-/// What is left of the rights to seats and tickets, as each node and each member has its own.
+/// What is left of the rights to seats and tickets, after each node and each member got its own.
 #[derive(Drop)]
 pub(crate) struct Left<N: ClusterName> {
     pub(crate) root: BoardRoot,
@@ -50,8 +50,9 @@ impl<N: ClusterName> Model for Cluster<N> {
 }
 
 impl<N: ClusterName> Cluster<N> {
-    /// Gives a message to its voter's node. None where it is lost: the node dropped it, or had no memory, or the voter or
-    /// the client is none of the cluster's.
+    /// Gives a message to its voter's node, and returns the replies. Returns `None` if the message
+    /// is lost: the node dropped it, or had no memory, or the cluster doesn't have the voter or the
+    /// client.
     pub(crate) fn tell(&self, rt: &impl Wait, message: &ToVoter) -> Option<Replies>
         ensures stray { is_stray N.cluster.board message.now ≡ true → result ≡ None }
     {
@@ -65,7 +66,7 @@ impl<N: ClusterName> Cluster<N> {
         node.take(&self.board, message).unwrap_or(None)
     }
 
-    /// What a voter's node reminds of. None where the voter is none of the cluster's.
+    /// Returns the reminders of a voter's node, or `None` if the cluster doesn't have the voter.
     fn reminders(&self, rt: &impl Wait, voter: u8) -> Option<Replies>
         ensures stray { N.cluster.board.voters ≤ voter → result ≡ None }
     {
@@ -73,7 +74,8 @@ impl<N: ClusterName> Cluster<N> {
         Some(node.remind())
     }
 
-    /// Puts a message into its client's mailbox. False where it is lost: there is no memory, or it may not stand there.
+    /// Puts a message into its client's mailbox. Returns `false` if it is lost: memory ran out, or
+    /// it doesn't belong there.
     pub(crate) fn post(&self, rt: &impl Wait, message: ToClient) -> bool
         ensures stray { is_stray_reply N.cluster.board message ≡ true → result ≡ false }
     {
@@ -83,7 +85,8 @@ impl<N: ClusterName> Cluster<N> {
         mailbox.lock(rt).put(message, self.nodes.len()) == Ok(true)
     }
 
-    /// Puts each of these messages into its client's mailbox, in order, and returns how many are lost.
+    /// Puts each of these messages into its client's mailbox, in order, and returns how many are
+    /// lost.
     fn post_each(&self, rt: &impl Wait, replies: &[ToClient]) -> u64
         ensures few { result ≤ length replies.now }
         ensures strays { count_by (is_stray_reply N.cluster.board) replies.now ≤ result }
@@ -97,7 +100,8 @@ impl<N: ClusterName> Cluster<N> {
         lost
     }
 
-    /// Posts the replies to a message, and returns how many are lost. Where there are none the message itself is lost.
+    /// Posts the replies to a message, and returns how many are lost. `None` means that the message
+    /// itself is lost.
     pub(crate) fn post_all(&self, rt: &impl Wait, replies: Option<Replies>) -> u64
         ensures few { result ≤ most_lost 1 }
         ensures none { replies ≡ None → result ≡ 1 }
@@ -109,12 +113,14 @@ impl<N: ClusterName> Cluster<N> {
         }
     }
 
-    /// Gives each of these messages of a client to its voter, in order, and the voter's replies to their clients. Returns how
-    /// many are lost: each that a node did not take, and each reply that did not come into a mailbox. A node's lock is given
-    /// up before a mailbox is locked.
+    /// Gives each of these messages of a client to its voter, in order, and the voter's replies to
+    /// their clients. A node's lock is released before a mailbox is locked.
     ///
-    /// The client's seat has to hold just the votes that the client holds: a vote is given back on the board before the message
-    /// goes out that says so.
+    /// Returns how many are lost: each message that a node did not take, and each reply that did
+    /// not get into a mailbox.
+    ///
+    /// The client's seat must hold exactly the votes that the client holds: a vote is given back on
+    /// the board before the message goes out that says so.
     pub(crate) fn send(
         &self,
         rt: &impl Wait,
@@ -134,7 +140,8 @@ impl<N: ClusterName> Cluster<N> {
         lost
     }
 
-    /// Has each of these voters remind the client that holds its vote. Returns how many messages are lost.
+    /// Has each of these voters remind the client that holds its vote. Returns how many messages
+    /// are lost.
     pub(crate) fn remind(&self, rt: &impl Wait, voters: &[u8]) -> u64
         ensures few { result ≤ most_lost (length voters.now) }
         ensures strays { count_by (nat_le N.cluster.board.voters) voters.now ≤ result }
@@ -147,7 +154,7 @@ impl<N: ClusterName> Cluster<N> {
         lost
     }
 
-    /// The quorum with this number.
+    /// Returns the quorum with this number.
     pub(crate) fn quorum(&self, number: usize) -> &QSet
         requires { number < length N.cluster.office.cycle.system.quorums }
         ensures value { result.now ≡ quorum_at N.cluster.board.quorums number }
@@ -158,7 +165,7 @@ impl<N: ClusterName> Cluster<N> {
         self.office.cycle().plan().coterie().quorum(number)
     }
 
-    /// Takes the first message out of a client's mailbox. None where there is none.
+    /// Takes the first message out of a client's mailbox and returns it, if there is one.
     pub(crate) fn next(&self, rt: &impl Wait, client: u8) -> Option<ToClient>
         ensures { IfSome result (IsMail N.cluster.board client) }
     {

@@ -1,22 +1,23 @@
-//! Why a member does not do what it is called for, or a cluster has no record.
+//! Why a call of a member fails, or a cluster has no record.
 use board::BoardFault;
 use dealer::DealFault;
 use requester::ClientFault;
 use thiserror::Error;
 
-/// Why a member does not do what it is called for, or a cluster has no record.
+/// The reason why a call of a member failed, or a cluster has no record.
 #[derive(Clone, Copy, Debug, PartialEq, Eq, Error)]
 pub enum ClusterFault {
-    /// Its client refuses.
+    /// The member's client refuses the call.
     #[error(transparent)]
     Client(ClientFault),
-    /// No ticket is dealt to it.
+    /// The member gets no ticket.
     #[error(transparent)]
     Deal(DealFault),
-    /// The register is at its limit, or there is no memory for one more pass number; at the end of a cluster, a vote is out.
+    /// The register is at its limit, or there is no memory for one more pass number. At the end of
+    /// a cluster: a vote is out, or memory ran out.
     #[error(transparent)]
     Board(BoardFault),
-    /// It is not inside.
+    /// The member is not inside.
     #[error("K1 NotInside")]
     NotInside,
     /// This client's turns are spent.

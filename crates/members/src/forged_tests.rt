@@ -1,4 +1,5 @@
-//! Members in threads, while other threads hand nodes and mailboxes messages that no client and no voter of the cluster would send.
+//! Members in threads, while other threads give nodes and mailboxes messages that no client and no
+//! voter of the cluster would send.
 ghost use Rattle.std.specs.Prelude.{◌≡◌};
 ghost use Rattle.members.specs.Clusters.{ClusterState};
 
@@ -19,10 +20,10 @@ const PASSES: u32 = 40;
 /// How many times a member looks into its mailbox for one pass.
 const TURNS: u32 = 20_000;
 
-/// At so many looks a member reminds.
+/// The number of looks after which a member reminds.
 const TURNS_BEFORE_REMINDER: u32 = 500;
 
-/// Stamps and grants are forged from 1 to this.
+/// The highest stamp and grant that is forged, from 1 on.
 const NUMBERS: u64 = 60;
 
 /// How often each number is forged.
@@ -33,11 +34,11 @@ const ROUNDS: u32 = 8;
 enum Worker<N: ClusterName> {
     /// Passes through the lock.
     Passes(Member<N>),
-    /// Forges messages; the number is the first one that it forges.
+    /// Forges messages, starting at this number.
     Forges(u64),
 }
 
-/// Pumps until the member is inside. False where its turns were spent before.
+/// Pumps until the member is inside. Returns `false` if its turns were spent before.
 fn enters<N: ClusterName>(rt: &impl Wait, cluster: &Cluster<N>, member: &mut Member<N>) -> bool {
     for turn in 0..TURNS {
         match member.pump(rt, cluster) {
@@ -67,7 +68,8 @@ fn passes<N: ClusterName>(rt: &impl Wait, cluster: &Cluster<N>, member: &mut Mem
     }
 }
 
-/// Hands a voter's node every kind of message from a client with this number, and hands on what it replies.
+/// Gives a voter's node every kind of message from a client with this number, and posts its
+/// replies.
 fn forge_to_voter<N: ClusterName>(
     rt: &impl Wait,
     cluster: &Cluster<N>,
@@ -134,7 +136,8 @@ fn forges<N: ClusterName>(rt: &impl Wait, cluster: &Cluster<N>, first: u64) {
     }
 }
 
-/// The record of a cluster whose members pass while two threads forge messages. None where it does not close.
+/// Returns the record of a cluster whose members pass while two threads forge messages, or `None`
+/// if it doesn't close.
 fn record_of<N: ClusterName + Send + Sync, R: Threads + Wait + Sync>(
     rt: &R,
     alloc: Global,
@@ -187,7 +190,8 @@ fn forged_messages_let_no_two_pass_at_once(rt: HostRuntime) -> Result<(), Fail> 
         assert!(rt; false, "not closed");
         return Ok(());
     };
-    // each pass went by a number of its own, so no two were between a read and a write of the register at once
+    // each pass has a number of its own, so no two were between a read and a write of the register
+    // at once
     assert_eq!(rt; record.register, record.passes.len() as u64);
     assert!(rt;
         record

@@ -7,8 +7,9 @@ ghost use Rattle.members.specs.Clusters.{ClusterState, IsCluster};
 ghost use Rattle.members.specs.Members.{MemberState};
 ghost use Rattle.members.specs.Records.{IsRecordOf};
 
-/// A record has as many draws as its members have receipts, and as many passes as they have pass numbers. Where each of
-/// them passed n times, the register is n for each member.
+/// States how many entries a record has. The number of its draws is that of its members' receipts.
+/// The register is the number of their passes. If each member passed n times, the register is n
+/// times the number of members.
 pub fn records_count_passes()
     ensures draws { (c : ClusterState) (members : List MemberState) (r : RunRecord) → IsRecordOf c members r →
         length r.draws.items ≡ sum_by (λ m. length m.clerk.receipts) members }
@@ -18,7 +19,8 @@ pub fn records_count_passes()
         All (λ m. length m.seat.passes ≡ n) members → r.register ≡ length members * n }
 {}
 
-/// The record of a cluster names clients below 64, and quorums that its plan has: below 4096.
+/// States that the record of a cluster names clients below 64, and quorums that its plan has, below
+/// 4096.
 pub fn records_are_in_range()
     ensures draws { (c : ClusterState) (members : List MemberState) (r : RunRecord) → IsCluster c →
         IsCertificate c.office.cycle → IsRecordOf c members r →

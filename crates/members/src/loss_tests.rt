@@ -18,7 +18,8 @@ const INSIDE: [(usize, Act); 3] = [
     (0, Act::Pump(Some(Seen::Entered))),
 ];
 
-/// How many of these messages are lost where client 0 is inside, and what client 1 then finds in its mailbox.
+/// Returns how many of these messages are lost when client 0 is inside, and what client 1 then
+/// finds in its mailbox.
 fn sent<N: ClusterName>(
     rt: &impl Wait,
     alloc: Global,
@@ -84,8 +85,8 @@ fn each_lost_message_counts_once(rt: HostRuntime) -> Result<(), Fail> {
     Ok(())
 }
 
-/// What a member lost after each of some acts, where the nodes of voters 0 and 1 stand in each other's place once the
-/// first acts were played: they take no message more.
+/// Returns how many messages the first member lost after some acts. Once the first acts were
+/// played, the nodes of voters 0 and 1 are swapped, and take no more messages.
 fn lost_after<N: ClusterName>(
     rt: &impl Wait,
     alloc: Global,
@@ -136,8 +137,8 @@ fn each_call_counts_what_it_lost(rt: HostRuntime) -> Result<(), Fail> {
     Ok(())
 }
 
-/// What client 0 sees and loses where this message comes to it while it asks voters 0 and 1, whose nodes stand in each
-/// other's place: they take no message more.
+/// Returns what client 0 sees and loses if this message comes to it while it asks voters 0 and 1.
+/// The nodes of these voters are swapped, and take no more messages.
 fn seen_of<N: ClusterName>(
     rt: &impl Wait,
     alloc: Global,

@@ -1,4 +1,4 @@
-//! Members of a cluster, each of which a thread drives.
+//! Members of a cluster, which threads drive.
 ghost use Rattle.std.specs.Prelude.{◌≡◌, ◌≢◌, ◌⊎◌, ℕ, ◌+◌, ◌<◌, ◌≤◌, ◌^◌, [], true, false, None, Some, Ok, Err, IfOk, IfErr, IfSome, length, slice_index_or};
 ghost use Rattle.std.specs.List.{All};
 ghost use Rattle.board.specs.Quorums.{quorum_at};
@@ -25,11 +25,12 @@ use requester::{ClientFault, Messages, Phase, Requester, Seen};
 use std::marker::{Model, PhantomData};
 use std::sync::Wait;
 
-/// How far the stamps of a cluster's clients go.
+/// The highest stamp of a cluster's clients.
 const STAMPS: u64 = 1 << 40;
 
-/// A client of a cluster with its seat on the board and its clerk. It may be moved to a thread, which drives it. The votes
-/// that the client holds are those that the seat holds, whenever no call runs. Contracts see a `MemberState`.
+/// A client of a cluster with its seat on the board and its clerk. It may be moved to a thread,
+/// which drives it. Whenever no call runs, the client holds the votes that the seat holds.
+/// Contracts see a `MemberState`.
 #[derive(Drop)]
 pub struct Member<N: ClusterName> {
     pub(crate) requester: Requester,
@@ -40,7 +41,7 @@ pub struct Member<N: ClusterName> {
     pub(crate) fault: Option<ClusterFault>,
     /// The number of the quorum of the current or last request.
     pub(crate) quorum: usize,
-    /// What its client sent last. It stands here so that no step has to make room for it.
+    /// What its client sent last. It is kept here so that no step has to make room for it.
     pub(crate) out: Messages,
     pub(crate) of: PhantomData<N>,
 }
@@ -60,8 +61,8 @@ impl<N: ClusterName> Model for Member<N> {
     ghost invariant = { λ m. IsMember N.cluster m.requester m.seat m.clerk m.quorum };
 }
 
-/// Ends a step of a client: gives back the votes that it holds no longer, and then sends what it tells the voters. Answers
-/// how many messages are lost.
+/// Ends a step of a client: gives back the votes that it no longer holds, and then sends its
+/// messages to the voters. Returns how many messages are lost.
 fn finish<N: ClusterName>(
     rt: &impl Wait,
     cluster: &Cluster<N>,
@@ -83,7 +84,7 @@ fn finish<N: ClusterName>(
 }
 
 impl<N: ClusterName> Member<N> {
-    /// The member of a seat that holds no vote and has not passed, and of a clerk.
+    /// Creates a member from a clerk and from a seat that holds no vote and has not passed.
     pub(crate) fn new(seat: ClientSeat, clerk: Clerk) -> Member<N>
         requires client { seat.client < N.cluster.board.clients }
         requires few { N.cluster.board.clients ≤ 64 }
@@ -103,7 +104,7 @@ impl<N: ClusterName> Member<N> {
         }
     }
 
-    /// The client's number, below that of the clients.
+    /// Returns the client's number, which is below the number of clients.
     pub fn client(&self) -> u8
         ensures value { result ≡ self.now.requester.id }
         ensures in_range { self.now.requester.id < N.cluster.board.clients }
@@ -111,37 +112,39 @@ impl<N: ClusterName> Member<N> {
         self.requester.id()
     }
 
-    /// Where the client stands.
+    /// Returns the client's phase: idle, asking or inside.
     pub fn phase(&self) -> Phase
         ensures { result ≡ self.now.requester.phase }
     {
         self.requester.phase()
     }
 
-    /// How many messages its calls lost: dropped by a node, for want of memory, or a LOCKED whose vote could not be taken. It
-    /// never falls, and stays at its greatest value, 2^64 - 1.
+    /// Returns how many messages its calls lost: a node dropped them, memory ran out, or they were
+    /// LOCKED whose vote could not be taken. The number never falls, and stays at its greatest
+    /// value, 2^64 - 1.
     pub fn lost(&self) -> u64
         ensures { result ≡ self.now.lost }
     {
         self.lost
     }
 
-    /// Why its work ended early when it was last driven, as [`Member::ends_by`] kept it. None where it did not, or where the
-    /// member was never driven.
+    /// Returns why its work ended early when it was last driven, as [`Member::ends_by`] kept it.
+    /// Returns `None` if it did not, or if the member was never driven.
     pub fn fault(&self) -> Option<ClusterFault>
         ensures { result ≡ self.now.fault }
     {
         self.fault
     }
 
-    /// Keeps why a drive ended its work early; None where it did not.
+    /// Keeps why a drive ended its work early, or `None` if it did not.
     pub fn ends_by(&mut self, fault: Option<ClusterFault>)
         ensures { self.new ≡ record self.old { fault = fault } }
     {
         self.fault = fault;
     }
 
-    /// The receipts of its tickets, in the order of its requests. Each names the quorum of its ticket.
+    /// Returns the receipts of its tickets, in the order of its requests. Each names the quorum of
+    /// its ticket.
     pub fn receipts(&self) -> &[Receipt]
         ensures value { result.now ≡ self.now.clerk.receipts }
         ensures quorums { AreByCycle N.cluster.office.cycle self.now.clerk.receipts }
@@ -149,16 +152,22 @@ impl<N: ClusterName> Member<N> {
         self.clerk.receipts()
     }
 
-    /// The numbers by which it passed, in order.
+    /// Returns its pass numbers, in order.
     pub fn passes(&self) -> &[u64]
         ensures { result.now ≡ self.now.seat.passes }
     {
         self.seat.passes()
     }
 
-    /// Starts a request: draws a ticket and sends REQUEST to each member of the quorum that it names. Refused in this order
-    /// unless the client is idle, if no stamp is left, if its clerk has no ticket left, and for want of memory for the
-    /// receipt. A refusal changes nothing.
+    /// Starts a request: draws a ticket and sends REQUEST to each member of the quorum that it
+    /// names. Returns the ticket's receipt.
+    ///
+    /// Fails for the first of these reasons, and then changes nothing:
+    ///
+    /// - the client is not idle;
+    /// - no stamp is left;
+    /// - its clerk has no ticket left;
+    /// - there is no memory for the receipt.
     pub fn ask(&mut self, rt: &impl Wait, cluster: &Cluster<N>) -> Result<Receipt, ClusterFault>
         ensures asked { IfOk result (λ r. Asked self.old (quorum_at N.cluster.board.quorums r.quorum) self.new) }
         ensures dealt { IfOk result (λ r. r ≡ receipt_of N.cluster.office.cycle r.ticket) }
@@ -188,8 +197,11 @@ impl<N: ClusterName> Member<N> {
         Ok(receipt)
     }
 
-    /// Takes one message of its mailbox, and sends what the client answers. None where the mailbox is empty. A LOCKED that
-    /// counts takes the vote on the board first; where that fails, the message is lost and the client makes no step.
+    /// Takes one message out of its mailbox, and sends the client's replies. Returns what is seen
+    /// of the step, or `None` if the mailbox is empty.
+    ///
+    /// If the message is a LOCKED that counts, takes the vote on the board first. If that fails,
+    /// the message is lost and the client makes no step.
     pub fn pump(&mut self, rt: &impl Wait, cluster: &Cluster<N>) -> Option<Seen>
         ensures pumped { IfSome result (λ seen. Pumped N.cluster.board self.old seen self.new) }
         ensures entered { result ≡ Some Seen.Entered → (is_inside self.old.requester.phase ≡ false) × (is_inside self.new.requester.phase ≡ true) }
@@ -207,7 +219,8 @@ impl<N: ClusterName> Member<N> {
         Some(self.meet(rt, cluster, &message))
     }
 
-    /// Takes a message that came, and sends what the client answers; where its vote can't be taken, it is lost.
+    /// Takes a message that came, and sends the client's replies. If its vote can't be taken, the
+    /// message is lost.
     pub(crate) fn meet(&mut self, rt: &impl Wait, cluster: &Cluster<N>, message: &ToClient) -> Seen
         requires mail { IsMail N.cluster.board self.old.requester.id message.now }
         ensures met { Met self.old message.now result self.new }
@@ -231,8 +244,8 @@ impl<N: ClusterName> Member<N> {
         seen
     }
 
-    /// Leaves: gives each vote back, and then sends RELEASE to each member of its quorum. Refused unless it is inside; a
-    /// refusal changes nothing.
+    /// Leaves: gives each vote back, and then sends RELEASE to each member of its quorum. Fails if
+    /// and only if it is not inside, and then changes nothing.
     pub fn leave(&mut self, rt: &impl Wait, cluster: &Cluster<N>) -> Result<(), ClusterFault>
         ensures left { IfOk result (λ _. HasLeft self.old self.new) }
         ensures idle { IfOk result (λ _. is_idle self.new.requester.phase ≡ true) }
@@ -253,8 +266,8 @@ impl<N: ClusterName> Member<N> {
         Ok(())
     }
 
-    /// Gives its request up: gives each vote back, and then sends RELEASE to each member of its quorum. Refused unless it
-    /// asks; a refusal changes nothing.
+    /// Gives its request up: gives each vote back, and then sends RELEASE to each member of its
+    /// quorum. Fails if and only if it is not asking, and then changes nothing.
     pub fn give_up(&mut self, rt: &impl Wait, cluster: &Cluster<N>) -> Result<(), ClusterFault>
         ensures given_up { IfOk result (λ _. GaveUp self.old self.new) }
         ensures idle { IfOk result (λ _. is_idle self.new.requester.phase ≡ true) }
@@ -275,8 +288,8 @@ impl<N: ClusterName> Member<N> {
         Ok(())
     }
 
-    /// While it asks, sends its reminders, and has each voter of its quorum remind the client that holds the vote. Else
-    /// nothing.
+    /// Sends its reminders, and has each voter of its quorum remind the client that holds the vote.
+    /// Does nothing unless it is asking.
     pub fn remind(&mut self, rt: &impl Wait, cluster: &Cluster<N>)
         ensures same { self.new ≡ record self.old { lost = self.new.lost } }
         ensures else_nothing { is_asking self.old.requester.phase ≡ false → self.new ≡ self.old }
@@ -291,9 +304,11 @@ impl<N: ClusterName> Member<N> {
         self.lost = self.lost.saturating_add(sent).saturating_add(told);
     }
 
-    /// Passes: reads the register, writes one more, and keeps and answers the number that it read, which is above each that
-    /// it keeps. Refused unless it is inside, where the register is at its limit, and for want of memory. A refusal of the
-    /// board leaves a reading in the seat, and changes nothing else.
+    /// Passes: reads the register, writes the number read plus one, and returns the number read.
+    /// That is now one of its pass numbers, and above all its earlier ones.
+    ///
+    /// Fails if it is not inside, if the register is at its limit, or if it runs out of memory. A
+    /// failure of the board leaves a reading in the seat, and changes nothing else.
     pub fn pass(&mut self, cluster: &Cluster<N>) -> Result<u64, ClusterFault>
         ensures passed { IfOk result (λ x. self.new ≡ record self.old { seat = with_pass self.old.seat x }) }
         ensures may { IfOk result (λ _. is_inside self.old.requester.phase ≡ true) }

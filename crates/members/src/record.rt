@@ -1,15 +1,16 @@
 //! The record of a run.
 
-/// What a run of a cluster leaves behind.
+/// The record of a run of a cluster.
 #[derive(Debug, Drop)]
 pub struct RunRecord {
-    /// Who drew which ticket, and which quorum it named: client, ticket, quorum. They stand by ticket, where
-    /// [`Cluster::close`](crate::Cluster::close) made the record.
+    /// Who drew which ticket, and which quorum it named: client, ticket, quorum. They are in the
+    /// order of tickets if [`Cluster::close`](crate::Cluster::close) made the record.
     pub draws: Vec<(u8, u64, usize)>,
-    /// Who passed by which number: client, number. They stand by number, where `Cluster::close` made the record.
+    /// Who passed by which number: client, number. They are in the order of numbers if
+    /// `Cluster::close` made the record.
     pub passes: Vec<(u8, u64)>,
     /// The register at the end.
     pub register: u64,
-    /// How many messages were lost. A record's text does not tell it; read from a text it is 0.
+    /// How many messages were lost. A record's text doesn't contain it: read from a text it is 0.
     pub lost: u64,
 }

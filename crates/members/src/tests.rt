@@ -1,4 +1,4 @@
-//! Clusters: worked rows on one thread, and two threads that pass.
+//! Clusters: worked scripts on one thread, and two threads that pass.
 ghost use Rattle.std.specs.Prelude.{◌≡◌, ◌*◌, ◌≤◌, ◌^◌, IfOk, IfSome};
 ghost use Rattle.members.specs.Clusters.{ClusterState};
 
@@ -13,7 +13,8 @@ use std::test::Fail;
 use std::thread;
 use std::thread::Threads;
 
-/// A cluster of 64 voters, all of which are asked each time, and of 64 clients, each of which may draw one ticket.
+/// Creates a cluster of 64 voters and 64 clients. Each request asks all voters, and each client may
+/// draw one ticket.
 fn largest_blank(alloc: Global) -> Result<Option<Blank>, AllocError> {
     let all = (0..64u8).collect::<Vec<u8>>(alloc)?;
     let Some(plan) = even_plan(alloc, 64, &[&all]) else {
@@ -22,7 +23,7 @@ fn largest_blank(alloc: Global) -> Result<Option<Blank>, AllocError> {
     Ok(Blank::new(alloc, plan, 64, 1).ok())
 }
 
-/// A cluster of three voters and so many clients, each of which may draw four tickets.
+/// Creates a cluster of three voters and `clients` clients. Each client may draw four tickets.
 pub(crate) fn majority_blank(alloc: Global, clients: u8) -> Option<Blank>
     requires least { 1 ≤ clients }
     requires most { clients ≤ 64 }
@@ -30,7 +31,7 @@ pub(crate) fn majority_blank(alloc: Global, clients: u8) -> Option<Blank>
     Blank::new(alloc, majority_plan(alloc)?, clients, 4).ok()
 }
 
-/// What a member is called for, and what it has to answer.
+/// A call of a member, and what it has to return.
 #[derive(Clone, Copy)]
 pub(crate) enum Act {
     Ask(u64, usize),
@@ -41,7 +42,7 @@ pub(crate) enum Act {
     GiveUp,
 }
 
-/// Whether a member answers as it has to.
+/// Returns whether a member's call returns what it has to.
 fn does<N: ClusterName>(
     rt: &impl Wait,
     cluster: &Cluster<N>,
@@ -61,7 +62,8 @@ fn does<N: ClusterName>(
     }
 }
 
-/// How many acts of a script are answered as they have to be, before the first that is not.
+/// Plays a script, and returns how many of its acts return what they have to, before the first that
+/// doesn't.
 pub(crate) fn plays<N: ClusterName>(
     rt: &impl Wait,
     cluster: &Cluster<N>,
@@ -82,7 +84,8 @@ pub(crate) fn plays<N: ClusterName>(
     done
 }
 
-/// Plays a script on a cluster that is opened for it, and answers how far it went, and how many messages were lost.
+/// Plays a script on a cluster that is opened for it. Returns how far it went, and how many
+/// messages were lost.
 fn played<N: ClusterName>(
     rt: &impl Wait,
     alloc: Global,
@@ -177,8 +180,8 @@ fn one_member_passes_and_gives_up(rt: HostRuntime) -> Result<(), Fail> {
     Ok(())
 }
 
-/// How many members enter with the vote of each voter, one after the other, and pass and leave, and how many messages
-/// they lose.
+/// Has the members enter with the vote of each voter, one after the other, and pass and leave.
+/// Returns how many did, and how many messages they lost.
 fn all_enter<N: ClusterName>(
     rt: &impl Wait,
     alloc: Global,
@@ -212,7 +215,7 @@ fn every_client_gets_the_vote_of_every_voter(rt: HostRuntime) -> Result<(), Fail
     Ok(())
 }
 
-/// Whether a fresh member refuses as it has to.
+/// Returns whether the calls of a fresh member fail as they have to.
 fn refuses<N: ClusterName>(rt: &impl Wait, alloc: Global, blank: Blank) -> Result<bool, AllocError>
     requires { blank ≡ N.cluster }
 {
@@ -246,7 +249,7 @@ fn fresh_members_refuse(rt: HostRuntime) -> Result<(), Fail> {
     Ok(())
 }
 
-/// Pumps until the member is inside, for so many turns.
+/// Pumps until the member is inside, for at most `turns` turns. Returns whether it is.
 fn enters<N: ClusterName>(
     rt: &impl Wait,
     cluster: &Cluster<N>,
@@ -274,7 +277,8 @@ fn serves<N: ClusterName>(rt: &impl Wait, cluster: &Cluster<N>, member: &mut Mem
     }
 }
 
-/// How many passes two members made, each in a thread of its own.
+/// Has the members draw and pass, each in a thread of its own. Returns how many tickets they drew
+/// and how many passes they made.
 fn both_pass<N: ClusterName + Send + Sync, R: Threads + Wait + Sync>(
     rt: &R,
     alloc: Global,

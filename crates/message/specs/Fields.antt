@@ -1,4 +1,4 @@
--- Fields of a line: each number in decimal, without a leading zero, with a space before it.
+-- Fields of a line: each is a space, and then a number in decimal without a leading zero.
 use Rattle.std.specs.Prelude.{ℕ, ◌≡◌, ◌≢◌, ◌<◌, ◌^◌, List, [], ◌∷◌, ◌++◌, length, slice_index}
 use Rattle.std.specs.List.{AllByRecursion}
 use Rattle.std.specs.Fmt.{decimal}
@@ -8,7 +8,7 @@ abbrev pub fields : List ℕ → List ℕ
 fields [] = []
 fields (n ∷ ns) = (32 ∷ decimal n) ++ fields ns
 
--- what may stand behind a word or a number: nothing, or a space
+-- what may follow a word or a number: nothing, or a space
 abbrev pub IsBorder : List ℕ → Type 0
 IsBorder [] = Unit {0}
 IsBorder (b ∷ bs) = b ≡ 32
@@ -21,7 +21,7 @@ HasNoSpace bytes = AllByRecursion (λ b. b ≢ 32) bytes
 abbrev pub AllFit : List ℕ → Type 0
 AllFit ns = AllByRecursion (λ n. n < 2 ^ 64) ns
 
--- what may be a number's digits: not none, no sign before them, and no leading zero
+-- what may be a number's digits: at least one byte, no sign in front, and no leading zero
 pub record IsPlain (digits : List ℕ) : Type 0 where
   pub some : 0 < length digits
   pub unsigned : slice_index digits 0 ≢ 43

@@ -1,4 +1,5 @@
--- The one line of each message: its word, and then each of its numbers in decimal with a space before it.
+-- The one line of each message: its word, and then each of its numbers in decimal, with a space in
+-- front.
 use Rattle.std.specs.Prelude.{ℕ, ◌≡◌, ◌<◌, ◌≤◌, ◌^◌, List, [], ◌∷◌, ◌++◌, codes}
 use Rattle.message.specs.declared.message.Message.{Message}
 use Rattle.message.specs.declared.message.Message.TheVariants as kinds
@@ -37,7 +38,7 @@ abbrev pub word_of : Message → List ℕ
 word_of (kinds.ToVoter m) = voter_word m.body
 word_of (kinds.ToClient m) = client_word m.body
 
--- the sender, the receiver, what the body has, and from a voter the highest stamp that it saw
+-- the sender, the receiver, the numbers of the body, and from a voter the highest stamp that it saw
 abbrev pub numbers_of : Message → List ℕ
 numbers_of (kinds.ToVoter m) = m.client ∷ m.voter ∷ voter_number m.body ∷ []
 numbers_of (kinds.ToClient m) = m.voter ∷ m.client ∷ client_numbers m.body ++ m.seen ∷ []
@@ -46,11 +47,11 @@ numbers_of (kinds.ToClient m) = m.voter ∷ m.client ∷ client_numbers m.body +
 abbrev pub message_line : Message → List ℕ
 message_line m = word_of m ++ fields (numbers_of m)
 
--- a stamp or a grant's number: from 1, and below 2^64
+-- a stamp or a grant's number: 1 to 2^64 - 1
 abbrev pub IsCount : ℕ → Type 0
 IsCount n = (1 ≤ n) × (n < 2 ^ 64)
 
--- the stamps and grants that a message tells have a spelling
+-- the stamps and grants in a message to a client can be written
 abbrev pub AreCounts : ClientBody → Type 0
 AreCounts (tells.Locked stamp grant) = IsCount stamp × IsCount grant
 AreCounts (tells.Fail stamp) = IsCount stamp
@@ -61,7 +62,7 @@ abbrev pub HasLine : Message → Type 0
 HasLine (kinds.ToVoter m) = (m.client ≤ 63) × (m.voter ≤ 63) × IsCount (voter_number m.body)
 HasLine (kinds.ToClient m) = (m.voter ≤ 63) × (m.client ≤ 63) × (m.seen < 2 ^ 64) × AreCounts m.body
 
--- the message of this word and these numbers
+-- the message has a line of text with this word and these numbers
 pub record IsMessageOf (m : Message) (word numbers : List ℕ) : Type 0 where
   pub has_line : HasLine m
   pub word_is : word ≡ word_of m

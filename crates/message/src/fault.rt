@@ -1,7 +1,7 @@
-//! What keeps a line from being a message's.
+//! The fault of a line.
 use thiserror::Error;
 
-/// Why bytes are no message.
+/// The reason why bytes are no message.
 #[derive(Clone, Copy, Debug, PartialEq, Eq, Error)]
 pub enum MessageFault {
     /// The bytes are not the line of any message.

@@ -1,9 +1,9 @@
-//! Laws of the definitions.
+//! Laws: what is proved about the definitions.
 ghost use Rattle.std.specs.Prelude.{◌≡◌, ◌++◌, ◌∷◌, ℕ, List, []};
 ghost use Rattle.message.specs.declared.message.Message.{Message};
 ghost use Rattle.message.specs.Lines.{HasLine, message_line};
 
-/// No message's line, with its newline, begins a longer one of a message.
+/// No message's line, with its newline, is the beginning of another one that is longer.
 pub fn lines_end()
     ensures { (m n : Message) (more : List ℕ) → HasLine m → HasLine n → message_line m ++ 10 ∷ more ≡ message_line n ++ 10 ∷ [] → more ≡ [] }
 {}

@@ -1,8 +1,10 @@
-//! The messages of the voting lock, and the one line that spells each.
+//! The messages of the voting lock, each with one line of text.
 //!
-//! A client asks a voter for its vote, gives a vote back to a request that precedes its own, and is done with it; a
-//! voter grants its vote, says that another request precedes, and asks whether the vote may come back (Maekawa, "A
-//! sqrt(N) algorithm for mutual exclusion in decentralized systems", ACM TOCS 3(2), 1985):
+//! A client asks a voter for its vote (REQUEST). It gives a vote back to a request that precedes
+//! its own (RELINQUISH), and is done with its request (RELEASE). A voter grants its vote (LOCKED),
+//! says that another request precedes (FAIL), and asks whether the vote may come back (INQUIRE).
+//! This follows Maekawa, "A sqrt(N) algorithm for mutual exclusion in decentralized systems", ACM
+//! TOCS 3(2), 1985.
 //!
 //! | Message | Line |
 //! |---|---|
@@ -13,11 +15,11 @@
 //! | FAIL | `fail VOTER CLIENT STAMP SEEN` |
 //! | INQUIRE | `inquire VOTER CLIENT GRANT SEEN` |
 //!
-//! A client or a voter is at most 63, a stamp or a grant from 1 to 2^64 - 1, and SEEN below 2^64; each is written in
-//! decimal without a leading zero. Reading takes no memory.
+//! A client or a voter is at most 63. A stamp or a grant is 1 to 2^64 - 1, and SEEN is below 2^64.
+//! Each is written in decimal without a leading zero. Reading takes no memory.
 //!
-//! This crate stands on no other. Voters and requesters stand on it, and whatever reads words and numbers of a line
-//! may use [`cut`] and [`fields`].
+//! This crate depends on no other. Voters and requesters depend on it. Whatever reads words and
+//! numbers of a line may use [`cut`] and [`fields`].
 //!
 //! ```
 //! let message = read_message(b"request 1 2 3")?;

@@ -1,7 +1,8 @@
-//! The messages of the voting lock: three kinds from a client to a voter, and three back.
+//! The messages of the voting lock: three kinds from a client to a voter, and three from a voter to
+//! a client.
 ghost use Rattle.std.specs.Prelude.{◌≡◌, ◌↔◌, IsTrue};
 
-/// What a client tells a voter.
+/// What a client says to a voter.
 #[derive(Clone, Copy, Debug, PartialEq, Eq)]
 pub enum VoterBody {
     /// REQUEST: the client asks for the vote, for its request with this stamp.
@@ -35,7 +36,7 @@ impl VoterBody {
 }
 
 impl Default for VoterBody {
-    /// A blank for the unused places of an array; no line spells it.
+    /// Returns a blank for the unused places of an array. It has no line of text.
     fn default() -> Self
         ensures { result ≡ VoterBody.Request 0 }
     {
@@ -46,15 +47,15 @@ impl Default for VoterBody {
 /// A message from a client to a voter.
 #[derive(Clone, Copy, Debug, Default, PartialEq, Eq)]
 pub struct ToVoter {
-    /// Who sends it, from 0.
+    /// The client that sends it, from 0.
     pub client: u8,
-    /// Who gets it, from 0.
+    /// The voter that receives it, from 0.
     pub voter: u8,
     /// What it says.
     pub body: VoterBody,
 }
 
-/// What a voter tells a client.
+/// What a voter says to a client.
 #[derive(Clone, Copy, Debug, PartialEq, Eq)]
 pub enum ClientBody {
     /// LOCKED: the vote is granted to the client's request.
@@ -69,7 +70,8 @@ pub enum ClientBody {
         /// The stamp of the request, from 1.
         stamp: u64,
     },
-    /// INQUIRE: a request that precedes the granted one waits, so the voter asks whether the grant may come back.
+    /// INQUIRE: a request that precedes the granted one waits, so the voter asks whether the grant
+    /// may come back.
     Inquire {
         /// The number of the grant, from 1.
         grant: u64,
@@ -91,7 +93,7 @@ impl ClientBody {
 }
 
 impl Default for ClientBody {
-    /// A blank for the unused places of an array; no line spells it.
+    /// Returns a blank for the unused places of an array. It has no line of text.
     fn default() -> Self
         ensures { result ≡ ClientBody.Fail 0 }
     {
@@ -102,9 +104,9 @@ impl Default for ClientBody {
 /// A message from a voter to a client.
 #[derive(Clone, Copy, Debug, Default, PartialEq, Eq)]
 pub struct ToClient {
-    /// Who sends it, from 0.
+    /// The voter that sends it, from 0.
     pub voter: u8,
-    /// Who gets it, from 0.
+    /// The client that receives it, from 0.
     pub client: u8,
     /// The highest stamp that the voter saw, 0 if it saw none.
     pub seen: u64,
@@ -124,8 +126,8 @@ pub enum Message {
 impl Message {
     ghost use Rattle.message.specs.Lines.{HasLine};
 
-    /// Whether a line spells the message: its client and its voter are at most 63, and its stamp and its grant are
-    /// not 0.
+    /// Returns whether the message has a line of text: its client and its voter are at most 63, and
+    /// its stamp and its grant are not 0.
     pub fn has_line(self) -> bool
         ensures { IsTrue result ↔ HasLine self }
     {

@@ -11,7 +11,7 @@ use crate::words::{cut, fields};
 /// The highest number of a client or a voter.
 const HIGHEST: u64 = 63;
 
-/// A client's message: REQUEST, RELINQUISH or RELEASE.
+/// Returns a client's message: REQUEST, RELINQUISH or RELEASE.
 fn to_voter(word: &[u8], client: u64, voter: u64, number: u64) -> Option<Message>
     ensures spelled { IfSome result (λ m. IsMessageOf m word.now (client ∷ voter ∷ number ∷ [])) }
     ensures read { (m : Message) → IsMessageOf m word.now (client ∷ voter ∷ number ∷ []) → result ≡ Some m }
@@ -32,7 +32,7 @@ fn to_voter(word: &[u8], client: u64, voter: u64, number: u64) -> Option<Message
     }))
 }
 
-/// A voter's message about a request or a grant: FAIL or INQUIRE.
+/// Returns a voter's message about a request or a grant: FAIL or INQUIRE.
 fn to_client(word: &[u8], voter: u64, client: u64, number: u64, seen: u64) -> Option<Message>
     ensures spelled { IfSome result (λ m. IsMessageOf m word.now (voter ∷ client ∷ number ∷ seen ∷ [])) }
     ensures read { (m : Message) → IsMessageOf m word.now (voter ∷ client ∷ number ∷ seen ∷ []) → result ≡ Some m }
@@ -53,7 +53,7 @@ fn to_client(word: &[u8], voter: u64, client: u64, number: u64, seen: u64) -> Op
     }))
 }
 
-/// A voter's message about both: LOCKED.
+/// Returns a voter's message about both: LOCKED.
 fn locked(
     word: &[u8],
     voter: u64,
@@ -81,7 +81,7 @@ fn locked(
     }))
 }
 
-/// The message of a word and its numbers.
+/// Returns the message of this word and these numbers.
 fn message_of(word: &[u8], numbers: &[u64]) -> Option<Message>
     ensures spelled { IfSome result (λ m. IsMessageOf m word.now numbers.now) }
     ensures read { (m : Message) → IsMessageOf m word.now numbers.now → result ≡ Some m }
@@ -96,7 +96,8 @@ fn message_of(word: &[u8], numbers: &[u64]) -> Option<Message>
     }
 }
 
-/// The message of a word and of the fields behind it, of which the word tells the number.
+/// Returns the message of this word and the fields after it. The word determines how many fields
+/// there are.
 fn read_fields(word: &[u8], rest: &[u8]) -> Option<Message>
     ensures spelled { IfSome result (λ m. (ns : List ℕ) × IsMessageOf m word.now ns × (rest.now ≡ fields ns)) }
     ensures read { (m : Message) (ns : List ℕ) → IsMessageOf m word.now ns → rest.now ≡ fields ns → result ≡ Some m }
@@ -108,11 +109,12 @@ fn read_fields(word: &[u8], rest: &[u8]) -> Option<Message>
     }
 }
 
-/// Reads the one line of a message, without its newline.
+/// Reads a message from its line, without the newline. Fails with `BadLine` if and only if the
+/// bytes are no message's line.
 pub fn read_message(line: &[u8]) -> Result<Message, MessageFault>
-    // What is read is spelled so.
+    // What is read is the message of this line.
     ensures spelled { IfOk result (λ m. HasLine m × (line.now ≡ message_line m)) }
-    // What is spelled so is read.
+    // The line of each message is read.
     ensures read { (m : Message) → HasLine m → line.now ≡ message_line m → result ≡ Ok m }
 {
     let (word, rest) = cut(line);

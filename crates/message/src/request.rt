@@ -1,8 +1,8 @@
 //! A request for the lock.
 
-/// A client's request for the lock, told by a stamp of the client's logical clock.
+/// A client's request for the lock, with a stamp of the client's logical clock.
 ///
-/// Of two requests the one with the smaller stamp precedes, and under one stamp that of the smaller client
+/// The request with the smaller stamp precedes; of equal stamps, that of the smaller client
 /// (Maekawa, ACM TOCS 3(2), 1985, after Lamport's order).
 #[derive(Clone, Copy, Debug, Default, PartialEq, Eq)]
 pub struct Request {

@@ -1,4 +1,4 @@
-//! Words and numbers of a line, with one space between each two.
+//! Words and numbers of a line, with one space between any two.
 ghost use Rattle.std.specs.Prelude.{◌≡◌, ◌<◌, ◌≤◌, ◌^◌, ◌++◌, ◌∷◌, ◌==◌, ℕ, List, IfSome, MatchOption, length, position};
 ghost use Rattle.std.specs.Bool.{OnFalse, OnTrue};
 ghost use Rattle.std.specs.Fmt.{decimal};
@@ -15,11 +15,12 @@ fn is_plain(digits: &[u8]) -> bool
     }
 }
 
-/// The number that these bytes spell, all of them: in decimal, without a sign or a leading zero.
+/// Parses the bytes, all of them, as a number in decimal, without a sign or a leading zero. Returns
+/// `None` if they are no such number below 2^64.
 pub fn number(digits: &[u8]) -> Option<u64>
-    // What is read is spelled so.
+    // The bytes are the text of the number that is returned.
     ensures spelled { IfSome result (λ n. digits.now ≡ decimal n) }
-    // What is spelled so is read.
+    // The text of each number is read.
     ensures read { (n : ℕ) → n < 2 ^ 64 → digits.now ≡ decimal n → result ≡ Some n }
 {
     if !is_plain(digits) {
@@ -50,7 +51,8 @@ fn word_len(bytes: &[u8]) -> usize
     }
 }
 
-/// What stands before the first space, and the rest from that space on, which is nothing where there is no space.
+/// Splits the bytes in front of the first space. The rest begins with the space, and is empty if
+/// there is none.
 pub fn cut(bytes: &[u8]) -> (&[u8], &[u8])
     ensures whole { bytes.now ≡ result.0.now ++ result.1.now }
     ensures word { HasNoSpace result.0.now }
@@ -61,7 +63,8 @@ pub fn cut(bytes: &[u8]) -> (&[u8], &[u8])
     bytes.split_at(word_len(bytes))
 }
 
-/// The number that stands at the front with a space before it, and what follows it.
+/// Reads a space and a number from the front. Returns the number and what follows it, or `None` if
+/// the bytes begin otherwise.
 pub fn field(bytes: &[u8]) -> Option<(u64, &[u8])>
     ensures spelled { IfSome result (λ x. bytes.now ≡ (32 ∷ decimal x.0) ++ x.1.now) }
     ensures border { IfSome result (λ x. IsBorder x.1.now) }
@@ -80,7 +83,7 @@ pub fn field(bytes: &[u8]) -> Option<(u64, &[u8])>
     }
 }
 
-/// The numbers of exactly `N` fields, which are all of the bytes.
+/// Reads the numbers of exactly `N` fields. Returns `None` if the bytes are anything else.
 pub fn fields<const N: usize>(bytes: &[u8]) -> Option<[u64; N]>
     ensures spelled { IfSome result (λ ns. bytes.now ≡ fields ns) }
     ensures read { (ns : List ℕ) → length ns ≡ N → AllFit ns → bytes.now ≡ fields ns → result ≡ Some ns }

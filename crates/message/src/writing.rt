@@ -65,7 +65,7 @@ fn line_to_client(
     }
 }
 
-/// Writes the one line of a message, without its newline.
+/// Returns the line of a message, without its newline. Fails only if it runs out of memory.
 pub fn write_message(alloc: Global, message: &Message) -> Result<String, AllocError>
     requires { HasLine message.now }
     ensures { IfOk result (λ line. string_bytes line ≡ message_line message.now) }

@@ -14,12 +14,12 @@ pub record NodeState : Type 0 where
   pub log : List ToVoter
   pub number : ℕ
 
--- the voter after one more message; none where it is refused
+-- the voter after one more message; none if that is refused
 abbrev pub next : Option VoterState → ToVoter → Option VoterState
 next None m = None
 next (Some v) m = option_map (λ o. o.state) (step v m)
 
--- the voter after these messages, in order; none where one of them is refused
+-- the voter after these messages, in order; none if one of them is refused
 abbrev pub run : Option VoterState → List ToVoter → Option VoterState
 run v [] = v
 run v (m ∷ ms) = run (next v m) ms
@@ -34,7 +34,9 @@ pub record IsFor (board : BoardState) (voter : ℕ) (m : ToVoter) : Type 0 where
   pub voter_is : m.voter ≡ voter
   pub client : m.client < board.clients
 
--- The voter is what its definition makes of the log, in order, from a voter that was told nothing and may give 2^40 grants. Its seat on the board has its current grant, and the number of its grants as the last one's
+-- The voter is what its definition makes of the log, in order, starting from a voter that received
+-- nothing and may give 2^40 grants. Its seat on the board has the voter's current grant. The number
+-- of the seat's last grant is how many grants the voter gave.
 pub record IsNode (board : BoardState) (voter : VoterState) (log : List ToVoter) (seat : SeatState) : Type 0 where
   pub follows : run (Some (start seat.voter (2 ^ 40))) log ≡ Some voter
   pub known : All (IsFor board seat.voter) log
@@ -44,17 +46,18 @@ pub record IsNode (board : BoardState) (voter : VoterState) (log : List ToVoter)
   pub last : seat.last ≡ voter.granted
   pub id : voter.id ≡ seat.voter
   pub limit : voter.limit ≡ 2 ^ 40
-  -- who holds the vote or waits for it is a client of the board
+  -- each client that holds the vote or waits for it is one of the board
   pub clients : (client stamp : ℕ) → IsEntry voter client stamp → client < board.clients
   pub few : board.clients ≤ 64
   pub sound : IsSound voter
 
--- the seat, once the grant is settled where a message frees the vote
+-- the seat after it settled its grant, if a message frees the vote
 abbrev pub settled : Bool → SeatState → SeatState
 settled false seat = seat
 settled true seat = record seat { current = None }
 
--- the seat, once the grant is offered where the seat has none
+-- the seat after it offers the voter's grant; nothing changes if it has a current grant or the
+-- voter has none
 abbrev pub offered_by : Option (ℕ × ℕ) → Option Grant → SeatState → SeatState
 offered_by (Some x) held seat = seat
 offered_by None None seat = seat

@@ -1,17 +1,18 @@
--- Votes that a client and its seat on the board hold: for each voter the grant by which its vote is held, or 0.
+-- Votes that a client and its seat on the board hold: for each voter, the grant under which its
+-- vote is held, or 0.
 use Rattle.std.specs.Prelude.{◌≡◌, ◌≢◌, ◌⊎◌, ℕ, ◌<◌, List, slice_index, slice_set}
 use Rattle.message.specs.declared.message.ClientBody.{ClientBody}
 use Rattle.message.specs.declared.message.ClientBody.TheVariants as tells
 
--- votes are held of voters of the board alone
+-- only votes of the board's voters are held
 abbrev pub HoldsWithin : ℕ → List ℕ → Type 0
 HoldsWithin voters held = (v : ℕ) → slice_index held v ≢ 0 → v < voters
 
--- each vote is held as in the other list, or is not held
+-- each vote is held under the same grant as in the other list, or is not held
 abbrev pub HoldsFewer : List ℕ → List ℕ → Type 0
 HoldsFewer held others = (v : ℕ) → (slice_index held v ≡ slice_index others v) ⊎ (slice_index held v ≡ 0)
 
--- the vote that a LOCKED brings is held besides
+-- the message is a LOCKED, and afterwards the vote that it brings is held too
 abbrev pub HoldsLocked : List ℕ → ℕ → ClientBody → List ℕ → Type 0
 HoldsLocked before voter (tells.Locked stamp grant) after = after ≡ slice_set before voter grant
 HoldsLocked before voter (tells.Fail stamp) after = ⊥

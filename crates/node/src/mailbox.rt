@@ -10,8 +10,8 @@ use std::alloc::{AllocError, Global};
 use std::collections::VecDeque;
 use std::marker::{Model, PhantomData};
 
-/// The messages to one client of a cluster, first in, first out. Each names the client and a voter of the board, and a LOCKED
-/// has a grant from 1 to 2^40. Contracts see a `MailboxState`.
+/// The messages to one client of a cluster, first in, first out. Each names the client and a voter
+/// of the board, and a LOCKED has a grant from 1 to 2^40. Contracts see a `MailboxState`.
 #[derive(Drop)]
 pub struct Mailbox<N: ClusterName> {
     client: u8,
@@ -31,7 +31,7 @@ impl<N: ClusterName> Model for Mailbox<N> {
     ghost invariant = { λ b. All (IsMail N.cluster.board b.client) b.messages.items };
 }
 
-/// Whether the number of a grant that a message brings is from 1 to 2^40.
+/// Returns whether the grant of a LOCKED is from 1 to 2^40. Returns `true` for other messages.
 fn has_grant(body: ClientBody) -> bool
     ensures { result ≡ has_grant body }
 {
@@ -41,7 +41,8 @@ fn has_grant(body: ClientBody) -> bool
     }
 }
 
-/// Whether a message is one to this client by one of so many voters.
+/// Returns whether a message is to this client, from one of `voters` voters, and with a grant from
+/// 1 to 2^40 if it is a LOCKED.
 fn is_mail(client: u8, message: ToClient, voters: usize) -> bool
     ensures { IsTrue result ↔ (message.client ≡ client) × (message.voter < voters) × (has_grant message.body ≡ true) }
 {
@@ -49,7 +50,7 @@ fn is_mail(client: u8, message: ToClient, voters: usize) -> bool
 }
 
 impl<N: ClusterName> Mailbox<N> {
-    /// The mailbox of a client, empty.
+    /// Creates an empty mailbox for a client.
     pub fn new(alloc: Global, client: u8) -> Mailbox<N>
         ensures { result ≡ record { client = client; messages = [] } }
     {
@@ -60,9 +61,12 @@ impl<N: ClusterName> Mailbox<N> {
         }
     }
 
-    /// Puts a message behind the others; `voters` is the number of the board's voters. True exactly where it may stand here:
-    /// it is to this client, from a voter of the board, and as a LOCKED it has a grant from 1 to 2^40. False changes
-    /// nothing. The only refusal is for want of memory, and changes nothing.
+    /// Appends a message if it belongs in this mailbox, and returns whether it does. If it doesn't,
+    /// nothing changes. `voters` is the number of the board's voters.
+    ///
+    /// A message belongs here if and only if it is to this client and from a voter of the board; a
+    /// LOCKED also needs a grant from 1 to 2^40. Fails only if it runs out of memory, and then
+    /// changes nothing.
     pub fn put(&mut self, message: ToClient, voters: usize) -> Result<bool, AllocError>
         requires { voters ≡ N.cluster.board.voters }
         ensures mail { IfOk result (λ put. IsTrue put ↔ IsMail N.cluster.board self.old.client message) }
@@ -76,8 +80,8 @@ impl<N: ClusterName> Mailbox<N> {
         Ok(true)
     }
 
-    /// Takes the first message out, for the client that it is to. None exactly where the mailbox is another client's or is
-    /// empty, and then nothing changes.
+    /// Removes the first message and returns it, if the mailbox is this client's. Returns `None` if
+    /// and only if the mailbox is another client's or is empty; then nothing changes.
     pub fn take(&mut self, client: u8) -> Option<ToClient>
         ensures first { IfSome result (λ m. self.old.messages ≡ m ∷ self.new.messages) }
         ensures mail { IfSome result (IsMail N.cluster.board client) }

@@ -1,4 +1,4 @@
-//! A voter with its seat on the board, which stands behind a lock.
+//! A voter with its seat on the board, to be put behind a lock.
 ghost use Rattle.std.specs.Prelude.{◌≡◌, ◌⊎◌, ◌<◌, ◌≤◌, ◌^◌, ◌++◌, ◌∷◌, [], true, false, None, Some, IfOk, IfErr, IfSome, MatchBool, MatchOption, IsSome};
 ghost use Rattle.voter.specs.Steps.{effect_of, remind, start, step};
 ghost use Rattle.board.specs.Seats.{BoardState};
@@ -15,11 +15,12 @@ use voter::{
     voters_meet_the_contract, voters_stay_sound,
 };
 
-/// How many grants a voter of a cluster may give.
+/// The number of grants that a voter of a cluster may give.
 pub(crate) const GRANTS: u64 = 1 << 40;
 
-/// A voter of a cluster, the messages that it took, and its seat on the board. Whenever no call runs, the voter is what
-/// its definition makes of the log, and the seat has the voter's current grant. Contracts see a `NodeState`.
+/// A voter of a cluster, the messages that it took, and its seat on the board. Whenever no call
+/// runs, the voter is what its definition makes of the log, and the seat has the voter's current
+/// grant. Contracts see a `NodeState`.
 #[derive(Drop)]
 pub struct Node<N: ClusterName> {
     voter: Voter,
@@ -43,7 +44,8 @@ impl<N: ClusterName> Model for Node<N> {
     ghost invariant = { λ n. IsNode N.cluster.board n.voter n.log.items n.seat };
 }
 
-/// Settles the grant where a message frees the vote. False where the vote was taken.
+/// Settles the grant if a message frees the vote. Returns `false` and changes nothing if the vote
+/// was taken.
 fn settle(seat: &mut VoterSeat, board: &Board, frees: bool) -> bool
     requires table { seat.old.table ≡ board.now.table }
     requires current { frees ≡ true → IsSome seat.old.current }
@@ -52,7 +54,7 @@ fn settle(seat: &mut VoterSeat, board: &Board, frees: bool) -> bool
     !frees || seat.settle(board)
 }
 
-/// Offers the grant where the seat has none.
+/// Offers the voter's grant, if it has one and its seat has none.
 fn offer(seat: &mut VoterSeat, board: &Board, held: Option<Grant>)
     requires table { seat.old.table ≡ board.now.table }
     requires next { seat.old.current ≡ None → IfSome held (λ g. (g.client < board.now.clients) × (seat.old.last < g.grant) × (g.grant ≤ 2 ^ 40)) }
@@ -68,8 +70,8 @@ fn offer(seat: &mut VoterSeat, board: &Board, held: Option<Grant>)
 }
 
 impl<N: ClusterName> Node<N> {
-    /// The node of a fresh voter, which may give 2^40 grants, of a cluster with at most 64 clients. The seat is of the
-    /// cluster's board, has no current grant, and never had one.
+    /// Creates the node of a fresh voter, which may give 2^40 grants. The cluster must have at most
+    /// 64 clients. The seat must be of the cluster's board and must never have had a grant.
     pub fn new(alloc: Global, seat: VoterSeat) -> Node<N>
         requires table { seat.table ≡ N.cluster.board.table }
         requires voter { (seat.voter < N.cluster.board.voters) × (seat.voter < 64) }
@@ -86,16 +88,19 @@ impl<N: ClusterName> Node<N> {
         }
     }
 
-    /// The voter's number.
+    /// Returns the voter's number.
     pub fn number(&self) -> u8
         ensures { result ≡ self.now.number }
     {
         self.seat.voter()
     }
 
-    /// Takes a message to this voter from a client of the cluster, and answers the voter's replies, in order. None where
-    /// the message is dropped, and then nothing changed: it would be refused, as all grants were given, or it would
-    /// free a vote that was taken. The only refusal is for want of memory for the log, and changes nothing.
+    /// Takes a message to this voter from a client of the cluster, and returns the voter's replies,
+    /// in order.
+    ///
+    /// Returns `None` and changes nothing if it drops the message. It does so if the voter would
+    /// refuse the message, since all grants were given, or if the message would free a vote that
+    /// was taken. Fails only if there is no memory for the log, and then changes nothing.
     pub fn take(&mut self, board: &Board, message: &ToVoter) -> Result<Option<Replies>, AllocError>
         requires board { board.now ≡ N.cluster.board }
         requires message { IsFor N.cluster.board self.old.number message.now }
@@ -122,7 +127,8 @@ impl<N: ClusterName> Node<N> {
         Ok(Some(replies))
     }
 
-    /// Its seat on the board. The current grant is settled where its vote is not taken; where it is taken the seat keeps it.
+    /// Returns the node's seat on the board. Settles the current grant first, unless its vote is
+    /// taken; then the seat keeps the grant.
     pub fn into_seat(self, board: &Board) -> VoterSeat
         requires { board.now ≡ N.cluster.board }
         ensures table { result.table ≡ N.cluster.board.table }
@@ -143,7 +149,7 @@ impl<N: ClusterName> Node<N> {
         seat
     }
 
-    /// What to tell the holder of the vote again, for messages that were lost.
+    /// Returns what to send to the holder of the vote again, in case messages were lost.
     pub fn remind(&self) -> Replies
         ensures { result.items ≡ remind self.now.voter }
     {

@@ -1,4 +1,4 @@
-//! The votes of a member, on the board.
+//! How a client's votes move on the board.
 ghost use Rattle.std.specs.Prelude.{◌≡◌, ◌≢◌, ◌⊎◌, ℕ, ◌<◌, true, false, None, length, slice_index};
 ghost use Rattle.board.specs.Seats.{BoardState, ClientSeatState};
 ghost use Rattle.requester.specs.Soundness.{IsSound};
@@ -11,7 +11,7 @@ use board::{Board, ClientSeat};
 use message::{ClientBody, ToClient};
 use requester::{Requester, messages_move_votes};
 
-/// Gives a vote back where the seat holds it.
+/// Gives a vote back if the seat holds it.
 fn drop_vote(seat: &mut ClientSeat, board: &Board, voter: u8)
     requires table { seat.old.table ≡ board.now.table }
     requires voter { voter < length seat.old.held }
@@ -28,7 +28,7 @@ fn drop_vote(seat: &mut ClientSeat, board: &Board, voter: u8)
     }
 }
 
-/// Gives a vote back where the seat holds it and the client holds it no longer.
+/// Gives a vote back if the seat holds it and the client no longer holds it.
 fn keep_vote(seat: &mut ClientSeat, board: &Board, requester: &Requester, voter: u8)
     requires table { seat.old.table ≡ board.now.table }
     requires voter { (voter < 64) × (length seat.old.held ≡ 64) }
@@ -47,8 +47,11 @@ fn keep_vote(seat: &mut ClientSeat, board: &Board, requester: &Requester, voter:
     }
 }
 
-/// Gives back the votes that the seat holds and the client holds no longer: afterwards both hold the same. What the seat read
-/// of the register counts no longer, where a vote is given back; else nothing changes. The seat is of this board.
+/// Gives back the votes that the seat holds and the client no longer holds. Afterwards both hold
+/// the same votes.
+///
+/// If a vote is given back, a reading of the register no longer counts. Otherwise nothing changes.
+/// The seat must be of this board.
 pub fn give_back(seat: &mut ClientSeat, board: &Board, requester: &Requester)
     requires table { seat.old.table ≡ board.now.table }
     requires places { (length seat.old.held ≡ 64) × (length requester.now.held ≡ 64) }
@@ -65,7 +68,7 @@ pub fn give_back(seat: &mut ClientSeat, board: &Board, requester: &Requester)
     }
 }
 
-/// Takes the vote that a LOCKED brings on the board. False where it can't be taken.
+/// Takes, on the board, the vote that a LOCKED brings. Returns `false` if it can't be taken.
 fn hold(seat: &mut ClientSeat, board: &Board, message: &ToClient) -> bool
     requires table { seat.old.table ≡ board.now.table }
     requires voter { message.now.voter < board.now.voters }
@@ -81,10 +84,13 @@ fn hold(seat: &mut ClientSeat, board: &Board, message: &ToClient) -> bool
     }
 }
 
-/// Takes the vote that a message to the client brings on the board, where the client would hold it. False where it can't be
-/// taken, as the board has it no longer offered to this client, and then nothing changed. Else the seat holds at least the
-/// votes that the client will hold. A message by which the client would hold no vote changes nothing. The seat is of this
-/// board, and holds the client's votes.
+/// Takes, on the board, the vote that a message to the client brings, if the client would hold it.
+/// Returns `false` and changes nothing if the vote can't be taken, since the board no longer offers
+/// it to this client.
+///
+/// If it returns `true`, the seat holds at least the votes that the client will hold. A message by
+/// which the client would hold no vote changes nothing. The seat must be of this board, and must
+/// hold the client's votes.
 pub fn accept(
     seat: &mut ClientSeat,
     board: &Board,

@@ -1,4 +1,4 @@
--- Which fault of the simplex method, or of the check of its weights, is which cause.
+-- The cause for each fault of the simplex method, and for each fault of the check of its weights.
 use Rattle.simplex.specs.declared.fault.SimplexFault.{SimplexFault}
 use Rattle.simplex.specs.declared.fault.SimplexFault.TheVariants.{Overflow as TooWide, PivotLimit as TooLong, NoRow as Unlimited, OutOfMemory as NoRoom}
 use Rattle.certificate.specs.declared.fault.PlanFault.{PlanFault}
@@ -7,14 +7,14 @@ use Rattle.planner.specs.declared.fault.Cause.TheVariants.{Overflow, PivotLimit,
 use Rattle.planner.specs.declared.fault.PlannerFault.{PlannerFault}
 use Rattle.planner.specs.declared.fault.PlannerFault.TheVariants.{NoPlan, OutOfMemory}
 
--- what a fault of the simplex method means
+-- the planner's fault for a fault of the simplex method
 abbrev pub of_simplex_fault : SimplexFault → PlannerFault
 of_simplex_fault (TooWide pivots) = NoPlan Overflow
 of_simplex_fault TooLong = NoPlan PivotLimit
 of_simplex_fault Unlimited = NoPlan NoRow
 of_simplex_fault NoRoom = OutOfMemory
 
--- what a fault of the check means; those of a plan's text don't come
+-- the planner's fault for a fault of the check; faults of a plan's text do not occur here
 abbrev pub of_plan_fault : PlanFault → PlannerFault
 of_plan_fault OtherLength = NoPlan WrongLength
 of_plan_fault AboveLimit = NoPlan TooLarge
@@ -22,7 +22,7 @@ of_plan_fault AllZero = NoPlan Empty
 of_plan_fault NoPlace = OutOfMemory
 of_plan_fault fault = NoPlan NotOptimal
 
--- any fault but the cause that the weights are too few or too many
+-- any fault except the cause that there are too few or too many weights
 abbrev pub CanCome : PlannerFault → Type 0
 CanCome (NoPlan WrongLength) = ⊥
 CanCome fault = Unit {0}

@@ -1,4 +1,4 @@
--- Uniform coteries, which all weights 1 certify.
+-- Uniform coteries. For these, all weights 1 are a certificate.
 use Rattle.std.specs.Prelude.{◌≡◌, ℕ, ◌<◌, List, length, count_by, replicate}
 use Rattle.std.specs.List.{All}
 use Rattle.quorum_set.specs.Sets.{has}
@@ -7,11 +7,12 @@ use Rattle.certificate.specs.Certificates.{Weighted}
 use Rattle.planner.specs.declared.fault.PlannerFault.{PlannerFault}
 use Rattle.planner.specs.declared.fault.PlannerFault.TheVariants.{NoPlan, OutOfMemory}
 
--- in how many quorums a voter stands
+-- how many quorums have this voter
 abbrev pub degree_of : QuorumSystem → ℕ → ℕ
 degree_of s i = count_by (λ q. has q i) s.quorums
 
--- All quorums have one size, and all voters stand in equally many quorums (Naor and Wool, SIAM J. Comput. 27(2), 1998, on fair systems).
+-- All quorums have one size, and all voters are in equally many quorums (Naor and Wool, SIAM J.
+-- Comput. 27(2), 1998, on fair systems).
 pub record IsUniform (s : QuorumSystem) : Type 0 where
   pub size : ℕ
   pub degree : ℕ
@@ -26,7 +27,8 @@ ones n = replicate n 1
 abbrev pub all_ones : QuorumSystem → Weighted
 all_ones s = record { system = s; quorum_weights = ones (length s.quorums); voter_weights = ones s.voters }
 
--- there is no plan but where the coterie is not uniform
+-- the fault is possible for this coterie: `OutOfMemory` for any, `NoPlan` only for one that is not
+-- uniform
 abbrev pub IsWarranted : QuorumSystem → PlannerFault → Type 0
 IsWarranted s OutOfMemory = Unit {0}
 IsWarranted s (NoPlan cause) = ¬ IsUniform s

@@ -1,4 +1,4 @@
-//! Why there is no plan.
+//! The faults of a search for a plan.
 ghost use Rattle.std.specs.Prelude.{◌≡◌};
 ghost use Rattle.planner.specs.declared.fault.PlannerFault.TheVariants.{OutOfMemory};
 
@@ -7,7 +7,8 @@ use simplex::SimplexFault;
 use std::alloc::{AllocError, AllocFailed};
 use thiserror::Error;
 
-/// Why the search for weights ended without a plan: what the simplex method, or the check of its weights, answered.
+/// Why the search for weights ended without a plan: the fault of the simplex method, or of the
+/// check of its weights.
 #[derive(Clone, Copy, Debug, PartialEq, Eq, Error)]
 pub enum Cause {
     /// A number of the simplex method did not fit.
@@ -16,19 +17,19 @@ pub enum Cause {
     /// The simplex method needs more than 10,000 pivots.
     #[error("S2")]
     PivotLimit,
-    /// The simplex method found no row to leave by.
+    /// The simplex method found no row that limits a column.
     #[error("S3")]
     NoRow,
-    /// The weights found were too few or too many. This never comes: `plan` promises it.
+    /// There were too few or too many weights. This never happens, by the contract of `plan`.
     #[error("P1")]
     WrongLength,
-    /// The weights found sum to more than 1,000,000.
+    /// The weights sum to more than 1,000,000.
     #[error("P2")]
     TooLarge,
-    /// The weights found were all 0.
+    /// The weights were all 0.
     #[error("P3")]
     Empty,
-    /// The weights found were no certificate.
+    /// The weights were no certificate.
     #[error("P4")]
     NotOptimal,
 }
@@ -36,7 +37,7 @@ pub enum Cause {
 /// Why there is no plan.
 #[derive(Clone, Copy, Debug, PartialEq, Eq, Error)]
 pub enum PlannerFault {
-    /// The search ended without a plan, for this cause. Never for a uniform coterie.
+    /// The search ended without a plan, for this cause. This never happens for a uniform coterie.
     #[error("N1 NoPlan {0}")]
     NoPlan(Cause),
     /// Memory ran out.
@@ -47,7 +48,7 @@ pub enum PlannerFault {
 impl PlannerFault {
     ghost use Rattle.planner.specs.Causes.{of_simplex_fault, of_plan_fault};
 
-    /// Returns what a fault of the simplex method means for the search.
+    /// Returns the fault of the search for a fault of the simplex method.
     pub(crate) fn of_simplex(fault: SimplexFault) -> PlannerFault
         ensures { result ≡ of_simplex_fault fault }
     {
@@ -59,7 +60,8 @@ impl PlannerFault {
         }
     }
 
-    /// Returns what a fault of the check means for the search. Faults of a plan's text don't come here.
+    /// Returns the fault of the search for a fault of the check. Faults of a plan's text do not
+    /// occur here.
     pub(crate) fn of_check(fault: PlanFault) -> PlannerFault
         ensures { result ≡ of_plan_fault fault }
     {

@@ -1,8 +1,10 @@
-//! Plans for coteries: weights of quorums that load the busiest voter least, found and certified.
+//! Plans for coteries: finds weights of quorums that load the busiest voter least, and certifies
+//! them.
 //!
-//! `plan` tries all weights 1, which are optimal if and only if the coterie is uniform; then weights that the simplex method
-//! finds. Each attempt is checked by `certificate::check`, so a plan that is answered is optimal however it was found,
-//! and only whether one is found for a coterie that is not uniform is left to the method.
+//! `plan` first tries all weights 1, which are a certificate if and only if the coterie is uniform.
+//! Otherwise it tries weights that the simplex method finds. Each attempt is checked by
+//! `certificate::check`, so a plan that is returned is optimal however it was found. Whether a plan
+//! is found for a coterie that is not uniform is left to the method.
 //!
 //! This crate depends on `certificate` and `simplex`.
 //!

@@ -12,14 +12,15 @@ use quorum_set::Coterie;
 use simplex::{Candidate, Rule, SimplexFault, solve_by};
 use std::alloc::Global;
 
-/// How many pivots the simplex method may make, over both rules.
+/// The number of pivots that the simplex method may make, over both rules.
 const PIVOTS: u32 = 10_000;
 
 /// Why a rule found no plan.
 #[derive(Clone, Copy)]
 struct Miss {
     fault: PlannerFault,
-    /// Where the numbers grew too large, and another rule may do: how many pivots it may make.
+    /// If the numbers grew too large, so that another rule may find a plan: how many pivots it may
+    /// make.
     left: Option<u32>,
 }
 
@@ -34,7 +35,7 @@ fn divisor_of(weights: &[u64]) -> u64
     common
 }
 
-/// Divides the weights.
+/// Divides each weight by the divisor.
 fn divide_by(weights: &mut [u64], divisor: u64)
     requires { divisor ≢ 0 }
     ensures { weights.new ≡ map (λ weight. weight / divisor) weights.old }
@@ -44,7 +45,7 @@ fn divide_by(weights: &mut [u64], divisor: u64)
     }
 }
 
-/// Divides the weights by their greatest common divisor. All 0 stay.
+/// Divides the weights by their greatest common divisor. If all are 0 they stay 0.
 fn divide(weights: &mut [u64])
     ensures length { length weights.new ≡ length weights.old }
     ensures lowest { 0 < sum weights.new → HaveNoCommonDivisor weights.new }
@@ -55,7 +56,7 @@ fn divide(weights: &mut [u64])
     }
 }
 
-/// The plan with all weights 1.
+/// Returns the plan with all weights 1, or the fault of the check.
 fn even(alloc: Global, coterie: &Coterie) -> Result<Plan, PlanFault>
     ensures coterie { IfOk result (λ p. p.system ≡ coterie.now) }
     ensures certificate { IfOk result IsCertificate }
@@ -71,7 +72,7 @@ fn even(alloc: Global, coterie: &Coterie) -> Result<Plan, PlanFault>
     check(alloc, coterie, quorum_weights, voter_weights)
 }
 
-/// The plan of a candidate's weights.
+/// Returns the plan of a candidate's weights, in lowest terms.
 fn checked(alloc: Global, coterie: &Coterie, candidate: Candidate, left: u32) -> Result<Plan, Miss>
     requires quorums { vec_len candidate.quorum_weights ≡ length coterie.now.quorums }
     requires voters { vec_len candidate.voter_weights ≡ coterie.now.voters }
@@ -98,7 +99,7 @@ fn checked(alloc: Global, coterie: &Coterie, candidate: Candidate, left: u32) ->
     }
 }
 
-/// The plan that the simplex method finds by a rule with at most so many pivots.
+/// Returns the plan that the simplex method finds by this rule with at most `pivots` pivots.
 fn attempt(alloc: Global, coterie: &Coterie, rule: Rule, pivots: u32) -> Result<Plan, Miss>
     ensures coterie { IfOk result (λ p. p.system ≡ coterie.now) }
     ensures certificate { IfOk result IsCertificate }
@@ -121,7 +122,7 @@ fn attempt(alloc: Global, coterie: &Coterie, rule: Rule, pivots: u32) -> Result<
     }
 }
 
-/// The plan that the simplex method finds, by the one rule or the other.
+/// Returns the plan that the simplex method finds, by one rule or the other.
 fn found(alloc: Global, coterie: &Coterie) -> Result<Plan, PlannerFault>
     ensures coterie { IfOk result (λ p. p.system ≡ coterie.now) }
     ensures certificate { IfOk result IsCertificate }
@@ -142,24 +143,27 @@ fn found(alloc: Global, coterie: &Coterie) -> Result<Plan, PlannerFault>
     }
 }
 
-/// Returns a plan of the coterie: weights of its quorums that load the busiest voter least, and the voters' weights that
-/// certify it.
+/// Returns a plan of the coterie: weights of its quorums that load the busiest voter least, and the
+/// voters' weights that certify it.
 ///
-/// All weights are 1 if and only if these are a certificate, which they are for uniform coteries. Else the simplex method
-/// looks for weights, by Dantzig's rule and, if its numbers grow too large, by the rule of the least pivot, with 10,000
-/// pivots in all. In each case no number above 1 divides all weights of a side. Fails with `NoPlan` if neither rule finds
-/// any, with the cause of the last attempt, and with `OutOfMemory` at any point.
+/// All weights are 1 if and only if these are a certificate, which they are for uniform coteries.
+/// Otherwise the simplex method looks for weights, by Dantzig's rule and, if its numbers grow too
+/// large, by the rule of the smallest pivot. Both rules together make at most 10,000 pivots. In
+/// each case no number above 1 divides all weights of the quorums, or all weights of the voters.
+///
+/// Fails with `NoPlan` if neither rule finds a plan, with the cause of the last attempt, and with
+/// `OutOfMemory` at any point.
 pub fn plan(alloc: Global, coterie: &Coterie) -> Result<Plan, PlannerFault>
     ensures coterie { IfOk result (λ p. p.system ≡ coterie.now) }
     ensures certificate { IfOk result IsCertificate }
     ensures optimal { IfOk result IsOptimal }
-    // Unless memory runs out, there is a plan of a uniform coterie.
+    // A uniform coterie gets a plan, unless memory runs out.
     ensures uniform { IfErr result (IsWarranted coterie.now) }
     // All weights are 1 if these are a certificate.
     ensures ones { IfOk result (λ p. IsCertificate (all_ones coterie.now) → p ≡ all_ones coterie.now) }
-    // No number above 1 divides all weights of the quorums, or all of the voters.
+    // No number above 1 divides all weights of the quorums, or all weights of the voters.
     ensures lowest { IfOk result (λ p. HaveNoCommonDivisor p.quorum_weights × HaveNoCommonDivisor p.voter_weights) }
-    // The weights found are never too few or too many.
+    // There are never too few or too many weights.
     ensures unreachable { IfErr result CanCome }
 {
     match even(alloc, coterie) {

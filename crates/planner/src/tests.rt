@@ -23,7 +23,7 @@ fn coterie_of(alloc: Global, voters: usize, quorums: &[&[u8]]) -> Result<Coterie
     Ok(Coterie::of(voters, sets)?)
 }
 
-/// The text of the plan, or of the fault.
+/// Returns the text of the plan, or of the fault.
 fn answer_for(alloc: Global, coterie: &Coterie) -> Result<String, Fail> {
     match plan(alloc, coterie) {
         Ok(plan) => Ok(write_plan(alloc, &plan)?),
@@ -31,12 +31,13 @@ fn answer_for(alloc: Global, coterie: &Coterie) -> Result<String, Fail> {
     }
 }
 
-/// The text of the plan of these quorums, or of the fault.
+/// Returns the text of the plan of these quorums, or of the fault.
 fn planned(alloc: Global, voters: usize, quorums: &[&[u8]]) -> Result<String, Fail> {
     answer_for(alloc, &coterie_of(alloc, voters, quorums)?)
 }
 
-/// 33 of 64 voters: one, and then each time five times the last one and `step` more, modulo 64.
+/// Returns 33 of 64 voters: `start`, and then each time five times the last one plus `step`, modulo
+/// 64.
 fn walk(start: u8, step: u8) -> QSet {
     let mut set = QSet::empty();
     let mut voter = start;

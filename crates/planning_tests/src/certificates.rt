@@ -5,19 +5,19 @@ use small_plans::coterie_of;
 use std::alloc::{AllocError, Global};
 use std::test::Fail;
 
-/// Any two of three voters.
+/// Returns the coterie of any two of three voters.
 fn majority(alloc: Global) -> Result<Coterie, Fail> {
     coterie_of(alloc, 3, &[&[0, 1], &[0, 2], &[1, 2]])
 }
 
-/// Three spokes, each of the hub 0 and a rim, and the rims.
+/// Returns the coterie of the wheel with three rims: the hub 0 with each rim, and the rims.
 fn wheel(alloc: Global) -> Result<Coterie, Fail> {
     coterie_of(alloc, 4, &[&[0, 1], &[0, 2], &[0, 3], &[1, 2, 3]])
 }
 
 const WHEEL_PLAN: &str = "quorum-plan 1\nload 3/5\ncycle 5\nquorum 1 1 1 2\nvoter 2 1 1 1\n";
 
-/// What was answered: the load and the length of a cycle, or the fault.
+/// Returns the load and the length of a cycle, or the text of the fault.
 fn shown(alloc: Global, answer: Result<Plan, PlanFault>) -> Result<String, AllocError> {
     match answer {
         Ok(plan) => {

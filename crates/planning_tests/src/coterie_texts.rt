@@ -7,7 +7,7 @@ use small_plans::coterie_of;
 use std::alloc::Global;
 use std::test::Fail;
 
-/// The text of the coterie in the layout that is written, or the text of the fault.
+/// Returns the text of the coterie as it is written, or the text of the fault.
 fn shown(alloc: Global, answer: Result<Named, FileFault>) -> Result<String, Fail> {
     match answer {
         Ok(named) => Ok(write_coterie(alloc, &named)?),
@@ -15,7 +15,7 @@ fn shown(alloc: Global, answer: Result<Named, FileFault>) -> Result<String, Fail
     }
 }
 
-/// What a text is answered by.
+/// Returns the coterie of a text as it is written, or the text of the fault.
 fn answer_to(alloc: Global, text: &str) -> Result<String, Fail> {
     shown(alloc, read_coterie(alloc, text))
 }
@@ -115,7 +115,7 @@ fn layouts_read_alike(rt: HostRuntime) -> Result<(), Fail> {
     Ok(())
 }
 
-/// The coterie of three voters of which any two are a quorum.
+/// Returns the coterie of any two of three voters.
 fn majority(alloc: Global) -> Result<Coterie, Fail>
     ensures { IfOk result (λ c. c.voters ≡ 3) }
 {
@@ -132,7 +132,7 @@ fn numbered_coterie_is_written(rt: HostRuntime) -> Result<(), Fail> {
     Ok(())
 }
 
-/// The text of the majority with these names, or their fault.
+/// Returns the text of the majority with these names, or of their fault.
 fn text_with(alloc: Global, names: &[&str]) -> Result<String, Fail> {
     let mut given = Vec::new(alloc);
     for name in names {

@@ -9,7 +9,7 @@ use std::test::Fail;
 
 const HUGE: i128 = 1 << 126;
 
-/// The fraction's two numbers, or the fault's text.
+/// Returns the fraction's two numbers, or the text of the fault.
 fn text_of(alloc: Global, answer: Result<Frac, FracFault>) -> Result<String, AllocError> {
     match answer {
         Ok(f) => format!(in alloc; "{}/{}", f.num(), f.den()),
@@ -68,7 +68,7 @@ fn fractions_are_reckoned_exactly(rt: HostRuntime) -> Result<(), Fail> {
     Ok(())
 }
 
-/// The table of two rows of two numbers over 1.
+/// Returns the table of two rows of two numbers over 1.
 fn square(alloc: Global, a: i128, b: i128, c: i128, d: i128) -> Result<Shared, AllocError>
     requires upper { Fits a × Fits b }
     requires lower { Fits c × Fits d }
@@ -80,7 +80,7 @@ fn square(alloc: Global, a: i128, b: i128, c: i128, d: i128) -> Result<Shared, A
     Ok(Shared::of(rows, 1))
 }
 
-/// The entries of a table of two rows of two, and its denominator.
+/// Returns the entries of a table of two rows of two numbers, and its denominator.
 fn shown(alloc: Global, table: &Shared) -> Result<String, AllocError>
     requires { (i j : ℕ) → i < 2 → j < 2 → IsPlace table.now i j }
 {
@@ -96,7 +96,7 @@ fn shown(alloc: Global, table: &Shared) -> Result<String, AllocError>
     )
 }
 
-/// What a pivot at the first place answers, and the table then.
+/// Pivots at the first place. Returns the table then, with the text of the fault if it failed.
 fn pivoted(alloc: Global, table: &mut Shared) -> Result<String, AllocError>
     requires places { (i j : ℕ) → i < 2 → j < 2 → IsPlace table.old i j }
     requires positive { pos 0 <ℤ entry_at table.old 0 0 }

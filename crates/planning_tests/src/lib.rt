@@ -1,9 +1,12 @@
-//! Tests of the planning crates, by their public calls: nothing here but tests.
+//! Tests of the planning crates through their public calls. This crate has nothing but tests.
 //!
-//! `sets` has sets and coteries, and `set_lists` the same calls on plain lists beside them; `coterie_texts` reads and writes
-//! coteries, `shapes` constructs them; `divisors` and `fractions` compute; `certificates` checks weights and reads plans.
+//! - `sets` has sets and coteries; `set_lists` compares them with the same calls on plain lists.
+//! - `coterie_texts` reads and writes coteries, and `shapes` constructs them.
+//! - `divisors` and `fractions` compute.
+//! - `certificates` checks weights and reads plans.
 //!
-//! They stand apart from the crates that they test, which are then proved once and not once more with their tests.
+//! The tests are not in the crates that they test, so these are proved once, and not again together
+//! with their tests.
 #![tactic(auto)]
 
 #[cfg(test)]

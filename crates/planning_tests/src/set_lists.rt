@@ -1,5 +1,5 @@
-//! Sets as plain ascending lists, which are walked number by number, beside sets in one word: each
-//! call has to give the same for both.
+//! Sets in one word compared with plain ascending lists, which are walked number by number. Each
+//! call has to return the same for both.
 use quorum_set::QSet;
 use std::alloc::{AllocError, Global};
 use std::test::Fail;
@@ -20,7 +20,7 @@ fn list_has(list: &[u8], i: u8) -> bool {
     false
 }
 
-/// The list with the number in its place.
+/// Returns the list with this number in its place.
 fn list_insert(alloc: Global, list: &[u8], i: u8) -> Result<Vec<u8>, AllocError> {
     let mut longer = Vec::new(alloc);
     let mut is_placed = false;
@@ -69,8 +69,10 @@ fn list_join(alloc: Global, left: &[u8], right: &[u8]) -> Result<Vec<u8>, AllocE
     Ok(union)
 }
 
-/// Both forms of the set of a word's bits, and whether each insert said the same of both. The numbers
-/// go in out of order, each twice.
+/// Returns both forms of the set of a word's bits, and whether each insert returned the same for
+/// both.
+///
+/// The numbers go in out of order, each twice.
 fn both_of(alloc: Global, bits: u64) -> Result<(Both, bool), AllocError> {
     let mut set = QSet::empty();
     let mut list = Vec::new(alloc);
@@ -87,7 +89,8 @@ fn both_of(alloc: Global, bits: u64) -> Result<(Both, bool), AllocError> {
     Ok((Both { set, list }, is_same))
 }
 
-/// Whether both forms have the same numbers below 256, in the same order, and as many.
+/// Returns whether both forms have the same numbers below 256, in the same order, and the same
+/// length.
 fn is_same_set(set: &QSet, list: &[u8]) -> bool {
     for i in 0..256u32 {
         if set.has(i as u8) != list_has(list, i as u8) {
@@ -97,7 +100,7 @@ fn is_same_set(set: &QSet, list: &[u8]) -> bool {
     set.members().as_slice() == list && set.len() == list.len()
 }
 
-/// Whether each call on two sets gives the same for both forms.
+/// Returns whether each call on two sets returns the same for both forms.
 fn is_same_pair(alloc: Global, left: &Both, right: &Both) -> Result<bool, AllocError> {
     let union = list_join(alloc, left.list.as_slice(), right.list.as_slice())?;
     Ok(
@@ -108,7 +111,8 @@ fn is_same_pair(alloc: Global, left: &Both, right: &Both) -> Result<bool, AllocE
     )
 }
 
-/// The next number of a multiplicative generator, with its high bits folded into its low ones.
+/// Returns the next number of a multiplicative generator, with its high bits folded into its low
+/// ones.
 fn next(state: &mut u64) -> u64 {
     *state = state
         .wrapping_mul(6364136223846793005)
@@ -116,7 +120,8 @@ fn next(state: &mut u64) -> u64 {
     *state ^ (*state >> 29)
 }
 
-/// The empty set, the ends, all numbers, and sets that are about half full, a quarter and a sixteenth.
+/// Returns the empty set, the ends, all numbers, and sets that are about half full, a quarter and a
+/// sixteenth.
 fn sample(alloc: Global) -> Result<Vec<u64>, AllocError> {
     let mut words = Vec::new(alloc);
     for word in [0, 1, 1 << 63, u64::MAX] {

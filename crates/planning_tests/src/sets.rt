@@ -4,7 +4,7 @@ use small_plans::{set_of, sets_of};
 use std::alloc::{AllocError, Global};
 use std::test::Fail;
 
-/// The text of the fault, or nothing for a coterie.
+/// Returns the text of the fault, or an empty text for a coterie.
 fn fault_text(alloc: Global, voters: usize, quorums: &[&[u8]]) -> Result<String, AllocError> {
     match Coterie::of(voters, sets_of(alloc, quorums)?) {
         Ok(_) => Ok(String::new(alloc)),

@@ -4,7 +4,8 @@ use quorum_set::Coterie;
 use std::alloc::{AllocError, Global};
 use std::test::Fail;
 
-/// Whether the coterie has this many voters and these quorums, each by its ascending members.
+/// Returns whether the coterie has this number of voters and these quorums, each by its ascending
+/// members.
 fn is_list(coterie: &Coterie, voters: usize, quorums: &[&[u8]]) -> bool {
     if coterie.voters() != voters || coterie.count() != quorums.len() {
         return false;
@@ -17,7 +18,7 @@ fn is_list(coterie: &Coterie, voters: usize, quorums: &[&[u8]]) -> bool {
     true
 }
 
-/// The text of the fault, or the numbers of voters and of quorums.
+/// Returns the numbers of voters and of quorums, or the text of the fault.
 fn answer_to(alloc: Global, built: Result<Coterie, ConstructFault>) -> Result<String, AllocError> {
     match built {
         Ok(coterie) => format!(in alloc;

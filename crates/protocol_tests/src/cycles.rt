@@ -4,7 +4,7 @@ use small_plans::{majority_plan, plan_of};
 use std::alloc::Global;
 use std::test::Fail;
 
-/// The cycle of the plan of these quorums and weights.
+/// Returns the cycle of the plan with these quorums and weights.
 pub(crate) fn cycle_of(
     alloc: Global,
     quorums: &[&[u8]],
@@ -15,13 +15,13 @@ pub(crate) fn cycle_of(
     Cycle::of(alloc, plan).ok()
 }
 
-/// The cycle of the wheel with three rims and these weights of its quorums.
+/// Returns the cycle of the wheel with three rims and these weights of its quorums.
 pub(crate) fn wheel_cycle(alloc: Global, quorum_weights: [u64; 4]) -> Option<Cycle> {
     let quorums: [&[u8]; 4] = [&[0, 1], &[0, 2], &[0, 3], &[1, 2, 3]];
     cycle_of(alloc, &quorums, &quorum_weights, &[2, 1, 1, 1])
 }
 
-/// The cycle of the majorities of three voters.
+/// Returns the cycle of the majorities of three voters.
 pub(crate) fn majority_cycle(alloc: Global) -> Option<Cycle> {
     Cycle::of(alloc, majority_plan(alloc)?).ok()
 }
@@ -30,7 +30,8 @@ pub(crate) fn majority_cycle(alloc: Global) -> Option<Cycle> {
 fn deals_round_by_round(rt: HostRuntime) -> Result<(), Fail> {
     let alloc = rt.alloc();
     let table = [
-        // The last ticket of all, 2^64 - 1, is at place 0 of the cycle of 5, and at place 5 of that of 10.
+        // The last ticket, 2^64 - 1, is at place 0 of the cycle of 5, and at place 5 of the cycle
+        // of 10.
         ([1u64, 1, 1, 2], [0usize, 1, 2, 3, 3, 0, 1, 2, 3, 3], 0usize),
         ([2, 2, 2, 4], [0, 1, 2, 3, 0, 1, 2, 3, 3, 3], 1),
     ];

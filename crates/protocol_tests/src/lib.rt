@@ -1,9 +1,13 @@
-//! Tests of dealing and of the protocol, by their public calls: nothing here but tests.
+//! Tests of dealing and of the protocol through public calls. This crate has nothing but tests.
 //!
-//! `cycles` and `long_cycles` have the quorum of each ticket, and `offices` deals by two threads; `messages` reads and writes
-//! lines; `voters` and `requesters` have worked rows of the two automata, `worlds` of both together, and `scripts` as text.
+//! - `cycles` and `long_cycles` have the quorum of each ticket, and `offices` deals with two
+//!   threads.
+//! - `messages` reads and writes lines.
+//! - `voters` and `requesters` have worked examples of the two automata, `worlds` of both together,
+//!   and `scripts` the same as text.
 //!
-//! They stand apart from the crates that they test, which are then proved once and not once more with their tests.
+//! The tests are not in the crates that they test, so these are proved once, and not again together
+//! with their tests.
 #![tactic(auto)]
 
 #[cfg(test)]

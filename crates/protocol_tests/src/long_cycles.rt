@@ -1,17 +1,17 @@
-//! The blocks of a cycle beside the cycle laid out in full.
+//! The blocks of a cycle compared with the cycle as a list of all its places.
 use crate::cycles::cycle_of;
 use dealer::Cycle;
 use std::alloc::Global;
 use std::test::Fail;
 
-/// The next of a row of numbers that follow no pattern (Knuth's multiplier for 64 bits).
+/// Returns the next number of a sequence without a pattern (Knuth's multiplier for 64 bits).
 fn next_number(number: u64) -> u64 {
     number
         .wrapping_mul(6_364_136_223_846_793_005)
         .wrapping_add(1_442_695_040_888_963_407)
 }
 
-/// Some weights below a bound, made from a number.
+/// Returns `count` weights below a bound, made from a seed.
 fn weights_below(alloc: Global, count: u8, bound: u64, seed: u64) -> Result<Vec<u64>, Fail> {
     let mut weights = Vec::new(alloc);
     let mut number = next_number(seed);
@@ -22,8 +22,9 @@ fn weights_below(alloc: Global, count: u8, bound: u64, seed: u64) -> Result<Vec<
     Ok(weights)
 }
 
-/// The cycle with these weights of its quorums, where they are a plan's: quorum j has the voters 0 and j + 1 alone, so that
-/// voter 0 is in each quorum, and any weights are.
+/// Returns the cycle with these weights of its quorums, or `None` if they make no plan.
+///
+/// Quorum j has only the voters 0 and j + 1. Voter 0 is in each quorum, so any weights make a plan.
 fn star_cycle(alloc: Global, weights: &[u64]) -> Result<Option<Cycle>, Fail> {
     let mut quorums = Vec::new(alloc);
     let mut voter_weights = vec![in alloc; 1]?;
@@ -40,7 +41,7 @@ fn star_cycle(alloc: Global, weights: &[u64]) -> Result<Option<Cycle>, Fail> {
     Ok(cycle_of(alloc, &members, weights, &voter_weights))
 }
 
-/// The quorums of a cycle, round by round, as the definition has it.
+/// Returns the quorums of a cycle, round by round, as in the definition.
 fn laid_out(alloc: Global, weights: &[u64]) -> Result<Vec<usize>, Fail> {
     let mut quorums = Vec::new(alloc);
     for round in 0..weights.iter().copied().max().unwrap_or(0) {
@@ -53,7 +54,7 @@ fn laid_out(alloc: Global, weights: &[u64]) -> Result<Vec<usize>, Fail> {
     Ok(quorums)
 }
 
-/// Whether the tickets from this one on name these quorums.
+/// Returns whether the tickets from this one on stand for these quorums.
 fn names(cycle: &Cycle, from: u64, quorums: &[usize]) -> bool {
     let mut ticket = from;
     for quorum in quorums {
@@ -65,8 +66,8 @@ fn names(cycle: &Cycle, from: u64, quorums: &[usize]) -> bool {
     true
 }
 
-/// Whether the tickets of two cycles of these weights name what the cycle laid out in full has, and each quorum as often as its
-/// weight says.
+/// Returns whether the tickets of two cycles stand for the quorums of the list of all places, each
+/// quorum as often as its weight says.
 fn agrees(alloc: Global, weights: &[u64]) -> Result<bool, Fail> {
     let quorums = laid_out(alloc, weights)?;
     if quorums.is_empty() {
@@ -93,7 +94,8 @@ fn agrees(alloc: Global, weights: &[u64]) -> Result<bool, Fail> {
 #[test]
 fn blocks_name_what_the_rounds_list(rt: HostRuntime) -> Result<(), Fail> {
     let alloc = rt.alloc();
-    // Bound 1 makes zeros alone, 2 leaves one distinct positive weight, 4 a few, 50 nearly as many as there are quorums.
+    // Bound 1 makes only zeros. Bound 2 leaves one distinct positive weight, 4 a few, and 50 a
+    // different one for nearly every quorum.
     for bound in [2u64, 4, 9, 50] {
         for count in 1..64u8 {
             let weights = weights_below(alloc, count, bound, bound ^ u64::from(count))?;

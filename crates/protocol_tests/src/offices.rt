@@ -1,4 +1,4 @@
-//! Offices: worked rows, and two threads that draw.
+//! Offices: worked examples, and two threads that draw.
 ghost use Rattle.std.specs.Prelude.{◌≡◌, ◌≤◌, ◌^◌, IfOk, IfSome};
 
 use crate::cycles::{majority_cycle, wheel_cycle};
@@ -7,7 +7,7 @@ use std::alloc::Global;
 use std::test::Fail;
 use std::thread;
 
-/// An office for the majorities of three with this quota, and its clerk.
+/// Returns an office for the majorities of three voters with this quota, and its clerk.
 fn majority_office(alloc: Global, quota: u64) -> Result<Option<(Office, Clerk)>, Fail>
     requires { quota ≤ 2 ^ 63 }
     ensures { IfOk result (λ made. IfSome made (λ pair.

@@ -1,4 +1,4 @@
-//! Worked rows of the requester.
+//! Worked examples of the requester.
 ghost use Rattle.std.specs.Prelude.{◌≡◌, ◌<◌, IfSome};
 
 use arrayvec::ArrayVec;
@@ -8,7 +8,7 @@ use requester::{ClientFault, Messages, Phase, Reply, Requester, Seen};
 use std::alloc::{AllocError, Global};
 use std::test::Fail;
 
-/// The message to client 0 that a line spells.
+/// Returns the message to client 0 of this line, if it is one.
 fn told(line: &str) -> Option<ToClient>
     ensures client { IfSome result (λ m. m.client ≡ 0) }
     ensures voter { IfSome result (λ m. m.voter < 64) }
@@ -19,7 +19,7 @@ fn told(line: &str) -> Option<ToClient>
     }
 }
 
-/// The lines of the messages, each with a semicolon.
+/// Returns the lines of the messages, with a semicolon after each.
 fn lines(alloc: Global, messages: &[ToVoter]) -> Result<String, AllocError> {
     let mut text = String::new(alloc);
     for m in messages {
@@ -33,7 +33,7 @@ fn lines(alloc: Global, messages: &[ToVoter]) -> Result<String, AllocError> {
     Ok(text)
 }
 
-/// The lines of the messages, and what is seen, or the fault.
+/// Returns the lines of the messages, and what is seen, or the fault.
 fn called(
     alloc: Global,
     out: &Messages,
@@ -49,12 +49,12 @@ fn called(
     Ok(text)
 }
 
-/// The lines of the reply, and what is seen.
+/// Returns the lines of the reply, and what is seen.
 fn shown(alloc: Global, reply: &Reply) -> Result<String, AllocError> {
     called(alloc, &reply.out, Ok(reply.seen))
 }
 
-/// The lines of the reply, and what is seen, or the fault.
+/// Returns the lines of the reply, and what is seen, or the fault.
 fn answer(alloc: Global, reply: Result<Reply, ClientFault>) -> Result<String, AllocError> {
     match reply {
         Ok(reply) => shown(alloc, &reply),
@@ -62,7 +62,7 @@ fn answer(alloc: Global, reply: Result<Reply, ClientFault>) -> Result<String, Al
     }
 }
 
-/// What the client answers where it is to ask voters 0 and 1.
+/// Has the client ask voters 0 and 1, and returns its reply as text.
 fn ask(alloc: Global, client: &mut Requester) -> Result<String, AllocError>
     ensures id { client.new.id ≡ client.old.id }
 {
@@ -75,7 +75,7 @@ fn ask(alloc: Global, client: &mut Requester) -> Result<String, AllocError>
     answer(alloc, client.ask(&quorum))
 }
 
-/// What the client answers in the buffer where it is to ask voters 0 and 1.
+/// Has the client ask voters 0 and 1 with a buffer, and returns its reply as text.
 fn ask_into(alloc: Global, client: &mut Requester, out: &mut Messages) -> Result<String, AllocError>
     ensures id { client.new.id ≡ client.old.id }
 {
@@ -89,7 +89,8 @@ fn ask_into(alloc: Global, client: &mut Requester, out: &mut Messages) -> Result
     called(alloc, out, seen)
 }
 
-/// Whether the client, told each line in turn, answers in one buffer what stands beside it.
+/// Returns whether the client, given each line in turn, replies in one buffer with the text next to
+/// it.
 fn plays_into(
     alloc: Global,
     client: &mut Requester,
@@ -111,7 +112,7 @@ fn plays_into(
     Ok(true)
 }
 
-/// Whether the client, told each line in turn, answers what stands beside it.
+/// Returns whether the client, given each line in turn, replies with the text next to it.
 fn plays(alloc: Global, client: &mut Requester, script: &[(&str, &str)]) -> Result<bool, AllocError>
     requires id { client.old.id ≡ 0 }
     ensures id { client.new.id ≡ client.old.id }

@@ -6,7 +6,7 @@ use std::alloc::{AllocError, Global};
 use std::test::Fail;
 use world::Step;
 
-/// What a script writes by a plan, or its fault.
+/// Returns what a script writes by a plan, or the text of its fault.
 fn answer(alloc: Global, plan: Option<Plan>, script: &str) -> Result<String, AllocError> {
     match plan {
         Some(plan) => match run_script(alloc, plan, script.as_bytes()) {

@@ -1,4 +1,4 @@
-//! Worked rows of the voter.
+//! Worked examples of the voter.
 ghost use Rattle.std.specs.Prelude.{◌≡◌, ◌<◌, ◌≤◌, ◌^◌, IfSome};
 
 use arrayvec::ArrayVec;
@@ -7,7 +7,7 @@ use std::alloc::{AllocError, Global};
 use std::test::Fail;
 use voter::{Effect, Grant, Replies, Voter, VoterFault};
 
-/// The message to voter 0 that a line spells.
+/// Returns the message to voter 0 of this line, if it is one.
 fn asked(line: &str) -> Option<ToVoter>
     ensures voter { IfSome result (λ m. m.voter ≡ 0) }
     ensures client { IfSome result (λ m. m.client < 64) }
@@ -18,7 +18,7 @@ fn asked(line: &str) -> Option<ToVoter>
     }
 }
 
-/// The lines of the replies, each with a semicolon.
+/// Returns the lines of the replies, with a semicolon after each.
 fn lines(alloc: Global, replies: &Replies) -> Result<String, AllocError> {
     let mut text = String::new(alloc);
     for reply in replies.as_slice() {
@@ -32,7 +32,7 @@ fn lines(alloc: Global, replies: &Replies) -> Result<String, AllocError> {
     Ok(text)
 }
 
-/// The lines of the replies, or the fault.
+/// Returns the lines of the replies, or the fault.
 fn answer(alloc: Global, replies: Result<Replies, VoterFault>) -> Result<String, AllocError> {
     match replies {
         Ok(replies) => lines(alloc, &replies),
@@ -40,7 +40,8 @@ fn answer(alloc: Global, replies: Result<Replies, VoterFault>) -> Result<String,
     }
 }
 
-/// The voter that took each line in turn, where it answered the lines beside it.
+/// Returns the voter that took each line in turn, or `None` if it did not reply with the lines next
+/// to it.
 fn after(alloc: Global, limit: u64, script: &[(&str, &str)]) -> Result<Option<Voter>, AllocError>
     requires least { 1 ≤ limit }
     requires most { limit ≤ 2 ^ 40 }
@@ -59,7 +60,7 @@ fn after(alloc: Global, limit: u64, script: &[(&str, &str)]) -> Result<Option<Vo
     Ok(Some(voter))
 }
 
-/// Whether a voter that takes each line in turn answers the lines beside it.
+/// Returns whether a voter that takes each line in turn replies with the lines next to it.
 fn plays(alloc: Global, limit: u64, script: &[(&str, &str)]) -> Result<bool, AllocError>
     requires least { 1 ≤ limit }
     requires most { limit ≤ 2 ^ 40 }
@@ -145,7 +146,8 @@ fn vote_is_held_and_told_again(rt: HostRuntime) -> Result<(), Fail> {
     Ok(())
 }
 
-/// Whether a voter that takes each line in turn answers in one buffer the lines beside it.
+/// Returns whether a voter that takes each line in turn replies in one buffer with the lines next
+/// to it.
 fn plays_into(alloc: Global, limit: u64, script: &[(&str, &str)]) -> Result<bool, AllocError>
     requires least { 1 ≤ limit }
     requires most { limit ≤ 2 ^ 40 }

@@ -9,7 +9,8 @@ use std::alloc::{AllocError, Global};
 use std::test::Fail;
 use world::{Step, Stepped, Trace, World, run};
 
-/// What a run made: the lines of its messages, then what was seen, who drew which ticket, and what was refused.
+/// Returns what a run did: the lines of its messages, who entered and left, who drew which ticket,
+/// and what was refused.
 fn story(alloc: Global, trace: &Trace) -> Result<String, AllocError> {
     let mut text = String::new(alloc);
     for message in trace.messages.as_slice() {
@@ -31,7 +32,7 @@ fn story(alloc: Global, trace: &Trace) -> Result<String, AllocError> {
     Ok(text)
 }
 
-/// Whether a run of this plan makes this.
+/// Returns whether a run of this plan does this.
 fn makes(
     alloc: Global,
     plan: Option<Plan>,

@@ -1,7 +1,8 @@
 //! The program `qlock`: plans of coteries, and the lock that they serve, from the command line.
 //!
-//! The crate `qlock_cli` reads the words and serves the command. Here they are taken from the system, and what comes of the
-//! command becomes an exit status and at most one line on standard error.
+//! The crate `qlock_cli` reads the words and serves the command. This program takes the words from
+//! the system. It turns the result of the command into an exit status and at most one line on
+//! standard error.
 #![tactic(auto)]
 
 ghost use Rattle.std.specs.Prelude.{◌≡◌};
@@ -16,7 +17,7 @@ use std::sync::Wait;
 use std::thread::Threads;
 use std::{env, io};
 
-/// The exit status of a fault: 3 for a device that failed, 4 for out of memory, and else 1.
+/// Returns the exit status of a fault: 3 if a read or a write failed, 4 if memory ran out, else 1.
 fn status_of(fault: &Fault) -> u8
     ensures { result ≡ status_of fault.now }
 {
@@ -27,7 +28,7 @@ fn status_of(fault: &Fault) -> u8
     }
 }
 
-/// Says why the words name no command, and answers the exit status: 2, or 4 for memory.
+/// Prints why the words name no command. Returns the exit status: 2, or 4 if memory ran out.
 fn refuse_words(rt: &HostRuntime, usage: &Usage) -> u8
     ensures { result ≡ usage_status usage.now }
 {
@@ -47,8 +48,8 @@ fn refuse_words(rt: &HostRuntime, usage: &Usage) -> u8
     }
 }
 
-/// Serves the command over standard input and output, and answers the exit status. `threads` is the runtime once more, as
-/// what starts threads.
+/// Serves the command over standard input and output. Returns the exit status. `threads` is the
+/// runtime again: it starts the threads.
 fn serve<T: Threads + Wait + Sync>(rt: &HostRuntime, threads: &T, command: &Command) -> u8
     requires in_range { IsInRange command.now }
 {
@@ -76,7 +77,7 @@ fn serve<T: Threads + Wait + Sync>(rt: &HostRuntime, threads: &T, command: &Comm
     }
 }
 
-/// The words of the command line, the program's name among them.
+/// Returns the words of the command line, including the program's name.
 fn words_of(rt: &HostRuntime) -> Result<Vec<String>, Usage> {
     match env::args(rt) {
         Ok(words) => Ok(words.collect::<Vec<String>>(rt.alloc())?),
@@ -85,7 +86,7 @@ fn words_of(rt: &HostRuntime) -> Result<Vec<String>, Usage> {
     }
 }
 
-/// Serves the command that the words of the command line name.
+/// Serves the command that the words of the command line name. Returns the exit status.
 fn run<T: Threads + Wait + Sync>(rt: &HostRuntime, threads: &T) -> Result<u8, Usage> {
     let words = words_of(rt)?;
     let command = read_words(rt.alloc(), words.as_slice())?;

@@ -50,52 +50,52 @@ use Rattle.command_line.specs.declared.command.Command.TheVariants.{Check, Deal,
 use Rattle.command_line.specs.declared.command.Shape.{Shape}
 use Rattle.command_line.specs.declared.command.Shape.TheVariants.{Cyclic, Grid, Majority, Tree, Wheel}
 
--- Steps that may be refused
+-- Steps that may fail
 
 infixl 10 ◌>>=◌
 abbrev pub ◌>>=◌ : {A B : Type 0} → Result A Fault → (A → Result B Fault) → Result B Fault
 (Ok x) >>= f = f x
 (Err e) >>= f = Err e
 
--- the same answer, its refusal under another name
+-- the same result, its fault under another name
 abbrev pub refused_as : {A E : Type 0} → (E → Fault) → Result A E → Result A Fault
 refused_as name (Ok x) = Ok x
 refused_as name (Err e) = Err (name e)
 
--- the fault is want of memory, or the wanted answer is this fault
+-- the fault is out of memory, or the wanted result is this fault
 abbrev pub Refuses : {Y : Type 0} → Fault → Result Y Fault → Type 0
 Refuses OutOfMemory wanted = Unit {0}
 Refuses fault wanted = wanted ≡ Err fault
 
--- the result, seen by view, is the wanted answer, memory aside
+-- the result, mapped by `view`, is the wanted one, unless memory ran out
 abbrev pub Gives : {X Y : Type 0} → (X → Y) → Result X Fault → Result Y Fault → Type 0
 Gives view (Ok x) wanted = wanted ≡ Ok (view x)
 Gives view (Err fault) wanted = Refuses fault wanted
 
 -- Parts
 
--- a coterie in bytes, which have to be UTF-8
+-- the coterie that the bytes describe, which have to be UTF-8
 unfoldable pub coterie_part : List ℕ → Result NamedSystem Fault
 coterie_part bytes = if is_utf8 bytes then refused_as File (coterie_at bytes) else Err (File NotToml)
 
--- a plan of the coterie in bytes
+-- the plan of the coterie that the bytes describe
 unfoldable pub plan_part : QuorumSystem → List ℕ → Result Weighted Fault
 plan_part system bytes = refused_as faults.Plan (plan_at system bytes)
 
--- what two parts spell: a coterie, and a plan of it
+-- what two parts describe: a coterie, and a plan of it
 unfoldable pub planned_by : List ℕ → List ℕ → Result Planned Fault
 planned_by coterie plan = do
   named ← coterie_part coterie
   plan ← plan_part named.system plan
   Ok (record { named = named; plan = plan })
 
--- what an input of two parts spells: a coterie, and a plan of it
+-- what an input of two parts describes: a coterie, and a plan of it
 unfoldable pub planned_in : List ℕ → Result Planned Fault
 planned_in input = do
   parts ← split 2 input
   planned_by parts.0 parts.1
 
--- what an input of three parts spells: a coterie, a plan of it, and a text behind them
+-- what an input of three parts describes: a coterie, a plan of it, and a text after them
 unfoldable pub staged_in : List ℕ → Result (Planned × List ℕ) Fault
 staged_in input = do
   parts ← split 2 input
@@ -105,31 +105,31 @@ staged_in input = do
 
 -- Lines
 
--- 10 is a newline, 32 a space, 47 a slash
+-- the line of a ticket and its quorum; 10 is a newline, 32 a space, 47 a slash
 abbrev pub ticket_line : Weighted → ℕ → List ℕ
 ticket_line w ticket = decimal ticket ++ (32 ∷ (decimal (quorum_of_ticket w ticket) ++ 10 ∷ []))
 
--- the same of a ticket that was drawn
+-- the same for a ticket that was drawn
 abbrev pub receipt_line : Receipt → List ℕ
 receipt_line r = decimal r.ticket ++ (32 ∷ (decimal r.quorum ++ 10 ∷ []))
 
--- how often a voter was named, with its name
+-- the line of a voter: its name, and how often it was used
 abbrev pub voter_line : List ℕ → ℕ → List ℕ
 voter_line name count = codes "voter " ++ (name ++ (32 ∷ (decimal count ++ 10 ∷ [])))
 
--- how often the busiest was
+-- the line of the busiest voter: how often it was used
 abbrev pub busiest_line : ℕ → List ℕ
 busiest_line count = codes "busiest " ++ (decimal count ++ 10 ∷ [])
 
--- how many tickets were drawn
+-- the line of the number of tickets that were drawn
 abbrev pub drawn_line : ℕ → List ℕ
 drawn_line count = codes "drawn " ++ (decimal count ++ 10 ∷ [])
 
--- the register
+-- the line of the register
 abbrev pub register_line : ℕ → List ℕ
 register_line number = codes "register " ++ (decimal number ++ 10 ∷ [])
 
--- a load and the length of a cycle
+-- the line of a load and the length of a cycle
 abbrev pub load_line : ℕ × ℕ → ℕ → List ℕ
 load_line load cycle = codes "load " ++ (decimal load.0 ++ (47 ∷ (decimal load.1 ++ (codes " cycle " ++ (decimal cycle ++ 10 ∷ [])))))
 
@@ -139,7 +139,7 @@ load_line load cycle = codes "load " ++ (decimal load.0 ++ (47 ∷ (decimal load
 abbrev pub ticket_lines : Weighted → ℕ → List ℕ
 ticket_lines w n = flat_map (ticket_line w) (range_with_len 0 n)
 
--- a line for each voter, with its name and how often it was named
+-- a line for each voter, with its name and how often it was used
 abbrev pub voter_lines : List (List ℕ) → List ℕ → List ℕ
 voter_lines names counts = flat_map (λ i. voter_line (name_at names i) (slice_index counts i)) (range_with_len 0 (length names))
 
@@ -151,11 +151,11 @@ account_text names account = voter_lines names account.voters ++ busiest_line ac
 unfoldable pub deal_text : Planned → ℕ → List ℕ
 deal_text p n = ticket_lines p.plan n ++ account_text p.named.names (account_of p.plan (range_with_len 0 n))
 
--- how many tickets were drawn, the lines of their account, and the register
+-- the lines of a record: how many tickets were drawn, their account, and the register
 abbrev pub record_lines : List (List ℕ) → Account → ℕ → List ℕ
 record_lines names account register = drawn_line account.drawn ++ (account_text names account ++ register_line register)
 
--- what a record says of the tickets that were drawn, and its register
+-- the lines of a record's entries: of the tickets that were drawn, and of the register
 abbrev pub replay_text : Planned → Entries → List ℕ
 replay_text p e = record_lines p.named.names (account_of p.plan (tickets_of e.draws)) e.register
 
@@ -173,23 +173,24 @@ shape_at (Tree h) = tree_at h
 shape_at (Wheel k) = wheel_at k
 shape_at (Cyclic n base) = cyclic_at n base.items
 
--- the text of a coterie whose voters are numbered
+-- the text of a coterie whose voters have numbered names
 abbrev pub numbered_text : QuorumSystem → List ℕ
 numbered_text system = coterie_text (record { system = system; names = numbered_names system.voters })
 
--- what `make` answers
+-- what `make` writes, or its fault
 abbrev pub make_answer_of : Shape → Result (List ℕ) Fault
 make_answer_of shape = refused_as Construct (shape_at shape) >>= λ system. Ok (numbered_text system)
 
--- what `check` answers
+-- what `check` writes, or its fault
 abbrev pub check_answer_of : List ℕ → Result (List ℕ) Fault
 check_answer_of input = planned_in input >>= λ p. Ok (check_text p)
 
--- what `deal` answers
+-- what `deal` writes, or its fault
 abbrev pub deal_answer_of : ℕ → List ℕ → Result (List ℕ) Fault
 deal_answer_of n input = planned_in input >>= λ p. Ok (deal_text p n)
 
--- the text is that of some plan of the coterie that the input spells, and that plan is optimal
+-- the output is the text of some plan of the coterie that the input describes, and that plan is
+-- optimal
 pub record IsPlanText (input output : List ℕ) : Type 0 where
   pub named : NamedSystem
   pub coterie : coterie_part input ≡ Ok named
@@ -199,20 +200,22 @@ pub record IsPlanText (input output : List ℕ) : Type 0 where
   pub optimal : IsOptimal plan
   pub spelled : output ≡ plan_text plan
 
--- the input spells a coterie that is not uniform, and the planner found no plan of it, for this cause
+-- the input describes a coterie that is not uniform, and the planner found no plan of it, for this
+-- cause
 pub record IsUnplanned (input : List ℕ) (cause : Cause) : Type 0 where
   pub named : NamedSystem
   pub coterie : coterie_part input ≡ Ok named
   pub warranted : IsWarranted named.system (NoPlan cause)
   pub can_come : CanCome (NoPlan cause)
 
--- `plan` refuses the input so: it spells no coterie, or there is no plan of it; that the planner ran out of memory is no such refusal
+-- `plan` fails with this fault for the input: the input describes no coterie, or there is no plan
+-- of it. The fault is never the planner's own `OutOfMemory`.
 abbrev pub RefusesToPlan : List ℕ → Fault → Type 0
 RefusesToPlan input (Planner (NoPlan cause)) = IsUnplanned input cause
 RefusesToPlan input (Planner planner.OutOfMemory) = ⊥
 RefusesToPlan input fault = coterie_part input ≡ Err fault
 
--- the output is that of the script in the third part, by the plan that the parts before it spell
+-- the output is that of the script in the third part, by the plan that the parts before it describe
 pub record IsWorldOutput (input output : List ℕ) : Type 0 where
   pub planned : Planned
   pub script : List ℕ
@@ -226,13 +229,15 @@ pub record IsBadScript (input : List ℕ) (line : ℕ) : Type 0 where
   pub parts : staged_in input ≡ Ok (planned, script)
   pub bad : IsFirstBad script line
 
--- `world` refuses the input so: a part is missing or spells nothing, or the third one is no script
+-- `world` fails with this fault for the input: a part is missing or has a fault, or the third one
+-- is no script
 abbrev pub RefusesToRun : List ℕ → Fault → Type 0
 RefusesToRun input (faults.Replay (BadLine line)) = IsBadScript input line
 RefusesToRun input (faults.Replay fault) = ⊥
 RefusesToRun input fault = staged_in input ≡ Err fault
 
--- the third part is the text of a sound record by the plan that the parts before it spell, and the output is what it says
+-- the third part is the text of a sound record by the plan that the parts before it describe, and
+-- the output is what the record says
 pub record IsReplayed (input output : List ℕ) : Type 0 where
   pub planned : Planned
   pub text : List ℕ
@@ -243,29 +248,32 @@ pub record IsReplayed (input output : List ℕ) : Type 0 where
   pub sound : IsSoundRecord planned.plan entries
   pub output_is : output ≡ replay_text planned entries
 
--- the text is that of a record of which this is the first fault by the plan
+-- the text is that of a record, and this is the record's first fault by the plan
 abbrev pub IsUnsoundText : Weighted → List ℕ → ReplayFault → Type 0
 IsUnsoundText plan text fault = (e : Entries) × HasText e × (text ≡ record_text e) × IsFirstFault plan e fault
 
--- the text is refused so: this is its first bad line, or it is the text of a record that is not sound
+-- the text of a record fails with this fault: it is the first bad line, or the record's first fault
 abbrev pub IsBadRecordText : Weighted → List ℕ → ReplayFault → Type 0
 IsBadRecordText plan text (BadLine line) = record_texts.IsFirstBad text line
 IsBadRecordText plan text replay.OutOfMemory = ⊥
 IsBadRecordText plan text fault = IsUnsoundText plan text fault
 
--- the record in the third part is refused by this fault
+-- the record in the third part fails with this fault
 pub record IsBadRun (input : List ℕ) (fault : ReplayFault) : Type 0 where
   pub planned : Planned
   pub text : List ℕ
   pub parts : staged_in input ≡ Ok (planned, text)
   pub bad : IsBadRecordText planned.plan text fault
 
--- `replay` refuses the input so: a part is missing or spells nothing, or the record is refused
+-- `replay` fails with this fault for the input: a part is missing or has a fault, or the record has
+-- one
 abbrev pub RefusesToReplay : List ℕ → Fault → Type 0
 RefusesToReplay input (faults.Replay fault) = IsBadRun input fault
 RefusesToReplay input fault = staged_in input ≡ Err fault
 
--- the input spells a coterie and a plan of it, and the output is the text of a record by that plan of a run in which each of so many clients made so many passes: each has a ticket and a pass number for each of them
+-- The input describes a coterie and a plan of it. The output is the text of a record by that plan,
+-- of a run in which each of `clients` clients made `passes` passes. Each client has a ticket and a
+-- pass number for each of its passes.
 pub record IsRunText (clients passes : ℕ) (input output : List ℕ) : Type 0 where
   pub planned : Planned
   pub parts : planned_in input ≡ Ok planned
@@ -273,38 +281,39 @@ pub record IsRunText (clients passes : ℕ) (input output : List ℕ) : Type 0 w
   pub is_run : IsRun planned.plan clients passes run
   pub spelled : output ≡ record_text (entries_of run)
 
--- a run by the plan that the input spells ends early by this fault
+-- a run by the plan that the input describes ends early with this fault
 pub record IsEndedRun (clients : ℕ) (input : List ℕ) (fault : ClusterFault) : Type 0 where
   pub planned : Planned
   pub parts : planned_in input ≡ Ok planned
   pub ended : EndsRunBy clients fault
 
--- `run` refuses the input so: a part is missing or spells nothing, or the run ends early
+-- `run` fails with this fault for the input: a part is missing or has a fault, or the run ends
+-- early
 abbrev pub IsRunRefusal : ℕ → List ℕ → Fault → Type 0
 IsRunRefusal clients input (faults.Cluster fault) = IsEndedRun clients input fault
 IsRunRefusal clients input fault = planned_in input ≡ Err fault
 
--- `execute` serves each command but `run`
+-- `execute` serves each command except `run`
 abbrev pub IsServed : Command → Type 0
 IsServed (Run clients passes turns) = ⊥
 IsServed command = ⊤
 
--- and `execute_run` serves `run`, with 1 to 64 clients and at most 1000 passes
+-- `execute_run` serves `run`, with 1 to 64 clients and at most 1000 passes
 abbrev pub IsRunnable : Command → Type 0
 IsRunnable (Run clients passes turns) = (1 ≤ clients) × (clients ≤ 64) × (passes ≤ 1000)
 IsRunnable command = ⊥
 
--- the gate lets each client of a run pass, where any passes are to be made
+-- the gate lets each client of a run pass, if any passes are to be made
 abbrev pub LetsAll : (ℕ → Bool) → Command → Type 0
 LetsAll lets (Run clients passes turns) = 0 < passes → AreLet lets clients
 LetsAll lets command = ⊤
 
--- a run has two turns at least for each pass of a client
+-- a run has at least two turns for each pass of a client
 abbrev pub HasTurns : Command → Type 0
 HasTurns (Run clients passes turns) = 2 * passes ≤ turns
 HasTurns command = ⊤
 
--- one of them serves it
+-- `execute` or `execute_run` serves the command
 abbrev pub IsInRange : Command → Type 0
 IsInRange (Run clients passes turns) = IsRunnable (Run clients passes turns)
 IsInRange command = ⊤
@@ -319,7 +328,7 @@ IsAnswer World input output = IsWorldOutput input output
 IsAnswer (Run clients passes turns) input output = IsRunText clients passes input output
 IsAnswer Replay input output = IsReplayed input output
 
--- the command refuses the input by this fault
+-- the command fails with this fault for the input
 abbrev pub IsRefusal : Command → List ℕ → Fault → Type 0
 IsRefusal (Make shape) input fault = make_answer_of shape ≡ Err fault
 IsRefusal Plan input fault = RefusesToPlan input fault
@@ -329,12 +338,12 @@ IsRefusal World input fault = RefusesToRun input fault
 IsRefusal (Run clients passes turns) input fault = IsRunRefusal clients input fault
 IsRefusal Replay input fault = RefusesToReplay input fault
 
--- the fault is want of memory, or the command refuses the input by it
+-- the fault is out of memory, or the command fails with it for the input
 abbrev pub IsRefusedBy : Command → List ℕ → Fault → Type 0
 IsRefusedBy command input OutOfMemory = Unit {0}
 IsRefusedBy command input fault = IsRefusal command input fault
 
--- what was answered is the command's answer to the input, memory aside
+-- the result is what the command writes for the input, or its fault for the input, or out of memory
 abbrev pub IsAnswered : {X : Type 0} → (X → List ℕ) → Command → List ℕ → Result X Fault → Type 0
 IsAnswered view command input (Ok x) = IsAnswer command input (view x)
 IsAnswered view command input (Err fault) = IsRefusedBy command input fault
@@ -349,29 +358,32 @@ reads_input World = true
 reads_input (Run clients passes turns) = true
 reads_input Replay = true
 
--- nothing is left of the input, where the command reads it
+-- nothing is left of the input, if the command reads it
 abbrev pub EndsAfter : Command → Option (List ℕ) → Type 0
 EndsAfter (Make shape) bytes = ⊤
 EndsAfter command bytes = IsAtEnd bytes
 
--- the input is not too long, where the command reads it
+-- the input is not too long, if the command reads it
 abbrev pub IsShortFor : Command → List ℕ → Type 0
 IsShortFor command input = reads_input command ≡ true → length input ≤ 16777216
 
--- the command's answer to the input was written behind what there was
+-- the command's output for the input was written after what was there
 abbrev pub Answers : Command → List ℕ → Option (List ℕ) → Option (List ℕ) → Type 0
 Answers command input old new = IsShortFor command input × ((output : List ℕ) × IsAnswer command input output × Appends old new output)
 
--- a beginning of the command's answer to the input was written behind what there was
+-- a beginning of the command's output for the input was written after what was there
 abbrev pub BeginsAnswer : Command → List ℕ → Option (List ℕ) → Option (List ℕ) → Type 0
 BeginsAnswer command input old new = IsShortFor command input × ((output : List ℕ) × IsAnswer command input output × AppendsBeginning old new output)
 
--- what a refusal leaves written: after a write fault a beginning of the answer to the input, where that is known, and after any other fault what there was
+-- What is written after a fault. After a failed write it is a beginning of the output for the
+-- input, if the input is known, added to what was there. After any other fault it is what was
+-- there.
 abbrev pub LeavesWritten : Command → Option (List ℕ) → Fault → Option (List ℕ) → Option (List ℕ) → Type 0
 LeavesWritten command bytes (Device WriteFault) old new = IfSome bytes (λ input. BeginsAnswer command input old new)
 LeavesWritten command bytes fault old new = Keeps old new
 
--- the fault is one that the input leads to: it is too long, or the command refuses it so; a device or memory may fail whatever the input is
+-- The fault is possible for the input: the input is too long, or the command fails with this fault
+-- for it. A device or memory may fail whatever the input is.
 abbrev pub ComesOf : Command → List ℕ → Fault → Type 0
 ComesOf command input (Device TooLong) = (reads_input command ≡ true) × (16777216 < length input)
 ComesOf command input (Device ReadFault) = reads_input command ≡ true

@@ -1,4 +1,4 @@
--- What a clerk has that draws all tickets of an office.
+-- The state of a clerk that draws all tickets of an office.
 use Rattle.std.specs.Prelude.{ℕ, ◌-◌, map}
 use Rattle.std.specs.List.{range_with_len}
 use Rattle.dealer.specs.Offices.{OfficeName, ClerkState, receipt_of}

@@ -1,4 +1,5 @@
--- The refusals of parts, as faults of a command: want of memory is one fault, wherever it comes from.
+-- The faults of other crates, as faults of a command. Out of memory is one fault, wherever it comes
+-- from.
 use Rattle.whole_io.specs.declared.fault.DeviceFault.{DeviceFault}
 use Rattle.whole_io.specs.declared.fault.DeviceFault.TheVariants as device
 use Rattle.construct.specs.declared.fault.ConstructFault.{ConstructFault}
@@ -50,7 +51,7 @@ IsBeforeScript (Replay fault) = ⊥
 IsBeforeScript (Cluster fault) = ⊥
 IsBeforeScript fault = Unit {0}
 
--- the fault is of a coterie's text, or want of memory
+-- the fault is of a coterie's text, or out of memory
 abbrev pub IsOfFile : Fault → Type 0
 IsOfFile OutOfMemory = Unit {0}
 IsOfFile (File fault) = Unit {0}

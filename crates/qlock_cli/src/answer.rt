@@ -24,7 +24,7 @@ use quorum_set::Coterie;
 use replay::{ReplayFault, check_record, read_record, run_script};
 use std::alloc::{AllocError, Global};
 
-/// The coterie that a part spells.
+/// Returns the coterie that a part describes.
 fn coterie_of(alloc: Global, part: &[u8]) -> Result<Named, Fault>
     ensures exact { Gives (λ n. n) result (coterie_part part.now) }
     ensures own { IfErr result IsOwn }
@@ -40,7 +40,7 @@ fn coterie_of(alloc: Global, part: &[u8]) -> Result<Named, Fault>
     }
 }
 
-/// The plan of a coterie that a part spells.
+/// Returns the plan of a coterie that a part describes.
 fn plan_of(alloc: Global, coterie: &Coterie, part: &[u8]) -> Result<Plan, Fault>
     ensures exact { Gives (λ p. p) result (plan_part coterie.now part.now) }
     ensures own { IfErr result IsOwn }
@@ -60,7 +60,7 @@ pub struct Planned {
     pub plan: Plan,
 }
 
-/// What two parts spell: a coterie, and a plan of it.
+/// Returns what two parts describe: a coterie, and a plan of it.
 #[tactic(auto, unfolding(crate::specs::Commands::planned_by))]
 fn planned_by(alloc: Global, coterie: &[u8], plan: &[u8]) -> Result<Planned, Fault>
     ensures exact { Gives (λ p. p) result (planned_by coterie.now plan.now) }
@@ -79,7 +79,7 @@ fn planned_by(alloc: Global, coterie: &[u8], plan: &[u8]) -> Result<Planned, Fau
     Ok(Planned { named, plan })
 }
 
-/// What an input of two parts spells: a coterie, and a plan of it.
+/// Returns what an input of two parts describes: a coterie, and a plan of it.
 #[tactic(auto, unfolding(crate::specs::Commands::planned_in))]
 pub fn planned_of(alloc: Global, input: &[u8]) -> Result<Planned, Fault>
     ensures exact { Gives (λ p. p) result (planned_in input.now) }
@@ -93,7 +93,7 @@ pub fn planned_of(alloc: Global, input: &[u8]) -> Result<Planned, Fault>
     }
 }
 
-/// What an input of three parts spells: a coterie, a plan of it, and a text behind them.
+/// Returns what an input of three parts describes: a coterie, a plan of it, and a text after them.
 #[tactic(auto, unfolding(crate::specs::Commands::staged_in))]
 fn staged_of(alloc: Global, input: &[u8]) -> Result<(Planned, &[u8]), Fault>
     ensures exact { Gives (λ x. (x.0, x.1.now)) result (staged_in input.now) }
@@ -115,7 +115,7 @@ fn staged_of(alloc: Global, input: &[u8]) -> Result<(Planned, &[u8]), Fault>
     }
 }
 
-/// What `check` writes.
+/// Returns what `check` writes.
 #[tactic(auto, unfolding(crate::specs::Commands::check_text))]
 fn check_text_of(alloc: Global, planned: &Planned) -> Result<String, AllocError>
     ensures { IfOk result (λ text. string_bytes text ≡ check_text planned.now) }
@@ -123,7 +123,8 @@ fn check_text_of(alloc: Global, planned: &Planned) -> Result<String, AllocError>
     load_line_of(alloc, planned.plan.load(), planned.plan.cycle_len())
 }
 
-/// What `deal` writes for the tickets below `count`: the receipts that an office with that quota gave for them, and its account.
+/// Returns what `deal` writes for the tickets below `count`: the receipts for them from an office
+/// with that quota, and its account.
 #[tactic(auto, unfolding(crate::specs::Commands::deal_text))]
 fn deal_text_of(alloc: Global, planned: Planned, count: u64) -> Result<String, AllocError>
     requires same { planned.plan.system ≡ planned.named.system }
@@ -139,7 +140,7 @@ fn deal_text_of(alloc: Global, planned: Planned, count: u64) -> Result<String, A
     Ok(text)
 }
 
-/// The coterie of a shape and its sizes.
+/// Returns the coterie of a shape and its sizes.
 fn shape_coterie(alloc: Global, shape: &Shape) -> Result<Coterie, ConstructFault>
     ensures { construct_answers.Gives result (shape_at shape.now) }
 {
@@ -152,7 +153,7 @@ fn shape_coterie(alloc: Global, shape: &Shape) -> Result<Coterie, ConstructFault
     }
 }
 
-/// The text of a coterie whose voters are numbered.
+/// Returns the text of a coterie whose voters have numbered names.
 fn numbered_text_of(alloc: Global, coterie: Coterie) -> Result<String, AllocError>
     ensures { IfOk result (λ text. string_bytes text ≡ numbered_text coterie) }
 {
@@ -160,7 +161,7 @@ fn numbered_text_of(alloc: Global, coterie: Coterie) -> Result<String, AllocErro
     write_coterie(alloc, &named)
 }
 
-/// What `make` writes.
+/// Returns what `make` writes.
 fn make_answer(alloc: Global, shape: &Shape) -> Result<String, Fault>
     ensures exact { Gives string_bytes result (make_answer_of shape.now) }
     ensures own { IfErr result IsOwn }
@@ -175,7 +176,8 @@ fn make_answer(alloc: Global, shape: &Shape) -> Result<String, Fault>
     }
 }
 
-/// What `plan` writes for an input: the text of a plan of the coterie that the input spells.
+/// Returns what `plan` writes for an input: the text of a plan of the coterie that the input
+/// describes.
 #[tactic(auto, using(crate::proofs::CommandLemmas::unplanned_refused))]
 fn plan_answer(alloc: Global, input: &[u8]) -> Result<String, Fault>
     ensures exact { IsAnswered string_bytes Command.Plan input.now result }
@@ -195,7 +197,7 @@ fn plan_answer(alloc: Global, input: &[u8]) -> Result<String, Fault>
     }
 }
 
-/// What `check` writes for an input.
+/// Returns what `check` writes for an input.
 fn check_answer(alloc: Global, input: &[u8]) -> Result<String, Fault>
     ensures exact { Gives string_bytes result (check_answer_of input.now) }
     ensures own { IfErr result IsOwn }
@@ -210,7 +212,7 @@ fn check_answer(alloc: Global, input: &[u8]) -> Result<String, Fault>
     }
 }
 
-/// What `deal` writes for an input.
+/// Returns what `deal` writes for an input.
 fn deal_answer(alloc: Global, count: u32, input: &[u8]) -> Result<String, Fault>
     ensures exact { Gives string_bytes result (deal_answer_of count input.now) }
     ensures own { IfErr result IsOwn }
@@ -225,7 +227,7 @@ fn deal_answer(alloc: Global, count: u32, input: &[u8]) -> Result<String, Fault>
     }
 }
 
-/// What `world` writes for an input: the output of the script in its third part.
+/// Returns what `world` writes for an input: the output of the script in its third part.
 fn world_answer(alloc: Global, input: &[u8]) -> Result<String, Fault>
     ensures exact { IsAnswered string_bytes Command.World input.now result }
     ensures own { IfErr result IsOwn }
@@ -240,7 +242,7 @@ fn world_answer(alloc: Global, input: &[u8]) -> Result<String, Fault>
     }
 }
 
-/// The account of a sound record by a plan.
+/// Returns the account of a sound record by a plan, or the record's first fault.
 fn account_of_record(alloc: Global, plan: &Plan, run: &RunRecord) -> Result<Account, ReplayFault>
     ensures account { IfOk result (λ account. account ≡ account_of plan.now (tickets_of run.now.draws.items)) }
     ensures one_each { IfOk result (λ account. length account.voters ≡ plan.now.system.voters) }
@@ -250,7 +252,7 @@ fn account_of_record(alloc: Global, plan: &Plan, run: &RunRecord) -> Result<Acco
     check_record(alloc, plan, run)
 }
 
-/// What `replay` writes for an input: what the record in its third part says.
+/// Returns what `replay` writes for an input: what the record in its third part says.
 fn replay_answer(alloc: Global, input: &[u8]) -> Result<String, Fault>
     ensures exact { IsAnswered string_bytes Command.Replay input.now result }
     ensures own { IfErr result IsOwn }
@@ -274,7 +276,7 @@ fn replay_answer(alloc: Global, input: &[u8]) -> Result<String, Fault>
     }
 }
 
-/// What the command writes for an input.
+/// Returns what the command writes for an input.
 pub fn answer(alloc: Global, command: &Command, input: &[u8]) -> Result<String, Fault>
     requires served { IsServed command.now }
     ensures exact { IsAnswered string_bytes command.now input.now result }

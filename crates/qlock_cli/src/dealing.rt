@@ -1,4 +1,4 @@
-//! Tickets drawn from an office, for the command `deal`.
+//! Drawing tickets from an office, for the command `deal`.
 ghost use Rattle.std.specs.Prelude.{◌≡◌, ◌<◌, ◌≤◌, ◌-◌, ◌^◌, ◌++◌, [], ◌∷◌, length, map, IfOk};
 ghost use Rattle.std.specs.List.{range_with_len};
 ghost use Rattle.dealer.specs.Accounts.{account_of};
@@ -9,7 +9,7 @@ use certificate::Plan;
 use dealer::{Account, Clerk, Cycle, DealFault, Office, OfficeFault, Receipt};
 use std::alloc::{AllocError, Global};
 
-/// The cycle of a plan.
+/// Returns the cycle of a plan.
 fn cycle_of_plan(alloc: Global, plan: Plan) -> Result<Cycle, AllocError>
     ensures { IfOk result (λ cycle. cycle ≡ plan) }
 {
@@ -19,7 +19,7 @@ fn cycle_of_plan(alloc: Global, plan: Plan) -> Result<Cycle, AllocError>
     }
 }
 
-/// An office of a cycle with this quota, and the clerk that may draw it all.
+/// Returns an office of a cycle with this quota, and the clerk that may draw all of it.
 fn office_of(alloc: Global, cycle: Cycle, quota: u64) -> Result<(Office, Clerk), AllocError>
     requires { quota ≤ 2 ^ 63 }
     ensures cycle { IfOk result (λ made. made.0.name.cycle ≡ cycle) }
@@ -32,8 +32,8 @@ fn office_of(alloc: Global, cycle: Cycle, quota: u64) -> Result<(Office, Clerk),
     }
 }
 
-/// Draws the next ticket, for a clerk that has the office's whole quota and has not drawn it all. A refusal is for want of
-/// memory alone.
+/// Draws the next ticket. The clerk has the office's whole quota, and has not drawn all of it. Only
+/// fails if memory runs out.
 fn draw_next(office: &Office, clerk: &mut Clerk) -> Result<(), AllocError>
     requires office { clerk.old.office ≡ office.now.name }
     requires share { share_of clerk.old ≡ office.now.quota }
@@ -51,7 +51,7 @@ fn draw_next(office: &Office, clerk: &mut Clerk) -> Result<(), AllocError>
     }
 }
 
-/// Draws all tickets of an office, with a clerk that may draw them all.
+/// Draws all tickets of an office, with a clerk that may draw them all. Returns the clerk.
 fn draw_all(office: &Office, clerk: Clerk, quota: u64) -> Result<Clerk, AllocError>
     requires quota { office.now.quota ≡ quota }
     requires clerk { clerk ≡ after_draws office.now.name quota 0 }
@@ -64,7 +64,7 @@ fn draw_all(office: &Office, clerk: Clerk, quota: u64) -> Result<Clerk, AllocErr
     Ok(drawing)
 }
 
-/// Closes an office with a clerk that has its whole quota. A refusal is for want of memory alone.
+/// Closes an office with a clerk that has its whole quota. Only fails if memory runs out.
 fn closed(
     alloc: Global,
     office: Office,
@@ -85,7 +85,8 @@ fn closed(
     }
 }
 
-/// Deals so many tickets of a plan from an office with that quota: their account, and their receipts in order.
+/// Deals `count` tickets of a plan, from an office with that quota. Returns their account, and
+/// their receipts in order.
 pub fn dealt(alloc: Global, plan: Plan, count: u64) -> Result<(Account, Vec<Receipt>), AllocError>
     requires { count ≤ 2 ^ 63 }
     ensures account { IfOk result (λ dealt. dealt.0 ≡ account_of plan (range_with_len 0 count)) }

@@ -1,4 +1,4 @@
-//! Why a command was refused.
+//! The faults of commands.
 ghost use Rattle.std.specs.Prelude.{◌≡◌};
 ghost use Rattle.qlock_cli.specs.Faults.{construct_refusal, device_refusal, file_refusal, plan_refusal, planner_refusal, replay_refusal, run_refusal};
 ghost use Rattle.qlock_cli.specs.declared.fault.Fault.TheVariants.{OutOfMemory};
@@ -14,10 +14,11 @@ use std::alloc::{AllocError, AllocFailed};
 use thiserror::Error;
 use whole_io::DeviceFault;
 
-/// Why a command was refused. Its text is one line.
+/// Why a command failed. Its text is one line.
 #[derive(Clone, Copy, Debug, PartialEq, Eq, Error)]
 pub enum Fault {
-    /// The input has fewer parts than the command reads; the number of the first that is missing, from 1.
+    /// The input has fewer parts than the command reads. Has the number of the first missing part,
+    /// from 1.
     #[error("I1 MissingPart {0}")]
     MissingPart(usize),
     /// The input is too long, or a read or a write failed.
@@ -26,19 +27,19 @@ pub enum Fault {
     /// There is no coterie of this shape and these sizes.
     #[error(transparent)]
     Construct(ConstructFault),
-    /// The coterie was refused.
+    /// The coterie has a fault.
     #[error(transparent)]
     File(FileFault),
-    /// The plan was refused.
+    /// The plan has a fault.
     #[error(transparent)]
     Plan(PlanFault),
-    /// There is no plan.
+    /// No plan was found.
     #[error(transparent)]
     Planner(PlannerFault),
-    /// The script or the record was refused.
+    /// The script or the record has a fault.
     #[error(transparent)]
     Replay(ReplayFault),
-    /// A run has no record.
+    /// A run ended without a record.
     #[error(transparent)]
     Cluster(ClusterFault),
     /// Memory ran out.

@@ -1,19 +1,22 @@
 //! The commands of the program `qlock`: what each writes for its input.
 //!
-//! [`read_words`] reads the words of a command line. [`execute`] then serves a [`Command`] over a reader and a writer, and
-//! [`execute_run`] serves the command `run`, whose clients work in threads. Each reads the whole input, makes the whole
-//! answer, and only then writes it. A reader and a writer are [`Watched`], so that a caller sees which of them failed.
+//! [`read_words`] reads the words of a command line. [`execute`] then serves a [`Command`] over a
+//! reader and a writer, and [`execute_run`] serves the command `run`, whose clients work in
+//! threads. Each reads the whole input, makes the whole output, and only then writes it. The reader
+//! and the writer are [`Watched`], so a caller sees which of them failed.
 //!
-//! `parts` splits the input, `answer` makes the output, `dealing` draws its tickets, `texts` makes its lines.
+//! The module `parts` splits the input, `answer` makes the output, `dealing` draws its tickets, and
+//! `texts` makes its lines.
 //!
 //! # What is proved
 //!
-//! What is written is a stated function of what was read. For `plan` it is the text of an optimal plan of the coterie that
-//! was read, for `run` the text of the record of such a run as the crate `runs` promises. A [`Fault`] comes only of an
-//! input that the command refuses so, of a device that failed, or of memory that ran out. A fault other than a failed
-//! write writes nothing; after a failed write a beginning of the answer was written.
+//! What is written is a stated function of what was read. For `plan` it is the text of an optimal
+//! plan of the coterie that was read. For `run` it is the text of the record of a run, as the crate
+//! `runs` promises. A [`Fault`] comes only for an input with this fault, for a device that failed,
+//! or if memory ran out. A fault other than a failed write writes nothing. After a failed write a
+//! beginning of the output was written.
 //!
-//! The program `qlock` calls this crate, and whoever embeds it can, too:
+//! The program `qlock` calls this crate, and other programs can embed it:
 //!
 //! ```
 //! let command = read_words(alloc, words)?; // of `qlock plan`: Command::Plan

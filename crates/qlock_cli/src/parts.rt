@@ -8,7 +8,7 @@ use crate::fault::Fault;
 /// The line that separates two parts.
 const MARK: &[u8] = b"%%\n";
 
-/// Whether a separating line begins at a place.
+/// Returns whether a separating line begins at a place.
 fn begins_mark(input: &[u8], place: usize) -> bool
     requires { place ≤ length input.now }
     ensures mark { result ≡ is_mark input.now place }
@@ -17,7 +17,7 @@ fn begins_mark(input: &[u8], place: usize) -> bool
     (place == 0 || input[place - 1] == b'\n') && input[place..].starts_with(MARK)
 }
 
-/// Where the first separating line begins.
+/// Returns the place where the first separating line begins.
 fn mark_in(input: &[u8]) -> Option<usize>
     ensures first { result ≡ first_mark input.now }
     ensures within { IfSome result (λ place. place + 3 ≤ length input.now) }
@@ -30,8 +30,8 @@ fn mark_in(input: &[u8]) -> Option<usize>
     None
 }
 
-/// The part before the first separating line, and what follows that line; `next` is the number of
-/// the part that is missing where there is no such line.
+/// Returns the part before the first separating line, and what follows that line. If there is no
+/// such line, fails with `MissingPart`; `next` is the number of the part that is missing.
 #[tactic(auto, unfolding(crate::specs::Parts::split))]
 pub fn split_part(input: &[u8], next: usize) -> Result<(&[u8], &[u8]), Fault>
     ensures exact { MatchResult result (λ p. split next input.now ≡ Ok (p.0.now, p.1.now)) (λ e. split next input.now ≡ Err e) }

@@ -1,4 +1,5 @@
-//! The command `run`: clients in threads that share the lock of a plan, and the record of what they did.
+//! The command `run`: clients in threads that share the lock of a plan, and the record of what they
+//! did.
 ghost use Rattle.std.specs.Prelude.{◌≡◌, ◌≤◌, false, IfErr, IfSome, OnOk, string_bytes};
 ghost use Rattle.qlock_cli.specs.Devices.{FailsAs, IsOwn};
 ghost use Rattle.qlock_cli.specs.Commands.{Answers, ComesOf, HasTurns, IsAnswered, IsRunnable, LeavesWritten, LetsAll};
@@ -18,7 +19,7 @@ use std::sync::Wait;
 use std::thread::Threads;
 use whole_io::Watched;
 
-/// What `run` writes for an input: the text of the record of a run.
+/// Returns what `run` writes for an input: the text of the record of a run.
 #[tactic(auto, using(crate::proofs::CommandLemmas::run_told))]
 fn run_answer<T: Threads + Wait + Sync, G: Gate>(
     rt: &T,
@@ -55,10 +56,11 @@ fn run_answer<T: Threads + Wait + Sync, G: Gate>(
     }
 }
 
-/// Serves `run`: reads the input to its end, runs the lock of its plan, and writes the text of the record and nothing
-/// else. The threads of the clients share the gate.
+/// Serves `run`: reads the input to its end, runs the lock of its plan, and writes the text of the
+/// record and nothing else. The threads of the clients share the gate.
 ///
-/// Refusals come as those of `execute`; where a run ends early, the fault is that of the least client whose work did.
+/// Faults come in the same order as those of `execute`. If a run ends early, the fault is that of
+/// the smallest client whose work ended early.
 pub fn execute_run<T: Threads + Wait + Sync, R: Read, W: Write, G: Gate>(
     rt: &T,
     alloc: Global,
@@ -78,18 +80,19 @@ pub fn execute_run<T: Threads + Wait + Sync, R: Read, W: Write, G: Gate>(
     // All input was read.
     ensures end { OnOk result (IsAtEnd (R.remaining reader.new.inner)) }
 
-    // The gate lets each client pass, and there are two turns at least for each pass.
+    // The gate lets each client pass, and there are at least two turns for each pass.
     ensures let_pass { OnOk result (LetsAll (G.lets gate.now) command.now) }
     ensures in_turns { OnOk result (HasTurns command.now) }
 
-    // A refusal comes only of an input that the command refuses so, or of a device or memory.
+    // A fault comes only for an input with this fault, or from a device or memory.
     ensures refused { IfErr result (λ fault. IfSome (R.remaining reader.old.inner) (λ input. ComesOf command.now input fault)) }
 
-    // A refusal other than a write fault writes nothing; after a write fault a beginning of the answer was written.
+    // A fault other than a failed write writes nothing. After a failed write a beginning of the
+    // output was written.
     ensures left { IfErr result (λ fault.
         LeavesWritten command.now (R.remaining reader.old.inner) fault (W.contents writer.old.inner) (W.contents writer.new.inner)) }
 
-    // A read fault or write fault is answered exactly where that device failed.
+    // A read fault or a write fault is returned if and only if that device failed.
     ensures devices { FailsAs reader.new.failed writer.new.failed result }
 {
     let input = match input_for(alloc, command, reader) {

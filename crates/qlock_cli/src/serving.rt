@@ -1,4 +1,4 @@
-//! Serving a command: the whole input is read, the whole answer is made, and then it is written.
+//! Serving a command: reads the whole input, makes the whole output, and then writes it.
 ghost use Rattle.std.specs.Prelude.{◌≡◌, true, false, IfErr, IfOk, IfSome, OnErr, OnOk};
 ghost use Rattle.std.specs.Io.KnownBytes.{Appends};
 ghost use Rattle.whole_io.specs.Devices.{AppendsBeginning};
@@ -14,7 +14,7 @@ use std::alloc::Global;
 use std::io::{Read, Write};
 use whole_io::{Watched, read_input, write_output};
 
-/// The input of a command: all of it, or nothing where the command doesn't read it.
+/// Returns the input of a command: all of it, or nothing if the command doesn't read it.
 pub fn input_for<R: Read>(
     alloc: Global,
     command: &Command,
@@ -42,7 +42,7 @@ pub fn input_for<R: Read>(
     }
 }
 
-/// Writes all of an answer.
+/// Writes a whole output.
 pub fn write_answer<W: Write>(writer: &mut Watched<W>, answer: &[u8]) -> Result<(), Fault>
     requires { writer.old.failed ≡ false }
     ensures ok { OnOk result (Appends (W.contents writer.old.inner) (W.contents writer.new.inner) answer.now) }
@@ -56,11 +56,18 @@ pub fn write_answer<W: Write>(writer: &mut Watched<W>, answer: &[u8]) -> Result<
     }
 }
 
-/// Serves a command but `run`: reads the input to its end, and writes the answer to it and nothing else.
+/// Serves a command other than `run`: reads the input to its end, and writes the command's output
+/// for it and nothing else.
 ///
-/// Refusals come in this order: a read fault or an input of more than 16,777,216 bytes, whichever the reading meets
-/// first; a missing part; the parts from first to last; a write fault. `OutOfMemory` may come at any point before the
-/// first write. A refusal other than a write fault writes nothing; after a write fault a beginning of the answer was written.
+/// Fails with the first of these faults:
+///
+/// - a failed read, or an input of more than 16,777,216 bytes, whichever comes first;
+/// - a missing part;
+/// - the faults of the parts, from the first part to the last;
+/// - a failed write.
+///
+/// It may run out of memory at any point before the first write. A fault other than a failed write
+/// writes nothing. After a failed write a beginning of the output was written.
 pub fn execute<R: Read, W: Write>(
     alloc: Global,
     command: &Command,
@@ -71,24 +78,26 @@ pub fn execute<R: Read, W: Write>(
     requires unread { reader.old.failed ≡ false }
     requires unwritten { writer.old.failed ≡ false }
 
-    // What is written is an answer of the command to what is read: for all but `plan` there is one.
+    // What is written is an output of the command for what is read. Each command except `plan` has
+    // only one.
     ensures written { OnOk result (IfSome (R.remaining reader.old.inner) (λ input.
         Answers command.now input (W.contents writer.old.inner) (W.contents writer.new.inner))) }
 
     // A command that reads its input reads all of it.
     ensures end { OnOk result (EndsAfter command.now (R.remaining reader.new.inner)) }
 
-    // A refusal comes only of an input that the command refuses so, or of a device or memory.
+    // A fault comes only for an input with this fault, or from a device or memory.
     ensures refused { IfErr result (λ fault. IfSome (R.remaining reader.old.inner) (λ input. ComesOf command.now input fault)) }
 
-    // A refusal other than a write fault writes nothing; after a write fault a beginning of the answer was written.
+    // A fault other than a failed write writes nothing. After a failed write a beginning of the
+    // output was written.
     ensures left { IfErr result (λ fault.
         LeavesWritten command.now (R.remaining reader.old.inner) fault (W.contents writer.old.inner) (W.contents writer.new.inner)) }
 
     // What a command does not read is left in the reader.
     ensures unread { reads_input command.now ≡ false → reader.new ≡ reader.old }
 
-    // A read fault or write fault is answered exactly where that device failed.
+    // A read fault or a write fault is returned if and only if that device failed.
     ensures devices { FailsAs reader.new.failed writer.new.failed result }
 {
     let input = match input_for(alloc, command, reader) {

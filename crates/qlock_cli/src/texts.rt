@@ -10,7 +10,7 @@ use coterie_file::Named;
 use dealer::{Account, Receipt};
 use std::alloc::{AllocError, Global};
 
-/// `TICKET QUORUM`
+/// Returns the line `TICKET QUORUM`.
 fn receipt_line_of(alloc: Global, receipt: &Receipt) -> Result<String, AllocError>
     ensures { IfOk result (λ line. string_bytes line ≡ receipt_line receipt.now) }
 {
@@ -19,35 +19,35 @@ fn receipt_line_of(alloc: Global, receipt: &Receipt) -> Result<String, AllocErro
     format!(in alloc; "{ticket} {quorum}\n")
 }
 
-/// `voter NAME COUNT`
+/// Returns the line `voter NAME COUNT`.
 fn voter_line_of(alloc: Global, name: &str, count: u64) -> Result<String, AllocError>
     ensures { IfOk result (λ line. string_bytes line ≡ voter_line name.now count) }
 {
     format!(in alloc; "voter {name} {count}\n")
 }
 
-/// `busiest COUNT`
+/// Returns the line `busiest COUNT`.
 fn busiest_line_of(alloc: Global, count: u64) -> Result<String, AllocError>
     ensures { IfOk result (λ line. string_bytes line ≡ busiest_line count) }
 {
     format!(in alloc; "busiest {count}\n")
 }
 
-/// `drawn COUNT`
+/// Returns the line `drawn COUNT`.
 fn drawn_line_of(alloc: Global, count: u64) -> Result<String, AllocError>
     ensures { IfOk result (λ line. string_bytes line ≡ drawn_line count) }
 {
     format!(in alloc; "drawn {count}\n")
 }
 
-/// `register NUMBER`
+/// Returns the line `register NUMBER`.
 fn register_line_of(alloc: Global, number: u64) -> Result<String, AllocError>
     ensures { IfOk result (λ line. string_bytes line ≡ register_line number) }
 {
     format!(in alloc; "register {number}\n")
 }
 
-/// `load P/Q cycle D`
+/// Returns the line `load P/Q cycle D`.
 pub fn load_line_of(alloc: Global, load: (u64, u64), cycle_len: u64) -> Result<String, AllocError>
     ensures { IfOk result (λ line. string_bytes line ≡ load_line load cycle_len) }
 {
@@ -55,7 +55,7 @@ pub fn load_line_of(alloc: Global, load: (u64, u64), cycle_len: u64) -> Result<S
     format!(in alloc; "load {busiest}/{cycle} cycle {cycle_len}\n")
 }
 
-/// Writes a line for each receipt.
+/// Adds a line for each receipt to the text.
 pub fn push_receipts(
     alloc: Global,
     text: &mut String,
@@ -71,7 +71,7 @@ pub fn push_receipts(
     Ok(())
 }
 
-/// Writes a line for each voter, with how often it was named.
+/// Adds a line for each voter to the text, with how often it was used.
 fn push_voters(
     alloc: Global,
     text: &mut String,
@@ -89,7 +89,7 @@ fn push_voters(
     Ok(())
 }
 
-/// Writes the lines of an account.
+/// Adds the lines of an account to the text.
 pub fn push_account(
     alloc: Global,
     text: &mut String,
@@ -106,7 +106,7 @@ pub fn push_account(
     Ok(())
 }
 
-/// The lines of a record: how many tickets were drawn, their account, and the register.
+/// Returns the lines of a record: how many tickets were drawn, their account, and the register.
 pub fn record_lines_of(
     alloc: Global,
     named: &Named,

@@ -1,4 +1,4 @@
-//! Serving a command line over a text.
+//! Runs command lines on a text as input.
 ghost use Rattle.std.specs.Prelude.{◌≡◌, false, IfOk, IfSome};
 ghost use Rattle.qlock_cli.specs.Commands.{IsInRange};
 
@@ -8,7 +8,7 @@ use std::io::{Read, Write};
 use std::sync::Wait;
 use std::thread::Threads;
 
-/// The words of a command line, the program's name before them.
+/// Returns the words of a command line, with the program's name in front.
 fn words_of(alloc: Global, line: &str) -> Result<Vec<String>, AllocError> {
     let mut words = Vec::new(alloc);
     words.push(String::from_str(alloc, "qlock")?)?;
@@ -18,7 +18,7 @@ fn words_of(alloc: Global, line: &str) -> Result<Vec<String>, AllocError> {
     Ok(words)
 }
 
-/// The command that the words name. None where they name none.
+/// Returns the command that the words name, or `None` if they name none.
 fn named(alloc: Global, words: &[String]) -> Option<Command>
     ensures { IfSome result IsInRange }
 {
@@ -28,7 +28,7 @@ fn named(alloc: Global, words: &[String]) -> Option<Command>
     }
 }
 
-/// The command that a command line names. None where it names none.
+/// Returns the command that a command line names, or `None` if it names none.
 pub fn command_of(alloc: Global, line: &str) -> Result<Option<Command>, AllocError>
     ensures { IfOk result (λ command. IfSome command IsInRange) }
 {
@@ -36,7 +36,7 @@ pub fn command_of(alloc: Global, line: &str) -> Result<Option<Command>, AllocErr
     Ok(named(alloc, words.as_slice()))
 }
 
-/// Serves a command, whichever it is.
+/// Runs a command.
 pub fn serve<T: Threads + Wait + Sync, R: Read, W: Write, G: Gate>(
     rt: &T,
     alloc: Global,
@@ -55,7 +55,8 @@ pub fn serve<T: Threads + Wait + Sync, R: Read, W: Write, G: Gate>(
     }
 }
 
-/// What the command line writes for an input of bytes, or the text of its fault. The gate holds the clients of a run up.
+/// Returns what the command line writes for an input of bytes, or the text of its fault. The gate
+/// holds up the clients of a run.
 pub fn answer_at<T: Threads + Wait + Sync, G: Gate>(
     rt: &T,
     alloc: Global,
@@ -78,7 +79,7 @@ pub fn answer_at<T: Threads + Wait + Sync, G: Gate>(
     }
 }
 
-/// The same without a gate.
+/// Does the same without a gate.
 pub fn answer<T: Threads + Wait + Sync>(
     rt: &T,
     alloc: Global,
@@ -88,7 +89,7 @@ pub fn answer<T: Threads + Wait + Sync>(
     answer_at(rt, alloc, line, input, &NoGate)
 }
 
-/// What the command line writes for an input of two parts, or the text of its fault.
+/// Returns what the command line writes for an input of two parts, or the text of its fault.
 pub fn answer_planned<T: Threads + Wait + Sync>(
     rt: &T,
     alloc: Global,
@@ -100,7 +101,7 @@ pub fn answer_planned<T: Threads + Wait + Sync>(
     answer(rt, alloc, line, input.as_bytes())
 }
 
-/// The same for an input of three parts.
+/// Does the same for an input of three parts.
 pub fn answer_staged<T: Threads + Wait + Sync>(
     rt: &T,
     alloc: Global,
@@ -113,7 +114,8 @@ pub fn answer_staged<T: Threads + Wait + Sync>(
     answer(rt, alloc, line, input.as_bytes())
 }
 
-/// The text of a plan from what its lines say, with `;` between: the load, the cycle, the quorums' weights and the voters'.
+/// Returns the text of a plan. `lines` has what its lines say, separated by `;`: the load, the
+/// cycle, the quorums' weights and the voters' weights.
 pub fn plan_of(alloc: Global, lines: &str) -> Result<String, AllocError> {
     let mut plan = String::from_str(alloc, "quorum-plan 1\n")?;
     let words = ["load", "cycle", "quorum", "voter"];
@@ -123,7 +125,7 @@ pub fn plan_of(alloc: Global, lines: &str) -> Result<String, AllocError> {
     Ok(plan)
 }
 
-/// A coterie's text from its voters, a letter each, and its quorums, a word each.
+/// Returns the text of a coterie. Each voter is a letter, and each quorum a word of letters.
 pub fn coterie_of_letters(
     alloc: Global,
     voters: &str,
@@ -141,7 +143,7 @@ pub fn coterie_of_letters(
     Ok(text)
 }
 
-/// Writes each letter in quotation marks, with a comma behind it.
+/// Writes each letter in quotation marks, with a comma after it.
 fn push_letters(text: &mut String, letters: &str) -> Result<(), AllocError> {
     for letter in letters.chars() {
         text.push('"')?;

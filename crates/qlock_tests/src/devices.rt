@@ -17,10 +17,11 @@ use std::thread::Threads;
 /// More reads or writes than any of these commands makes.
 const MANY: usize = 100_000;
 
-/// How often a run is tried again whose clients spend their turns.
+/// How often a run is tried again if its clients spend their turns.
 const TRIES: usize = 100;
 
-/// How a device moves bytes: at most so many at a time, and so often before it fails.
+/// How a device moves bytes: how many at a time at most, and how many calls it serves before it
+/// fails.
 #[derive(Clone, Copy, Debug)]
 struct Device {
     piece: usize,
@@ -34,7 +35,7 @@ enum Side {
     Writing,
 }
 
-/// Gives the bytes of an input.
+/// A reader of the bytes of an input.
 #[derive(Drop)]
 struct Source<'a> {
     bytes: &'a [u8],
@@ -52,7 +53,7 @@ impl<'a> Read for Source<'a> {
     }
 }
 
-/// Takes the bytes of an output.
+/// A writer that keeps the bytes of an output.
 #[derive(Drop)]
 struct Sink {
     bytes: Vec<u8>,
@@ -75,7 +76,7 @@ impl Write for Sink {
     }
 }
 
-/// What came of a command: its fault, what was written, and which devices failed.
+/// The result of a command: its fault, what was written, and which devices failed.
 #[derive(Drop)]
 struct Outcome {
     fault: Option<Fault>,
@@ -84,7 +85,8 @@ struct Outcome {
     write_failed: bool,
 }
 
-/// Whether a run ended since a client had no turn left. The clients of a busy machine may wait long for one another.
+/// Returns whether a run ended because a client had no turn left. On a busy machine the clients may
+/// wait long for one another.
 fn spent_its_turns(outcome: &Outcome) -> bool {
     matches!(
         outcome.fault,
@@ -92,7 +94,7 @@ fn spent_its_turns(outcome: &Outcome) -> bool {
     )
 }
 
-/// Serves a command once over devices.
+/// Runs a command once over devices.
 fn served<T: Threads + Wait + Sync>(
     rt: &T,
     alloc: Global,
@@ -122,7 +124,7 @@ fn served<T: Threads + Wait + Sync>(
     }
 }
 
-/// Serves a command, and again where the clients of a run had too few turns.
+/// Runs a command, and again if the clients of a run had too few turns.
 fn outcome_of<T: Threads + Wait + Sync>(
     rt: &T,
     alloc: Global,
@@ -142,19 +144,20 @@ fn outcome_of<T: Threads + Wait + Sync>(
     served(rt, alloc, command, input, reads, writes)
 }
 
-/// What a command writes: always this, or the record of a run with so many passes.
+/// What a command has to write: this text, or the record of a run with this number of passes.
 #[derive(Clone, Copy, Debug)]
 enum Wanted<'a> {
     Text(&'a str),
     Record(usize),
 }
 
-/// Whether the bytes are a beginning of the other bytes.
+/// Returns whether the bytes are a beginning of the other bytes.
 fn begins(written: &[u8], all: &[u8]) -> bool {
     all.starts_with(written)
 }
 
-/// Whether a line has a place in the record of a run with so many passes: the header, a draw and a pass for each, the register.
+/// Returns whether a line has its place in the record of a run with this number of passes: the
+/// header, a draw and a pass for each, the register.
 fn is_in_record(place: usize, line: &str, passes: usize) -> bool {
     let word = match place {
         0 => "quorum-record 1",
@@ -165,7 +168,7 @@ fn is_in_record(place: usize, line: &str, passes: usize) -> bool {
     begins(line.as_bytes(), word.as_bytes()) || line.starts_with(word)
 }
 
-/// Whether the bytes are a beginning of what is wanted.
+/// Returns whether the bytes are a beginning of what is wanted.
 fn begins_wanted(written: &[u8], wanted: Wanted) -> bool {
     match wanted {
         Wanted::Text(text) => begins(written, text.as_bytes()),
@@ -179,7 +182,7 @@ fn begins_wanted(written: &[u8], wanted: Wanted) -> bool {
     }
 }
 
-/// Whether the bytes are all of what is wanted. A record ends with its register.
+/// Returns whether the bytes are all of what is wanted. A record ends with its register.
 fn is_wanted(written: &[u8], wanted: Wanted) -> bool {
     match wanted {
         Wanted::Text(text) => written == text.as_bytes(),
@@ -190,13 +193,13 @@ fn is_wanted(written: &[u8], wanted: Wanted) -> bool {
     }
 }
 
-/// Whether a command without a fault left its devices sound and wrote what is wanted.
+/// Returns whether a command had no fault and no failed device, and wrote what is wanted.
 fn is_done(outcome: &Outcome, wanted: Wanted) -> bool {
     !outcome.read_failed && !outcome.write_failed && is_wanted(&outcome.written, wanted)
 }
 
-/// Whether a command ended as it has to where this device failed: after a read nothing is written, and after a write a
-/// beginning, of so many bytes.
+/// Returns whether a command ended as it has to when this device failed. After a failed read
+/// nothing is written. After a failed write, the first `moved` bytes are written.
 fn has_failed(outcome: &Outcome, side: Side, moved: usize, wanted: Wanted) -> bool {
     match side {
         Side::Reading => {
@@ -215,8 +218,8 @@ fn has_failed(outcome: &Outcome, side: Side, moved: usize, wanted: Wanted) -> bo
     }
 }
 
-/// Has each call of a device fail in turn, until a command meets none that fails. Returns how many failed; none if an answer
-/// was not as it has to be.
+/// Has each call of a device fail in turn, until a run of the command meets no call that fails.
+/// Returns how many failed, or `None` if one of the results was wrong.
 fn calls_that_fail<T: Threads + Wait + Sync>(
     rt: &T,
     alloc: Global,
@@ -249,7 +252,7 @@ fn calls_that_fail<T: Threads + Wait + Sync>(
     None
 }
 
-/// How many calls it takes to move so many bytes, each at most a piece.
+/// Returns how many calls move this number of bytes, each at most a piece.
 fn calls_for(bytes: usize, piece: usize) -> usize {
     match piece {
         0 => 0,
@@ -257,8 +260,8 @@ fn calls_for(bytes: usize, piece: usize) -> usize {
     }
 }
 
-/// Whether a command comes to what is wanted over devices that move pieces of this size, whichever call fails. A command that
-/// reads its input reads once more, at its end.
+/// Returns whether a command has the right result over devices that move pieces of this size,
+/// whichever call fails. A command that reads its input reads once more, at its end.
 fn holds_out_by<T: Threads + Wait + Sync>(
     rt: &T,
     alloc: Global,
@@ -282,7 +285,8 @@ fn holds_out_by<T: Threads + Wait + Sync>(
     reads == Some(all_read) && all_written
 }
 
-/// Whether a command line holds out over devices of single bytes, and over those of larger pieces.
+/// Returns whether a command line has the right result over devices that move single bytes, and
+/// over those that move larger pieces.
 fn holds_out<T: Threads + Wait + Sync>(
     rt: &T,
     alloc: Global,

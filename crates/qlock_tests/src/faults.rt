@@ -1,4 +1,5 @@
-//! The line of every fault, in a table for each kind. `docs/check.sh` compares them with those in `docs/formats.md`.
+//! The line of every fault, in a table for each kind. `docs/check.sh` compares the lines with those
+//! in `docs/formats.md`.
 ghost use Rattle.std.specs.Prelude.{◌≡◌};
 ghost use Rattle.members.specs.Clusters.{ClusterState};
 
@@ -25,7 +26,7 @@ use std::test::Fail;
 use voter::VoterFault;
 use world::WorldFault;
 
-/// Whether each fault has the line beside it.
+/// Returns whether each fault has the line next to it.
 fn have_lines<F: Display>(alloc: Global, table: &[(F, &str)]) -> Result<bool, AllocError> {
     for (fault, line) in table {
         if fault.to_string(alloc)?.as_str() != *line {
@@ -234,7 +235,7 @@ fn faults_of_the_program(rt: HostRuntime) -> Result<(), Fail> {
     Ok(())
 }
 
-/// The fault of a cluster that is closed without its only member.
+/// Returns the fault of a cluster that is closed without its only member.
 fn closed_alone<N: ClusterName>(alloc: Global, blank: Blank) -> Result<String, AllocError>
     requires { blank ≡ N.cluster }
 {

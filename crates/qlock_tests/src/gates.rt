@@ -1,4 +1,4 @@
-//! Gates that hold the clients of a run up.
+//! Gates that hold up the clients of a run.
 use crate::commands::answer_at;
 use crate::texts::{MAJORITY, MAJORITY_PLAN};
 use qlock_cli::Gate;
@@ -6,7 +6,7 @@ use std::sync::atomic::{AtomicBool, AtomicU64, Ordering};
 use std::test::Fail;
 use std::thread;
 
-/// How often each of two clients came to a place of the gate.
+/// How often a gate was called at one place for each of two clients.
 #[derive(Drop)]
 struct Visits {
     first: AtomicU64,
@@ -21,7 +21,7 @@ impl Visits {
         }
     }
 
-    /// Counts a visit, and returns how many there were before.
+    /// Counts a call, and returns how many there were before.
     fn count(&self, client: u8) -> u64 {
         match client {
             0 => self.first.fetch_add(1, Ordering::SeqCst),
@@ -29,7 +29,7 @@ impl Visits {
         }
     }
 
-    /// How often each client came.
+    /// Returns how often the gate was called for each client.
     fn of_each(&self) -> (u64, u64) {
         (
             self.first.load(Ordering::SeqCst),
@@ -38,7 +38,8 @@ impl Visits {
     }
 }
 
-/// Keeps client 0 inside until client 1, which came meanwhile, has asked. Counts the calls of each client.
+/// A gate that keeps client 0 inside until client 1, which came meanwhile, has asked. It counts the
+/// calls of each client.
 #[derive(Drop)]
 struct Meeting {
     inside: AtomicBool,
@@ -63,7 +64,7 @@ impl Meeting {
         }
     }
 
-    /// Waits until a call was made. The meeting is late if it never is.
+    /// Waits until a call was made. If it never is, the meeting is late.
     fn wait_for(&self, call: &AtomicBool) {
         for _ in 0..1_000_000_000u64 {
             if call.load(Ordering::SeqCst) {
@@ -120,7 +121,7 @@ fn two_clients_run_at_once(rt: HostRuntime) -> Result<(), Fail> {
     Ok(())
 }
 
-/// Lets a client pass each second time that it asks.
+/// A gate that lets a client pass every second time that it asks.
 #[derive(Drop)]
 struct Alternating {
     before: Visits,

@@ -1,10 +1,13 @@
-//! Tests of the whole program, over a reader and a writer: nothing here but tests.
+//! Tests of the whole program, over a reader and a writer. This crate has nothing but tests.
 //!
-//! `texts` has the coteries, plans, scripts and records that they share, `commands` serves a command line. Then there is a
-//! module for each command: `coteries` and `plans`, `dealing`, `worlds`, `records` and `running`; `gates` holds clients up.
-//! `prefixes` cuts texts short, `devices` has each read and each write fail, and `faults` has the line of every fault.
+//! - `texts` has coteries, plans, scripts and records that the tests share, and `commands` runs a
+//!   command line.
+//! - Each command has a module: `coteries` and `plans`, `dealing`, `worlds`, `records` and
+//!   `running`.
+//! - `gates` holds up clients, and `prefixes` cuts texts short.
+//! - `devices` has each read and each write fail, and `faults` has the line of every fault.
 //!
-//! This crate depends on `qlock_cli`, and on every crate with a fault of its own.
+//! Depends on `qlock_cli`, and on every crate that has faults.
 #![tactic(auto)]
 
 #[cfg(test)]

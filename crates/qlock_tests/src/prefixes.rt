@@ -1,5 +1,6 @@
-//! Texts that are cut short, and texts and numbers that are too long. That no prefix of a record is one, and what more than 64
-//! voters and 4096 quorums come to, is tested where these are read.
+//! Texts that are cut short, and texts and numbers that are too long. Two things are tested in the
+//! crates that read them: that no prefix of a record is a record, and what happens with more than
+//! 64 voters or 4096 quorums.
 use crate::commands::{answer, answer_planned};
 use crate::texts::{MAJORITY, MAJORITY_PLAN, ONE, WHEEL, WHEEL_PLAN};
 use std::test::Fail;
@@ -30,7 +31,7 @@ fn of_a_coterie_s_prefixes_only_the_last_is_one(rt: HostRuntime) -> Result<(), F
     for end in 0..MAJORITY.len() {
         let text = answer(&rt, alloc, "plan", &MAJORITY.as_bytes()[..end])?;
         if text.as_str() == MAJORITY_PLAN {
-            // what lacks only the last newline
+            // only the last newline is missing
             assert_eq!(rt; end.saturating_add(1), MAJORITY.len());
             read = read.saturating_add(1);
         } else {

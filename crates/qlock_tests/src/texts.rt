@@ -17,7 +17,7 @@ pub const WHEEL: &str =
 
 pub const WHEEL_PLAN: &str = "quorum-plan 1\nload 3/5\ncycle 5\nquorum 1 1 1 2\nvoter 2 1 1 1\n";
 
-/// The same load, with a cycle twice as long.
+/// A plan of the wheel with the same load, and a cycle twice as long.
 pub const LONGER_PLAN: &str = "quorum-plan 1\nload 3/5\ncycle 10\nquorum 2 2 2 4\nvoter 2 1 1 1\n";
 
 /// A grid of two rows and two columns.

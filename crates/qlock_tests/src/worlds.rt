@@ -1,4 +1,4 @@
-//! Worlds: scripts with all that they write.
+//! Worlds: scripts, and all that they write.
 use crate::commands::{answer_planned, answer_staged};
 use crate::texts::{MAJORITY, MAJORITY_PLAN, ONE, ONE_PLAN, RACE, RACE_OUTPUT};
 use std::alloc::{AllocError, Global};
@@ -6,14 +6,14 @@ use std::sync::Wait;
 use std::test::Fail;
 use std::thread::Threads;
 
-/// A vote that comes once more, after its client gave it up.
+/// A vote that arrives again, after its client gave it up.
 const LATE_VOTE: &str =
     "world 3 1000\nask 2\nask 1\nask 0\ndeliver 0\ndeliver 4\ndeliver 1\ndeliver 6\ndeliver 8\ndeliver 2\ndeliver 9\ndeliver 10\ndeliver 6\ndeliver 11\ndeliver 3\ndeliver 12\n";
 
 const LATE_VOTE_OUTPUT: &str =
     "m 0 request 2 0 1\nm 1 request 2 1 1\nm 2 request 1 0 1\nm 3 request 1 2 1\nm 4 request 0 1 1\nm 5 request 0 2 1\nm 6 locked 0 2 1 1 1\nm 7 locked 1 0 1 1 1\nm 8 fail 1 2 1 1\nm 9 inquire 0 2 1 1\nm 10 relinquish 2 0 1\nm 11 locked 0 1 1 2 1\nm 12 locked 2 1 1 1 1\nenter 1\n";
 
-/// Releases and requests that come again after the client has left.
+/// Releases and requests that arrive again after the client has left.
 const LATE_RELEASE: &str =
     "world 1 1000\nask 0\ndeliver 0\ndeliver 1\nleave 0\ndeliver 2\nask 0\ndeliver 3\ndeliver 4\ndeliver 2\nleave 0\ndeliver 0\ndeliver 1\ndeliver 9\nleave 0\n";
 
@@ -41,7 +41,7 @@ const REMINDED: &str =
 const REMINDED_OUTPUT: &str =
     "m 0 request 0 0 1\nm 1 request 0 0 1\nm 2 locked 0 0 1 1 1\nm 3 locked 0 0 1 1 1\nm 4 locked 0 0 1 1 1\nenter 0\n! C3 NotAsking\n! C1 Busy\n! U2 NoSuchClient 7\n! U3 NoSuchVoter 3\n";
 
-/// What a script of the majorities writes, or the text of its fault.
+/// Returns what a script of the majorities writes, or the text of its fault.
 fn majority_world<T: Threads + Wait + Sync>(
     rt: &T,
     alloc: Global,

@@ -1,4 +1,5 @@
--- How often a list of quorum numbers names each voter (Naor and Wool, SIAM J. Comput. 27(2), 1998, section 2, for whole numbers).
+-- How often a list of quorum numbers uses each voter (Naor and Wool, SIAM J. Comput. 27(2), 1998,
+-- section 2, for whole numbers).
 use Rattle.std.specs.Prelude.{ℕ, ◌==◌, List, [], max, count_by, slice_index_or, zero, suc}
 use Rattle.quorum_set.specs.Sets.{has}
 use Rattle.quorum_set.specs.Coteries.{QuorumSystem}
@@ -8,7 +9,7 @@ abbrev pub greatest_below : ℕ → (ℕ → ℕ) → ℕ
 greatest_below zero f = 0
 greatest_below (suc n) f = max (greatest_below n f) (f n)
 
--- at how many places of the list stands a quorum with this voter
+-- how many entries of the list are quorums with this voter
 abbrev pub count_of : QuorumSystem → ℕ → List ℕ → ℕ
 count_of s i list = count_by (λ j. has (slice_index_or s.quorums j []) i) list
 
@@ -16,6 +17,6 @@ count_of s i list = count_by (λ j. has (slice_index_or s.quorums j []) i) list
 abbrev pub busiest_of : QuorumSystem → List ℕ → ℕ
 busiest_of s list = greatest_below s.voters (λ i. count_of s i list)
 
--- at how many places of the list stands this quorum
+-- how many entries of the list are this quorum
 abbrev pub times : ℕ → List ℕ → ℕ
 times j list = count_by (λ k. k == j) list

@@ -1,4 +1,4 @@
-//! Coteries, and the checks that a list of sets is one.
+//! Coteries, and the check that a list of sets is a coterie.
 ghost use Rattle.std.specs.Prelude.{◌≡◌, ◌==◌, ◌<◌, ◌+◌, ◌≤◌, length, None, Some, IfOk, IfNone, MatchResult, position, slice_index_or, slice_get, All};
 ghost use Rattle.quorum_set.specs.Sets.{IsSet};
 ghost use Rattle.quorum_set.specs.Coteries.{IsCoterie, first_outside, first_from, first_pair, are_disjoint, is_one_within, first_fault, coterie_of};
@@ -8,9 +8,11 @@ use crate::qset::QSet;
 use std::alloc::{AllocError, Global};
 use std::marker::Model;
 
-/// Voters 0 to n - 1, 1 to 64 of them, and 1 to 4096 quorums over them: non-empty sets of voters of which
-/// any two have a common member and none lies within another. Contracts see a `QuorumSystem`: the number of
-/// voters, and each quorum as the ascending list of its members.
+/// A coterie: 1 to 64 voters, numbered from 0, and 1 to 4096 quorums.
+///
+/// A quorum is a non-empty set of voters. Any two quorums have a common member, and none lies
+/// within another. Contracts see a `QuorumSystem`: the number of voters, and each quorum as the
+/// ascending list of its members.
 #[derive(Drop)]
 pub struct Coterie {
     voters: usize,
@@ -27,14 +29,14 @@ impl Model for Coterie {
     ghost invariant = { λ a. IsCoterie (record { voters = a.voters; quorums = a.quorums.items }) };
 }
 
-/// The first set with no members.
+/// Returns the place of the first set with no members.
 fn first_empty(sets: &[QSet]) -> Option<usize>
     ensures { result ≡ position (λ s. length s == 0) sets.now }
 {
     sets.iter().position(|set| set.len() == 0)
 }
 
-/// The first member that is no voter's number.
+/// Returns the smallest member that is not below n, the number of voters.
 fn first_outsider(n: usize, set: &QSet) -> Option<u8>
     ensures first { result ≡ first_from n set.now }
     ensures set { IsSet set.now }
@@ -48,7 +50,8 @@ fn first_outsider(n: usize, set: &QSet) -> Option<u8>
     None
 }
 
-/// The first set with a member that is no voter's number, and that member.
+/// Returns the place of the first set with a member that is not below n, and its smallest such
+/// member.
 fn first_stray(n: usize, sets: &[QSet]) -> Option<(usize, u8)>
     ensures first { result ≡ first_outside n 0 sets.now }
     ensures sets { IfNone result (All IsSet sets.now) }
@@ -61,14 +64,15 @@ fn first_stray(n: usize, sets: &[QSet]) -> Option<(usize, u8)>
     None
 }
 
-/// The first of the later sets that has no member in common with this one.
+/// Returns the place of the first of the later sets that has no member in common with this one.
 fn first_disjoint_from(set: &QSet, later: &[QSet]) -> Option<usize>
     ensures { result ≡ position (are_disjoint set.now) later.now }
 {
     later.iter().position(|other| !set.meets(other))
 }
 
-/// The first of the later sets of which one is within the other.
+/// Returns the place of the first of the later sets that is within this one or has this one within
+/// it.
 fn first_contained_with(set: &QSet, later: &[QSet]) -> Option<usize>
     ensures { result ≡ position (is_one_within set.now) later.now }
 {
@@ -77,7 +81,7 @@ fn first_contained_with(set: &QSet, later: &[QSet]) -> Option<usize>
         .position(|other| set.within(other) || other.within(set))
 }
 
-/// The first pair without a common member.
+/// Returns the places of the first pair of sets without a common member.
 fn first_disjoint(sets: &[QSet]) -> Option<(usize, usize)>
     ensures { result ≡ first_pair are_disjoint 0 sets.now }
 {
@@ -89,7 +93,7 @@ fn first_disjoint(sets: &[QSet]) -> Option<(usize, usize)>
     None
 }
 
-/// The first pair of which one is within the other.
+/// Returns the places of the first pair of sets with one within the other.
 fn first_contained(sets: &[QSet]) -> Option<(usize, usize)>
     ensures { result ≡ first_pair is_one_within 0 sets.now }
 {
@@ -101,7 +105,7 @@ fn first_contained(sets: &[QSet]) -> Option<(usize, usize)>
     None
 }
 
-/// Whether the sets are a coterie, and else the first fault.
+/// Returns the first fault of the sets, or `None` if they are a coterie.
 fn fault_of(n: usize, sets: &[QSet]) -> Option<CoterieFault>
     ensures first { result ≡ first_fault n sets.now }
     ensures sets { IfNone result (All IsSet sets.now) }
@@ -134,8 +138,8 @@ fn fault_of(n: usize, sets: &[QSet]) -> Option<CoterieFault>
 }
 
 impl Coterie {
-    /// The coterie of n voters and these quorums, or the first fault in the order of `CoterieFault`.
-    /// Takes no memory: the list is kept, or dropped with a refusal.
+    /// Returns the coterie of n voters and these quorums, or their first fault in the order of
+    /// `CoterieFault`. Allocates nothing: a coterie keeps the list, and a fault drops it.
     pub fn of(n: usize, sets: Vec<QSet>) -> Result<Coterie, CoterieFault>
         ensures { result ≡ coterie_of n sets.items }
     {
@@ -148,7 +152,7 @@ impl Coterie {
         }
     }
 
-    /// The number of voters, 1 to 64.
+    /// Returns the number of voters, 1 to 64.
     pub fn voters(&self) -> usize
         ensures value { result ≡ self.now.voters }
         ensures coterie { IsCoterie self.now }
@@ -156,7 +160,7 @@ impl Coterie {
         self.voters
     }
 
-    /// The number of quorums, 1 to 4096.
+    /// Returns the number of quorums, 1 to 4096.
     pub fn count(&self) -> usize
         ensures value { result ≡ length self.now.quorums }
         ensures coterie { IsCoterie self.now }
@@ -164,7 +168,7 @@ impl Coterie {
         self.quorums.len()
     }
 
-    /// The quorum with this number, which has to be below the number of quorums.
+    /// Returns the quorum with this number, which has to be below the number of quorums.
     pub fn quorum(&self, j: usize) -> &QSet
         requires { j < length self.now.quorums }
         ensures value { slice_get self.now.quorums j ≡ Some result.now }
@@ -175,7 +179,7 @@ impl Coterie {
         &self.quorums[j]
     }
 
-    /// An equal coterie, or want of memory.
+    /// Returns an equal coterie, unless it runs out of memory.
     pub fn copy(&self, alloc: Global) -> Result<Coterie, AllocError>
         ensures value { IfOk result (λ c. c ≡ self.now) }
     {

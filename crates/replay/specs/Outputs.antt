@@ -1,4 +1,5 @@
--- What a script's run writes: for each step in order, what it sent and who entered or left, or why it was refused.
+-- The output of a script: for each step in order, what it sent and who entered or left, or why it
+-- was refused.
 use Rattle.std.specs.Prelude.{ℕ, ◌≡◌, ◌+◌, Bool, true, false, List, [], ◌∷◌, ◌++◌, length, drop, codes, Result, Ok, Err}
 use Rattle.std.specs.List.{flat_map}
 use Rattle.std.specs.Fmt.{decimal}
@@ -17,32 +18,32 @@ use Rattle.replay.specs.Scripts.{IsScript, Script, script_text}
 
 -- Lines; 10 is a newline, 32 a space
 
--- a message with its number
+-- the line of a message with this number
 abbrev pub sent_line : ℕ → Message → List ℕ
 sent_line number message = codes "m " ++ (decimal number ++ (32 ∷ (message_line message ++ 10 ∷ [])))
 
--- the messages, numbered from here on
+-- the lines of these messages, numbered from here on
 abbrev pub sent_lines : ℕ → List Message → List ℕ
 sent_lines number [] = []
 sent_lines number (m ∷ ms) = sent_line number m ++ sent_lines (number + 1) ms
 
--- by whether the client entered
+-- the first word of an event's line: whether the client entered or left
 abbrev pub event_word : Bool → List ℕ
 event_word true = codes "enter "
 event_word false = codes "leave "
 
--- a client entered, or left
+-- the line of a client that entered or left
 abbrev pub event_line : Event → List ℕ
 event_line e = event_word e.entered ++ (decimal e.client ++ 10 ∷ [])
 
--- a client's refusal, as a script's output names it
+-- the text of a client's fault
 abbrev pub client_fault_text : ClientFault → List ℕ
 client_fault_text Busy = codes "C1 Busy"
 client_fault_text NotInside = codes "C2 NotInside"
 client_fault_text NotAsking = codes "C3 NotAsking"
 client_fault_text StampsSpent = codes "C4 StampsSpent"
 
--- number, name and argument of a fault
+-- the text of a fault: its code, name and argument
 abbrev pub fault_text : WorldFault → List ℕ
 fault_text (NoSuchMessage number) = codes "U1 NoSuchMessage " ++ decimal number
 fault_text (NoSuchClient client) = codes "U2 NoSuchClient " ++ decimal client
@@ -57,7 +58,8 @@ refusal_of fault = codes "! " ++ (fault ++ 10 ∷ [])
 
 -- Steps
 
--- what a step writes, of a world as it was before: the messages that it sent, and who entered or left
+-- What a step writes, given the world before it: the messages that it sent, and who entered or
+-- left. A refused step writes its fault.
 abbrev pub step_output : WorldState → Result Outcome WorldFault → List ℕ
 step_output w (Ok o) = sent_lines (length w.sent) (drop (length w.sent) o.state.sent) ++ flat_map event_line (drop (length w.visible) o.state.visible)
 step_output w (Err fault) = refusal_of (fault_text fault)
@@ -71,7 +73,7 @@ run_output deal (s ∷ steps) w = step_output w (step deal w s) ++ run_output de
 abbrev pub script_output : Weighted → Script → List ℕ
 script_output plan s = run_output (quorum_by plan) s.steps (start_by plan s.clients s.limit)
 
--- the output is that of the script that the text spells
+-- the output is that of the script whose text this is
 pub record IsOutput (plan : Weighted) (text output : List ℕ) : Type 0 where
   pub script : Script
   pub is_script : IsScript script

@@ -5,8 +5,8 @@
 --     pass CLIENT NUMBER               and then any number of passes
 --     register NUMBER
 --
--- CLIENT is at most 63, QUORUM at most 4095, and the others are below 2^64. A number is decimal, without a leading zero.
--- One space stands between two words.
+-- CLIENT is at most 63, QUORUM at most 4095, and the others are below 2^64. A number is decimal,
+-- without a leading zero. One space is between two words.
 use Rattle.std.specs.Prelude.{ℕ, ◌≡◌, ◌≢◌, ◌<◌, ◌≤◌, ◌+◌, ◌^◌, ◌⊎◌, List, [], ◌∷◌, ◌++◌, length, map, codes}
 use Rattle.std.specs.List.{AllByRecursion}
 use Rattle.certificate.specs.PlanTexts.{text_of_lines}
@@ -18,7 +18,7 @@ use Rattle.replay.specs.declared.fault.ReplayFault.TheVariants.{BadLine, OutOfMe
 use Rattle.members.specs.Records.{Draw, Pass}
 use Rattle.replay.specs.Records.{Entries}
 
--- Spelling
+-- The text
 
 -- the first line
 abbrev pub title_line : List ℕ
@@ -60,15 +60,15 @@ HasRegisterLine n = n < 2 ^ 64
 abbrev pub draws_text : List Draw → List ℕ
 draws_text draws = text_of_lines (map draw_line draws)
 
--- the lines of passes, in order
+-- the lines of these passes, each with a newline at its end
 abbrev pub passes_text : List Pass → List ℕ
 passes_text passes = text_of_lines (map pass_line passes)
 
--- the last line
+-- the last line, with its newline
 abbrev pub register_text : ℕ → List ℕ
 register_text n = register_line n ++ 10 ∷ []
 
--- what stands behind the first line
+-- what follows the first line
 abbrev pub body_text : Entries → List ℕ
 body_text e = draws_text e.draws ++ (passes_text e.passes ++ register_text e.register)
 
@@ -112,13 +112,13 @@ pub record IsLineOf (l : RecordLine) (word numbers : List ℕ) : Type 0 where
   pub word_is : word ≡ line_word l
   pub numbers_are : numbers ≡ line_numbers l
 
--- whether the line may stand behind these passes: no draw stands behind a pass
+-- the line may follow these passes: no draw follows a pass
 abbrev pub MayFollow : List Pass → RecordLine → Type 0
 MayFollow [] line = Unit {0}
 MayFollow (p ∷ passes) (kinds.Draw client ticket quorum) = ⊥
 MayFollow (p ∷ passes) line = Unit {0}
 
--- behind these draws and passes stands a line that is missing, is spelled otherwise, or is out of place
+-- the line after these draws and passes is missing, malformed or out of place
 pub record StopsBehind (body : List ℕ) (draws : List Draw) (passes : List Pass) : Type 0 where
   pub draws_have_lines : AllByRecursion HasDrawLine draws
   pub passes_have_lines : AllByRecursion HasPassLine passes
@@ -126,32 +126,32 @@ pub record StopsBehind (body : List ℕ) (draws : List Draw) (passes : List Pass
   pub body_is : body ≡ draws_text draws ++ (passes_text passes ++ rest)
   pub bad : (line : RecordLine) (more : List ℕ) → HasLine line → MayFollow passes line → rest ≢ record_line line ++ 10 ∷ more
 
--- the text goes on behind the register's line
+-- the text goes on after the register's line
 pub record GoesOnBehind (body : List ℕ) (e : Entries) : Type 0 where
   pub has_text : HasText e
   pub rest : List ℕ
   pub some : rest ≢ []
   pub body_is : body ≡ body_text e ++ rest
 
--- the bad line of what stands behind the first line, where its own first line has number 2
+-- the number of the bad line in what follows the first line; the first line of `body` has number 2
 abbrev pub IsBadBody : List ℕ → ℕ → Type 0
 IsBadBody body line =
     ((draws : List Draw) × (passes : List Pass) × StopsBehind body draws passes × (line ≡ length draws + length passes + 2))
     ⊎ ((e : Entries) × GoesOnBehind body e × (line ≡ length e.draws + length e.passes + 3))
 
--- the first bad line of a text, by its number from 1
+-- the number, from 1, of the first bad line of a text
 abbrev pub IsFirstBad : List ℕ → ℕ → Type 0
 IsFirstBad text line =
     ((line ≡ 1) × ((body : List ℕ) → text ≢ title_line ++ 10 ∷ body))
     ⊎ ((body : List ℕ) × (text ≡ title_line ++ 10 ∷ body) × IsBadBody body line)
 
--- the fault is the text's first bad line, or want of memory
+-- the fault is the text's first bad line, or memory ran out
 abbrev pub IsBadRecord : List ℕ → ReplayFault → Type 0
 IsBadRecord text (BadLine line) = IsFirstBad text line
 IsBadRecord text OutOfMemory = Unit {0}
 IsBadRecord text fault = ⊥
 
--- the same of what stands behind the first line
+-- the same for what follows the first line
 abbrev pub IsBadRest : List ℕ → ReplayFault → Type 0
 IsBadRest body (BadLine line) = IsBadBody body line
 IsBadRest body OutOfMemory = Unit {0}
@@ -159,16 +159,17 @@ IsBadRest body fault = ⊥
 
 -- Facts of the parts of a text
 
--- the text begins with no line of these
+-- the text begins with no line of this kind
 abbrev pub BeginsWithNone : {X : Type 0} → (X → Type 0) → (X → List ℕ) → List ℕ → Type 0
 BeginsWithNone {X} HasRight line text = (x : X) (more : List ℕ) → HasRight x → text ≢ line x ++ 10 ∷ more
 
--- the text begins with this line
+-- the text begins with the line of x, and goes on with `rest`
 pub record IsNext {X : Type 0} (HasLine : X → Type 0) (line : X → List ℕ) (text : List ℕ) (x : X) (rest : List ℕ) : Type 0 where
   pub has_line : HasLine x
   pub text_is : text ≡ line x ++ 10 ∷ rest
 
--- the text begins with these lines, and then with no other of them
+-- the text begins with the lines of xs, and goes on with `rest`, which begins with no line of this
+-- kind
 pub record AreFirst {X : Type 0} (HasLine : X → Type 0) (line : X → List ℕ) (text : List ℕ) (xs : List X) (rest : List ℕ) : Type 0 where
   pub have_lines : AllByRecursion HasLine xs
   pub text_is : text ≡ text_of_lines (map line xs) ++ rest

@@ -1,6 +1,7 @@
--- Records of a run: who drew which ticket and was told which quorum, who passed by which number, and what the register was
--- at the end. A record is sound where its tickets and its numbers are those that a counter hands out from 0, and each
--- ticket names the quorum at its place of the plan's cycle.
+-- Records of a run: who drew which ticket and received which quorum, who passed by which number,
+-- and what the register was at the end. A record is sound if its tickets and its numbers are those
+-- that a counter hands out from 0. Each ticket also has to name the quorum at its place of the
+-- plan's cycle.
 use Rattle.std.specs.Prelude.{ℕ, ◌≡◌, ◌≢◌, ◌<◌, ◌≤◌, List, length, map}
 use Rattle.std.specs.List.{All, Contains}
 use Rattle.quorum_set.specs.Counts.{times}
@@ -13,7 +14,7 @@ use Rattle.replay.specs.declared.check.Gap.TheVariants.{Twice, Missing}
 use Rattle.replay.specs.declared.fault.ReplayFault.{ReplayFault}
 use Rattle.replay.specs.declared.fault.ReplayFault.TheVariants.{TicketTwice, TicketMissing, WrongQuorum, PassTwice, PassMissing, WrongRegister, BadLine, OutOfMemory}
 
--- what a record says of a run; how many messages were lost is not judged
+-- what a record says of a run, except how many messages were lost
 pub record Entries : Type 0 where
   pub draws : List Draw
   pub passes : List Pass
@@ -33,7 +34,7 @@ numbers_of passes = map (λ p. p.1) passes
 
 -- Sound records
 
--- the numbers below how many they are, each once, in any order
+-- n numbers are 0 to n - 1, each once, in any order
 abbrev pub EachOnce : List ℕ → Type 0
 EachOnce ns = (n : ℕ) → n < length ns → times n ns ≡ 1
 
@@ -41,7 +42,10 @@ EachOnce ns = (n : ℕ) → n < length ns → times n ns ≡ 1
 abbrev pub IsRight : Weighted → Draw → Type 0
 IsRight w d = d.2 ≡ quorum_of_ticket w d.1
 
--- The tickets are 0, 1, 2 and so on, each drawn once, and each names its quorum by the cycle; the pass numbers are 0, 1, 2 and so on, each once; the register is how many they are
+-- A sound record:
+-- - The tickets are 0, 1, 2 and so on, each drawn once, and each names its quorum by the cycle.
+-- - The pass numbers are 0, 1, 2 and so on, each once.
+-- - The register is the number of passes.
 pub record IsSoundRecord (w : Weighted) (e : Entries) : Type 0 where
   pub tickets : EachOnce (tickets_of e.draws)
   pub quorums : All (IsRight w) e.draws
@@ -50,11 +54,11 @@ pub record IsSoundRecord (w : Weighted) (e : Entries) : Type 0 where
 
 -- The first fault
 
--- the number stands there more than once
+-- the number occurs more than once
 abbrev pub IsTwice : List ℕ → ℕ → Type 0
 IsTwice ns n = 2 ≤ times n ns
 
--- the number is below how many there are, and stands nowhere
+-- the number is below how many there are, and does not occur
 abbrev pub IsMissing : List ℕ → ℕ → Type 0
 IsMissing ns n = (n < length ns) × (times n ns ≡ 0)
 
@@ -62,15 +66,15 @@ IsMissing ns n = (n < length ns) × (times n ns ≡ 0)
 abbrev pub IsWrong : Weighted → List Draw → ℕ → Type 0
 IsWrong w draws ticket = (d : Draw) × Contains draws d × (d.1 ≡ ticket) × ¬ (IsRight w d)
 
--- the least number of which P holds
+-- n is the smallest number for which P holds
 abbrev pub IsLeast : (ℕ → Type 0) → ℕ → Type 0
 IsLeast P n = P n × ((m : ℕ) → P m → n ≤ m)
 
--- no number stands there twice
+-- no number occurs more than once
 abbrev pub NoneTwice : List ℕ → Type 0
 NoneTwice ns = (n : ℕ) → ¬ (IsTwice ns n)
 
--- the least number that stands twice, or else the least that is missing
+-- the smallest number that occurs more than once, or if there is none, the smallest that is missing
 abbrev pub IsFirstGap : List ℕ → Gap → Type 0
 IsFirstGap ns (Twice n) = IsLeast (IsTwice ns) n
 IsFirstGap ns (Missing n) = NoneTwice ns × IsLeast (IsMissing ns) n
@@ -79,8 +83,8 @@ IsFirstGap ns (Missing n) = NoneTwice ns × IsLeast (IsMissing ns) n
 abbrev pub AreSoundDraws : Weighted → List Draw → Type 0
 AreSoundDraws w draws = EachOnce (tickets_of draws) × All (IsRight w) draws
 
--- The first fault of a record: each fault is looked for in the whole record before the next one, and the least number is
--- named. Want of memory says nothing of the record.
+-- The first fault of a record. Each fault is looked for in the whole record before the next one,
+-- and the smallest number is named. `OutOfMemory` says nothing about the record.
 abbrev pub IsFirstFault : Weighted → Entries → ReplayFault → Type 0
 IsFirstFault w e (TicketTwice t) = IsLeast (IsTwice (tickets_of e.draws)) t
 IsFirstFault w e (TicketMissing t) = NoneTwice (tickets_of e.draws) × IsLeast (IsMissing (tickets_of e.draws)) t
@@ -91,20 +95,22 @@ IsFirstFault w e (WrongRegister q) = AreSoundDraws w e.draws × EachOnce (number
 IsFirstFault w e (BadLine line) = ⊥
 IsFirstFault w e OutOfMemory = Unit {0}
 
--- the first fault of a record, which is no want of memory
+-- the first fault of a record, and not `OutOfMemory`
 abbrev pub IsFound : Weighted → Entries → ReplayFault → Type 0
 IsFound w e OutOfMemory = ⊥
 IsFound w e fault = IsFirstFault w e fault
 
--- The same of each part of a record
+-- Faults of each part of a record
 
--- a fault of the tickets: the least one that stands twice, or where none does the least one that is missing
+-- a fault of the tickets: the smallest that occurs more than once, or if there is none, the
+-- smallest that is missing
 abbrev pub IsTicketFault : List ℕ → ReplayFault → Type 0
 IsTicketFault tickets (TicketTwice t) = IsLeast (IsTwice tickets) t
 IsTicketFault tickets (TicketMissing t) = NoneTwice tickets × IsLeast (IsMissing tickets) t
 IsTicketFault tickets fault = ⊥
 
--- likewise of the pass numbers
+-- a fault of the pass numbers: the smallest that occurs more than once, or if there is none, the
+-- smallest that is missing
 abbrev pub IsNumberFault : List ℕ → ReplayFault → Type 0
 IsNumberFault numbers (PassTwice p) = IsLeast (IsTwice numbers) p
 IsNumberFault numbers (PassMissing p) = NoneTwice numbers × IsLeast (IsMissing numbers) p

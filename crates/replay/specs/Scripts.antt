@@ -1,6 +1,6 @@
 -- Scripts: how large a world is, and the steps that happen in it, each on a line of its own.
 --
---     world CLIENTS LIMIT      1 to 64 clients; stamps and grants go from 1 to the limit, which is 1 to 2^40
+--     world CLIENTS LIMIT      1 to 64 clients; stamps and grants from 1 to LIMIT (1 to 2^40)
 --     ask C                    then any number of steps, of six kinds
 --     deliver K
 --     leave C
@@ -8,8 +8,8 @@
 --     remind-client C
 --     remind-voter V
 --
--- C and V are at most 255, and K is below 2^64. A number is decimal, without a leading zero. One space stands between two
--- words, and each line ends with a newline.
+-- C and V are at most 255, and K is below 2^64. A number is decimal, without a leading zero. One
+-- space is between two words, and each line ends with a newline.
 use Rattle.std.specs.Prelude.{ℕ, ◌≡◌, ◌≢◌, ◌<◌, ◌≤◌, ◌+◌, ◌^◌, ◌⊎◌, List, [], ◌∷◌, ◌++◌, length, map, codes}
 use Rattle.std.specs.List.{AllByRecursion}
 use Rattle.certificate.specs.PlanTexts.{text_of_lines}
@@ -27,7 +27,7 @@ pub record Script : Type 0 where
   pub limit : ℕ
   pub steps : List Step
 
--- Spelling
+-- The text
 
 -- the word of a step
 abbrev pub step_word : Step → List ℕ
@@ -90,11 +90,11 @@ script_text s = world_line s.clients s.limit ++ 10 ∷ steps_text s.steps
 
 -- The first bad line
 
--- the line spells the sizes of a world
+-- the line is one of a world's sizes
 abbrev pub IsWorldLine : List ℕ → Type 0
 IsWorldLine line = (clients : ℕ) × (limit : ℕ) × AreSizes clients limit × (line ≡ world_line clients limit)
 
--- the line spells a step
+-- the line is one of a step
 abbrev pub IsStepLine : List ℕ → Type 0
 IsStepLine line = (s : Step) × HasStepLine s × (line ≡ step_line s)
 
@@ -106,7 +106,7 @@ IsLine line = IsWorldLine line ⊎ IsStepLine line
 abbrev pub BeginsWith : (List ℕ → Type 0) → List ℕ → Type 0
 BeginsWith IsLine text = (line : List ℕ) × (rest : List ℕ) × IsLine line × (text ≡ line ++ 10 ∷ rest)
 
--- behind these steps' lines goes on a text that begins with no step's line
+-- after these steps' lines the text goes on, but not with a step's line
 pub record EndsBadly (text : List ℕ) (steps : List Step) : Type 0 where
   pub steps_have_lines : HaveLines steps
   pub rest : List ℕ
@@ -114,7 +114,7 @@ pub record EndsBadly (text : List ℕ) (steps : List Step) : Type 0 where
   pub some : rest ≢ []
   pub bad : ¬ (BeginsWith IsStepLine rest)
 
--- the lines before this one are a world's and its steps', and this one is no step's
+-- the lines before this one are a world's and its steps', and this one is not a step's
 pub record IsBadStep (text : List ℕ) (line : ℕ) : Type 0 where
   pub clients : ℕ
   pub limit : ℕ
@@ -125,11 +125,11 @@ pub record IsBadStep (text : List ℕ) (line : ℕ) : Type 0 where
   pub ends : EndsBadly body steps
   pub line_is : line ≡ length steps + 2
 
--- the first bad line of a text, by its number from 1: it has no newline, or it is spelled otherwise
+-- the number, from 1, of the first bad line of a text: it is malformed, or has no newline
 abbrev pub IsFirstBad : List ℕ → ℕ → Type 0
 IsFirstBad text line = ((line ≡ 1) × ¬ (BeginsWith IsWorldLine text)) ⊎ IsBadStep text line
 
--- the fault is the text's first bad line, or want of memory
+-- the fault is the text's first bad line, or memory ran out
 abbrev pub IsBadText : List ℕ → ReplayFault → Type 0
 IsBadText text (BadLine line) = IsFirstBad text line
 IsBadText text OutOfMemory = Unit {0}
@@ -143,7 +143,8 @@ pub record IsStepOf (s : Step) (word : List ℕ) (number : ℕ) : Type 0 where
   pub word_is : word ≡ step_word s
   pub number_is : number ≡ step_number s
 
--- these steps' lines are the text, or the fault is that of the line behind them, where their first line has number 2
+-- The fault is the first line that is not a step's, or memory ran out. The first line of `body` has
+-- number 2.
 abbrev pub IsBadRest : List ℕ → ReplayFault → Type 0
 IsBadRest body (BadLine line) = (steps : List Step) × EndsBadly body steps × (line ≡ length steps + 2)
 IsBadRest body OutOfMemory = Unit {0}

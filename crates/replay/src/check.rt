@@ -14,17 +14,17 @@ use cluster::RunRecord;
 use dealer::{Account, Cycle};
 use std::alloc::{AllocError, Global};
 
-/// Why numbers are not those below how many they are, each once.
+/// The reason why n numbers are not 0 to n - 1, each once.
 #[derive(Clone, Copy)]
 enum Gap {
-    /// This number stands twice.
+    /// This number occurs more than once.
     Twice(u64),
     /// This number is missing.
     Missing(u64),
 }
 
 impl Gap {
-    /// The fault of a record with this gap in its tickets.
+    /// Returns the fault of a record with this gap in its tickets.
     fn ticket_fault(self) -> ReplayFault
         ensures { (tickets : List ℕ) → IsFirstGap tickets self → IsTicketFault tickets result }
     {
@@ -34,7 +34,7 @@ impl Gap {
         }
     }
 
-    /// The fault of a record with this gap in the numbers of its passes.
+    /// Returns the fault of a record with this gap in the numbers of its passes.
     fn number_fault(self) -> ReplayFault
         ensures { (numbers : List ℕ) → IsFirstGap numbers self → IsNumberFault numbers result }
     {
@@ -45,7 +45,7 @@ impl Gap {
     }
 }
 
-/// The numbers in ascending order.
+/// Returns the numbers in ascending order.
 fn ascending(mut numbers: Vec<u64>) -> Vec<u64>
     ensures ascending { IsNonDecreasing result.items }
     ensures same { (n : ℕ) → times n result.items ≡ times n numbers.items }
@@ -55,7 +55,7 @@ fn ascending(mut numbers: Vec<u64>) -> Vec<u64>
     numbers
 }
 
-/// The least of ascending numbers that stands twice.
+/// Returns the smallest of ascending numbers that occurs more than once.
 fn least_twice(ascending: &[u64]) -> Option<u64>
     requires { IsNonDecreasing ascending.now }
     ensures { MatchOption result (NoneTwice ascending.now) (IsLeast (IsTwice ascending.now)) }
@@ -68,7 +68,7 @@ fn least_twice(ascending: &[u64]) -> Option<u64>
     None
 }
 
-/// The least number that is missing among ascending ones.
+/// Returns the smallest number that is missing among ascending ones.
 fn least_missing(ascending: &[u64]) -> Option<u64>
     requires ascending { IsNonDecreasing ascending.now }
     requires apart { NoneTwice ascending.now }
@@ -82,7 +82,7 @@ fn least_missing(ascending: &[u64]) -> Option<u64>
     None
 }
 
-/// The first gap of numbers in any order, if any.
+/// Returns the first gap of numbers in any order, if there is one.
 fn first_gap(numbers: Vec<u64>) -> Option<Gap>
     ensures { MatchOption result (EachOnce numbers.items) (IsFirstGap numbers.items) }
 {
@@ -96,7 +96,7 @@ fn first_gap(numbers: Vec<u64>) -> Option<Gap>
     }
 }
 
-/// The lesser of a ticket and the one found before, if any.
+/// Returns the smaller of a ticket and the one found before, if there is one.
 fn lesser(found: Option<u64>, ticket: u64) -> u64
     ensures none { found ≡ None → result ≡ ticket }
     ensures some { IfSome found (λ least. result ≡ min least ticket) }
@@ -107,7 +107,7 @@ fn lesser(found: Option<u64>, ticket: u64) -> u64
     }
 }
 
-/// The least ticket of a draw with another quorum than the cycle's.
+/// Returns the smallest ticket of a draw with another quorum than the cycle's.
 fn least_wrong(cycle: &Cycle, draws: &[(u8, u64, usize)]) -> Option<u64>
     ensures { MatchOption result (All (IsRight cycle.now) draws.now) (IsLeast (IsWrong cycle.now draws.now)) }
 {
@@ -120,21 +120,21 @@ fn least_wrong(cycle: &Cycle, draws: &[(u8, u64, usize)]) -> Option<u64>
     least
 }
 
-/// The tickets of draws, in their order.
+/// Returns the tickets of draws, in their order.
 fn tickets_of(alloc: Global, draws: &[(u8, u64, usize)]) -> Result<Vec<u64>, AllocError>
     ensures { IfOk result (λ v. v.items ≡ tickets_of draws.now) }
 {
     draws.iter().map(|draw| draw.1).collect(alloc)
 }
 
-/// The numbers of passes, in their order.
+/// Returns the numbers of passes, in their order.
 fn numbers_of(alloc: Global, passes: &[(u8, u64)]) -> Result<Vec<u64>, AllocError>
     ensures { IfOk result (λ v. v.items ≡ numbers_of passes.now) }
 {
     passes.iter().map(|pass| pass.1).collect(alloc)
 }
 
-/// The cycle of a plan.
+/// Returns the cycle of a plan.
 fn cycle_of(alloc: Global, plan: &Plan) -> Result<Cycle, ReplayFault>
     ensures cycle { IfOk result (λ cycle. cycle ≡ plan.now) }
     ensures certificate { IfOk result IsCertificate }
@@ -147,7 +147,7 @@ fn cycle_of(alloc: Global, plan: &Plan) -> Result<Cycle, ReplayFault>
     }
 }
 
-/// The first fault of tickets: they have to be those below how many they are, each once.
+/// Returns the first fault of tickets: n tickets have to be 0 to n - 1, each once.
 fn ticket_fault(tickets: Vec<u64>) -> Option<ReplayFault>
     ensures { MatchOption result (EachOnce tickets.items) (IsTicketFault tickets.items) }
 {
@@ -157,7 +157,7 @@ fn ticket_fault(tickets: Vec<u64>) -> Option<ReplayFault>
     }
 }
 
-/// The first fault of the numbers of passes: they have to be those below how many they are, each once.
+/// Returns the first fault of the numbers of passes: n numbers have to be 0 to n - 1, each once.
 fn number_fault(numbers: Vec<u64>) -> Option<ReplayFault>
     ensures { MatchOption result (EachOnce numbers.items) (IsNumberFault numbers.items) }
 {
@@ -167,7 +167,7 @@ fn number_fault(numbers: Vec<u64>) -> Option<ReplayFault>
     }
 }
 
-/// The fault of a register that is not the number of passes.
+/// Returns the fault of a register that is not the number of passes.
 fn register_fault(run: &RunRecord) -> Option<ReplayFault>
     ensures { MatchOption result (run.now.register ≡ length run.now.passes.items) (IsRegisterFault (entries_of run.now)) }
 {
@@ -179,7 +179,8 @@ fn register_fault(run: &RunRecord) -> Option<ReplayFault>
     }
 }
 
-/// The first fault of a record with these tickets and these numbers of passes. It is no want of memory: nothing grows here.
+/// Returns the first fault of a record with these tickets and these numbers of passes. It is never
+/// `OutOfMemory`, as nothing is allocated here.
 fn fault_of(
     cycle: &Cycle,
     run: &RunRecord,
@@ -202,30 +203,36 @@ fn fault_of(
     register_fault(run)
 }
 
-/// Checks a record of a run by the plan that the run dealt quorums by, and answers the account of its tickets.
+/// Checks a record of a run against the plan by which the run dealt quorums, and returns the
+/// account of its tickets.
 ///
-/// With n draws, the tickets have to be 0 to n - 1, each once, in any order, and each with its quorum by the plan's cycle.
-/// With p passes, the numbers have to be 0 to p - 1, each once, and the register p. Each fault is looked for in the whole
-/// record before the next one, and names the least number:
+/// With n draws, the tickets must be 0 to n - 1, each once, in any order, and each with its quorum
+/// by the plan's cycle. With p passes, the numbers must be 0 to p - 1, each once, and the register
+/// must be p.
 ///
-/// - `TicketTwice`: a ticket that was drawn twice, or else `TicketMissing`: a ticket below n that was not drawn;
-/// - `WrongQuorum`: a ticket with another quorum than the cycle's;
-/// - `PassTwice`: a number by which two passes went, or else `PassMissing`: a number below p by which none did;
+/// Otherwise fails with the first of these faults. Each fault is looked for in the whole record
+/// before the next one, and has the smallest such number.
+///
+/// - `TicketTwice`: this ticket was drawn more than once.
+/// - `TicketMissing`: this ticket is below n and was not drawn.
+/// - `WrongQuorum`: this ticket has another quorum than the cycle's.
+/// - `PassTwice`: two passes have this number.
+/// - `PassMissing`: this number is below p and no pass has it.
 /// - `WrongRegister`: the register is not p.
 ///
-/// Want of memory may come at any point. The time is that of sorting the tickets and the numbers.
+/// Memory may run out at any point. The time is that of sorting the tickets and the numbers.
 pub fn check_record(alloc: Global, plan: &Plan, run: &RunRecord) -> Result<Account, ReplayFault>
-    // What is answered is the account of the record's tickets.
+    // The result is the account of the record's tickets.
     ensures account { IfOk result (λ account. account ≡ account_of plan.now (tickets_of run.now.draws.items)) }
-    // Only a sound record is accepted, and each one is.
+    // A record is accepted if and only if it is sound, unless memory runs out.
     ensures sound { IfOk result (λ _. IsSoundRecord plan.now (entries_of run.now)) }
     ensures accepted { IsSoundRecord plan.now (entries_of run.now) → IfErr result (λ fault. fault ≡ OutOfMemory) }
-    // Which fault a record is refused by.
+    // Which fault is returned.
     ensures fault { IfErr result (IsFirstFault plan.now (entries_of run.now)) }
 
-    // What whole cycles are for: each quorum was named k times its weight, ..
+    // After k whole cycles each quorum was used k times its weight, ..
     ensures shares { (k : ℕ) → length run.now.draws.items ≡ k * cycle_len plan.now → IfOk result (λ account. account.quorums ≡ map (λ weight. k * weight) plan.now.quorum_weights) }
-    // .. and the busiest voter k times the busiest count: no list of as many quorums does better.
+    // .. and the busiest voter k times the busiest count: no list of that length does better.
     ensures even { (k : ℕ) → length run.now.draws.items ≡ k * cycle_len plan.now → IfOk result (λ account. account.busiest ≡ k * busiest_count plan.now) }
     ensures least { (k : ℕ) → length run.now.draws.items ≡ k * cycle_len plan.now → IfOk result (λ account. IsLeastBusiest plan.now account.drawn account.busiest) }
 {

@@ -9,20 +9,21 @@ ghost use Rattle.replay.specs.RecordTexts as record_texts;
 ghost use Rattle.replay.specs.RecordTexts.{HasText, record_text};
 ghost use Rattle.replay.specs.Scripts.{IsFirstBad, IsLine, IsScript, Script, script_text};
 
-/// No line of a script, with its newline, begins a longer one of a script.
+/// States that no line of a script, with its newline, begins a longer line of a script.
 pub fn lines_end()
     ensures { (line other more : List ℕ) → IsLine line → IsLine other → line ++ 10 ∷ more ≡ other ++ 10 ∷ [] → more ≡ [] }
 {}
 
-/// A text spells at most one script, or has a first bad line, of which there is only one; never both.
+/// States that a text belongs to at most one script and has at most one first bad line, and never
+/// both.
 pub fn texts_are_read_in_one_way()
     ensures script { (s t : Script) → IsScript s → IsScript t → script_text s ≡ script_text t → s ≡ t }
     ensures line { (text : List ℕ) (m n : ℕ) → IsFirstBad text m → IsFirstBad text n → m ≡ n }
     ensures never_both { (text : List ℕ) (line : ℕ) (s : Script) → IsFirstBad text line → IsScript s → text ≢ script_text s }
 {}
 
-/// A text spells at most one record, or has a first bad line, of which there is only one; never both. No record's text
-/// begins a longer one.
+/// States that a text belongs to at most one record and has at most one first bad line, and never
+/// both. No record's text begins a longer one.
 pub fn records_are_read_in_one_way()
     ensures record { (a b : Entries) → HasText a → HasText b → record_text a ≡ record_text b → a ≡ b }
     ensures end { (a b : Entries) (more : List ℕ) → HasText a → HasText b → record_text a ++ more ≡ record_text b → more ≡ [] }
@@ -30,8 +31,8 @@ pub fn records_are_read_in_one_way()
     ensures never_both { (text : List ℕ) (line : ℕ) (e : Entries) → record_texts.IsFirstBad text line → HasText e → text ≢ record_text e }
 {}
 
-/// The record of a cluster that was closed is sound for the plan that its office deals by: `check_record` accepts it, memory
-/// aside.
+/// States that the record of a closed cluster is sound for the plan by which its office deals. So
+/// `check_record` accepts it, unless it runs out of memory.
 pub fn records_of_runs_are_sound()
     ensures { (c : ClusterState) (members : List MemberState) (r : RunRecord) → IsRecordOf c members r →
         IsSoundRecord c.office.cycle (entries_of r) }

@@ -1,50 +1,66 @@
-//! Scripts of a world: a text that says how many clients there are and what happens to them, step by step, and what comes
-//! of it, line by line. A script with its output is a story of the voting lock that a person can read and a machine repeat.
+//! Scripts of a world, and records of runs.
+//!
+//! A script is a text that says how many clients there are and what happens to them, step by step.
+//! Its output says what comes of it, line by line. A script with its output is a story of the
+//! voting lock that a person can read and a machine can repeat.
 //!
 //! A script has one line for the world, and then a line for each step:
 //!
 //! | Line | Step |
 //! |---|---|
-//! | `world CLIENTS LIMIT` | first of all: 1 to 64 clients; stamps and grants go from 1 to the limit, which is 1 to 2^40 |
+//! | `world CLIENTS LIMIT` | first: 1 to 64 clients; stamps and grants are 1 to LIMIT (1 to 2^40) |
 //! | `ask C` | client C draws a ticket, and asks the quorum that it names |
-//! | `deliver K` | message number K comes, once more if it came before |
+//! | `deliver K` | message number K arrives, once more if it arrived before |
 //! | `leave C` | client C leaves |
-//! | `give-up C` | client C gives its request up |
+//! | `give-up C` | client C gives up its request |
 //! | `remind-client C` | client C repeats what it asked for |
-//! | `remind-voter V` | voter V repeats what it told the holder of its vote |
+//! | `remind-voter V` | voter V repeats what it sent to the holder of its vote |
 //!
-//! C and V are at most 255, K is below 2^64. Numbers are decimal without a leading zero, one space stands between two words,
-//! and each line ends with a newline. Messages are numbered from 0 on, in the order in which they are sent; one that no
-//! line delivers is lost.
+//! C and V are at most 255, and K is below 2^64. Numbers are decimal, without a leading zero. One
+//! space is between two words, and each line ends with a newline. Messages are numbered from 0 on,
+//! in the order in which they are sent. A message that no line delivers is lost.
 //!
-//! [`run_script`] answers a line `m NUMBER MESSAGE` for each message that a step sends (`message` says how each is spelled),
-//! `enter C` or `leave C` for a client that enters or leaves, and `! ` with the fault for a step that is refused, which
-//! changes nothing.
+//! [`run_script`] returns these lines:
 //!
-//! The record of a run by threads has a text too, which [`write_record`] writes and [`read_record`] reads:
+//! - `m NUMBER MESSAGE` for each message that a step sends (the crate `message` has the format of
+//!   MESSAGE);
+//! - `enter C` or `leave C` for a client that enters or leaves;
+//! - `! ` and the fault for a step that is refused, which changes nothing.
 //!
-//! | Line | Told |
+//! The record of a run by threads has a text too. [`write_record`] writes it, and [`read_record`]
+//! reads it:
+//!
+//! | Line | Meaning |
 //! |---|---|
-//! | `quorum-record 1` | first of all |
-//! | `draw CLIENT TICKET QUORUM` | any number of them: this client drew this ticket, and was told this quorum |
-//! | `pass CLIENT NUMBER` | and then any number of them: this client passed by this number |
-//! | `register NUMBER` | at last: the register at the end |
+//! | `quorum-record 1` | the first line |
+//! | `draw CLIENT TICKET QUORUM` | zero or more: this client drew this ticket and got this quorum |
+//! | `pass CLIENT NUMBER` | then zero or more: this client passed by this number |
+//! | `register NUMBER` | the last line: the register at the end |
 //!
 //! CLIENT is at most 63, QUORUM at most 4095, and the others are below 2^64.
 //!
-//! [`check_record`] tells whether the record of a run by threads is sound: its tickets and its passes are numbered as a
-//! counter hands numbers out, and each ticket names its quorum by the plan's cycle.
+//! [`check_record`] checks whether the record of a run by threads is sound: its tickets and its
+//! passes have the numbers that a counter hands out, and each ticket names its quorum by the plan's
+//! cycle.
 //!
 //! # What is proved
 //!
-//! A text is read exactly where it is the spelling of a script, and else its first bad line is named
-//! (`specs/Scripts.antt`). The output is that of the world's own steps, one after the other (`specs/Outputs.antt`); the
-//! world's proof says that at most one client is inside at a time, so whatever a script does, between two `enter` lines
-//! stands a `leave`. So is a record's text read (`specs/RecordTexts.antt`). A record is accepted exactly where it is sound, and else its first fault is named
-//! (`specs/Records.antt`).
+//! - A text is read if and only if it is the text of a script. Otherwise the fault names its first
+//!   bad line (`specs/Scripts.antt`).
+//! - The output is that of the world's own steps, one after the other (`specs/Outputs.antt`). The
+//!   world's proof says that at most one client is inside at a time. So whatever a script does, a
+//!   `leave` line comes between any two `enter` lines.
+//! - A record's text is read in the same way (`specs/RecordTexts.antt`).
+//! - A record is accepted if and only if it is sound. Otherwise its first fault is returned
+//!   (`specs/Records.antt`).
 //!
-//! This crate stands on `world`, whose steps it takes, on `certificate` for the plan, on `dealer` for the account of tickets,
-//! on `cluster` for the record of a run, and on `message` for the lines.
+//! This crate depends on:
+//!
+//! - `world`, whose steps it takes;
+//! - `certificate` for the plan;
+//! - `dealer` for the account of tickets;
+//! - `cluster` for the record of a run;
+//! - `message` for the lines.
 //!
 //! ```text
 //! // One voter, one client.

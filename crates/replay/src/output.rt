@@ -1,4 +1,4 @@
-//! What a script's run writes.
+//! The output of a script.
 ghost use Rattle.std.specs.Prelude.{◌≡◌, ◌++◌, IfErr, IfOk, MatchResult, Ok, OnOk, drop, string_bytes};
 ghost use Rattle.std.specs.List.{flat_map};
 ghost use Rattle.message.specs.Lines.{HasLine};
@@ -44,7 +44,7 @@ fn push_event(text: &mut String, event: &Event) -> Result<(), AllocError>
     }
 }
 
-/// The text of a client's refusal.
+/// Returns the text of a client's fault.
 fn client_fault_text(fault: ClientFault) -> &'static str
     ensures { result.now ≡ client_fault_text fault }
 {
@@ -102,7 +102,7 @@ fn push_events(text: &mut String, events: &[Event]) -> Result<(), AllocError>
     Ok(())
 }
 
-/// What comes behind the first ones.
+/// Returns the events after the first `first` ones.
 fn events_from(events: &[Event], first: usize) -> &[Event]
     ensures { result.now ≡ drop first events.now }
 {
@@ -140,7 +140,7 @@ fn push_step(
     }
 }
 
-/// What a script writes.
+/// Runs a script and returns its output.
 fn output_of(alloc: Global, plan: Plan, script: &Script, room: usize) -> Result<String, ReplayFault>
     ensures output { IfOk result (λ text. string_bytes text ≡ script_output plan script.now) }
     ensures memory { IfErr result (λ fault. fault ≡ OutOfMemory) }
@@ -156,23 +156,23 @@ fn output_of(alloc: Global, plan: Plan, script: &Script, room: usize) -> Result<
     Ok(text)
 }
 
-/// Runs the script that a text spells, from a new world of this plan, and answers what the steps did, a line each:
+/// Runs the script of a text in a new world of this plan, and returns what the steps did, in lines:
 ///
-/// - `! ` and the fault, for a step that is refused, which changes nothing;
-/// - `m NUMBER MESSAGE` for each message that a step sent, by its number from 0 on;
+/// - `! ` and the fault for a step that is refused, which changes nothing;
+/// - `m NUMBER MESSAGE` for each message that a step sent, with its number from 0 on;
 /// - `enter CLIENT` or `leave CLIENT` for a client that entered or left.
 ///
-/// A text that spells no script is refused by its first bad line, before any step is taken. Want of memory may come at any
-/// point.
+/// If the text is not that of a script, fails with its first bad line, before any step is taken.
+/// Memory may run out at any point.
 pub fn run_script(alloc: Global, plan: Plan, text: &[u8]) -> Result<String, ReplayFault>
-    // What is answered is the output of the script that the text spells.
+    // The result is the output of the script whose text this is.
     ensures output { IfOk result (λ output. IsOutput plan text.now (string_bytes output)) }
-    // A text that spells a script is answered.
+    // The text of a script is run, unless memory runs out.
     ensures run { (s : Script) → IsScript s → text.now ≡ script_text s
         → MatchResult result (λ output. string_bytes output ≡ script_output plan s) (λ fault. fault ≡ OutOfMemory) }
-    // Which line is refused.
+    // Which line the fault names.
     ensures bad { IfErr result (IsBadText text.now) }
-    // The first line is read before any memory is taken.
+    // The first line is read before any memory is allocated.
     ensures first { ¬ (BeginsWith IsWorldLine text.now) → IfErr result (λ fault. fault ≡ BadLine 1) }
 {
     let script = match read_script(alloc, text) {

@@ -14,7 +14,7 @@ use world::Step;
 /// The highest limit of stamps and grants.
 const HIGHEST_LIMIT: u64 = 1 << 40;
 
-/// The step of a word and its number.
+/// Returns the step of a word and its number.
 fn step_of(word: &[u8], number: u64) -> Option<Step>
     ensures spelled { IfSome result (λ s. IsStepOf s word.now number) }
     ensures read { (s : Step) → IsStepOf s word.now number → result ≡ Some s }
@@ -35,7 +35,7 @@ fn step_of(word: &[u8], number: u64) -> Option<Step>
     }
 }
 
-/// The step that a line spells, without its newline.
+/// Reads a step from its line, without its newline.
 fn read_step(line: &[u8]) -> Option<Step>
     ensures spelled { IfSome result (λ s. HasStepLine s × (line.now ≡ step_line s)) }
     ensures read { (s : Step) → HasStepLine s → line.now ≡ step_line s → result ≡ Some s }
@@ -47,7 +47,7 @@ fn read_step(line: &[u8]) -> Option<Step>
     }
 }
 
-/// The step at the front of a text, and what follows its line.
+/// Reads the step at the front of a text. Returns it, and what follows its line.
 fn first_step(text: &[u8]) -> Option<(Step, &[u8])>
     ensures line { IfSome result (λ x. HasStepLine x.0) }
     ensures spelled { IfSome result (λ x. text.now ≡ step_line x.0 ++ 10 ∷ x.1.now) }
@@ -63,7 +63,7 @@ fn first_step(text: &[u8]) -> Option<(Step, &[u8])>
     }
 }
 
-/// The steps whose lines are the text. Its first line has number 2.
+/// Reads the steps whose lines are the text. The text's first line has number 2.
 fn read_steps(alloc: Global, text: &[u8]) -> Result<Vec<Step>, ReplayFault>
     ensures lines { IfOk result (λ steps. HaveLines steps.items) }
     ensures spelled { IfOk result (λ steps. text.now ≡ steps_text steps.items) }
@@ -85,7 +85,7 @@ fn read_steps(alloc: Global, text: &[u8]) -> Result<Vec<Step>, ReplayFault>
     Ok(steps)
 }
 
-/// The sizes of a word and two numbers.
+/// Returns the sizes that a word and two numbers give.
 fn sizes_of(word: &[u8], clients: u64, limit: u64) -> Option<(u8, u64)>
     ensures sizes { IfSome result (λ x. AreSizes x.0 x.1) }
     ensures word { IfSome result (λ x. word.now ≡ codes "world") }
@@ -102,7 +102,7 @@ fn sizes_of(word: &[u8], clients: u64, limit: u64) -> Option<(u8, u64)>
     }
 }
 
-/// The sizes that a line spells, without its newline.
+/// Reads the sizes of a world from their line, without its newline.
 fn read_sizes(line: &[u8]) -> Option<(u8, u64)>
     ensures sizes { IfSome result (λ x. AreSizes x.0 x.1) }
     ensures spelled { IfSome result (λ x. line.now ≡ world_line x.0 x.1) }
@@ -115,7 +115,7 @@ fn read_sizes(line: &[u8]) -> Option<(u8, u64)>
     }
 }
 
-/// The sizes at the front of a text, and what follows their line.
+/// Reads the sizes at the front of a text. Returns them, and what follows their line.
 fn first_sizes(text: &[u8]) -> Option<(u8, u64, &[u8])>
     ensures sizes { IfSome result (λ x. AreSizes x.0 x.1) }
     ensures spelled { IfSome result (λ x. text.now ≡ world_line x.0 x.1 ++ 10 ∷ x.2.now) }
@@ -133,17 +133,17 @@ fn first_sizes(text: &[u8]) -> Option<(u8, u64, &[u8])>
 
 /// Reads a script from its text.
 ///
-/// Fails with `BadLine` for the first line that is missing, is spelled otherwise, or has no newline. Out of memory may come at
-/// any point behind the first line.
+/// Fails with `BadLine` for the first line that is missing or malformed, or has no newline. Memory
+/// may run out at any point after the first line.
 pub fn read_script(alloc: Global, text: &[u8]) -> Result<Script, ReplayFault>
-    // What is read is spelled so.
+    // What is read has this text.
     ensures spelled { IfOk result (λ s. IsScript s × (text.now ≡ script_text s)) }
-    // What is spelled so is read.
+    // What has this text is read, unless memory runs out.
     ensures read { (s : Script) → IsScript s → text.now ≡ script_text s
         → MatchResult result (λ script. script ≡ s) (λ fault. fault ≡ OutOfMemory) }
-    // Which line is refused.
+    // Which line the fault names.
     ensures bad { IfErr result (IsBadText text.now) }
-    // The first line is read before any memory is taken.
+    // The first line is read before any memory is allocated.
     ensures first { ¬ (BeginsWith IsWorldLine text.now) → IfErr result (λ fault. fault ≡ BadLine 1) }
 {
     let Some((clients, limit, rest)) = first_sizes(text) else {

@@ -22,10 +22,10 @@ const HIGHEST_CLIENT: u64 = 63;
 /// The highest number of a quorum.
 const HIGHEST_QUORUM: u64 = 4095;
 
-/// What a line behind the first tells.
+/// What a line after the first says.
 #[derive(Clone, Copy)]
 enum RecordLine {
-    /// A client, the ticket that it drew, and the quorum that it was told.
+    /// A client, the ticket that it drew, and the quorum that it received.
     Draw(u8, u64, usize),
     /// A client, and the number by which it passed.
     Pass(u8, u64),
@@ -34,7 +34,7 @@ enum RecordLine {
 }
 
 impl RecordLine {
-    /// The draw, where the line is one.
+    /// Returns the draw, if the line is one.
     fn draw(self) -> Option<(u8, u64, usize)>
         ensures { MatchOption result ((d : Draw) → self ≢ RecordLine.Draw d.0 d.1 d.2) (λ d. self ≡ RecordLine.Draw d.0 d.1 d.2) }
     {
@@ -44,7 +44,7 @@ impl RecordLine {
         }
     }
 
-    /// The pass, where the line is one.
+    /// Returns the pass, if the line is one.
     fn pass(self) -> Option<(u8, u64)>
         ensures { MatchOption result ((p : Pass) → self ≢ RecordLine.Pass p.0 p.1) (λ p. self ≡ RecordLine.Pass p.0 p.1) }
     {
@@ -54,7 +54,7 @@ impl RecordLine {
         }
     }
 
-    /// The register, where the line is its line.
+    /// Returns the register, if the line is its line.
     fn register(self) -> Option<u64>
         ensures { MatchOption result ((n : ℕ) → self ≢ RecordLine.Register n) (λ n. self ≡ RecordLine.Register n) }
     {
@@ -98,7 +98,7 @@ fn register_of(word: &[u8], number: u64) -> Option<RecordLine>
     }
 }
 
-/// The line of a word and its numbers.
+/// Returns the line of a word and its numbers.
 fn line_of(word: &[u8], numbers: &[u64]) -> Option<RecordLine>
     ensures spelled { IfSome result (λ l. IsLineOf l word.now numbers.now) }
     ensures read { (l : RecordLine) → IsLineOf l word.now numbers.now → result ≡ Some l }
@@ -111,7 +111,7 @@ fn line_of(word: &[u8], numbers: &[u64]) -> Option<RecordLine>
     }
 }
 
-/// The line of a word and of the fields behind it, of which the word tells the number.
+/// Reads a line from its word and the fields after it. The word says how many fields there are.
 fn read_fields(word: &[u8], rest: &[u8]) -> Option<RecordLine>
     ensures spelled { IfSome result (λ l. (ns : List ℕ) × IsLineOf l word.now ns × (rest.now ≡ fields ns)) }
     ensures read { (l : RecordLine) (ns : List ℕ) → IsLineOf l word.now ns → rest.now ≡ fields ns → result ≡ Some l }
@@ -123,7 +123,7 @@ fn read_fields(word: &[u8], rest: &[u8]) -> Option<RecordLine>
     }
 }
 
-/// What a line tells, without its newline.
+/// Reads a line, without its newline.
 fn read_line(line: &[u8]) -> Option<RecordLine>
     ensures spelled { IfSome result (λ l. HasLine l × (line.now ≡ record_line l)) }
     ensures read { (l : RecordLine) → HasLine l → line.now ≡ record_line l → result ≡ Some l }
@@ -132,7 +132,7 @@ fn read_line(line: &[u8]) -> Option<RecordLine>
     read_fields(word, rest)
 }
 
-/// What the line at the front of a text tells, and what follows it.
+/// Reads the line at the front of a text. Returns it, and what follows it.
 fn next_line(text: &[u8]) -> Option<(RecordLine, &[u8])>
     ensures line { IfSome result (λ x. HasLine x.0) }
     ensures spelled { IfSome result (λ x. text.now ≡ record_line x.0 ++ 10 ∷ x.1.now) }
@@ -148,7 +148,7 @@ fn next_line(text: &[u8]) -> Option<(RecordLine, &[u8])>
     }
 }
 
-/// The draw at the front of a text, and what follows its line.
+/// Reads the draw at the front of a text. Returns it, and what follows its line.
 fn next_draw(text: &[u8]) -> Option<((u8, u64, usize), &[u8])>
     ensures { MatchOption result (BeginsWithNone HasDrawLine draw_line text.now) (λ x. IsNext HasDrawLine draw_line text.now x.0 x.1.now) }
 {
@@ -161,7 +161,7 @@ fn next_draw(text: &[u8]) -> Option<((u8, u64, usize), &[u8])>
     }
 }
 
-/// The pass at the front of a text, and what follows its line.
+/// Reads the pass at the front of a text. Returns it, and what follows its line.
 fn next_pass(text: &[u8]) -> Option<((u8, u64), &[u8])>
     ensures { MatchOption result (BeginsWithNone HasPassLine pass_line text.now) (λ x. IsNext HasPassLine pass_line text.now x.0 x.1.now) }
 {
@@ -174,7 +174,7 @@ fn next_pass(text: &[u8]) -> Option<((u8, u64), &[u8])>
     }
 }
 
-/// The register at the front of a text, and what follows its line.
+/// Reads the register at the front of a text. Returns it, and what follows its line.
 fn next_register(text: &[u8]) -> Option<(u64, &[u8])>
     ensures { MatchOption result (BeginsWithNone HasRegisterLine register_line text.now) (λ x. IsNext HasRegisterLine register_line text.now x.0 x.1.now) }
 {
@@ -187,7 +187,7 @@ fn next_register(text: &[u8]) -> Option<(u64, &[u8])>
     }
 }
 
-/// The draws at the front of a text, and what follows their lines.
+/// Reads the draws at the front of a text. Returns them, and what follows their lines.
 fn first_draws(alloc: Global, text: &[u8]) -> Result<(Vec<(u8, u64, usize)>, &[u8]), AllocError>
     ensures { IfOk result (λ x. AreFirst HasDrawLine draw_line text.now x.0.items x.1.now) }
 {
@@ -200,7 +200,7 @@ fn first_draws(alloc: Global, text: &[u8]) -> Result<(Vec<(u8, u64, usize)>, &[u
     Ok((draws, rest))
 }
 
-/// The passes at the front of a text, and what follows their lines.
+/// Reads the passes at the front of a text. Returns them, and what follows their lines.
 fn first_passes(alloc: Global, text: &[u8]) -> Result<(Vec<(u8, u64)>, &[u8]), AllocError>
     ensures { IfOk result (λ x. AreFirst HasPassLine pass_line text.now x.0.items x.1.now) }
 {
@@ -213,7 +213,7 @@ fn first_passes(alloc: Global, text: &[u8]) -> Result<(Vec<(u8, u64)>, &[u8]), A
     Ok((passes, rest))
 }
 
-/// What stands behind the first line. Its own first line has number 2.
+/// Reads what follows the first line of a record. The first line of `text` has number 2.
 fn read_body(alloc: Global, text: &[u8]) -> Result<RunRecord, ReplayFault>
     ensures spelled { IfOk result (λ run. HasText (entries_of run) × (text.now ≡ body_text (entries_of run))) }
     ensures bad { IfErr result (IsBadRest text.now) }
@@ -236,7 +236,7 @@ fn read_body(alloc: Global, text: &[u8]) -> Result<RunRecord, ReplayFault>
     })
 }
 
-/// What stands behind the first line of a record.
+/// Returns what follows the first line of a record, if the text begins with that line.
 fn behind_title(text: &[u8]) -> Option<&[u8]>
     ensures { MatchOption result ((body : List ℕ) → text.now ≢ title_line ++ 10 ∷ body) (λ body. text.now ≡ title_line ++ 10 ∷ body.now) }
 {
@@ -248,18 +248,19 @@ fn behind_title(text: &[u8]) -> Option<&[u8]>
 
 /// Reads the record of a run from its text.
 ///
-/// Refused is the first line that is missing, is spelled otherwise, is out of place, or has no newline; a line behind the
-/// register's is one too (`BadLine`). How many messages were lost reads as 0. Want of memory may come at any point. The
-/// time is that of one pass over the text.
+/// Fails with `BadLine` for the first line that is missing, malformed or out of place, or has no
+/// newline. A line after the register's is out of place too. Memory may run out at any point.
+///
+/// The record's number of lost messages is 0. The time is that of one pass over the text.
 pub fn read_record(alloc: Global, text: &[u8]) -> Result<RunRecord, ReplayFault>
-    // What is read is spelled so.
+    // What is read has this text.
     ensures spelled { IfOk result (λ run. HasText (entries_of run) × (text.now ≡ record_text (entries_of run))) }
-    // What is spelled so is read.
+    // What has this text is read, unless memory runs out.
     ensures read { (e : Entries) → HasText e → text.now ≡ record_text e
         → MatchResult result (λ run. entries_of run ≡ e) (λ fault. fault ≡ OutOfMemory) }
-    // Which line is refused.
+    // Which line the fault names.
     ensures bad { IfErr result (IsBadRecord text.now) }
-    // The first line is read before any memory is taken.
+    // The first line is read before any memory is allocated.
     ensures first { ((body : List ℕ) → text.now ≢ title_line ++ 10 ∷ body) → IfErr result (λ fault. fault ≡ BadLine 1) }
     // No text says how many messages were lost.
     ensures lost { IfOk result (λ run. run.lost ≡ 0) }

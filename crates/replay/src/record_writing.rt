@@ -45,10 +45,11 @@ fn push_register(text: &mut String, register: u64) -> Result<(), AllocError>
     write!(text, "register {register}\n")
 }
 
-/// Writes the record of a run, in the order of its lists. How many messages were lost is not written.
+/// Returns the text of the record of a run, in the order of its lists. How many messages were lost
+/// is not written.
 ///
-/// A client has to be at most 63 and a quorum at most 4095, or the text could not be read. Want of memory is the only
-/// refusal.
+/// A client must be at most 63 and a quorum at most 4095, or the text could not be read. Fails only
+/// if it runs out of memory.
 pub fn write_record(alloc: Global, run: &RunRecord) -> Result<String, AllocError>
     requires draws { All (λ d. (d.0 ≤ 63) × (d.2 ≤ 4095)) run.now.draws.items }
     requires passes { All (λ p. p.0 ≤ 63) run.now.passes.items }

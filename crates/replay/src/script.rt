@@ -5,7 +5,8 @@ ghost use Rattle.replay.specs.Scripts.{IsScript};
 use std::marker::Model;
 use world::Step;
 
-/// A script: how large a world is, and the steps that happen in it. Clauses see it as a `Script` of the specs.
+/// A script: how large a world is, and the steps that happen in it. Contracts see a `Script` of the
+/// specs.
 #[derive(Debug, Drop)]
 pub struct Script {
     clients: u8,
@@ -24,7 +25,7 @@ impl Model for Script {
 }
 
 impl Script {
-    /// The script of these parts. Takes no memory.
+    /// Creates the script of these parts. Allocates no memory.
     pub(crate) fn of(clients: u8, limit: u64, steps: Vec<Step>) -> Script
         requires { IsScript (record { clients = clients; limit = limit; steps = steps.items }) }
         ensures { result ≡ record { clients = clients; limit = limit; steps = steps.items } }
@@ -36,7 +37,7 @@ impl Script {
         }
     }
 
-    /// How many clients the world has: 1 to 64.
+    /// Returns how many clients the world has: 1 to 64.
     pub fn clients(&self) -> u8
         ensures value { result ≡ self.now.clients }
         ensures script { IsScript self.now }
@@ -44,7 +45,7 @@ impl Script {
         self.clients
     }
 
-    /// The highest stamp and the highest grant: 1 to 2^40.
+    /// Returns the highest stamp, which is also the highest grant: 1 to 2^40.
     pub fn limit(&self) -> u64
         ensures value { result ≡ self.now.limit }
         ensures script { IsScript self.now }
@@ -52,7 +53,7 @@ impl Script {
         self.limit
     }
 
-    /// The steps, in order.
+    /// Returns the steps, in order.
     pub fn steps(&self) -> &[Step]
         ensures value { result.now ≡ self.now.steps }
         ensures script { IsScript self.now }

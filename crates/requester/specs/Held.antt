@@ -1,4 +1,4 @@
--- Which votes a step takes and gives back: for whoever keeps a board of the votes beside the client.
+-- Which votes a step takes and gives back, for callers that keep the votes on a board too.
 use Rattle.std.specs.Prelude.{ℕ, ◌≡◌, ◌⊎◌, true, slice_set}
 use Rattle.std.specs.List.{Contains}
 use Rattle.message.specs.declared.message.ClientBody.{ClientBody}
@@ -8,13 +8,13 @@ use Rattle.requester.specs.declared.state.ClientState.{ClientState}
 use Rattle.requester.specs.Words.{held_of, holds}
 use Rattle.requester.specs.Steps.{Outcome, tell}
 
--- the vote that a LOCKED names, and no other, is held besides
+-- the vote of the LOCKED is added to the held ones, and no other is
 abbrev pub HoldsBesides : ClientState → ℕ → ClientBody → ClientState → Type 0
 HoldsBesides x voter (tells.Locked stamp grant) y = y.held ≡ slice_set x.held voter grant
 HoldsBesides x voter (tells.Fail stamp) y = ⊥
 HoldsBesides x voter (tells.Inquire grant) y = ⊥
 
--- a vote is held as before, or it was held, is not any more, and its RELINQUISH is sent
+-- the vote is held as before; or it was held, no longer is, and its RELINQUISH is sent
 abbrev pub IsKeptOrGiven : ClientState → Outcome → ℕ → Type 0
 IsKeptOrGiven x o voter =
     (held_of o.state voter ≡ held_of x voter)

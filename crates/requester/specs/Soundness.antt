@@ -1,16 +1,17 @@
--- What is so of every client.
+-- What holds of every client.
 use Rattle.std.specs.Prelude.{ℕ, ◌≡◌, ◌<◌, ◌≤◌, ◌^◌, true, false, length}
 use Rattle.quorum_set.specs.Sets.{IsSet}
 use Rattle.requester.specs.declared.state.ClientState.{ClientState}
 use Rattle.requester.specs.Words.{is_idle, is_inside, members, is_member, held_of, holds, is_covered, last_of, is_relinquished, is_inquired}
 
--- a vote that is held: a request runs, the voter is a member, and the grant is newer than the last that was given back
+-- what holds of a held vote: a request runs, the voter is a member, and the grant is newer than the
+-- last one given back
 pub record IsHeldWell (x : ClientState) (voter : ℕ) : Type 0 where
   pub busy : is_idle x.phase ≡ false
   pub member : is_member x voter ≡ true
   pub fresh : last_of x voter < held_of x voter
 
--- the state has a place for each of 64 voters
+-- the state has an entry for each of 64 voters
 pub record HasPlaces (x : ClientState) : Type 0 where
   pub held : length x.held ≡ 64
   pub last : length x.last ≡ 64
@@ -24,16 +25,16 @@ pub record IsSound (x : ClientState) : Type 0 where
   pub some : 1 ≤ x.limit
   pub limit : x.limit ≤ 2 ^ 40
   pub places : HasPlaces x
-  -- a request has a stamp from 1 to the limit, and the clock has shown it
+  -- a request has a stamp from 1 to the limit, and the clock is not behind it
   pub stamp : x.stamp ≤ x.limit
   pub clock : x.stamp ≤ x.clock
   pub stamped : is_idle x.phase ≡ false → 1 ≤ x.stamp
-  -- its quorum is a set of voters, and is not empty
+  -- its quorum is a set of voters, and is not empty while a request runs
   pub quorum : IsSet (members x)
   pub asked : is_idle x.phase ≡ false → 1 ≤ length (members x)
   pub held : (v : ℕ) → holds x v ≡ true → IsHeldWell x v
-  -- who is inside holds the vote of each member
+  -- a client that is inside holds the vote of each member
   pub inside : is_inside x.phase ≡ true → is_covered x ≡ true
-  -- a vote that was asked for is held, and a vote that was given back had a grant
+  -- a vote that its voter asked for is held, and a vote that was given back had a grant
   pub inquired : (v : ℕ) → is_inquired x v ≡ true → holds x v ≡ true
   pub relinquished : (v : ℕ) → is_relinquished x v ≡ true → 1 ≤ last_of x v

@@ -1,5 +1,6 @@
--- The steps of a client: what a call or a message makes it send, what it sees, and what it is afterwards (Maekawa, ACM
--- TOCS 3(2), 1985, with grant numbers for messages that are repeated, lost or late).
+-- The steps of a client: what it sends after a call or a message, what is seen of it, and its state
+-- afterwards (Maekawa, ACM TOCS 3(2), 1985, with grant numbers for messages that are repeated, lost
+-- or late).
 use Rattle.std.specs.Prelude.{ℕ, ◌≡◌, ◌+◌, ◌==◌, nat_lt, Bool, true, false, ◌&&◌, not, List, [], ◌∷◌, ◌++◌, map, filter, max, replicate, slice_set, Option, Some, None, Result, Ok, Err}
 use Rattle.std.specs.List.{flat_map}
 use Rattle.message.specs.declared.message.ToVoter.{ToVoter}
@@ -23,7 +24,7 @@ pub record Outcome : Type 0 where
   pub seen : Seen
   pub state : ClientState
 
--- no message, nothing seen, and the state stays
+-- no message, nothing seen, and the state stays as it was
 abbrev pub silent : ClientState → Outcome
 silent x = record { out = []; seen = Nothing; state = x }
 
@@ -31,7 +32,7 @@ silent x = record { out = []; seen = Nothing; state = x }
 abbrev pub tell : ClientState → ℕ → VoterBody → ToVoter
 tell x voter body = record { client = x.id; voter = voter; body = body }
 
--- the same to each member of the quorum, in ascending order
+-- the same message to each member of the quorum, in ascending order
 abbrev pub tell_members : ClientState → VoterBody → List ToVoter
 tell_members x body = map (λ v. tell x v body) (members x)
 
@@ -46,7 +47,7 @@ cleared x = record x {
 
 -- Asking
 
--- a new request, whose stamp is the next one of the clock
+-- a new request; its stamp is the next one of the clock
 abbrev pub begun : ClientState → List ℕ → ClientState
 begun x quorum = record (cleared x) {
   clock = x.clock + 1;
@@ -63,12 +64,12 @@ asked x quorum = record {
   state = begun x quorum;
 }
 
--- a client whose stamps are spent does not ask
+-- a client whose stamps are spent can't ask
 abbrev pub ask_unless : Bool → ClientState → List ℕ → Result Outcome ClientFault
 ask_unless true x quorum = Err StampsSpent
 ask_unless false x quorum = Ok (asked x quorum)
 
--- only an idle client asks
+-- only an idle client can ask
 abbrev pub ask_in : Phase → ClientState → List ℕ → Result Outcome ClientFault
 ask_in Idle x quorum = ask_unless (is_spent x) x quorum
 ask_in Asking x quorum = Err Busy
@@ -80,7 +81,8 @@ ask x quorum = ask_in x.phase x quorum
 
 -- Giving votes back
 
--- A vote that is held goes back to its voter: RELINQUISH with its grant, which is then the last one given back.
+-- A vote that is held goes back to its voter by RELINQUISH with its grant. That grant is then the
+-- last one given back.
 abbrev pub relinquish_if : Bool → ClientState → ℕ → Outcome
 relinquish_if false x voter = silent x
 relinquish_if true x voter = record {
@@ -98,7 +100,7 @@ relinquish_if true x voter = record {
 unfoldable pub relinquish : ClientState → ℕ → Outcome
 relinquish x voter = relinquish_if (holds x voter) x voter
 
--- each of these votes, in order
+-- each of these votes is given back, in order
 abbrev pub relinquish_each : ClientState → List ℕ → Outcome
 relinquish_each x [] = silent x
 relinquish_each x (v ∷ vs) = record {
@@ -107,7 +109,7 @@ relinquish_each x (v ∷ vs) = record {
   state = (relinquish_each (relinquish x v).state vs).state;
 }
 
--- a vote whose voter is marked inquired
+-- the vote is given back if its voter is marked as inquired
 abbrev pub relinquish_marked_if : Bool → ClientState → ℕ → Outcome
 relinquish_marked_if false x voter = silent x
 relinquish_marked_if true x voter = relinquish x voter
@@ -116,17 +118,18 @@ relinquish_marked_if true x voter = relinquish x voter
 abbrev pub relinquish_marked : ClientState → ℕ → Outcome
 relinquish_marked x voter = relinquish_marked_if (is_inquired x voter) x voter
 
--- the votes of those of these voters that are marked inquired
+-- of these voters, those marked as inquired get their votes back
 abbrev pub relinquish_inquired : ClientState → List ℕ → Outcome
 relinquish_inquired x voters = relinquish_each x (filter (is_inquired x) voters)
 
 -- LOCKED
 
--- a grant that counts: a member's, whose vote is not held, and newer than the last that was given back
+-- a grant counts if it is a member's whose vote is not held, and is newer than the last one given
+-- back
 abbrev pub is_fresh : ClientState → ℕ → ℕ → Bool
 is_fresh x voter grant = is_member x voter && not (holds x voter) && nat_lt (last_of x voter) grant
 
--- the vote is held under this grant, and its voter is marked no more
+-- the vote is held under this grant, and its voter is no longer marked
 abbrev pub hold : ClientState → ℕ → ℕ → ClientState
 hold x voter grant = record x {
   held = slice_set x.held voter grant;
@@ -135,35 +138,37 @@ hold x voter grant = record x {
   inquired = slice_set x.inquired voter false;
 }
 
--- the client is inside once the vote of each member is held
+-- the client enters if it holds the vote of each member
 abbrev pub enter_if : Bool → ClientState → Outcome
 enter_if false x = silent x
 enter_if true x = record { out = []; seen = Entered; state = record x { phase = Inside } }
 
--- By whether the request of this stamp runs, and whether the grant counts. A vote for any other request is given back
--- by RELEASE.
+-- By whether the request of this stamp runs, and whether the grant counts. A vote for any other
+-- request goes back by RELEASE.
 abbrev pub locked_by : Bool → Bool → ClientState → ℕ → ℕ → ℕ → Outcome
 locked_by false fresh x voter stamp grant = record { out = tell x voter (asks.Release stamp) ∷ []; seen = Nothing; state = x }
 locked_by true false x voter stamp grant = silent x
 locked_by true true x voter stamp grant = enter_if (is_covered (hold x voter grant)) (hold x voter grant)
 
--- LOCKED: a vote for another request than the one that runs is given back, one that does not count does nothing, and one that counts is
--- held; with the last member's vote the client enters.
+-- LOCKED: a vote for another request than the one that runs goes back by RELEASE. A vote that
+-- doesn't count does nothing. A vote that counts is held, and with the last member's vote the
+-- client enters.
 unfoldable pub locked : ClientState → ℕ → ℕ → ℕ → Outcome
 locked x voter stamp grant = locked_by (is_current x stamp) (is_fresh x voter grant) x voter stamp grant
 
 -- FAIL
 
--- the voter is marked as failed: it has told FAIL
+-- the voter is marked as failed: it sent FAIL
 abbrev pub fail : ClientState → ℕ → ClientState
 fail x voter = record x { failed = slice_set x.failed voter true }
 
--- by whether the message counts: the request can't win yet, so votes that were asked for are given back
+-- By whether the message counts. If it does, the request can't win yet, so votes that were asked
+-- for are given back.
 abbrev pub failed_by : Bool → ClientState → ℕ → Outcome
 failed_by false x voter = silent x
 failed_by true x voter = relinquish_inquired (fail x voter) (members x)
 
--- it counts while asking under this stamp, from a member whose vote is not held
+-- FAIL counts while the client asks under this stamp, from a member whose vote is not held
 unfoldable pub failed : ClientState → ℕ → ℕ → Outcome
 failed x voter stamp = failed_by (is_asking x.phase && stamp == x.stamp && is_member x voter && not (holds x voter)) x voter
 
@@ -173,20 +178,21 @@ failed x voter stamp = failed_by (is_asking x.phase && stamp == x.stamp && is_me
 abbrev pub inquire : ClientState → ℕ → ClientState
 inquire x voter = record x { inquired = slice_set x.inquired voter true }
 
--- By whether the message counts, and whether the request can't win yet. The vote is given back, or kept while the
--- request may still win. To a client that is inside the voter gets its answer by the RELEASE when it leaves.
+-- By whether the message counts, and whether the request can't win yet. If it can't, the vote is
+-- given back. If it still may, the vote is kept. If the client is inside, the RELEASE when it
+-- leaves is the reply.
 abbrev pub inquired_by : Bool → Bool → ClientState → ℕ → Outcome
 inquired_by false hindered x voter = silent x
 inquired_by true false x voter = silent (inquire x voter)
 inquired_by true true x voter = relinquish x voter
 
--- it counts while asking, of a vote that is held under this grant
+-- INQUIRE counts while the client asks, if it holds the vote under this grant
 unfoldable pub inquired : ClientState → ℕ → ℕ → Outcome
 inquired x voter grant = inquired_by (is_asking x.phase && holds_under x voter grant) (is_hindered x) x voter
 
 -- Any message
 
--- the clock is not behind this stamp
+-- the clock is raised to this stamp, if it is behind
 abbrev pub see : ClientState → ℕ → ClientState
 see x stamp = record x { clock = max x.clock stamp }
 
@@ -196,17 +202,17 @@ take_body x voter (tells.Locked stamp grant) = locked x voter stamp grant
 take_body x voter (tells.Fail stamp) = failed x voter stamp
 take_body x voter (tells.Inquire grant) = inquired x voter grant
 
--- a message comes
+-- the client takes a message
 unfoldable pub take : ClientState → ToClient → Outcome
 take x m = take_body (see x m.seen) m.voter m.body
 
--- whether a message brings a vote that the client would hold: a LOCKED that counts
+-- whether the client would hold the vote of a message: the message is a LOCKED that counts
 abbrev pub would_hold_body : ClientState → ℕ → ClientBody → Bool
 would_hold_body x voter (tells.Locked stamp grant) = is_current x stamp && is_fresh x voter grant
 would_hold_body x voter (tells.Fail stamp) = false
 would_hold_body x voter (tells.Inquire grant) = false
 
--- the message is a LOCKED that counts
+-- whether the message is a LOCKED that counts
 unfoldable pub would_hold : ClientState → ToClient → Bool
 would_hold x m = would_hold_body x m.voter m.body
 
@@ -220,7 +226,7 @@ released x seen = record {
   state = record (cleared x) { phase = Idle };
 }
 
--- only a client that is inside leaves
+-- only a client that is inside can leave
 abbrev pub leave_in : Phase → ClientState → Result Outcome ClientFault
 leave_in Idle x = Err NotInside
 leave_in Asking x = Err NotInside
@@ -230,19 +236,19 @@ leave_in Inside x = Ok (released x Left)
 unfoldable pub leave : ClientState → Result Outcome ClientFault
 leave x = leave_in x.phase x
 
--- only a client that asks gives up
+-- only a client that asks can give up
 abbrev pub give_up_in : Phase → ClientState → Result Outcome ClientFault
 give_up_in Idle x = Err NotAsking
 give_up_in Asking x = Ok (released x Nothing)
 give_up_in Inside x = Err NotAsking
 
--- a client that asks gives its request up
+-- a client that asks gives up its request
 unfoldable pub give_up : ClientState → Result Outcome ClientFault
 give_up x = give_up_in x.phase x
 
 -- One step
 
--- what makes a client take a step: one of three calls, or a message
+-- the cause of a client's step: one of three calls, or a message
 pub data Cause : Type 0 where
   Asks : List ℕ → Cause
   Takes : ToClient → Cause
@@ -256,7 +262,7 @@ step x (Takes m) = Ok (take x m)
 step x Leaves = leave x
 step x GivesUp = give_up x
 
--- what is said beforehand of a step: why it is refused, or that it is not
+-- what is known of a step beforehand: the fault with which it would fail, or none if it would not
 abbrev pub Foretells : {F G : Type 0} → Option G → Result F G → Type 0
 Foretells (Some fault) result = result ≡ Err fault
 Foretells {F = F} None result = (o : F) × (result ≡ Ok o)
@@ -269,23 +275,24 @@ remind_by true given_back x voter = []
 remind_by false false x voter = tell x voter (asks.Request x.stamp) ∷ []
 remind_by false true x voter = tell x voter (asks.Relinquish (last_of x voter)) ∷ tell x voter (asks.Request x.stamp) ∷ []
 
--- what a member is told again: nothing where its vote is held, else RELINQUISH where that was told, and REQUEST
+-- what is sent to a member again: nothing if its vote is held, else RELINQUISH if the vote was
+-- given back, and REQUEST
 abbrev pub remind_member : ClientState → ℕ → List ToVoter
 remind_member x voter = remind_by (holds x voter) (is_relinquished x voter) x voter
 
--- only a client that asks reminds
+-- only a client that asks sends reminders
 abbrev pub remind_in : Phase → ClientState → List ToVoter
 remind_in Idle x = []
 remind_in Asking x = flat_map (remind_member x) (members x)
 remind_in Inside x = []
 
--- what to tell again, for messages that were lost
+-- what to send again, in case messages were lost
 unfoldable pub remind : ClientState → List ToVoter
 remind x = remind_in x.phase x
 
 -- The first state
 
--- a client that asked for nothing and was told nothing
+-- a new client, which has asked for nothing and taken no message
 abbrev pub start : ℕ → ℕ → ClientState
 start id limit = record {
   id = id;

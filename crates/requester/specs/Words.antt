@@ -1,4 +1,4 @@
--- What a client knows of its request, of each voter's vote and of each voter, in words.
+-- What a client knows of its request, of each voter's vote, and of each voter.
 use Rattle.std.specs.Prelude.{ℕ, nat_lt, nat_le, ◌==◌, Bool, true, false, ◌&&◌, ◌||◌, not, List, Option, Some, None, slice_index, slice_index_or}
 use Rattle.std.specs.List.{list_all, list_any}
 use Rattle.quorum_set.specs.Sets.{has}
@@ -30,7 +30,7 @@ is_inside Inside = true
 abbrev pub members : ClientState → List ℕ
 members x = x.quorum.items
 
--- whether a voter is of the quorum that is asked
+-- whether a voter is in the quorum that is asked
 abbrev pub is_member : ClientState → ℕ → Bool
 is_member x voter = has (members x) voter
 
@@ -42,8 +42,8 @@ is_current x stamp = not (is_idle x.phase) && stamp == x.stamp
 abbrev pub is_spent : ClientState → Bool
 is_spent x = nat_le x.limit x.clock
 
--- Votes: a map from voter to the number of the grant under which its vote is held. Grants count from 1, and the state
--- keeps 0 for a vote that is not held.
+-- Votes: a map from voter to the number of the grant under which its vote is held. Grants count
+-- from 1. The state has 0 for a vote that is not held.
 
 -- the grant under which the vote of this voter is held, or 0
 abbrev pub held_of : ClientState → ℕ → ℕ
@@ -53,41 +53,41 @@ held_of x voter = slice_index x.held voter
 abbrev pub holds : ClientState → ℕ → Bool
 holds x voter = nat_lt 0 (held_of x voter)
 
--- the vote is held under this grant
+-- whether the vote is held under this grant
 abbrev pub holds_under : ClientState → ℕ → ℕ → Bool
 holds_under x voter grant = holds x voter && held_of x voter == grant
 
--- a grant, where it is one
+-- the grant if the condition holds, else none
 abbrev pub grant_if : Bool → ℕ → Option ℕ
 grant_if false grant = None
 grant_if true grant = Some grant
 
--- the grant under which the vote is held
+-- the grant under which the vote is held, if it is
 abbrev pub grant_of : ClientState → ℕ → Option ℕ
 grant_of x voter = grant_if (holds x voter) (held_of x voter)
 
--- the vote of each member is held
+-- whether the vote of each member is held
 abbrev pub is_covered : ClientState → Bool
 is_covered x = list_all (holds x) (members x)
 
--- the last grant of the voter that was given back, 0 if none was
+-- the last grant of the voter that was given back, or 0
 abbrev pub last_of : ClientState → ℕ → ℕ
 last_of x voter = slice_index x.last voter
 
 -- Voters: three sets
 
--- the voter said that another request precedes this one
+-- whether the voter said that another request precedes this one
 abbrev pub is_failed : ClientState → ℕ → Bool
 is_failed x voter = slice_index_or x.failed voter false
 
--- the voter's vote was given back
+-- whether the voter's vote was given back
 abbrev pub is_relinquished : ClientState → ℕ → Bool
 is_relinquished x voter = slice_index_or x.relinquished voter false
 
--- the voter asked whether its vote may come back
+-- whether the voter asked for its vote back
 abbrev pub is_inquired : ClientState → ℕ → Bool
 is_inquired x voter = slice_index_or x.inquired voter false
 
--- a member failed, or has its vote back: the request can't win yet
+-- whether a member failed or has its vote back, so that the request can't win yet
 abbrev pub is_hindered : ClientState → Bool
 is_hindered x = list_any (λ v. is_failed x v || is_relinquished x v) (members x)

@@ -1,19 +1,19 @@
-//! Why a client does not do what it is called for.
+//! Faults of a client.
 use thiserror::Error;
 
-/// Why a client does not do what it is called for. It is then as it was.
+/// The reason why a client's call failed. The client is unchanged.
 #[derive(Clone, Copy, Debug, PartialEq, Eq, Error)]
 pub enum ClientFault {
-    /// It asks already, or is inside.
+    /// The client is asking already, or is inside.
     #[error("C1 Busy")]
     Busy,
-    /// It is not inside.
+    /// The client is not inside.
     #[error("C2 NotInside")]
     NotInside,
-    /// It does not ask.
+    /// The client is not asking.
     #[error("C3 NotAsking")]
     NotAsking,
-    /// Its clock is at the limit, so no stamp is left for a request.
+    /// The client's clock is at the limit, so no stamp is left for a request.
     #[error("C4 StampsSpent")]
     StampsSpent,
 }

@@ -1,4 +1,4 @@
-//! Laws of the definitions.
+//! Laws: what is proved about the definitions.
 ghost use Rattle.std.specs.Prelude.{◌≡◌, ◌<◌, ◌≤◌, ◌^◌, ℕ, Err, Ok, List, true, false};
 ghost use Rattle.message.specs.declared.message.ToClient.{ToClient};
 ghost use Rattle.requester.specs.declared.state.ClientState.{ClientState};
@@ -11,35 +11,46 @@ ghost use Rattle.requester.specs.Words.{holds, is_asking, is_idle, is_inside, is
 use crate::fault::ClientFault;
 use crate::state::Seen;
 
-/// A client never goes back behind a stamp that it released or a grant that it gave back, holds only votes that a LOCKED
-/// told it for the request that runs, and speaks of each as it stands after the step.
+/// A client keeps its contract:
+///
+/// - it never goes back behind a stamp that it released or a grant that it gave back;
+/// - it holds only votes that a LOCKED brought for the request that runs;
+/// - each message that it sends says what is so after the step.
 pub fn requesters_meet_the_contract()
     ensures steps { (x : ClientState) (cause : Cause) (o : Outcome) → IsSound x → Accepts x cause → step x cause ≡ Ok o → MeetsContract x cause o }
     ensures reminders { (x : ClientState) → AllRepeat x (remind x) }
 {}
 
-/// Of every client: a vote that is held belongs to the request that runs, and is one of its quorum; who is inside holds
-/// the vote of each member; stamps are from 1 to the limit.
+/// What holds of every client:
+///
+/// - a vote that it holds belongs to the request that runs, and the voter is in the request's
+///   quorum;
+/// - a client that is inside holds the vote of each member;
+/// - stamps are from 1 to the limit.
 pub fn requesters_stay_sound()
     ensures first { (id limit : ℕ) → id < 64 → 1 ≤ limit → limit ≤ 2 ^ 40 → IsSound (start id limit) }
     ensures steps { (x : ClientState) (cause : Cause) (o : Outcome) → IsSound x → Accepts x cause → step x cause ≡ Ok o → IsSound o.state }
 {}
 
-/// Messages go to voters below 64 that are members or are answered; their stamps are from 1 to the limit, where those
-/// that come are, and their grants are at least 1.
+/// Messages are in range:
+///
+/// - they go to voters below 64: members of the quorum, or the voter whose message arrived;
+/// - their stamps are from 1 to the limit, if those that arrive are;
+/// - their grants are at least 1.
 pub fn messages_are_in_range()
     ensures steps { (x : ClientState) (cause : Cause) (o : Outcome) → IsSound x → Accepts x cause → ComesInRange x.limit cause → step x cause ≡ Ok o → AllInRange cause o.state o.out }
     ensures reminders { (x : ClientState) → IsSound x → RemindersInRange x (remind x) }
 {}
 
-/// A message that would be held makes its vote held besides, and no other; any other message makes no vote held, and
-/// what is then held no longer is exactly what is relinquished.
+/// A message for which `would_hold` is true adds its vote to the held ones, and no other. Any other
+/// message adds none, and the votes that are no longer held are exactly those that the client
+/// relinquishes.
 pub fn messages_move_votes()
     ensures would_hold { (x : ClientState) (m : ToClient) → IsSound x → would_hold x m ≡ true → HoldsBesides x m.voter m.body (take x m).state }
     ensures others { (x : ClientState) (m : ToClient) → IsSound x → would_hold x m ≡ false → (v : ℕ) → IsKeptOrGiven x (take x m) v }
 {}
 
-/// Who is idle holds nothing; who is inside holds the vote of each member.
+/// A client that is idle holds nothing. A client that is inside holds the vote of each member.
 pub fn phases_tell_votes()
     ensures idle { (x : ClientState) → IsSound x → is_idle x.phase ≡ true → HoldsNothing x }
     ensures inside { (x : ClientState) (v : ℕ) → IsSound x → is_inside x.phase ≡ true → is_member x v ≡ true → holds x v ≡ true }
@@ -48,7 +59,8 @@ pub fn phases_tell_votes()
     ensures given_up { (x : ClientState) (o : Outcome) → give_up x ≡ Ok o → HoldsNothing o.state }
 {}
 
-/// Whether a call is refused, and by which fault, shows in the phase, and for `ask` in whether the stamps are spent.
+/// The phase shows whether a call fails, and with which fault. Whether `ask` fails also depends on
+/// whether the stamps are spent.
 pub fn phases_tell_refusals()
     ensures busy { (x : ClientState) (quorum : List ℕ) → is_idle x.phase ≡ false → ask x quorum ≡ Err ClientFault.Busy }
     ensures spent { (x : ClientState) (quorum : List ℕ) → is_idle x.phase ≡ true → is_spent x ≡ true → ask x quorum ≡ Err ClientFault.StampsSpent }

@@ -1,4 +1,3 @@
-//! A client.
 ghost use Rattle.std.specs.Prelude.{◌≡◌, ◌<◌, ◌≤◌, ◌^◌, ℕ, List, [], IfErr, IfOk, Err, Ok, length};
 ghost use Rattle.requester.specs.Soundness.{IsSound};
 ghost use Rattle.requester.specs.Words.{grant_of, is_spent};
@@ -11,7 +10,9 @@ use message::ToClient;
 use quorum_set::QSet;
 use std::marker::Model;
 
-/// A client of the voting lock: it runs one request at a time. Clauses see it as what it knows, a `ClientState`.
+/// A client of the voting lock: it runs one request at a time.
+///
+/// Contracts see it as a `ClientState`, which is what it knows.
 #[derive(Drop)]
 pub struct Requester {
     state: ClientState,
@@ -32,7 +33,8 @@ impl Model for Requester {
 }
 
 impl Requester {
-    /// A client of this number, from 0 to 63, that asked for nothing. Its stamps go from 1 to the limit, which is 1 to 2^40.
+    /// Returns a new client with this number, 0 to 63. Its stamps go from 1 to the limit, which is
+    /// 1 to 2^40.
     pub fn new(id: u8, limit: u64) -> Self
         requires id { id < 64 }
         requires least { 1 ≤ limit }
@@ -56,7 +58,7 @@ impl Requester {
         }
     }
 
-    /// The client's number.
+    /// Returns the client's number.
     pub fn id(&self) -> u8
         ensures value { result ≡ self.now.id }
         ensures sound { IsSound self.now }
@@ -64,7 +66,7 @@ impl Requester {
         self.state.id
     }
 
-    /// Where the client stands.
+    /// Returns whether the client is idle, asking or inside.
     pub fn phase(&self) -> Phase
         ensures value { result ≡ self.now.phase }
         ensures sound { IsSound self.now }
@@ -72,7 +74,7 @@ impl Requester {
         self.state.phase
     }
 
-    /// The stamp of the current or last request, 0 if there was none.
+    /// Returns the stamp of the current or last request, 0 if there was none.
     pub fn stamp(&self) -> u64
         ensures value { result ≡ self.now.stamp }
         ensures sound { IsSound self.now }
@@ -80,7 +82,8 @@ impl Requester {
         self.state.stamp
     }
 
-    /// The quorum of the current or last request, in ascending order; empty if there was none.
+    /// Returns the quorum of the current or last request, in ascending order; empty if there was
+    /// none.
     pub fn quorum(&self) -> &[u8]
         ensures value { result.now ≡ self.now.quorum.items }
         ensures sound { IsSound self.now }
@@ -88,14 +91,16 @@ impl Requester {
         self.state.quorum.as_slice()
     }
 
-    /// Whether no stamp is left for another request: the clock is at least the limit.
+    /// Returns whether no stamp is left for another request: whether the clock is at least the
+    /// limit.
     pub fn spent(&self) -> bool
         ensures { result ≡ is_spent self.now }
     {
         self.state.clock >= self.state.limit
     }
 
-    /// The grant under which the vote of this voter is held. None of a number from 64 on.
+    /// Returns the grant under which the vote of this voter is held, or `None` if it is not held.
+    /// `None` for a number from 64 on.
     pub fn held(&self, voter: u8) -> Option<u64>
         ensures { result ≡ grant_of self.now voter }
     {
@@ -105,29 +110,31 @@ impl Requester {
         }
     }
 
-    /// Why [`Requester::ask`] would be refused now, told beforehand; None where it would not be.
+    /// Returns why [`Requester::ask`] would fail now, or `None` if it would not.
     pub fn ask_fault(&self) -> Option<ClientFault>
         ensures { (quorum : List ℕ) → Foretells result (ask self.now quorum) }
     {
         self.state.ask_fault()
     }
 
-    /// Why [`Requester::leave`] would be refused now, told beforehand; None where it would not be.
+    /// Returns why [`Requester::leave`] would fail now, or `None` if it would not.
     pub fn leave_fault(&self) -> Option<ClientFault>
         ensures { Foretells result (leave self.now) }
     {
         self.state.leave_fault()
     }
 
-    /// Why [`Requester::give_up`] would be refused now, told beforehand; None where it would not be.
+    /// Returns why [`Requester::give_up`] would fail now, or `None` if it would not.
     pub fn give_up_fault(&self) -> Option<ClientFault>
         ensures { Foretells result (give_up self.now) }
     {
         self.state.give_up_fault()
     }
 
-    /// Starts a request for the votes of a quorum that is not empty: REQUEST to each member, in ascending order, under
-    /// the next stamp. Refused with C1 unless the client is idle, and then with C4 if no stamp is left.
+    /// Starts a request for the votes of a quorum that is not empty. The reply has a REQUEST under
+    /// the next stamp for each member, in ascending order.
+    ///
+    /// Fails with C1 unless the client is idle, and then with C4 if no stamp is left.
     pub fn ask(&mut self, quorum: &QSet) -> Result<Reply, ClientFault>
         requires { 1 ≤ length quorum.now }
         ensures asked { IfOk result (λ r. ask self.old quorum.now ≡ Ok (record { out = r.out.items; seen = r.seen; state = self.new })) }
@@ -140,7 +147,8 @@ impl Requester {
         Ok(Reply { out, seen })
     }
 
-    /// [`Requester::ask`], with the messages in `out` in place of what was there; where it is refused, `out` is empty.
+    /// Does what [`Requester::ask`] does, with the messages in `out` in place of what was there. If
+    /// it fails, `out` is empty.
     pub fn ask_into(&mut self, quorum: &QSet, out: &mut Messages) -> Result<Seen, ClientFault>
         requires { 1 ≤ length quorum.now }
         ensures asked { IfOk result (λ seen. ask self.old quorum.now ≡ Ok (record { out = out.new.items; seen = seen; state = self.new })) }
@@ -152,7 +160,8 @@ impl Requester {
         self.state.ask(quorum, out)
     }
 
-    /// Takes a message that names this client and a voter below 64.
+    /// Takes a message that names this client and a voter below 64. Returns what to send, and
+    /// whether the client entered.
     pub fn take(&mut self, message: &ToClient) -> Reply
         requires client { message.now.client ≡ self.old.id }
         requires voter { message.now.voter < 64 }
@@ -165,7 +174,7 @@ impl Requester {
         Reply { out, seen }
     }
 
-    /// [`Requester::take`], with the messages in `out` in place of what was there.
+    /// Does what [`Requester::take`] does, with the messages in `out` in place of what was there.
     pub fn take_into(&mut self, message: &ToClient, out: &mut Messages) -> Seen
         requires client { message.now.client ≡ self.old.id }
         requires voter { message.now.voter < 64 }
@@ -177,14 +186,16 @@ impl Requester {
         self.state.take(message, out)
     }
 
-    /// Whether `take` would hold a vote for this message: it is a LOCKED that counts.
+    /// Returns whether `take` would hold a vote for this message: whether it is a LOCKED that
+    /// counts.
     pub fn would_hold(&self, message: &ToClient) -> bool
         ensures { result ≡ would_hold self.now message.now }
     {
         self.state.would_hold(message)
     }
 
-    /// Leaves: RELEASE to each member, in ascending order. Refused with C2 unless the client is inside.
+    /// Leaves. The reply has a RELEASE for each member, in ascending order. Fails with C2 unless
+    /// the client is inside.
     pub fn leave(&mut self) -> Result<Reply, ClientFault>
         ensures left { IfOk result (λ r. leave self.old ≡ Ok (record { out = r.out.items; seen = r.seen; state = self.new })) }
         ensures refused { IfErr result (λ fault. (leave self.old ≡ Err fault) × (self.new ≡ self.old)) }
@@ -196,7 +207,8 @@ impl Requester {
         Ok(Reply { out, seen })
     }
 
-    /// [`Requester::leave`], with the messages in `out` in place of what was there; where it is refused, `out` is empty.
+    /// Does what [`Requester::leave`] does, with the messages in `out` in place of what was there.
+    /// If it fails, `out` is empty.
     pub fn leave_into(&mut self, out: &mut Messages) -> Result<Seen, ClientFault>
         ensures left { IfOk result (λ seen. leave self.old ≡ Ok (record { out = out.new.items; seen = seen; state = self.new })) }
         ensures refused { IfErr result (λ fault. (leave self.old ≡ Err fault) × (self.new ≡ self.old) × (out.new.items ≡ [])) }
@@ -207,7 +219,8 @@ impl Requester {
         self.state.leave(out)
     }
 
-    /// Gives the request up: RELEASE to each member, in ascending order. Refused with C3 unless the client asks.
+    /// Gives up the request. The reply has a RELEASE for each member, in ascending order. Fails
+    /// with C3 unless the client is asking.
     pub fn give_up(&mut self) -> Result<Reply, ClientFault>
         ensures given_up { IfOk result (λ r. give_up self.old ≡ Ok (record { out = r.out.items; seen = r.seen; state = self.new })) }
         ensures refused { IfErr result (λ fault. (give_up self.old ≡ Err fault) × (self.new ≡ self.old)) }
@@ -219,7 +232,8 @@ impl Requester {
         Ok(Reply { out, seen })
     }
 
-    /// [`Requester::give_up`], with the messages in `out` in place of what was there; where it is refused, `out` is empty.
+    /// Does what [`Requester::give_up`] does, with the messages in `out` in place of what was
+    /// there. If it fails, `out` is empty.
     pub fn give_up_into(&mut self, out: &mut Messages) -> Result<Seen, ClientFault>
         ensures given_up { IfOk result (λ seen. give_up self.old ≡ Ok (record { out = out.new.items; seen = seen; state = self.new })) }
         ensures refused { IfErr result (λ fault. (give_up self.old ≡ Err fault) × (self.new ≡ self.old) × (out.new.items ≡ [])) }
@@ -230,8 +244,8 @@ impl Requester {
         self.state.give_up(out)
     }
 
-    /// What to tell again while asking, for messages that were lost: to each member whose vote is not held, in ascending
-    /// order, RELINQUISH where its vote was given back, and REQUEST.
+    /// Returns what to send again while asking, in case messages were lost. Each member whose vote
+    /// is not held, in ascending order, gets RELINQUISH if its vote was given back, and REQUEST.
     pub fn remind(&self) -> Reminders
         ensures { result.items ≡ remind self.now }
     {

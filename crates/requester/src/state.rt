@@ -11,7 +11,7 @@ use arrayvec::ArrayVec;
 use message::{ClientBody, ToClient, ToVoter, VoterBody};
 use quorum_set::QSet;
 
-/// Where a client stands.
+/// What a client is doing.
 #[derive(Clone, Copy, Debug, PartialEq, Eq)]
 pub enum Phase {
     /// It wants nothing.
@@ -22,14 +22,14 @@ pub enum Phase {
     Inside,
 }
 
-/// What is seen of a step.
+/// Whether a client entered or left in a step.
 #[derive(Clone, Copy, Debug, PartialEq, Eq)]
 pub enum Seen {
-    /// Nothing.
+    /// Neither.
     Nothing,
     /// The client got the lock.
     Entered,
-    /// The client gave the lock up.
+    /// The client gave up the lock.
     Left,
 }
 
@@ -42,39 +42,39 @@ pub type Messages = ArrayVec<ToVoter, 64>;
 /// The messages of a reminder.
 pub type Reminders = ArrayVec<ToVoter, 128>;
 
-/// What a step makes a client do.
+/// What a client's step sends, and whether the client entered or left.
 #[derive(Drop)]
 pub struct Reply {
     /// The messages to send, in order.
     pub out: Messages,
-    /// What is seen of the step.
+    /// Whether the client entered or left.
     pub seen: Seen,
 }
 
-/// What a client knows. The arrays have a place for each voter.
+/// What a client knows. The arrays have an entry for each voter.
 #[derive(Drop)]
 pub struct ClientState {
     /// The client's number.
     pub id: u8,
-    /// How far its stamps may go.
+    /// The highest stamp that it may use.
     pub limit: u64,
-    /// The highest stamp that it saw or gave, 0 at first.
+    /// The highest stamp that it saw or used, 0 at first.
     pub clock: u64,
-    /// Where it stands.
+    /// Whether it is idle, asking or inside.
     pub phase: Phase,
     /// The stamp of the current or last request, 0 at first.
     pub stamp: u64,
     /// The quorum of the current or last request, empty at first.
     pub quorum: Members,
-    /// The grant under which the vote is held, 0 if it is not.
+    /// The grant under which the voter's vote is held, 0 if it is not.
     pub held: [u64; 64],
-    /// The last grant that was given back, over all requests, 0 at first.
+    /// The last grant that was given back to the voter, over all requests, 0 at first.
     pub last: [u64; 64],
-    /// For the current request the voter said FAIL.
+    /// Whether the voter sent FAIL for the current request.
     pub failed: [bool; 64],
-    /// For the current request the voter's vote was given back.
+    /// Whether the voter's vote was given back for the current request.
     pub relinquished: [bool; 64],
-    /// The voter asked for the vote that is held.
+    /// Whether the voter asked for its vote, which is held.
     pub inquired: [bool; 64],
 }
 
@@ -111,7 +111,7 @@ impl ClientState {
         self.phase != Phase::Idle && stamp == self.stamp
     }
 
-    /// The grant under which the vote of a voter is held, or 0.
+    /// Returns the grant under which the vote of a voter is held, or 0.
     pub fn held_of(&self, voter: u8) -> u64
         ensures { result ≡ held_of self.now voter }
     {
@@ -121,7 +121,7 @@ impl ClientState {
         }
     }
 
-    /// The last grant of a voter that was given back, or 0.
+    /// Returns the last grant of a voter that was given back, or 0.
     fn last_of(&self, voter: u8) -> u64
         ensures { result ≡ last_of self.now voter }
     {
@@ -173,7 +173,7 @@ impl ClientState {
         false
     }
 
-    /// No vote is held, and no voter is marked.
+    /// Forgets all held votes and all marks of voters.
     fn clear(&mut self)
         ensures { self.new ≡ cleared self.old }
     {
@@ -183,7 +183,7 @@ impl ClientState {
         self.inquired = [false; 64];
     }
 
-    /// Why it would not ask.
+    /// Returns why `ask` would fail, if it would.
     #[tactic(auto, unfolding(crate::specs::Steps::ask))]
     pub fn ask_fault(&self) -> Option<ClientFault>
         ensures fault { (quorum : List ℕ) → Foretells result (ask self.now quorum) }
@@ -196,7 +196,7 @@ impl ClientState {
         }
     }
 
-    /// A new request, of this quorum, under the next stamp.
+    /// Starts a new request for this quorum, under the next stamp.
     #[tactic(auto, unfolding(crate::specs::Steps::ask))]
     pub fn ask(&mut self, quorum: &QSet, out: &mut Messages) -> Result<Seen, ClientFault>
         requires few { self.old.limit < 2 ^ 63 }
@@ -217,7 +217,7 @@ impl ClientState {
         Ok(Seen::Nothing)
     }
 
-    /// Gives a vote back, if it is held.
+    /// Gives back a vote, if it is held.
     #[tactic(auto, unfolding(crate::specs::Steps::relinquish))]
     fn relinquish(&mut self, voter: u8, out: &mut Messages)
         requires voter { voter < 64 }
@@ -237,7 +237,7 @@ impl ClientState {
         }
     }
 
-    /// Gives a vote back whose voter is marked inquired.
+    /// Gives back a vote, if its voter is marked as inquired.
     fn relinquish_marked(&mut self, voter: u8, out: &mut Messages)
         requires voter { voter < 64 }
         requires room { array_vec_len out.old < 64 }
@@ -250,7 +250,7 @@ impl ClientState {
         }
     }
 
-    /// Gives the vote of each member back that is marked inquired.
+    /// Gives back the vote of each member that is marked as inquired.
     fn relinquish_inquired(&mut self, out: &mut Messages)
         requires voters { AllByRecursion (λ v. v < 64) self.old.quorum.items }
         requires apart { IsDistinct eqb self.old.quorum.items }
@@ -359,7 +359,7 @@ impl ClientState {
         }
     }
 
-    /// A message comes.
+    /// Takes a message.
     #[tactic(auto, unfolding(crate::specs::Steps::take))]
     pub fn take(&mut self, message: &ToClient, out: &mut Messages) -> Seen
         requires voter { message.now.voter < 64 }
@@ -373,7 +373,7 @@ impl ClientState {
         self.take_body(message.voter, message.body, out)
     }
 
-    /// Whether a message is a LOCKED that counts.
+    /// Returns whether a message is a LOCKED that counts.
     #[tactic(auto, unfolding(crate::specs::Steps::would_hold))]
     pub fn would_hold(&self, message: &ToClient) -> bool
         ensures { result ≡ would_hold self.now message.now }
@@ -386,7 +386,7 @@ impl ClientState {
         }
     }
 
-    /// The request is over: RELEASE to each member.
+    /// Ends the request: sends RELEASE to each member.
     fn release(&mut self, out: &mut Messages)
         requires few { array_vec_len self.old.quorum ≤ 64 }
         requires room { out.old.items ≡ [] }
@@ -398,7 +398,7 @@ impl ClientState {
         self.phase = Phase::Idle;
     }
 
-    /// Why it would not leave.
+    /// Returns why `leave` would fail, if it would.
     #[tactic(auto, unfolding(crate::specs::Steps::leave))]
     pub fn leave_fault(&self) -> Option<ClientFault>
         ensures { Foretells result (leave self.now) }
@@ -409,7 +409,7 @@ impl ClientState {
         }
     }
 
-    /// Leaves, from inside.
+    /// Leaves, if the client is inside.
     #[tactic(auto, unfolding(crate::specs::Steps::leave))]
     pub fn leave(&mut self, out: &mut Messages) -> Result<Seen, ClientFault>
         requires few { array_vec_len self.old.quorum ≤ 64 }
@@ -424,7 +424,7 @@ impl ClientState {
         Ok(Seen::Left)
     }
 
-    /// Why it would not give up.
+    /// Returns why `give_up` would fail, if it would.
     #[tactic(auto, unfolding(crate::specs::Steps::give_up))]
     pub fn give_up_fault(&self) -> Option<ClientFault>
         ensures { Foretells result (give_up self.now) }
@@ -435,7 +435,7 @@ impl ClientState {
         }
     }
 
-    /// Gives the request up, while asking.
+    /// Gives up the request, if the client is asking.
     #[tactic(auto, unfolding(crate::specs::Steps::give_up))]
     pub fn give_up(&mut self, out: &mut Messages) -> Result<Seen, ClientFault>
         requires few { array_vec_len self.old.quorum ≤ 64 }
@@ -467,7 +467,7 @@ impl ClientState {
         out.push(self.tell(voter, VoterBody::Request { stamp: self.stamp }));
     }
 
-    /// What to tell the members again, while asking.
+    /// Returns what to send to the members again while asking.
     #[tactic(auto, unfolding(crate::specs::Steps::remind))]
     pub fn remind(&self) -> Reminders
         requires voters { AllByRecursion (λ v. v < 64) self.now.quorum.items }

@@ -1,4 +1,4 @@
--- Runs of a plan's lock: their records, and why there is none.
+-- Runs of a plan's lock: their records, and why a run has none.
 use Rattle.std.specs.Prelude.{◌≡◌, ℕ, ◌*◌, ◌<◌, ◌==◌, Bool, true, length, map}
 use Rattle.std.specs.List.{All, count_by}
 use Rattle.certificate.specs.Certificates.{Weighted}
@@ -13,7 +13,10 @@ use Rattle.replay.specs.Records.{IsSoundRecord, entries_of}
 use Rattle.runs.specs.declared.fault.RunFault.{RunFault}
 use Rattle.runs.specs.declared.fault.RunFault.TheVariants.{Cluster, OutOfMemory}
 
--- The record of a run in which each of so many clients made so many passes: its tickets, their quorums and its pass numbers are those of a sound record by the plan, tickets and numbers stand in their order, and each client has a ticket and a pass number for each of its passes
+-- The record of a run in which each of `clients` clients made `passes` passes:
+-- - It is sound for the plan: its tickets, their quorums, its pass numbers and its register.
+-- - Tickets and numbers are in order.
+-- - Each client has a ticket and a pass number for each of its passes.
 pub record IsRun (plan : Weighted) (clients passes : ℕ) (r : RunRecord) : Type 0 where
   pub sound : IsSoundRecord plan (entries_of r)
   pub tickets : AreInOrder (map (λ d. d.1) r.draws.items)
@@ -25,17 +28,19 @@ pub record IsRun (plan : Weighted) (clients passes : ℕ) (r : RunRecord) : Type
   pub draws_of_each : (c : ℕ) → c < clients → count_by (λ d. d.0 == c) r.draws.items ≡ passes
   pub passes_of_each : (c : ℕ) → c < clients → count_by (λ p. p.0 == c) r.passes.items ≡ passes
 
--- each of so many clients is let pass
+-- each of the first `clients` clients is let pass
 abbrev pub AreLet : (ℕ → Bool) → ℕ → Type 0
 AreLet lets clients = (client : ℕ) → client < clients → lets client ≡ true
 
--- want of memory is one fault, wherever it comes from
+-- the fault of a run; running out of memory is one fault, wherever it comes from
 abbrev pub run_refusal : ClusterFault → RunFault
 run_refusal (ends.Deal deal.OutOfMemory) = OutOfMemory
 run_refusal (ends.Board board.OutOfMemory) = OutOfMemory
 run_refusal fault = Cluster fault
 
--- what ends a run of so many clients: one of them has no stamp or no turn left, the register is at its limit, or a vote is out at the end. Each has a ticket for each of its passes
+-- What ends a run of `clients` clients: one of them has no stamp or no turn left, the register is
+-- at its limit, or a vote is out at the end. Tickets don't run out: each client has one for each of
+-- its passes.
 abbrev pub EndsRunBy : ℕ → ClusterFault → Type 0
 EndsRunBy clients (ends.Client client.StampsSpent) = Unit {0}
 EndsRunBy clients (ends.Client client.Busy) = ⊥

@@ -7,10 +7,10 @@ use cluster::ClusterFault;
 use dealer::DealFault;
 use thiserror::Error;
 
-/// Why there is no record of a run.
+/// The reason why there is no record of a run.
 #[derive(Clone, Copy, Debug, PartialEq, Eq, Error)]
 pub enum RunFault {
-    /// A client's work ended early, or a vote was out at the end. Never for want of memory.
+    /// A client's work ended early, or a vote was out at the end. Never because memory ran out.
     #[error(transparent)]
     Cluster(ClusterFault),
     /// Memory ran out.

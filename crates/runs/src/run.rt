@@ -16,7 +16,8 @@ use std::marker::Brand;
 use std::sync::Wait;
 use std::thread::Threads;
 
-/// Opens a cluster, has each of its members make so many passes, and closes it.
+/// Opens a cluster, has each of its members make `passes` passes, closes it, and returns the
+/// record.
 fn run_blank<N: ClusterName + Send + Sync, R: Threads + Wait + Sync, G: Gate>(
     rt: &R,
     alloc: Global,
@@ -51,12 +52,15 @@ fn run_blank<N: ClusterName + Send + Sync, R: Threads + Wait + Sync, G: Gate>(
     }
 }
 
-/// Runs the lock of a plan with 1 to 64 clients, each of which makes so many passes in a thread of its own, and answers
-/// the record. It consumes the plan. Each pump and each question at the gate is a turn, and each client has so many turns
-/// for all its passes.
+/// Runs the lock of a plan with 1 to 64 clients and returns the record. Each client makes `passes`
+/// passes in a thread of its own. Consumes the plan.
 ///
-/// Where a client's work ends early, as when its turns are spent, the fault of the least such client is answered. Where the
-/// gate never lets one of the clients pass, or there are fewer than two turns for each pass, there is no record of a pass.
+/// Each pump and each question to the gate is a turn. Each client has `turns` turns for all its
+/// passes.
+///
+/// If a client's work ends early, for instance because its turns are spent, returns the fault of
+/// the smallest such client. There is no record of a pass if the gate never lets one of the clients
+/// pass, or with fewer than two turns for each pass.
 pub fn record_of_run<R: Threads + Wait + Sync, G: Gate>(
     rt: &R,
     alloc: Global,

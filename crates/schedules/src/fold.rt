@@ -1,16 +1,16 @@
-//! A world that is played step by step, and what is read off its answer.
+//! A world that is run step by step, and what can be seen of it.
 ghost use Rattle.std.specs.Prelude.{◌≤◌, ◌^◌};
 
 use certificate::Plan;
 use std::alloc::{AllocError, Global};
 use world::{Event, Step, Stepped, Trace, World, WorldFault};
 
-/// How many clients a world has, and how far its stamps and grants go.
+/// How many clients a world has, and its limit of stamps and grants.
 #[derive(Clone, Copy)]
 pub struct Sizes {
-    /// 1 to 64.
+    /// The number of clients, 1 to 64.
     pub clients: u8,
-    /// 1 to 2^40.
+    /// The limit, 1 to 2^40.
     pub limit: u64,
     ghost some: { 1 ≤ clients },
     ghost few: { clients ≤ 64 },
@@ -37,7 +37,7 @@ impl Fold {
         })
     }
 
-    /// Plays a step, and returns what it did. A refused one is noted.
+    /// Makes a step, and returns what it did. A step that is refused is noted.
     pub fn play(&mut self, step: Step) -> Result<Result<Stepped, WorldFault>, AllocError> {
         let place = self.steps;
         self.steps = self.steps.saturating_add(1);
@@ -48,7 +48,7 @@ impl Fold {
         Ok(answer)
     }
 
-    /// Whether a run made the same messages, events and refusals.
+    /// Returns whether a run made the same messages, events and refusals.
     pub fn is_told_by(&self, trace: &Trace) -> bool {
         if self.world.sent() != trace.messages.len() {
             return false;
@@ -63,7 +63,8 @@ impl Fold {
     }
 }
 
-/// Whether at most one client is inside at a time: who enters finds nobody inside, and who leaves is inside.
+/// Returns whether at most one client is inside at a time: a client enters only if nobody is
+/// inside, and leaves only if it is inside.
 pub fn is_exclusive(events: &[Event]) -> bool {
     let mut inside = None;
     for event in events {

@@ -1,10 +1,14 @@
-//! Hostile schedules of the lock: tests alone.
+//! Tests of the lock under hostile schedules. This crate has nothing but tests.
 //!
-//! A generator with a known seed draws long lists of steps, in which clients ask, leave, give up and remind, and messages
-//! come in order, late, again, before they are sent or never. Each list is played twice: by [`run`](world::run) at once,
-//! and step by step as it is drawn. Both have to make the same messages, the same events and the same refusals, and a
-//! checker of its own reads that at most one client is inside. `world` proves this of every list; here it is seen of a
-//! thousand. The tests also count what the lists tried, so that none passes because nothing happened.
+//! A generator with a known seed draws long lists of steps. In these, clients ask, leave, give up
+//! and remind, and messages arrive in order, late, again, before they are sent, or never.
+//!
+//! Each list is run twice: by [`run`](world::run) at once, and step by step as it is drawn. Both
+//! have to make the same messages, the same events and the same refusals. A separate checker tests
+//! that at most one client is inside.
+//!
+//! `world` proves this of every list; here it is seen of a thousand. The tests also count what the
+//! lists tried, so that none passes because nothing happened.
 #![tactic(auto)]
 
 #[cfg(test)]

@@ -5,19 +5,19 @@ use certificate::Plan;
 use small_plans::{grid_plan, majority_plan, wheel_plan};
 use std::alloc::{AllocError, Global};
 
-/// A coterie with weights that load its busiest voter least.
+/// A coterie with an optimal plan.
 #[derive(Clone, Copy)]
 pub enum Kind {
     /// Any two of three voters.
     Majority,
     /// Two rows of two voters: any three of four.
     Grid,
-    /// A hub and three rims, whose rim is used twice as often as a spoke.
+    /// A hub and three rims. The quorum of all rims is used twice as often as each of the others.
     Wheel,
 }
 
 impl Kind {
-    /// How many voters there are.
+    /// Returns how many voters there are.
     pub fn voters(self) -> u8
         ensures some { 1 ≤ result }
         ensures few { result ≤ 4 }
@@ -28,7 +28,7 @@ impl Kind {
         }
     }
 
-    /// Returns the plan. Out of memory is the one reason to fail.
+    /// Returns the plan. Fails only if it runs out of memory.
     pub fn plan(self, alloc: Global) -> Result<Plan, AllocError> {
         let plan = match self {
             Kind::Majority => majority_plan(alloc),

@@ -17,22 +17,23 @@ const STEPS: usize = 2000;
 /// What schedules tried.
 #[derive(Clone, Copy, Debug, Default)]
 pub struct Tally {
-    /// Clients that entered.
+    /// How many clients entered.
     pub entries: u64,
-    /// Messages that came once more.
+    /// How many messages arrived again.
     pub repeats: u64,
-    /// LOCKEDs for a request that ran no more, whose vote went back.
+    /// How many LOCKED messages arrived for a request that no longer ran, so that the vote went
+    /// back.
     pub late: u64,
-    /// REQUESTs, RELINQUISHs and RELEASEs that a voter refused, as it had no grant left.
+    /// How many messages a voter refused because it had no grant left.
     pub spent: u64,
-    /// Messages that came before they were sent.
+    /// How many messages arrived before they were sent.
     pub absent: u64,
 }
 
-/// A schedule that is being drawn, and the world in which its steps are played.
+/// A schedule that is being drawn, and the world in which its steps are made.
 #[derive(Drop)]
 pub struct Schedule {
-    /// Its world, after the steps so far.
+    /// Its world, after its steps so far.
     pub fold: Fold,
     /// Its steps so far.
     pub steps: Vec<Step>,
@@ -40,9 +41,9 @@ pub struct Schedule {
     pub sizes: Sizes,
     voters: u8,
     rng: Pcg64,
-    /// The message that comes next, where they come in order.
+    /// The message that arrives next, while they arrive in order.
     next: u64,
-    /// Whether the message of each number came.
+    /// For each message, by number, whether it arrived.
     came: Vec<bool>,
     ghost some: { 1 ≤ voters },
 }
@@ -90,7 +91,8 @@ impl Schedule {
         below(&mut self.rng, u64::from(self.voters)) as u8
     }
 
-    /// Draws one of the messages that were sent; before the first it is absent.
+    /// Draws one of the messages that were sent. If none was sent, returns message 0, which does
+    /// not exist yet.
     fn draw_sent(&mut self) -> u64 {
         let sent = self.fold.world.sent() as u64;
         if sent == 0 {
@@ -99,8 +101,10 @@ impl Schedule {
         below(&mut self.rng, sent)
     }
 
-    /// Draws the delivery of the next message in order; where all came, a client asks or leaves. One message in eight is
-    /// lost: it comes only where it is drawn among all.
+    /// Draws the delivery of the next message in order. If all have arrived, a client asks or
+    /// leaves.
+    ///
+    /// One message in eight is lost: it arrives only if it is drawn among all messages.
     fn draw_next(&mut self) -> Step {
         if below(&mut self.rng, 8) == 0 {
             self.next = self.next.saturating_add(1);
@@ -136,7 +140,8 @@ impl Schedule {
         }
     }
 
-    /// Notes that a message comes, and returns whether it came before. One that was not sent is not noted.
+    /// Notes that a message arrives, and returns whether it arrived before. A message that was not
+    /// sent is not noted.
     fn note(&mut self, number: u64) -> Result<bool, AllocError> {
         for _ in self.came.len()..self.fold.world.sent() {
             self.came.push(false)?;
@@ -151,7 +156,7 @@ impl Schedule {
         }
     }
 
-    /// The message of this number, if it was sent.
+    /// Returns the message with this number, if it was sent.
     fn message(&self, number: u64) -> Option<Message> {
         let number = number as usize;
         if number < self.fold.world.sent() {
@@ -161,7 +166,7 @@ impl Schedule {
         }
     }
 
-    /// Draws a step, plays it, and counts what it tries.
+    /// Draws a step, makes it, and counts what it tried.
     fn add_step(&mut self, tally: &mut Tally) -> Result<(), Fail> {
         let step = self.draw_step();
         self.steps.push(step)?;
@@ -204,7 +209,7 @@ impl Tally {
     }
 }
 
-/// Draws the schedule of a seed, plays it as it is drawn, and counts what it tries.
+/// Draws the schedule of a seed, makes its steps as they are drawn, and counts what they tried.
 pub fn drawn(alloc: Global, kind: Kind, seed: u64, tally: &mut Tally) -> Result<Schedule, Fail> {
     let mut schedule = Schedule::new(alloc, kind, seed)?;
     for _ in 0..STEPS {

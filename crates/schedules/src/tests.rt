@@ -7,24 +7,26 @@ use std::alloc::Global;
 use std::test::Fail;
 use world::{Event, Step, Trace, run};
 
-/// Where the seeds end: they are 0 to 999, of which each coterie has a third.
+/// The end of the seeds. They are 0 to 999, and each coterie has a third of them.
 const SEEDS: u64 = 1000;
 
-/// Where the first half of the seeds ends. A test has half of a coterie's.
+/// The end of the first half of the seeds. Each test has half of a coterie's seeds.
 const HALF: u64 = 500;
 
-/// How often at least half of a coterie's schedules try each thing that is counted.
+/// How often, at least, half of a coterie's schedules have to try each thing that is counted.
 const OFTEN: u64 = 100;
 
-/// Returns what a run of a schedule answers.
+/// Returns the trace of a schedule's run.
 fn trace_of(alloc: Global, kind: Kind, schedule: &Schedule) -> Result<Trace, Fail> {
     let sizes = schedule.sizes;
     let plan = kind.plan(alloc)?;
     Ok(run(alloc, plan, sizes.clients, sizes.limit, &schedule.steps)?)
 }
 
-/// Returns what the schedules of some seeds tried: every third one, from the first to the end. Nothing comes where a run is
-/// not told as it was drawn, or two clients were inside at once.
+/// Returns what the schedules of some seeds tried: every third seed, from the first to the end.
+///
+/// Returns `None` if a run differs from the steps as they were drawn, or two clients were inside at
+/// once.
 fn tried(alloc: Global, kind: Kind, first: u64, end: u64) -> Result<Option<Tally>, Fail> {
     let mut tally = Tally::default();
     for seed in first..end {
@@ -39,7 +41,7 @@ fn tried(alloc: Global, kind: Kind, first: u64, end: u64) -> Result<Option<Tally
     Ok(Some(tally))
 }
 
-/// Whether the runs were right, and everything was tried often.
+/// Returns whether the runs were right, and everything was tried often.
 fn is_hostile(tally: &Option<Tally>) -> bool {
     let Some(tally) = tally else {
         return false;
@@ -96,7 +98,8 @@ fn wheels_of_the_last_seeds(rt: HostRuntime) -> Result<(), Fail> {
     Ok(())
 }
 
-/// Plays the steps of a schedule, but for every delivery whose turn, from 1 on, is a multiple of `every`.
+/// Makes the steps of a schedule, except each delivery whose number in order, from 1 on, is a
+/// multiple of `every`.
 fn skipping(alloc: Global, kind: Kind, schedule: &Schedule, every: u32) -> Result<Fold, Fail>
     requires { 0 < every }
 {

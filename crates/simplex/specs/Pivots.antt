@@ -1,9 +1,9 @@
--- Pivots that were made.
+-- Numbers of pivots in faults.
 use Rattle.std.specs.Prelude.{ℕ, ◌≤◌}
 use Rattle.simplex.specs.declared.fault.SimplexFault.{SimplexFault}
 use Rattle.simplex.specs.declared.fault.SimplexFault.TheVariants.{Overflow, PivotLimit, NoRow, OutOfMemory}
 
--- the number of pivots that a fault names is at most this one
+-- if the fault has a number of pivots, it is at most `most`
 abbrev pub NamesAtMost : ℕ → SimplexFault → Type 0
 NamesAtMost most (Overflow pivots) = pivots ≤ most
 NamesAtMost most PivotLimit = Unit {0}

@@ -4,10 +4,10 @@ use Rattle.std.specs.declared.alloc.Global.{Global}
 use Rattle.fraction.specs.Fractions.{Fits}
 use Rattle.fraction.specs.Rows.{lists_of, row_at, entry_of}
 
--- a row of this length, of numbers that fit
+-- a row of this length, with numbers that fit
 abbrev pub IsStartRow : ℕ → List ℤ → Type 0
 IsStartRow columns r = (length r ≡ columns) × ((j : ℕ) → j < columns → Fits (entry_of r j))
 
--- so many rows
+-- `count` such rows
 abbrev pub AreStartRows : ℕ → ℕ → List (Vec ℤ Global) → Type 0
 AreStartRows count columns rows = (length rows ≡ count) × ((i : ℕ) → i < count → IsStartRow columns (row_at (lists_of rows) i))

@@ -20,20 +20,20 @@ pub struct Candidate {
     pub pivots: u32,
 }
 
-/// What became of a tableau at one step.
+/// What happened at one step.
 #[derive(Clone, Copy)]
 enum Step {
     /// No column improves the solution.
     Best,
     /// No row limits the column.
     NoRow,
-    /// A pivot that left the solution where it was.
+    /// A pivot left the solution as it was.
     Stalled,
-    /// A pivot that improved the solution.
+    /// A pivot improved the solution.
     Improved,
 }
 
-/// Returns the fault that a number does not fit, with the number of pivots that were made.
+/// Returns `Overflow` with the number of pivots that were made.
 fn overflow(method: &Method) -> SimplexFault
     ensures value { result ≡ SimplexFault.Overflow method.now.made }
     ensures named { (most : ℕ) → method.now.made ≤ most → NamesAtMost most result }
@@ -43,7 +43,8 @@ fn overflow(method: &Method) -> SimplexFault
     }
 }
 
-/// Makes one pivot, where one is needed: by the rule, or by Bland's rule after 2n pivots in a row that stalled.
+/// Makes one pivot if one is needed: by the rule, or by Bland's rule after 2n pivots in a row that
+/// stalled, for n voters.
 fn make_step(method: &mut Method, rule: Rule, stalled: usize) -> Result<Step, FracFault>
     requires { method.old.made + 1 < 2 ^ 32 }
     ensures coterie { method.new.coterie ≡ method.old.coterie }
@@ -93,12 +94,14 @@ fn improve(method: &mut Method, rule: Rule, pivots: u32) -> Result<(), SimplexFa
     }
 }
 
-/// Returns a weight as a whole number of the unit of all entries, where it is one of 64 bits that is not negative.
+/// Returns an entry of the tableau as a weight, in the unit that all entries share, or `None` if it
+/// is negative or does not fit into 64 bits.
 fn weight_of(number: i128) -> Option<u64> {
     u64::try_from(number).ok()
 }
 
-/// Returns the quorums' weights: the right side of the row that is solved for a quorum, and else 0.
+/// Returns the quorums' weights: the right side of the row that is solved for a quorum, or 0 if
+/// there is none.
 fn quorum_weights(alloc: Global, method: &Method, quorums: usize) -> Result<Vec<u64>, SimplexFault>
     ensures length { IfOk result (λ v. vec_len v ≡ quorums) }
     ensures refused { IfErr result (NamesAtMost method.now.made) }
@@ -116,7 +119,7 @@ fn quorum_weights(alloc: Global, method: &Method, quorums: usize) -> Result<Vec<
     Ok(weights)
 }
 
-/// Returns the voters' weights: the slacks' prices, with the other sign.
+/// Returns the voters' weights: the slacks' prices, negated.
 fn voter_weights(alloc: Global, method: &Method) -> Result<Vec<u64>, SimplexFault>
     ensures length { IfOk result (λ v. vec_len v ≡ method.now.coterie.now.voters) }
     ensures refused { IfErr result (NamesAtMost method.now.made) }
@@ -131,10 +134,12 @@ fn voter_weights(alloc: Global, method: &Method) -> Result<Vec<u64>, SimplexFaul
     Ok(weights)
 }
 
-/// Returns a candidate by at most `pivots` pivots, by Dantzig's rule: one number for each quorum and one for each voter.
+/// Returns a candidate that Dantzig's rule finds with at most `pivots` pivots: one number for each
+/// quorum and one for each voter.
 ///
-/// Fails with `Overflow` if a number does not fit, with `PivotLimit` if more pivots are needed, with `NoRow` if no row
-/// limits a column, and with `OutOfMemory`. The number that `Overflow` names is at most `pivots` too.
+/// Fails with `Overflow` if a number does not fit, with `PivotLimit` if more pivots are needed,
+/// with `NoRow` if no row limits a column, and with `OutOfMemory`. The number of pivots in
+/// `Overflow` is at most `pivots` too.
 pub fn solve(alloc: Global, coterie: &Coterie, pivots: u32) -> Result<Candidate, SimplexFault>
     ensures quorums { IfOk result (λ c. vec_len c.quorum_weights ≡ length coterie.now.quorums) }
     ensures voters { IfOk result (λ c. vec_len c.voter_weights ≡ coterie.now.voters) }
@@ -144,8 +149,9 @@ pub fn solve(alloc: Global, coterie: &Coterie, pivots: u32) -> Result<Candidate,
     solve_by(alloc, coterie, Rule::Dantzig, pivots)
 }
 
-/// Returns a candidate by a rule of choice; else as `solve`. After 2n pivots in a row that left the solution where it was,
-/// for n voters, Bland's rule chooses, until a pivot improves the solution.
+/// Returns a candidate that this rule finds; otherwise the same as `solve`. After 2n pivots in a
+/// row that left the solution as it was, for n voters, Bland's rule chooses until a pivot improves
+/// the solution.
 pub fn solve_by(
     alloc: Global,
     coterie: &Coterie,

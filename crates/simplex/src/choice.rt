@@ -1,4 +1,4 @@
-//! Which column enters the basis.
+//! The choice of the column that enters the basis.
 ghost use Rattle.std.specs.Prelude.{◌≡◌, ◌+◌, ◌<◌, length, IfOk, IfSome};
 
 use crate::method::{Method, product};
@@ -7,14 +7,20 @@ use fraction::FracFault;
 /// How many improving columns a search by `Rule::LeastPivot` looks at.
 const LOOKS: usize = 64;
 
-/// How the entering column is chosen among those that improve the solution. On ties the lowest column enters.
+/// How the entering column is chosen among those that improve the solution. On ties the column that
+/// comes first in the search enters.
 #[derive(Clone, Copy, Debug, PartialEq, Eq)]
 pub enum Rule {
-    /// The column of which a unit improves the solution most.
+    /// The column that improves the solution most for each unit.
     Dantzig,
-    /// Of the next 64 columns that improve the solution, in order of their numbers from where the last search stopped and
-    /// round again: columns that improve the solution at this pivot before those that don't; of these, the one whose
-    /// pivot entry is least; and then the greatest improvement by this pivot. The numbers stay smaller.
+    /// The best of the next 64 columns that improve the solution, in this order:
+    ///
+    /// - columns that improve the solution at this pivot come before those that don't;
+    /// - then the smallest pivot entry decides;
+    /// - then the greatest improvement by this pivot.
+    ///
+    /// The search takes the columns in the order of their numbers, from where the last search
+    /// stopped, and starts again at 0 after the last. By this rule the numbers stay smaller.
     LeastPivot,
 }
 
@@ -22,9 +28,10 @@ pub enum Rule {
 #[derive(Clone, Copy)]
 struct Choice {
     column: usize,
-    /// The entry of the row that it takes.
+    /// The entry in the row that gives way to it.
     entry: i128,
-    /// Its price times the right side of that row: for equal entries, in the order of the improvements by the pivot.
+    /// Its price times the right side of that row. For equal entries, this orders the columns by
+    /// the improvement that the pivot makes.
     gain: i128,
 }
 
@@ -38,7 +45,7 @@ struct Search {
     stop: usize,
 }
 
-/// Returns whether a column enters before another.
+/// Returns whether a column comes before the best so far.
 fn enters(choice: &Choice, best: &Option<Choice>) -> bool {
     let Some(best) = best else {
         return true;
@@ -62,7 +69,7 @@ pub(crate) fn first_entering(method: &Method) -> Result<Option<usize>, FracFault
     Ok(None)
 }
 
-/// Returns the column of the greatest price.
+/// Returns the column with the greatest price, if one improves the solution.
 fn greatest_entering(method: &Method) -> Result<Option<usize>, FracFault>
     ensures { IfOk result (λ o. IfSome o (λ j. j < length method.now.coterie.now.quorums + method.now.coterie.now.voters)) }
 {
@@ -78,7 +85,7 @@ fn greatest_entering(method: &Method) -> Result<Option<usize>, FracFault>
     Ok(best)
 }
 
-/// Returns a column of this price with the row that it takes, where a row limits it.
+/// Returns a column of this price with the row that gives way to it, or `None` if no row limits it.
 fn choice_of(method: &mut Method, column: usize, price: i128) -> Result<Option<Choice>, FracFault>
     requires { column < length method.old.coterie.now.quorums + method.old.coterie.now.voters }
     ensures coterie { method.new.coterie ≡ method.old.coterie }
@@ -96,7 +103,8 @@ fn choice_of(method: &mut Method, column: usize, price: i128) -> Result<Option<C
     }))
 }
 
-/// Returns the column so many places behind the one with which the search begins, round again at the end.
+/// Returns the column that is `places` places after the one with which the search begins, starting
+/// again at 0 after the last.
 fn column_after(method: &Method, places: usize) -> usize
     requires { places < length method.now.coterie.now.quorums + method.now.coterie.now.voters }
     ensures { result < length method.now.coterie.now.quorums + method.now.coterie.now.voters }
@@ -109,7 +117,8 @@ fn column_after(method: &Method, places: usize) -> usize
     }
 }
 
-/// Looks at a column, where it improves the solution: it is the best one if it enters before the best so far.
+/// Looks at a column, if it improves the solution: it becomes the best if it comes before the best
+/// so far.
 fn look_at(method: &mut Method, search: &mut Search, column: usize) -> Result<(), FracFault>
     requires column { column < length method.old.coterie.now.quorums + method.old.coterie.now.voters }
     requires looks { 0 < search.old.looks }
@@ -133,8 +142,7 @@ fn look_at(method: &mut Method, search: &mut Search, column: usize) -> Result<()
     Ok(())
 }
 
-/// Returns the column of the least pivot entry among the next columns that improve the solution. A column that no row
-/// limits is left out.
+/// Returns the column that `Rule::LeastPivot` chooses. A column that no row limits is left out.
 fn least_entering(method: &mut Method) -> Result<Option<usize>, FracFault>
     ensures coterie { method.new.coterie ≡ method.old.coterie }
     ensures made { method.new.made ≡ method.old.made }
@@ -158,7 +166,7 @@ fn least_entering(method: &mut Method) -> Result<Option<usize>, FracFault>
     }
 }
 
-/// Returns the column that enters, or none where the solution is the best.
+/// Returns the column that enters, or `None` if no column improves the solution.
 pub(crate) fn entering(method: &mut Method, rule: Rule) -> Result<Option<usize>, FracFault>
     ensures coterie { method.new.coterie ≡ method.old.coterie }
     ensures made { method.new.made ≡ method.old.made }

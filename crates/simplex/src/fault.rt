@@ -1,14 +1,14 @@
-//! Why there is no candidate.
+//! The faults of the simplex method.
 ghost use Rattle.std.specs.Prelude.{◌≡◌};
 ghost use Rattle.simplex.specs.declared.fault.SimplexFault.TheVariants.{OutOfMemory};
 
 use std::alloc::{AllocError, AllocFailed};
 use thiserror::Error;
 
-/// Why the simplex method gave no candidate.
+/// Why the simplex method found no candidate.
 #[derive(Clone, Copy, Debug, PartialEq, Eq, Error)]
 pub enum SimplexFault {
-    /// A number that the method forms does not fit its type.
+    /// A number that the method computes does not fit its type.
     #[error("S1 Overflow")]
     Overflow {
         /// How many pivots were made before.
@@ -17,8 +17,9 @@ pub enum SimplexFault {
     /// More pivots are needed than were allowed.
     #[error("S2 PivotLimit")]
     PivotLimit,
-    /// A column improves the solution without bound: no row limits it. This can't come from a coterie, since the sum that
-    /// is maximised is at most the number of voters; that is not proved.
+    /// A column improves the solution without bound: no row limits it. This can't happen for a
+    /// coterie, since the sum that is maximised is at most the number of voters. That is not
+    /// proved.
     #[error("S3 NoRow")]
     NoRow,
     /// Memory ran out.

@@ -8,7 +8,7 @@ use quorum_set::Coterie;
 use std::alloc::{AllocError, Global};
 use std::cmp::Ordering;
 
-/// The row that a column takes.
+/// The row that gives way to a column.
 #[derive(Clone, Copy)]
 pub(crate) struct Exit {
     /// The row's number.
@@ -21,16 +21,18 @@ pub(crate) struct Exit {
     pub(crate) right: i128,
 }
 
-/// A tableau with what its columns are sums of. Columns are numbered: first the quorums', then the slacks'.
+/// A tableau, with what its columns are sums of. Columns are numbered: first the quorums', then the
+/// slacks'.
 #[derive(Drop)]
 pub(crate) struct Method<'a> {
     coterie: &'a Coterie,
     /// For each column, the columns of the tableau that it is the sum of.
     columns: Vec<Vec<usize>>,
     tableau: Tableau,
-    /// The column that each voter's row is solved for: a quorum's number, or behind the quorums a voter's slack.
+    /// The column that each voter's row is solved for: a quorum's number, or after the quorums a
+    /// voter's slack.
     basis: Vec<usize>,
-    /// The column with which the next search by partial pricing begins.
+    /// The column with which the next search by `Rule::LeastPivot` begins.
     pub(crate) next: usize,
     /// How many pivots were made.
     made: u32,
@@ -40,7 +42,7 @@ pub(crate) struct Method<'a> {
     ghost based: { vec_len basis ≡ coterie.now.voters },
 }
 
-/// Returns the product, or `Overflow` where it does not fit.
+/// Returns the product, or `Overflow` if it does not fit.
 pub(crate) fn product(a: i128, b: i128) -> Result<i128, FracFault> {
     match a.checked_mul(b) {
         Some(product) => Ok(product),
@@ -48,8 +50,8 @@ pub(crate) fn product(a: i128, b: i128) -> Result<i128, FracFault> {
     }
 }
 
-/// Returns whether a row gives way before another: by the smaller ratio of its right side to its entry, and then by the
-/// smaller basis column. Entries are positive.
+/// Returns whether a row gives way before another: the one with the smaller ratio of its right side
+/// to its entry, and on ties the one with the smaller basis column. Entries are positive.
 fn gives_way(exit: &Exit, best: &Option<Exit>) -> Result<bool, FracFault> {
     let Some(best) = best else {
         return Ok(true);
@@ -89,7 +91,7 @@ fn quorum_summands(alloc: Global, coterie: &Coterie) -> Result<Vec<Vec<usize>>, 
     Ok(columns)
 }
 
-/// Returns the column of a slack alone.
+/// Returns the one summand of a slack's column.
 fn only(alloc: Global, voter: usize, voters: usize) -> Result<Vec<usize>, AllocError>
     requires { voter < voters }
     ensures { IfOk result (λ v. All (λ j. j < voters + 3) v.items) }
@@ -179,7 +181,7 @@ impl<'a> Method<'a> {
         self.tableau.price(self.columns[column].as_slice())
     }
 
-    /// Has a column enter.
+    /// Makes a column the one that enters.
     pub(crate) fn enter(&mut self, column: usize) -> Result<(), FracFault>
         requires { column < length self.old.coterie.now.quorums + self.old.coterie.now.voters }
         ensures coterie { self.new.coterie ≡ self.old.coterie }
@@ -188,8 +190,9 @@ impl<'a> Method<'a> {
         self.tableau.enter(self.columns[column].as_slice())
     }
 
-    /// Returns the row that limits the column that enters, if any does: of those with a positive entry the one with the
-    /// smallest ratio of the right side to the entry, and on ties the one solved for the lowest column.
+    /// Returns the row that limits the column that enters, if there is one. Of the rows with a
+    /// positive entry it is the one with the smallest ratio of the right side to the entry. On ties
+    /// it is the one that is solved for the lowest column.
     pub(crate) fn leaving(&self) -> Result<Option<Exit>, FracFault>
         ensures { IfOk result (λ o. IfSome o (λ e. e.row < self.now.coterie.now.voters)) }
     {
@@ -211,7 +214,7 @@ impl<'a> Method<'a> {
         Ok(best)
     }
 
-    /// Solves a row for the column that enters, whose number is given.
+    /// Solves a row for the column that enters, whose number is `column`.
     pub(crate) fn pivot(&mut self, row: usize, column: usize) -> Result<(), FracFault>
         requires row { row < self.old.coterie.now.voters }
         requires made { self.old.made + 1 < 2 ^ 32 }

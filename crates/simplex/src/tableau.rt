@@ -7,12 +7,14 @@ ghost use Rattle.simplex.specs.Starts.{IsStartRow, AreStartRows};
 use fraction::{FracFault, Shared};
 use std::alloc::{AllocError, Global};
 
-/// A row for each voter and one for the objective, over one denominator. The columns are a slack for each voter, the right
-/// side, the unit, and the column that enters. A voter's row says that the quorums with the voter and the slack sum to the
-/// right side. The objective's row has the prices: by how much the sum of all quorums grows for each unit of a column.
+/// A row for each voter and one for the objective, over one denominator. The columns are a slack
+/// for each voter, the right side, the unit, and the column that enters. A voter's row says that
+/// the quorums with the voter, and its slack, sum to the right side. The objective's row has the
+/// prices: by how much the sum of all quorums grows for each unit of a column.
 ///
-/// The columns of the quorums are not kept. The unit is 1 in the objective's row and 0 in the others, before each pivot and
-/// after it, so a quorum's column is the sum of its members' slacks and of the unit.
+/// The columns of the quorums are not stored. The unit is 1 in the objective's row and 0 in the
+/// others, before each pivot and after it. So a quorum's column is the sum of its members' slacks
+/// and of the unit.
 #[derive(Drop)]
 pub(crate) struct Tableau {
     voters: usize,
@@ -77,7 +79,7 @@ impl Tableau {
         self.voters
     }
 
-    /// Returns the right side of a row, in units of which the denominator makes 1, as do all entries.
+    /// Returns the right side of a row: a whole number over the denominator, as are all entries.
     pub(crate) fn right_side(&self, row: usize) -> i128
         requires { row ≤ self.now.voters }
     {
@@ -106,7 +108,7 @@ impl Tableau {
         self.cells.sum(self.voters, columns)
     }
 
-    /// Has the sum of some columns enter.
+    /// Makes the sum of some columns the column that enters.
     pub(crate) fn enter(&mut self, columns: &[usize]) -> Result<(), FracFault>
         requires { All (λ j. j < self.old.voters + 3) columns.now }
         ensures { self.new.voters ≡ self.old.voters }
@@ -114,7 +116,8 @@ impl Tableau {
         self.cells.sum_columns(columns, self.voters + 2)
     }
 
-    /// Solves a voter's row for the column that enters. Its entry there has to be positive, or this fails with `Overflow`.
+    /// Solves a voter's row for the column that enters. Fails with `Overflow` if the row's entry
+    /// there is not positive, or if a number does not fit.
     pub(crate) fn pivot(&mut self, row: usize) -> Result<(), FracFault>
         requires { row < self.old.voters }
         ensures { self.new.voters ≡ self.old.voters }

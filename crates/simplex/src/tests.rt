@@ -15,7 +15,7 @@ fn set_of(members: &[u8]) -> QSet {
     set
 }
 
-/// A hub 0 and three rims: each spoke, and the rims.
+/// Returns the wheel of hub 0 and three rims: each spoke, and the rim.
 fn wheel(alloc: Global) -> Result<Coterie, Fail> {
     let mut sets = Vec::new(alloc);
     for spoke in [[0u8, 1], [0, 2], [0, 3]] {
@@ -25,7 +25,7 @@ fn wheel(alloc: Global) -> Result<Coterie, Fail> {
     Ok(Coterie::of(4, sets)?)
 }
 
-/// The numbers of a candidate, or the fault.
+/// Returns the numbers of a candidate, or the fault.
 fn shown(alloc: Global, answer: Result<Candidate, SimplexFault>) -> Result<String, AllocError> {
     match answer {
         Ok(c) => format!(in alloc; "{:?} {:?}", c.quorum_weights, c.voter_weights),

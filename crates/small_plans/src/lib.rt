@@ -7,9 +7,10 @@
 //! | [`grid_plan`] | 2 by 2 | a row and a column, which are any three | 3/4 |
 //! | [`wheel_plan`] | a hub and three rims | the hub with a rim, or all rims | 3/5 |
 //!
-//! [`plan_of`] makes others. Nothing but safety is proved here: a plan that comes out is one, since `certificate` checked it.
+//! [`plan_of`] makes others. Nothing but safety is proved here. What is returned is a plan because
+//! `certificate` checked it.
 //!
-//! This crate stands on `quorum_set` and `certificate`.
+//! Depends on `quorum_set` and `certificate`.
 #![tactic(auto)]
 
 mod plans;

@@ -15,7 +15,7 @@ const CROSSES: [&[u8]; 4] = [&[0, 1, 2], &[0, 1, 3], &[0, 2, 3], &[1, 2, 3]];
 /// The hub 0 with each of three rims, and the rims.
 const SPOKES: [&[u8]; 4] = [&[0, 1], &[0, 2], &[0, 3], &[1, 2, 3]];
 
-/// Returns the set of these numbers. Those of 64 or more are left out.
+/// Returns the set of these numbers. Numbers of 64 or more are left out.
 pub fn set_of(members: &[u8]) -> QSet {
     let mut set = QSet::empty();
     for i in members {
@@ -35,14 +35,15 @@ pub fn sets_of(alloc: Global, quorums: &[&[u8]]) -> Result<Vec<QSet>, AllocError
     Ok(sets)
 }
 
-/// Returns the coterie of these quorums. Fails where they are not one, or out of memory.
+/// Returns the coterie of these quorums. Fails if they are not one, or out of memory.
 pub fn coterie_of(alloc: Global, voters: usize, quorums: &[&[u8]]) -> Result<Coterie, Fail>
     ensures voters { IfOk result (λ coterie. coterie.voters ≡ voters) }
 {
     Ok(Coterie::of(voters, sets_of(alloc, quorums)?)?)
 }
 
-/// Returns the plan with these weights of the quorums and of the voters, or none where it is not one or memory runs out.
+/// Returns the plan with these weights of the quorums and of the voters, or `None` if it is not a
+/// plan or memory runs out.
 pub fn plan_of(
     alloc: Global,
     quorums: &[&[u8]],
@@ -55,30 +56,31 @@ pub fn plan_of(
     check(alloc, &coterie, quorum_weights, voter_weights).ok()
 }
 
-/// Returns the plan in which each quorum and each voter has weight 1, or none where it is not one or memory runs out.
+/// Returns the plan in which each quorum and each voter has weight 1, or `None` if it is not a plan
+/// or memory runs out.
 pub fn even_plan(alloc: Global, voters: usize, quorums: &[&[u8]]) -> Option<Plan> {
     let quorum_weights = vec![in alloc; 1; quorums.len()].ok()?;
     let voter_weights = vec![in alloc; 1; voters].ok()?;
     plan_of(alloc, quorums, &quorum_weights, &voter_weights)
 }
 
-/// Returns the plan of one voter alone, or none where memory runs out.
+/// Returns the plan of one voter alone, or `None` if memory runs out.
 pub fn lone_plan(alloc: Global) -> Option<Plan> {
     even_plan(alloc, 1, &[&[0]])
 }
 
-/// Returns the plan of any two of three voters, or none where memory runs out.
+/// Returns the plan of any two of three voters, or `None` if memory runs out.
 pub fn majority_plan(alloc: Global) -> Option<Plan> {
     even_plan(alloc, 3, &MAJORITIES)
 }
 
-/// Returns the plan of a row and a column of two by two voters, or none where memory runs out.
+/// Returns the plan of a row and a column of two by two voters, or `None` if memory runs out.
 pub fn grid_plan(alloc: Global) -> Option<Plan> {
     even_plan(alloc, 4, &CROSSES)
 }
 
-/// Returns the plan of the wheel with three rims, or none where memory runs out. Its last quorum, the rims, is used twice as
-/// often as a spoke.
+/// Returns the plan of the wheel with three rims, or `None` if memory runs out. Its last quorum,
+/// the rims, is used twice as often as each of the others.
 pub fn wheel_plan(alloc: Global) -> Option<Plan> {
     plan_of(alloc, &SPOKES, &[1, 1, 1, 2], &[2, 1, 1, 1])
 }

@@ -9,7 +9,7 @@ use std::alloc::Global;
 use std::test::Fail;
 use std::thread;
 
-/// The set of voter 0 alone.
+/// Returns the set of voter 0 alone.
 fn zero() -> QSet
     ensures { result ≡ 0 ∷ [] }
 {
@@ -18,7 +18,7 @@ fn zero() -> QSet
     set
 }
 
-/// The coterie of one voter, whose one quorum has it.
+/// Returns the coterie of one voter, with one quorum.
 fn one(alloc: Global) -> Result<Coterie, Fail>
     ensures { IfOk result (λ c. c ≡ record { voters = 1; quorums = (0 ∷ []) ∷ [] }) }
 {
@@ -150,7 +150,7 @@ fn passes_come_back(rt: HostRuntime) -> Result<(), Fail> {
     Ok(())
 }
 
-/// The client inside by quorum 0 passes, and gives the vote of voter 0 back.
+/// Has the client, which is inside by quorum 0, pass and give back the vote of voter 0.
 fn pass_once(board: &Board, mut client: ClientSeat) -> ClientSeat
     requires table { client.table ≡ board.now.table }
     requires voter { 0 < board.now.voters }

@@ -1,4 +1,4 @@
-//! Clusters to be driven, and what comes of a drive.
+//! Clusters to be driven, and the results of drives.
 ghost use Rattle.std.specs.Prelude.{◌≡◌, ◌*◌, ◌≤◌, ◌^◌};
 ghost use Rattle.members.specs.Clusters.{ClusterState};
 
@@ -10,7 +10,7 @@ use std::sync::Wait;
 use std::test::Fail;
 use std::thread::Threads;
 
-/// A cluster of a plan, with so many clients and so many tickets for each.
+/// Returns a cluster of a plan, with this number of clients and this quota of tickets for each.
 pub(crate) fn blank_of(alloc: Global, plan: Option<Plan>, clients: u8, quota: u64) -> Option<Blank>
     requires least { 1 ≤ clients }
     requires most { clients ≤ 64 }
@@ -19,8 +19,8 @@ pub(crate) fn blank_of(alloc: Global, plan: Option<Plan>, clients: u8, quota: u6
     Blank::new(alloc, plan?, clients, quota).ok()
 }
 
-/// What came of a drive: how many members came back idle, how many tickets they drew and passes they made in all, and
-/// why it ended early.
+/// The result of a drive: how many members came back idle, how many tickets they drew and passes
+/// they made in all, and why it ended early.
 #[derive(Clone, Copy, Debug, PartialEq, Eq)]
 pub(crate) struct Outcome {
     pub(crate) idle: usize,
@@ -29,7 +29,7 @@ pub(crate) struct Outcome {
     pub(crate) fault: Option<ClusterFault>,
 }
 
-/// What these members show.
+/// Returns what these members have done.
 fn shown<N: ClusterName>(members: &[Member<N>], fault: Option<ClusterFault>) -> Outcome {
     let mut outcome = Outcome {
         idle: 0,
@@ -47,7 +47,7 @@ fn shown<N: ClusterName>(members: &[Member<N>], fault: Option<ClusterFault>) -> 
     outcome
 }
 
-/// Drives all members of a cluster once.
+/// Drives all members of a cluster once, and returns the result.
 pub(crate) fn driven<N: ClusterName + Send + Sync, R: Threads + Wait + Sync, G: Gate>(
     rt: &R,
     alloc: Global,

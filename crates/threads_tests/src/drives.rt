@@ -14,7 +14,7 @@ use std::test::Fail;
 use std::thread;
 use std::thread::Threads;
 
-/// Keeps client 0 inside until client 1, which came meanwhile, has asked.
+/// A gate that keeps client 0 inside until client 1, which came meanwhile, has asked.
 #[derive(Drop)]
 struct Meeting {
     inside: AtomicBool,
@@ -33,7 +33,7 @@ impl Meeting {
         }
     }
 
-    /// Waits until a call was made. The meeting is late where it never is.
+    /// Waits until a call was made. If it never is, the meeting is late.
     fn wait_for(&self, call: &AtomicBool) {
         for _ in 0..1_000_000_000u64 {
             if call.load(Ordering::SeqCst) {
@@ -44,7 +44,7 @@ impl Meeting {
         self.late.store(true, Ordering::SeqCst);
     }
 
-    /// Whether each of the calls came in time.
+    /// Returns whether each of the calls came in time.
     fn took_place(&self) -> bool {
         self.inside.load(Ordering::SeqCst)
             && self.came.load(Ordering::SeqCst)
@@ -97,7 +97,7 @@ fn two_members_run_at_once(rt: HostRuntime) -> Result<(), Fail> {
     Ok(())
 }
 
-/// Never lets client 0 pass.
+/// A gate that never lets client 0 pass.
 #[derive(Drop)]
 struct Shut;
 
@@ -174,7 +174,8 @@ fn four_members_make_four_hundred_passes(rt: HostRuntime) -> Result<(), Fail> {
     Ok(())
 }
 
-/// How many members come back of none; and the faults of the first member after a drive with no turns, and after one with many.
+/// Returns how many members come back from a drive of none, and two faults of the first member:
+/// after a drive with no turns, and then after one with many.
 fn driven_again<N: ClusterName + Send + Sync, R: Threads + Wait + Sync>(
     rt: &R,
     alloc: Global,

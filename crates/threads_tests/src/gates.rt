@@ -11,13 +11,15 @@ use std::sync::atomic::{AtomicU64, Ordering};
 use std::test::Fail;
 use std::thread::Threads;
 
-/// How many clients a gate counts the calls of.
+/// The number of clients whose calls a gate counts.
 const CLIENTS: u8 = 3;
 
-/// How often a gate was called for a client: before it asks, once it has asked, and whether it may pass.
+/// How often a gate was called for a client: before the client asks, once it has asked, and whether
+/// it may pass.
 type Calls = (u64, u64, u64);
 
-/// Counts its calls for each client, and lets a client pass from its question of a given number on.
+/// A gate that counts its calls for each client. It lets a client pass from its question with a
+/// given number on.
 #[derive(Drop)]
 struct Counting {
     before: [AtomicU64; 3],
@@ -26,7 +28,7 @@ struct Counting {
     opens_at: u64,
 }
 
-/// No call yet.
+/// Returns counts of no calls.
 fn none_yet() -> [AtomicU64; 3] {
     [AtomicU64::new(0), AtomicU64::new(0), AtomicU64::new(0)]
 }
@@ -39,7 +41,7 @@ fn count(calls: &[AtomicU64; 3], client: u8) -> u64 {
     }
 }
 
-/// How many calls were counted for a client.
+/// Returns how many calls were counted for a client.
 fn counted(calls: &[AtomicU64; 3], client: u8) -> u64 {
     calls
         .get(usize::from(client))
@@ -47,7 +49,7 @@ fn counted(calls: &[AtomicU64; 3], client: u8) -> u64 {
 }
 
 impl Counting {
-    /// Opens at the question of this number, counted from 1.
+    /// Returns a gate that opens at the question with this number, counted from 1.
     fn opens_at(question: u64) -> Counting {
         Counting {
             before: none_yet(),
@@ -57,7 +59,7 @@ impl Counting {
         }
     }
 
-    /// The calls for a client.
+    /// Returns the calls for a client.
     fn calls(&self, client: u8) -> Calls {
         (
             counted(&self.before, client),
@@ -81,10 +83,10 @@ impl Gate for Counting {
     }
 }
 
-/// A gate that opens at no question.
+/// The number of a question at which no gate arrives, so that it stays shut.
 const NEVER: u64 = 1_000_000_000_000;
 
-/// What one client on majorities of three voters does in so many turns.
+/// Returns what one client on majorities of three voters does in `turns` turns.
 fn alone<R: Threads + Wait + Sync>(
     rt: &R,
     alloc: Global,
@@ -99,7 +101,8 @@ fn alone<R: Threads + Wait + Sync>(
     Ok(Some(outcome))
 }
 
-/// Two pumps bring two votes, and the second of them has the client enter: so each turn beyond two is a question.
+/// Two pumps bring two votes, and the second one lets the client enter. So each turn beyond two is
+/// a question.
 #[test]
 fn each_pump_and_each_question_is_a_turn(rt: HostRuntime) -> Result<(), Fail> {
     for (turns, questions) in [(0, 0), (1, 0), (2, 0), (3, 1), (10, 8)] {
@@ -117,7 +120,8 @@ fn each_pump_and_each_question_is_a_turn(rt: HostRuntime) -> Result<(), Fail> {
     Ok(())
 }
 
-/// Each pass takes three turns: two pumps and a question. A turn less ends the work at the last question.
+/// Each pass takes three turns: two pumps and a question. With one turn less, the work ends at the
+/// last question.
 #[test]
 fn a_gate_is_asked_anew_before_each_pass(rt: HostRuntime) -> Result<(), Fail> {
     let spent = Some(ClusterFault::TurnsSpent(0));

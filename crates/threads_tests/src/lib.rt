@@ -1,9 +1,13 @@
-//! Tests of running threads and of their records, by their public calls: nothing here but tests.
+//! Tests of running threads and of their records through public calls. This crate has nothing but
+//! tests.
 //!
-//! `boards` has votes and the register; `nodes` and `services` have nodes and mailboxes; `clusters` makes clusters for `drives`
-//! and `gates`; `record_texts` reads records, `record_checks` judges them, `records_of_runs` and `runs_of_plans` make them.
+//! - `boards` has votes and the register; `nodes` and `services` have nodes and mailboxes.
+//! - `clusters` makes clusters for `drives` and `gates`.
+//! - `record_texts` reads records, `record_checks` checks them, and `records_of_runs` and
+//!   `runs_of_plans` make them.
 //!
-//! They stand apart from the crates that they test, which are then proved once and not once more with their tests.
+//! The tests are not in the crates that they test, so these are proved once, and not again together
+//! with their tests.
 #![tactic(auto)]
 
 #[cfg(test)]

@@ -1,4 +1,4 @@
-//! What only a run shows: calls find memory, and the board gives and settles what it has.
+//! What only a run can show: calls find memory, and the board grants and settles what it has.
 ghost use Rattle.std.specs.Prelude.{◌≡◌, ◌<◌, ◌≤◌, None};
 ghost use Rattle.board.specs.Seats.{BoardState, ClientSeatState, VoterSeatState};
 ghost use Rattle.node.specs.Names.{ClusterState};
@@ -11,7 +11,8 @@ use std::alloc::{AllocError, Global};
 use std::marker::Brand;
 use std::test::Fail;
 
-/// Whether the mailbox of client 1 is a queue, and refuses what may not stand there. Its cluster has three voters.
+/// Returns whether the mailbox of client 1 is a queue, and refuses what it can't take. Its cluster
+/// has three voters.
 fn queues<N: ClusterName>(alloc: Global, voters: usize) -> Result<bool, AllocError>
     requires { voters ≡ N.cluster.board.voters }
 {
@@ -60,7 +61,7 @@ fn mailbox_is_a_queue(rt: HostRuntime) -> Result<(), Fail> {
     Ok(())
 }
 
-/// The coterie of one voter.
+/// Returns the coterie of one voter.
 fn one(alloc: Global) -> Result<Coterie, Fail> {
     let mut set = QSet::empty();
     set.insert(0);
@@ -68,7 +69,7 @@ fn one(alloc: Global) -> Result<Coterie, Fail> {
     Ok(Coterie::of(1, sets)?)
 }
 
-/// The message of client 0 to voter 0.
+/// Returns a message of client 0 to voter 0.
 fn says(body: VoterBody) -> ToVoter
     ensures { result ≡ record { client = 0; voter = 0; body = body } }
 {
@@ -79,8 +80,8 @@ fn says(body: VoterBody) -> ToVoter
     }
 }
 
-/// Whether a node grants, drops what would free a vote that is taken, frees it once it is given back, and leaves a seat with
-/// no grant where its last one was not taken.
+/// Returns whether a node grants, drops what would free a vote that is taken, and frees the vote
+/// once it is given back. If its last grant was not taken, it has to leave a seat without a grant.
 fn settles<N: ClusterName>(
     alloc: Global,
     board: &Board,
@@ -119,7 +120,7 @@ fn settles<N: ClusterName>(
     )
 }
 
-/// Whether a node whose vote is taken leaves its seat with the grant.
+/// Returns whether a node whose vote is taken leaves its seat with the grant.
 fn keeps<N: ClusterName>(
     alloc: Global,
     board: &Board,

@@ -1,11 +1,12 @@
-//! Records that are judged.
+//! Records that are checked.
 use cluster::RunRecord;
 use replay::{ReplayFault, check_record};
 use small_plans::majority_plan;
 use std::alloc::Global;
 use std::test::Fail;
 
-/// A record of three draws, of which the first two are right, and of two passes, of which the first has number 0.
+/// Returns a record of three draws and two passes. The first two draws are right, and the first
+/// pass has number 0.
 fn record_of(
     alloc: Global,
     third: (u8, u64, usize),

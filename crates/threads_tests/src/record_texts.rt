@@ -8,7 +8,7 @@ use std::test::Fail;
 const RECORD: &str =
     "quorum-record 1\ndraw 0 0 0\ndraw 1 2 2\ndraw 0 1 1\npass 0 0\npass 1 1\nregister 2\n";
 
-/// What a record's text tells, or its fault.
+/// Returns what a record's text says, or the text of its fault.
 fn told(alloc: Global, text: &[u8]) -> Result<String, Fail> {
     match read_record(alloc, text) {
         Ok(run) => Ok(format!(in alloc; "{run:?}")?),

@@ -1,4 +1,4 @@
-//! The record of a cluster that was closed is accepted, also where a client had no turns left.
+//! The record of a closed cluster is accepted, even if a client had no turns left.
 ghost use Rattle.std.specs.Prelude.{◌≡◌, nat_lt};
 ghost use Rattle.members.specs.Clusters.{ClusterState};
 
@@ -12,7 +12,7 @@ use std::sync::Wait;
 use std::test::Fail;
 use std::thread::Threads;
 
-/// The record of members that enter, pass and leave, one after the other.
+/// Returns the record of members that enter, pass and leave, one after the other.
 fn recorded<N: ClusterName>(
     rt: &impl Wait,
     alloc: Global,
@@ -57,7 +57,7 @@ fn the_record_of_a_cluster_is_accepted(rt: HostRuntime) -> Result<(), Fail> {
     Ok(())
 }
 
-/// Never lets client 0 pass.
+/// A gate that never lets client 0 pass.
 #[derive(Drop)]
 struct Shut;
 
@@ -73,8 +73,8 @@ impl Gate for Shut {
     }
 }
 
-/// The fault of a drive of one pass each at a gate that is shut for client 0, how many members came back idle, and the
-/// record of the cluster, which is then closed.
+/// Drives one pass of each client at a gate that is shut for client 0, and then closes the cluster.
+/// Returns the fault of the drive, how many members came back idle, and the record.
 fn shut_out<N: ClusterName + Send + Sync, R: Threads + Wait + Sync>(
     rt: &R,
     alloc: Global,

@@ -1,5 +1,5 @@
-//! Every voter serves every client: it drops no message that it has to take, and takes none that would free a vote that is
-//! taken.
+//! Every voter serves every client. It drops no message that it has to take, and takes none that
+//! would free a vote that is taken.
 ghost use Rattle.std.specs.Prelude.{◌≡◌, ◌<◌, ◌≤◌, None};
 ghost use Rattle.board.specs.Seats.{BoardState, ClientSeatState, VoterSeatState};
 ghost use Rattle.node.specs.Names.{ClusterState};
@@ -12,7 +12,8 @@ use std::alloc::{AllocError, Global};
 use std::marker::Brand;
 use std::test::Fail;
 
-/// Whether a node replies just this to a message. None where it has to drop it.
+/// Returns whether a node sends exactly these replies to a message. `None` means that it has to
+/// drop the message.
 fn replies<N: ClusterName>(
     board: &Board,
     node: &mut Node<N>,
@@ -37,7 +38,7 @@ fn replies<N: ClusterName>(
     }
 }
 
-/// Whether a client can take a voter's vote by this grant.
+/// Returns whether a client can take a voter's vote by this grant.
 fn takes(board: &Board, seat: &mut ClientSeat, voter: u8, grant: u64) -> bool
     requires table { seat.old.table ≡ board.now.table }
     ensures table { seat.new.table ≡ seat.old.table }
@@ -49,7 +50,7 @@ fn takes(board: &Board, seat: &mut ClientSeat, voter: u8, grant: u64) -> bool
         && seat.take(board, voter, grant)
 }
 
-/// Whether a client had a voter's vote and gave it back.
+/// Gives back a voter's vote, and returns whether the client had it.
 fn gives(board: &Board, seat: &mut ClientSeat, voter: u8) -> bool
     requires table { seat.old.table ≡ board.now.table }
     ensures table { seat.new.table ≡ seat.old.table }
@@ -61,8 +62,10 @@ fn gives(board: &Board, seat: &mut ClientSeat, voter: u8) -> bool
     true
 }
 
-/// Whether a node grants its vote to a client, takes it back for another whose request comes first, and grants it again,
-/// and drops a message that would free the vote while it is taken.
+/// Returns whether a node serves two clients as it has to.
+///
+/// It grants its vote to the late one, takes it back for the early one, whose request comes first,
+/// and grants it again. It drops a message that would free the vote while it is taken.
 fn serves<N: ClusterName>(
     alloc: Global,
     board: &Board,
@@ -115,7 +118,7 @@ fn serves<N: ClusterName>(
     Ok(granted && inquired && relinquished && kept && released && over && free)
 }
 
-/// The coterie of one quorum of 64 voters.
+/// Returns the coterie of one quorum of 64 voters.
 fn all_voters(alloc: Global) -> Result<Coterie, Fail> {
     let mut set = QSet::empty();
     for voter in 0..64u8 {

@@ -12,18 +12,18 @@ use Rattle.voter.specs.declared.state.Grant.{Grant}
 use Rattle.voter.specs.declared.state.VoterState.{VoterState}
 use Rattle.voter.specs.Steps.{Outcome}
 
--- FAIL goes to a client that waits, with the stamp of its request; INQUIRE goes to the holder, with the number of its
--- grant
+-- FAIL goes to a client that waits, with the stamp of its request. INQUIRE goes to the holder, with
+-- the number of its grant.
 abbrev pub TellsPlace : VoterState → ℕ → ClientBody → Type 0
 TellsPlace v client (tells.Locked stamp grant) = Unit {0}
 TellsPlace v client (tells.Fail stamp) = get v.waiting client ≡ Some stamp
 TellsPlace v client (tells.Inquire grant) = (g : Grant) × (v.held ≡ Some g) × (g.client ≡ client) × (g.grant ≡ grant)
 
--- each of these replies does
+-- each FAIL and each INQUIRE among these replies does so
 abbrev pub AllTellPlace : VoterState → List ToClient → Type 0
 AllTellPlace v replies = AllByRecursion (λ r. TellsPlace v r.client r.body) replies
 
--- 1 for a LOCKED, and else 0
+-- 1 for a LOCKED, else 0
 abbrev pub locked_in : ClientBody → ℕ
 locked_in (tells.Locked stamp grant) = 1
 locked_in (tells.Fail stamp) = 0
@@ -34,7 +34,7 @@ abbrev pub locked_count : List ToClient → ℕ
 locked_count [] = 0
 locked_count (r ∷ rs) = locked_in r.body + locked_count rs
 
--- the highest stamp that was seen, with that of a REQUEST or a RELEASE
+-- the highest stamp seen, including that of a REQUEST or a RELEASE
 abbrev pub seen_after : ℕ → VoterBody → ℕ
 seen_after seen (asks.Request stamp) = max seen stamp
 seen_after seen (asks.Relinquish grant) = seen
@@ -44,13 +44,15 @@ seen_after seen (asks.Release stamp) = max seen stamp
 abbrev pub AllCarry : ℕ → ℕ → List ToClient → Type 0
 AllCarry id seen replies = AllByRecursion (λ r. (r.voter ≡ id) × (r.seen ≡ seen)) replies
 
--- the replies of one step: each tells its client where it stands, at most three, of which at most one is a LOCKED
+-- The replies of one step: at most three, and at most one of them a LOCKED. Each FAIL goes to a
+-- client that waits, each INQUIRE to the holder.
 pub record AreAnswers (o : Outcome) : Type 0 where
   pub place : AllTellPlace o.state o.replies
   pub few : length o.replies ≤ 3
   pub locked : locked_count o.replies ≤ 1
 
--- what stays, and what was seen
+-- The replies carry the highest stamp seen, including that of the message. The voter's number and
+-- its limit stay the same.
 pub record CarrySeen (v : VoterState) (m : ToVoter) (o : Outcome) : Type 0 where
   pub carried : AllCarry v.id (seen_after v.seen m.body) o.replies
   pub seen : o.state.seen ≡ seen_after v.seen m.body

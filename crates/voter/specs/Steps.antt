@@ -1,5 +1,5 @@
--- The steps of a voter: what a message makes it reply, and what it is afterwards (Maekawa, ACM TOCS 3(2), 1985, with
--- rules for repeated messages).
+-- The steps of a voter: its replies to a message, and its state afterwards (Maekawa, ACM TOCS 3(2),
+-- 1985, with rules for repeated messages).
 use Rattle.std.specs.Prelude.{ℕ, ◌≡◌, ◌≤◌, ◌+◌, ◌==◌, ◌^◌, nat_lt, nat_le, Bool, true, false, ◌&&◌, ◌||◌, not, List, [], ◌∷◌, ◌++◌, Option, Some, None, if◌then◌else◌, slice_index, slice_set, replicate, max, is_none, is_some}
 use Rattle.std.specs.FinMap.{get, insert, remove, empty}
 use Rattle.message.specs.declared.request.Request.{Request}
@@ -19,21 +19,21 @@ pub record Outcome : Type 0 where
   pub replies : List ToClient
   pub state : VoterState
 
--- no reply, and the state stays
+-- no reply, and the state stays as it was
 abbrev pub silent : VoterState → Outcome
 silent v = record { replies = []; state = v }
 
--- one thing, and then another
+-- one outcome and then another: the replies of both, and the state after the second
 abbrev pub and_then : Outcome → Outcome → Outcome
 and_then a b = record { replies = a.replies ++ b.replies; state = b.state }
 
--- a reply carries the highest stamp that the voter saw
+-- a reply to this client; it carries the highest stamp that the voter saw
 abbrev pub reply : VoterState → ℕ → ClientBody → ToClient
 reply v client body = record { voter = v.id; client = client; seen = v.seen; body = body }
 
 -- Granting
 
--- the vote goes to this request, under the next number, and it waits no more
+-- the vote goes to this request under the next grant number, and the request no longer waits
 abbrev pub granted_to : VoterState → Request → VoterState
 granted_to v r = record v {
   held = Some (record { client = r.client; stamp = r.stamp; grant = v.granted + 1 });
@@ -42,7 +42,7 @@ granted_to v r = record v {
   granted = v.granted + 1;
 }
 
--- and it is told so by LOCKED
+-- the request, if there is one, gets the vote, and its client receives LOCKED
 abbrev pub grant_to : VoterState → Option Request → Outcome
 grant_to v None = silent v
 grant_to v (Some r) = record {
@@ -54,21 +54,22 @@ grant_to v (Some r) = record {
 unfoldable pub grant_front : VoterState → Outcome
 grant_front v = grant_to v (front v.waiting)
 
--- the grant ends
+-- the current grant ends
 abbrev pub freed : VoterState → VoterState
 freed v = record v { held = None; inquiring = false }
 
--- the stamp with which this client holds the vote
+-- the stamp under which this client holds the vote, if it does
 abbrev pub held_stamp : Option Grant → ℕ → Option ℕ
 held_stamp None client = None
 held_stamp (Some g) client = if g.client == client then Some g.stamp else None
 
--- the first, where there is one, and else the second
+-- the first if there is one, else the second
 abbrev pub first_some : Option ℕ → Option ℕ → Option ℕ
 first_some None o = o
 first_some (Some s) o = Some s
 
--- the stamp under which a client holds the vote, else that under which it waits; none where it does neither
+-- the stamp of the client's current request: the one that holds the vote, or else the one that
+-- waits
 abbrev pub standing : VoterState → ℕ → Option ℕ
 standing v client = first_some (held_stamp v.held client) (get v.waiting client)
 
@@ -83,17 +84,18 @@ is_up_to (Some s) stamp = nat_le s stamp
 abbrev pub finish : VoterState → ℕ → ℕ → VoterState
 finish v client stamp = record v { finished = slice_set v.finished client (max (slice_index v.finished client) stamp) }
 
--- the client waits no more
+-- the client no longer waits
 abbrev pub withdraw : VoterState → ℕ → VoterState
 withdraw v client = record v { waiting = remove v.waiting client }
 
--- by whether the client holds the vote with a stamp of at most this one, and whether it waits with one
+-- by whether the client holds the vote under a stamp up to this one, and whether it waits under one
 abbrev pub released_by : Bool → Bool → VoterState → ℕ → ℕ → Outcome
 released_by true waits v client stamp = grant_front (freed (finish v client stamp))
 released_by false true v client stamp = silent (withdraw (finish v client stamp) client)
 released_by false false v client stamp = silent (finish v client stamp)
 
--- RELEASE: the client's requests up to this stamp are over. A vote that one held goes to the front of the queue, and a place in it is given up.
+-- RELEASE: the client's requests up to this stamp are finished. If one of them holds the vote, the
+-- vote goes to the front of the queue. If one waits, it leaves the queue.
 unfoldable pub released : VoterState → ℕ → ℕ → Outcome
 released v client stamp = released_by (is_up_to (held_stamp v.held client) stamp) (is_up_to (get v.waiting client) stamp) v client stamp
 
@@ -108,14 +110,15 @@ abbrev pub inquiry : Bool → VoterState → Grant → List ToClient
 inquiry true v g = []
 inquiry false v g = reply v g.client (tells.Inquire g.grant) ∷ []
 
--- FAIL to the request that was first in the queue until now
+-- FAIL to the request that was first in the queue until now, if any
 abbrev pub fail_former : VoterState → Option Request → List ToClient
 fail_former v None = []
 fail_former v (Some q) = reply v q.client (tells.Fail q.stamp) ∷ []
 
--- A new request while another holds the vote, by whether one that waits precedes it, and whether the granted one does.
--- Where none precedes it the holder is asked to give the vote back; where it is first in the queue, the former first
--- one is told that another precedes it.
+-- A new request while another one holds the vote, by whether a waiting request precedes it, and
+-- whether the granted one does. If one of them does, the new request receives FAIL. Otherwise the
+-- holder receives INQUIRE, unless one is outstanding. If the new request is first in the queue, the
+-- former first one receives FAIL.
 abbrev pub queued_by : Bool → Bool → VoterState → Grant → ℕ → ℕ → Outcome
 queued_by true granted v g client stamp = record {
   replies = reply v client (tells.Fail stamp) ∷ [];
@@ -130,13 +133,13 @@ queued_by false false v g client stamp = record {
   state = record (queue v client stamp) { inquiring = true };
 }
 
--- whether the front of the queue precedes this request
+-- the front of the queue, if any, precedes this request
 abbrev pub is_before : Option Request → Request → Bool
 is_before None r = false
 is_before (Some q) r = precedes q r
 
--- A new request while the vote is held: it waits. Where it precedes the granted request and all that wait, the holder is asked to give the
--- vote back; else the client is told FAIL.
+-- A new request while the vote is held: it waits. If it precedes the granted request and all
+-- waiting ones, the holder is asked to give the vote back. Otherwise its client receives FAIL.
 unfoldable pub queued : VoterState → Grant → ℕ → ℕ → Outcome
 queued v g client stamp =
     queued_by (is_before (front v.waiting) (record { stamp = stamp; client = client }))
@@ -148,28 +151,29 @@ abbrev pub admitted_by : Option Grant → VoterState → ℕ → ℕ → Outcome
 admitted_by None v client stamp = grant_front (queue v client stamp)
 admitted_by (Some g) v client stamp = queued v g client stamp
 
--- a new request: it gets the vote where the vote is free, and else waits
+-- a new request: it gets the vote if the vote is free, and waits otherwise
 unfoldable pub admitted : VoterState → ℕ → ℕ → Outcome
 admitted v client stamp = admitted_by v.held v client stamp
 
--- the answer to a repeated request: LOCKED again to the holder, FAIL again to one that waits
+-- the reply to a repeated request: LOCKED again if its client holds the vote, FAIL again if it
+-- waits
 abbrev pub again_by : Bool → VoterState → Grant → ℕ → ℕ → List ToClient
 again_by true v g client stamp = reply v client (tells.Locked stamp g.grant) ∷ []
 again_by false v g client stamp = reply v client (tells.Fail stamp) ∷ []
 
--- the answer to a repeated request, by who holds the vote
+-- the reply to a repeated request, by who holds the vote
 abbrev pub again : VoterState → Option Grant → ℕ → ℕ → List ToClient
 again v None client stamp = reply v client (tells.Fail stamp) ∷ []
 again v (Some g) client stamp = again_by (g.client == client) v g client stamp
 
--- by whether the request is older than the client's one that stands, and whether it is that one; a newer request
--- finishes the older one first
+-- A request of a client with a current request, by whether it is older than that, and whether it is
+-- that one. A newer request finishes the older one first.
 abbrev pub compared_by : Bool → Bool → VoterState → ℕ → ℕ → ℕ → Outcome
 compared_by true same v client stamp s = silent v
 compared_by false true v client stamp s = record { replies = again v v.held client stamp; state = v }
 compared_by false false v client stamp s = and_then (released v client s) (admitted (released v client s).state client stamp)
 
--- by the stamp of the client's request that stands
+-- by the stamp of the client's current request, if there is one
 unfoldable pub requested_beside : VoterState → ℕ → ℕ → Option ℕ → Outcome
 requested_beside v client stamp None = admitted v client stamp
 requested_beside v client stamp (Some s) = compared_by (nat_lt stamp s) (stamp == s) v client stamp s
@@ -179,8 +183,8 @@ abbrev pub requested_by : Bool → VoterState → ℕ → ℕ → Outcome
 requested_by true v client stamp = silent v
 requested_by false v client stamp = requested_beside v client stamp (standing v client)
 
--- REQUEST: one that is finished, or older than the client's one that stands, does nothing; the one that stands is answered again; a new one
--- is admitted.
+-- REQUEST: one that is finished, or older than the client's current request, does nothing. The
+-- current request gets its reply again. A new one is admitted.
 unfoldable pub requested : VoterState → ℕ → ℕ → Outcome
 requested v client stamp = requested_by (nat_le stamp (slice_index v.finished client)) v client stamp
 
@@ -191,38 +195,38 @@ abbrev pub is_grant : Option Grant → ℕ → ℕ → Bool
 is_grant None client grant = false
 is_grant (Some g) client grant = g.client == client && g.grant == grant
 
--- the granted request goes back into the queue, and the vote to the front
+-- the granted request goes back into the queue, and the vote goes to the front of the queue
 abbrev pub put_back : Option Grant → VoterState → Outcome
 put_back None v = silent v
 put_back (Some g) v = grant_front (queue (freed v) g.client g.stamp)
 
--- RELINQUISH of the current grant puts its request back among those that wait, and any other does nothing
+-- RELINQUISH of the current grant puts its request back into the queue; any other does nothing
 abbrev pub relinquished_by : Bool → VoterState → Outcome
 relinquished_by true v = put_back v.held v
 relinquished_by false v = silent v
 
--- RELINQUISH: the holder gives the vote back but goes on waiting
+-- RELINQUISH: the holder gives the vote back and goes on waiting
 unfoldable pub relinquished : VoterState → ℕ → ℕ → Outcome
 relinquished v client grant = relinquished_by (is_grant v.held client grant) v
 
 -- Any message
 
--- this stamp has been seen
+-- the voter has seen this stamp
 abbrev pub see : VoterState → ℕ → VoterState
 see v stamp = record v { seen = max v.seen stamp }
 
--- what a message does, where enough grants are left
+-- what a message does if enough grants are left
 abbrev pub outcome_of : VoterState → ℕ → VoterBody → Outcome
 outcome_of v client (asks.Request stamp) = requested (see v stamp) client stamp
 outcome_of v client (asks.Relinquish grant) = relinquished v client grant
 outcome_of v client (asks.Release stamp) = released (see v stamp) client stamp
 
--- nothing, where more grants would have been given than the limit
+-- nothing if more grants would have been given than the limit
 abbrev pub unless_spent : Bool → Outcome → Option Outcome
 unless_spent true o = None
 unless_spent false o = Some o
 
--- one step: none where it would give more grants than the limit
+-- one step; none if it would give more grants than the limit
 unfoldable pub step : VoterState → ToVoter → Option Outcome
 step v m = unless_spent (nat_lt v.limit (outcome_of v m.client m.body).state.granted) (outcome_of v m.client m.body)
 
@@ -233,28 +237,28 @@ abbrev pub inquiry_again : Bool → VoterState → Grant → List ToClient
 inquiry_again true v g = reply v g.client (tells.Inquire g.grant) ∷ []
 inquiry_again false v g = []
 
--- the holder is told LOCKED again, and INQUIRE again where it was asked to give the vote back
+-- LOCKED again for the holder, and INQUIRE again if one is outstanding
 abbrev pub remind_of : Option Grant → VoterState → List ToClient
 remind_of None v = []
 remind_of (Some g) v = reply v g.client (tells.Locked g.stamp g.grant) ∷ inquiry_again v.inquiring v g
 
--- what to tell the holder again, for messages that were lost
+-- what to send to the holder again, in case messages were lost
 unfoldable pub remind : VoterState → List ToClient
 remind v = remind_of v.held v
 
 -- What a message would do
 
--- the grant of this number holds the vote
+-- the grant with this number holds the vote
 abbrev pub names_grant : Option Grant → ℕ → Bool
 names_grant None grant = false
 names_grant (Some g) grant = g.grant == grant
 
--- a grant that was held is held no more
+-- there was a grant, and it no longer holds the vote
 abbrev pub is_ended : Option Grant → Option Grant → Bool
 is_ended None after = false
 is_ended (Some g) after = not (names_grant after g.grant)
 
--- whether the message is refused, and else whether it ends the current grant
+-- whether the message is refused; if not, whether it ends the current grant
 abbrev pub effect_by : VoterState → Option Outcome → Effect
 effect_by v None = record { frees = false; refused = true }
 effect_by v (Some o) = record { frees = is_ended v.held o.state.held; refused = false }
@@ -265,25 +269,25 @@ effect_of v m = effect_by v (step v m)
 
 -- The first state
 
--- a voter that was told nothing
+-- a new voter, which has taken no message
 abbrev pub start : ℕ → ℕ → VoterState
 start id limit = record { id = id; limit = limit; held = None; inquiring = false; waiting = empty; finished = replicate 64 0; granted = 0; seen = 0 }
 
 -- How the code looks ahead
 
--- whether a stamp is above the one that stands, or none stands
+-- the stamp is above that of the current request, or there is no current request
 abbrev pub is_later : Option ℕ → ℕ → Bool
 is_later None stamp = true
 is_later (Some s) stamp = nat_lt s stamp
 
--- a message needs a new grant
+-- the message needs a new grant
 unfoldable pub needs_grant : VoterState → ℕ → VoterBody → Bool
 needs_grant v client (asks.Request stamp) =
     nat_lt (slice_index v.finished client) stamp && is_later (standing v client) stamp && (is_none v.held || is_some (held_stamp v.held client))
 needs_grant v client (asks.Relinquish grant) = is_grant v.held client grant
 needs_grant v client (asks.Release stamp) = is_up_to (held_stamp v.held client) stamp && is_some (front v.waiting)
 
--- a message needs a new grant, and none is left
+-- the message needs a new grant, and none is left
 abbrev pub is_refused : VoterState → ToVoter → Bool
 is_refused v m = needs_grant v m.client m.body && nat_le v.limit v.granted
 
@@ -292,17 +296,17 @@ abbrev pub is_older : Option ℕ → ℕ → Bool
 is_older None stamp = false
 is_older (Some s) stamp = nat_lt s stamp
 
--- a message ends the current grant
+-- the message ends the current grant
 unfoldable pub ends_grant : VoterState → ℕ → VoterBody → Bool
 ends_grant v client (asks.Request stamp) = nat_lt (slice_index v.finished client) stamp && is_older (held_stamp v.held client) stamp
 ends_grant v client (asks.Relinquish grant) = is_grant v.held client grant
 ends_grant v client (asks.Release stamp) = is_up_to (held_stamp v.held client) stamp
 
--- what is so of every voter
+-- what holds of every voter
 pub record IsSound (v : VoterState) : Type 0 where
   pub limit : v.limit ≤ 2 ^ 40
   pub granted : v.granted ≤ v.limit
-  -- a grant was given
+  -- the number of the current grant is at most the number of grants given
   pub numbered : (g : Grant) → v.held ≡ Some g → g.grant ≤ v.granted
   -- a client that holds the vote does not wait
   pub apart : (g : Grant) → v.held ≡ Some g → get v.waiting g.client ≡ None

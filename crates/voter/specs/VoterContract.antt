@@ -1,4 +1,4 @@
--- The contract of a voter: all that proofs about many voters and clients need of its steps.
+-- The contract of a voter: all that proofs about many voters and clients need to know of its steps.
 use Rattle.std.specs.Prelude.{ℕ, ◌≡◌, ◌<◌, ◌≤◌, List, Option, Some, ◌⊎◌}
 use Rattle.std.specs.List.{AllByRecursion}
 use Rattle.std.specs.FinMap.{get}
@@ -12,18 +12,18 @@ use Rattle.voter.specs.declared.state.Grant.{Grant}
 use Rattle.voter.specs.declared.state.VoterState.{VoterState}
 use Rattle.voter.specs.Steps.{Outcome}
 
--- a LOCKED names the vote
+-- a LOCKED to this client carries the current grant
 abbrev pub TellsVote : Option Grant → ℕ → ClientBody → Type 0
 TellsVote held client (tells.Locked stamp grant) = held ≡ Some (record { client = client; stamp = stamp; grant = grant })
 TellsVote held client (tells.Fail stamp) = Unit {0}
 TellsVote held client (tells.Inquire grant) = Unit {0}
 
--- each of these replies does
+-- each LOCKED among these replies carries the current grant
 abbrev pub AllTell : Option Grant → List ToClient → Type 0
 AllTell held replies = AllByRecursion (λ r. TellsVote held r.client r.body) replies
 
--- The messages that end a grant: of its client a REQUEST with a greater stamp, a RELEASE with a stamp at least as
--- great, and a RELINQUISH with its number.
+-- The message ends the grant. It comes from the grant's client: a REQUEST with a greater stamp, a
+-- RELEASE with a stamp at least as great, or a RELINQUISH with the grant's number.
 abbrev pub Ends : ℕ → VoterBody → Grant → Type 0
 Ends client (asks.Request stamp) g = (g.client ≡ client) × (g.stamp < stamp)
 Ends client (asks.Relinquish grant) g = (g.client ≡ client) × (g.grant ≡ grant)
@@ -44,7 +44,7 @@ Brings client (asks.Release stamp) c s = ⊥
 pub record MeetsContract (v : VoterState) (m : ToVoter) (o : Outcome) : Type 0 where
   -- a grant stays, or the message ends it
   pub kept : (g : Grant) → v.held ≡ Some g → (o.state.held ≡ Some g) ⊎ Ends m.client m.body g
-  -- each entry was one before, or the message is its request
+  -- each request that holds the vote or waits did so before, or is the message
   pub entries : (client stamp : ℕ) → IsEntry o.state client stamp → IsEntry v client stamp ⊎ Brings m.client m.body client stamp
-  -- each LOCKED tells the vote as it stands
+  -- each LOCKED carries the vote as it is after the step
   pub told : AllTell o.state.held o.replies

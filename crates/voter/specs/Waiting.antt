@@ -5,24 +5,24 @@ use Rattle.std.specs.List.{AllByRecursion, filter}
 use Rattle.std.specs.FinMap.{FinMap, entries, from_entries}
 use Rattle.message.specs.declared.request.Request.{Request}
 
--- who waits: a finite map from client to the stamp of its request
+-- the waiting requests: a finite map from client to the stamp of its request
 abbrev pub Waiting : Type 0
 Waiting = FinMap nat_cmp ℕ
 
--- the smaller stamp, and then the smaller client, precedes
+-- the request with the smaller stamp precedes; of equal stamps, that of the smaller client
 abbrev pub precedes : Request → Request → Bool
 precedes a b = nat_lt a.stamp b.stamp || (a.stamp == b.stamp && nat_lt a.client b.client)
 
--- an entry of that map, as a request
+-- an entry of the map, as a request
 abbrev pub request : ℕ × ℕ → Request
 request e = record { stamp = e.1; client = e.0 }
 
--- the one of two requests that precedes
+-- the one of two requests that precedes the other
 abbrev pub first_of : Request → Option Request → Request
 first_of r None = r
 first_of r (Some q) = if precedes q r then q else r
 
--- the one of these that precedes the others
+-- the request of this list that precedes the others
 abbrev pub least : List (ℕ × ℕ) → Option Request
 least [] = None
 least (e ∷ es) = Some (first_of (request e) (least es))
@@ -31,11 +31,11 @@ least (e ∷ es) = Some (first_of (request e) (least es))
 unfoldable pub front : Waiting → Option Request
 front w = least (entries w)
 
--- how the code keeps them: in order
+-- a request of the code's list, which is in order, as an entry of the map
 abbrev pub entry : Request → ℕ × ℕ
 entry r = (r.client, r.stamp)
 
--- who waits, where the code keeps these
+-- the map of the requests in the code's list
 unfoldable pub waiting_of : List Request → Waiting
 waiting_of rs = from_entries (map entry rs)
 
@@ -44,11 +44,11 @@ pub record Follows (r q : Request) : Type 0 where
   pub later : precedes r q ≡ true
   pub other : r.client ≢ q.client
 
--- requests of clients below 64, each before all that follow it, and at most one of a client
+-- requests of clients below 64, each before all that follow it, and at most one for each client
 abbrev pub IsQueue : List Request → Type 0
 IsQueue [] = Unit {0}
 IsQueue (r ∷ rs) = (r.client < 64) × AllByRecursion (Follows r) rs × IsQueue rs
 
--- the requests of other clients
+-- the requests of the other clients
 abbrev pub without : ℕ → List Request → List Request
 without client rs = filter (λ r. not (r.client == client)) rs

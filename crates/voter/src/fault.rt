@@ -1,10 +1,10 @@
-//! Why a voter does not take a message.
+//! Faults of a voter.
 use thiserror::Error;
 
-/// Why a voter does not take a message.
+/// The reason why a voter did not take a message.
 #[derive(Clone, Copy, Debug, PartialEq, Eq, Error)]
 pub enum VoterFault {
-    /// The message needs a new grant, and as many as the limit were given.
+    /// The message needs a new grant, and none is left within the limit.
     #[error("V1 GrantsSpent")]
     GrantsSpent,
 }

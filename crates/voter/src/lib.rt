@@ -1,28 +1,45 @@
 //! A voter of the voting lock: it has one vote, and grants it to one request at a time.
 //!
-//! A client that wants the lock asks every voter of a quorum for its vote, by REQUEST. A voter grants its vote to the
-//! request that precedes the others that it knows, and answers LOCKED; the others wait in a queue. A new one is told
-//! FAIL where the granted request or one that waits precedes it. Where none does, the voter asks the holder to give the
-//! vote back (INQUIRE), and a first one that waited is told FAIL; a holder that can't win gives the vote back
-//! (RELINQUISH), and goes on waiting. RELEASE ends a request. This is the arbiter of Maekawa, "A sqrt(N) algorithm for
-//! mutual exclusion in decentralized systems", ACM TOCS 3(2), 1985; messages may be repeated, lost and late, so grants
-//! are numbered and finished stamps are remembered.
+//! A client that wants the lock asks every voter of a quorum for its vote, by REQUEST. A voter
+//! grants its vote to the request that precedes the others that it knows, and sends LOCKED. The
+//! other requests wait in a queue.
+//!
+//! - If the granted request or a waiting one precedes a new request, the new one receives FAIL.
+//! - If none does, the voter asks the holder to give the vote back (INQUIRE).
+//! - If a new request becomes the first in the queue, the former first one receives FAIL.
+//! - A holder that can't win yet gives the vote back (RELINQUISH), and goes on waiting.
+//! - RELEASE ends a request.
+//!
+//! This is the arbiter of Maekawa, "A sqrt(N) algorithm for mutual exclusion in decentralized
+//! systems", ACM TOCS 3(2), 1985. Messages may be repeated, lost and late, so grants are numbered
+//! and finished stamps are remembered.
 //!
 //! # Running a voter
 //!
-//! A [`Voter`] is a pure machine: it has no clock, no socket and no thread. Give each message to [`Voter::take`], one at
-//! a time, and send the replies in order, after the new state is safe where it has to outlive a crash. A refused message
-//! changed nothing. [`Voter::effect`] tells beforehand whether a message would end the current grant, for a board of
-//! votes that has to be settled first. [`Voter::remind`] may be sent at any time. [`Voter::take_into`] is `take` with the
-//! replies in a buffer that the caller keeps, for whoever makes many steps.
+//! A [`Voter`] is a pure machine: it has no clock, no socket and no thread.
+//!
+//! - Give each message to [`Voter::take`], one at a time, and send the replies in order. If the
+//!   voter has to survive a crash, log the message before you send them.
+//! - A message that is refused changes nothing.
+//! - [`Voter::effect`] returns beforehand whether a message would end the current grant. A board of
+//!   votes has to settle the grant first.
+//! - [`Voter::remind`] may be sent at any time.
+//! - [`Voter::take_into`] is `take` with the replies in a buffer of the caller's. It is for callers
+//!   that make many steps.
 //!
 //! # What is proved
 //!
-//! The steps are exactly the definition in `specs/Steps.antt`, whose state is a grant or none, a finite map from waiting
-//! client to stamp with its least request as the front, the finished stamps, the number of grants given and the highest
-//! stamp seen. The laws of this page say what many voters and clients may rest on.
+//! The steps are exactly the definition in `specs/Steps.antt`. Its state has:
 //!
-//! This crate stands on `message`. A world of voters and clients, and threads that run one, stand on it.
+//! - a grant or none;
+//! - a finite map from waiting client to stamp, with its least request as the front;
+//! - the finished stamps;
+//! - the number of grants given, and the highest stamp seen.
+//!
+//! The laws on this page are what proofs about many voters and clients may use.
+//!
+//! Depends on `message`. A world of voters and clients, and threads that run one, depend on this
+//! crate.
 //!
 //! ```
 //! let mut voter = Voter::new(0, 1000);

@@ -7,23 +7,23 @@ use crate::queue::{Queue, precedes};
 use arrayvec::ArrayVec;
 use message::{ClientBody, Request, ToClient, ToVoter, VoterBody};
 
-/// The vote, as it was given to a request.
+/// A grant of the vote to a request.
 #[derive(Clone, Copy, Debug, PartialEq, Eq)]
 pub struct Grant {
-    /// Who holds the vote.
+    /// The client that holds the vote.
     pub client: u8,
-    /// The stamp of its request.
+    /// The stamp of the client's request.
     pub stamp: u64,
-    /// The number of the grant: the voter counts its grants from 1.
+    /// The number of the grant. The voter counts its grants from 1.
     pub grant: u64,
 }
 
 /// What taking a message would do.
 #[derive(Clone, Copy, Debug, PartialEq, Eq)]
 pub struct Effect {
-    /// It would end the current grant. Not so where it would be refused.
+    /// Whether it would end the current grant. False if it would be refused.
     pub frees: bool,
-    /// It would be refused: it needs a new grant, and as many as the limit were given.
+    /// Whether it would be refused: it needs a new grant, and none is left within the limit.
     pub refused: bool,
 }
 
@@ -37,17 +37,17 @@ pub struct VoterState {
     pub id: u8,
     /// How many grants it may give.
     pub limit: u64,
-    /// Who holds the vote.
+    /// The grant that holds the vote.
     pub held: Option<Grant>,
-    /// An INQUIRE about the current grant is outstanding.
+    /// Whether an INQUIRE about the current grant is outstanding.
     pub inquiring: bool,
     /// The requests that wait for the vote.
     pub waiting: Queue,
-    /// For each client the highest stamp that it released, 0 at first.
+    /// For each client the highest stamp of its finished requests, 0 at first.
     pub finished: [u64; 64],
     /// How many grants were given.
     pub granted: u64,
-    /// The highest stamp that was seen, 0 at first.
+    /// The highest stamp that it saw, 0 at first.
     pub seen: u64,
 }
 
@@ -86,7 +86,7 @@ impl VoterState {
         }
     }
 
-    /// The highest stamp of this client that is finished, 0 if there is none.
+    /// Returns the highest finished stamp of this client, 0 if there is none.
     fn finished_of(&self, client: u8) -> u64
         ensures { result ≡ slice_index self.now.finished client }
     {
@@ -135,7 +135,7 @@ impl VoterState {
         replies.push(self.reply(request.client, ClientBody::Fail { stamp }));
     }
 
-    /// INQUIRE to the holder, unless one is outstanding.
+    /// Sends INQUIRE to the holder, unless one is outstanding.
     fn inquire(&mut self, grant: Grant, replies: &mut Replies)
         requires room { array_vec_len replies.old < 3 }
         ensures state { self.new ≡ record self.old { inquiring = true } }
@@ -148,7 +148,7 @@ impl VoterState {
         }
     }
 
-    /// A new request, while another holds the vote.
+    /// Queues a new request while another one holds the vote.
     #[tactic(auto, unfolding(crate::specs::Steps::queued))]
     fn queue_behind(&mut self, grant: Grant, request: Request, replies: &mut Replies)
         requires client { request.client < 64 }
@@ -176,7 +176,7 @@ impl VoterState {
         }
     }
 
-    /// A new request, of a client that neither holds the vote nor waits.
+    /// Admits a new request of a client that neither holds the vote nor waits.
     #[tactic(auto, unfolding(crate::specs::Steps::admitted))]
     fn admit(&mut self, request: Request, replies: &mut Replies)
         requires client { request.client < 64 }
@@ -194,7 +194,7 @@ impl VoterState {
         }
     }
 
-    /// The stamp of the client's request that holds the vote or waits.
+    /// Returns the stamp of the client's current request: the one that holds the vote or waits.
     fn standing(&self, client: u8) -> Option<u64>
         ensures { result ≡ standing self.now client }
     {
@@ -204,7 +204,7 @@ impl VoterState {
         }
     }
 
-    /// The answer to a request that stands already.
+    /// Repeats the reply to a request that holds the vote or waits already.
     fn answer_again(&self, request: Request, replies: &mut Replies)
         requires room { array_vec_len replies.old < 3 }
         ensures replies { replies.new.items ≡ replies.old.items ++ again self.now self.now.held request.client request.stamp }
@@ -276,7 +276,7 @@ impl VoterState {
         }
     }
 
-    /// Whether a message needs a new grant.
+    /// Returns whether a message needs a new grant.
     #[tactic(auto, unfolding(crate::specs::Steps::needs_grant))]
     fn needs_grant(&self, message: &ToVoter) -> bool
         ensures { result ≡ needs_grant self.now message.now.client message.now.body }
@@ -295,14 +295,14 @@ impl VoterState {
         }
     }
 
-    /// Whether a message needs a new grant, and none is left.
+    /// Returns whether a message needs a new grant, and none is left.
     pub fn is_refused(&self, message: &ToVoter) -> bool
         ensures { result ≡ is_refused self.now message.now }
     {
         self.needs_grant(message) && self.granted >= self.limit
     }
 
-    /// Whether a message ends the current grant.
+    /// Returns whether a message ends the current grant.
     #[tactic(auto, unfolding(crate::specs::Steps::ends_grant))]
     pub fn ends_grant(&self, message: &ToVoter) -> bool
         ensures { result ≡ ends_grant self.now message.now.client message.now.body }
@@ -317,7 +317,7 @@ impl VoterState {
         }
     }
 
-    /// LOCKED again to the holder, and INQUIRE again if one is outstanding.
+    /// Returns LOCKED for the holder, and INQUIRE if one is outstanding.
     #[tactic(auto, unfolding(crate::specs::Steps::remind))]
     pub fn remind(&self) -> Replies
         ensures { result.items ≡ remind self.now }
@@ -339,7 +339,7 @@ impl VoterState {
         replies
     }
 
-    /// What a message does, where enough grants are left.
+    /// Does what a message asks for. Enough grants have to be left.
     pub fn act(&mut self, message: &ToVoter, replies: &mut Replies)
         requires client { message.now.client < 64 }
         requires room { replies.old.items ≡ [] }
@@ -398,7 +398,7 @@ fn is_before(first: Option<Request>, request: Request) -> bool
     }
 }
 
-/// There is a stamp, and it is at most this one.
+/// Returns whether there is a stamp, and it is at most the limit.
 fn is_up_to(stamp: Option<u64>, limit: u64) -> bool
     ensures { result ≡ is_up_to stamp limit }
 {

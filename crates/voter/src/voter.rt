@@ -1,4 +1,3 @@
-//! A voter.
 ghost use Rattle.std.specs.Prelude.{◌≡◌, ◌<◌, ◌≤◌, ◌^◌, [], IfErr, IfOk, OnErr, OnOk, None, Option, Result, Some};
 ghost use Rattle.voter.specs.Steps.{IsSound, effect_of, remind, start, step};
 
@@ -9,7 +8,9 @@ use arrayvec::ArrayVec;
 use message::ToVoter;
 use std::marker::Model;
 
-/// A voter: it has one vote, which it grants to one request at a time. Clauses see it as what it knows, a `VoterState`.
+/// A voter: it has one vote, which it grants to one request at a time.
+///
+/// Contracts see it as a `VoterState`, which is what it knows.
 #[derive(Drop)]
 pub struct Voter {
     state: VoterState,
@@ -31,7 +32,7 @@ impl Model for Voter {
 }
 
 impl Voter {
-    /// A voter of this number, from 0 to 63, that was told nothing and may give as many grants as the limit, 1 to 2^40.
+    /// Returns a new voter with this number, 0 to 63. It may give `limit` grants, 1 to 2^40.
     pub fn new(id: u8, limit: u64) -> Self
         requires id { id < 64 }
         requires least { 1 ≤ limit }
@@ -52,15 +53,17 @@ impl Voter {
         }
     }
 
-    /// Who holds the vote.
+    /// Returns the grant that holds the vote, or `None` if the vote is free.
     pub fn held(&self) -> Option<Grant>
         ensures { result ≡ self.now.held }
     {
         self.state.held
     }
 
-    /// Takes one message, and answers the replies, in order. Refused is a message that needs a new grant where as many
-    /// as the limit were given; the voter then knows nothing of it.
+    /// Takes one message, and returns the replies, in order.
+    ///
+    /// Fails with `GrantsSpent` if and only if the message needs a new grant and none is left
+    /// within the limit. The voter is then unchanged.
     pub fn take(&mut self, message: &ToVoter) -> Result<Replies, VoterFault>
         requires voter { message.now.voter ≡ self.old.id }
         requires client { message.now.client < 64 }
@@ -73,7 +76,8 @@ impl Voter {
         Ok(replies)
     }
 
-    /// [`Voter::take`], with the replies in `replies` in place of what was there; where it is refused, `replies` is empty.
+    /// Does what [`Voter::take`] does, with the replies in `replies` in place of what was there. If
+    /// it fails, `replies` is empty.
     pub fn take_into(&mut self, message: &ToVoter, replies: &mut Replies) -> Result<(), VoterFault>
         requires voter { message.now.voter ≡ self.old.id }
         requires client { message.now.client < 64 }
@@ -89,7 +93,7 @@ impl Voter {
         Ok(())
     }
 
-    /// What `take` would do with this message.
+    /// Returns what `take` would do with this message.
     pub fn effect(&self, message: &ToVoter) -> Effect
         ensures { result ≡ effect_of self.now message.now }
     {
@@ -100,7 +104,8 @@ impl Voter {
         }
     }
 
-    /// What to tell the holder again, for messages that were lost: LOCKED, and INQUIRE if one is outstanding.
+    /// Returns what to send to the holder again, in case messages were lost: LOCKED, and INQUIRE if
+    /// one is outstanding. Empty if the vote is free.
     pub fn remind(&self) -> Replies
         ensures { result.items ≡ remind self.now }
     {

@@ -9,14 +9,14 @@ use crate::watched::Watched;
 use std::alloc::Global;
 use std::io::{Read, Write};
 
-/// The most bytes that an input may have.
+/// The greatest number of bytes that an input may have.
 pub const LONGEST: usize = 16_777_216;
 
-/// Reads to the end: all the bytes that are left in the reader, at most [`LONGEST`].
+/// Reads to the end. Returns all bytes that are left in the reader, at most [`LONGEST`].
 ///
-/// `ReadFault` where a read fails, and `TooLong` where there is one byte more than the longest input, whichever comes first; no
-/// byte behind that one is read.
-/// `OutOfMemory` may come at any point. A reader that has failed before is not for this call.
+/// Fails with `ReadFault` if a read fails, and with `TooLong` if there is one byte more than the
+/// longest input, whichever comes first. No byte after that one is read. It may run out of memory
+/// at any point. The reader must not have failed before.
 pub fn read_input<R: Read>(alloc: Global, reader: &mut Watched<R>) -> Result<Vec<u8>, DeviceFault>
     requires { reader.old.failed ≡ false }
     ensures all { IfOk result (λ v. IfSome (R.remaining reader.old.inner) (λ bytes. v.items ≡ bytes)) }
@@ -41,10 +41,11 @@ pub fn read_input<R: Read>(alloc: Global, reader: &mut Watched<R>) -> Result<Vec
     Err(DeviceFault::TooLong)
 }
 
-/// Writes all the bytes, in as many writes as the writer makes of them; none where there are no bytes. Nothing is flushed.
+/// Writes all the bytes, in one write or several. Writes nothing if there are no bytes. Does not
+/// flush.
 ///
-/// `WriteFault` where a write fails or takes no byte, and what earlier writes took, a beginning of the output, stays written.
-/// A writer that has failed before is not for this call. Takes no memory.
+/// Fails with `WriteFault` if a write fails or takes no byte. What earlier writes took, a beginning
+/// of the output, stays written. The writer must not have failed before. Allocates nothing.
 pub fn write_output<W: Write>(writer: &mut Watched<W>, output: &[u8]) -> Result<(), DeviceFault>
     requires { writer.old.failed ≡ false }
     ensures ok { OnOk result (Appends (W.contents writer.old.inner) (W.contents writer.new.inner) output.now) }

@@ -1,4 +1,4 @@
-//! Why an input was not read, or an output not written.
+//! The faults of reading an input and of writing an output.
 ghost use Rattle.std.specs.Prelude.{◌≡◌};
 ghost use Rattle.whole_io.specs.declared.fault.DeviceFault.TheVariants.{OutOfMemory};
 

@@ -1,14 +1,16 @@
-//! The whole input, and the whole output: a reader and a writer that remember whether they failed.
+//! Reading a whole input, and writing a whole output: a reader and a writer that remember whether
+//! they failed.
 //!
-//! [`Watched`] passes the calls of a reader or a writer on, and notes whether one has failed. Through it [`read_input`]
-//! reads to the end, at most [`LONGEST`] bytes, and [`write_output`] writes until all is written. Either answers the fault
-//! of its device exactly where that device failed, and says what was read, or how much was written, in each case.
+//! [`Watched`] passes on the calls to a reader or a writer, and notes whether one has failed.
+//! Through it [`read_input`] reads to the end, at most [`LONGEST`] bytes, and [`write_output`]
+//! writes until all is written. Each returns the fault of its device if and only if that device
+//! failed. Their contracts say in each case what was read, or how much was written.
 //!
-//! A contract sees a [`Watched`] as the reader or the writer inside and whether it has failed (`specs/Watching.antt`); of
-//! a reader it sees the bytes that are left, and of a writer those that it took, where they are known. Nothing is said of
-//! when a read or a write comes back.
+//! Contracts see a [`Watched`] as the reader or the writer inside, and whether it has failed
+//! (`specs/Watching.antt`). Of a reader they see the bytes that are left, and of a writer the bytes
+//! that it took, if these are known. Nothing is said about when a read or a write returns.
 //!
-//! This crate stands on no other. A program that answers one input by one output stands on it.
+//! This crate depends on no other. It is for programs that turn one input into one output.
 //!
 //! ```
 //! let mut reader = Watched::of(rt.reader());

@@ -8,8 +8,9 @@ use std::io;
 use std::io::{Read, Write};
 use std::marker::Model;
 
-/// Passes reads, writes and flushes on, and notes whether one has failed: it answered an error, or it was a write that took
-/// no byte of some. A failure that was noted stays.
+/// A reader or a writer that passes on reads, writes and flushes, and notes whether one has failed.
+/// A call has failed if it returned an error, or if it was a write of some bytes that took none. A
+/// failure that was noted stays.
 #[derive(Drop)]
 pub struct Watched<T> {
     /// The reader or the writer.
@@ -25,7 +26,7 @@ impl<T> Model for Watched<T> {
 }
 
 impl<T> Watched<T> {
-    /// Watches a reader or a writer, of which no failure is noted so far.
+    /// Returns a watched reader or writer, with no failure noted so far.
     pub fn of(inner: T) -> Watched<T>
         ensures inner { result.inner ≡ inner }
         ensures failed { result.failed ≡ false }
@@ -36,14 +37,14 @@ impl<T> Watched<T> {
         }
     }
 
-    /// Whether a read, a write or a flush has failed since the watch began.
+    /// Returns whether a read, a write or a flush has failed since the watch began.
     pub fn failed(&self) -> bool
         ensures { result ≡ self.now.failed }
     {
         self.failed
     }
 
-    /// Notes whether a call has failed.
+    /// Notes the failure of a call, if it has failed.
     fn note(&mut self, failed: bool)
         ensures inner { self.new.inner ≡ self.old.inner }
         ensures noted { failed ≡ true → self.new.failed ≡ true }

@@ -1,4 +1,4 @@
--- Ranges: whom a message of a world names, and how great its numbers are.
+-- Ranges: which client and voter a message of a world names, and how large its numbers are.
 use Rattle.std.specs.Prelude.{ℕ, ◌≡◌, ◌<◌, ◌≤◌, List, length}
 use Rattle.std.specs.List.{AllByRecursion}
 use Rattle.message.specs.declared.message.Message.{Message}
@@ -10,18 +10,18 @@ use Rattle.world.specs.Runs.{DrawsInOrder}
 use Rattle.world.specs.Steps.{WorldState, client_at, voter_at}
 use Rattle.world.specs.Visible.{IsExclusive}
 
--- a stamp or a grant: from 1 to the limit
+-- a stamp or a grant number: from 1 to the limit
 abbrev pub IsWithin : ℕ → ℕ → Type 0
 IsWithin limit n = (1 ≤ n) × (n ≤ limit)
 
--- the stamps and grants that a message tells are from 1 to the limit
+-- the stamps and grants in a message to a client are from 1 to the limit
 abbrev pub TellsWithin : ℕ → ClientBody → Type 0
 TellsWithin limit (tells.Locked stamp grant) = IsWithin limit stamp × IsWithin limit grant
 TellsWithin limit (tells.Fail stamp) = IsWithin limit stamp
 TellsWithin limit (tells.Inquire grant) = IsWithin limit grant
 
--- the message names a client and a voter of the world, its stamp and its grant are from 1 to the limit, and what its
--- voter saw is at most the limit
+-- The message names a client and a voter of the world. Its stamp and its grant are from 1 to the
+-- limit, and the highest stamp that its voter saw is at most the limit.
 abbrev pub IsInRange : ℕ → ℕ → ℕ → Message → Type 0
 IsInRange voters clients limit (kinds.ToVoter m) = (m.client < clients) × (m.voter < voters) × IsWithin limit (voter_number m.body)
 IsInRange voters clients limit (kinds.ToClient m) = (m.client < clients) × (m.voter < voters) × (m.seen ≤ limit) × TellsWithin limit m.body
@@ -35,7 +35,8 @@ abbrev pub IsAddressed : WorldState → Message → Type 0
 IsAddressed w (kinds.ToVoter m) = (m.client < length w.clients) × (m.voter < length w.voters)
 IsAddressed w (kinds.ToClient m) = (m.client < length w.clients) × (m.voter < length w.voters)
 
--- clients and voters know their numbers, and messages name them
+-- Each client and each voter knows its own number, and there are at most 64 of each. Each message
+-- names a client and a voter of the world.
 pub record IsNumbered (w : WorldState) : Type 0 where
   pub clients : (c : ℕ) → c < length w.clients → (client_at w.clients c).id ≡ c
   pub voters : (v : ℕ) → v < length w.voters → (voter_at w.voters v).id ≡ v
@@ -43,7 +44,8 @@ pub record IsNumbered (w : WorldState) : Type 0 where
   pub few_voters : length w.voters ≤ 64
   pub messages : AllByRecursion (IsAddressed w) w.sent
 
--- what is so after every run of a world with so many voters and clients and this limit
+-- what holds after every run of a world with this number of voters, this number of clients and this
+-- limit
 pub record IsSound (voters clients limit : ℕ) (w : WorldState) : Type 0 where
   pub exclusive : IsExclusive w.visible
   pub in_range : AreInRange voters clients limit w.sent

@@ -1,4 +1,4 @@
--- Runs: what a list of steps makes of a new world. Steps that are refused change nothing.
+-- Runs: what a list of steps makes of a new world. A refused step changes nothing.
 use Rattle.std.specs.Prelude.{ℕ, ◌≡◌, ◌+◌, ◌≤◌, ◌^◌, List, [], ◌∷◌, ◌++◌, length, map, Result, Ok, Err}
 use Rattle.std.specs.List.{range_with_len}
 use Rattle.certificate.specs.Certificates.{Weighted, IsCertificate}
@@ -8,7 +8,7 @@ use Rattle.world.specs.declared.fault.WorldFault.{WorldFault}
 use Rattle.world.specs.declared.step.Step.{Step}
 use Rattle.world.specs.Steps.{WorldState, Outcome, Planned, quorum_by, step}
 
--- a world of new voters and clients, in which nothing was sent
+-- a world of new voters and clients, in which nothing has happened yet
 abbrev pub start : ℕ → ℕ → ℕ → WorldState
 start voters clients limit = record {
   clients = map (λ c. client.start c limit) (range_with_len 0 clients);
@@ -23,17 +23,17 @@ abbrev pub after : WorldState → Result Outcome WorldFault → WorldState
 after w (Ok o) = o.state
 after w (Err fault) = w
 
--- a run of steps
+-- the world after these steps
 abbrev pub run_of : (ℕ → List ℕ) → List Step → WorldState → WorldState
 run_of deal [] w = w
 run_of deal (s ∷ steps) w = run_of deal steps (after w (step deal w s))
 
--- the step at this place is refused
+-- the fault of the step at this place, if the step is refused
 abbrev pub refusal_at : ℕ → Result Outcome WorldFault → List (ℕ × WorldFault)
 refusal_at place (Ok o) = []
 refusal_at place (Err fault) = (place, fault) ∷ []
 
--- the steps of a run that are refused, by their places from this one on
+-- the refused steps of a run, each with its place and its fault; places count from this one on
 abbrev pub refusals_of : (ℕ → List ℕ) → ℕ → List Step → WorldState → List (ℕ × WorldFault)
 refusals_of deal place [] w = []
 refusals_of deal place (s ∷ steps) w = refusal_at place (step deal w s) ++ refusals_of deal (place + 1) steps (after w (step deal w s))
@@ -42,18 +42,18 @@ refusals_of deal place (s ∷ steps) w = refusal_at place (step deal w s) ++ ref
 abbrev pub start_by : Weighted → ℕ → ℕ → WorldState
 start_by plan clients limit = start plan.system.voters clients limit
 
--- a run by a plan
+-- the world of a plan after these steps
 abbrev pub run_by : Weighted → ℕ → ℕ → List Step → WorldState
 run_by plan clients limit steps = run_of (quorum_by plan) steps (start_by plan clients limit)
 
--- how many voters and clients a world may have, and how far its stamps and grants go
+-- at most 64 voters and 64 clients, and a limit of stamps and grants from 1 to 2^40
 pub record AreLimits (voters clients limit : ℕ) : Type 0 where
   pub few_voters : voters ≤ 64
   pub few_clients : clients ≤ 64
   pub some_stamp : 1 ≤ limit
   pub few_stamps : limit ≤ 2 ^ 40
 
--- the world is what some list of steps made of a new one
+-- some list of steps made this world from a new one
 pub record IsReached (w : Planned) : Type 0 where
   pub certificate : IsCertificate w.plan
   pub clients : ℕ
@@ -62,6 +62,6 @@ pub record IsReached (w : Planned) : Type 0 where
   pub steps : List Step
   pub state : w.state ≡ run_by w.plan clients limit steps
 
--- the tickets that were drawn are 0, 1, 2, .. in order
+-- the drawn tickets are 0, 1, 2, .. in order
 abbrev pub DrawsInOrder : List (ℕ × ℕ) → Type 0
 DrawsInOrder draws = map (λ d. d.1) draws ≡ range_with_len 0 (length draws)

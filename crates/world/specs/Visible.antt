@@ -1,11 +1,11 @@
--- What is seen of a run: who enters and who leaves.
+-- What can be seen of a run: who enters and who leaves.
 use Rattle.std.specs.Prelude.{ℕ, ◌≡◌, ◌<◌, true, false, List, [], ◌∷◌, length, Option, Some, None, slice_index_or}
 use Rattle.std.specs.List.{All}
 use Rattle.quorum_set.specs.Sets.{IsSet}
 use Rattle.quorum_set.specs.Meetings.{AllMeet}
 use Rattle.world.specs.declared.step.Event.{Event}
 
--- the events go on from here, with this client inside, or nobody
+-- these events may follow while this client, or nobody, is inside
 abbrev pub GoesOn : Option ℕ → List Event → Type 0
 GoesOn inside [] = Unit {0}
 GoesOn None (e ∷ es) = (e.entered ≡ true) × GoesOn (Some e.client) es
@@ -15,17 +15,17 @@ GoesOn (Some c) (e ∷ es) = (e.entered ≡ false) × (e.client ≡ c) × GoesOn
 abbrev pub IsExclusive : List Event → Type 0
 IsExclusive events = GoesOn None events
 
--- Quorums over these voters of which any two, and each with itself, have a common member. That no quorum lies within
--- another is not asked for.
+-- Quorums over these voters. Any two of them have a common member, and each has one with itself.
+-- One quorum may lie within another.
 pub record DoMeet (voters : ℕ) (quorums : List (List ℕ)) : Type 0 where
   pub sets : All IsSet quorums
   pub in_range : All (λ q. All (λ v. v < voters) q) quorums
   pub meets : AllMeet voters quorums
 
--- this is one of the quorums
+-- the list is one of these quorums
 abbrev pub IsAmong : List (List ℕ) → List ℕ → Type 0
 IsAmong quorums q = (j : ℕ) × (j < length quorums) × (q ≡ slice_index_or quorums j [])
 
--- each ticket names one of the quorums
+-- each ticket stands for one of the quorums
 abbrev pub DealsFrom : List (List ℕ) → (ℕ → List ℕ) → Type 0
 DealsFrom quorums deal = (ticket : ℕ) → IsAmong quorums (deal ticket)

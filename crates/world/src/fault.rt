@@ -1,12 +1,12 @@
-//! Why a step of a world is refused.
+//! Faults of a world's steps.
 use requester::ClientFault;
 use thiserror::Error;
 use voter::VoterFault;
 
-/// Why a step of a world is refused. The world is then as it was.
+/// The reason why a step of a world failed. Such a step changes nothing.
 #[derive(Clone, Copy, Debug, PartialEq, Eq, Error)]
 pub enum WorldFault {
-    /// No message of this number was sent.
+    /// No message with this number was sent.
     #[error("U1 NoSuchMessage {0}")]
     NoSuchMessage(u64),
     /// No client has this number.
@@ -15,13 +15,13 @@ pub enum WorldFault {
     /// No voter has this number.
     #[error("U3 NoSuchVoter {0}")]
     NoSuchVoter(u8),
-    /// The client refuses the call.
+    /// The client's call failed.
     #[error(transparent)]
     Client(ClientFault),
-    /// The voter refuses the message.
+    /// The voter refused the message.
     #[error(transparent)]
     Voter(VoterFault),
-    /// Memory ran out.
+    /// Out of memory.
     #[error("O1 OutOfMemory")]
     OutOfMemory,
 }

@@ -1,4 +1,4 @@
-//! Laws of the definitions.
+//! Laws: what is proved about the definitions.
 ghost use Rattle.std.specs.Prelude.{◌≡◌, ℕ, List, Ok};
 ghost use Rattle.std.specs.List.{AllByRecursion};
 ghost use Rattle.message.specs.Lines.{HasLine};
@@ -14,7 +14,7 @@ use voter::{
     voters_meet_the_contract, voters_stay_sound,
 };
 
-/// Over every list of steps, for every system of quorums of which any two meet.
+/// Every list of steps keeps a world sound, as long as any two quorums share a voter.
 fn runs_are_sound()
     ensures { (voters clients limit : ℕ) (quorums : List (List ℕ)) (deal : ℕ → List ℕ) (steps : List Step) → AreLimits voters clients limit → DoMeet voters quorums → DealsFrom quorums deal → IsSound voters clients limit (run_of deal steps (start voters clients limit)) }
 {
@@ -28,29 +28,31 @@ fn runs_are_sound()
     grants_are_numbered();
 }
 
-/// Whoever asks, leaves or gives up, and whichever messages come, late, repeatedly or never: at most one client is inside
-/// at a time. This holds for all quorums of which any two meet, whichever of them each ticket names.
+/// At most one client is inside at a time, whoever asks, leaves or gives up, and whether messages
+/// arrive late, repeatedly or never.
+///
+/// This holds as long as any two quorums share a voter, whichever quorum each ticket stands for.
 pub fn at_most_one_is_inside()
     ensures { (voters clients limit : ℕ) (quorums : List (List ℕ)) (deal : ℕ → List ℕ) (steps : List Step) → AreLimits voters clients limit → DoMeet voters quorums → DealsFrom quorums deal → IsExclusive (run_of deal steps (start voters clients limit)).visible }
 {
     runs_are_sound();
 }
 
-/// Every message that is ever sent names a client and a voter of the world, its stamp and its grant are from 1 to the
-/// limit, and what its voter saw is at most the limit.
+/// Every message that is ever sent names a client and a voter of the world. Its stamp and its grant
+/// are from 1 to the limit, and the highest stamp that its voter saw is at most the limit.
 pub fn messages_are_in_range()
     ensures { (voters clients limit : ℕ) (quorums : List (List ℕ)) (deal : ℕ → List ℕ) (steps : List Step) → AreLimits voters clients limit → DoMeet voters quorums → DealsFrom quorums deal → AreInRange voters clients limit (run_of deal steps (start voters clients limit)).sent }
 {
     runs_are_sound();
 }
 
-/// What was sent and seen before a step stays as it is. The step adds as many messages as it tells, and what it tells of
-/// one client.
+/// A step keeps all messages sent and all events seen before. It adds as many messages as it
+/// reports, and the event, if any, of one client.
 pub fn steps_add()
     ensures { (deal : ℕ → List ℕ) (w : WorldState) (s : Step) (o : Outcome) → step deal w s ≡ Ok o → Adds w o }
 {}
 
-/// What is so of every world that a list of steps made of a new one.
+/// What holds of every world that a list of steps made from a new one.
 pub(crate) fn worlds_stay_sound()
     ensures exclusive { (w : Planned) → IsReached w → IsExclusive w.state.visible }
     ensures lines { (w : Planned) → IsReached w → AllByRecursion HasLine w.state.sent }

@@ -1,21 +1,29 @@
 //! A world of the voting lock: some voters, some clients, and every message that was ever sent.
 //!
-//! A client that wants the lock asks the voters of a quorum, which the next ticket of a plan's cycle names, and enters once
-//! it holds all their votes (Maekawa, "A sqrt(N) algorithm for mutual exclusion in decentralized systems", ACM TOCS 3(2),
-//! 1985). Here nothing happens by itself: each [`Step`] makes one client call, or one message come, and
-//! the messages that it sends are kept under their numbers, for good. A message may come late, again, or never, so a list
-//! of steps is one history of the lock over a network that loses, repeats and delays. [`run`] plays a whole list from a
-//! new world; [`World`] goes step by step.
+//! A client that wants the lock draws the next ticket, which stands for a quorum of the plan's
+//! cycle. It asks the voters of this quorum and enters once it holds all their votes (Maekawa, "A
+//! sqrt(N) algorithm for mutual exclusion in decentralized systems", ACM TOCS 3(2), 1985).
+//!
+//! Nothing happens in a world by itself. Each [`Step`] is one call of a client or a voter, or the
+//! arrival of one message. The messages that a step sends are numbered and kept for good. A message
+//! may arrive late, again, or never. So a list of steps is one history of the lock over a network
+//! that loses, repeats and delays. [`run`] runs a whole list of steps in a new world; a [`World`]
+//! runs them one by one.
 //!
 //! # What is proved
 //!
-//! A step is exactly the definition in `specs/Steps.antt`, the fold of the steps of `voter` and `requester`; a refused one
-//! changes nothing, and want of memory comes only where nothing else refuses. **At most one client is inside**, over every
-//! list of steps: the events of [`run`] read enter c, leave c, enter d, leave d, .. ([`at_most_one_is_inside`], for all
-//! quorums of which any two meet, whichever of them each ticket names). Every message names a client and a voter of the
-//! world and has its numbers in range ([`messages_are_in_range`]), so a line spells it. Not promised: that anybody enters.
+//! - A step is exactly the definition in `specs/Steps.antt`, which is made of the steps of `voter`
+//!   and `requester`. A step that fails changes nothing, and it fails with `OutOfMemory` only if no
+//!   other fault applies.
+//! - **At most one client is inside**, over every list of steps: the events of [`run`] read enter
+//!   c, leave c, enter d, leave d, .. The law [`at_most_one_is_inside`] says so as long as any two
+//!   quorums share a voter, whichever quorum each ticket stands for.
+//! - Every message names a client and a voter of the world, and has its numbers in range
+//!   ([`messages_are_in_range`]). So each message has a line of text.
 //!
-//! Above `dealer`, whose cycle names the quorums, and `voter` and `requester`.
+//! It is not promised that anybody enters.
+//!
+//! Depends on `dealer`, whose cycle gives the quorums, and on `voter` and `requester`.
 //!
 //! ```
 //! // Two of three voters, two clients, stamps up to 1000:

@@ -1,4 +1,4 @@
-//! Lists that grow where room was made.
+//! Lists that grow within reserved memory.
 ghost use Rattle.std.specs.Prelude.{◌≡◌, ◌+◌, ◌<◌, ◌≤◌, ◌++◌, ◌∷◌, [], length, map, vec_capacity, vec_len};
 ghost use Rattle.message.specs.declared.message.Message.TheVariants as kinds;
 ghost use Rattle.world.specs.Steps.{events};
@@ -7,7 +7,7 @@ use crate::step::Event;
 use message::{Message, ToClient, ToVoter};
 use requester::Seen;
 
-/// Sends these messages to voters.
+/// Appends these messages to voters to the sent ones.
 pub fn send_to_voters(sent: &mut Vec<Message>, messages: &[ToVoter])
     requires { vec_len sent.old + length messages.now ≤ vec_capacity sent.old }
     ensures { sent.new.items ≡ sent.old.items ++ map kinds.ToVoter messages.now }
@@ -20,7 +20,7 @@ pub fn send_to_voters(sent: &mut Vec<Message>, messages: &[ToVoter])
     }
 }
 
-/// Sends these messages to clients.
+/// Appends these messages to clients to the sent ones.
 pub fn send_to_clients(sent: &mut Vec<Message>, messages: &[ToClient])
     requires { vec_len sent.old + length messages.now ≤ vec_capacity sent.old }
     ensures { sent.new.items ≡ sent.old.items ++ map kinds.ToClient messages.now }
@@ -33,7 +33,7 @@ pub fn send_to_clients(sent: &mut Vec<Message>, messages: &[ToClient])
     }
 }
 
-/// This client draws the next ticket.
+/// Draws the next ticket for this client.
 pub fn draw(draws: &mut Vec<(u8, u64)>, client: u8)
     requires { vec_len draws.old < vec_capacity draws.old }
     ensures { draws.new.items ≡ draws.old.items ++ (client, length draws.old.items) ∷ [] }
@@ -45,7 +45,7 @@ pub fn draw(draws: &mut Vec<(u8, u64)>, client: u8)
     }
 }
 
-/// Notes what is seen of this client.
+/// Appends the event, if this client entered or left.
 pub fn note(visible: &mut Vec<Event>, client: u8, seen: Seen)
     requires { vec_len visible.old < vec_capacity visible.old }
     ensures { visible.new.items ≡ visible.old.items ++ events client seen }

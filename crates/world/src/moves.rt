@@ -1,4 +1,4 @@
-//! A step of one client or one voter among all.
+//! Steps of one client or one voter in a list of all.
 ghost use Rattle.std.specs.Prelude.{◌≡◌, ◌<◌, ◌≤◌, Err, IfErr, IfOk, None, Ok, OnErr, OnOk, Some, length, slice_set};
 ghost use Rattle.requester.specs.Steps.{step};
 ghost use Rattle.requester.specs.Steps.Cause.{Asks, GivesUp, Leaves, Takes};
@@ -10,7 +10,7 @@ use quorum_set::QSet;
 use requester::{ClientFault, Messages, Requester, Seen};
 use voter::{Replies, Voter, VoterFault};
 
-/// The client of this number.
+/// Returns the client with this number.
 pub fn client_of(clients: &[Requester], number: u8) -> &Requester
     requires { number < length clients.now }
     ensures { result.now ≡ client_at clients.now number }
@@ -18,7 +18,7 @@ pub fn client_of(clients: &[Requester], number: u8) -> &Requester
     &clients[usize::from(number)]
 }
 
-/// The voter of this number.
+/// Returns the voter with this number.
 pub fn voter_of(voters: &[Voter], number: u8) -> &Voter
     requires { number < length voters.now }
     ensures { result.now ≡ voter_at voters.now number }
@@ -26,7 +26,7 @@ pub fn voter_of(voters: &[Voter], number: u8) -> &Voter
     &voters[usize::from(number)]
 }
 
-/// This client asks a quorum.
+/// Has this client ask a quorum.
 pub fn ask(
     clients: &mut [Requester],
     client: u8,
@@ -43,7 +43,7 @@ pub fn ask(
     who.ask_into(quorum, out)
 }
 
-/// The client that the message names takes it.
+/// Has the client that the message names take it.
 pub fn take(clients: &mut [Requester], message: &ToClient, out: &mut Messages) -> Seen
     requires client { message.now.client < length clients.old }
     requires id { (client_at clients.old message.now.client).id ≡ message.now.client }
@@ -55,7 +55,7 @@ pub fn take(clients: &mut [Requester], message: &ToClient, out: &mut Messages) -
     who.take_into(message, out)
 }
 
-/// This client leaves.
+/// Has this client leave.
 pub fn leave(clients: &mut [Requester], client: u8, out: &mut Messages) -> Result<Seen, ClientFault>
     requires client { client < length clients.old }
     ensures left { IfOk result (λ seen. step (client_at clients.old client) Leaves ≡ Ok (record { out = out.new.items; seen = seen; state = client_at clients.new client })) }
@@ -66,7 +66,7 @@ pub fn leave(clients: &mut [Requester], client: u8, out: &mut Messages) -> Resul
     who.leave_into(out)
 }
 
-/// This client gives its request up.
+/// Has this client give up its request.
 pub fn give_up(
     clients: &mut [Requester],
     client: u8,
@@ -81,7 +81,7 @@ pub fn give_up(
     who.give_up_into(out)
 }
 
-/// The voter that the message names takes it.
+/// Has the voter that the message names take it.
 pub fn vote(
     voters: &mut [Voter],
     message: &ToVoter,

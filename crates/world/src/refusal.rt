@@ -1,4 +1,5 @@
-//! Why a step would be refused, told beforehand: want of memory is answered only where nothing else refuses.
+//! Faults of a step, found before it is made. So a step fails with `OutOfMemory` only if no other
+//! fault applies.
 ghost use Rattle.std.specs.Prelude.{◌≡◌, ◌<◌, ℕ, List, length, is_none};
 ghost use Rattle.requester.specs.Steps.{Foretells};
 ghost use Rattle.voter.specs.Steps as polls;
@@ -15,7 +16,7 @@ use crate::step::Step;
 use message::{Message, ToVoter};
 use voter::{Voter, VoterFault};
 
-/// Whether the voter that the message names would not take it.
+/// Returns whether the voter that the message names would refuse it.
 fn is_refused(voters: &[Voter], message: &ToVoter) -> bool
     requires voter { message.now.voter < length voters.now }
     requires id { (voter_at voters.now message.now.voter).id ≡ message.now.voter }
@@ -91,7 +92,8 @@ impl State {
         self.voter_fault(voter)
     }
 
-    /// Why the step would be refused, memory aside.
+    /// Returns the fault that the step would have, except out of memory; `None` if it would have
+    /// none.
     pub fn refusal(&self, step: Step) -> Option<WorldFault>
         requires { IsNumbered (shown self.now) }
         ensures { (deal : ℕ → List ℕ) → Foretells result (worlds.step deal (shown self.now) step) }

@@ -1,4 +1,4 @@
-//! The clients, the voters and the messages of a world, and its steps where room was made.
+//! The state of a world, and its steps once there is room for them.
 ghost use Rattle.std.specs.Prelude.{◌≡◌, ◌<◌, ◌≤◌, ◌+◌, ◌++◌, ℕ, List, IfNone, IfSome, OnOk, length, map, slice_get, vec_capacity, vec_len};
 ghost use Rattle.message.specs.declared.message.Message.TheVariants as kinds;
 ghost use Rattle.world.specs.declared.step.Step.TheVariants as steps;
@@ -19,27 +19,27 @@ use requester::{Messages, Requester, Seen};
 use std::alloc::AllocError;
 use voter::{Replies, Voter};
 
-/// Everything in a world but its plan.
+/// Everything in a world except its plan.
 #[derive(Drop)]
 pub struct State {
-    /// Each client, by its number.
+    /// The clients, by number.
     pub clients: Vec<Requester>,
-    /// Each voter, by its number.
+    /// The voters, by number.
     pub voters: Vec<Voter>,
-    /// Every message that was ever sent, by its number.
+    /// Every message that was ever sent, by number.
     pub sent: Vec<Message>,
-    /// Who drew a ticket, and which one.
+    /// Who drew a ticket, and which one, in order.
     pub draws: Vec<(u8, u64)>,
-    /// Who entered and who left.
+    /// Who entered and who left, in order.
     pub visible: Vec<Event>,
-    /// What a client's step sends, before it stands in `sent`.
+    /// A buffer for the messages of a client's step, before they are appended to `sent`.
     pub out: Messages,
-    /// What a voter replies, likewise.
+    /// A buffer for the replies of a voter's step, before they are appended to `sent`.
     pub replies: Replies,
 }
 
 impl State {
-    /// Makes room for any step.
+    /// Reserves room for any one step. Fails if out of memory.
     pub fn make_room(&mut self) -> Result<(), AllocError>
         ensures same { shown self.new ≡ shown self.old }
         ensures room { OnOk result (HasRoom self.new) }
@@ -49,14 +49,14 @@ impl State {
         self.visible.reserve(1)
     }
 
-    /// The message of this number, if one was sent.
+    /// Returns the message with this number, if one was sent.
     pub fn message(&self, number: u64) -> Option<Message>
         ensures { result ≡ slice_get self.now.sent.items number }
     {
         self.sent.get(number as usize).copied()
     }
 
-    /// The fault of a number that is no client's.
+    /// Returns `NoSuchClient` if no client has this number, else `None`.
     pub fn client_fault(&self, client: u8) -> Option<WorldFault>
         ensures found { IfNone result (client < length self.now.clients.items) }
         ensures missing { IfSome result (λ fault. (fault ≡ WorldFault.NoSuchClient client) × (length self.now.clients.items ≤ client)) }
@@ -68,7 +68,7 @@ impl State {
         }
     }
 
-    /// The fault of a number that is no voter's.
+    /// Returns `NoSuchVoter` if no voter has this number, else `None`.
     pub fn voter_fault(&self, voter: u8) -> Option<WorldFault>
         ensures found { IfNone result (voter < length self.now.voters.items) }
         ensures missing { IfSome result (λ fault. (fault ≡ WorldFault.NoSuchVoter voter) × (length self.now.voters.items ≤ voter)) }
@@ -80,7 +80,7 @@ impl State {
         }
     }
 
-    /// Notes what a client did, whose messages are in `out`.
+    /// Records the step of a client whose messages are in `out`, and returns what the step did.
     fn tell(&mut self, client: u8, seen: Seen) -> Stepped
         requires sent { vec_len self.old.sent + 64 ≤ vec_capacity self.old.sent }
         requires visible { vec_len self.old.visible + 1 ≤ vec_capacity self.old.visible }
@@ -214,7 +214,7 @@ impl State {
         })
     }
 
-    /// One step, for which there is room.
+    /// Makes one step. There has to be room for it.
     pub fn act(&mut self, cycle: &Cycle, step: Step) -> Result<Stepped, WorldFault>
         requires room { HasRoom self.old }
         requires numbered { IsNumbered (shown self.old) }

@@ -1,37 +1,37 @@
-//! Steps of a world, and what is told of them.
+//! Steps of a world, and what they did.
 use requester::Seen;
 
 /// A step of a world.
 #[derive(Clone, Copy, Debug, PartialEq, Eq)]
 pub enum Step {
-    /// This client draws the next ticket, and asks the quorum that it names.
+    /// This client draws the next ticket, and asks the quorum that the ticket stands for.
     Ask(u8),
-    /// The message of this number comes, once more if it came before.
+    /// The message with this number arrives. It may have arrived before.
     Deliver(u64),
     /// This client leaves.
     Leave(u8),
-    /// This client gives its request up.
+    /// This client gives up its request.
     GiveUp(u8),
-    /// This client repeats what it asked for.
+    /// This client sends its reminder: it repeats what it asked for.
     RemindClient(u8),
-    /// This voter repeats what it told the holder of its vote.
+    /// This voter sends its reminder: it repeats what it sent to the holder of its vote.
     RemindVoter(u8),
 }
 
-/// Somebody enters or leaves.
+/// A client that entered or left.
 #[derive(Clone, Copy, Debug, PartialEq, Eq)]
 pub struct Event {
-    /// Who, from 0.
+    /// The client's number, from 0.
     pub client: u8,
-    /// It entered; else it left.
+    /// Whether the client entered; otherwise it left.
     pub entered: bool,
 }
 
 /// What a step did.
 #[derive(Clone, Copy, Debug, PartialEq, Eq)]
 pub struct Stepped {
-    /// How many messages it sent: the last ones of the world.
+    /// How many messages the step sent. They are the last ones of the world.
     pub sent: usize,
-    /// What was seen of it. Who entered or left is the client of the world's last event.
+    /// Whether a client entered or left. If so, it is the client of the world's last event.
     pub seen: Seen,
 }

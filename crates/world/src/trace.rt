@@ -14,23 +14,26 @@ use certificate::Plan;
 use message::Message;
 use std::alloc::{AllocError, Global};
 
-/// What a list of steps made of a new world.
+/// What a list of steps did in a new world.
 #[derive(Drop)]
 pub struct Trace {
     /// Who entered and who left, in order.
     pub visible: Vec<Event>,
     /// Who drew a ticket, and which one, in order: tickets 0, 1, 2, ..
     pub draws: Vec<(u8, u64)>,
-    /// Every message that was sent, by its number.
+    /// Every message that was sent, by number.
     pub messages: Vec<Message>,
-    /// The steps that were refused, by their places from 0 on, and why.
+    /// The steps that were refused, with the reason. Places in the list of steps count from 0.
     pub refused: Vec<(usize, WorldFault)>,
 }
 
-/// Runs a list of steps from a new world of this plan, with 1 to 64 clients, and stamps and grants from 1 to the limit,
-/// which is 1 to 2^40. Steps that are refused change nothing, and the run goes on. The only refusal is for want of memory.
+/// Runs a list of steps in a new world of this plan, and returns what they did.
 ///
-/// At most one client is inside at a time.
+/// The world has 1 to 64 clients. Stamps and grants go from 1 to the limit, which is 1 to 2^40. A
+/// step that is refused changes nothing, and the run goes on. At most one client is inside at a
+/// time.
+///
+/// Fails only if it runs out of memory.
 pub fn run(
     alloc: Global,
     plan: Plan,
@@ -61,7 +64,8 @@ pub fn run(
     Ok(world.into_trace(refused))
 }
 
-/// Keeps why a step was refused. Want of memory is no such reason.
+/// Appends a refused step and its fault to the list. Fails if the fault is out of memory, or the
+/// list runs out of memory.
 fn keep(
     refused: &mut Vec<(usize, WorldFault)>,
     place: usize,

@@ -1,4 +1,4 @@
-//! A world.
+//! Worlds, which make steps one by one.
 ghost use Rattle.std.specs.Prelude.{◌≡◌, ◌<◌, ◌≤◌, ◌^◌, IfErr, IfOk, Ok, OnErr, Some, length, map, slice_get};
 ghost use Rattle.std.specs.List.{AllByRecursion, range_with_len};
 ghost use Rattle.requester.specs.Steps as requesters;
@@ -22,8 +22,10 @@ use std::alloc::{AllocError, Global};
 use std::marker::Model;
 use voter::Voter;
 
-/// The clients and the voters of one lock, and every message that was ever sent. Clauses see it as a `Planned`: the plan
-/// by which tickets name quorums, and a `WorldState`.
+/// The clients and the voters of one lock, and every message that was ever sent.
+///
+/// Contracts see it as a `Planned`: the plan, which gives the quorum of each ticket, and a
+/// `WorldState`.
 #[derive(Drop)]
 pub struct World {
     cycle: Cycle,
@@ -47,8 +49,9 @@ impl Model for World {
 }
 
 impl World {
-    /// A world of new voters, one for each of the plan's, and new clients, 1 to 64 of them. Stamps and grants go from 1
-    /// to the limit, which is 1 to 2^40. The only refusal is for want of memory.
+    /// Returns a new world, with a new voter for each voter of the plan and 1 to 64 new clients.
+    /// Stamps and grants go from 1 to the limit, which is 1 to 2^40. Fails only if it runs out of
+    /// memory.
     pub fn new(alloc: Global, plan: Plan, clients: u8, limit: u64) -> Result<World, AllocError>
         requires some { 1 ≤ clients }
         requires few { clients ≤ 64 }
@@ -76,9 +79,14 @@ impl World {
         }
     }
 
-    /// One step. In this order it is refused with U1 to U3 if there is no message, client or voter of its number, with C1
-    /// to C4 if the client refuses the call, with V1 if the voter refuses the message, and with O1 for want of memory. A
-    /// refused step changes nothing.
+    /// Makes one step, and returns what it did. A step that fails changes nothing.
+    ///
+    /// Fails with the first of these that applies:
+    ///
+    /// - U1 to U3 if no message, client or voter has the step's number;
+    /// - C1 to C4 if the client's call fails;
+    /// - V1 if the voter refuses the message;
+    /// - O1 if out of memory.
     pub fn step(&mut self, step: Step) -> Result<Stepped, WorldFault>
         ensures stepped { IfOk result (λ s. step_of self.old step ≡ Ok (outcome_of s self.new.state)) }
         ensures refused { IfErr result (Refuses (step_of self.old step)) }
@@ -96,14 +104,15 @@ impl World {
         self.state.act(&self.cycle, step)
     }
 
-    /// How many messages were sent.
+    /// Returns how many messages were sent.
     pub fn sent(&self) -> usize
         ensures { result ≡ length self.now.state.sent }
     {
         self.state.sent.len()
     }
 
-    /// The message of this number, from 0, in the order in which they were sent. A line spells it.
+    /// Returns the message with this number. Messages are numbered from 0 in the order in which
+    /// they were sent, and each has a line of text.
     pub fn message(&self, number: usize) -> Message
         requires { number < length self.now.state.sent }
         ensures value { slice_get self.now.state.sent number ≡ Some result }
@@ -113,7 +122,7 @@ impl World {
         self.state.sent[number]
     }
 
-    /// Who entered and who left, in order: one client at a time.
+    /// Returns who entered and who left, in order. At most one client is inside at a time.
     pub fn visible(&self) -> &[Event]
         ensures value { result.now ≡ self.now.state.visible }
         ensures exclusive { IsExclusive result.now }
@@ -122,7 +131,7 @@ impl World {
         &self.state.visible
     }
 
-    /// What the world did, with the steps that it refused.
+    /// Turns the world into a trace of what it did, with the steps that it refused.
     pub(crate) fn into_trace(self, refused: Vec<(usize, WorldFault)>) -> Trace
         ensures visible { result.visible.items ≡ self.state.visible }
         ensures draws { result.draws.items ≡ self.state.draws }
@@ -143,7 +152,7 @@ impl World {
     }
 }
 
-/// New voters.
+/// Returns `count` new voters, numbered from 0.
 fn new_voters(alloc: Global, count: usize, limit: u64) -> Result<Vec<Voter>, AllocError>
     requires few { count ≤ 64 }
     requires least { 1 ≤ limit }
@@ -157,7 +166,7 @@ fn new_voters(alloc: Global, count: usize, limit: u64) -> Result<Vec<Voter>, All
     Ok(voters)
 }
 
-/// New clients.
+/// Returns `count` new clients, numbered from 0.
 fn new_clients(alloc: Global, count: u8, limit: u64) -> Result<Vec<Requester>, AllocError>
     requires few { count ≤ 64 }
     requires least { 1 ≤ limit }

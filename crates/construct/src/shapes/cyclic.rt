@@ -12,7 +12,7 @@ use quorum_set::{Coterie, QSet};
 use std::alloc::{AllocError, Global};
 use std::collections::HashSet;
 
-/// Whether a member of the base comes to voter v when it moves on by s places round a ring of n.
+/// Returns whether shifting by s places round a ring of n moves a member of the base to voter v.
 fn moves_to(n: u32, base: &[u32], s: u32, v: u8) -> bool
     requires { 0 < n }
     ensures { result ≡ list_any (λ x. (x + s) % n == v) base.now }
@@ -23,7 +23,7 @@ fn moves_to(n: u32, base: &[u32], s: u32, v: u8) -> bool
         .any(|x| (u64::from(*x) + places) % ring == u64::from(v))
 }
 
-/// The base, moved on by s places round a ring of n.
+/// Returns the base, shifted by s places round a ring of n.
 fn shifted(n: u32, base: &[u32], s: u32) -> QSet
     requires { 0 < n }
     ensures { result ≡ shifted n base.now s }
@@ -31,7 +31,7 @@ fn shifted(n: u32, base: &[u32], s: u32) -> QSet
     set_where(|v| moves_to(n, base, s, v))
 }
 
-/// The base at each place of the ring.
+/// Returns the base, shifted by each number of places below n.
 fn quorums_of(alloc: Global, n: u32, base: &[u32]) -> Result<Vec<QSet>, AllocError>
     requires { 0 < n }
     ensures { IfOk result (λ v. v.items ≡ cyclic_quorums n base.now) }
@@ -39,7 +39,7 @@ fn quorums_of(alloc: Global, n: u32, base: &[u32]) -> Result<Vec<QSet>, AllocErr
     (0..n).map(|s| shifted(n, base, s)).collect(alloc)
 }
 
-/// Whether a number stands twice.
+/// Returns whether a number occurs twice.
 fn has_repeat(alloc: Global, base: &[u32]) -> Result<bool, AllocError>
     ensures { IfOk result (λ b. b ≡ has_repeat base.now) }
 {
@@ -52,24 +52,32 @@ fn has_repeat(alloc: Global, base: &[u32]) -> Result<bool, AllocError>
     Ok(false)
 }
 
-/// Whether all numbers are below n.
+/// Returns whether all numbers are below n.
 fn are_below(n: u32, base: &[u32]) -> bool
     ensures { result ≡ list_all (λ x. nat_lt x n) base.now }
 {
     base.iter().all(|x| *x < n)
 }
 
-/// Whether there is no ring, or the base is empty, or a member of it is no place on the ring.
+/// Returns whether n is 0, or the base is empty, or a member of it is not below n.
 fn is_off_ring(n: u32, base: &[u32]) -> bool
     ensures { result ≡ is_off_ring n base.now }
 {
     n == 0 || base.is_empty() || !are_below(n, base)
 }
 
-/// The cyclic coterie of a base set of voters on a ring of n: quorum s, for s below n, is the base moved on by s places, { (x + s) mod n, x in base }. Where the
-/// base is a perfect difference set, as 0, 1, 3 modulo 7, the quorums are the lines of a projective plane (Maekawa, ACM TOCS 3(2), 1985).
-/// `BadSize` where n is 0 or the base is empty, has a member that is not below n, or has one twice; `TooLarge` where n is
-/// above 64; then `Coterie(Disjoint)` or `Coterie(Contained)` for the least pair of quorums that are disjoint or of which one lies within the other.
+/// Returns the cyclic coterie of a base set of voters on a ring of n.
+///
+/// Quorum s, for s below n, is the base shifted by s places: { (x + s) mod n, x in base }. If the
+/// base is a perfect difference set, such as 0, 1, 3 modulo 7, the quorums are the lines of a
+/// projective plane (Maekawa, ACM TOCS 3(2), 1985).
+///
+/// Fails with the first of these faults:
+///
+/// - `BadSize` if n is 0, or the base is empty, has a member that is not below n, or has one twice;
+/// - `TooLarge` if n is above 64;
+/// - `Coterie(Disjoint)` for the smallest pair of disjoint quorums;
+/// - `Coterie(Contained)` for the smallest pair of quorums with one within the other.
 pub fn cyclic(alloc: Global, n: u32, base: &[u32]) -> Result<Coterie, ConstructFault>
     ensures exact { Gives result (cyclic_at n base.now) }
     ensures ring { is_off_ring n base.now ≡ true → result ≡ Err BadSize }

@@ -39,7 +39,7 @@ fn row_with_column(r: u32, c: u32, i: u32, k: u32) -> QSet
     row(r, c, i).join(&column(r, c, k))
 }
 
-/// For each voter its row with its column.
+/// Returns for each voter its row with its column.
 fn quorums_of(alloc: Global, r: u32, c: u32) -> Result<Vec<QSet>, AllocError>
     requires some { 0 < c }
     requires few { r * c ≤ 64 }
@@ -50,9 +50,11 @@ fn quorums_of(alloc: Global, r: u32, c: u32) -> Result<Vec<QSet>, AllocError>
         .collect(alloc)
 }
 
-/// The grid of r rows of c voters (Maekawa, ACM TOCS 3(2), 1985): row i has the voters i * c to i * c + c - 1, and quorum i * c + k is row i
-/// with column k. It has r * c quorums of r + c - 1 members each. `BadSize` where r or c is below 2; `TooLarge` where there are more
-/// than 64 voters.
+/// Returns the grid of r rows of c voters (Maekawa, ACM TOCS 3(2), 1985).
+///
+/// Row i has the voters i * c to i * c + c - 1, and quorum i * c + k is row i with column k. There
+/// are r * c quorums of r + c - 1 members each. Fails with `BadSize` if r or c is below 2, and with
+/// `TooLarge` if there are more than 64 voters.
 pub fn grid(alloc: Global, r: u32, c: u32) -> Result<Coterie, ConstructFault>
     ensures exact { Gives result (grid_at r c) }
     ensures sizes { IfErr (grid_at r c) (λ fault. result ≡ Err fault) }

@@ -14,7 +14,7 @@ use itertools::{Combinations, Itertools};
 use quorum_set::{Coterie, QSet};
 use std::alloc::{AllocError, Global};
 
-/// Returns the set of these members. Numbers of 64 or more are left out.
+/// Returns the set of these members, leaving out numbers of 64 or more.
 fn set_of(members: &[u8]) -> QSet
     ensures { result ≡ set_where (has members.now) }
 {
@@ -27,7 +27,7 @@ fn set_of(members: &[u8]) -> QSet
     set
 }
 
-/// The choices of k of the numbers below n.
+/// Returns the choices of k of the numbers below n.
 fn choices(alloc: Global, n: u8, k: usize) -> Result<Combinations<u8, Global>, AllocError>
     ensures can { IfOk result combination_can }
     ensures pool { IfOk result (λ c. c.pool.items ≡ range_with_len 0 n) }
@@ -37,7 +37,7 @@ fn choices(alloc: Global, n: u8, k: usize) -> Result<Combinations<u8, Global>, A
     (0..n).combinations(alloc, k)
 }
 
-/// The sets of k of the numbers below n, in lexicographic order.
+/// Returns the sets of k of the numbers below n, in lexicographic order.
 fn sets_of(alloc: Global, n: u8, k: usize) -> Result<Vec<QSet>, AllocError>
     requires { n ≤ 64 }
     ensures { IfOk result (λ v. v.items ≡ sets_from 0 n k) }
@@ -49,9 +49,11 @@ fn sets_of(alloc: Global, n: u8, k: usize) -> Result<Vec<QSet>, AllocError>
     Ok(sets)
 }
 
-/// The majorities of n voters: all sets of n / 2 + 1 voters, rounded down, in lexicographic order of their ascending members (Garcia-Molina and
-/// Barbara, JACM 32(4), 1985). There are n over n / 2 + 1 of them, at most 3003. `BadSize` where n is 0; `TooLarge` where it is
-/// above 14.
+/// Returns the majorities of n voters: all sets of n / 2 + 1 voters, rounded down (Garcia-Molina
+/// and Barbara, JACM 32(4), 1985).
+///
+/// They are in lexicographic order of their ascending members. There are n choose n / 2 + 1 of
+/// them, at most 3003. Fails with `BadSize` if n is 0, and with `TooLarge` if n is above 14.
 pub fn majority(alloc: Global, n: u32) -> Result<Coterie, ConstructFault>
     ensures exact { Gives result (majority_at n) }
     ensures sizes { IfErr (majority_at n) (λ fault. result ≡ Err fault) }

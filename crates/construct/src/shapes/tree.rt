@@ -18,14 +18,14 @@ fn node(i: u32) -> QSet
     set_where(|v| u32::from(v) == i)
 }
 
-/// Returns the set with the node.
+/// Returns the set with the node added.
 fn with_node(i: u32, set: &QSet) -> QSet
     ensures { result ≡ with_node i set.now }
 {
     node(i).join(set)
 }
 
-/// Adds each of the sets, with the node.
+/// Adds each of the sets to the quorums, with the node added.
 fn push_with_node(quorums: &mut Vec<QSet>, i: u32, sets: &[QSet]) -> Result<(), AllocError>
     ensures { OnOk result (quorums.new.items ≡ quorums.old.items ++ map (with_node i) sets.now) }
 {
@@ -35,7 +35,7 @@ fn push_with_node(quorums: &mut Vec<QSet>, i: u32, sets: &[QSet]) -> Result<(), 
     Ok(())
 }
 
-/// Adds the union of the set with each of the others.
+/// Adds the union of the set with each of the others to the quorums.
 fn push_unions_with(quorums: &mut Vec<QSet>, set: &QSet, others: &[QSet]) -> Result<(), AllocError>
     ensures { OnOk result (quorums.new.items ≡ quorums.old.items ++ map (union set.now) others.now) }
 {
@@ -45,7 +45,7 @@ fn push_unions_with(quorums: &mut Vec<QSet>, set: &QSet, others: &[QSet]) -> Res
     Ok(())
 }
 
-/// Adds the union of each left set with each right one.
+/// Adds the union of each left set with each right one to the quorums.
 fn push_unions(quorums: &mut Vec<QSet>, left: &[QSet], right: &[QSet]) -> Result<(), AllocError>
     ensures { OnOk result (quorums.new.items ≡ quorums.old.items ++ flat_map (λ p. map (union p) right.now) left.now) }
 {
@@ -55,7 +55,7 @@ fn push_unions(quorums: &mut Vec<QSet>, left: &[QSet], right: &[QSet]) -> Result
     Ok(())
 }
 
-/// The one quorum of a leaf.
+/// Returns the one quorum of a leaf.
 fn quorums_of_leaf(alloc: Global, i: u32) -> Result<Vec<QSet>, AllocError>
     ensures { IfOk result (λ v. v.items ≡ quorums_under 0 i) }
 {
@@ -64,7 +64,7 @@ fn quorums_of_leaf(alloc: Global, i: u32) -> Result<Vec<QSet>, AllocError>
     Ok(quorums)
 }
 
-/// The quorums of an inner node, from those of its children.
+/// Returns the quorums of an inner node, from those of its children.
 fn node_quorums(
     alloc: Global,
     i: u32,
@@ -80,7 +80,7 @@ fn node_quorums(
     Ok(quorums)
 }
 
-/// The quorums of the tree of height h under node i.
+/// Returns the quorums of the tree of height h under node i.
 fn quorums_under(alloc: Global, h: u32, i: u32) -> Result<Vec<QSet>, AllocError>
     requires { (i + 2) * 2 ^ h ≤ 2 ^ 31 }
     ensures { IfOk result (λ v. v.items ≡ quorums_under h i) }
@@ -93,10 +93,17 @@ fn quorums_under(alloc: Global, h: u32, i: u32) -> Result<Vec<QSet>, AllocError>
     node_quorums(alloc, i, &left, &right)
 }
 
-/// The tree of height h (Agrawal and El Abbadi, ACM TOCS 9(1), 1991): a complete binary tree of 2^(h + 1) - 1 voters, whose root is voter 0 and
-/// where the children of voter i are 2 * i + 1 and 2 * i + 2. A leaf has one quorum, itself. The quorums of an inner node are, in this
-/// order: the node with each quorum of its left child, the node with each of its right child, and each quorum of the left child with
-/// each of the right one. `TooLarge` where h is above 3.
+/// Returns the tree of height h (Agrawal and El Abbadi, ACM TOCS 9(1), 1991).
+///
+/// It is a complete binary tree of 2^(h + 1) - 1 voters. The root is voter 0, and the children of
+/// voter i are 2 * i + 1 and 2 * i + 2. A leaf has one quorum, itself. The quorums of an inner node
+/// are, in this order:
+///
+/// - the node with each quorum of its left child;
+/// - the node with each quorum of its right child;
+/// - each quorum of the left child with each of the right child.
+///
+/// Fails with `TooLarge` if h is above 3.
 pub fn tree(alloc: Global, h: u32) -> Result<Coterie, ConstructFault>
     ensures exact { Gives result (tree_at h) }
     ensures sizes { IfErr (tree_at h) (λ fault. result ≡ Err fault) }

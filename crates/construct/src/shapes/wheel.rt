@@ -10,21 +10,21 @@ use crate::set::{coterie_of, set_where};
 use quorum_set::{Coterie, QSet};
 use std::alloc::{AllocError, Global};
 
-/// The hub with one voter of the rim.
+/// Returns the hub with one voter of the rim.
 fn spoke(i: u32) -> QSet
     ensures { result ≡ spoke i }
 {
     set_where(|v| v == 0 || u32::from(v) == i)
 }
 
-/// Voters 1 to k.
+/// Returns the rim: voters 1 to k.
 fn rim(k: u32) -> QSet
     ensures { result ≡ rim k }
 {
     set_where(|v| 1 <= v && u32::from(v) <= k)
 }
 
-/// The hub with each voter of the rim.
+/// Returns the hub with each voter of the rim.
 fn spokes(alloc: Global, k: u32) -> Result<Vec<QSet>, AllocError>
     requires { k ≤ 63 }
     ensures { IfOk result (λ v. v.items ≡ map spoke (range_with_len 1 k)) }
@@ -32,7 +32,7 @@ fn spokes(alloc: Global, k: u32) -> Result<Vec<QSet>, AllocError>
     (1..k + 1).map(|i| spoke(i)).collect(alloc)
 }
 
-/// Each spoke, and then the rim.
+/// Returns each spoke, and then the rim.
 fn quorums_of(alloc: Global, k: u32) -> Result<Vec<QSet>, AllocError>
     requires { k ≤ 63 }
     ensures { IfOk result (λ v. v.items ≡ wheel_quorums k) }
@@ -42,9 +42,11 @@ fn quorums_of(alloc: Global, k: u32) -> Result<Vec<QSet>, AllocError>
     Ok(quorums)
 }
 
-/// The wheel with k voters on its rim (Naor and Wool, SIAM J. Comput. 27(2), 1998): voter 0 is the hub, and voters 1 to k are the rim. Quorum
-/// i - 1 is the hub with voter i, for i from 1 to k, and the last quorum is the rim. `BadSize` where k is below 2; `TooLarge` where it
-/// is above 63.
+/// Returns the wheel with k voters on its rim (Naor and Wool, SIAM J. Comput. 27(2), 1998).
+///
+/// Voter 0 is the hub, and voters 1 to k are the rim. Quorum i - 1 is the hub with voter i, for i
+/// from 1 to k, and the last quorum is the rim. Fails with `BadSize` if k is below 2, and with
+/// `TooLarge` if k is above 63.
 pub fn wheel(alloc: Global, k: u32) -> Result<Coterie, ConstructFault>
     ensures exact { Gives result (wheel_at k) }
     ensures sizes { IfErr (wheel_at k) (λ fault. result ≡ Err fault) }
