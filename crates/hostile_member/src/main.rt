@@ -4,7 +4,7 @@
 //!
 //! If the allocation is refused to a node's log or a mailbox, a message is lost. The member sends
 //! reminders when its mailbox is empty, so one loss keeps it out no longer than that. Any other
-//! refused allocation ends the program with `O1 OutOfMemory` and status 4.
+//! refused allocation changes nothing, or ends the program with `O1 OutOfMemory` and status 4.
 #![tactic(auto)]
 
 ghost use Rattle.std.specs.Prelude.{◌≡◌};

@@ -1,8 +1,8 @@
 //! The program `qlock`: plans of coteries, and the lock that they serve, from the command line.
 //!
 //! The crate `qlock_cli` reads the words and serves the command. This program takes the words from
-//! the system. It turns the result of the command into an exit status and at most one line on
-//! standard error.
+//! the system. It turns the result of the command into an exit status, and into a fault's line or
+//! a text about usage on standard error.
 #![tactic(auto)]
 
 ghost use Rattle.std.specs.Prelude.{◌≡◌};
