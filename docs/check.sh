@@ -1,9 +1,9 @@
 #!/bin/sh
 # Compares the faults of docs/formats.md with the lines that the tests want of each fault: the code, the name, and how many
-# arguments stand behind them. The tests' lines are the tables of crates/qlock_tests/src/faults.rt, and of a wrong command line
+# arguments follow. The tests' lines are the tables of crates/qlock_tests/src/faults.rt, and of a wrong command line
 # the stored output of an example.
 #
-#     docs/check.sh      says which faults stand on one side alone, and ends with status 1 where one does
+#     docs/check.sh      prints the faults that are on one side alone, and ends with status 1 if there are any
 set -eu
 root=$(CDPATH= cd -- "$(dirname -- "$0")/.." && pwd)
 work=$(mktemp -d)

@@ -67,7 +67,7 @@ for coterie in grid-3-3 majority-5 wheel-3 cyclic-7 three-racks; do
     example "plan-$coterie" "$coterie.toml" 0 plan
 done
 
-# which of several optimal plans of these comes is not said; their loads are
+# these have several optimal plans, and any of them may come: only the loads are compared
 for coterie in tree-2 weighted-votes; do
     "$qlock" plan < "$coterie.toml" > "$work/plan" || true
     parts "$coterie.toml" "$work/plan" > "$work/input"

@@ -9,7 +9,7 @@
 # be accepted. Then each NAME.edit puts one line in the place of another, and that copy has to be refused in the words of
 # the edit. These are the compiler's own on a value that has moved, so that no case is refused for another reason.
 #
-# Says what each case was answered, and ends with `N cases, M wrong`, with status 1 where M is not 0. Nothing is proved here.
+# Prints the result of each case, and ends with `N cases, M wrong`, with status 1 where M is not 0. Nothing is proved here.
 set -eu
 here=$(CDPATH= cd -- "$(dirname -- "$0")" && pwd)
 root=$(dirname -- "$here")

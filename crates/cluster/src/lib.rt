@@ -24,7 +24,8 @@
 //! - A client that the gate never lets pass makes no pass.
 //! - Each pass takes at least two of the client's turns.
 //!
-//! It is only tested that turns are spent no sooner, and that the gate is asked before each pass.
+//! It is only tested that a member fails with `TurnsSpent` only after it used all its turns, and
+//! that the gate is asked before each pass.
 //! When a drive's threads run is neither proved nor tested.
 //!
 //! This crate depends on `members`, and makes only its public calls.

@@ -1,4 +1,5 @@
-//! A service with the lock inside, from a coterie's text to a pass: copy it, and put your own work where the lock is held.
+//! A service with the lock inside, from a coterie's text to a pass. Copy it, and put your own work
+//! where the lock is held.
 #![tactic(auto)]
 
 ghost use Rattle.std.specs.Prelude.{◌≡◌};
@@ -44,7 +45,8 @@ fn enters<N: ClusterName>(rt: &impl Wait, cluster: &Cluster<N>, member: &mut Mem
     false
 }
 
-/// Takes the lock, works, and gives it back. Returns the number of the pass, or none if the member did not get in.
+/// Takes the lock, works, and gives it back. Returns the number of the pass, or `None` if the
+/// member did not get in.
 fn work_once<N: ClusterName>(
     rt: &impl Wait,
     cluster: &Cluster<N>,
@@ -61,7 +63,8 @@ fn work_once<N: ClusterName>(
     number
 }
 
-/// Opens a cluster, has each client work twice, and closes the cluster. Returns a line for each pass and the register.
+/// Opens a cluster, has each client work twice, and closes the cluster. Returns a line for each
+/// pass and one for the register.
 fn serve<N: ClusterName>(rt: &impl Wait, alloc: Global, blank: Blank) -> Option<String>
     requires { blank ≡ N.cluster }
 {
@@ -83,7 +86,7 @@ fn serve<N: ClusterName>(rt: &impl Wait, alloc: Global, blank: Blank) -> Option<
     Some(lines)
 }
 
-/// Reads the coterie, plans it, and serves. Returns none where anything was refused.
+/// Reads the coterie, plans it, and serves. Returns `None` if any call fails.
 fn run(rt: &impl Wait, alloc: Global) -> Option<String> {
     let named = read_coterie(alloc, COTERIE).ok()?;
     let plan = plan(alloc, named.coterie()).ok()?;

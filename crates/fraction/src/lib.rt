@@ -1,7 +1,7 @@
 //! Exact fractions of 128-bit numbers: a call returns the exact value in lowest terms, or a fault.
 //!
 //! Nothing is rounded and nothing wraps. If a number that a call computes on its way does not fit,
-//! the call returns `Overflow`. So you have the exact result, or know that there is none.
+//! the call returns `Overflow`. The result itself may still fit.
 //!
 //! `Shared` is a table of numbers over one denominator, with the pivots of a simplex tableau. A
 //! call that fails leaves it as it was.

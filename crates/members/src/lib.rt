@@ -48,8 +48,9 @@
 //!   seat has the voter's current grant.
 //! - Whenever no call of a member runs, its client's votes are those that its seat holds. The
 //!   client changes only by its definition.
-//! - `ask`, `pass`, `leave` and `give_up` fail if and only if their contracts say so (except on a
-//!   full register, or out of memory).
+//! - `ask` fails if the client is not idle, or has no stamp or no ticket left. `pass` and `leave`
+//!   fail if it is not inside, and `give_up` if it is not asking. Otherwise only `pass` fails, on a
+//!   full register, and `ask` and `pass` when out of memory.
 //! - A record has each member's draws and passes, and no others. Its tickets and its numbers are 0,
 //!   1, 2 and so on. Each ticket names its quorum by the plan's cycle, and the register is the
 //!   number of passes.
@@ -58,8 +59,8 @@
 //! taken. [`Member::lost`] counts such messages:
 //!
 //! - It rises by one for such a LOCKED.
-//! - Otherwise it rises at most by what the messages of a step can lose: each message, or in its
-//!   place the replies to it.
+//! - Otherwise it rises by at most three for each message that is sent: the message is lost, or
+//!   the replies to it.
 //! - No loss is left out. This is proved for a message that names a voter or a client that the
 //!   cluster doesn't have, and only tested for others.
 //!

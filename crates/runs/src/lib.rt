@@ -16,8 +16,6 @@
 //! - There is a record of passes only if the gate lets each client pass, and if there are at least
 //!   two turns for each pass.
 //!
-//! It is also tested that the record of a closed cluster is accepted.
-//!
 //! This crate depends on `cluster`, whose members it drives, and on `replay`, which defines sound
 //! records. The program's command `run` depends on it.
 #![tactic(auto)]
