@@ -7,8 +7,8 @@ use Rattle.std.proofs.lemmas.List.{length-replicate, get_or-replicate, get_or_pa
 use mathlib.Core.Option.{some, some-injective, some-ne-none}
 use lib.ListN.{get_elem?}
 use Rattle.atomic_table.specs.Table.{Final, Seen}
-use Rattle.quorum_set.specs.Sums.{sum_below}
-use Rattle.quorum_set.proofs.SumLemmas.{sum_at, sum_alone_at, sum_below-one, sum_one}
+use Rattle.numbers.specs.Sums.{sum_below}
+use Rattle.numbers.proofs.SumLemmas.{sum_at, sum_alone_at, sum_below-one, sum_one}
 use Rattle.board.specs.declared.table.View.{View}
 use Rattle.board.specs.Seats.{Setting}
 use Rattle.board.specs.Words.{taken, is}

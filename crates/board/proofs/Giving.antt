@@ -10,7 +10,7 @@ use native.Mathlib.Decide.{ℕ_discrete, dec_le}
 use lib.ListN.{get_elem?}
 use Rattle.atomic_table.specs.Table.{Splits, Joins}
 use Rattle.atomic_table.proofs.Lists.{at_snoc, set_else}
-use Rattle.quorum_set.proofs.SumLemmas.{sum_set, sum_two}
+use Rattle.numbers.proofs.SumLemmas.{sum_set, sum_two}
 use Rattle.board.specs.declared.table.View.{View}
 use Rattle.board.specs.Seats.{Setting}
 use Rattle.board.specs.Words.{name_of, is, nobody}

@@ -6,8 +6,8 @@ use Rattle.std.proofs.lemmas.List.Sums.{sum_by_push}
 use mathlib.Core.Option.{none, some}
 use lib.ListN.{get_elem?}
 use Rattle.atomic_table.specs.Table.{step, keeps, Allows}
-use Rattle.quorum_set.specs.Sums.{sum_below}
-use Rattle.quorum_set.proofs.SumLemmas.{sum_set, sum_at, sum_two, sum_below-next, sum_below-late, All-from_late, late}
+use Rattle.numbers.specs.Sums.{sum_below}
+use Rattle.numbers.proofs.SumLemmas.{sum_set, sum_at, sum_two, sum_below-next, sum_below-late, All-from_late, late}
 use Rattle.board.specs.declared.table.View.{View}
 use Rattle.board.specs.Seats.{Setting}
 use Rattle.quorum_set.specs.Meetings.{Meet, AllMeet}
@@ -15,7 +15,7 @@ use Rattle.board.specs.Quorums.{quorum_at, HoldsAll}
 use Rattle.board.specs.Words.{name_of, taken, is}
 use Rattle.board.specs.Rule.{holds_vote, IsVote, IsReading, IsKept, Kept}
 use Rattle.board.specs.Moves.{Read, Wrote, Counted}
-use Rattle.quorum_set.proofs.Meetings.{all_has}
+use Rattle.numbers.proofs.Members.{all_has}
 use Rattle.board.proofs.Words.{is-same}
 use Rattle.board.proofs.Votes.{S, M, each_set, vote_same, holds_here, unmoved}
 

@@ -10,8 +10,8 @@ use lib.ListN.{get_elem?}
 use prog.Atomic.{either}
 use Rattle.atomic_table.specs.Table.{State, Me, step, keeps, Allows}
 use Rattle.atomic_table.proofs.Lists.{at_set, set_again}
-use Rattle.quorum_set.specs.Sums.{sum_below}
-use Rattle.quorum_set.proofs.SumLemmas.{sum_set, sum_at}
+use Rattle.numbers.specs.Sums.{sum_below}
+use Rattle.numbers.proofs.SumLemmas.{sum_set, sum_at}
 use Rattle.board.specs.declared.table.View.{View}
 use Rattle.board.specs.Seats.{Setting}
 use Rattle.board.specs.Quorums.{quorum_at, HoldsAll}

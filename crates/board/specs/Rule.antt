@@ -9,7 +9,7 @@ use Rattle.board.specs.declared.table.View.{View}
 use Rattle.board.specs.Seats.{Setting}
 use Rattle.board.specs.Quorums.{quorum_at, HoldsAll}
 use Rattle.board.specs.Words.{name_of, taken, is}
-use Rattle.quorum_set.specs.Sums.{sum_below}
+use Rattle.numbers.specs.Sums.{sum_below}
 
 -- 1 if the seat stands for voter v and the grant that it knows has this name, else 0; name 0 means
 -- that it knows no current grant

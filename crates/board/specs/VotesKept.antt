@@ -4,7 +4,7 @@ use Rattle.std.specs.Prelude.{◌≡◌, ◌≢◌, ◌⊎◌, ◌↔◌, ℕ, z
 use mathlib.Core.Option.{some}
 use lib.ListN.{get_elem?}
 use Rattle.atomic_table.specs.Table.{State}
-use Rattle.quorum_set.specs.Sums.{AreAllBelow}
+use Rattle.numbers.specs.Sums.{AreAllBelow}
 use Rattle.board.specs.declared.table.View.{View}
 use Rattle.board.specs.Seats.{Setting}
 use Rattle.quorum_set.specs.Meetings.{AllMeet}

@@ -1,7 +1,7 @@
 //! The board, on which all seats make their steps.
 ghost use Rattle.std.specs.Prelude.{◌≡◌, ℕ, ◌+◌, ◌-◌, ◌<◌, ◌≤◌, ◌^◌, [], true, false, IfOk, IfErr, map, nat_lt, length, replicate, slice_index_or};
 ghost use Rattle.std.specs.List.{sum_by};
-ghost use Rattle.quorum_set.specs.Sums.{AreAllBelow};
+ghost use Rattle.numbers.specs.Sums.{AreAllBelow};
 ghost use Rattle.quorum_set.specs.Meetings.{AllMeet};
 ghost use Rattle.board.specs.Roots.{weight};
 ghost use Rattle.board.specs.Seats.{BoardState, RootState};

@@ -4,11 +4,12 @@ use Rattle.std.proofs.Common.{◌≡◌, ℕ, ◌+◌, ◌*◌, ◌≤◌, Bool,
 use Rattle.std.proofs.lemmas.Bool.{cases_lt}
 use Rattle.std.proofs.lemmas.List.{get_or_past}
 use Rattle.std.proofs.Math.Nat.{mul-le-mul_left}
-use Rattle.quorum_set.specs.Sets.{has}
-use Rattle.quorum_set.specs.Counts.{greatest_below, count_of, busiest_of, times}
+use Rattle.numbers.specs.Sets.{has}
+use Rattle.quorum_set.specs.Counts.{count_of, busiest_of}
+use Rattle.numbers.specs.Counts.{greatest_below, times}
 use Rattle.certificate.specs.Loads.{weight_on}
 use Rattle.certificate.specs.Certificates.{Weighted, busiest_count}
-use Rattle.certificate.proofs.Totals.{total_from, total_from-same, total_from-shift, total_from-times, count_by-total}
+use Rattle.numbers.proofs.RangeSums.{total_from, total_from-same, total_from-shift, total_from-times, count_by-total}
 
 -- the weight on the quorums with a voter, summed quorum by quorum
 weight_on-total : (i : ℕ) (qs : List (List ℕ)) (ws : List ℕ) → length ws ≡ length qs → weight_on i qs ws ≡ total_from 0 (length qs) (λ j. cond (has (get_or qs j []) i) (get_or ws j 0) 0)

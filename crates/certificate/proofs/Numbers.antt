@@ -8,12 +8,10 @@ use Rattle.std.specs.Fmt.{decimal}
 use Rattle.std.proofs.lemmas.Bool.{and_parts, and_from, or_cases, or_left, or_right, not-true, not_from_false, ltb-true, le-ltb, lt-ltb, eqb-true, eq-eqb, ne_eqb, eqb-false, cases_eq}
 use Rattle.std.proofs.lemmas.Option.{cond_some}
 use Rattle.std.proofs.lemmas.Int.Digits.{digits_value_more}
-use Rattle.std.proofs.lemmas.Str.Parse.{digit_at, digits_value-take-le, IsNumeralModel, numerals_by_value, tells_all_ascii_digits, digits_value_short}
+use Rattle.std.proofs.lemmas.Str.Parse.{digit_at, digits_value-take-le, digits_value_short}
 use Rattle.std.proofs.lemmas.Fmt.{decimal-digits_value, digits_value-decimal, digits_decimal, decimal_nonempty, decimal_digit, first_decimal, length-decimal-le}
 use Rattle.certificate.specs.PlanTexts.{is_number, number_of}
-
-pub own : IsNumeralModel (λ ds. all_ascii_digits ds ≡ true) (digits_value 10)
-own = numerals_by_value (λ ds. all_ascii_digits ds ≡ true) tells_all_ascii_digits
+use Rattle.texts.proofs.CutLemmas.{ascii_numerals}
 
 all_digits : (bs : List ℕ) → list_all is_ascii_digit bs ≡ all_ascii_digits bs
 all_digits [] = refl
@@ -49,13 +47,13 @@ IsNumber-is_number bs h =
     and_from _ _ (lt-ltb 0 (length bs) h.some) (and_from _ _ (lt-ltb (length bs) 8 (omega (arith, h.short))) (and_from _ _ plain (all_digits bs ∙ h.digits)))
 
 pub small_value : (bs : List ℕ) → IsNumber bs → digits_value 10 bs < 10000000
-small_value bs h = digits_value_short own bs 7 h.digits h.short
+small_value bs h = digits_value_short ascii_numerals bs 7 h.digits h.short
 
 pub number_of-Some : (bs : List ℕ) (n : ℕ) → number_of bs ≡ Some n → bs ≡ decimal n
 number_of-Some bs n e =
     let parts = cond_some (is_number bs) (digits_value 10 bs) n e in
     let h = is_number-IsNumber bs parts.0 in
-    sym (decimal-digits_value own bs h.digits h.some h.plain (omega (arith, small_value bs h))) ∙ ap decimal parts.1
+    sym (decimal-digits_value ascii_numerals bs h.digits h.some h.plain (omega (arith, small_value bs h))) ∙ ap decimal parts.1
 
 zero_is_short : (n : ℕ) → n < 10000000 → get_or (decimal n) 0 0 ≡ 48 → length (decimal n) ≡ 1
 zero_is_short n small e =
@@ -69,13 +67,13 @@ IsNumber-decimal n small = record {
   some = decimal_nonempty n (omega arith);
   short = length-decimal-le 7 n (omega arith) small (omega arith);
   plain = zero_is_short n small;
-  digits = digits_decimal own n (omega arith);
+  digits = digits_decimal ascii_numerals n (omega arith);
 }
 
 pub number_of-decimal : (n : ℕ) → n < 10000000 → number_of (decimal n) ≡ Some n
 number_of-decimal n small =
     ap (λ b. cond b (Some (digits_value 10 (decimal n))) None) (IsNumber-is_number (decimal n) (IsNumber-decimal n small))
-    ∙ ap Some (digits_value-decimal own n (omega arith))
+    ∙ ap Some (digits_value-decimal ascii_numerals n (omega arith))
 
 plain_digit : (c : ℕ) → 48 ≤ c → c < 58 → digit_value c ≡ c - 48
 plain_digit c low high = rw (le-ltb c 48 low, lt-ltb c 58 high) refl
@@ -83,7 +81,7 @@ plain_digit c low high = rw (le-ltb c 48 low, lt-ltb c 58 high) refl
 -- one more digit is read
 pub next_value : (bs : List ℕ) (i : ℕ) → IsNumber bs → i < length bs → digits_value 10 (take i bs) * 10 + (get_or bs i 0 - 48) ≡ digits_value 10 (take (i + 1) bs)
 next_value bs i h lt =
-    let range = digit_at bs i (own.to bs h.digits) lt in
+    let range = digit_at bs i (ascii_numerals.to bs h.digits) lt in
     ap (λ d. digits_value 10 (take i bs) * 10 + d) (sym (plain_digit (get_or bs i 0) (omega (arith, range)) (omega (arith, range)))) ∙ sym (digits_value_more 10 bs i lt)
 
 pub next_small : (bs : List ℕ) (i : ℕ) → IsNumber bs → digits_value 10 (take (i + 1) bs) < 10000000

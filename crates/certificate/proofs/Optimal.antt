@@ -4,14 +4,15 @@ use Rattle.std.specs.List.{All}
 use Rattle.std.proofs.lemmas.Bool.{cases_eq}
 use Rattle.std.proofs.lemmas.List.Sums.{sum_by-cons}
 use Rattle.std.proofs.lemmas.List.Elements.{All-head, All-tail}
-use Rattle.quorum_set.specs.Sets.{has, Ascends}
+use Rattle.numbers.specs.Sets.{has, Ascends}
 use Rattle.quorum_set.specs.Coteries.{QuorumSystem, IsCoterie}
-use Rattle.quorum_set.proofs.SetLemmas.{has-below, has-head, has-tail, Ascends-lower}
+use Rattle.numbers.proofs.SetLemmas.{has-below, has-head, has-tail, Ascends-lower}
 use Rattle.std.proofs.Math.Nat.{mul-le-mul_left, mul-le-mul_right, le_of_mul-le-mul_right, mul_assoc, mul_comm}
-use Rattle.certificate.proofs.LoadLemmas.{least_of-le, greatest_below-le}
-use Rattle.certificate.proofs.Totals.{total_from, total_from-same, total_from-zero, total_from-add, total_from-list}
+use Rattle.numbers.proofs.CountLemmas.{least_of-le, greatest_below-le}
+use Rattle.numbers.proofs.RangeSums.{total_from, total_from-same, total_from-zero, total_from-add, total_from-list}
 use Rattle.quorum_set.specs.Counts.{count_of, busiest_of}
-use Rattle.certificate.specs.Loads.{weight_within, least_of}
+use Rattle.certificate.specs.Loads.{weight_within}
+use Rattle.numbers.specs.Counts.{least_of}
 use Rattle.certificate.specs.Certificates.{Weighted, IsCertificate, IsOptimal, cycle_len, voter_total, lightest_quorum, busiest_count}
 
 -- the members' weights, summed over the quorum or over all numbers

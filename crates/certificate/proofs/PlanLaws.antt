@@ -9,7 +9,7 @@ use Rattle.std.proofs.lemmas.List.Sums.{sum_by-cons}
 use Rattle.std.specs.Fmt.{decimal}
 use Rattle.std.proofs.Math.Nat.{div-le_self}
 use Rattle.quorum_set.specs.Coteries.{QuorumSystem}
-use Rattle.quorum_set.specs.Counts.{greatest_below}
+use Rattle.numbers.specs.Counts.{greatest_below}
 use Rattle.certificate.specs.declared.fault.PlanFault.{PlanFault}
 use Rattle.certificate.specs.declared.fault.PlanFault.TheVariants.{BadText}
 use Rattle.divisor.specs.Gcd.{gcd_of}

@@ -12,9 +12,10 @@ use Rattle.std.proofs.lemmas.List.Splits.{join_with_byte-slice_split, length-sli
 use Rattle.std.proofs.lemmas.Slice.Eq.{bytes_eq-Decides}
 use Rattle.certificate.specs.declared.fault.PlanFault.{PlanFault}
 use Rattle.certificate.specs.declared.fault.PlanFault.TheVariants.{BadText}
-use Rattle.certificate.specs.PlanTexts.{IsShort, spaced, title_line, load_line, cycle_line, weights_line, cut_at, number_of, numbers_of, behind, read_title, read_pair, read_load, read_cycle, read_weights, line_at}
+use Rattle.certificate.specs.PlanTexts.{IsShort, spaced, title_line, load_line, cycle_line, weights_line, number_of, numbers_of, behind, read_title, read_pair, read_load, read_cycle, read_weights, line_at}
+use Rattle.texts.specs.Cuts.{cut_at}
 use Rattle.certificate.proofs.Numbers.{number_of-Some, number_of-small, number_of-decimal}
-use Rattle.certificate.proofs.Cuts.{Lacks, Lacks-append, Lacks-decimal, Lacks-join, AllLack, cut_at-append, cut_at-Some, slice_split-join}
+use Rattle.texts.proofs.CutLemmas.{Lacks, Lacks-append, Lacks-decimal, Lacks-join, AllLack, cut_at-append, cut_at-Some, slice_split-join}
 
 -- one more number is written
 pub spaced-push : (ns : List ℕ) (n : ℕ) → 0 < length ns → spaced (ns ++ n ∷ []) ≡ spaced ns ++ 32 ∷ decimal n

@@ -2,8 +2,9 @@
 use Rattle.std.proofs.Common.{◌≡◌, ℕ, eqb, List, [], ◌∷◌, ◌++◌, Option, None, Some, sym, refl, ap, ◌∙◌, append_assoc}
 use Rattle.std.specs.List.{slice_split}
 use Rattle.std.specs.Option.{option_map, option_and_then}
-use Rattle.certificate.specs.PlanTexts.{cut_at, number_of, numbers_of}
-use Rattle.certificate.proofs.Cuts.{words_cut, words_end}
+use Rattle.certificate.specs.PlanTexts.{number_of, numbers_of}
+use Rattle.texts.specs.Cuts.{cut_at}
+use Rattle.texts.proofs.CutLemmas.{words_cut, words_end}
 
 -- with the numbers before
 abbrev pub behind_found : List ℕ → List ℕ → Option (List ℕ)

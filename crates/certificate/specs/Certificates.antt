@@ -2,9 +2,11 @@
 use Rattle.std.specs.Prelude.{◌≡◌, ℕ, ◌*◌, ◌<◌, ◌≤◌, not, ◌&&◌, ◌||◌, ◌==◌, nat_lt, if◌then◌else◌, List, length, sum, Option, None, Some, Result, Ok, Err}
 use Rattle.std.specs.List.{All}
 use Rattle.quorum_set.specs.Coteries.{QuorumSystem, IsCoterie}
-use Rattle.quorum_set.specs.Counts.{greatest_below, busiest_of}
+use Rattle.quorum_set.specs.Counts.{busiest_of}
+use Rattle.numbers.specs.Counts.{greatest_below}
 use Rattle.divisor.specs.Gcd.{lowest_terms}
-use Rattle.certificate.specs.Loads.{weight_on, weight_within, least_of}
+use Rattle.certificate.specs.Loads.{weight_on, weight_within}
+use Rattle.numbers.specs.Counts.{least_of}
 use Rattle.certificate.specs.declared.fault.PlanFault.{PlanFault}
 use Rattle.certificate.specs.declared.fault.PlanFault.TheVariants.{WrongLength, TooLarge, Empty, NotOptimal, OutOfMemory}
 

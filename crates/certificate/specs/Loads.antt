@@ -1,12 +1,6 @@
 -- Sums of weights: of the quorums with a voter, and of a quorum's members.
 use Rattle.std.specs.Prelude.{ℕ, ◌+◌, List, [], ◌∷◌, min, sum_by, slice_index, if◌then◌else◌}
-use Rattle.quorum_set.specs.Sets.{has}
-
--- the smallest value of f on the list; 0 if the list is empty
-abbrev pub least_of : (List ℕ → ℕ) → List (List ℕ) → ℕ
-least_of f [] = 0
-least_of f (q ∷ []) = f q
-least_of f (q ∷ r ∷ qs) = min (f q) (least_of f (r ∷ qs))
+use Rattle.numbers.specs.Sets.{has}
 
 -- the sum of the weights of the quorums with this voter
 abbrev pub weight_on : ℕ → List (List ℕ) → List ℕ → ℕ

@@ -15,6 +15,7 @@ use Rattle.std.specs.Str.{bytes_eq}
 use Rattle.std.specs.Str.Parse.{digits_value}
 use Rattle.std.specs.Fmt.{decimal}
 use Rattle.quorum_set.specs.Coteries.{QuorumSystem}
+use Rattle.texts.specs.Cuts.{cut_at}
 use Rattle.certificate.specs.declared.fault.PlanFault.{PlanFault}
 use Rattle.certificate.specs.declared.fault.PlanFault.TheVariants.{BadText, WrongLoad, WrongCycle, OutOfMemory}
 use Rattle.certificate.specs.Certificates.{Weighted, cycle_len, load_of, weights_fault}
@@ -70,10 +71,6 @@ abbrev pub plan_text : Weighted → List ℕ
 plan_text w = text_of_lines (lines_of (telling_of w))
 
 -- Reading
-
--- the bytes before and after the first byte that is the mark, if there is one
-abbrev pub cut_at : ℕ → List ℕ → Option (List ℕ × List ℕ)
-cut_at mark bytes = option_map (λ place. (take place bytes, drop (place + 1) bytes)) (position (λ b. b == mark) bytes)
 
 -- whether the bytes are a number: 1 to 7 decimal digits, without a leading zero
 abbrev pub is_number : List ℕ → Bool

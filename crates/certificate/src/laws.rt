@@ -3,7 +3,8 @@ ghost use Rattle.std.specs.Prelude.{◌≡◌, ◌*◌, ◌↔◌, ◌<◌, ◌+
 ghost use Rattle.std.specs.Fmt.{decimal};
 ghost use Rattle.std.specs.List.{All};
 ghost use Rattle.quorum_set.specs.Coteries.{IsCoterie};
-ghost use Rattle.quorum_set.specs.Counts.{count_of, busiest_of, times};
+ghost use Rattle.quorum_set.specs.Counts.{count_of, busiest_of};
+ghost use Rattle.numbers.specs.Counts.{times};
 ghost use Rattle.certificate.specs.Certificates.{Weighted, IsCertificate, weights_fault, busiest_count};
 ghost use Rattle.certificate.specs.PlanTexts.{IsShort, plan_text, number_of, load_line, cycle_line, weights_line, read_load, read_cycle, read_weights};
 ghost use Rattle.certificate.specs.Loads.{weight_on};

@@ -1,8 +1,9 @@
 //! Sums of weights: of the quorums with a voter, and of a quorum's members.
 ghost use Rattle.std.specs.Prelude.{◌≡◌, ◌<◌, ◌≤◌, ◌^◌, length, sum, All, SomeIff};
 ghost use Rattle.quorum_set.specs.Coteries.{IsCoterie};
-ghost use Rattle.quorum_set.specs.Counts.{greatest_below};
-ghost use Rattle.certificate.specs.Loads.{weight_on, weight_within, least_of};
+ghost use Rattle.numbers.specs.Counts.{greatest_below};
+ghost use Rattle.certificate.specs.Loads.{weight_on, weight_within};
+ghost use Rattle.numbers.specs.Counts.{least_of};
 
 use quorum_set::{Coterie, QSet};
 

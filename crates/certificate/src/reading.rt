@@ -1,14 +1,15 @@
 //! Reading the text of a plan.
-ghost use Rattle.std.specs.Prelude.{◌≡◌, ◌==◌, IfOk, option_map, position};
+ghost use Rattle.std.specs.Prelude.{◌≡◌, ◌==◌, IfOk, option_map};
 ghost use Rattle.std.specs.List.{slice_split, list_all};
 ghost use Rattle.std.specs.Char.{is_ascii_digit};
 ghost use Rattle.certificate.specs.Certificates.{Weighted, IsCertificate, IsOptimal};
-ghost use Rattle.certificate.specs.PlanTexts.{plan_text, cut_at, is_number, number_of, numbers_of, behind, read_title, read_pair, read_load, read_cycle, read_weights, line_at, telling_at, head_at, head_fault, plan_at, Answers, Gives, MemoryAside, RefusesAs};
+ghost use Rattle.certificate.specs.PlanTexts.{plan_text, is_number, number_of, numbers_of, behind, read_title, read_pair, read_load, read_cycle, read_weights, line_at, telling_at, head_at, head_fault, plan_at, Answers, Gives, MemoryAside, RefusesAs};
 
 use crate::fault::PlanFault;
 use crate::plan::{Plan, check};
 use quorum_set::Coterie;
 use std::alloc::{AllocError, Global};
+use texts::cut_at;
 
 /// The values in the lines of a text, before they are checked.
 #[derive(Drop)]
@@ -17,23 +18,6 @@ struct LinesTold {
     cycle: u64,
     quorum_weights: Vec<u64>,
     voter_weights: Vec<u64>,
-}
-
-/// Returns the place of the first byte that is the mark.
-fn place_of(bytes: &[u8], mark: u8) -> Option<usize>
-    ensures { result ≡ position (λ b. b == mark) bytes.now }
-{
-    bytes.iter().position(|b| *b == mark)
-}
-
-/// Returns the bytes before and after the first byte that is the mark, or `None` if there is none.
-pub fn cut(bytes: &[u8], mark: u8) -> Option<(&[u8], &[u8])>
-    ensures { option_map (λ x. (x.0.now, x.1.now)) result ≡ cut_at mark bytes.now }
-{
-    match place_of(bytes, mark) {
-        Some(place) => Some((&bytes[..place], &bytes[place + 1..])),
-        None => None,
-    }
 }
 
 fn are_digits(bytes: &[u8]) -> bool
@@ -71,7 +55,7 @@ fn numbers(alloc: Global, text: &[u8]) -> Result<Option<Vec<u64>>, AllocError>
 {
     let mut found = Vec::new(alloc);
     let mut rest = text;
-    'words: while let Some((word, after)) = cut(rest, b' ') {
+    'words: while let Some((word, after)) = cut_at(rest, b' ') {
         let Some(n) = number(word) else {
             return Ok(None);
         };
@@ -104,7 +88,7 @@ fn load(line: &[u8]) -> Option<(u64, u64)>
     ensures { result ≡ read_load line.now }
 {
     match behind(b"load ", line) {
-        Some(rest) => match cut(rest, b'/') {
+        Some(rest) => match cut_at(rest, b'/') {
             Some((before, after)) => pair(before, after),
             None => None,
         },
@@ -134,7 +118,7 @@ fn weights(alloc: Global, word: &[u8], line: &[u8]) -> Result<Option<Vec<u64>>, 
 fn title_line(text: &[u8]) -> Result<&[u8], PlanFault>
     ensures { Answers (λ rest. (tt, rest.now)) result (line_at 1 read_title text.now) }
 {
-    match cut(text, b'\n') {
+    match cut_at(text, b'\n') {
         Some((line, rest)) if line == b"quorum-plan 1".as_slice() => Ok(rest),
         _ => Err(PlanFault::BadText { line: 1 }),
     }
@@ -143,7 +127,7 @@ fn title_line(text: &[u8]) -> Result<&[u8], PlanFault>
 fn load_line(text: &[u8]) -> Result<((u64, u64), &[u8]), PlanFault>
     ensures { Answers (λ x. (x.0, x.1.now)) result (line_at 2 read_load text.now) }
 {
-    let Some((line, rest)) = cut(text, b'\n') else {
+    let Some((line, rest)) = cut_at(text, b'\n') else {
         return Err(PlanFault::BadText { line: 2 });
     };
     match load(line) {
@@ -155,7 +139,7 @@ fn load_line(text: &[u8]) -> Result<((u64, u64), &[u8]), PlanFault>
 fn cycle_line(text: &[u8]) -> Result<(u64, &[u8]), PlanFault>
     ensures { Answers (λ x. (x.0, x.1.now)) result (line_at 3 read_cycle text.now) }
 {
-    let Some((line, rest)) = cut(text, b'\n') else {
+    let Some((line, rest)) = cut_at(text, b'\n') else {
         return Err(PlanFault::BadText { line: 3 });
     };
     match cycle(line) {
@@ -172,7 +156,7 @@ fn weights_line<'a>(
 ) -> Result<(Vec<u64>, &'a [u8]), PlanFault>
     ensures { Gives (λ x. (x.0.items, x.1.now)) result (line_at number (read_weights word.now) text.now) }
 {
-    let Some((line, rest)) = cut(text, b'\n') else {
+    let Some((line, rest)) = cut_at(text, b'\n') else {
         return Err(PlanFault::BadText { line: number });
     };
     match weights(alloc, word, line)? {

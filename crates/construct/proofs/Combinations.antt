@@ -9,8 +9,8 @@ use Rattle.std.proofs.lemmas.List.Elements.{All-head, All-tail}
 use Rattle.std.proofs.lemmas.List.FromFn.{get_or-range_with_len}
 use Rattle.itertools.specs.Odometer.{numbers, ways}
 use Rattle.itertools.specs.Pool.{ascending_low, ascending_high, ClonesAt}
-use Rattle.quorum_set.specs.Sets.{has, IsSet, set_where}
-use Rattle.quorum_set.proofs.SetLemmas.{is_set_where}
+use Rattle.numbers.specs.Sets.{has, IsSet, set_where}
+use Rattle.numbers.proofs.SetLemmas.{is_set_where}
 use Rattle.construct.specs.Majority.{sets_from}
 
 sets_from-none : (a n k : ℕ) → n < k → sets_from a n k ≡ []

@@ -3,17 +3,16 @@ use Rattle.std.proofs.Common.{◌≡◌, ℕ, ◌+◌, ◌%◌, ◌<◌, ◌≤�
 use Rattle.std.specs.List.{All, list_any, list_all, position}
 use Rattle.std.specs.Option.{option_or, option_map}
 use Rattle.std.specs.Result.{IfErr}
-use Rattle.std.proofs.lemmas.Bool.{true≢false, eqb-true, eq-eqb, ne_eqb, eqb-false, le-ltb, or_cases, or_parts, cases_eq}
+use Rattle.std.proofs.lemmas.Bool.{true≢false, eqb-true, eq-eqb, ne_eqb, eqb-false, le-ltb, lt-leb, or_cases, or_parts, cases_eq}
 use Rattle.std.proofs.lemmas.Nat.{mod_below}
 use Rattle.std.proofs.lemmas.List.{take-append-drop}
 use Rattle.std.proofs.lemmas.List.Elements.{All-head, All-tail}
 use Rattle.std.proofs.lemmas.List.Quantifiers.{position-Some}
 use Rattle.std.proofs.lemmas.List.FromFn.{length-map-range_with_len}
-use Rattle.quorum_set.specs.Sets.{has}
-use Rattle.quorum_set.specs.Coteries.{QuorumSystem, first_outside, first_pair, are_disjoint, is_one_within, fault_if, first_fault, coterie_or, coterie_of}
+use Rattle.numbers.specs.Sets.{has}
+use Rattle.quorum_set.specs.Coteries.{QuorumSystem, first_from, first_outside, first_pair, are_disjoint, is_one_within, fault_if, first_fault, coterie_or, coterie_of}
 use Rattle.quorum_set.specs.declared.fault.CoterieFault.TheVariants.{NoVoters, TooManyVoters, NoQuorums, TooManyQuorums, EmptyQuorum, VoterOutOfRange, Disjoint, Contained}
-use Rattle.quorum_set.proofs.SetLemmas.{has-append}
-use Rattle.quorum_set.proofs.StrayLaws.{IsLeastStray-first_outside}
+use Rattle.numbers.proofs.SetLemmas.{has-append}
 use Rattle.construct.specs.Cyclic.{shifted, cyclic_quorums, has_repeat, is_bad_base, as_construct, IsCyclicFault}
 use Rattle.construct.proofs.Quorums.{IsQuorum, IsQuorum-where, All-range}
 
@@ -33,25 +32,23 @@ IsQuorum-shifted n (x ∷ xs) s some few full =
     (ap (λ b. b || list_any (λ y. eqb ((y + s) % n) ((x + s) % n)) xs) (eq-eqb ((x + s) % n) ((x + s) % n) refl))
     (λ v small passes. moved_below n s (x ∷ xs) v some passes)
 
-member_of-All : (P : ℕ → Type 0) (s : List ℕ) (i : ℕ) → All P s → has s i ≡ true → P i
-member_of-All P [] i all e = absurd (true≢false (sym e))
-member_of-All P (x ∷ xs) i all e =
-    elim (or_cases (eqb x i) (has xs i) e) [
-      | inl at ↦ rw (sym (eqb-true x i at)) (All-head P x xs all)
-      | inr later ↦ member_of-All P xs i (All-tail P x xs all) later
-    ]
-
 none_empty : (n : ℕ) (sets : List (List ℕ)) (o : Option ℕ) → All (IsQuorum n) sets → position (λ s. eqb (length s) 0) sets ≡ o → o ≡ None
 none_empty n sets None all e = refl
 none_empty n sets (Some j) all e =
     let at = position-Some (λ s. eqb (length s) 0) sets j [] e in
     absurd (let empty = eqb-true (length (get_or sets j [])) 0 at.1 in omega (arith, (all j [] at.0).not_empty))
 
-none_outside : (n : ℕ) (sets : List (List ℕ)) (o : Option (ℕ × ℕ)) → All (IsQuorum n) sets → first_outside n 0 sets ≡ o → o ≡ None
-none_outside n sets None all e = refl
-none_outside n sets (Some (j, i)) all e =
-    let stray = IsLeastStray-first_outside n sets j i (λ k d lt. (all k d lt).set) e in
-    absurd (let below = member_of-All (λ v. v < n) (get_or sets j []) i (all j [] stray.0).in_range stray.1 in omega (arith, below, stray.2))
+first_from-none : (n : ℕ) (s : List ℕ) → All (λ v. v < n) s → first_from n s ≡ None
+first_from-none n [] all = refl
+first_from-none n (x ∷ xs) all =
+    ap (λ b. cond b (Some x) (first_from n xs)) (lt-leb n x (All-head (λ v. v < n) x xs all))
+    ∙ first_from-none n xs (All-tail (λ v. v < n) x xs all)
+
+none_outside : (n d : ℕ) (sets : List (List ℕ)) → All (IsQuorum n) sets → first_outside n d sets ≡ None
+none_outside n d [] all = refl
+none_outside n d (s ∷ sets) all =
+    ap (λ o. option_or (option_map (λ i. (d, i)) o) (first_outside n (d + 1) sets)) (first_from-none n s (All-head (IsQuorum n) s sets all).in_range)
+    ∙ none_outside n (d + 1) sets (All-tail (IsQuorum n) s sets all)
 
 six_none : (F : Type 0) (a b c d e f rest : Option F) → a ≡ None → b ≡ None → c ≡ None → d ≡ None → e ≡ None → f ≡ None
     → option_or a (option_or b (option_or c (option_or d (option_or e (option_or f rest))))) ≡ rest
@@ -73,7 +70,7 @@ sets_fault n sets some few full short all =
     (option_map (λ p. VoterOutOfRange p.0 p.1) (first_outside n 0 sets)) last
     (ap (λ b. fault_if b NoVoters) (ne_eqb n 0 (λ e. omega arith))) (ap (λ b. fault_if b TooManyVoters) (le-ltb 64 n few))
     (ap (λ b. fault_if b NoQuorums) (ne_eqb (length sets) 0 (λ e. omega arith))) (ap (λ b. fault_if b TooManyQuorums) (le-ltb 4096 (length sets) short))
-    (ap (option_map EmptyQuorum) (none_empty n sets _ all refl)) (ap (option_map (λ p. VoterOutOfRange p.0 p.1)) (none_outside n sets _ all refl)) in
+    (ap (option_map EmptyQuorum) (none_empty n sets _ all refl)) (ap (option_map (λ p. VoterOutOfRange p.0 p.1)) (none_outside n 0 sets all)) in
     rw e (last_faults (first_pair are_disjoint 0 sets) (first_pair is_one_within 0 sets) (record { voters = n; quorums = sets }))
 
 pub cyclic_fault : (n : ℕ) (base : List ℕ) → n ≤ 64 → is_bad_base n base ≡ false → IfErr (as_construct (coterie_of n (cyclic_quorums n base))) IsCyclicFault

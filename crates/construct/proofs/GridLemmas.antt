@@ -3,9 +3,9 @@ use Rattle.std.proofs.Common.{◌≡◌, ◌⊎◌, ℕ, ◌+◌, ◌*◌, ◌/�
 use Rattle.std.proofs.lemmas.Bool.{eq-eqb, ne_eqb, lt-ltb, ltb-true, and_parts, or_from, or_left, or_right, cases_eq}
 use Rattle.std.proofs.lemmas.Nat.{mul-add-lt, div-mul-add, mod-mul-add, div-add-mod', mod_below, div_below, mul-le}
 use Rattle.std.proofs.lemmas.List.FromFn.{get_or-map-range_with_len, length-map-range_with_len}
-use Rattle.quorum_set.specs.Sets.{has}
+use Rattle.numbers.specs.Sets.{has}
 use Rattle.quorum_set.specs.Coteries.{IsCoterie}
-use Rattle.quorum_set.proofs.SetLemmas.{has-set_where}
+use Rattle.numbers.proofs.SetLemmas.{has-set_where}
 use Rattle.construct.specs.Grid.{row_with_column, grid_quorums, grid_system}
 use Rattle.construct.proofs.Quorums.{IsQuorum, IsCrossing, IsCoterie-from, IsCrossing-from, IsQuorum-where, All-range, AllPairs-range}
 

@@ -4,9 +4,9 @@ use Rattle.std.specs.List.{All, AllPairs, Contains}
 use Rattle.std.proofs.lemmas.Bool.{true≢false, leb-true, or_right, cases_eq, cases_lt, agree_below_at}
 use Rattle.std.proofs.lemmas.List.{length-map, get_or-map}
 use Rattle.std.proofs.lemmas.List.Elements.{All-nil, All-cons, All-append, All-map, Contains-append_left, Contains-append_right}
-use Rattle.quorum_set.specs.Sets.{has, Ascends, IsSet}
+use Rattle.numbers.specs.Sets.{has, Ascends, IsSet}
 use Rattle.quorum_set.specs.Coteries.{IsCoterie}
-use Rattle.quorum_set.proofs.SetLemmas.{Ascends-lower, has-below, has-above, has-head, has-tail, length-Ascends}
+use Rattle.numbers.proofs.SetLemmas.{Ascends-lower, has-below, has-above, has-head, has-tail, length-Ascends}
 use Rattle.construct.specs.Majority.{sets_from, choose, majority_quorums, majority_system}
 use Rattle.construct.proofs.Quorums.{IsQuorum, IsCoterie-from, IsCrossing-from, All-members, AllPairs-append}
 use Rattle.construct.proofs.TreeLemmas.{AllPairs-map}

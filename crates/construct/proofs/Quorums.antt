@@ -6,9 +6,9 @@ use Rattle.std.proofs.lemmas.List.{get_or_default}
 use Rattle.std.proofs.lemmas.List.Elements.{All-head, All-tail, All-append}
 use Rattle.std.proofs.lemmas.List.Kept.{AllPairs-cons}
 use Rattle.std.proofs.lemmas.List.FromFn.{get_or-map-range_with_len, length-map-range_with_len}
-use Rattle.quorum_set.specs.Sets.{has, meet, within, IsSet, set_where}
+use Rattle.numbers.specs.Sets.{has, meet, within, IsSet, set_where}
 use Rattle.quorum_set.specs.Coteries.{IsCoterie}
-use Rattle.quorum_set.proofs.SetLemmas.{IsSet-set_where, has-set_where, has-at}
+use Rattle.numbers.proofs.SetLemmas.{IsSet-set_where, has-set_where, has-at}
 use Rattle.construct.proofs.SetLemmas.{has-passed}
 
 -- a set with a member, all below n

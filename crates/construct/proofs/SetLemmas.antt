@@ -1,9 +1,9 @@
 -- Lemmas on sets by a test.
 use Rattle.std.proofs.Common.{◌≡◌, ℕ, ◌+◌, ◌<◌, Bool, true, false, ◌||◌, ◌&&◌, eqb, ltb, List, [], ◌∷◌, length, get_or, take, ◌≤◌, sym, refl, ap, ap₂, ◌∙◌, inl, inr, arith}
 use Rattle.std.proofs.lemmas.Bool.{true≢false, eq-eqb, ne_eqb, lt-ltb, le-ltb, cases_eq, cases_lt}
-use Rattle.quorum_set.specs.Sets.{has, union, set_where}
+use Rattle.numbers.specs.Sets.{has, union, set_where}
 use Rattle.std.proofs.lemmas.List.{take_more}
-use Rattle.quorum_set.proofs.SetLemmas.{is_set_where, IsSet-set_where, has-set_where, has-above, has-append}
+use Rattle.numbers.proofs.SetLemmas.{is_set_where, IsSet-set_where, has-set_where, has-above, has-append}
 
 -- sets by tests that agree
 pub set_where-same : (p q : ℕ → Bool) → ((i : ℕ) → i < 64 → p i ≡ q i) → set_where p ≡ set_where q

@@ -7,9 +7,9 @@ use Rattle.std.proofs.lemmas.Nat.{pow_pos, pow-add, shr-shr, shr_le, mul-le}
 use Rattle.std.proofs.lemmas.List.{get_or_default, length-map}
 use Rattle.std.proofs.lemmas.List.Elements.{All-nil, All-cons, All-head, All-tail, All-append, All-map}
 use Rattle.std.proofs.lemmas.List.Kept.{AllPairs-cons}
-use Rattle.quorum_set.specs.Sets.{has, IsSet, set_where}
+use Rattle.numbers.specs.Sets.{has, IsSet, set_where}
 use Rattle.quorum_set.specs.Coteries.{IsCoterie}
-use Rattle.quorum_set.proofs.SetLemmas.{IsSet-set_where, has-set_where, has-above}
+use Rattle.numbers.proofs.SetLemmas.{IsSet-set_where, has-set_where, has-above}
 use Rattle.construct.specs.Tree.{with_node, union, node_quorums, quorums_under, tree_quorums, tree_system}
 use Rattle.construct.proofs.SetLemmas.{has-failed, has-passed}
 use Rattle.construct.proofs.Quorums.{IsQuorum, IsCrossing, IsCoterie-from, IsCrossing-from, not_empty-from, All-members, AllPairs-append}

@@ -5,9 +5,9 @@ use Rattle.std.proofs.lemmas.Bool.{eqb-true, eq-eqb, ne_eqb, le-leb, leb-true, a
 use Rattle.std.proofs.Common.{length-append}
 use Rattle.std.proofs.lemmas.List.Elements.{All-push}
 use Rattle.std.proofs.lemmas.List.FromFn.{length-map-range_with_len}
-use Rattle.quorum_set.specs.Sets.{has}
+use Rattle.numbers.specs.Sets.{has}
 use Rattle.quorum_set.specs.Coteries.{IsCoterie}
-use Rattle.quorum_set.proofs.SetLemmas.{has-set_where}
+use Rattle.numbers.proofs.SetLemmas.{has-set_where}
 use Rattle.construct.specs.Wheel.{spoke, rim, wheel_quorums, wheel_system}
 use Rattle.construct.proofs.SetLemmas.{has-failed}
 use Rattle.construct.proofs.Quorums.{IsQuorum, IsCrossing, IsCoterie-from, IsCrossing-from, IsQuorum-where, All-range, AllPairs-range, AllPairs-append}

@@ -3,7 +3,7 @@
 use Rattle.std.specs.Prelude.{ℕ, ◌+◌, ◌%◌, ◌==◌, ◌||◌, Bool, false, not, List, [], ◌∷◌, Result, Ok, Err, length, map, nat_lt}
 use Rattle.std.specs.List.{list_any, list_all, range_with_len}
 use Rattle.quorum_set.specs.Coteries.{QuorumSystem, coterie_of}
-use Rattle.quorum_set.specs.Sets.{has, set_where}
+use Rattle.numbers.specs.Sets.{has, set_where}
 use Rattle.quorum_set.specs.declared.fault.CoterieFault.{CoterieFault}
 use Rattle.quorum_set.specs.declared.fault.CoterieFault.TheVariants.{Disjoint, Contained}
 use Rattle.construct.specs.Answers.{sized}

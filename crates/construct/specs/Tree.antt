@@ -3,8 +3,8 @@
 use Rattle.std.specs.Prelude.{ℕ, ◌+◌, ◌-◌, ◌*◌, ◌^◌, ◌==◌, ◌||◌, List, [], ◌∷◌, ◌++◌, Result, Ok, false, map, nat_lt, zero, suc}
 use Rattle.std.specs.List.{flat_map}
 use Rattle.quorum_set.specs.Coteries.{QuorumSystem}
-use Rattle.quorum_set.specs.Sets.{has, set_where}
-pub use Rattle.quorum_set.specs.Sets.{union}
+use Rattle.numbers.specs.Sets.{has, set_where}
+pub use Rattle.numbers.specs.Sets.{union}
 use Rattle.construct.specs.Answers.{sized}
 use Rattle.construct.specs.declared.fault.ConstructFault.{ConstructFault}
 

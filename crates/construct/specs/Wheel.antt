@@ -3,7 +3,7 @@
 use Rattle.std.specs.Prelude.{ℕ, ◌+◌, ◌==◌, ◌||◌, ◌&&◌, List, [], ◌∷◌, ◌++◌, Result, Ok, map, nat_le, nat_lt}
 use Rattle.std.specs.List.{range_with_len}
 use Rattle.quorum_set.specs.Coteries.{QuorumSystem}
-use Rattle.quorum_set.specs.Sets.{set_where}
+use Rattle.numbers.specs.Sets.{set_where}
 use Rattle.construct.specs.Answers.{sized}
 use Rattle.construct.specs.declared.fault.ConstructFault.{ConstructFault}
 

@@ -1,7 +1,7 @@
 //! Laws about the constructions. Each is the contract of a function with an empty body, and holds
 //! for all sizes that it allows.
 ghost use Rattle.std.specs.Prelude.{◌≡◌, ◌+◌, ◌*◌, ◌^◌, ◌<◌, ◌≤◌, ℕ, List, [], false, length, slice_index_or, All, Contains, IfErr};
-ghost use Rattle.quorum_set.specs.Sets.{Ascends};
+ghost use Rattle.numbers.specs.Sets.{Ascends};
 ghost use Rattle.quorum_set.specs.Coteries.{IsCoterie, coterie_of};
 ghost use Rattle.construct.specs.Cyclic.{cyclic_quorums, is_bad_base, as_construct, IsCyclicFault};
 ghost use Rattle.construct.specs.Majority.{sets_from, choose, majority_system};

@@ -1,6 +1,6 @@
 //! Sets made by a test, and coteries made of sets that are known to be one.
 ghost use Rattle.std.specs.Prelude.{◌≡◌, ◌<◌, ℕ, Bool, Ok};
-ghost use Rattle.quorum_set.specs.Sets.{set_where};
+ghost use Rattle.numbers.specs.Sets.{set_where};
 ghost use Rattle.quorum_set.specs.Coteries.{IsCoterie};
 
 use crate::fault::ConstructFault;

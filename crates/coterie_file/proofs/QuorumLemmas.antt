@@ -3,8 +3,8 @@ use Rattle.std.proofs.Common.{◌≡◌, ℕ, ◌<◌, Bool, true, false, ◌||�
 use Rattle.std.specs.List.{list_any}
 use Rattle.std.proofs.lemmas.Bool.{eq-eqb, ne_eqb, cases_eq}
 use Rattle.std.proofs.lemmas.List.Folds.{list_any-append}
-use Rattle.quorum_set.specs.Sets.{has, set_where}
-use Rattle.quorum_set.proofs.SetLemmas.{is_set_where, IsSet-set_where, has-set_where}
+use Rattle.numbers.specs.Sets.{has, set_where}
+use Rattle.numbers.proofs.SetLemmas.{is_set_where, IsSet-set_where, has-set_where}
 use Rattle.coterie_file.specs.Names.{number_of}
 use Rattle.coterie_file.specs.Reading.{is_number, quorum_of}
 

@@ -11,8 +11,8 @@ use Rattle.std.proofs.lemmas.List.Quantifiers.{position-Some}
 use Rattle.std.proofs.lemmas.List.Sums.{AllPass-from_list_all, list_all-from_AllPass}
 use Rattle.std.proofs.lemmas.Slice.Eq.{bytes_eq-Decides}
 use Rattle.quorum_set.specs.Coteries.{IsCoterie, first_fault}
-use Rattle.quorum_set.specs.Sets.{has, IsSet}
-use Rattle.quorum_set.proofs.SetLemmas.{IsSet-set_where, has-set_where, has-above}
+use Rattle.numbers.specs.Sets.{has, IsSet}
+use Rattle.numbers.proofs.SetLemmas.{IsSet-set_where, has-set_where, has-above}
 use Rattle.coterie_file.specs.Lists.{NameLists, lists_at}
 use Rattle.coterie_file.specs.Named.{NamedSystem, IsNamed}
 use Rattle.coterie_file.specs.Names.{has_name, number_of, name_at, AllDiffer, first_repeat, names_fault}

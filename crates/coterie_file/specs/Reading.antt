@@ -3,7 +3,7 @@ use Rattle.std.specs.Prelude.{◌≡◌, ℕ, Bool, false, not, ◌==◌, List, 
 use Rattle.std.specs.List.{list_any, list_all}
 use Rattle.std.specs.Option.{option_or}
 use Rattle.quorum_set.specs.Coteries.{QuorumSystem, IsCoterie, first_fault}
-use Rattle.quorum_set.specs.Sets.{set_where}
+use Rattle.numbers.specs.Sets.{set_where}
 use Rattle.coterie_file.specs.Answers.{unless, ◌>>=◌}
 use Rattle.coterie_file.specs.Lists.{NameLists, lists_at}
 use Rattle.coterie_file.specs.Named.{NamedSystem}

@@ -1,6 +1,6 @@
 //! Laws about names, lists and the coteries of texts.
 ghost use Rattle.std.specs.Prelude.{◌≡◌, ◌<◌, ◌≤◌, ◌↔◌, ℕ, List, [], length, map, true, None, Some, Ok, Contains, MatchOption};
-ghost use Rattle.quorum_set.specs.Sets.{has};
+ghost use Rattle.numbers.specs.Sets.{has};
 ghost use Rattle.toml.specs.Data.{Items, array};
 ghost use Rattle.toml.specs.View.{items_of};
 ghost use Rattle.coterie_file.specs.Lists.{NameLists, texts_of, text_lists_of, strings};

@@ -7,14 +7,16 @@ use Rattle.std.proofs.lemmas.List.FromFn.{length-map-range_with_len, map-range_w
 use Rattle.std.proofs.lemmas.List.Sums.{sum_by-cons}
 use Rattle.std.proofs.Math.Nat.{le_of_mul-le-mul_right, mod-lt, mul_assoc, mul_comm}
 use Rattle.quorum_set.specs.Coteries.{QuorumSystem}
-use Rattle.quorum_set.specs.Counts.{greatest_below, times, count_of, busiest_of}
+use Rattle.quorum_set.specs.Counts.{count_of, busiest_of}
+use Rattle.numbers.specs.Counts.{greatest_below, times}
 use Rattle.certificate.specs.Certificates.{Weighted, IsCertificate, IsOptimal, cycle_len, busiest_count}
 use Rattle.certificate.specs.Loads.{weight_on}
 use Rattle.dealer.specs.declared.account.Account.{Account}
 use Rattle.dealer.specs.Cycles.{cycle_of, quorum_of_ticket}
 use Rattle.dealer.specs.Accounts.{values_below, quorums_named, account_of, IsWholeCycles}
-use Rattle.dealer.proofs.Totals.{total, total-same, total-list, total-periods, length-total, sum_by-each_once}
-use Rattle.dealer.proofs.CycleLemmas.{length-cycle_of, times-append, times-cycle_of, times-cons, cycle_of-lt}
+use Rattle.numbers.proofs.Totals.{total, total-same, total-list, total-periods, length-total, sum_by-each_once}
+use Rattle.dealer.proofs.CycleLemmas.{length-cycle_of, times-cycle_of, cycle_of-lt}
+use Rattle.numbers.proofs.CountLemmas.{times-append, times-cons}
 
 pub length-values_below : (n : ℕ) (f : ℕ → ℕ) → length (values_below n f) ≡ n
 length-values_below n f = length-map-range_with_len f 0 n

@@ -7,59 +7,10 @@ use Rattle.std.specs.List.Sorted.{IsPermutation}
 use Rattle.std.proofs.lemmas.List.FromFn.{length-range_with_len}
 use Rattle.std.proofs.lemmas.List.Sorted.{sum_by-IsPermutation}
 use Rattle.std.proofs.lemmas.List.Sums.{sum_by-cons, sum_by-append}
-use Rattle.quorum_set.specs.Counts.{greatest_below, times}
+use Rattle.numbers.specs.Counts.{greatest_below, times}
 use Rattle.dealer.specs.Cycles.{round_of, greatest_weight, cycle_of}
-use Rattle.dealer.proofs.Totals.{sum_by-one, total-same, total-list, length-total}
-
-pub times-cons : (j x : ℕ) (xs : List ℕ) → times j (x ∷ xs) ≡ cond (eqb x j) 1 0 + times j xs
-times-cons j x xs = sum_by-cons (λ k. cond (eqb k j) 1 0) x xs
-
-pub times-append : (j : ℕ) (xs ys : List ℕ) → times j (xs ++ ys) ≡ times j xs + times j ys
-times-append j xs ys = sum_by-append (λ k. cond (eqb k j) 1 0) xs ys
-
--- a number below a range is not among those of the range that pass
-times-filter_below : (p : ℕ → Bool) (a n j : ℕ) → j < a → times j (filter p (range_with_len a n)) ≡ 0
-times-filter_below p a zero j lt = refl
-times-filter_below p a (suc n) j lt =
-    let rest = times-filter_below p (a + 1) n j (omega arith) in
-    let off = ap (λ b. cond {A = ℕ} b 1 0) (ne_eqb a j (λ e. omega arith)) in
-    elim (p a) as (λ b. times j (cond b (a ∷ filter p (range_with_len (a + 1) n)) (filter p (range_with_len (a + 1) n))) ≡ 0) [
-      | true ↦ omega (arith, times-cons j a (filter p (range_with_len (a + 1) n)), off, rest)
-      | false ↦ rest
-    ]
-
--- a number of a range is among those that pass once, if it passes
-times-filter : (p : ℕ → Bool) (a n j : ℕ) → a ≤ j → j < a + n → times j (filter p (range_with_len a n)) ≡ cond {A = ℕ} (p j) 1 0
-times-filter p a zero j le lt = absurd (omega arith)
-times-filter p a (suc n) j le lt =
-    let rest = filter p (range_with_len (a + 1) n) in
-    elim (cases_eq a j) as (λ _. times j (cond (p a) (a ∷ rest) rest) ≡ cond {A = ℕ} (p j) 1 0) [
-      | inl at ↦
-          ap (λ b. times j (cond b (a ∷ rest) rest)) (ap p at)
-          ∙ times_first (p j) a j rest (ap (λ b. cond {A = ℕ} b 1 0) (eq-eqb a j at)) (times-filter_below p (a + 1) n j (omega arith))
-      | inr off ↦
-          times_later (p a) a j rest (ap (λ b. cond {A = ℕ} b 1 0) (ne_eqb a j off))
-          ∙ times-filter p (a + 1) n j (omega arith) (omega arith)
-    ]
-  where
-    times_first : (b : Bool) (a j : ℕ) (rest : List ℕ) → cond {A = ℕ} (eqb a j) 1 0 ≡ 1 → times j rest ≡ 0 → times j (cond b (a ∷ rest) rest) ≡ cond {A = ℕ} b 1 0
-    times_first true a j rest here none = omega (arith, times-cons j a rest)
-    times_first false a j rest here none = none
-
-    times_later : (b : Bool) (a j : ℕ) (rest : List ℕ) → cond {A = ℕ} (eqb a j) 1 0 ≡ 0 → times j (cond b (a ∷ rest) rest) ≡ times j rest
-    times_later true a j rest off = omega (arith, times-cons j a rest)
-    times_later false a j rest off = refl
-
--- no number past a range is among those that pass
-times-filter_above : (p : ℕ → Bool) (a n j : ℕ) → a + n ≤ j → times j (filter p (range_with_len a n)) ≡ 0
-times-filter_above p a zero j le = refl
-times-filter_above p a (suc n) j le =
-    let rest = times-filter_above p (a + 1) n j (omega arith) in
-    let off = ap (λ b. cond {A = ℕ} b 1 0) (ne_eqb a j (λ e. omega arith)) in
-    elim (p a) as (λ b. times j (cond b (a ∷ filter p (range_with_len (a + 1) n)) (filter p (range_with_len (a + 1) n))) ≡ 0) [
-      | true ↦ omega (arith, times-cons j a (filter p (range_with_len (a + 1) n)), off, rest)
-      | false ↦ rest
-    ]
+use Rattle.numbers.proofs.Totals.{sum_by-one, total-same, total-list, length-total}
+use Rattle.numbers.proofs.CountLemmas.{count_above, filter-all, filter-filter, flat_map_range_more, greatest_below-le, times-append, times-get_or, times-filter, times-filter_above}
 
 -- a round names each quorum once whose weight is at least the round's number, and no other
 pub times-round_of : (weights : List ℕ) (r j : ℕ) → 0 < r → times j (round_of weights r) ≡ cond (leb r (get_or weights j 0)) 1 0
@@ -85,19 +36,6 @@ times-rounds weights r (suc n) j some =
       | inr more ↦ let here = ap (λ b. cond {A = ℕ} b 1 0) (le-leb r weight more) in omega (arith, both, rest, one, here)
     ]
 
-pub greatest_below-le : (n : ℕ) (f : ℕ → ℕ) (i : ℕ) → i < n → f i ≤ greatest_below n f
-greatest_below-le zero f i lt = absurd (omega arith)
-greatest_below-le (suc n) f i lt =
-    elim (cases_eq i n) as (λ _. f i ≤ greatest_below (suc n) f) [
-      | inl at ↦ let e : f i ≡ f n = ap f at in omega (arith, e)
-      | inr off ↦ omega (arith, greatest_below-le n f i (omega arith))
-    ]
-
-pub greatest_below-bound : (n : ℕ) (f : ℕ → ℕ) (m : ℕ) → ((i : ℕ) → i < n → f i ≤ m) → greatest_below n f ≤ m
-greatest_below-bound zero f m most = omega arith
-greatest_below-bound (suc n) f m most =
-    omega (arith, greatest_below-bound n f m (λ i lt. most i (omega arith)), most n (omega arith))
-
 -- no weight is above the greatest
 pub weight-le : (weights : List ℕ) (j : ℕ) → get_or weights j 0 ≤ greatest_weight weights
 weight-le weights j =
@@ -112,19 +50,6 @@ unfolding cycle_of
 times-cycle_of weights j =
     omega (arith, times-rounds weights 1 (greatest_weight weights) j (omega arith), weight-le weights j)
 
--- a list in which no number from n on stands
-pub count_above : (n : ℕ) (list : List ℕ) → ((j : ℕ) → n ≤ j → times j list ≡ 0) → sum_by (λ x. cond (leb n x) 1 0) list ≡ 0
-count_above n [] none = refl
-count_above n (x ∷ xs) none =
-    let rest = count_above n xs (λ j le. omega (arith, times-cons j x xs, none j le)) in
-    let count = sum_by-cons (λ z. cond (leb n z) 1 0) x xs in
-    elim (cases_lt x n) as (λ _. sum_by (λ z. cond (leb n z) 1 0) (x ∷ xs) ≡ 0) [
-      | inl below ↦ let here = ap (λ b. cond {A = ℕ} b 1 0) (lt-leb n x below) in omega (arith, count, here, rest)
-      | inr above ↦
-          let here = ap (λ b. cond {A = ℕ} b 1 0) (eq-eqb x x refl) in
-          absurd (omega (arith, none x above, times-cons x x xs, here))
-    ]
-
 -- a cycle is as long as its weights add up to
 pub length-cycle_of : (weights : List ℕ) → length (cycle_of weights) ≡ sum weights
 length-cycle_of weights =
@@ -133,13 +58,6 @@ length-cycle_of weights =
     let none = count_above n list (λ j le. times-cycle_of weights j ∙ get_or_past weights j 0 le) in
     let each = total-same n (λ j. times j list) (λ j. get_or weights j 0) (λ j lt. times-cycle_of weights j) in
     omega (arith, length-total n list, none, each, total-list (λ x. x) weights)
-
--- what stands in a list stands there at least once
-pub times-get_or : (list : List ℕ) (i : ℕ) → i < length list → 0 < times (get_or list i 0) list
-times-get_or [] i lt = absurd (omega arith)
-times-get_or (x ∷ xs) zero lt =
-    omega (arith, times-cons x x xs, ap (λ b. cond {A = ℕ} b 1 0) (eq-eqb x x refl))
-times-get_or (x ∷ xs) (suc i) lt = omega (arith, times-cons (get_or xs i 0) x xs, times-get_or xs i (omega arith))
 
 -- a cycle names no quorum past the last
 pub cycle_of-lt : (weights : List ℕ) (i : ℕ) → i < sum weights → get_or (cycle_of weights) i 0 < length weights
@@ -151,41 +69,16 @@ cycle_of-lt weights i lt =
       | inr outside ↦ absurd (omega (arith, some, times-cycle_of weights j, get_or_past weights j 0 outside))
     ]
 
--- what passes each time is all
-filter-all : (p : ℕ → Bool) (xs : List ℕ) → ((x : ℕ) → p x ≡ true) → filter p xs ≡ xs
-filter-all p [] all = refl
-filter-all p (x ∷ xs) all = ap (λ b. cond b (x ∷ filter p xs) (filter p xs)) (all x) ∙ ap (λ ys. x ∷ ys) (filter-all p xs all)
-
 -- round 0 would name each quorum
 pub round_of-zero : (weights : List ℕ) → round_of weights 0 ≡ range_with_len 0 (length weights)
 round_of-zero weights =
     filter-all (λ j. leb 0 (get_or weights j 0)) (range_with_len 0 (length weights)) (λ j. le-leb 0 (get_or weights j 0) (omega arith))
-
-pub filter-filter : {X : Type 0} (p q : X → Bool) (xs : List X) → ((x : X) → q x ≡ true → p x ≡ true) → filter q (filter p xs) ≡ filter q xs
-filter-filter p q [] implies = refl
-filter-filter p q (x ∷ xs) implies =
-    let rest = filter-filter p q xs implies in
-    elim (cases_Bool (p x)) as (λ _. filter q (filter p (x ∷ xs)) ≡ filter q (x ∷ xs)) [
-      | inl passes ↦
-          ap (λ b. filter q (cond b (x ∷ filter p xs) (filter p xs))) passes
-          ∙ ap (λ ys. cond (q x) (x ∷ ys) ys) rest
-      | inr fails ↦
-          let off : q x ≡ false = false_from_ne_true (q x) (λ e. both_ways (p x) fails (implies x e)) in
-          ap (λ b. filter q (cond b (x ∷ filter p xs) (filter p xs))) fails
-          ∙ rest ∙ sym (ap (λ b. cond b (x ∷ filter q xs) (filter q xs)) off)
-    ]
 
 -- a round is made of quorums of the round before
 pub round_of-more : (weights : List ℕ) (r : ℕ) → filter (λ j. leb (r + 1) (get_or weights j 0)) (round_of weights r) ≡ round_of weights (r + 1)
 round_of-more weights r =
     filter-filter (λ j. leb r (get_or weights j 0)) (λ j. leb (r + 1) (get_or weights j 0)) (range_with_len 0 (length weights))
     (λ j passes. le-leb r (get_or weights j 0) (omega (arith, leb-true (r + 1) (get_or weights j 0) passes)))
-
-pub flat_map_range_more : (f : ℕ → List ℕ) (a n j : ℕ) → a + n ≡ j → flat_map f (range_with_len a (suc n)) ≡ flat_map f (range_with_len a n) ++ f j
-flat_map_range_more f a zero j e = let at : a ≡ j = omega arith in append-nil (f a) ∙ ap f at
-flat_map_range_more f a (suc n) j e =
-    ap (λ xs. f a ++ xs) (flat_map_range_more f (a + 1) n j (omega arith))
-    ∙ sym (append_assoc (f a) (flat_map f (range_with_len (a + 1) n)) (f j))
 
 -- one round more
 pub rounds-more : (weights : List ℕ) (r more : ℕ) → more ≡ r + 1 → flat_map (round_of weights) (range_with_len 1 more) ≡ flat_map (round_of weights) (range_with_len 1 r) ++ round_of weights more
@@ -196,23 +89,3 @@ rounds-more weights r more e =
 pub cycle_of_rounds : (weights : List ℕ) → flat_map (round_of weights) (range_with_len 1 (greatest_weight weights)) ≡ cycle_of weights
 unfolding cycle_of
 cycle_of_rounds weights = refl
-
--- a number stands once among those below a bound above it
-pub times-range : (n j : ℕ) → j < n → times j (range_with_len 0 n) ≡ 1
-times-range n j lt =
-    ap (times j) (sym (filter-all (λ x. true) (range_with_len 0 n) (λ x. refl))) ∙ times-filter (λ x. true) 0 n j (omega arith) (omega arith)
-
--- the same in any order
-pub times-permuted : (n j : ℕ) (list : List ℕ) → IsPermutation (range_with_len 0 n) list → j < n → times j list ≡ 1
-times-permuted n j list permuted lt =
-    sum_by-IsPermutation (λ k. cond (eqb k j) 1 0) (range_with_len 0 n) list permuted ∙ times-range n j lt
-
-pub length-permuted : (n : ℕ) (list : List ℕ) → IsPermutation (range_with_len 0 n) list → length list ≡ n
-length-permuted n list permuted =
-    omega (
-      arith,
-      sum_by-IsPermutation (λ k. 1) (range_with_len 0 n) list permuted,
-      sum_by-one list,
-      sum_by-one (range_with_len 0 n),
-      length-range_with_len 0 n,
-    )

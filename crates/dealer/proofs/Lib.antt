@@ -1,4 +1,3 @@
-pub mod Totals
 pub mod CycleLemmas
 pub mod AccountLemmas
 pub mod TurnLemmas

@@ -7,8 +7,8 @@ use mathlib.Core.Option.{none, some}
 use lib.ListN.{get_elem?}
 use Rattle.atomic_table.specs.Table.{State, Me, step, keeps, Allows, Splits, Joins, Final, Seen}
 use Rattle.atomic_table.proofs.Lists.{set_again}
-use Rattle.quorum_set.specs.Sums.{sum_below}
-use Rattle.quorum_set.proofs.SumLemmas.{late, sum_set, sum_at, sum_alone, sum_plus, sum_one, sum_below-next, sum_below-one, sum_below-late, All-from_late}
+use Rattle.numbers.specs.Sums.{sum_below}
+use Rattle.numbers.proofs.SumLemmas.{late, sum_set, sum_at, sum_alone, sum_plus, sum_one, sum_below-next, sum_below-one, sum_below-late, All-from_late}
 use Rattle.dealer.specs.declared.tickets.Hand.{Hand}
 use Rattle.dealer.specs.declared.tickets.Sheet.{Sheet}
 use Rattle.dealer.specs.Tickets.{hand, IsDealt, Dealt, Draws, Looks, joined, nothing, Ends}

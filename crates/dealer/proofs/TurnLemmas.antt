@@ -7,9 +7,10 @@ use Rattle.std.proofs.lemmas.List.{get_or_append_left, get_or-append-add, get_or
 use Rattle.std.proofs.lemmas.List.FromFn.{get_or-range_with_len, length-range_with_len}
 use Rattle.std.proofs.lemmas.List.Kept.{AllPairs-from_increasing, IsStrictlyIncreasing-filter}
 use Rattle.std.proofs.lemmas.List.Sums.{sum_by-take-le}
-use Rattle.quorum_set.specs.Counts.{times}
+use Rattle.numbers.specs.Counts.{times}
 use Rattle.dealer.specs.Cycles.{round_of, greatest_weight, cycle_of, turn_at, GoesByTurns}
-use Rattle.dealer.proofs.CycleLemmas.{times-append, times-get_or, times-round_of, times-rounds, rounds-more, cycle_of_rounds}
+use Rattle.dealer.proofs.CycleLemmas.{times-round_of, times-rounds, rounds-more, cycle_of_rounds}
+use Rattle.numbers.proofs.CountLemmas.{times-append, times-get_or}
 
 -- what stands in a round has a weight of at least the round's number
 round_of-weight : (weights : List ℕ) (r i : ℕ) → 0 < r → i < length (round_of weights r) → r ≤ get_or weights (get_or (round_of weights r) i 0) 0

@@ -1,7 +1,8 @@
 -- Accounts: how often a list of tickets uses each quorum and each voter.
 use Rattle.std.specs.Prelude.{◌≡◌, ℕ, ◌*◌, ◌<◌, ◌≤◌, List, length, map}
 use Rattle.std.specs.List.{All, range_with_len}
-use Rattle.quorum_set.specs.Counts.{times, count_of, busiest_of}
+use Rattle.quorum_set.specs.Counts.{count_of, busiest_of}
+use Rattle.numbers.specs.Counts.{times}
 use Rattle.certificate.specs.Certificates.{Weighted, cycle_len}
 use Rattle.dealer.specs.Cycles.{quorum_of_ticket}
 use Rattle.dealer.specs.declared.account.Account.{Account}

@@ -1,7 +1,7 @@
 -- The cycle of a plan: the order in which its quorums are dealt, each as often as its weight.
 use Rattle.std.specs.Prelude.{◌≡◌, ◌⊎◌, ℕ, ◌+◌, ◌%◌, ◌<◌, List, filter, length, nat_le, slice_index, take}
 use Rattle.std.specs.List.{flat_map, range_with_len}
-use Rattle.quorum_set.specs.Counts.{greatest_below, times}
+use Rattle.numbers.specs.Counts.{greatest_below, times}
 use Rattle.certificate.specs.Certificates.{Weighted, cycle_len}
 
 -- round r: the numbers of the quorums whose weight is at least r, in ascending order

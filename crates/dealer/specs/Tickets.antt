@@ -2,7 +2,7 @@
 use Rattle.std.specs.Prelude.{◌≡◌, ℕ, ◌+◌, ◌-◌, ◌^◌, ◌<◌, ◌≤◌, List, [], ◌∷◌, ◌++◌, length, slice_index}
 use Rattle.std.specs.List.{All, sum_by}
 use Rattle.atomic_table.specs.Table.{State, Me, Step}
-use Rattle.quorum_set.specs.Sums.{sum_below, AreAllBelow}
+use Rattle.numbers.specs.Sums.{sum_below, AreAllBelow}
 use Rattle.certificate.specs.Certificates.{Weighted}
 use Rattle.dealer.specs.declared.tickets.Hand.{Hand}
 use Rattle.dealer.specs.declared.tickets.Sheet.{Sheet}

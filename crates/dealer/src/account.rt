@@ -1,6 +1,6 @@
 //! Accounts of tickets.
 ghost use Rattle.std.specs.Prelude.{◌≡◌, ◌<◌, ◌^◌, length, slice_index, sum, IfOk};
-ghost use Rattle.quorum_set.specs.Counts.{greatest_below};
+ghost use Rattle.numbers.specs.Counts.{greatest_below};
 ghost use Rattle.certificate.specs.Loads.{weight_on};
 ghost use Rattle.dealer.specs.Accounts.{values_below};
 

@@ -1,6 +1,6 @@
 //! The cycle of a plan.
 ghost use Rattle.std.specs.Prelude.{◌≡◌, ◌<◌, ◌*◌, ℕ, length, map, slice_index, IfOk, IfErr};
-ghost use Rattle.quorum_set.specs.Counts.{times};
+ghost use Rattle.numbers.specs.Counts.{times};
 ghost use Rattle.certificate.specs.Certificates.{IsCertificate, IsOptimal, busiest_count, cycle_len};
 ghost use Rattle.dealer.specs.Cycles.{cycle_of, quorum_of_ticket};
 ghost use Rattle.dealer.specs.Blocks.{listed_quorums, AreBlocksOf};

@@ -1,11 +1,12 @@
 //! Laws: what is proved about the definitions.
-ghost use Rattle.std.specs.Prelude.{◌≡◌, ◌*◌, ℕ, List, IsPermutation, length, slice_index, sum};
+ghost use Rattle.std.specs.Prelude.{◌≡◌, ◌*◌, ◌<◌, ℕ, List, IsPermutation, length, slice_index, sum};
 ghost use Rattle.std.specs.List.{range_with_len};
-ghost use Rattle.quorum_set.specs.Counts.{count_of, busiest_of, times};
-ghost use Rattle.quorum_set.specs.Sums.{AreAllBelow};
+ghost use Rattle.quorum_set.specs.Counts.{count_of, busiest_of};
+ghost use Rattle.numbers.specs.Counts.{times};
+ghost use Rattle.numbers.specs.Sums.{AreAllBelow};
 ghost use Rattle.certificate.specs.Certificates.{Weighted, IsCertificate, busiest_count, cycle_len};
 ghost use Rattle.certificate.specs.Loads.{weight_on};
-ghost use Rattle.dealer.specs.Cycles.{cycle_of, GoesByTurns};
+ghost use Rattle.dealer.specs.Cycles.{cycle_of, quorum_of_ticket, GoesByTurns};
 ghost use Rattle.dealer.specs.Accounts.{account_of, quorums_named, IsWholeCycles};
 
 use certificate::whole_cycles_are_even;
@@ -18,6 +19,11 @@ pub fn cycles_follow_weights()
     ensures len { (weights : List ℕ) → length (cycle_of weights) ≡ sum weights }
     ensures shares { (weights : List ℕ) (j : ℕ) → times j (cycle_of weights) ≡ slice_index weights j }
     ensures turns { (weights : List ℕ) → GoesByTurns (cycle_of weights) }
+{}
+
+/// Each ticket of a plan's cycle stands for a quorum that there is.
+pub fn tickets_name_quorums()
+    ensures { (w : Weighted) (ticket : ℕ) → IsCertificate w → quorum_of_ticket w ticket < length w.system.quorums }
 {}
 
 /// The numbers below k times the cycle's length, in any order, are the tickets of k whole cycles.

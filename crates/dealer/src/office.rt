@@ -1,8 +1,8 @@
 //! Offices: tickets for the clerks of any number of threads.
 ghost use Rattle.std.specs.Prelude.{◌≡◌, ℕ, ◌+◌, ◌-◌, ◌*◌, ◌^◌, ◌<◌, ◌≤◌, [], ◌∷◌, ◌++◌, length, map, IfOk, IfErr};
 ghost use Rattle.std.specs.List.{All};
-ghost use Rattle.quorum_set.specs.Counts.{times};
-ghost use Rattle.quorum_set.specs.Sums.{AreAllBelow};
+ghost use Rattle.numbers.specs.Counts.{times};
+ghost use Rattle.numbers.specs.Sums.{AreAllBelow};
 ghost use Rattle.certificate.specs.Certificates.{busiest_count, cycle_len};
 ghost use Rattle.dealer.specs.Accounts.{account_of, IsWholeCycles, IsLeastBusiest};
 ghost use Rattle.dealer.specs.Offices.{receipt_of, tickets_of, share_of, AreByCycle, RefusesTicket, RefusesAccount};

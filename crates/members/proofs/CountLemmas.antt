@@ -6,7 +6,7 @@ use Rattle.std.proofs.lemmas.Bool.{cases_eq, cases_lt, eq-eqb, ne_eqb}
 use Rattle.std.proofs.lemmas.List.{get_or-map, length-map}
 use Rattle.std.proofs.lemmas.List.Sorted.{IsPermutation-map, length_permutation, sum_by-IsPermutation}
 use Rattle.std.proofs.lemmas.List.Sums.{sum_by-cons}
-use Rattle.quorum_set.specs.Sums.{sum_below, AreAllBelow}
+use Rattle.numbers.specs.Sums.{sum_below, AreAllBelow}
 use Rattle.members.specs.Records.{AreInOrder}
 
 -- 1 where the number is n

@@ -13,9 +13,7 @@ use Rattle.requester.specs.declared.state.Phase.TheVariants.{Idle, Asking, Insid
 use Rattle.requester.specs.declared.state.Seen.{Seen}
 use Rattle.requester.specs.declared.state.Seen.TheVariants.{Nothing, Entered, Left}
 use Rattle.requester.specs.Held.{HoldsNothing}
-use Rattle.requester.proofs.ContractLemmas.{met-step}
-use Rattle.requester.proofs.SoundSteps.{sound-step}
-use Rattle.requester.proofs.VoteLemmas.{asked_holds_nothing, given_up_holds_nothing, idle_holds_nothing, left_holds_nothing}
+use Rattle.members.specs.ClientLaws.{AreClientLaws}
 use Rattle.requester.specs.RequesterContract.{Sees}
 use Rattle.requester.specs.Soundness.{IsSound}
 use Rattle.requester.specs.Steps.{Outcome, Asks, Takes, Leaves, GivesUp, ask, ask_in, ask_unless, give_up, give_up_in, leave, leave_in, step, take, take_body, see, locked, locked_by, enter_if, hold, is_fresh, failed, failed_by, fail, inquired, inquired_by, relinquish, relinquish_if, relinquish_each}
@@ -26,7 +24,7 @@ use Rattle.board.specs.Words.{nobody}
 use Rattle.board.specs.declared.fault.BoardFault.{BoardFault}
 use Rattle.board.specs.declared.fault.BoardFault.TheVariants.{OutOfMemory, RegisterFull}
 use Rattle.dealer.specs.declared.receipt.Receipt.{Receipt}
-use Rattle.quorum_set.specs.Sets.{IsSet}
+use Rattle.numbers.specs.Sets.{IsSet}
 use Rattle.node.specs.Mail.{IsMail}
 use Rattle.members.specs.declared.fault.ClusterFault.{ClusterFault}
 use Rattle.members.specs.declared.fault.ClusterFault.TheVariants as refuses
@@ -207,12 +205,12 @@ pub record Took (x : ClientState) (m : ToClient) (o : Outcome) : Type 0 where
   pub sees : Sees x.phase o.seen o.state.phase
   pub stays : o.seen ≢ Left
 
-pub took : (board : BoardState) (x : ClientState) (m : ToClient) (o : Outcome) (id : ℕ) → IsSound x → IsMail board id m → id ≡ x.id → board.voters ≤ 64 → take x m ≡ o → Took x m o
-took board x m o id sound mail is few e =
+pub took : AreClientLaws → (board : BoardState) (x : ClientState) (m : ToClient) (o : Outcome) (id : ℕ) → IsSound x → IsMail board id m → id ≡ x.id → board.voters ≤ 64 → take x m ≡ o → Took x m o
+took laws board x m o id sound mail is few e =
     let s = of_take x m o e in
     let accepts : (m.client ≡ x.id) × (m.voter < 64) = (mail.client_is ∙ is, omega (arith, mail.voter, few)) in
-    let meets = met-step x (Takes m) o sound accepts s in
-    record { sound = sound-step x (Takes m) o sound accepts s; id = meets.id; quorum = meets.quorum; sees = meets.seen; stays = never_left x m o e }
+    let meets = laws.meets x (Takes m) o sound accepts s in
+    record { sound = laws.sound x (Takes m) o sound accepts s; id = meets.id; quorum = meets.quorum; sees = meets.seen; stays = never_left x m o e }
 
 -- What a client is once it left, or gave its request up
 pub record Ended (x : ClientState) (o : Outcome) : Type 0 where
@@ -221,17 +219,17 @@ pub record Ended (x : ClientState) (o : Outcome) : Type 0 where
   pub idle : is_idle o.state.phase ≡ true
   pub nothing : HoldsNothing o.state
 
-pub ended_by_leaving : (x : ClientState) (o : Outcome) → IsSound x → leave x ≡ Ok o → Ended x o
-ended_by_leaving x o sound e =
+pub ended_by_leaving : AreClientLaws → (x : ClientState) (o : Outcome) → IsSound x → leave x ≡ Ok o → Ended x o
+ended_by_leaving laws x o sound e =
     let s = of_leave x o e in
-    let meets = met-step x Leaves o sound tt s in
-    record { sound = sound-step x Leaves o sound tt s; id = meets.id; idle = meets.quorum.1; nothing = left_holds_nothing x o e }
+    let meets = laws.meets x Leaves o sound tt s in
+    record { sound = laws.sound x Leaves o sound tt s; id = meets.id; idle = meets.quorum.1; nothing = laws.left x o e }
 
-pub ended_by_giving_up : (x : ClientState) (o : Outcome) → IsSound x → give_up x ≡ Ok o → Ended x o
-ended_by_giving_up x o sound e =
+pub ended_by_giving_up : AreClientLaws → (x : ClientState) (o : Outcome) → IsSound x → give_up x ≡ Ok o → Ended x o
+ended_by_giving_up laws x o sound e =
     let s = of_give_up x o e in
-    let meets = met-step x GivesUp o sound tt s in
-    record { sound = sound-step x GivesUp o sound tt s; id = meets.id; idle = meets.quorum.1; nothing = given_up_holds_nothing x o e }
+    let meets = laws.meets x GivesUp o sound tt s in
+    record { sound = laws.sound x GivesUp o sound tt s; id = meets.id; idle = meets.quorum.1; nothing = laws.given_up x o e }
 
 -- Votes
 
@@ -280,15 +278,15 @@ module _ (c : ClusterState) (x : ClientState) (seat : SeatState) (clerk : ClerkS
   both_places y sound = (ap length r.held ∙ r.sound.places.held, sound.places.held)
 
   -- it asked the quorum of this number, and its clerk keeps the receipt
-  pub asked_member : (q : List ℕ) (o : Outcome) → ask x q ≡ Ok o → IsSet q → 1 ≤ length q
+  pub asked_member : AreClientLaws → (q : List ℕ) (o : Outcome) → ask x q ≡ Ok o → IsSet q → 1 ≤ length q
       → (drawn : ClerkState) (receipt : Receipt) → drawn ≡ with_receipt clerk receipt → 0 < clerk.rest
       → receipt.quorum < length c.board.quorums → q ≡ quorum_at c.board.quorums receipt.quorum
       → IsMember c o.state seat drawn receipt.quorum
-  asked_member q o e set some drawn receipt kept left in_range is =
+  asked_member laws q o e set some drawn receipt kept left in_range is =
       let s = of_ask x q o e in
-      let sound = sound-step x (Asks q) o r.sound (set, some) s in
-      let meets = met-step x (Asks q) o r.sound (set, some) s in
-      let held = r.held ∙ no_votes x.held o.state.held r.sound.places.held sound.places.held (idle_holds_nothing x r.sound (starts x q o e).0) (asked_holds_nothing x q o e) in
+      let sound = laws.sound x (Asks q) o r.sound (set, some) s in
+      let meets = laws.meets x (Asks q) o r.sound (set, some) s in
+      let held = r.held ∙ no_votes x.held o.state.held r.sound.places.held sound.places.held (laws.idle x r.sound (starts x q o e).0) (laws.asked x q o e) in
       next_member c x seat clerk quorum r o.state sound meets.id seat refl refl held r.within
       drawn (ap (λ (k : ClerkState). k.office) kept) (ap share_of kept ∙ share_drawn clerk receipt left) receipt.quorum (λ busy. (in_range, meets.quorum ∙ is))
 

@@ -9,9 +9,8 @@ use Rattle.std.proofs.lemmas.List.Elements.{All-append, All-map}
 use Rattle.std.proofs.lemmas.List.Sums.{sum_by-cons}
 use Rattle.std.proofs.lemmas.List.Sorted.{All-permutation, length_permutation}
 use native.Mathlib.Nat.{add-mul}
-use Rattle.quorum_set.specs.Sums.{AreAllBelow}
+use Rattle.numbers.specs.Sums.{AreAllBelow}
 use Rattle.certificate.specs.Certificates.{IsCertificate, Weighted, cycle_len}
-use Rattle.dealer.proofs.CycleLemmas.{cycle_of-lt}
 use Rattle.dealer.specs.Cycles.{quorum_of_ticket}
 use Rattle.dealer.specs.declared.receipt.Receipt.{Receipt}
 use Rattle.dealer.specs.Offices.{AreByCycle, tickets_of}
@@ -110,21 +109,19 @@ count_evenly n (m ∷ ms) all =
 
 -- Which numbers they name
 
-quorum_in_range : (w : Weighted) (ticket : ℕ) → IsCertificate w → quorum_of_ticket w ticket < length w.system.quorums
-quorum_in_range w ticket is =
-    let some = is.some_quorum in
-    omega (arith, cycle_of-lt w.quorum_weights (ticket % cycle_len w) (mod-lt ticket {m = cycle_len w} (omega arith)), is.quorums)
+abbrev pub AllNameQuorums : Type 0
+AllNameQuorums = (w : Weighted) (ticket : ℕ) → IsCertificate w → quorum_of_ticket w ticket < length w.system.quorums
 
-pub quorums_in_range : (c : ClusterState) (members : List MemberState) (r : RunRecord) → IsCluster c → IsCertificate c.office.cycle → IsRecordOf c members r
+pub quorums_in_range : AllNameQuorums → (c : ClusterState) (members : List MemberState) (r : RunRecord) → IsCluster c → IsCertificate c.office.cycle → IsRecordOf c members r
     → All (λ d. d.2 < length c.board.quorums) r.draws.items
-quorums_in_range c members r cluster plan is = λ k d lt.
-    let quorum = quorum_in_range c.office.cycle (get_or r.draws.items k d).1 plan in
+quorums_in_range all_name c members r cluster plan is = λ k d lt.
+    let quorum = all_name c.office.cycle (get_or r.draws.items k d).1 plan in
     omega (arith, (is.each_draw k d lt).quorum, quorum, ap length cluster.quorums)
 
-pub draws_in_range : (c : ClusterState) (members : List MemberState) (r : RunRecord) → IsCluster c → IsCertificate c.office.cycle → IsRecordOf c members r
+pub draws_in_range : AllNameQuorums → (c : ClusterState) (members : List MemberState) (r : RunRecord) → IsCluster c → IsCertificate c.office.cycle → IsRecordOf c members r
     → All (λ d. (d.0 ≤ 63) × (d.2 ≤ 4095)) r.draws.items
-draws_in_range c members r cluster plan is = λ k d lt.
-    let quorum = quorums_in_range c members r cluster plan is k d lt in (
+draws_in_range all_name c members r cluster plan is = λ k d lt.
+    let quorum = quorums_in_range all_name c members r cluster plan is k d lt in (
       omega (arith, (is.each_draw k d lt).client, cluster.clients),
       omega (arith, quorum, ap length cluster.quorums, plan.coterie.few_quorums),
     )

@@ -1,3 +1,4 @@
+pub mod ClientLaws
 pub mod Clusters
 pub mod Losses
 pub mod Members

@@ -2,7 +2,7 @@
 ghost use Rattle.std.specs.Prelude.{◌≡◌, ◌+◌, ◌-◌, ◌*◌, ◌^◌, ◌<◌, ◌≤◌, ◌++◌, [], IfOk, IfErr, IfNone, IfSome, IsPermutation, length, map, min};
 ghost use Rattle.std.specs.List.{All, sum_by};
 ghost use Rattle.std.specs.List.Sorted.{IsNonDecreasingBy};
-ghost use Rattle.quorum_set.specs.Sums.{AreAllBelow};
+ghost use Rattle.numbers.specs.Sums.{AreAllBelow};
 ghost use Rattle.dealer.specs.Offices.{share_of, tickets_of};
 ghost use Rattle.board.specs.Seats.{BoardState};
 ghost use Rattle.members.specs.Clusters.{ClusterState};

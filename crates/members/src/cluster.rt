@@ -1,7 +1,7 @@
 //! A running cluster: its nodes and mailboxes, which all members share.
 ghost use Rattle.std.specs.Prelude.{◌≡◌, ◌<◌, ◌≤◌, true, false, None, IfSome, length, nat_le};
 ghost use Rattle.std.specs.List.{count_by};
-ghost use Rattle.quorum_set.specs.Sets.{IsSet};
+ghost use Rattle.numbers.specs.Sets.{IsSet};
 ghost use Rattle.board.specs.Quorums.{quorum_at};
 ghost use Rattle.members.specs.Clusters.{ClusterState, IsLeft};
 ghost use Rattle.members.specs.Losses.{is_stray, is_stray_reply, most_lost};

@@ -6,6 +6,10 @@ ghost use Rattle.certificate.specs.Certificates.{IsCertificate};
 ghost use Rattle.members.specs.Clusters.{ClusterState, IsCluster};
 ghost use Rattle.members.specs.Members.{MemberState};
 ghost use Rattle.members.specs.Records.{IsRecordOf};
+ghost use Rattle.members.specs.ClientLaws.{AreClientLaws};
+
+use dealer::tickets_name_quorums;
+use requester::{phases_tell_votes, requesters_meet_the_contract, requesters_stay_sound};
 
 /// States how many entries a record has. The number of its draws is that of its members' receipts.
 /// The register is the number of their passes. If each member passed n times, the register is n
@@ -30,4 +34,15 @@ pub fn records_are_in_range()
         All (λ d. d.2 < length c.board.quorums) r.draws.items }
     ensures passes { (c : ClusterState) (members : List MemberState) (r : RunRecord) → IsCluster c →
         IsRecordOf c members r → All (λ p. p.0 ≤ 63) r.passes.items }
-{}
+{
+    tickets_name_quorums();
+}
+
+/// What the steps of a client keep, and which votes its phases hold.
+pub(crate) fn clients_keep_their_laws()
+    ensures { AreClientLaws }
+{
+    requesters_stay_sound();
+    requesters_meet_the_contract();
+    phases_tell_votes();
+}

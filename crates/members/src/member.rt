@@ -16,12 +16,13 @@ ghost use Rattle.node.specs.Votes.{HoldsFewer, HoldsWithin};
 
 use crate::cluster::Cluster;
 use crate::fault::ClusterFault;
+use crate::laws::clients_keep_their_laws;
 use arrayvec::ArrayVec;
 use board::ClientSeat;
 use dealer::{Clerk, Receipt};
 use message::ToClient;
 use node::{ClusterName, accept, give_back};
-use requester::{ClientFault, Messages, Phase, Requester, Seen};
+use requester::{ClientFault, Messages, Phase, Requester, Seen, requesters_stay_sound};
 use std::marker::{Model, PhantomData};
 use std::sync::Wait;
 
@@ -92,6 +93,7 @@ impl<N: ClusterName> Member<N> {
         requires clerk { clerk ≡ (fresh_member N.cluster seat.client).clerk }
         ensures { result ≡ fresh_member N.cluster seat.client }
     {
+        requesters_stay_sound();
         Member {
             requester: Requester::new(seat.client(), STAMPS),
             seat,
@@ -180,6 +182,7 @@ impl<N: ClusterName> Member<N> {
         ensures fault { self.new.fault ≡ self.old.fault }
         ensures lost { self.old.lost ≤ self.new.lost }
     {
+        clients_keep_their_laws();
         if let Some(fault) = self.requester.ask_fault() {
             return Err(ClusterFault::Client(fault));
         }
@@ -234,6 +237,7 @@ impl<N: ClusterName> Member<N> {
         ensures fault { self.new.fault ≡ self.old.fault }
         ensures lost { self.old.lost ≤ self.new.lost }
     {
+        clients_keep_their_laws();
         if !accept(&mut self.seat, &cluster.board, &self.requester, message) {
             self.lost = self.lost.saturating_add(1);
             return Seen::Nothing;
@@ -258,6 +262,7 @@ impl<N: ClusterName> Member<N> {
         ensures fault { self.new.fault ≡ self.old.fault }
         ensures lost { self.old.lost ≤ self.new.lost }
     {
+        clients_keep_their_laws();
         let Ok(_) = self.requester.leave_into(&mut self.out) else {
             return Err(ClusterFault::NotInside);
         };
@@ -280,6 +285,7 @@ impl<N: ClusterName> Member<N> {
         ensures fault { self.new.fault ≡ self.old.fault }
         ensures lost { self.old.lost ≤ self.new.lost }
     {
+        clients_keep_their_laws();
         let Ok(_) = self.requester.give_up_into(&mut self.out) else {
             return Err(ClusterFault::Client(ClientFault::NotAsking));
         };

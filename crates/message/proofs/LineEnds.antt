@@ -5,14 +5,14 @@ use Rattle.std.specs.Fmt.{decimal}
 use Rattle.std.specs.Str.Parse.{AllDigits}
 use Rattle.std.proofs.lemmas.Str.Parse.{digit_from_value}
 use Rattle.std.proofs.lemmas.Fmt.{digits_decimal}
-use Rattle.message.proofs.Numbers.{own}
+use Rattle.texts.proofs.Numbers.{own}
 use Rattle.message.specs.declared.message.Message.{Message}
 use Rattle.message.specs.declared.message.Message.TheVariants as kinds
 use Rattle.message.specs.declared.message.VoterBody.{VoterBody}
 use Rattle.message.specs.declared.message.VoterBody.TheVariants as asks
 use Rattle.message.specs.declared.message.ClientBody.{ClientBody}
 use Rattle.message.specs.declared.message.ClientBody.TheVariants as tells
-use Rattle.message.specs.Fields.{AllFit, fields}
+use Rattle.texts.specs.Fields.{AllFit, fields}
 use Rattle.message.specs.Lines.{HasLine, AreCounts, message_line, word_of, numbers_of, voter_word, client_word, client_numbers}
 
 abbrev pub IsOneLine : List ℕ → Type 0

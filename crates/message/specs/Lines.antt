@@ -7,7 +7,7 @@ use Rattle.message.specs.declared.message.VoterBody.{VoterBody}
 use Rattle.message.specs.declared.message.VoterBody.TheVariants as asks
 use Rattle.message.specs.declared.message.ClientBody.{ClientBody}
 use Rattle.message.specs.declared.message.ClientBody.TheVariants as tells
-use Rattle.message.specs.Fields.{fields}
+use Rattle.texts.specs.Fields.{fields}
 
 -- REQUEST, RELINQUISH and RELEASE, from a client to a voter
 abbrev pub voter_word : VoterBody → List ℕ

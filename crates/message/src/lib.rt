@@ -18,8 +18,7 @@
 //! A client or a voter is at most 63. A stamp or a grant is 1 to 2^64 - 1, and SEEN is below 2^64.
 //! Each is written in decimal without a leading zero. Reading takes no memory.
 //!
-//! This crate depends on no other. Voters and requesters depend on it. Whatever reads words and
-//! numbers of a line may use [`cut`] and [`fields`].
+//! This crate depends on `texts`. Voters and requesters depend on it.
 //!
 //! ```
 //! let message = read_message(b"request 1 2 3")?;
@@ -32,7 +31,6 @@ mod laws;
 mod message;
 mod reading;
 mod request;
-mod words;
 mod writing;
 
 pub use fault::MessageFault;
@@ -40,5 +38,4 @@ pub use laws::lines_end;
 pub use message::{ClientBody, Message, ToClient, ToVoter, VoterBody};
 pub use reading::read_message;
 pub use request::Request;
-pub use words::{cut, field, fields, number};
 pub use writing::write_message;

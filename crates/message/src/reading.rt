@@ -1,12 +1,12 @@
 //! Reading the line of a message.
 ghost use Rattle.std.specs.Prelude.{◌≡◌, ◌≤◌, ◌∷◌, [], ℕ, List, IfOk, IfSome};
 ghost use Rattle.message.specs.declared.message.Message.{Message};
-ghost use Rattle.message.specs.Fields.{AllFit, fields};
+ghost use Rattle.texts.specs.Fields.{AllFit, fields};
 ghost use Rattle.message.specs.Lines.{HasLine, IsMessageOf, message_line};
 
 use crate::fault::MessageFault;
 use crate::message::{ClientBody, Message, ToClient, ToVoter, VoterBody};
-use crate::words::{cut, fields};
+use texts::{cut, fields};
 
 /// The highest number of a client or a voter.
 const HIGHEST: u64 = 63;

@@ -1,6 +1,6 @@
 //! Writing the line of a message.
 ghost use Rattle.std.specs.Prelude.{◌≡◌, [], ◌∷◌, ◌++◌, IfOk, string_bytes};
-ghost use Rattle.message.specs.Fields.{fields};
+ghost use Rattle.texts.specs.Fields.{fields};
 ghost use Rattle.message.specs.Lines.{HasLine, client_numbers, client_word, message_line, voter_number, voter_word};
 
 use crate::message::{ClientBody, Message, VoterBody};

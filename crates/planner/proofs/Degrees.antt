@@ -4,9 +4,9 @@ use Rattle.std.specs.List.{All}
 use Rattle.std.proofs.lemmas.Bool.{cases_eq}
 use Rattle.std.proofs.lemmas.List.Sums.{sum_by-cons}
 use Rattle.std.proofs.lemmas.List.Elements.{All-head, All-tail, All-cons}
-use Rattle.quorum_set.specs.Sets.{has, Ascends}
-use Rattle.quorum_set.proofs.SetLemmas.{has-below, has-head, has-tail, Ascends-lower}
-use Rattle.certificate.proofs.Totals.{total_from, total_from-same, total_from-zero, total_from-add}
+use Rattle.numbers.specs.Sets.{has, Ascends}
+use Rattle.numbers.proofs.SetLemmas.{has-below, has-head, has-tail, Ascends-lower}
+use Rattle.numbers.proofs.RangeSums.{total_from, total_from-same, total_from-zero, total_from-add}
 
 -- a set has as many members as there are numbers that it has
 total_from-members : (low n high : ℕ) (q : List ℕ) → low + n ≡ high → Ascends low high q → total_from low n (λ i. cond (has q i) 1 0) ≡ length q

@@ -4,13 +4,14 @@ use Rattle.std.specs.List.{All}
 use Rattle.std.proofs.lemmas.List.Sums.{sum_by-cons}
 use Rattle.std.proofs.lemmas.List.Folds.{sum_by-replicate}
 use Rattle.std.proofs.lemmas.List.Elements.{All-head, All-tail}
-use Rattle.quorum_set.specs.Sets.{has, Ascends}
+use Rattle.numbers.specs.Sets.{has, Ascends}
 use Rattle.quorum_set.specs.Coteries.{QuorumSystem, IsCoterie}
-use Rattle.quorum_set.specs.Counts.{greatest_below}
-use Rattle.certificate.specs.Loads.{weight_on, weight_within, least_of}
+use Rattle.numbers.specs.Counts.{greatest_below}
+use Rattle.certificate.specs.Loads.{weight_on, weight_within}
+use Rattle.numbers.specs.Counts.{least_of}
 use Rattle.certificate.specs.Certificates.{IsCertificate, busiest_count, lightest_quorum}
-use Rattle.certificate.proofs.LoadLemmas.{least_of-le, greatest_below-le}
-use Rattle.certificate.proofs.Totals.{total_from}
+use Rattle.numbers.proofs.CountLemmas.{least_of-le, greatest_below-le}
+use Rattle.numbers.proofs.RangeSums.{total_from}
 use Rattle.planner.specs.Uniform.{IsUniform, ones, all_ones, degree_of}
 use Rattle.planner.proofs.Degrees.{Ascends-high, total_from-degrees, total_from-level, level_from_most, sum_by-level, level_from_least, total_from-most, sum_by-least}
 

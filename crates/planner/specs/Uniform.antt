@@ -1,7 +1,7 @@
 -- Uniform coteries. For these, all weights 1 are a certificate.
 use Rattle.std.specs.Prelude.{◌≡◌, ℕ, ◌<◌, List, length, count_by, replicate}
 use Rattle.std.specs.List.{All}
-use Rattle.quorum_set.specs.Sets.{has}
+use Rattle.numbers.specs.Sets.{has}
 use Rattle.quorum_set.specs.Coteries.{QuorumSystem}
 use Rattle.certificate.specs.Certificates.{Weighted}
 use Rattle.planner.specs.declared.fault.PlannerFault.{PlannerFault}

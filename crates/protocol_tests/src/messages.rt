@@ -1,8 +1,6 @@
 //! Messages and their lines.
-use message::{
-    ClientBody, Message, MessageFault, ToClient, ToVoter, VoterBody, cut, field, fields, number,
-    read_message, write_message,
-};
+use message::{ClientBody, Message, MessageFault, ToClient, ToVoter, VoterBody, read_message, write_message};
+use texts::{cut, field, fields, number};
 use std::test::Fail;
 
 fn to_voter(client: u8, voter: u8, body: VoterBody) -> Message {

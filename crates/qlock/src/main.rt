@@ -9,9 +9,7 @@ ghost use Rattle.std.specs.Prelude.{◌≡◌};
 ghost use Rattle.qlock_cli.specs.Commands.{IsInRange};
 ghost use Rattle.qlock.specs.Statuses.{status_of, usage_status};
 
-use qlock_cli::{
-    Command, DeviceFault, Fault, NoGate, Usage, Watched, execute, execute_run, read_words,
-};
+use qlock_cli::{Command, DeviceFault, Fault, NoGate, Usage, Watched, execute, execute_run, named_commands_are_in_range, read_words};
 use std::process::ExitCode;
 use std::sync::Wait;
 use std::thread::Threads;
@@ -88,6 +86,7 @@ fn words_of(rt: &HostRuntime) -> Result<Vec<String>, Usage> {
 
 /// Serves the command that the words of the command line name. Returns the exit status.
 fn run<T: Threads + Wait + Sync>(rt: &HostRuntime, threads: &T) -> Result<u8, Usage> {
+    named_commands_are_in_range();
     let words = words_of(rt)?;
     let command = read_words(rt.alloc(), words.as_slice())?;
     Ok(serve(rt, threads, &command))

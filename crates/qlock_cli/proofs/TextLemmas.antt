@@ -7,7 +7,7 @@ use Rattle.dealer.specs.Accounts.{account_of}
 use Rattle.dealer.specs.declared.account.Account.{Account}
 use Rattle.dealer.specs.declared.receipt.Receipt.{Receipt}
 use Rattle.dealer.specs.Offices.{receipt_of}
-use Rattle.dealer.proofs.CycleLemmas.{flat_map_range_more}
+use Rattle.numbers.proofs.CountLemmas.{flat_map_range_more}
 use Rattle.qlock_cli.specs.Commands.{account_text, deal_text, receipt_line, ticket_line, ticket_lines}
 use Rattle.qlock_cli.specs.declared.answer.Planned.{Planned}
 

@@ -29,6 +29,7 @@
 mod answer;
 mod dealing;
 mod fault;
+mod laws;
 mod parts;
 mod running;
 mod serving;
@@ -37,6 +38,7 @@ mod texts;
 pub use cluster::{Gate, NoGate};
 pub use command_line::{Command, Shape, Usage, read_words};
 pub use fault::Fault;
+pub use laws::named_commands_are_in_range;
 pub use running::execute_run;
 pub use serving::execute;
 pub use whole_io::{DeviceFault, Watched};

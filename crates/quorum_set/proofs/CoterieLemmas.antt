@@ -5,7 +5,7 @@ use Rattle.std.proofs.lemmas.List.Elements.{All-nil, All-cons}
 use Rattle.std.proofs.lemmas.List.Sums.{fails_before_first}
 use Rattle.std.specs.List.{All, AllPairs, position, position_or_len}
 use Rattle.std.specs.Option.{option_or, option_map}
-use Rattle.quorum_set.specs.Sets.{IsSet}
+use Rattle.numbers.specs.Sets.{IsSet}
 use Rattle.quorum_set.specs.declared.fault.CoterieFault.TheVariants.{NoVoters, TooManyVoters, NoQuorums, TooManyQuorums, EmptyQuorum, VoterOutOfRange, Disjoint, Contained}
 use Rattle.quorum_set.specs.Coteries.{IsCoterie, first_from, first_outside, first_pair, are_disjoint, is_one_within, fault_if, first_fault}
 

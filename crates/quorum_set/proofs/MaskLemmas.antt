@@ -8,9 +8,9 @@ use Rattle.std.proofs.Math.Nat.{pow-suc}
 use Rattle.std.proofs.lemmas.Nat.Bits.{bit_at-zero, bit_at_and, bit_at_or, bit_at_not, bit_at_above, bit_at-lt, bit_at_set_same, bit_at_set_other, bit_at-trailing_zeros, bit_at_cat_low, bit_at_cat_high, bit_at_ones_above, same_from_bits, same_from_bits_below, shr_and_one}
 use Rattle.std.proofs.lemmas.List.Folds.{list_any_at, Any-from_list_any}
 use Rattle.std.proofs.lemmas.List.Sums.{AllPass-from_list_all, list_all-from_AllPass}
-use Rattle.quorum_set.specs.Sets.{has, meet, within, union, IsSet, Ascends, set_where, members_of}
+use Rattle.numbers.specs.Sets.{has, meet, within, union, IsSet, Ascends, set_where, members_of}
 use Rattle.quorum_set.specs.Words.{below, last_of, below-more, low_more}
-use Rattle.quorum_set.proofs.SetLemmas.{has-set_where, has-above, has-tail, has-head, same_sets, length-Ascends, IsSet-set_where, is_set_where}
+use Rattle.numbers.proofs.SetLemmas.{has-set_where, has-above, has-tail, has-head, same_sets, length-Ascends, IsSet-set_where, is_set_where}
 
 -- a word shows a set
 pub IsSet-members_of : (m : ℕ) → IsSet (members_of m)

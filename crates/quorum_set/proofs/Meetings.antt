@@ -4,17 +4,11 @@ use Rattle.std.specs.Prelude.{◌||◌, slice_index_or}
 use Rattle.std.specs.List.{All}
 use mathlib.Core.Logic.{dite}
 use native.Mathlib.Decide.{ℕ_discrete, dec_le}
-use Rattle.quorum_set.specs.Sets.{has, meet}
+use Rattle.numbers.specs.Sets.{has, meet}
 use Rattle.quorum_set.specs.Coteries.{QuorumSystem, IsCoterie}
-use Rattle.quorum_set.proofs.SetLemmas.{has-head}
+use Rattle.numbers.proofs.Members.{all_has}
+use Rattle.numbers.proofs.SetLemmas.{has-head}
 use Rattle.quorum_set.specs.Meetings.{Meet, AllMeet}
-
--- what holds of all members holds of each
-pub all_has : (P : ℕ → Type 0) (q : List ℕ) (v : ℕ) → has q v ≡ true → All P q → P v
-all_has P [] v e h = absurd (true≢false (sym e))
-all_has P (x ∷ xs) v e h = dite (ℕ_discrete x v)
-    (λ here. subst P here (h 0 0 (omega arith)))
-    (λ far. all_has P xs v (sym (ap (λ (t : Bool). t || has xs v) (ne_eqb x v far)) ∙ e) (λ k d lt. h (suc k) d (omega arith)))
 
 has_later : (x v : ℕ) (xs : List ℕ) → has xs v ≡ true → has (x ∷ xs) v ≡ true
 has_later x v xs e = either_way (eqb x v)

@@ -4,9 +4,9 @@ use Rattle.std.proofs.lemmas.Bool.{cases_lt, true≢false, leb-false, leb-true}
 use Rattle.std.proofs.lemmas.List.Elements.{All-head, All-tail}
 use Rattle.std.specs.List.{All}
 use Rattle.std.specs.Option.{option_or, option_map}
-use Rattle.quorum_set.specs.Sets.{has, IsSet, Ascends}
+use Rattle.numbers.specs.Sets.{has, IsSet, Ascends}
 use Rattle.quorum_set.specs.Coteries.{first_from, first_outside, IsLeastStray}
-use Rattle.quorum_set.proofs.SetLemmas.{has-below, has-head, has-tail}
+use Rattle.numbers.proofs.SetLemmas.{has-below, has-head, has-tail}
 
 -- the number is a member that is not below n, and the least such
 abbrev IsLeastFrom : ℕ → List ℕ → ℕ → Type 0

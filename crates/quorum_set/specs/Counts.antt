@@ -1,13 +1,9 @@
 -- How often a list of quorum numbers uses each voter (Naor and Wool, SIAM J. Comput. 27(2), 1998,
 -- section 2, for whole numbers).
 use Rattle.std.specs.Prelude.{ℕ, ◌==◌, List, [], max, count_by, slice_index_or, zero, suc}
-use Rattle.quorum_set.specs.Sets.{has}
+use Rattle.numbers.specs.Sets.{has}
+use Rattle.numbers.specs.Counts.{greatest_below}
 use Rattle.quorum_set.specs.Coteries.{QuorumSystem}
-
--- the greatest value of f below n, or 0
-abbrev pub greatest_below : ℕ → (ℕ → ℕ) → ℕ
-greatest_below zero f = 0
-greatest_below (suc n) f = max (greatest_below n f) (f n)
 
 -- how many entries of the list are quorums with this voter
 abbrev pub count_of : QuorumSystem → ℕ → List ℕ → ℕ
@@ -16,7 +12,3 @@ count_of s i list = count_by (λ j. has (slice_index_or s.quorums j []) i) list
 -- the greatest count of a voter
 abbrev pub busiest_of : QuorumSystem → List ℕ → ℕ
 busiest_of s list = greatest_below s.voters (λ i. count_of s i list)
-
--- how many entries of the list are this quorum
-abbrev pub times : ℕ → List ℕ → ℕ
-times j list = count_by (λ k. k == j) list

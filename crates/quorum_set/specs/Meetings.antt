@@ -1,7 +1,7 @@
 -- Lists of sets of voters. Any two of the sets have a common member (Garcia-Molina and Barbara,
 -- JACM 32(4), 1985, section 2). One may lie within another.
 use Rattle.std.specs.Prelude.{◌≡◌, ℕ, ◌<◌, List, [], length, true, slice_index_or}
-use Rattle.quorum_set.specs.Sets.{has}
+use Rattle.numbers.specs.Sets.{has}
 
 -- some voter is a member of both
 abbrev pub Meet : ℕ → List ℕ → List ℕ → Type 0

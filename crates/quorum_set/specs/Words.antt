@@ -6,7 +6,7 @@ use Rattle.std.proofs.Common.{refl, ap, sym, ◌∙◌, arith, add-one, mod-eq_o
 use Rattle.std.proofs.lemmas.Nat.{mod-pow-add}
 use Rattle.std.proofs.lemmas.Nat.Bits.{bit_at-lt}
 use Rattle.std.proofs.lemmas.List.Sums.{sum_by-append}
-use Rattle.quorum_set.specs.Sets.{numbers_from, set_where, members_of}
+use Rattle.numbers.specs.Sets.{numbers_from, set_where, members_of}
 
 -- the word that stands for a set: the sum of 2 ^ i over its members i
 abbrev pub word_of : List ℕ → ℕ

@@ -4,9 +4,9 @@ use Rattle.std.specs.List.Sorted.{IsNonDecreasing}
 use Rattle.std.proofs.lemmas.Bool.{cases_eq, cases_lt, eq-eqb, le-leb, ne_eqb}
 use Rattle.std.proofs.lemmas.List.{get_or-drop, length-drop}
 use Rattle.std.proofs.lemmas.List.Sums.{count_by-le-length, sum_by-cons, sum_by-drop_more}
-use Rattle.quorum_set.specs.Counts.{times}
-use Rattle.dealer.proofs.CycleLemmas.{times-cons, times-get_or}
-use Rattle.dealer.proofs.Totals.{length-total, total-one, total-same}
+use Rattle.numbers.specs.Counts.{times}
+use Rattle.numbers.proofs.CountLemmas.{times-cons, times-get_or}
+use Rattle.numbers.proofs.Totals.{length-total, total-one, total-same}
 use Rattle.replay.specs.Records.{EachOnce, IsLeast, IsMissing, IsTwice, NoneTwice}
 
 -- a number does not stand where all are above it

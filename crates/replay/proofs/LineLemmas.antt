@@ -5,10 +5,10 @@ use Rattle.std.proofs.lemmas.Bool.{ne_eqb}
 use Rattle.std.proofs.lemmas.Str.Parse.{digit_from_value}
 use Rattle.std.proofs.lemmas.Fmt.{digits_decimal}
 use Rattle.std.specs.Fmt.{decimal}
-use Rattle.certificate.specs.PlanTexts.{cut_at}
-use Rattle.certificate.proofs.Cuts.{Lacks, Lacks-append, cut_at-append}
-use Rattle.message.specs.Fields.{AllFit, HasNoSpace, fields}
-use Rattle.message.proofs.Numbers.{own}
+use Rattle.texts.specs.Cuts.{cut_at}
+use Rattle.texts.proofs.CutLemmas.{Lacks, Lacks-append, cut_at-append}
+use Rattle.texts.specs.Fields.{AllFit, HasNoSpace, fields}
+use Rattle.texts.proofs.Numbers.{own}
 use Rattle.world.specs.declared.step.Step.{Step}
 use Rattle.world.specs.declared.step.Step.TheVariants.{Ask, Deliver, Leave, GiveUp, RemindClient, RemindVoter}
 use Rattle.replay.specs.Scripts.{AreSizes, HasStepLine, step_line, step_number, step_word, world_line}

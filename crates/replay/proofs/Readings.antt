@@ -5,8 +5,8 @@ use Rattle.std.specs.Str.{bytes_eq}
 use Rattle.std.specs.Fmt.{decimal}
 use Rattle.std.proofs.lemmas.List.{append-nil, append_assoc}
 use Rattle.std.proofs.lemmas.Fmt.{decimal_injective}
-use Rattle.certificate.specs.PlanTexts.{cut_at}
-use Rattle.certificate.proofs.Cuts.{Lacks, cut_at-append}
+use Rattle.texts.specs.Cuts.{cut_at}
+use Rattle.texts.proofs.CutLemmas.{Lacks, cut_at-append}
 use Rattle.world.specs.declared.step.Step.{Step}
 use Rattle.world.specs.declared.step.Step.TheVariants.{Ask, Deliver, Leave, GiveUp, RemindClient, RemindVoter}
 use Rattle.replay.specs.Scripts.{AreSizes, BeginsWith, HasStepLine, HaveLines, IsFirstBad, IsLine, IsScript, IsStepLine, IsWorldLine, Script, script_text, step_line, step_number, step_word, steps_text, world_line}

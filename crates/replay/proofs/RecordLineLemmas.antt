@@ -1,7 +1,7 @@
 -- Lines of a record have no newline.
 use Rattle.std.proofs.Common.{arith, rules}
-use Rattle.certificate.proofs.Cuts.{Lacks, Lacks-append}
-use Rattle.message.specs.Fields.{AllFit, fields}
+use Rattle.texts.proofs.CutLemmas.{Lacks, Lacks-append}
+use Rattle.texts.specs.Fields.{AllFit, fields}
 use Rattle.replay.specs.declared.record_reading.RecordLine.{RecordLine}
 use Rattle.replay.specs.declared.record_reading.RecordLine.TheVariants.{Draw, Pass, Register}
 use Rattle.replay.specs.RecordTexts.{HasLine, line_numbers, line_word, record_line}

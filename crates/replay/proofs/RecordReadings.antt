@@ -5,9 +5,9 @@ use Rattle.std.specs.List.{AllByRecursion}
 use Rattle.std.specs.Fmt.{decimal}
 use Rattle.std.proofs.lemmas.List.{append-nil}
 use Rattle.std.proofs.lemmas.Fmt.{decimal_injective}
-use Rattle.certificate.proofs.Cuts.{cut_at-append}
-use Rattle.certificate.specs.PlanTexts.{cut_at}
-use Rattle.message.specs.Fields.{AllFit, fields}
+use Rattle.texts.proofs.CutLemmas.{cut_at-append}
+use Rattle.texts.specs.Cuts.{cut_at}
+use Rattle.texts.specs.Fields.{AllFit, fields}
 use Rattle.replay.specs.declared.record_reading.RecordLine.{RecordLine}
 use Rattle.replay.specs.declared.record_reading.RecordLine.TheVariants as kinds
 use Rattle.members.specs.declared.record.RunRecord.{RunRecord}

@@ -3,7 +3,7 @@ use Rattle.std.proofs.Common.{ℕ, List, length, sym, subst}
 use Rattle.std.specs.List.{range_with_len}
 use Rattle.std.specs.List.Sorted.{IsPermutation}
 use Rattle.std.proofs.lemmas.List.Sorted.{IsPermutation-refl}
-use Rattle.dealer.proofs.CycleLemmas.{times-permuted}
+use Rattle.numbers.proofs.CountLemmas.{times-permuted}
 use Rattle.members.specs.declared.record.RunRecord.{RunRecord}
 use Rattle.members.specs.Clusters.{ClusterState}
 use Rattle.members.specs.Members.{MemberState}

@@ -10,7 +10,7 @@
 use Rattle.std.specs.Prelude.{ℕ, ◌≡◌, ◌≢◌, ◌<◌, ◌≤◌, ◌+◌, ◌^◌, ◌⊎◌, List, [], ◌∷◌, ◌++◌, length, map, codes}
 use Rattle.std.specs.List.{AllByRecursion}
 use Rattle.certificate.specs.PlanTexts.{text_of_lines}
-use Rattle.message.specs.Fields.{fields}
+use Rattle.texts.specs.Fields.{fields}
 use Rattle.replay.specs.declared.record_reading.RecordLine.{RecordLine}
 use Rattle.replay.specs.declared.record_reading.RecordLine.TheVariants as kinds
 use Rattle.replay.specs.declared.fault.ReplayFault.{ReplayFault}

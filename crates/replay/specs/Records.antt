@@ -4,7 +4,7 @@
 -- plan's cycle.
 use Rattle.std.specs.Prelude.{ℕ, ◌≡◌, ◌≢◌, ◌<◌, ◌≤◌, List, length, map}
 use Rattle.std.specs.List.{All, Contains}
-use Rattle.quorum_set.specs.Counts.{times}
+use Rattle.numbers.specs.Counts.{times}
 use Rattle.certificate.specs.Certificates.{Weighted}
 use Rattle.dealer.specs.Cycles.{quorum_of_ticket}
 use Rattle.members.specs.declared.record.RunRecord.{RunRecord}

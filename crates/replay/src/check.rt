@@ -2,7 +2,7 @@
 ghost use Rattle.std.specs.Prelude.{◌≡◌, ◌*◌, ◌<◌, ℕ, List, IfErr, IfOk, IfSome, MatchOption, None, min, length, map};
 ghost use Rattle.std.specs.List.{All};
 ghost use Rattle.std.specs.List.Sorted.{IsNonDecreasing};
-ghost use Rattle.quorum_set.specs.Counts.{times};
+ghost use Rattle.numbers.specs.Counts.{times};
 ghost use Rattle.certificate.specs.Certificates.{IsCertificate, busiest_count, cycle_len};
 ghost use Rattle.dealer.specs.Accounts.{IsLeastBusiest, account_of};
 ghost use Rattle.replay.specs.Records.{EachOnce, IsFirstFault, IsFirstGap, IsFound, IsLeast, IsMissing, IsNumberFault, IsRegisterFault, IsRight, IsSoundRecord, IsTicketFault, IsTwice, IsWrong, NoneTwice, entries_of, numbers_of, tickets_of};

@@ -6,8 +6,7 @@ ghost use Rattle.replay.specs.declared.fault.ReplayFault.TheVariants.{BadLine, O
 
 use crate::fault::ReplayFault;
 use crate::script::Script;
-use certificate::cut as cut_at;
-use message::{cut, fields};
+use texts::{cut, cut_at, fields};
 use std::alloc::Global;
 use world::Step;
 

@@ -1,6 +1,6 @@
 //! Reading the record of a run.
 ghost use Rattle.std.specs.Prelude.{◌≡◌, ◌≢◌, ◌++◌, ◌∷◌, [], ℕ, List, IfErr, IfOk, IfSome, MatchOption, MatchResult};
-ghost use Rattle.message.specs.Fields.{fields};
+ghost use Rattle.texts.specs.Fields.{fields};
 ghost use Rattle.members.specs.Records.{Draw, Pass};
 ghost use Rattle.replay.specs.Records.{Entries, entries_of};
 ghost use Rattle.replay.specs.RecordTexts.{AreFirst, BeginsWithNone, HasDrawLine, HasLine, HasPassLine, HasRegisterLine, HasText, IsBadRecord, IsBadRest, IsLineOf, IsNext, body_text, draw_line, pass_line, record_line, record_text, register_line, title_line};
@@ -8,9 +8,8 @@ ghost use Rattle.replay.specs.declared.fault.ReplayFault.TheVariants.{BadLine, O
 ghost use Rattle.replay.specs.declared.record_reading.RecordLine.{RecordLine};
 
 use crate::fault::ReplayFault;
-use certificate::cut as cut_at;
 use cluster::RunRecord;
-use message::{cut, fields};
+use texts::{cut, cut_at, fields};
 use std::alloc::{AllocError, Global};
 
 /// The first line of a record.

@@ -1,7 +1,7 @@
 -- What callers rest on after a call.
 use Rattle.std.proofs.Common.{◌≡◌, ℕ, ◌≤◌, Bool, true, false, List, [], ◌∷◌, length, refl, sym, ap, subst, Result, Ok, Err}
 use Rattle.std.specs.Prelude.{IfOk, IfErr}
-use Rattle.quorum_set.specs.Sets.{IsSet}
+use Rattle.numbers.specs.Sets.{IsSet}
 use Rattle.message.specs.declared.message.ToClient.{ToClient}
 use Rattle.requester.specs.declared.fault.ClientFault.{ClientFault}
 use Rattle.message.specs.declared.message.ToVoter.{ToVoter}

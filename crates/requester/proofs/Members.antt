@@ -5,8 +5,8 @@ use Rattle.std.proofs.lemmas.Bool.{false≢true, cases_lt, ne_eqb}
 use Rattle.std.proofs.lemmas.Bool.Decides.{nat_tests}
 use Rattle.std.proofs.lemmas.Map.Keys.{IsDistinct-cons}
 use Rattle.std.proofs.lemmas.List.{get_or_past}
-use Rattle.quorum_set.specs.Sets.{has, Ascends, IsSet}
-use Rattle.quorum_set.proofs.SetLemmas.{has-above, length-Ascends}
+use Rattle.numbers.specs.Sets.{has, Ascends, IsSet}
+use Rattle.numbers.proofs.SetLemmas.{has-above, length-Ascends}
 
 pub clash : {A : Type 0} → (b : Bool) → b ≡ true → b ≡ false → A
 clash b t f = absurd (false≢true (sym f ∙ t))

@@ -1,6 +1,6 @@
 -- What holds of every client.
 use Rattle.std.specs.Prelude.{ℕ, ◌≡◌, ◌<◌, ◌≤◌, ◌^◌, true, false, length}
-use Rattle.quorum_set.specs.Sets.{IsSet}
+use Rattle.numbers.specs.Sets.{IsSet}
 use Rattle.requester.specs.declared.state.ClientState.{ClientState}
 use Rattle.requester.specs.Words.{is_idle, is_inside, members, is_member, held_of, holds, is_covered, last_of, is_relinquished, is_inquired}
 

@@ -1,7 +1,7 @@
 -- What a client knows of its request, of each voter's vote, and of each voter.
 use Rattle.std.specs.Prelude.{ℕ, nat_lt, nat_le, ◌==◌, Bool, true, false, ◌&&◌, ◌||◌, not, List, Option, Some, None, slice_index, slice_index_or}
 use Rattle.std.specs.List.{list_all, list_any}
-use Rattle.quorum_set.specs.Sets.{has}
+use Rattle.numbers.specs.Sets.{has}
 use Rattle.requester.specs.declared.state.Phase.{Phase}
 use Rattle.requester.specs.declared.state.Phase.TheVariants.{Idle, Asking, Inside}
 use Rattle.requester.specs.declared.state.ClientState.{ClientState}

@@ -2,7 +2,7 @@
 ghost use Rattle.std.specs.Prelude.{◌≡◌, ◌<◌, ◌≤◌, ◌+◌, ◌^◌, ◌++◌, [], ℕ, List, eqb, Err, IfErr, IfNone, IfOk, Ok};
 ghost use Rattle.std.specs.List.{AllByRecursion, IsDistinct};
 ghost use Rattle.arrayvec.specs.ArrayVec.{array_vec_len};
-ghost use Rattle.quorum_set.specs.Sets.{IsSet};
+ghost use Rattle.numbers.specs.Sets.{IsSet};
 ghost use Rattle.requester.specs.Words.{held_of, holds, holds_under, is_covered, is_current, is_hindered, is_member, last_of};
 ghost use Rattle.requester.specs.Steps.{Foretells, ask, cleared, failed, give_up, hold, inquired, is_fresh, leave, locked, relinquish, relinquish_inquired, relinquish_marked, remind, remind_member, take, take_body, tell, tell_members, would_hold};
 

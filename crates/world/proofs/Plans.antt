@@ -1,16 +1,15 @@
 -- the quorums of a plan meet, and its tickets name them
 use Rattle.std.proofs.Common.{◌≡◌, ℕ, ◌%◌, ◌<◌, ◌≤◌, ◌^◌, List, [], ◌∷◌, ◌++◌, length, Result, Ok, Err, refl, sym, ap, subst, ◌∙◌, arith}
 use Rattle.std.specs.List.{AllByRecursion}
-use Rattle.std.proofs.Math.Nat.{mod-lt}
-use Rattle.quorum_set.proofs.Meetings.{coterie_meets}
+use Rattle.quorum_set.specs.Coteries.{QuorumSystem, IsCoterie}
+use Rattle.quorum_set.specs.Meetings.{AllMeet}
 use Rattle.message.specs.declared.message.Message.{Message}
 use Rattle.message.specs.declared.message.Message.TheVariants as kinds
 use Rattle.message.specs.declared.message.ClientBody.{ClientBody}
 use Rattle.message.specs.declared.message.ClientBody.TheVariants as tells
 use Rattle.message.specs.Lines.{AreCounts, HasLine, IsCount}
-use Rattle.certificate.specs.Certificates.{Weighted, IsCertificate, cycle_len}
+use Rattle.certificate.specs.Certificates.{Weighted, IsCertificate}
 use Rattle.dealer.specs.Cycles.{quorum_of_ticket}
-use Rattle.dealer.proofs.CycleLemmas.{cycle_of-lt}
 use Rattle.world.specs.declared.step.Step.{Step}
 use Rattle.world.specs.Ranges.{IsInRange, IsSound, IsWithin, TellsWithin}
 use Rattle.world.specs.Runs.{AreLimits, IsReached, after, run_of, start, start_by}
@@ -20,16 +19,17 @@ use Rattle.world.specs.Steps.{Does, Outcome, Planned, WorldState, quorum_by, ste
 use Rattle.world.specs.Visible.{DealsFrom, DoMeet}
 use Rattle.world.proofs.Claims.{all_map}
 
-pub plan_meets : (w : Weighted) → IsCertificate w → DoMeet w.system.voters w.system.quorums
-plan_meets w is = record { sets = is.coterie.sets; in_range = is.coterie.in_range; meets = coterie_meets w.system is.coterie }
+abbrev pub AllCoteriesMeet : Type 0
+AllCoteriesMeet = (s : QuorumSystem) → IsCoterie s → AllMeet s.voters s.quorums
 
-ticket_below : (w : Weighted) → IsCertificate w → (ticket : ℕ) → quorum_of_ticket w ticket < length w.system.quorums
-ticket_below w is ticket =
-    let some = is.some_quorum in
-    omega (arith, cycle_of-lt w.quorum_weights (ticket % cycle_len w) (mod-lt ticket {m = cycle_len w} some), is.quorums)
+abbrev pub AllNameQuorums : Type 0
+AllNameQuorums = (w : Weighted) (ticket : ℕ) → IsCertificate w → quorum_of_ticket w ticket < length w.system.quorums
 
-pub plan_deals : (w : Weighted) → IsCertificate w → DealsFrom w.system.quorums (quorum_by w)
-plan_deals w is = λ ticket. (quorum_of_ticket w ticket, ticket_below w is ticket, refl)
+plan_meets : AllCoteriesMeet → (w : Weighted) → IsCertificate w → DoMeet w.system.voters w.system.quorums
+plan_meets all_meet w is = record { sets = is.coterie.sets; in_range = is.coterie.in_range; meets = all_meet w.system is.coterie }
+
+plan_deals : AllNameQuorums → (w : Weighted) → IsCertificate w → DealsFrom w.system.quorums (quorum_by w)
+plan_deals all_name w is = λ ticket. (quorum_of_ticket w ticket, all_name w ticket is, refl)
 
 -- ---- a world that is reached
 
@@ -61,13 +61,19 @@ abbrev pub AllSound : Type 0
 AllSound = (voters clients limit : ℕ) (quorums : List (List ℕ)) (deal : ℕ → List ℕ) (steps : List Step) → AreLimits voters clients limit → DoMeet voters quorums → DealsFrom quorums deal
     → IsSound voters clients limit (run_of deal steps (start voters clients limit))
 
-pub reached_sound : AllSound → (w : Planned) → (r : IsReached w) → IsSound w.plan.system.voters r.clients r.limit w.state
-reached_sound law w r =
-    subst (λ (u : WorldState). IsSound w.plan.system.voters r.clients r.limit u) (sym r.state)
-    (law w.plan.system.voters r.clients r.limit w.plan.system.quorums (quorum_by w.plan) r.steps r.limits (plan_meets w.plan r.certificate) (plan_deals w.plan r.certificate))
+-- the laws that a world rests on
+pub record WorldLaws : Type 0 where
+  pub sound : AllSound
+  pub meet : AllCoteriesMeet
+  pub name : AllNameQuorums
 
-pub reached_lines : AllSound → (w : Planned) → IsReached w → AllByRecursion HasLine w.state.sent
-reached_lines law w r = all_map (IsInRange w.plan.system.voters r.clients r.limit) HasLine (line w.plan.system.voters r.clients r.limit r.limits) w.state.sent (reached_sound law w r).in_range
+pub reached_sound : WorldLaws → (w : Planned) → (r : IsReached w) → IsSound w.plan.system.voters r.clients r.limit w.state
+reached_sound laws w r =
+    subst (λ (u : WorldState). IsSound w.plan.system.voters r.clients r.limit u) (sym r.state)
+    (laws.sound w.plan.system.voters r.clients r.limit w.plan.system.quorums (quorum_by w.plan) r.steps r.limits (plan_meets laws.meet w.plan r.certificate) (plan_deals laws.name w.plan r.certificate))
+
+pub reached_lines : WorldLaws → (w : Planned) → IsReached w → AllByRecursion HasLine w.state.sent
+reached_lines laws w r = all_map (IsInRange w.plan.system.voters r.clients r.limit) HasLine (line w.plan.system.voters r.clients r.limit r.limits) w.state.sent (reached_sound laws w r).in_range
 
 run_more : (deal : ℕ → List ℕ) (steps : List Step) (s : Step) (w : WorldState) → run_of deal (steps ++ s ∷ []) w ≡ after (run_of deal steps w) (step deal (run_of deal steps w) s)
 run_more deal [] s w = refl

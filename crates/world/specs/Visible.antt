@@ -1,7 +1,7 @@
 -- What can be seen of a run: who enters and who leaves.
 use Rattle.std.specs.Prelude.{ℕ, ◌≡◌, ◌<◌, true, false, List, [], ◌∷◌, length, Option, Some, None, slice_index_or}
 use Rattle.std.specs.List.{All}
-use Rattle.quorum_set.specs.Sets.{IsSet}
+use Rattle.numbers.specs.Sets.{IsSet}
 use Rattle.quorum_set.specs.Meetings.{AllMeet}
 use Rattle.world.specs.declared.step.Event.{Event}
 

@@ -8,6 +8,8 @@ ghost use Rattle.world.specs.Runs.{AreLimits, DrawsInOrder, IsReached, run_of, s
 ghost use Rattle.world.specs.Steps.{Adds, Outcome, Planned, WorldState, step};
 ghost use Rattle.world.specs.Visible.{DealsFrom, DoMeet, IsExclusive};
 
+use dealer::tickets_name_quorums;
+use quorum_set::coteries_meet;
 use requester::{requesters_meet_the_contract, requesters_stay_sound};
 use voter::{
     grants_are_numbered, replies_carry_what_was_seen, replies_tell_the_state,
@@ -60,4 +62,6 @@ pub(crate) fn worlds_stay_sound()
     ensures numbered { (w : Planned) → IsReached w → IsNumbered w.state }
 {
     runs_are_sound();
+    coteries_meet();
+    tickets_name_quorums();
 }

@@ -1,6 +1,6 @@
 //! Grids.
 ghost use Rattle.std.specs.Prelude.{◌≡◌, ◌==◌, ◌&&◌, ◌*◌, ◌/◌, ◌%◌, ◌<◌, ◌≤◌, nat_lt, map, Err, IfErr, IfOk};
-ghost use Rattle.quorum_set.specs.Sets.{set_where};
+ghost use Rattle.numbers.specs.Sets.{set_where};
 ghost use Rattle.construct.specs.Answers.{Gives};
 ghost use Rattle.construct.specs.Grid.{row_with_column, grid_quorums, grid_at};
 

@@ -3,7 +3,7 @@ ghost use Rattle.std.specs.Prelude.{◌≡◌, ◌≤◌, [], Err, IfErr, IfOk, 
 ghost use Rattle.std.specs.List.{range_with_len};
 ghost use Rattle.itertools.specs.Odometer.{ways};
 ghost use Rattle.itertools.specs.Pool.{ascending_low, ascending_high, combination_can, combination_left};
-ghost use Rattle.quorum_set.specs.Sets.{has, set_where};
+ghost use Rattle.numbers.specs.Sets.{has, set_where};
 ghost use Rattle.construct.specs.Answers.{Gives};
 ghost use Rattle.construct.specs.Majority.{sets_from, majority_at};
 

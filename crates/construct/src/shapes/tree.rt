@@ -1,7 +1,7 @@
 //! Trees.
 ghost use Rattle.std.specs.Prelude.{◌≡◌, ◌==◌, ◌+◌, ◌*◌, ◌^◌, ◌<◌, ◌≤◌, ◌++◌, map, Err, IfErr, IfOk, OnOk};
 ghost use Rattle.std.specs.List.{flat_map};
-ghost use Rattle.quorum_set.specs.Sets.{set_where};
+ghost use Rattle.numbers.specs.Sets.{set_where};
 ghost use Rattle.construct.specs.Answers.{Gives};
 ghost use Rattle.construct.specs.Tree.{with_node, union, node_quorums, quorums_under, tree_at};
 

@@ -1,5 +1,5 @@
 use Rattle.std.proofs.Common.{◌≡◌, ◌≤◌, sum}
-use Rattle.quorum_set.specs.Counts.{greatest_below}
+use Rattle.numbers.specs.Counts.{greatest_below}
 use Rattle.certificate.specs.Loads.{weight_on}
 use Rattle.certificate.proofs.loads.busiest_count.Given as goal
 

@@ -1,7 +1,7 @@
 use Rattle.std.proofs.Common.{[], ap, arith}
 use Rattle.std.proofs.lemmas.Option.{get_or_from_slice_get}
 use Rattle.certificate.specs.Loads.{weight_within}
-use Rattle.certificate.proofs.LoadLemmas.{least_of_more}
+use Rattle.numbers.proofs.CountLemmas.{least_of_more}
 use Rattle.certificate.proofs.loads.lightest_quorum.Goals as goal
 
 pub loop-j-preserved : goal.loop-j-preserved

@@ -1,5 +1,6 @@
 use Rattle.std.proofs.Common.{◌≡◌, ◌≤◌, take}
-use Rattle.certificate.specs.Loads.{weight_within, least_of}
+use Rattle.certificate.specs.Loads.{weight_within}
+use Rattle.numbers.specs.Counts.{least_of}
 use Rattle.certificate.proofs.loads.lightest_quorum.Given as goal
 
 abbrev pub invariant-loop-j : goal.invariant-loop-j

@@ -1,5 +1,5 @@
 use Rattle.std.proofs.Common.{◌||◌, ap, sym, ◌∙◌, arith, map, eqb}
-use Rattle.quorum_set.specs.Sets.{has, set_where}
+use Rattle.numbers.specs.Sets.{has, set_where}
 use Rattle.coterie_file.specs.Reading.{quorum_of}
 use Rattle.coterie_file.proofs.NameLemmas.{texts_push, texts_before}
 use Rattle.coterie_file.proofs.QuorumLemmas.{quorum_of-nil, quorum_of-push, quorum_of-other}

@@ -1,5 +1,5 @@
 use Rattle.std.proofs.Common.{◌≡◌, slice_index}
-use Rattle.quorum_set.specs.Counts.{greatest_below}
+use Rattle.numbers.specs.Counts.{greatest_below}
 use Rattle.dealer.proofs.account.greatest_of.Given as goal
 
 abbrev pub invariant-loop-number : goal.invariant-loop-number

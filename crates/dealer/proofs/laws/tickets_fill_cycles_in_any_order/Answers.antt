@@ -1,6 +1,6 @@
 use Rattle.std.proofs.Common.{◌*◌}
 use Rattle.certificate.specs.Certificates.{cycle_len}
-use Rattle.dealer.proofs.CycleLemmas.{length-permuted, times-permuted}
+use Rattle.numbers.proofs.CountLemmas.{length-permuted, times-permuted}
 use Rattle.dealer.proofs.laws.tickets_fill_cycles_in_any_order.Goals as goal
 
 pub returns : goal.returns

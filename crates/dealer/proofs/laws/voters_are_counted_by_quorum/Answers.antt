@@ -1,5 +1,5 @@
 use Rattle.std.proofs.Common.{length, arith}
-use Rattle.quorum_set.specs.Counts.{times}
+use Rattle.numbers.specs.Counts.{times}
 use Rattle.certificate.specs.Certificates.{Weighted}
 use Rattle.dealer.specs.Accounts.{values_below, quorums_named}
 use Rattle.dealer.proofs.AccountLemmas.{times-counts, length-values_below}

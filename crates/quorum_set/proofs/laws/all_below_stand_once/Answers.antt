@@ -1,4 +1,4 @@
-use Rattle.quorum_set.proofs.SumLemmas.{length-AreAllBelow, below_AreAllBelow, times-AreAllBelow}
+use Rattle.numbers.proofs.SumLemmas.{length-AreAllBelow, below_AreAllBelow, times-AreAllBelow}
 use Rattle.quorum_set.proofs.laws.all_below_stand_once.Goals as goal
 
 pub returns-clause-len : goal.returns-clause-len

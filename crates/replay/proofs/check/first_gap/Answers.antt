@@ -1,5 +1,5 @@
 use Rattle.std.proofs.Common.{ℕ, List, length, ap, sym, ◌∙◌}
-use Rattle.quorum_set.specs.Counts.{times}
+use Rattle.numbers.specs.Counts.{times}
 use Rattle.replay.proofs.AscendingLemmas.{count_same, missing_same, none_twice_same, twice_same}
 use Rattle.replay.proofs.check.first_gap.Goals as goal
 

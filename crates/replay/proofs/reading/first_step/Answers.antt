@@ -1,5 +1,5 @@
 use Rattle.std.proofs.Common.{List, ℕ, ◌∷◌, ◌++◌, ap, sym, ◌∙◌}
-use Rattle.certificate.proofs.Cuts.{cut_at-Some}
+use Rattle.texts.proofs.CutLemmas.{cut_at-Some}
 use Rattle.replay.specs.Scripts.{step_line}
 use Rattle.replay.proofs.LineLemmas.{Lacks-step, cut_line, same_pair}
 use Rattle.replay.proofs.reading.first_step.Goals as goal

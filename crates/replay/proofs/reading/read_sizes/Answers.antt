@@ -1,6 +1,6 @@
 use Rattle.std.proofs.Common.{ℕ, [], ◌∷◌, Some, get_or, ap₂, ◌∙◌, refl, arith}
 use Rattle.replay.specs.Scripts.{AreSizes}
-use Rattle.message.specs.Fields.{fields}
+use Rattle.texts.specs.Fields.{fields}
 use Rattle.replay.proofs.LineLemmas.{fit_sizes, no_space_world, sizes_spelled, two_fields}
 use Rattle.replay.proofs.reading.read_sizes.Goals as goal
 

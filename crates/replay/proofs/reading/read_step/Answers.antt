@@ -1,5 +1,5 @@
 use Rattle.std.proofs.Common.{[], ◌∷◌, refl}
-use Rattle.message.specs.Fields.{fields}
+use Rattle.texts.specs.Fields.{fields}
 use Rattle.replay.specs.Scripts.{step_number, step_word}
 use Rattle.replay.proofs.LineLemmas.{fit_step, no_space_word, one_field}
 use Rattle.replay.proofs.reading.read_step.Goals as goal

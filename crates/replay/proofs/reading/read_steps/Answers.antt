@@ -3,7 +3,7 @@ use Rattle.std.proofs.lemmas.List.{nil_from_length}
 use Rattle.world.specs.declared.step.Step.{Step}
 use Rattle.replay.specs.Scripts.{steps_text}
 use Rattle.replay.proofs.StepsLemmas.{HaveLines_push, all_found, next_step, steps_text_push}
-use Rattle.message.proofs.FieldLemmas.{none_from_test, some_from_test}
+use Rattle.texts.proofs.FieldLemmas.{none_from_test, some_from_test}
 use Rattle.replay.proofs.reading.read_steps.Goals as goal
 
 pub returns-in_default-clause-read : goal.returns-in_default-clause-read

@@ -1,5 +1,5 @@
 use Rattle.std.proofs.Common.{◌≡◌, List, ℕ, ◌∷◌, ◌++◌, ap, sym, ◌∙◌, rules}
-use Rattle.certificate.proofs.Cuts.{cut_at-Some}
+use Rattle.texts.proofs.CutLemmas.{cut_at-Some}
 use Rattle.replay.specs.RecordTexts.{title_line}
 use Rattle.replay.proofs.record_reading.behind_title.Goals as goal
 

@@ -1,5 +1,5 @@
 use Rattle.std.proofs.Common.{List, ℕ, ◌∷◌, ◌++◌, ap, sym, ◌∙◌}
-use Rattle.certificate.proofs.Cuts.{cut_at-Some}
+use Rattle.texts.proofs.CutLemmas.{cut_at-Some}
 use Rattle.replay.specs.RecordTexts.{record_line}
 use Rattle.replay.proofs.LineLemmas.{cut_line, same_pair}
 use Rattle.replay.proofs.RecordLineLemmas.{Lacks-record_line}

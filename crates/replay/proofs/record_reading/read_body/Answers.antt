@@ -1,5 +1,5 @@
 use Rattle.std.proofs.Common.{arith, inl, inr}
-use Rattle.message.proofs.FieldLemmas.{some_from_test}
+use Rattle.texts.proofs.FieldLemmas.{some_from_test}
 use Rattle.replay.proofs.RecordBodyLemmas.{entries, goes_on, stops}
 use Rattle.replay.proofs.record_reading.read_body.Goals as goal
 

@@ -1,8 +1,8 @@
 use Rattle.std.proofs.Common.{◌≡◌, ℕ, List, [], ◌∷◌, eqb, false, sym, ap, ◌∙◌, arith}
 use Rattle.std.specs.Prelude.{◌||◌}
 use Rattle.std.proofs.lemmas.Bool.Decides.{nat_tests}
-use Rattle.quorum_set.specs.Sets.{has, set_where}
-use Rattle.quorum_set.proofs.SetLemmas.{is_set_where}
+use Rattle.numbers.specs.Sets.{has, set_where}
+use Rattle.numbers.proofs.SetLemmas.{is_set_where}
 use Rattle.threads_tests.proofs.boards.zero.Goals as goal
 
 same : (i : ℕ) → (eqb 0 i || false) ≡ (eqb i 0 || false)

@@ -2,7 +2,7 @@ use Rattle.std.proofs.Common.{◌≡◌, ◌+◌, ℕ, List, length, map, ap, su
 use mathlib.Core.Option.{some}
 use lib.ListN.{get_elem?}
 use Rattle.std.specs.Slots.{slots_items}
-use Rattle.quorum_set.specs.Sums.{AreAllBelow}
+use Rattle.numbers.specs.Sums.{AreAllBelow}
 use Rattle.board.specs.Seats.{BoardState, RootState, Setting}
 use Rattle.board.proofs.Ends.{closed_parts, closes_all}
 use Rattle.board.proofs.board.Board.close.Goals as goal

@@ -2,7 +2,7 @@ use Rattle.std.proofs.Common.{◌≡◌, ◌<◌, ◌+◌, ◌||◌, true, false
 use Rattle.std.specs.HashSet.{contains}
 use Rattle.std.proofs.lemmas.Bool.{not-false, not-true}
 use Rattle.std.proofs.lemmas.List.{take_more}
-use Rattle.quorum_set.specs.Sets.{has}
+use Rattle.numbers.specs.Sets.{has}
 use Rattle.construct.specs.Cyclic.{has_repeat}
 use Rattle.construct.proofs.CyclicLemmas.{has_repeat-push, has_repeat-take, seen_more}
 use Rattle.construct.proofs.shapes.cyclic.has_repeat.Goals as goal

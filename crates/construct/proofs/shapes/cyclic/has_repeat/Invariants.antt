@@ -1,6 +1,6 @@
 use Rattle.std.proofs.Common.{◌≡◌, ℕ, false, eqb, take}
 use Rattle.std.specs.HashSet.{contains}
-use Rattle.quorum_set.specs.Sets.{has}
+use Rattle.numbers.specs.Sets.{has}
 use Rattle.construct.specs.Cyclic.{has_repeat}
 use Rattle.construct.proofs.shapes.cyclic.has_repeat.Given as goal
 

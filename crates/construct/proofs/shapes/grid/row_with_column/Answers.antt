@@ -1,5 +1,5 @@
 use Rattle.std.proofs.Common.{◌*◌, ◌/◌, ◌%◌, ltb, eqb, ap₂, ◌∙◌}
-use Rattle.quorum_set.specs.Sets.{union}
+use Rattle.numbers.specs.Sets.{union}
 use Rattle.construct.proofs.SetLemmas.{union-within}
 use Rattle.construct.proofs.shapes.grid.row_with_column.Goals as goal
 

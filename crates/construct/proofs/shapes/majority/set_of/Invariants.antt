@@ -1,5 +1,5 @@
 use Rattle.std.proofs.Common.{◌≡◌, take}
-use Rattle.quorum_set.specs.Sets.{has, set_where}
+use Rattle.numbers.specs.Sets.{has, set_where}
 use Rattle.construct.proofs.shapes.majority.set_of.Given as goal
 
 abbrev pub invariant-loop-i : goal.invariant-loop-i

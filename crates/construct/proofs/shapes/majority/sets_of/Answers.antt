@@ -3,7 +3,7 @@ use Rattle.std.specs.List.{All}
 use Rattle.std.proofs.lemmas.List.Elements.{All-head, All-tail}
 use Rattle.itertools.specs.Odometer.{ways}
 use Rattle.itertools.specs.Pool.{ascending_low, ascending_high, combination_left}
-use Rattle.quorum_set.specs.Sets.{has, IsSet, set_where}
+use Rattle.numbers.specs.Sets.{has, IsSet, set_where}
 use Rattle.construct.specs.Majority.{sets_from}
 use Rattle.construct.proofs.MajorityLemmas.{choices, IsSet-choice, below_choice}
 use Rattle.construct.proofs.Combinations.{ways_are_sets, members_are_places, set_where-has}

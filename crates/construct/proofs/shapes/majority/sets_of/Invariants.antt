@@ -1,7 +1,7 @@
 use Rattle.std.proofs.Common.{◌≡◌, ◌++◌, ◌<◌}
 use Rattle.std.specs.List.{All, range_with_len}
 use Rattle.itertools.specs.Pool.{combination_left}
-use Rattle.quorum_set.specs.Sets.{IsSet}
+use Rattle.numbers.specs.Sets.{IsSet}
 use Rattle.construct.specs.Majority.{sets_from}
 use Rattle.construct.proofs.shapes.majority.sets_of.Given as goal
 

@@ -1,5 +1,5 @@
 use Rattle.std.proofs.Common.{ap, ◌∙◌, eqb}
-use Rattle.quorum_set.specs.Sets.{union}
+use Rattle.numbers.specs.Sets.{union}
 use Rattle.construct.proofs.SetLemmas.{union-set_where_left}
 use Rattle.construct.proofs.shapes.tree.with_node.Goals as goal
 

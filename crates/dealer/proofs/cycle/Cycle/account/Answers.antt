@@ -1,6 +1,7 @@
 use Rattle.std.proofs.Common.{◌≡◌, ℕ, List, ◌∙◌, ap, subst, get_or, length, sum, arith}
 use Rattle.std.proofs.lemmas.List.{length-map}
-use Rattle.quorum_set.specs.Counts.{greatest_below, times, count_of}
+use Rattle.quorum_set.specs.Counts.{count_of}
+use Rattle.numbers.specs.Counts.{greatest_below, times}
 use Rattle.certificate.specs.Certificates.{Weighted, IsCertificate, IsOptimal}
 use Rattle.dealer.specs.Cycles.{quorum_of_ticket}
 use Rattle.dealer.specs.Accounts.{account_of, quorums_named}

@@ -2,7 +2,7 @@ use Rattle.std.proofs.Common.{◌≡◌, ◌+◌, ◌<◌, ◌%◌, List, eqb, l
 use Rattle.std.proofs.lemmas.List.{get_or-map, get_or_read, length-map, length-set, length-take, take_all}
 use Rattle.std.proofs.lemmas.List.FromFn.{fill_by_all}
 use Rattle.std.proofs.lemmas.List.Sums.{count_by-le-length}
-use Rattle.quorum_set.specs.Counts.{times}
+use Rattle.numbers.specs.Counts.{times}
 use Rattle.certificate.specs.Certificates.{Weighted, cycle_len}
 use Rattle.dealer.specs.Cycles.{quorum_of_ticket}
 use Rattle.dealer.specs.Accounts.{quorums_named}

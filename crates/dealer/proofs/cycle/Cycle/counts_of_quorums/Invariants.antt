@@ -1,5 +1,5 @@
 use Rattle.std.proofs.Common.{◌≡◌, ℕ, length, take, slice_index}
-use Rattle.quorum_set.specs.Counts.{times}
+use Rattle.numbers.specs.Counts.{times}
 use Rattle.dealer.specs.Accounts.{quorums_named}
 use Rattle.dealer.proofs.cycle.Cycle.counts_of_quorums.Given as goal
 

@@ -1,5 +1,5 @@
 use Rattle.std.proofs.Common.{◌≡◌, ◌+◌, ◌*◌, length, ap, sym, ◌∙◌, subst, arith}
-use Rattle.quorum_set.specs.Sums.{AreAllBelow}
+use Rattle.numbers.specs.Sums.{AreAllBelow}
 use Rattle.certificate.specs.Certificates.{cycle_len}
 use Rattle.dealer.specs.Accounts.{IsLeastBusiest}
 use Rattle.dealer.specs.Offices.{OfficeName, OfficeState, ClerkState, tickets_of}

@@ -1,7 +1,7 @@
 use Rattle.std.proofs.Common.{◌≡◌, ◌-◌, ◌^◌, ◌++◌, List, length, map, min, sum_by, ap, ◌∙◌, subst}
 use Rattle.std.specs.List.{All}
 use Rattle.std.specs.List.Sorted.{IsPermutation}
-use Rattle.quorum_set.specs.Sums.{AreAllBelow}
+use Rattle.numbers.specs.Sums.{AreAllBelow}
 use Rattle.dealer.specs.declared.receipt.Receipt.{Receipt}
 use Rattle.dealer.specs.Offices.{ClerkState, tickets_of}
 use Rattle.members.specs.Members.{MemberState}

@@ -26,13 +26,13 @@ pub send-lost-requires : goal.send-lost-requires
 send-lost-requires g c =
     let quorum = c.quorum-quorum.ensures in
     let drawn = c.in-Ok.ensures in
-    record { held = (asked_member _ _ _ _ _ c.self.invariant _ _ c.in-Ok-ask_into.ensures.asked quorum.set quorum.some c.draw.new.clerk c.in-Ok.receipt drawn.kept drawn.some quorum.in_range quorum.value).held }
+    record { held = (asked_member _ _ _ _ _ c.self.invariant c.clients_keep_their_laws.ensures _ _ c.in-Ok-ask_into.ensures.asked quorum.set quorum.some c.draw.new.clerk c.in-Ok.receipt drawn.kept drawn.some quorum.in_range quorum.value).held }
 
 pub invariant_of-self-2 : goal.invariant_of-self-2
 invariant_of-self-2 g c =
     let quorum = c.quorum-quorum.ensures in
     let drawn = c.in-Ok.ensures in
-    asked_member _ _ _ _ _ c.self.invariant _ _ c.in-Ok-ask_into.ensures.asked quorum.set quorum.some c.draw.new.clerk c.in-Ok.receipt drawn.kept drawn.some quorum.in_range quorum.value
+    asked_member _ _ _ _ _ c.self.invariant c.clients_keep_their_laws.ensures _ _ c.in-Ok-ask_into.ensures.asked quorum.set quorum.some c.draw.new.clerk c.in-Ok.receipt drawn.kept drawn.some quorum.in_range quorum.value
 
 pub returns-clause-asked : goal.returns-clause-asked
 returns-clause-asked g c =

@@ -11,21 +11,21 @@ returns-in_default-clause-refused g c =
 
 pub finish-lost-requires-clause-places : goal.finish-lost-requires-clause-places
 finish-lost-requires-clause-places g c =
-    both_places _ _ _ _ _ c.self.invariant _ (ended_by_giving_up _ _ c.self.invariant.sound c.in-Ok.ensures.given_up).sound
+    both_places _ _ _ _ _ c.self.invariant _ (ended_by_giving_up c.clients_keep_their_laws.ensures _ _ c.self.invariant.sound c.in-Ok.ensures.given_up).sound
 
 pub finish-lost-requires-clause-fewer : goal.finish-lost-requires-clause-fewer
-finish-lost-requires-clause-fewer g c = holds_fewer c.give_up_into.new.self _ (ended_by_giving_up _ _ c.self.invariant.sound c.in-Ok.ensures.given_up).nothing
+finish-lost-requires-clause-fewer g c = holds_fewer c.give_up_into.new.self _ (ended_by_giving_up c.clients_keep_their_laws.ensures _ _ c.self.invariant.sound c.in-Ok.ensures.given_up).nothing
 
 pub invariant_of-self-2 : goal.invariant_of-self-2
 invariant_of-self-2 g c =
     let same = c.finish-lost.ensures.same in
-    ended_member _ _ _ _ _ c.self.invariant _ (ended_by_giving_up _ _ c.self.invariant.sound c.in-Ok.ensures.given_up) c.finish-lost.new.seat same.0 same.1 c.finish-lost.ensures.held c.finish-lost.ensures.within
+    ended_member _ _ _ _ _ c.self.invariant _ (ended_by_giving_up c.clients_keep_their_laws.ensures _ _ c.self.invariant.sound c.in-Ok.ensures.given_up) c.finish-lost.new.seat same.0 same.1 c.finish-lost.ensures.held c.finish-lost.ensures.within
 
 pub returns-clause-given_up : goal.returns-clause-given_up
 returns-clause-given_up g c = (_, sym (ap (λ (m : MemberState). give_up m.requester) c.self.view_is) ∙ c.in-Ok.ensures.given_up, (refl, search rules))
 
 pub returns-clause-idle : goal.returns-clause-idle
-returns-clause-idle g c = (ended_by_giving_up _ _ c.self.invariant.sound c.in-Ok.ensures.given_up).idle
+returns-clause-idle g c = (ended_by_giving_up c.clients_keep_their_laws.ensures _ _ c.self.invariant.sound c.in-Ok.ensures.given_up).idle
 
 pub returns-clause-may : goal.returns-clause-may
 returns-clause-may g c = subst (λ (m : MemberState). is_asking m.requester.phase ≡ true) c.self.view_is (gave_up_asking _ _ c.in-Ok.ensures.given_up)

@@ -11,18 +11,18 @@ returns-in_default-clause-refused g c =
 
 pub finish-lost-requires-clause-places : goal.finish-lost-requires-clause-places
 finish-lost-requires-clause-places g c =
-    both_places _ _ _ _ _ c.self.invariant _ (ended_by_leaving _ _ c.self.invariant.sound c.in-Ok.ensures.left).sound
+    both_places _ _ _ _ _ c.self.invariant _ (ended_by_leaving c.clients_keep_their_laws.ensures _ _ c.self.invariant.sound c.in-Ok.ensures.left).sound
 
 pub finish-lost-requires-clause-fewer : goal.finish-lost-requires-clause-fewer
-finish-lost-requires-clause-fewer g c = holds_fewer c.leave_into.new.self _ (ended_by_leaving _ _ c.self.invariant.sound c.in-Ok.ensures.left).nothing
+finish-lost-requires-clause-fewer g c = holds_fewer c.leave_into.new.self _ (ended_by_leaving c.clients_keep_their_laws.ensures _ _ c.self.invariant.sound c.in-Ok.ensures.left).nothing
 
 pub invariant_of-self-2 : goal.invariant_of-self-2
 invariant_of-self-2 g c =
     let same = c.finish-lost.ensures.same in
-    ended_member _ _ _ _ _ c.self.invariant _ (ended_by_leaving _ _ c.self.invariant.sound c.in-Ok.ensures.left) c.finish-lost.new.seat same.0 same.1 c.finish-lost.ensures.held c.finish-lost.ensures.within
+    ended_member _ _ _ _ _ c.self.invariant _ (ended_by_leaving c.clients_keep_their_laws.ensures _ _ c.self.invariant.sound c.in-Ok.ensures.left) c.finish-lost.new.seat same.0 same.1 c.finish-lost.ensures.held c.finish-lost.ensures.within
 
 pub returns-clause-idle : goal.returns-clause-idle
-returns-clause-idle g c = (ended_by_leaving _ _ c.self.invariant.sound c.in-Ok.ensures.left).idle
+returns-clause-idle g c = (ended_by_leaving c.clients_keep_their_laws.ensures _ _ c.self.invariant.sound c.in-Ok.ensures.left).idle
 
 pub returns-clause-may : goal.returns-clause-may
 returns-clause-may g c = subst (λ (m : MemberState). is_inside m.requester.phase ≡ true) c.self.view_is (left_inside _ _ c.in-Ok.ensures.left)

@@ -1,6 +1,5 @@
 use Rattle.std.proofs.Common.{◌<◌, ◌^◌, true≢false, sym, ap, ◌∙◌, subst, arith}
 use Rattle.requester.specs.declared.state.ClientState.{ClientState}
-use Rattle.requester.proofs.SoundSteps.{sound-start}
 use Rattle.requester.specs.Soundness.{IsSound}
 use Rattle.requester.specs.Words.{is_idle}
 use Rattle.board.specs.Seats.{ClientSeatState as SeatState}
@@ -13,7 +12,7 @@ invariant_of-result g c =
     let id = c.client.result in
     let below : id < 64 = omega (arith, c.requires.client, c.requires.few, c.client.ensures.value) in
     record {
-      sound = subst IsSound (sym c.new.ensures) (sound-start id (2 ^ 40) below (omega arith) (omega arith));
+      sound = subst IsSound (sym c.new.ensures) (c.requesters_stay_sound.ensures.first id (2 ^ 40) below (omega arith) (omega arith));
       client = ap (λ (x : ClientState). x.id) c.new.ensures ∙ c.client.ensures.value;
       inside = c.requires.client;
       table = ap (λ (s : SeatState). s.table) c.requires.fresh;

@@ -1,5 +1,5 @@
 use Rattle.std.proofs.Common.{arith, rules}
-use Rattle.quorum_set.specs.Sets.{IsSet}
+use Rattle.numbers.specs.Sets.{IsSet}
 use Rattle.quorum_set.proofs.MaskLemmas.{IsSet-members_of, room_for, taken_more, taken_all}
 use Rattle.quorum_set.proofs.qset.QSet.members.Goals as goal
 

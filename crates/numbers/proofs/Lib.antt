@@ -1,0 +1,6 @@
+pub mod CountLemmas
+pub mod Members
+pub mod RangeSums
+pub mod SetLemmas
+pub mod SumLemmas
+pub mod Totals

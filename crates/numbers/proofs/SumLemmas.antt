@@ -1,0 +1,133 @@
+-- Sums of a function over a list, where one value of the list changes, and sums over the numbers below one.
+use Rattle.std.proofs.Common.{◌≡◌, ◌≢◌, ℕ, zero, suc, ◌+◌, ◌<◌, ◌≤◌, List, [], ◌∷◌, length, get_or, set, sym, refl, ap, ◌∙◌, arith, add-one, cond, ltb, eqb, inl, inr}
+use Rattle.std.specs.Prelude.{All}
+use Rattle.std.specs.List.{sum_by}
+use Rattle.std.proofs.lemmas.Bool.{cases_eq, eq-eqb, ne_eqb}
+use Rattle.std.proofs.lemmas.Bool.Decides.{nat_tests}
+use Rattle.std.proofs.lemmas.List.Sums.{sum_by-cons}
+use mathlib.Core.Option.{some, some-injective, some-ne-none}
+use lib.ListN.{get_elem?}
+use Rattle.numbers.specs.Counts.{times}
+use Rattle.numbers.specs.Sums.{sum_below, AreAllBelow}
+
+module _ {A : Type 0} (f : A → ℕ) where
+  -- one value changes
+  pub sum_set : (l : List A) (i : ℕ) (v w : A) → get_elem? l i ≡ some v → sum_by f (set l i w) + f v ≡ sum_by f l + f w
+  sum_set [] i v w e = absurd (some-ne-none v (sym e))
+  sum_set (x ∷ xs) zero v w e = let is : f x ≡ f v = ap f (some-injective x v e) in omega (arith, sum_by-cons f x xs, sum_by-cons f w xs)
+  sum_set (x ∷ xs) (suc i) v w e = omega (arith, sum_set xs i v w e, sum_by-cons f x xs, sum_by-cons f x (set xs i w))
+
+  -- one value is within the sum
+  pub sum_at : (l : List A) (i : ℕ) (v : A) → get_elem? l i ≡ some v → f v ≤ sum_by f l
+  sum_at [] i v e = absurd (some-ne-none v (sym e))
+  sum_at (x ∷ xs) zero v e = let is : f x ≡ f v = ap f (some-injective x v e) in omega (arith, sum_by-cons f x xs)
+  sum_at (x ∷ xs) (suc i) v e = omega (arith, sum_at xs i v e, sum_by-cons f x xs)
+
+  -- two values at different places are within the sum
+  pub sum_two : (l : List A) (i j : ℕ) (v w : A) → i ≢ j → get_elem? l i ≡ some v → get_elem? l j ≡ some w → f v + f w ≤ sum_by f l
+  sum_two [] i j v w n e d = absurd (some-ne-none v (sym e))
+  sum_two (x ∷ xs) zero zero v w n e d = absurd (n refl)
+  sum_two (x ∷ xs) zero (suc j) v w n e d = let is : f x ≡ f v = ap f (some-injective x v e) in omega (arith, sum_by-cons f x xs, sum_at xs j w d)
+  sum_two (x ∷ xs) (suc i) zero v w n e d = let is : f x ≡ f w = ap f (some-injective x w d) in omega (arith, sum_by-cons f x xs, sum_at xs i v e)
+  sum_two (x ∷ xs) (suc i) (suc j) v w n e d = omega (arith, sum_by-cons f x xs, sum_two xs i j v w (λ is. n (ap suc is)) e d)
+
+-- where f is nothing at each value of the list at which g is, and one value has all that g counts, it has all that f counts
+module _ {A : Type 0} (f g : A → ℕ) where
+  pub none_left_at : (l : List A) → ((i : ℕ) (u : A) → get_elem? l i ≡ some u → g u ≡ 0 → f u ≡ 0) → sum_by g l ≡ 0 → sum_by f l ≡ 0
+  none_left_at [] less e = refl
+  none_left_at (x ∷ xs) less e =
+      let a : g x ≡ 0 = omega (arith, sum_by-cons g x xs) in
+      let b : sum_by g xs ≡ 0 = omega (arith, sum_by-cons g x xs) in
+      omega (arith, less 0 x refl a, none_left_at xs (λ i u d. less (suc i) u d) b, sum_by-cons f x xs)
+
+  pub sum_alone_at : (l : List A) → ((i : ℕ) (u : A) → get_elem? l i ≡ some u → g u ≡ 0 → f u ≡ 0) → (i : ℕ) (v : A) → get_elem? l i ≡ some v → sum_by g l ≡ g v → sum_by f l ≡ f v
+  sum_alone_at [] less i v e h = absurd (some-ne-none v (sym e))
+  sum_alone_at (x ∷ xs) less zero v e h =
+      let is : g x ≡ g v = ap g (some-injective x v e) in
+      let is' : f x ≡ f v = ap f (some-injective x v e) in
+      let b : sum_by g xs ≡ 0 = omega (arith, sum_by-cons g x xs) in
+      omega (arith, none_left_at xs (λ i u d. less (suc i) u d) b, sum_by-cons f x xs)
+  sum_alone_at (x ∷ xs) less (suc i) v e h =
+      let within = sum_at g xs i v e in
+      let a : g x ≡ 0 = omega (arith, sum_by-cons g x xs) in
+      let b : sum_by g xs ≡ g v = omega (arith, sum_by-cons g x xs) in
+      omega (arith, less 0 x refl a, sum_alone_at xs (λ j u d. less (suc j) u d) i v e b, sum_by-cons f x xs)
+
+-- the same where f is nothing at every value at which g is
+pub none_left : {A : Type 0} (f g : A → ℕ) → ((u : A) → g u ≡ 0 → f u ≡ 0) → (l : List A) → sum_by g l ≡ 0 → sum_by f l ≡ 0
+none_left f g less l e = none_left_at f g l (λ i u d. less u) e
+
+pub sum_alone : {A : Type 0} (f g : A → ℕ) → ((u : A) → g u ≡ 0 → f u ≡ 0) → (l : List A) (i : ℕ) (v : A) → get_elem? l i ≡ some v → sum_by g l ≡ g v → sum_by f l ≡ f v
+sum_alone f g less l i v e h = sum_alone_at f g l (λ j u d. less u) i v e h
+
+-- the sum of two functions
+pub sum_plus : {A : Type 0} (f g : A → ℕ) (l : List A) → sum_by (λ x. f x + g x) l ≡ sum_by f l + sum_by g l
+sum_plus f g [] = refl
+sum_plus f g (x ∷ xs) = omega (arith, sum_plus f g xs, sum_by-cons f x xs, sum_by-cons g x xs, sum_by-cons (λ y. f y + g y) x xs)
+
+-- where each value weighs 1, the sum is the length
+pub sum_one : {A : Type 0} (l : List A) → sum_by (λ _. 1) l ≡ length l
+sum_one [] = refl
+sum_one {A} (x ∷ xs) = omega (arith, sum_one xs, sum_by-cons (λ (_ : A). 1) x xs)
+
+-- where a sum is 0, so is each part
+pub zero_at : (h : ℕ → ℕ) (xs : List ℕ) (k d : ℕ) → sum_by h xs ≡ 0 → k < length xs → h (get_or xs k d) ≡ 0
+zero_at h [] k d e lt = absurd (omega arith)
+zero_at h (x ∷ xs) zero d e lt = omega (arith, sum_by-cons h x xs)
+zero_at h (x ∷ xs) (suc k) d e lt = zero_at h xs k d (omega (arith, sum_by-cons h x xs)) (omega arith)
+
+-- one number more
+pub sum_below-next : (h : ℕ → ℕ) (n : ℕ) → sum_below h (n + 1) ≡ sum_below h n + h n
+sum_below-next h n = ap (sum_below h) (add-one n)
+
+pub sum_below-one : (n : ℕ) → sum_below (λ _. 1) n ≡ n
+sum_below-one zero = refl
+sum_below-one (suc n) = omega (arith, sum_below-one n)
+
+-- a number at or above n weighs 1, and one below nothing
+abbrev pub late : ℕ → ℕ → ℕ
+late n t = cond (ltb t n) 0 1
+
+pub below_from_late : (n t : ℕ) → late n t ≡ 0 → t < n
+below_from_late n t e = grind (arith, nat_tests)
+
+pub sum_below-late : (n m : ℕ) → m ≤ n → sum_below (late n) m ≡ 0
+sum_below-late n zero h = refl
+sum_below-late n (suc m) h =
+    let below : late n m ≡ 0 = grind (arith, nat_tests) in
+    omega (arith, sum_below-late n m (omega arith), below)
+
+-- a list that weighs nothing at or above n has its numbers below n
+pub All-from_late : (n : ℕ) (list : List ℕ) → sum_by (late n) list ≡ 0 → All (λ t. t < n) list
+All-from_late n list none = λ k d lt. below_from_late n (get_or list k d) (zero_at (late n) list k d none lt)
+
+-- a list of all numbers below n is of length n
+pub length-AreAllBelow : (list : List ℕ) (n : ℕ) → AreAllBelow list n → length list ≡ n
+length-AreAllBelow list n all = sym (sum_one list) ∙ all (λ _. 1) ∙ sum_below-one n
+
+-- its numbers are below n
+pub below_AreAllBelow : (list : List ℕ) (n : ℕ) → AreAllBelow list n → All (λ i. i < n) list
+below_AreAllBelow list n all = All-from_late n list (all (late n) ∙ sum_below-late n n (omega arith))
+
+-- the weight 1 at one number and 0 elsewhere
+sum_below-off : (i n : ℕ) → n ≤ i → sum_below (λ k. cond (eqb k i) 1 0) n ≡ 0
+sum_below-off i zero le = refl
+sum_below-off i (suc n) le =
+    let here = ap (λ b. cond {A = ℕ} b 1 0) (ne_eqb n i (λ same. omega arith)) in
+    omega (arith, sum_below-off i n (omega arith), here)
+
+sum_below-at : (i n : ℕ) → i < n → sum_below (λ k. cond (eqb k i) 1 0) n ≡ 1
+sum_below-at i zero lt = absurd (omega arith)
+sum_below-at i (suc n) lt =
+    elim (cases_eq n i) as (λ _. sum_below (λ k. cond (eqb k i) 1 0) (suc n) ≡ 1) [
+      | inl last ↦
+          let here = ap (λ b. cond {A = ℕ} b 1 0) (eq-eqb n i last) in
+          omega (arith, sum_below-off i n (omega arith), here)
+      | inr earlier ↦
+          let here = ap (λ b. cond {A = ℕ} b 1 0) (ne_eqb n i earlier) in
+          omega (arith, sum_below-at i n (omega arith), here)
+    ]
+
+-- each number below n stands once
+pub times-AreAllBelow : (list : List ℕ) (n i : ℕ) → AreAllBelow list n → i < n → times i list ≡ 1
+times-AreAllBelow list n i all lt = all (λ k. cond (eqb k i) 1 0) ∙ sum_below-at i n lt

@@ -1,0 +1,12 @@
+use Rattle.std.proofs.Common.{◌≡◌, ℕ, ◌++◌, List, length, take}
+use Rattle.texts.specs.Fields.{AllFit, fields}
+use Rattle.texts.proofs.FieldLemmas.{IsLeft}
+use Rattle.texts.proofs.words.fields.Given as goal
+
+abbrev pub invariant-loop-place : goal.invariant-loop-place
+invariant-loop-place g l = record {
+  len : length l.numbers ≡ g.row.N;
+  told : l.bytes ≡ fields (take l.place l.numbers) ++ l.rest;
+  -- whatever the bytes spell begins with what was found, and the rest spells what is left of it
+  left : (ns : List ℕ) → length ns ≡ g.row.N → AllFit ns → l.bytes ≡ fields ns → (ms : List ℕ) × IsLeft (take l.place l.numbers) l.rest ns ms;
+}
