@@ -29,15 +29,6 @@ const NUMBERS: u64 = 60;
 /// How often each number is forged.
 const ROUNDS: u32 = 8;
 
-/// What a thread does.
-#[derive(Drop)]
-enum Worker<N: ClusterName> {
-    /// Passes through the lock.
-    Passes(Member<N>),
-    /// Forges messages, starting at this number.
-    Forges(u64),
-}
-
 /// Pumps until the member is inside. Returns `false` if its turns were spent before.
 fn enters<N: ClusterName>(rt: &impl Wait, cluster: &Cluster<N>, member: &mut Member<N>) -> bool {
     for turn in 0..TURNS {
@@ -136,6 +127,24 @@ fn forges<N: ClusterName>(rt: &impl Wait, cluster: &Cluster<N>, first: u64) {
     }
 }
 
+/// Has each member pass, in a thread of its own. Returns the members.
+fn all_pass<N: ClusterName + Send + Sync, R: Threads + Wait + Sync>(
+    rt: &R,
+    cluster: &Cluster<N>,
+    mut members: Vec<Member<N>>,
+) -> Vec<Member<N>> {
+    let threads = members.len();
+    if threads > 0 {
+        thread::for_each_mut(
+            rt,
+            members.as_mut_slice(),
+            threads,
+            &|_, member: &mut Member<N>| { passes(rt, cluster, member) },
+        );
+    }
+    members
+}
+
 /// Returns the record of a cluster whose members pass while two threads forge messages, or `None`
 /// if it doesn't close.
 fn record_of<N: ClusterName + Send + Sync, R: Threads + Wait + Sync>(
@@ -146,69 +155,53 @@ fn record_of<N: ClusterName + Send + Sync, R: Threads + Wait + Sync>(
     requires { blank ≡ N.cluster }
 {
     let (cluster, members) = blank.open::<N>(alloc)?;
-    let mut workers = Vec::new(alloc);
-    for member in members {
-        workers.push(Worker::Passes(member))?;
-    }
-    workers.push(Worker::Forges(0))?;
-    workers.push(Worker::Forges(30))?;
-    let threads = workers.len();
-    if threads > 0 {
-        thread::for_each_mut(
-            rt,
-            workers.as_mut_slice(),
-            threads,
-            &|_, worker: &mut Worker<N>| {
-                match worker {
-                    Worker::Passes(member) => passes(rt, &cluster, member),
-                    Worker::Forges(first) => forges(rt, &cluster, *first),
-                }
-            },
-        );
-    }
-    let mut back = Vec::new(alloc);
-    for worker in workers {
-        if let Worker::Passes(member) = worker {
-            back.push(member)?;
+    let shared = &cluster;
+    let (members, _) = thread::join(
+        rt,
+        move || { all_pass(rt, shared, members) },
+        move || {
+            thread::join(
+                rt,
+                move || { forges(rt, shared, 0) },
+                move || { forges(rt, shared, 30) },
+            )
+        },
+    );
+    Ok(cluster.close(alloc, members).ok())
+}
+
+/// Returns whether the passes have the numbers 0, 1, 2 and so on.
+fn count_up(passes: &[(u8, u64)]) -> bool {
+    let mut next: u64 = 0;
+    for (_, number) in passes {
+        if *number != next {
+            return false;
         }
+        next = next.saturating_add(1);
     }
-    Ok(cluster.close(alloc, back).ok())
+    true
 }
 
 #[test]
 fn forged_messages_let_no_two_pass_at_once(rt: HostRuntime) -> Result<(), Fail> {
-    let alloc = rt.alloc();
-    let Some(plan) = majority_plan(alloc) else {
-        assert!(rt; false, "no plan");
-        return Ok(());
+    let Some(plan) = majority_plan(rt.alloc()) else {
+        panic!(rt; "no plan")
     };
-    let Ok(blank) = Blank::new(alloc, plan, 3, 40) else {
-        assert!(rt; false, "no cluster");
-        return Ok(());
+    let Ok(blank) = Blank::new(rt.alloc(), plan, 3, 40) else {
+        panic!(rt; "no cluster")
     };
-    let Some(record) = record_of::<Brand, _>(&rt, alloc, blank)? else {
-        assert!(rt; false, "not closed");
-        return Ok(());
-    };
-    // each pass has a number of its own, so no two were between a read and a write of the register
-    // at once
-    assert_eq!(rt; record.register, record.passes.len() as u64);
-    assert!(rt;
-        record
-            .passes
-            .iter()
-            .enumerate()
-            .all(|(place, pass)| pass.1 == place as u64)
-    );
-    assert!(rt;
-        record
-            .draws
-            .iter()
-            .enumerate()
-            .all(|(place, draw)| draw.1 == place as u64)
-    );
-    // somebody passed, and somebody lost a message
-    assert!(rt; record.register > 0);
-    assert!(rt; record.lost > 0);
+    match record_of::<Brand, _>(&rt, rt.alloc(), blank)? {
+        Some(record) => {
+            // Each pass has a number of its own, so no two were between a read and a write of the
+            // register at once. Somebody passed, and somebody lost a message.
+            assert!(rt;
+                (record.register == record.passes.len() as u64)
+                    & count_up(record.passes.as_slice())
+                    & (record.register > 0)
+                    & (record.lost > 0)
+            );
+        }
+        None => panic!(rt; "not closed"),
+    }
     Ok(())
 }

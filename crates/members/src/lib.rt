@@ -77,8 +77,6 @@
 
 mod blank;
 mod close;
-#[cfg(test)]
-mod close_tests;
 mod cluster;
 mod fault;
 #[cfg(test)]
@@ -88,8 +86,6 @@ mod laws;
 mod loss_tests;
 mod member;
 mod record;
-#[cfg(test)]
-mod tests;
 
 pub use blank::Blank;
 pub use close::CloseFault;

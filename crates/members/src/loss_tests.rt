@@ -1,22 +1,56 @@
 //! Lost messages: each is counted once, and what comes into a mailbox is not.
-ghost use Rattle.std.specs.Prelude.{◌≡◌};
+ghost use Rattle.std.specs.Prelude.{◌≡◌, ◌≤◌};
 ghost use Rattle.members.specs.Clusters.{ClusterState};
 
 use super::*;
-use crate::tests::{Act, majority_blank, plays};
 use message::{ClientBody, ToClient, ToVoter, VoterBody};
 use requester::Seen;
+use small_plans::majority_plan;
 use std::alloc::{AllocError, Global};
 use std::marker::Brand;
 use std::sync::Wait;
 use std::test::Fail;
 
+/// Creates a cluster of three voters and `clients` clients. Each client may draw four tickets.
+fn majority_blank(alloc: Global, clients: u8) -> Option<Blank>
+    requires least { 1 ≤ clients }
+    requires most { clients ≤ 64 }
+{
+    Blank::new(alloc, majority_plan(alloc)?, clients, 4).ok()
+}
+
+/// A call of a member.
+#[derive(Clone, Copy)]
+enum Call {
+    Ask,
+    Pump,
+    Remind,
+    Pass,
+    Leave,
+    GiveUp,
+}
+
 /// Client 0 asks voters 0 and 1, and is inside with both votes.
-const INSIDE: [(usize, Act); 3] = [
-    (0, Act::Ask(0, 0)),
-    (0, Act::Pump(Some(Seen::Nothing))),
-    (0, Act::Pump(Some(Seen::Entered))),
-];
+const ENTER: [Call; 3] = [Call::Ask, Call::Pump, Call::Pump];
+
+/// Makes calls of a member, whatever they return.
+fn makes<N: ClusterName>(
+    rt: &impl Wait,
+    cluster: &Cluster<N>,
+    member: &mut Member<N>,
+    calls: &[Call],
+) {
+    for call in calls {
+        match call {
+            Call::Ask => drop(member.ask(rt, cluster)),
+            Call::Pump => drop(member.pump(rt, cluster)),
+            Call::Remind => member.remind(rt, cluster),
+            Call::Pass => drop(member.pass(cluster)),
+            Call::Leave => drop(member.leave(rt, cluster)),
+            Call::GiveUp => drop(member.give_up(rt, cluster)),
+        }
+    }
+}
 
 /// Returns how many of these messages are lost when client 0 is inside, and what client 1 then
 /// finds in its mailbox.
@@ -29,14 +63,14 @@ fn sent<N: ClusterName>(
     requires { blank ≡ N.cluster }
 {
     let (cluster, mut members) = blank.open::<N>(alloc)?;
-    if plays(rt, &cluster, members.as_mut_slice(), INSIDE.as_slice()) != INSIDE.len() {
-        return Ok(None);
+    match members.first_mut() {
+        Some(member) => {
+            makes(rt, &cluster, member, ENTER.as_slice());
+            let lost = cluster.send(rt, &member.requester, &member.seat, messages);
+            Ok(Some((lost, cluster.next(rt, 1))))
+        }
+        None => Ok(None),
     }
-    let Some(member) = members.first() else {
-        return Ok(None);
-    };
-    let lost = cluster.send(rt, &member.requester, &member.seat, messages);
-    Ok(Some((lost, cluster.next(rt, 1))))
 }
 
 #[test]
@@ -76,8 +110,7 @@ fn each_lost_message_counts_once(rt: HostRuntime) -> Result<(), Fail> {
         ([taken, request, no_voter].as_slice(), 2, Some(locked)),
     ] {
         let Some(blank) = majority_blank(alloc, 2) else {
-            assert!(rt; false, "no cluster");
-            return Ok(());
+            panic!(rt; "no cluster")
         };
         let found = sent::<Brand>(&rt, alloc, blank, messages)?;
         assert_eq!(rt; found, Some((lost, came)));
@@ -85,54 +118,49 @@ fn each_lost_message_counts_once(rt: HostRuntime) -> Result<(), Fail> {
     Ok(())
 }
 
-/// Returns how many messages the first member lost after some acts. Once the first acts were
-/// played, the nodes of voters 0 and 1 are swapped, and take no more messages.
-fn lost_after<N: ClusterName>(
+/// Returns how many messages the first member lost by some calls. Once the first calls were made,
+/// the nodes of voters 0 and 1 are swapped, and take no more messages.
+fn lost_by<N: ClusterName>(
     rt: &impl Wait,
     alloc: Global,
     blank: Blank,
-    first: &[(usize, Act)],
-    then: &[(usize, Act)],
+    first: &[Call],
+    then: &[Call],
 ) -> Result<Option<u64>, AllocError>
     requires { blank ≡ N.cluster }
 {
     let (mut cluster, mut members) = blank.open::<N>(alloc)?;
-    if plays(rt, &cluster, members.as_mut_slice(), first) != first.len()
-        || cluster.nodes.len() < 2
-    {
+    let Some(member) = members.first_mut() else {
+        return Ok(None);
+    };
+    makes(rt, &cluster, member, first);
+    if cluster.nodes.len() < 2 {
         return Ok(None);
     }
     cluster.nodes.swap(0, 1);
-    if plays(rt, &cluster, members.as_mut_slice(), then) != then.len() {
-        return Ok(None);
-    }
-    Ok(members.first().map(|member| member.lost()))
+    makes(rt, &cluster, member, then);
+    Ok(Some(member.lost()))
 }
+
+/// The calls before and after the swap, and how many messages the calls after it lose.
+const LOSSES: [(&[Call], &[Call], u64); 7] = [
+    (&[], &[Call::Ask], 2),
+    (&[], &[Call::Ask, Call::Remind], 4),
+    (&[], &[Call::Ask, Call::GiveUp], 4),
+    (&ENTER, &[Call::Leave], 2),
+    (&ENTER, &[Call::Pass], 0),
+    (&ENTER, &[Call::Pump], 0),
+    (&[Call::Ask], &[Call::Pump], 0),
+];
 
 #[test]
 fn each_call_counts_what_it_lost(rt: HostRuntime) -> Result<(), Fail> {
-    let alloc = rt.alloc();
-    let ask = (0, Act::Ask(0, 0));
-    let nothing: [(usize, Act); 0] = [];
-    for (first, then, lost) in [
-        (nothing.as_slice(), [ask].as_slice(), 2),
-        (nothing.as_slice(), [ask, (0, Act::Remind)].as_slice(), 4),
-        (nothing.as_slice(), [ask, (0, Act::GiveUp)].as_slice(), 4),
-        (INSIDE.as_slice(), [(0, Act::Leave)].as_slice(), 2),
-        (INSIDE.as_slice(), [(0, Act::Pass(0))].as_slice(), 0),
-        (INSIDE.as_slice(), [(0, Act::Pump(None))].as_slice(), 0),
-        (
-            [ask].as_slice(),
-            [(0, Act::Pump(Some(Seen::Nothing)))].as_slice(),
-            0,
-        ),
-    ] {
-        let Some(blank) = majority_blank(alloc, 1) else {
-            assert!(rt; false, "no cluster");
-            return Ok(());
+    for (first, then, lost) in &LOSSES {
+        let Some(blank) = majority_blank(rt.alloc(), 1) else {
+            panic!(rt; "no cluster")
         };
-        let found = lost_after::<Brand>(&rt, alloc, blank, first, then)?;
-        assert_eq!(rt; found, Some(lost));
+        let found = lost_by::<Brand>(&rt, rt.alloc(), blank, first, then)?;
+        assert_eq!(rt; found, Some(*lost));
     }
     Ok(())
 }
@@ -157,7 +185,10 @@ fn seen_of<N: ClusterName>(
         return Ok(None);
     }
     cluster.nodes.swap(0, 1);
-    Ok(member.pump(rt, &cluster).map(|seen| (seen, member.lost())))
+    match member.pump(rt, &cluster) {
+        Some(seen) => Ok(Some((seen, member.lost()))),
+        None => Ok(None),
+    }
 }
 
 #[test]
@@ -179,8 +210,7 @@ fn a_pump_counts_what_it_lost(rt: HostRuntime) -> Result<(), Fail> {
     };
     for (message, lost) in [(told, 0), (not_offered, 1), (of_no_request, 1)] {
         let Some(blank) = majority_blank(alloc, 1) else {
-            assert!(rt; false, "no cluster");
-            return Ok(());
+            panic!(rt; "no cluster")
         };
         let found = seen_of::<Brand>(&rt, alloc, blank, message)?;
         assert_eq!(rt; found, Some((Seen::Nothing, lost)));

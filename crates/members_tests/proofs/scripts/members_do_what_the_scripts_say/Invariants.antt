@@ -1,4 +1,4 @@
-use Rattle.members.proofs.tests.three_members_on_one_thread.Given as goal
+use Rattle.members_tests.proofs.scripts.members_do_what_the_scripts_say.Given as goal
 
 abbrev pub ghosts-played : goal.ghosts-played
 ghosts-played g a = record { cluster = a.blank }

@@ -1,0 +1,345 @@
+//! Closing a cluster: worked records, and members that are missing or inside.
+ghost use Rattle.std.specs.Prelude.{◌≡◌};
+ghost use Rattle.members.specs.Clusters.{ClusterState};
+
+use crate::scripts::{Act, ENTERED, NOTHING, majority_blank, plays};
+use board::BoardFault;
+use members::{Blank, CloseFault, Cluster, ClusterFault, ClusterName, Member, RunRecord};
+use requester::Seen;
+use std::alloc::{AllocError, Global};
+use std::marker::Brand;
+use std::sync::Wait;
+use std::test::Fail;
+
+/// What a test looks at in a record: its draws, its passes and its register. No message was lost.
+struct Wanted<'a> {
+    draws: &'a [(u8, u64, usize)],
+    passes: &'a [(u8, u64)],
+    register: u64,
+}
+
+/// A script, and the record of the cluster that played it.
+const RECORDS: [(&[(usize, Act)], Wanted); 4] = [
+    (
+        &[],
+        Wanted {
+            draws: &[],
+            passes: &[],
+            register: 0,
+        },
+    ),
+    (
+        &[
+            (0, Act::Ask(0, 0)),
+            (0, NOTHING),
+            (0, ENTERED),
+            (0, Act::Pass(0)),
+            (0, Act::Pass(1)),
+            (0, Act::Leave),
+        ],
+        Wanted {
+            draws: &[(0, 0, 0)],
+            passes: &[(0, 0), (0, 1)],
+            register: 2,
+        },
+    ),
+    // draws are in the order of tickets, and passes in the order of their numbers
+    (
+        &[
+            (0, Act::Ask(0, 0)),
+            (1, Act::Ask(1, 1)),
+            (0, NOTHING),
+            (0, ENTERED),
+            (0, Act::Pass(0)),
+            (0, Act::Leave),
+            (1, NOTHING),
+            (1, NOTHING),
+            (1, ENTERED),
+            (1, Act::Pass(1)),
+            (1, Act::Leave),
+            (0, Act::Ask(2, 2)),
+            (0, NOTHING),
+            (0, ENTERED),
+            (0, Act::Pass(2)),
+            (0, Act::Leave),
+        ],
+        Wanted {
+            draws: &[(0, 0, 0), (1, 1, 1), (0, 2, 2)],
+            passes: &[(0, 0), (1, 1), (0, 2)],
+            register: 3,
+        },
+    ),
+    (
+        &[
+            (1, Act::Ask(0, 0)),
+            (1, NOTHING),
+            (1, ENTERED),
+            (1, Act::Pass(0)),
+            (1, Act::Leave),
+        ],
+        Wanted {
+            draws: &[(1, 0, 0)],
+            passes: &[(1, 0)],
+            register: 1,
+        },
+    ),
+];
+
+/// Returns whether the record is the one that is wanted.
+fn is_wanted(record: &RunRecord, wanted: &Wanted) -> bool {
+    (record.draws.as_slice() == wanted.draws)
+        & (record.passes.as_slice() == wanted.passes)
+        & (record.register == wanted.register)
+        & (record.lost == 0)
+}
+
+/// Opens a cluster, plays a script on it, closes it, and returns its record. Returns `None` if the
+/// script or the close goes wrong.
+fn recorded<N: ClusterName>(
+    rt: &impl Wait,
+    alloc: Global,
+    blank: Blank,
+    script: &[(usize, Act)],
+) -> Result<Option<RunRecord>, AllocError>
+    requires { blank ≡ N.cluster }
+{
+    let (cluster, mut members) = blank.open::<N>(alloc)?;
+    if plays(rt, &cluster, members.as_mut_slice(), script) != script.len() {
+        return Ok(None);
+    }
+    Ok(cluster.close(alloc, members).ok())
+}
+
+#[test]
+fn records_have_what_the_members_did(rt: HostRuntime) -> Result<(), Fail> {
+    for (script, wanted) in &RECORDS {
+        let Some(blank) = majority_blank(rt.alloc(), 2) else {
+            panic!(rt; "no cluster")
+        };
+        match recorded::<Brand>(&rt, rt.alloc(), blank, script)? {
+            Some(record) => assert!(rt; is_wanted(&record, wanted)),
+            None => panic!(rt; "not closed"),
+        }
+    }
+    Ok(())
+}
+
+/// How a close is tried first: not at all, or without the last member, or with all members.
+#[derive(Clone, Copy)]
+enum Attempt {
+    No,
+    WithoutTheLast,
+    WithAll,
+}
+
+/// A cluster that could not be closed, its members, and how many were missing or not idle.
+#[derive(Drop)]
+struct Unready<N: ClusterName> {
+    cluster: Cluster<N>,
+    members: Vec<Member<N>>,
+    missing: u64,
+}
+
+/// Tries to close a cluster, and returns what came back. Returns `None` if it was closed.
+fn refused<N: ClusterName>(
+    alloc: Global,
+    cluster: Cluster<N>,
+    members: Vec<Member<N>>,
+) -> Option<Unready<N>> {
+    match cluster.close(alloc, members) {
+        Err(
+            CloseFault::Unready {
+                cluster,
+                members,
+                missing,
+            },
+        ) => Some(Unready {
+            cluster,
+            members,
+            missing,
+        }),
+        _ => None,
+    }
+}
+
+/// Tries to close a cluster, and returns what came back, with all members.
+fn attempted<N: ClusterName>(
+    alloc: Global,
+    cluster: Cluster<N>,
+    mut members: Vec<Member<N>>,
+    attempt: Attempt,
+) -> Result<Option<Unready<N>>, AllocError> {
+    match attempt {
+        Attempt::No => Ok(Some(Unready {
+            cluster,
+            members,
+            missing: 0,
+        })),
+        Attempt::WithAll => Ok(refused(alloc, cluster, members)),
+        Attempt::WithoutTheLast => {
+            let last = members.pop();
+            let mut unready = refused(alloc, cluster, members);
+            if let (Some(unready), Some(last)) = (&mut unready, last) {
+                unready.members.push(last)?;
+            }
+            Ok(unready)
+        }
+    }
+}
+
+/// Has a member leave if it is inside, and take the messages that wait for it: it notes what is
+/// seen of each, and passes and leaves if it enters.
+fn hears<N: ClusterName>(
+    rt: &impl Wait,
+    cluster: &Cluster<N>,
+    member: &mut Member<N>,
+    heard: &mut Vec<(u8, Seen)>,
+) -> Result<(), AllocError> {
+    let _ = member.leave(rt, cluster);
+    for _ in 0..64 {
+        let Some(seen) = member.pump(rt, cluster) else {
+            return Ok(());
+        };
+        heard.push((member.client(), seen))?;
+        if seen == Seen::Entered {
+            let _ = member.pass(cluster);
+            let _ = member.leave(rt, cluster);
+        }
+    }
+    Ok(())
+}
+
+/// Has each of these members in turn take the messages that wait for it, until all have passed.
+/// Returns what is seen of each message, in order.
+fn heard_by_all<N: ClusterName>(
+    rt: &impl Wait,
+    alloc: Global,
+    cluster: &Cluster<N>,
+    members: &mut [Member<N>],
+) -> Result<Vec<(u8, Seen)>, AllocError> {
+    let mut heard = Vec::new(alloc);
+    for _ in 0..8 {
+        for member in members.iter_mut() {
+            hears(rt, cluster, member, &mut heard)?;
+        }
+    }
+    Ok(heard)
+}
+
+/// The result of a cluster that was closed at last: how many members were missing or not idle at
+/// the first attempt, what was seen of each message after it, and how many passes there were.
+#[derive(Drop)]
+struct Ending {
+    missing: u64,
+    heard: Vec<(u8, Seen)>,
+    passes: usize,
+}
+
+/// Plays a script, attempts to close the cluster, has all members pass, and closes it. Returns
+/// `None` if the attempt or the close went wrong.
+fn ending_of<N: ClusterName>(
+    rt: &impl Wait,
+    alloc: Global,
+    blank: Blank,
+    script: &[(usize, Act)],
+    attempt: Attempt,
+) -> Result<Option<Ending>, AllocError>
+    requires { blank ≡ N.cluster }
+{
+    let (cluster, mut members) = blank.open::<N>(alloc)?;
+    plays(rt, &cluster, members.as_mut_slice(), script);
+    let Some(mut unready) = attempted(alloc, cluster, members, attempt)? else {
+        return Ok(None);
+    };
+    let heard = heard_by_all(rt, alloc, &unready.cluster, unready.members.as_mut_slice())?;
+    match unready.cluster.close(alloc, unready.members) {
+        Ok(record) => Ok(Some(Ending {
+            missing: unready.missing,
+            heard,
+            passes: record.passes.len(),
+        })),
+        Err(_) => Ok(None),
+    }
+}
+
+/// All three members ask. Two votes wait for member 2, and behind them two messages that ask for
+/// these votes: in another order they have another effect.
+const ALL_ASK: [(usize, Act); 3] = [
+    (2, Act::Ask(0, 0)),
+    (0, Act::Ask(1, 1)),
+    (1, Act::Ask(2, 2)),
+];
+
+/// Member 0 is inside.
+const ONE_IS_INSIDE: [(usize, Act); 3] = [(0, Act::Ask(0, 0)), (0, NOTHING), (0, ENTERED)];
+
+/// Scripts and attempts, how many members are missing or not idle, and how many passes there are at
+/// the end.
+const ATTEMPTS: [(&[(usize, Act)], Attempt, u64, usize); 4] = [
+    (&ALL_ASK, Attempt::WithoutTheLast, 3, 3),
+    (&ALL_ASK, Attempt::WithAll, 3, 3),
+    (&ONE_IS_INSIDE, Attempt::WithoutTheLast, 2, 0),
+    (&ONE_IS_INSIDE, Attempt::WithAll, 1, 0),
+];
+
+/// Returns the ending of a cluster of three members.
+fn end_of(
+    rt: &impl Wait,
+    alloc: Global,
+    script: &[(usize, Act)],
+    attempt: Attempt,
+) -> Result<Option<Ending>, AllocError> {
+    let Some(blank) = majority_blank(alloc, 3) else {
+        return Ok(None);
+    };
+    ending_of::<Brand>(rt, alloc, blank, script, attempt)
+}
+
+#[test]
+fn a_cluster_that_is_not_closed_goes_on_as_it_was(rt: HostRuntime) -> Result<(), Fail> {
+    for (script, attempt, missing, passes) in &ATTEMPTS {
+        let wanted = end_of(&rt, rt.alloc(), script, Attempt::No)?;
+        let found = end_of(&rt, rt.alloc(), script, *attempt)?;
+        let (Some(wanted), Some(found)) = (wanted, found) else {
+            panic!(rt; "not handed back, or not closed")
+        };
+        assert!(rt;
+            (found.missing == *missing)
+                & (found.passes == *passes)
+                & (found.heard.as_slice() == wanted.heard.as_slice())
+        );
+    }
+    Ok(())
+}
+
+/// Returns the text of the fault when a cluster is closed after one of its members was dropped.
+fn refusal_with_one_gone<N: ClusterName>(
+    alloc: Global,
+    blank: Blank,
+) -> Result<Option<String>, AllocError>
+    requires { blank ≡ N.cluster }
+{
+    let (cluster, mut members) = blank.open::<N>(alloc)?;
+    drop(members.pop());
+    match cluster.close(alloc, members) {
+        Ok(_) => Ok(None),
+        Err(fault) => Ok(Some(format!(in alloc; "{fault}")?)),
+    }
+}
+
+#[test]
+fn a_member_that_is_gone_is_missing(rt: HostRuntime) -> Result<(), Fail> {
+    let Some(blank) = majority_blank(rt.alloc(), 3) else {
+        panic!(rt; "no cluster")
+    };
+    let text = refusal_with_one_gone::<Brand>(rt.alloc(), blank)?;
+    assert_eq!(rt; text.as_deref(), Some("K3 MembersOut 1"));
+    Ok(())
+}
+
+#[test]
+fn a_loss_prints_as_its_fault(rt: HostRuntime) -> Result<(), Fail> {
+    let lost: CloseFault<Brand> = CloseFault::Lost(ClusterFault::Board(BoardFault::VoteOut(2)));
+    assert_eq!(rt; format!(in rt.alloc(); "{lost}")?.as_str(), "B2 VoteOut 2");
+    Ok(())
+}

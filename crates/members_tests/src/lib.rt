@@ -1,0 +1,15 @@
+//! Tests of running clusters through their public calls. This crate has nothing but tests.
+//!
+//! - `scripts` plays calls of members on one thread, each with what it has to return.
+//! - `threads` has two members pass, each in a thread of its own.
+//! - `closes` closes clusters, also with a member missing or inside.
+//!
+//! What needs private items (lost and forged messages) is tested in `members` itself.
+#![tactic(auto)]
+
+#[cfg(test)]
+mod closes;
+#[cfg(test)]
+mod scripts;
+#[cfg(test)]
+mod threads;
