@@ -1,11 +1,11 @@
 -- Lemmas on sets in one word, whose bits say which numbers are members.
-use Rattle.std.proofs.Common.{◌≡◌, ℕ, zero, suc, ◌+◌, ◌-◌, ◌*◌, ◌/◌, ◌%◌, ◌^◌, ◌<◌, ◌≤◌, max, Bool, true, false, cond, not, ◌||◌, eqb, List, [], ◌∷◌, ◌++◌, length, get_or, w64, lit<, sym, refl, ap, ap₂, ◌∙◌, inl, inr, subst, add-one, arith, mod-lt, mod-eq_of_lt, length-append, append_assoc, append-nil, pow_pos}
+use Rattle.std.proofs.Common.{◌≡◌, ℕ, zero, suc, ◌+◌, ◌-◌, ◌*◌, ◌/◌, ◌%◌, ◌^◌, ◌<◌, ◌≤◌, max, Bool, true, false, cond, not, ◌&&◌, ◌||◌, eqb, List, [], ◌∷◌, ◌++◌, length, get_or, w64, lit<, sym, refl, ap, ap₂, ◌∙◌, inl, inr, subst, add-one, arith, mod-lt, mod-eq_of_lt, length-append, append_assoc, append-nil, pow_pos}
 use Rattle.std.specs.Prelude.{bit_and, bit_or, count_ones}
 use Rattle.std.specs.Int.{bit_at, bit_not, trailing_zeros}
 use Rattle.std.proofs.lemmas.Bool.{cases_lt, cases_eq, eqb-true, eq-eqb, ne_eqb, true≢false, false≢true, true_from_ne_false, not_from_false, not-true}
-use Rattle.std.proofs.lemmas.Nat.{or_lt, and_le_r, ones-le, zero_from_ones, ones_cat, div-add-mod'}
+use Rattle.std.proofs.lemmas.Nat.{or_lt, and_le_l, and_le_r, ones-le, zero_from_ones, ones_cat, div-add-mod'}
 use Rattle.std.proofs.Math.Nat.{pow-suc}
-use Rattle.std.proofs.lemmas.Nat.Bits.{bit_at-zero, bit_at_and, bit_at_or, bit_at_not, bit_at_above, bit_at-lt, bit_at_set_same, bit_at_set_other, bit_at-trailing_zeros, bit_at_cat_low, bit_at_cat_high, bit_at_ones_above, same_from_bits, same_from_bits_below, shr_and_one}
+use Rattle.std.proofs.lemmas.Nat.Bits.{bit_at-zero, bit_at_and, bit_at_or, bit_at_not, bit_at_above, bit_at-lt, bit_at_set_same, bit_at_set_other, bit_at_clear_same, bit_at_clear_other, bit_at-trailing_zeros, bit_at_cat_low, bit_at_cat_high, bit_at_ones_above, same_from_bits, same_from_bits_below, shr_and_one}
 use Rattle.std.proofs.lemmas.List.Folds.{list_any_at, Any-from_list_any}
 use Rattle.std.proofs.lemmas.List.Sums.{AllPass-from_list_all, list_all-from_AllPass}
 use Rattle.numbers.specs.Sets.{has, meet, within, union, IsSet, Ascends, set_where, members_of}
@@ -122,6 +122,25 @@ members_of-insert m i fits lt fits_new =
 
 pub word_with_bit_fits : (m x : ℕ) → m < 2 ^ 64 → bit_or m (x % 2 ^ 64) < 2 ^ 64
 word_with_bit_fits m x fits = or_lt 64 m (x % 2 ^ 64) fits (mod-lt x {m = 2 ^ 64} (lit< tt))
+
+-- one bit less
+pub members_of-remove : (m i : ℕ) → m < 2 ^ 64 → i < 64 → bit_and m (bit_not w64 (1 * 2 ^ i % 2 ^ 64)) < 2 ^ 64
+    → members_of (bit_and m (bit_not w64 (1 * 2 ^ i % 2 ^ 64))) ≡ set_where (λ j. not (eqb j i) && has (members_of m) j)
+members_of-remove m i fits lt fits_new =
+    let left = bit_and m (bit_not w64 (1 * 2 ^ i % 2 ^ 64)) in
+    is_set_where (members_of left) (λ j. not (eqb j i) && has (members_of m) j) (IsSet-members_of left) (λ j lj.
+    has-members_of left j fits_new ∙
+    elim (cases_eq j i) as (λ _. eqb (bit_at left j) 1 ≡ (not (eqb j i) && has (members_of m) j)) [
+      | inl at ↦
+          let gone : bit_at left j ≡ 0 = ap (bit_at left) at ∙ bit_at_clear_same w64 m i lt in
+          ap (λ n. eqb n 1) gone ∙ sym (ap (λ b. not b && has (members_of m) j) (eq-eqb j i at))
+      | inr off ↦
+          ap (λ n. eqb n 1) (bit_at_clear_other w64 m i lt j lj off) ∙ sym (has-members_of m j fits)
+          ∙ sym (ap (λ b. not b && has (members_of m) j) (ne_eqb j i off))
+    ])
+
+pub word_without_bit_fits : (m x : ℕ) → m < 2 ^ 64 → bit_and m x < 2 ^ 64
+word_without_bit_fits m x fits = let less = and_le_l m x in omega arith
 
 one_long : (b n : ℕ) → b < 2 → length (cond (eqb b 1) (n ∷ []) []) ≡ count_ones b
 one_long zero n lt = omega (arith, ones-le 0 0 (omega arith))
@@ -269,6 +288,11 @@ has_above_word m i s is ge = ap (λ t. has t i) (sym is) ∙ has_none_above m i 
 
 pub insert_by_word : (m i : ℕ) (s : List ℕ) → members_of m ≡ s → m < 2 ^ 64 → i < 64 → members_of (bit_or m (1 * 2 ^ i % 2 ^ 64)) ≡ set_where (λ j. eqb j i || has s j)
 insert_by_word m i s is fits lt = members_of-insert m i fits lt (word_with_bit_fits m (1 * 2 ^ i) fits) ∙ ap (λ t. set_where (λ j. eqb j i || has t j)) is
+
+pub remove_by_word : (m i : ℕ) (s : List ℕ) → members_of m ≡ s → m < 2 ^ 64 → i < 64
+    → members_of (bit_and m (bit_not w64 (1 * 2 ^ i % 2 ^ 64))) ≡ set_where (λ j. not (eqb j i) && has s j)
+remove_by_word m i s is fits lt =
+    members_of-remove m i fits lt (word_without_bit_fits m _ fits) ∙ ap (λ t. set_where (λ j. not (eqb j i) && has t j)) is
 
 pub meets_by_word : (a b : ℕ) (s t : List ℕ) → members_of a ≡ s → members_of b ≡ t → a < 2 ^ 64 → b < 2 ^ 64 → not (eqb (bit_and a b) 0) ≡ meet s t
 meets_by_word a b s t is_s is_t fits_a fits_b = meet-members_of a b fits_a fits_b ∙ ap₂ meet is_s is_t

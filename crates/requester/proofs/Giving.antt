@@ -11,19 +11,19 @@ use Rattle.requester.specs.declared.state.Seen.TheVariants.{Nothing}
 use Rattle.requester.specs.Words.{held_of, holds, last_of, is_relinquished, is_inquired}
 use Rattle.requester.specs.Soundness.{HasPlaces}
 use Rattle.requester.specs.Steps.{Outcome, silent, tell, relinquish, relinquish_if, relinquish_each}
-use Rattle.requester.proofs.Members.{all_append, all_weaker, clash, some_place}
+use Rattle.requester.proofs.Members.{all_append, all_weaker, clash, has-with_voter, has-without_voter, some_place}
 
 pub record Kept (x y : ClientState) (v : ℕ) : Type 0 where
   pub held : held_of y v ≡ held_of x v
   pub last : last_of y v ≡ last_of x v
-  pub inquired : is_inquired y v ≡ is_inquired x v
-  pub relinquished : is_relinquished y v ≡ is_relinquished x v
+  pub inquired : is_inquired y v ≡ true → is_inquired x v ≡ true
+  pub relinquished : is_relinquished y v ≡ true → is_relinquished x v ≡ true
 
 pub record Given (x y : ClientState) (v : ℕ) : Type 0 where
   pub was : holds x v ≡ true
   pub gone : held_of y v ≡ 0
   pub last : last_of y v ≡ held_of x v
-  pub inquired : is_inquired y v ≡ false
+  pub inquired : is_inquired y v ≡ true → ⊥
 
 -- the message that gives a vote back
 abbrev pub giving : ClientState → ℕ → ToVoter
@@ -57,7 +57,7 @@ gives_nothing x places = record {
   quorum = refl;
   places = places;
   seen = refl;
-  votes = λ v. inl (record { held = refl; last = refl; inquired = refl; relinquished = refl });
+  votes = λ v. inl (record { held = refl; last = refl; inquired = λ h. h; relinquished = λ h. h });
   out = tt;
 }
 
@@ -68,12 +68,12 @@ kept_kept : (x y z : ClientState) (v : ℕ) → Kept x y v → Kept y z v → Ke
 kept_kept x y z v a b = record {
   held = b.held ∙ a.held;
   last = b.last ∙ a.last;
-  inquired = b.inquired ∙ a.inquired;
-  relinquished = b.relinquished ∙ a.relinquished;
+  inquired = λ h. a.inquired (b.inquired h);
+  relinquished = λ h. a.relinquished (b.relinquished h);
 }
 
 given_kept : (x y z : ClientState) (v : ℕ) → Given x y v → Kept y z v → Given x z v
-given_kept x y z v a b = record { was = a.was; gone = b.held ∙ a.gone; last = b.last ∙ a.last; inquired = b.inquired ∙ a.inquired }
+given_kept x y z v a b = record { was = a.was; gone = b.held ∙ a.gone; last = b.last ∙ a.last; inquired = λ h. a.inquired (b.inquired h) }
 
 kept_given : (x y z : ClientState) (v : ℕ) → Kept x y v → Given y z v → Given x z v
 kept_given x y z v a b = record { was = ap (ltb 0) (sym a.held) ∙ b.was; gone = b.gone; last = b.last ∙ a.held; inquired = b.inquired }
@@ -129,12 +129,11 @@ gives_if true x v places e =
     let place : v < length x.held = some_place x.held v e in
     let h = places.held in
     let l = places.last in
-    let i = places.inquired in
     let given : Given x o.state v = record {
       was = e;
       gone = get_or-set_same x.held v 0 0 place;
       last = get_or-set_same x.last v (held_of x v) 0 (omega arith);
-      inquired = get_or-set_same x.inquired v false false (omega arith);
+      inquired = λ h. (has-without_voter x.inquired v v h).0 refl;
     } in
     record {
       id = refl;
@@ -146,9 +145,6 @@ gives_if true x v places e =
       places = record {
         held = length-set x.held v 0 ∙ places.held;
         last = length-set x.last v (held_of x v) ∙ places.last;
-        failed = places.failed;
-        relinquished = length-set x.relinquished v true ∙ places.relinquished;
-        inquired = length-set x.inquired v false ∙ places.inquired;
       };
       seen = refl;
       votes = λ u. elim (cases_eq u v) [
@@ -156,8 +152,11 @@ gives_if true x v places e =
         | inr other ↦ inl (record {
           held = get_or-set_other x.held v u 0 0 other;
           last = get_or-set_other x.last v u (held_of x v) 0 other;
-          inquired = get_or-set_other x.inquired v u false false other;
-          relinquished = get_or-set_other x.relinquished v u true false other;
+          inquired = λ h. (has-without_voter x.inquired v u h).1;
+          relinquished = λ h. elim (has-with_voter x.relinquished v u h) [
+            | inl same ↦ absurd (other same)
+            | inr was ↦ was
+          ];
         })
       ];
       out = (record { client = refl; vote = given; body = refl }, tt);

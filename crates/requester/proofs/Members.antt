@@ -1,12 +1,13 @@
--- Facts on the members of a quorum, and on lists with a place for each voter.
-use Rattle.std.proofs.Common.{◌≡◌, ℕ, zero, suc, ◌+◌, ◌<◌, ◌≤◌, Bool, true, false, ◌&&◌, ◌||◌, not, map, eqb, ltb, List, [], ◌∷◌, ◌++◌, length, get_or, replicate, refl, sym, ap, subst, ◌∙◌, inl, inr, arith}
+-- Facts on the members of a quorum, on sets of voters, and on lists with a place for each voter.
+use Rattle.std.proofs.Common.{◌≡◌, ◌≢◌, ℕ, zero, suc, ◌+◌, ◌<◌, ◌≤◌, Bool, true, false, ◌&&◌, ◌||◌, not, map, eqb, ltb, List, [], ◌∷◌, ◌++◌, length, get_or, replicate, refl, sym, ap, subst, ◌∙◌, ◌⊎◌, inl, inr, arith}
 use Rattle.std.specs.List.{AllByRecursion, IsDistinct, list_all, flat_map}
-use Rattle.std.proofs.lemmas.Bool.{false≢true, cases_lt, ne_eqb}
+use Rattle.std.proofs.lemmas.Bool.{false≢true, cases_lt, cases_eq, eq-eqb, ne_eqb}
 use Rattle.std.proofs.lemmas.Bool.Decides.{nat_tests}
 use Rattle.std.proofs.lemmas.Map.Keys.{IsDistinct-cons}
 use Rattle.std.proofs.lemmas.List.{get_or_past}
-use Rattle.numbers.specs.Sets.{has, Ascends, IsSet}
-use Rattle.numbers.proofs.SetLemmas.{has-above, length-Ascends}
+use Rattle.numbers.specs.Sets.{has, Ascends, IsSet, set_where}
+use Rattle.numbers.proofs.SetLemmas.{has-above, has-set_where, length-Ascends, IsSet-set_where}
+use Rattle.requester.specs.Words.{with_voter, without_voter}
 
 pub clash : {A : Type 0} → (b : Bool) → b ≡ true → b ≡ false → A
 clash b t f = absurd (false≢true (sym f ∙ t))
@@ -52,6 +53,30 @@ all_any p v (u ∷ us) a b =
       | false ↦ λ _ rest. all_any p v us parts.1 rest
     ] refl b
 
+-- Sets with one voter more or less
+
+pub has-with_voter : (s : List ℕ) (v u : ℕ) → has (with_voter s v) u ≡ true → (u ≡ v) ⊎ (has s u ≡ true)
+has-with_voter s v u h =
+    let p : ℕ → Bool = λ i. eqb i v || has s i in
+    let below = member_below (set_where p) u (IsSet-set_where p) h in
+    let passes : (eqb u v || has s u) ≡ true = sym (has-set_where p u below) ∙ h in
+    elim (cases_eq u v) [
+      | inl same ↦ inl same
+      | inr other ↦ inr (ap (λ b. b || has s u) (sym (ne_eqb u v other)) ∙ passes)
+    ]
+
+pub has-without_voter : (s : List ℕ) (v u : ℕ) → has (without_voter s v) u ≡ true → (u ≢ v) × (has s u ≡ true)
+has-without_voter s v u h =
+    let p : ℕ → Bool = λ i. not (eqb i v) && has s i in
+    let below = member_below (set_where p) u (IsSet-set_where p) h in
+    let passes = both (not (eqb u v)) (has s u) (sym (has-set_where p u below) ∙ h) in
+    (λ same. clash (eqb u v) (eq-eqb u v same) (negated (eqb u v) passes.0), passes.1)
+
+-- a set without a voter has the others as before
+pub has-without_voter-other : (s : List ℕ) (v u : ℕ) → u < 64 → u ≢ v → has (without_voter s v) u ≡ has s u
+has-without_voter-other s v u below other =
+    has-set_where (λ i. not (eqb i v) && has s i) u below ∙ ap (λ b. not b && has s u) (ne_eqb u v other)
+
 -- Lists of messages
 
 pub all_append : {A : Type 0} (P : A → Type 0) (xs ys : List A) → AllByRecursion P xs → AllByRecursion P ys → AllByRecursion P (xs ++ ys)
@@ -77,11 +102,6 @@ pub nothing_at : (n v : ℕ) → get_or {A = ℕ} (replicate n 0) v 0 ≡ 0
 nothing_at zero v = refl
 nothing_at (suc n) zero = refl
 nothing_at (suc n) (suc v) = nothing_at n v
-
-pub unmarked_at : (n v : ℕ) → get_or (replicate n false) v false ≡ false
-unmarked_at zero v = refl
-unmarked_at (suc n) zero = refl
-unmarked_at (suc n) (suc v) = unmarked_at n v
 
 pub some_place : (xs : List ℕ) (v : ℕ) → ltb 0 (get_or xs v 0) ≡ true → v < length xs
 some_place xs v h = elim (cases_lt v (length xs)) [

@@ -19,7 +19,7 @@ use Rattle.requester.specs.Words.{is_idle, is_asking, is_inside, members, is_mem
 use Rattle.requester.specs.Soundness.{IsHeldWell, HasPlaces, IsSound}
 use Rattle.requester.specs.RequesterContract.{Accepts}
 use Rattle.requester.specs.Steps.{Outcome, cleared, begun, asked, ask, ask_in, ask_unless, is_fresh, hold, enter_if, locked, locked_by, fail, failed, failed_by, inquire, inquired, inquired_by, see, take_body, take, released, leave, leave_in, give_up, give_up_in, Cause, Asks, Takes, Leaves, GivesUp, step, start}
-use Rattle.requester.proofs.Members.{clash, both, all_weaker, negated, member_below, all_any, nothing_at, unmarked_at}
+use Rattle.requester.proofs.Members.{clash, both, all_weaker, negated, member_below, all_any, has-with_voter, has-without_voter, nothing_at}
 use Rattle.requester.proofs.Giving.{GivesBack, IsGiving, Kept, Given, gives_one, gives_each}
 
 -- Asking is neither idle nor inside.
@@ -79,11 +79,11 @@ sound_given x o s outside k =
       ];
       inside = λ inside. clash (is_inside x.phase) (ap is_inside (sym k.phase) ∙ inside) outside;
       inquired = λ v h. elim (k.votes v) [
-        | inl kept ↦ ap (ltb 0) kept.held ∙ s.inquired v (sym kept.inquired ∙ h)
-        | inr given ↦ clash (is_inquired o.state v) h given.0.inquired
+        | inl kept ↦ ap (ltb 0) kept.held ∙ s.inquired v (kept.inquired h)
+        | inr given ↦ absurd (given.0.inquired h)
       ];
       relinquished = λ v h. elim (k.votes v) [
-        | inl kept ↦ let last = kept.last in let some = s.relinquished v (sym kept.relinquished ∙ h) in omega arith
+        | inl kept ↦ let last = kept.last in let some = s.relinquished v (kept.relinquished h) in omega arith
         | inr given ↦ let last = given.0.last in let some : 1 ≤ held_of x v = grind (arith, nat_tests) in omega arith
       ];
     }
@@ -115,34 +115,22 @@ current_busy x s e =
 -- what is held besides
 pub record HoldsMore (x y : ClientState) (v g : ℕ) : Type 0 where
   pub held : held_of y v ≡ g
-  pub inquired : is_inquired y v ≡ false
-  pub relinquished : is_relinquished y v ≡ false
   pub other_held : (u : ℕ) → u ≢ v → held_of y u ≡ held_of x u
-  pub other_inquired : (u : ℕ) → u ≢ v → is_inquired y u ≡ is_inquired x u
-  pub other_relinquished : (u : ℕ) → u ≢ v → is_relinquished y u ≡ is_relinquished x u
+  pub inquired : (u : ℕ) → is_inquired y u ≡ true → (u ≢ v) × (is_inquired x u ≡ true)
+  pub relinquished : (u : ℕ) → is_relinquished y u ≡ true → (u ≢ v) × (is_relinquished x u ≡ true)
 
 pub holds_more : (x : ClientState) (v g : ℕ) → HasPlaces x → v < 64 → HoldsMore x (hold x v g) v g
 holds_more x v g places lt =
     let h = places.held in
-    let i = places.inquired in
-    let r = places.relinquished in
     record {
       held = get_or-set_same x.held v g 0 (omega arith);
-      inquired = get_or-set_same x.inquired v false false (omega arith);
-      relinquished = get_or-set_same x.relinquished v false false (omega arith);
       other_held = λ u other. get_or-set_other x.held v u g 0 other;
-      other_inquired = λ u other. get_or-set_other x.inquired v u false false other;
-      other_relinquished = λ u other. get_or-set_other x.relinquished v u false false other;
+      inquired = λ u marked. has-without_voter x.inquired v u marked;
+      relinquished = λ u marked. has-without_voter x.relinquished v u marked;
     }
 
 places-hold : (x : ClientState) (v g : ℕ) → HasPlaces x → HasPlaces (hold x v g)
-places-hold x v g places = record {
-  held = length-set x.held v g ∙ places.held;
-  last = places.last;
-  failed = length-set x.failed v false ∙ places.failed;
-  relinquished = length-set x.relinquished v false ∙ places.relinquished;
-  inquired = length-set x.inquired v false ∙ places.inquired;
-}
+places-hold x v g places = record { held = length-set x.held v g ∙ places.held; last = places.last }
 
 -- the phase may be another one, so long as a request runs
 held-hold : (x : ClientState) (p : Phase) (v g : ℕ) → IsSound x → Counts x v g → is_idle x.phase ≡ false → is_idle p ≡ false
@@ -164,12 +152,11 @@ sound-hold : (x : ClientState) (p : Phase) (v g : ℕ) → IsSound x → Counts 
     → (is_inside p ≡ true → is_covered (hold x v g) ≡ true) → IsSound (record (hold x v g) { phase = p })
 sound-hold x p v g s c busy runs inside =
     let m = holds_more x v g s.places c.place in
-    let y = hold x v g in
     record {
       id = s.id;
       some = s.some;
       limit = s.limit;
-      places = let k = places-hold x v g s.places in record { held = k.held; last = k.last; failed = k.failed; relinquished = k.relinquished; inquired = k.inquired };
+      places = let k = places-hold x v g s.places in record { held = k.held; last = k.last };
       stamp = s.stamp;
       clock = s.clock;
       stamped = λ _. s.stamped busy;
@@ -177,14 +164,8 @@ sound-hold x p v g s c busy runs inside =
       asked = λ _. s.asked busy;
       held = held-hold x p v g s c busy runs;
       inside = inside;
-      inquired = λ u h. elim (cases_eq u v) [
-        | inl same ↦ clash (is_inquired y v) (ap (is_inquired y) (sym same) ∙ h) m.inquired
-        | inr other ↦ ap (ltb 0) (m.other_held u other) ∙ s.inquired u (sym (m.other_inquired u other) ∙ h)
-      ];
-      relinquished = λ u h. elim (cases_eq u v) [
-        | inl same ↦ clash (is_relinquished y v) (ap (is_relinquished y) (sym same) ∙ h) m.relinquished
-        | inr other ↦ s.relinquished u (sym (m.other_relinquished u other) ∙ h)
-      ];
+      inquired = λ u h. let was = m.inquired u h in ap (ltb 0) (m.other_held u was.0) ∙ s.inquired u was.1;
+      relinquished = λ u h. s.relinquished u (m.relinquished u h).1;
     }
 
 -- who does not hold a member's vote is not inside
@@ -208,13 +189,7 @@ sound-locked_by true true x v t g s c f = sound-enter _ x v g s (counts x v g s 
 pub gives-failed : (x : ClientState) (v : ℕ) → HasPlaces x → GivesBack x (failed_by true x v)
 gives-failed x v places =
     let y = fail x v in
-    let there : HasPlaces y = record {
-      held = places.held;
-      last = places.last;
-      failed = length-set x.failed v true ∙ places.failed;
-      relinquished = places.relinquished;
-      inquired = places.inquired;
-    } in
+    let there : HasPlaces y = record { held = places.held; last = places.last } in
     let k = gives_each y (filter (is_inquired y) (members y)) there in
     let o = failed_by true x v in
     record {
@@ -251,7 +226,7 @@ sound-inquire x v s h =
       id = s.id;
       some = s.some;
       limit = s.limit;
-      places = record { held = p.held; last = p.last; failed = p.failed; relinquished = p.relinquished; inquired = length-set x.inquired v true ∙ p.inquired };
+      places = record { held = p.held; last = p.last };
       stamp = s.stamp;
       clock = s.clock;
       stamped = s.stamped;
@@ -259,9 +234,9 @@ sound-inquire x v s h =
       asked = s.asked;
       held = λ u e. let w = s.held u e in record { busy = w.busy; member = w.member; fresh = w.fresh };
       inside = s.inside;
-      inquired = λ u e. elim (cases_eq u v) [
+      inquired = λ u e. elim (has-with_voter x.inquired v u e) [
         | inl same ↦ ap (holds x) same ∙ h
-        | inr other ↦ s.inquired u (sym (get_or-set_other x.inquired v u true false other) ∙ e)
+        | inr was ↦ s.inquired u was
       ];
       relinquished = s.relinquished;
     }
@@ -287,7 +262,7 @@ sound-see x t s =
       id = s.id;
       some = s.some;
       limit = s.limit;
-      places = record { held = p.held; last = p.last; failed = p.failed; relinquished = p.relinquished; inquired = p.inquired };
+      places = record { held = p.held; last = p.last };
       stamp = s.stamp;
       clock = omega arith;
       stamped = s.stamped;
@@ -306,13 +281,10 @@ sound-take x m s = sound-body (see x m.seen) m.voter m.body (sound-see x m.seen 
 -- Calls
 
 pub places-cleared : (x : ClientState) → HasPlaces x → HasPlaces (cleared x)
-places-cleared x p = record { held = refl; last = p.last; failed = refl; relinquished = refl; inquired = refl }
+places-cleared x p = record { held = refl; last = p.last }
 
 nothing_held : {A : Type 0} (x : ClientState) (v : ℕ) → holds (cleared x) v ≡ true → A
 nothing_held x v h = clash (holds (cleared x) v) h (ap (ltb 0) (nothing_at 64 v))
-
-nothing_marked : {A : Type 0} (x : ClientState) (v : ℕ) → is_inquired (cleared x) v ≡ true → A
-nothing_marked x v h = clash (is_inquired (cleared x) v) h (unmarked_at 64 v)
 
 sound-asked : (x : ClientState) (q : List ℕ) → IsSound x → IsSet q → 1 ≤ length q → x.clock < x.limit → IsSound (begun x q)
 sound-asked x q s set some room =
@@ -321,7 +293,7 @@ sound-asked x q s set some room =
       id = s.id;
       some = s.some;
       limit = s.limit;
-      places = record { held = p.held; last = p.last; failed = p.failed; relinquished = p.relinquished; inquired = p.inquired };
+      places = record { held = p.held; last = p.last };
       stamp = omega arith;
       clock = omega arith;
       stamped = λ _. omega arith;
@@ -329,8 +301,8 @@ sound-asked x q s set some room =
       asked = λ _. some;
       held = λ v h. nothing_held x v h;
       inside = λ inside. clash false inside refl;
-      inquired = λ v h. nothing_marked x v h;
-      relinquished = λ v h. nothing_marked x v h;
+      inquired = λ v h. clash false h refl;
+      relinquished = λ v h. clash false h refl;
     }
 
 sound-released : (x : ClientState) (seen : Seen) → IsSound x → IsSound (released x seen).state
@@ -340,7 +312,7 @@ sound-released x seen s =
       id = s.id;
       some = s.some;
       limit = s.limit;
-      places = record { held = p.held; last = p.last; failed = p.failed; relinquished = p.relinquished; inquired = p.inquired };
+      places = record { held = p.held; last = p.last };
       stamp = s.stamp;
       clock = s.clock;
       stamped = λ busy. clash true refl busy;
@@ -348,8 +320,8 @@ sound-released x seen s =
       asked = λ busy. clash true refl busy;
       held = λ v h. nothing_held x v h;
       inside = λ inside. clash false inside refl;
-      inquired = λ v h. nothing_marked x v h;
-      relinquished = λ v h. nothing_marked x v h;
+      inquired = λ v h. clash false h refl;
+      relinquished = λ v h. clash false h refl;
     }
 
 -- An answered call
@@ -417,7 +389,7 @@ sound-start id limit small some most =
       id = small;
       some = some;
       limit = most;
-      places = record { held = refl; last = refl; failed = refl; relinquished = refl; inquired = refl };
+      places = record { held = refl; last = refl };
       stamp = omega arith;
       clock = omega arith;
       stamped = λ busy. clash true refl busy;
@@ -425,6 +397,6 @@ sound-start id limit small some most =
       asked = λ busy. clash true refl busy;
       held = λ v h. clash (holds x v) h (ap (ltb 0) (nothing_at 64 v));
       inside = λ inside. clash false inside refl;
-      inquired = λ v h. clash (is_inquired x v) h (unmarked_at 64 v);
-      relinquished = λ v h. clash (is_relinquished x v) h (unmarked_at 64 v);
+      inquired = λ v h. clash false h refl;
+      relinquished = λ v h. clash false h refl;
     }

@@ -11,13 +11,10 @@ pub record IsHeldWell (x : ClientState) (voter : ℕ) : Type 0 where
   pub member : is_member x voter ≡ true
   pub fresh : last_of x voter < held_of x voter
 
--- the state has an entry for each of 64 voters
+-- each of the two maps has an entry for each of 64 voters
 pub record HasPlaces (x : ClientState) : Type 0 where
   pub held : length x.held ≡ 64
   pub last : length x.last ≡ 64
-  pub failed : length x.failed ≡ 64
-  pub relinquished : length x.relinquished ≡ 64
-  pub inquired : length x.inquired ≡ 64
 
 -- what holds of a client after any steps
 pub record IsSound (x : ClientState) : Type 0 where

@@ -16,7 +16,7 @@ use Rattle.requester.specs.declared.state.Phase.TheVariants.{Idle, Asking, Insid
 use Rattle.requester.specs.declared.state.Seen.{Seen}
 use Rattle.requester.specs.declared.state.Seen.TheVariants.{Nothing, Entered, Left}
 use Rattle.requester.specs.declared.state.ClientState.{ClientState}
-use Rattle.requester.specs.Words.{members, is_member, is_current, is_asking, is_spent, held_of, holds, holds_under, is_covered, last_of, is_relinquished, is_inquired, is_hindered}
+use Rattle.requester.specs.Words.{members, is_member, is_current, is_asking, is_spent, held_of, holds, holds_under, is_covered, last_of, is_relinquished, is_inquired, is_hindered, with_voter, without_voter}
 
 -- what is sent, in order, what is seen, and the client afterwards
 pub record Outcome : Type 0 where
@@ -40,9 +40,9 @@ tell_members x body = map (λ v. tell x v body) (members x)
 abbrev pub cleared : ClientState → ClientState
 cleared x = record x {
   held = replicate 64 0;
-  failed = replicate 64 false;
-  relinquished = replicate 64 false;
-  inquired = replicate 64 false;
+  failed = [];
+  relinquished = [];
+  inquired = [];
 }
 
 -- Asking
@@ -91,8 +91,8 @@ relinquish_if true x voter = record {
   state = record x {
     held = slice_set x.held voter 0;
     last = slice_set x.last voter (held_of x voter);
-    inquired = slice_set x.inquired voter false;
-    relinquished = slice_set x.relinquished voter true;
+    inquired = without_voter x.inquired voter;
+    relinquished = with_voter x.relinquished voter;
   };
 }
 
@@ -133,9 +133,9 @@ is_fresh x voter grant = is_member x voter && not (holds x voter) && nat_lt (las
 abbrev pub hold : ClientState → ℕ → ℕ → ClientState
 hold x voter grant = record x {
   held = slice_set x.held voter grant;
-  failed = slice_set x.failed voter false;
-  relinquished = slice_set x.relinquished voter false;
-  inquired = slice_set x.inquired voter false;
+  failed = without_voter x.failed voter;
+  relinquished = without_voter x.relinquished voter;
+  inquired = without_voter x.inquired voter;
 }
 
 -- the client enters if it holds the vote of each member
@@ -160,7 +160,7 @@ locked x voter stamp grant = locked_by (is_current x stamp) (is_fresh x voter gr
 
 -- the voter is marked as failed: it sent FAIL
 abbrev pub fail : ClientState → ℕ → ClientState
-fail x voter = record x { failed = slice_set x.failed voter true }
+fail x voter = record x { failed = with_voter x.failed voter }
 
 -- By whether the message counts. If it does, the request can't win yet, so votes that were asked
 -- for are given back.
@@ -176,7 +176,7 @@ failed x voter stamp = failed_by (is_asking x.phase && stamp == x.stamp && is_me
 
 -- the voter is marked as asking for its vote
 abbrev pub inquire : ClientState → ℕ → ClientState
-inquire x voter = record x { inquired = slice_set x.inquired voter true }
+inquire x voter = record x { inquired = with_voter x.inquired voter }
 
 -- By whether the message counts, and whether the request can't win yet. If it can't, the vote is
 -- given back. If it still may, the vote is kept. If the client is inside, the RELEASE when it
@@ -303,7 +303,7 @@ start id limit = record {
   quorum = record { items = [] };
   held = replicate 64 0;
   last = replicate 64 0;
-  failed = replicate 64 false;
-  relinquished = replicate 64 false;
-  inquired = replicate 64 false;
+  failed = [];
+  relinquished = [];
+  inquired = [];
 }

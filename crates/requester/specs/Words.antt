@@ -1,7 +1,7 @@
 -- What a client knows of its request, of each voter's vote, and of each voter.
-use Rattle.std.specs.Prelude.{ℕ, nat_lt, nat_le, ◌==◌, Bool, true, false, ◌&&◌, ◌||◌, not, List, Option, Some, None, slice_index, slice_index_or}
+use Rattle.std.specs.Prelude.{ℕ, nat_lt, nat_le, ◌==◌, Bool, true, false, ◌&&◌, ◌||◌, not, List, Option, Some, None, slice_index}
 use Rattle.std.specs.List.{list_all, list_any}
-use Rattle.numbers.specs.Sets.{has}
+use Rattle.numbers.specs.Sets.{has, set_where}
 use Rattle.requester.specs.declared.state.Phase.{Phase}
 use Rattle.requester.specs.declared.state.Phase.TheVariants.{Idle, Asking, Inside}
 use Rattle.requester.specs.declared.state.ClientState.{ClientState}
@@ -74,19 +74,27 @@ is_covered x = list_all (holds x) (members x)
 abbrev pub last_of : ClientState → ℕ → ℕ
 last_of x voter = slice_index x.last voter
 
--- Voters: three sets
+-- Voters: three sets, each the list of its members in ascending order
+
+-- the set with this voter added
+abbrev pub with_voter : List ℕ → ℕ → List ℕ
+with_voter s voter = set_where (λ v. (v == voter) || has s v)
+
+-- the set without this voter
+abbrev pub without_voter : List ℕ → ℕ → List ℕ
+without_voter s voter = set_where (λ v. not (v == voter) && has s v)
 
 -- whether the voter said that another request precedes this one
 abbrev pub is_failed : ClientState → ℕ → Bool
-is_failed x voter = slice_index_or x.failed voter false
+is_failed x voter = has x.failed voter
 
 -- whether the voter's vote was given back
 abbrev pub is_relinquished : ClientState → ℕ → Bool
-is_relinquished x voter = slice_index_or x.relinquished voter false
+is_relinquished x voter = has x.relinquished voter
 
 -- whether the voter asked for its vote back
 abbrev pub is_inquired : ClientState → ℕ → Bool
-is_inquired x voter = slice_index_or x.inquired voter false
+is_inquired x voter = has x.inquired voter
 
 -- whether a member failed or has its vote back, so that the request can't win yet
 abbrev pub is_hindered : ClientState → Bool

@@ -51,9 +51,9 @@ impl Requester {
                 quorum: ArrayVec::new(),
                 held: [0; 64],
                 last: [0; 64],
-                failed: [false; 64],
-                relinquished: [false; 64],
-                inquired: [false; 64],
+                failed: QSet::empty(),
+                relinquished: QSet::empty(),
+                inquired: QSet::empty(),
             },
         }
     }

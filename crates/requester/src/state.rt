@@ -51,7 +51,7 @@ pub struct Reply {
     pub seen: Seen,
 }
 
-/// What a client knows. The arrays have an entry for each voter.
+/// What a client knows. The arrays have an entry for each voter, and the sets are of voters.
 #[derive(Drop)]
 pub struct ClientState {
     /// The client's number.
@@ -70,12 +70,12 @@ pub struct ClientState {
     pub held: [u64; 64],
     /// The last grant that was given back to the voter, over all requests, 0 at first.
     pub last: [u64; 64],
-    /// Whether the voter sent FAIL for the current request.
-    pub failed: [bool; 64],
-    /// Whether the voter's vote was given back for the current request.
-    pub relinquished: [bool; 64],
-    /// Whether the voter asked for its vote, which is held.
-    pub inquired: [bool; 64],
+    /// The voters that sent FAIL for the current request.
+    pub failed: QSet,
+    /// The voters whose votes were given back for the current request.
+    pub relinquished: QSet,
+    /// The voters that asked for their votes, which are held.
+    pub inquired: QSet,
 }
 
 impl ClientState {
@@ -150,7 +150,6 @@ impl ClientState {
     }
 
     fn is_covered(&self) -> bool
-        requires voters { AllByRecursion (λ v. v < 64) self.now.quorum.items }
         ensures { result ≡ is_covered self.now }
     {
         for v in self.quorum.as_slice() {
@@ -162,11 +161,10 @@ impl ClientState {
     }
 
     fn is_hindered(&self) -> bool
-        requires voters { AllByRecursion (λ v. v < 64) self.now.quorum.items }
         ensures { result ≡ is_hindered self.now }
     {
         for v in self.quorum.as_slice() {
-            if self.failed[*v as usize] || self.relinquished[*v as usize] {
+            if self.failed.has(*v) || self.relinquished.has(*v) {
                 return true;
             }
         }
@@ -178,9 +176,9 @@ impl ClientState {
         ensures { self.new ≡ cleared self.old }
     {
         self.held = [0; 64];
-        self.failed = [false; 64];
-        self.relinquished = [false; 64];
-        self.inquired = [false; 64];
+        self.failed = QSet::empty();
+        self.relinquished = QSet::empty();
+        self.inquired = QSet::empty();
     }
 
     /// Returns why `ask` would fail, if it would.
@@ -231,8 +229,8 @@ impl ClientState {
             let grant = self.held[place];
             self.held[place] = 0;
             self.last[place] = grant;
-            self.inquired[place] = false;
-            self.relinquished[place] = true;
+            self.inquired.remove(voter);
+            self.relinquished.insert(voter);
             out.push(self.tell(voter, VoterBody::Relinquish { grant }));
         }
     }
@@ -245,7 +243,7 @@ impl ClientState {
         ensures out { out.new.items ≡ out.old.items ++ (relinquish_marked self.old voter).out }
         ensures len { array_vec_len out.new ≤ array_vec_len out.old + 1 }
     {
-        if self.inquired[voter as usize] {
+        if self.inquired.has(voter) {
             self.relinquish(voter, out);
         }
     }
@@ -269,17 +267,15 @@ impl ClientState {
         requires { voter < 64 }
         ensures { self.new ≡ hold self.old voter grant }
     {
-        let place = voter as usize;
-        self.held[place] = grant;
-        self.failed[place] = false;
-        self.relinquished[place] = false;
-        self.inquired[place] = false;
+        self.held[voter as usize] = grant;
+        self.failed.remove(voter);
+        self.relinquished.remove(voter);
+        self.inquired.remove(voter);
     }
 
     #[tactic(auto, unfolding(crate::specs::Steps::locked))]
     fn locked(&mut self, voter: u8, stamp: u64, grant: u64, out: &mut Messages) -> Seen
         requires voter { voter < 64 }
-        requires voters { AllByRecursion (λ v. v < 64) self.old.quorum.items }
         requires room { out.old.items ≡ [] }
         ensures state { self.new ≡ (locked self.old voter stamp grant).state }
         ensures out { out.new.items ≡ (locked self.old voter stamp grant).out }
@@ -314,7 +310,7 @@ impl ClientState {
             && self.is_member(voter)
             && !self.holds(voter)
         {
-            self.failed[voter as usize] = true;
+            self.failed.insert(voter);
             self.relinquish_inquired(out);
         }
     }
@@ -322,7 +318,6 @@ impl ClientState {
     #[tactic(auto, unfolding(crate::specs::Steps::inquired))]
     fn inquired(&mut self, voter: u8, grant: u64, out: &mut Messages)
         requires voter { voter < 64 }
-        requires voters { AllByRecursion (λ v. v < 64) self.old.quorum.items }
         requires room { out.old.items ≡ [] }
         ensures state { self.new ≡ (inquired self.old voter grant).state }
         ensures out { out.new.items ≡ (inquired self.old voter grant).out }
@@ -331,7 +326,7 @@ impl ClientState {
             if self.is_hindered() {
                 self.relinquish(voter, out);
             } else {
-                self.inquired[voter as usize] = true;
+                self.inquired.insert(voter);
             }
         }
     }
@@ -459,9 +454,8 @@ impl ClientState {
         if self.holds(voter) {
             return;
         }
-        let place = voter as usize;
-        if self.relinquished[place] {
-            let grant = self.last[place];
+        if self.relinquished.has(voter) {
+            let grant = self.last[voter as usize];
             out.push(self.tell(voter, VoterBody::Relinquish { grant }));
         }
         out.push(self.tell(voter, VoterBody::Request { stamp: self.stamp }));

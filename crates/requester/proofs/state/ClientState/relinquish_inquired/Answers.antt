@@ -19,17 +19,18 @@ loop-i-preserved c =
     let cut : drop c.loop-i.i items ≡ v ∷ rest = drop_more items c.loop-i.i 0 within ∙ ap (λ (u : ℕ). u ∷ rest) v_is in
     let apart = subst (IsDistinct eqb) cut inv.apart in
     let others = IsDistinct-head eqb v rest apart in
+    let below = (subst (AllByRecursion (λ u. u < 64)) cut inv.small).1 in
     let after = c.relinquish_marked.ensures.state in
     record {
       same = ap (λ (s : ClientState). s.quorum) after ∙ quorum_marked self v ∙ inv.same;
-      small = (subst (AllByRecursion (λ u. u < 64)) cut inv.small).1;
+      small = below;
       apart = IsDistinct-tail eqb v rest apart;
-      state = ap (λ (s : ClientState). (relinquish_inquired s rest).state) after ∙ sym (rest_state self v rest others)
+      state = ap (λ (s : ClientState). (relinquish_inquired s rest).state) after ∙ sym (rest_state self v rest below others)
           ∙ ap (λ (vs : List ℕ). (relinquish_inquired self vs).state) (sym cut) ∙ inv.state;
       out = ap (λ (s : ClientState). c.relinquish_marked.new.out.items ++ (relinquish_inquired s rest).out) after
           ∙ ap (λ o. o ++ (relinquish_inquired (relinquish_marked self v).state rest).out) c.relinquish_marked.ensures.out
           ∙ append_assoc c.loop-i.out.items (relinquish_marked self v).out (relinquish_inquired (relinquish_marked self v).state rest).out
-          ∙ ap (λ o. c.loop-i.out.items ++ o) (sym (rest_out self v rest others))
+          ∙ ap (λ o. c.loop-i.out.items ++ o) (sym (rest_out self v rest below others))
           ∙ ap (λ (vs : List ℕ). c.loop-i.out.items ++ (relinquish_inquired self vs).out) (sym cut) ∙ inv.out;
       len = omega arith;
     }
