@@ -28,66 +28,66 @@ outcome out seen y = record { out = out; seen = seen; state = y }
 abbrev pub Refused : ClientState → ClientState → List ToVoter → Result Outcome ClientFault → ClientFault → Type 0
 Refused x y out wanted f = (wanted ≡ Err f) × (y ≡ x) × (out ≡ [])
 
-after_call : (x y : ClientState) (out : List ToVoter) (cause : Cause) (r : Result Seen ClientFault) → IsSound x → IfOk r (λ _. Accepts x cause)
+same_client-step : (x y : ClientState) (out : List ToVoter) (cause : Cause) (r : Result Seen ClientFault) → IsSound x → IfOk r (λ _. Accepts x cause)
     → IfOk r (λ a. step x cause ≡ Ok (outcome out a y)) → IfErr r (Refused x y out (step x cause)) → IsSameClient x y
-after_call x y out cause (Ok a) s accepts done refused =
+same_client-step x y out cause (Ok a) s accepts done refused =
     let k = met-step x cause (outcome out a y) s accepts done in
     record { sound = sound-step x cause (outcome out a y) s accepts done; id = k.id; limit = k.limit }
-after_call x y out cause (Err f) s accepts done refused = subst (IsSameClient x) (sym refused.1) (record { sound = s; id = refl; limit = refl })
+same_client-step x y out cause (Err f) s accepts done refused = subst (IsSameClient x) (sym refused.1) (record { sound = s; id = refl; limit = refl })
 
-with_some : (q : List ℕ) (r : Result Seen ClientFault) → 1 ≤ length q → IfOk r (λ _. IsSet q) → IfOk r (λ _. IsSet q × (1 ≤ length q))
-with_some q (Ok a) some set = (set, some)
-with_some q (Err f) some set = tt
+IfOk-with_some : (q : List ℕ) (r : Result Seen ClientFault) → 1 ≤ length q → IfOk r (λ _. IsSet q) → IfOk r (λ _. IsSet q × (1 ≤ length q))
+IfOk-with_some q (Ok a) some set = (set, some)
+IfOk-with_some q (Err f) some set = tt
 
-accepted : (x : ClientState) (cause : Cause) (r : Result Seen ClientFault) → Accepts x cause → IfOk r (λ _. Accepts x cause)
-accepted x cause (Ok a) k = k
-accepted x cause (Err f) k = tt
+IfOk-Accepts : (x : ClientState) (cause : Cause) (r : Result Seen ClientFault) → Accepts x cause → IfOk r (λ _. Accepts x cause)
+IfOk-Accepts x cause (Ok a) k = k
+IfOk-Accepts x cause (Err f) k = tt
 
-pub after_ask : (x y : ClientState) (out : List ToVoter) (q : List ℕ) (r : Result Seen ClientFault) → IsSound x → 1 ≤ length q → IfOk r (λ _. IsSet q)
+pub same_client-ask : (x y : ClientState) (out : List ToVoter) (q : List ℕ) (r : Result Seen ClientFault) → IsSound x → 1 ≤ length q → IfOk r (λ _. IsSet q)
     → IfOk r (λ a. ask x q ≡ Ok (outcome out a y)) → IfErr r (Refused x y out (ask x q)) → IsSameClient x y
 unfolding step
-after_ask x y out q r s some set asked refused = after_call x y out (Asks q) r s (with_some q r some set) asked refused
+same_client-ask x y out q r s some set asked refused = same_client-step x y out (Asks q) r s (IfOk-with_some q r some set) asked refused
 
-pub after_leave : (x y : ClientState) (out : List ToVoter) (r : Result Seen ClientFault) → IsSound x
+pub same_client-leave : (x y : ClientState) (out : List ToVoter) (r : Result Seen ClientFault) → IsSound x
     → IfOk r (λ a. leave x ≡ Ok (outcome out a y)) → IfErr r (Refused x y out (leave x)) → IsSameClient x y
 unfolding step
-after_leave x y out r s left refused = after_call x y out Leaves r s (accepted x Leaves r tt) left refused
+same_client-leave x y out r s left refused = same_client-step x y out Leaves r s (IfOk-Accepts x Leaves r tt) left refused
 
-pub after_give_up : (x y : ClientState) (out : List ToVoter) (r : Result Seen ClientFault) → IsSound x
+pub same_client-give_up : (x y : ClientState) (out : List ToVoter) (r : Result Seen ClientFault) → IsSound x
     → IfOk r (λ a. give_up x ≡ Ok (outcome out a y)) → IfErr r (Refused x y out (give_up x)) → IsSameClient x y
 unfolding step
-after_give_up x y out r s given_up refused = after_call x y out GivesUp r s (accepted x GivesUp r tt) given_up refused
+same_client-give_up x y out r s given_up refused = same_client-step x y out GivesUp r s (IfOk-Accepts x GivesUp r tt) given_up refused
 
-pub after_take : (x y : ClientState) (m : ToClient) (out : List ToVoter) (seen : Seen) → IsSound x → take x m ≡ outcome out seen y → IsSameClient x y
-after_take x y m out seen s e =
+pub same_client-take : (x y : ClientState) (m : ToClient) (out : List ToVoter) (seen : Seen) → IsSound x → take x m ≡ outcome out seen y → IsSameClient x y
+same_client-take x y m out seen s e =
     let k = met-take x m s in
     let state = ap (λ (o : Outcome). o.state) e in
     subst (IsSameClient x) state (record { sound = sound-take x m s; id = k.id; limit = k.limit })
 
 -- FAIL and INQUIRE let nothing be seen
 
-quiet_if : (b : Bool) (x : ClientState) (v : ℕ) → (relinquish_if b x v).seen ≡ Nothing
-quiet_if false x v = refl
-quiet_if true x v = refl
+seen-relinquish_if : (b : Bool) (x : ClientState) (v : ℕ) → (relinquish_if b x v).seen ≡ Nothing
+seen-relinquish_if false x v = refl
+seen-relinquish_if true x v = refl
 
-quiet_each : (x : ClientState) (vs : List ℕ) → (relinquish_each x vs).seen ≡ Nothing
-quiet_each x [] = refl
-quiet_each x (v ∷ vs) = refl
+seen-relinquish_each : (x : ClientState) (vs : List ℕ) → (relinquish_each x vs).seen ≡ Nothing
+seen-relinquish_each x [] = refl
+seen-relinquish_each x (v ∷ vs) = refl
 
-quiet-failed_by : (b : Bool) (x : ClientState) (v : ℕ) → (failed_by b x v).seen ≡ Nothing
-quiet-failed_by false x v = refl
-quiet-failed_by true x v = quiet_each _ _
+seen-failed_by : (b : Bool) (x : ClientState) (v : ℕ) → (failed_by b x v).seen ≡ Nothing
+seen-failed_by false x v = refl
+seen-failed_by true x v = seen-relinquish_each _ _
 
-pub quiet-failed : (x : ClientState) (v t : ℕ) → (failed x v t).seen ≡ Nothing
+pub seen-failed : (x : ClientState) (v t : ℕ) → (failed x v t).seen ≡ Nothing
 unfolding failed
-quiet-failed x v t = quiet-failed_by _ x v
+seen-failed x v t = seen-failed_by _ x v
 
-quiet-inquired_by : (b hindered : Bool) (x : ClientState) (v : ℕ) → (inquired_by b hindered x v).seen ≡ Nothing
+seen-inquired_by : (b hindered : Bool) (x : ClientState) (v : ℕ) → (inquired_by b hindered x v).seen ≡ Nothing
 unfolding relinquish
-quiet-inquired_by false hindered x v = refl
-quiet-inquired_by true false x v = refl
-quiet-inquired_by true true x v = quiet_if (holds x v) x v
+seen-inquired_by false hindered x v = refl
+seen-inquired_by true false x v = refl
+seen-inquired_by true true x v = seen-relinquish_if (holds x v) x v
 
-pub quiet-inquired : (x : ClientState) (v g : ℕ) → (inquired x v g).seen ≡ Nothing
+pub seen-inquired : (x : ClientState) (v g : ℕ) → (inquired x v g).seen ≡ Nothing
 unfolding inquired
-quiet-inquired x v g = quiet-inquired_by _ _ x v
+seen-inquired x v g = seen-inquired_by _ _ x v

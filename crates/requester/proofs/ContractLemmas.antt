@@ -18,68 +18,68 @@ use Rattle.requester.specs.Words.{is_idle, is_inside, members, is_current, held_
 use Rattle.requester.specs.Soundness.{IsSound}
 use Rattle.requester.specs.RequesterContract.{Accepts, IsLive, IsLocked, Locks, Sees, KeepsQuorum, Says, MeetsContract, Repeats, AllRepeat}
 use Rattle.requester.specs.Steps.{Outcome, silent, cleared, begun, asked, tell, is_fresh, hold, enter_if, locked, locked_by, failed, failed_by, inquired, inquired_by, see, take_body, take, released, Cause, Asks, Takes, Leaves, GivesUp, step, remind, remind_in, remind_by, remind_member}
-use Rattle.requester.proofs.Members.{clash, both, all_weaker, all_told, all_told_each, nothing_at}
-use Rattle.requester.proofs.Giving.{GivesBack, IsGiving, Given, gives_nothing, gives_one}
-use Rattle.requester.proofs.SoundSteps.{Counts, counts, current_busy, holds_more, not_inside, gives-failed, asking_outside, sound-see, same_Ok, ask_done, leave_done, give_up_done}
+use Rattle.requester.proofs.Members.{absurd-true_false, both_true-from_and, AllByRecursion-weaker, AllByRecursion-map_members, AllByRecursion-flat_map_members, get_or-zeros}
+use Rattle.requester.proofs.Giving.{GivesBack, IsGiving, Given, GivesBack-silent, GivesBack-relinquish}
+use Rattle.requester.proofs.SoundSteps.{Counts, Counts-is_fresh, is_current-busy, HoldsMore-hold, is_inside-from_Counts, GivesBack-failed_by, is_asking-outside, sound-see, Ok-same, ask-Ok, leave-Ok, give_up-Ok}
 
 -- Steps that give votes back
 
-under : (x : ClientState) (v g : ℕ) → holds_under x v g ≡ true → (holds x v ≡ true) × (held_of x v ≡ g)
-under x v g e = let p = both (holds x v) (held_of x v == g) e in (p.0, grind (arith, nat_tests))
+holds_under-parts : (x : ClientState) (v g : ℕ) → holds_under x v g ≡ true → (holds x v ≡ true) × (held_of x v ≡ g)
+holds_under-parts x v g e = let p = both_true-from_and (holds x v) (held_of x v == g) e in (p.0, grind (arith, nat_tests))
 
-under_of : (x : ClientState) (v g : ℕ) → holds x v ≡ true → held_of x v ≡ g → holds_under x v g ≡ true
-under_of x v g h e = grind (arith, nat_tests)
+holds_under-from_parts : (x : ClientState) (v g : ℕ) → holds x v ≡ true → held_of x v ≡ g → holds_under x v g ≡ true
+holds_under-from_parts x v g h e = grind (arith, nat_tests)
 
-same_under : (x y : ClientState) (v g : ℕ) → held_of y v ≡ held_of x v → holds_under y v g ≡ true → holds_under x v g ≡ true
-same_under x y v g same h = ap (λ n. ltb 0 n && eqb n g) (sym same) ∙ h
+holds_under-same_held : (x y : ClientState) (v g : ℕ) → held_of y v ≡ held_of x v → holds_under y v g ≡ true → holds_under x v g ≡ true
+holds_under-same_held x y v g same h = ap (λ n. ltb 0 n && eqb n g) (sym same) ∙ h
 
-given_free : (x y : ClientState) (v : ℕ) → Given x y v → holds y v ≡ false
-given_free x y v g = ap (ltb 0) g.gone
+Given-free : (x y : ClientState) (v : ℕ) → Given x y v → holds y v ≡ false
+Given-free x y v g = ap (ltb 0) g.gone
 
-says_given : (x : ClientState) (cause : Cause) (y : ClientState) (m : ToVoter) → IsGiving x y m → (m.client ≡ x.id) × Says x cause y m.voter m.body
-says_given x cause y m g = (
+Says-IsGiving : (x : ClientState) (cause : Cause) (y : ClientState) (m : ToVoter) → IsGiving x y m → (m.client ≡ x.id) × Says x cause y m.voter m.body
+Says-IsGiving x cause y m g = (
   g.client,
-  subst (λ b. Says x cause y m.voter b) (sym g.body) (sym g.vote.last, under_of x m.voter (held_of x m.voter) g.vote.was refl, given_free x y m.voter g.vote),
+  subst (λ b. Says x cause y m.voter b) (sym g.body) (sym g.vote.last, holds_under-from_parts x m.voter (held_of x m.voter) g.vote.was refl, Given-free x y m.voter g.vote),
 )
 
-last_rises : (x y : ClientState) (v : ℕ) → IsSound x → Given x y v → last_of x v ≤ last_of y v
-last_rises x y v s g = let fresh = (s.held v g.was).fresh in let last = g.last in omega arith
+last_of-Given : (x y : ClientState) (v : ℕ) → IsSound x → Given x y v → last_of x v ≤ last_of y v
+last_of-Given x y v s g = let fresh = (s.held v g.was).fresh in let last = g.last in omega arith
 
-pub met_by_giving : (x : ClientState) (m : ToClient) (o : Outcome) → IsSound x → GivesBack x o → MeetsContract x (Takes m) o
-met_by_giving x m o s k = record {
+pub met-GivesBack : (x : ClientState) (m : ToClient) (o : Outcome) → IsSound x → GivesBack x o → MeetsContract x (Takes m) o
+met-GivesBack x m o s k = record {
   id = k.id;
   limit = k.limit;
   later = record {
     stamp = let stamp = k.stamp in omega arith;
     last = λ v. elim (k.votes v) [
       | inl kept ↦ let last = kept.last in omega arith
-      | inr given ↦ last_rises x o.state v s given.0
+      | inr given ↦ last_of-Given x o.state v s given.0
     ];
     idle = λ _ idle. ap is_idle k.phase ∙ idle;
   };
   held = λ v g h. elim (k.votes v) [
-    | inl kept ↦ inl (same_under x o.state v g kept.held h, k.stamp)
-    | inr given ↦ clash (holds o.state v) (under o.state v g h).0 (given_free x o.state v given.0)
+    | inl kept ↦ inl (holds_under-same_held x o.state v g kept.held h, k.stamp)
+    | inr given ↦ absurd-true_false (holds o.state v) (holds_under-parts o.state v g h).0 (Given-free x o.state v given.0)
   ];
   last = λ v. elim (k.votes v) [
     | inl kept ↦ inl kept.last
-    | inr given ↦ inr (under_of x v (last_of o.state v) given.0.was (sym given.0.last))
+    | inr given ↦ inr (holds_under-from_parts x v (last_of o.state v) given.0.was (sym given.0.last))
   ];
-  out = all_weaker (IsGiving x o.state) (λ n. (n.client ≡ x.id) × Says x (Takes m) o.state n.voter n.body) (says_given x (Takes m) o.state) o.out k.out;
+  out = AllByRecursion-weaker (IsGiving x o.state) (λ n. (n.client ≡ x.id) × Says x (Takes m) o.state n.voter n.body) (Says-IsGiving x (Takes m) o.state) o.out k.out;
   seen = subst (λ (seen : Seen). Sees x.phase seen o.state.phase) (sym k.seen) (ap is_inside (sym k.phase));
   quorum = (ap (λ q. q.items) k.quorum, ap is_idle k.phase);
 }
 
 -- a step after which the same is held, and nothing is sent
-met_silent : (x : ClientState) (m : ToClient) → IsSound x → MeetsContract x (Takes m) (silent x)
-met_silent x m s = met_by_giving x m (silent x) s (gives_nothing x s.places)
+met-silent : (x : ClientState) (m : ToClient) → IsSound x → MeetsContract x (Takes m) (silent x)
+met-silent x m s = met-GivesBack x m (silent x) s (GivesBack-silent x s.places)
 
 -- LOCKED
 
-not_current : (p : Phase) (s t : ℕ) → (not (is_idle p) && s == t) ≡ false → (is_idle p ≡ true) ⊎ (s ≢ t)
-not_current Idle s t e = inl refl
-not_current Asking s t e = inr (λ same. grind (arith, nat_tests))
-not_current Inside s t e = inr (λ same. grind (arith, nat_tests))
+is_current-false : (p : Phase) (s t : ℕ) → (not (is_idle p) && s == t) ≡ false → (is_idle p ≡ true) ⊎ (s ≢ t)
+is_current-false Idle s t e = inl refl
+is_current-false Asking s t e = inr (λ same. grind (arith, nat_tests))
+is_current-false Inside s t e = inr (λ same. grind (arith, nat_tests))
 
 met-enter : (b : Bool) (x : ClientState) (m : ToClient) (t g : ℕ) → m.body ≡ tells.Locked t g → IsSound x → Counts x m.voter g → is_idle x.phase ≡ false → t ≡ x.stamp
     → MeetsContract x (Takes m) (enter_if b (hold x m.voter g))
@@ -87,11 +87,11 @@ met-enter b x m t g body s c busy current = elim b as (λ b. MeetsContract x (Ta
   | true ↦ record {
     id = refl;
     limit = refl;
-    later = record { stamp = omega arith; last = λ v. omega arith; idle = λ _ idle. clash (is_idle x.phase) idle busy };
+    later = record { stamp = omega arith; last = λ v. omega arith; idle = λ _ idle. absurd-true_false (is_idle x.phase) idle busy };
     held = held Inside refl;
     last = λ v. inl refl;
     out = tt;
-    seen = (not_inside x m.voter g s c, refl);
+    seen = (is_inside-from_Counts x m.voter g s c, refl);
     quorum = (refl, sym busy);
   }
   | false ↦ record {
@@ -113,14 +113,14 @@ met-enter b x m t g body s c busy current = elim b as (λ b. MeetsContract x (Ta
         → ((holds_under x v h ≡ true) × (x.stamp ≡ x.stamp)) ⊎ (IsLocked (Takes m) v x.stamp h × IsLive (record (hold x m.voter g) { phase = p }) v x.stamp h)
     held p runs v h e = elim (cases_eq v m.voter) [
       | inl same ↦
-          let more = holds_more x m.voter g s.places c.place in
-          let now : h ≡ g = sym (under (hold x m.voter g) v h e).1 ∙ ap (held_of (hold x m.voter g)) same ∙ more.held in
+          let more = HoldsMore-hold x m.voter g s.places c.place in
+          let now : h ≡ g = sym (holds_under-parts (hold x m.voter g) v h e).1 ∙ ap (held_of (hold x m.voter g)) same ∙ more.held in
           let newer = c.newer in
           let last : last_of x v ≡ last_of x m.voter = ap (last_of x) same in
           inr (locks v h same now, record { busy = runs; current = refl; fresh = omega arith })
       | inr other ↦
-          let more = holds_more x m.voter g s.places c.place in
-          inl (same_under x (hold x m.voter g) v h (more.other_held v other) e, refl)
+          let more = HoldsMore-hold x m.voter g s.places c.place in
+          inl (holds_under-same_held x (hold x m.voter g) v h (more.other_held v other) e, refl)
     ]
 
 met-locked_by : (current fresh : Bool) (x : ClientState) (m : ToClient) (t g : ℕ) → m.body ≡ tells.Locked t g → IsSound x → is_current x t ≡ current → is_fresh x m.voter g ≡ fresh
@@ -131,21 +131,21 @@ met-locked_by false fresh x m t g body s c f = record {
   later = record { stamp = omega arith; last = λ v. omega arith; idle = λ _ idle. idle };
   held = λ v h e. inl (e, refl);
   last = λ v. inl refl;
-  out = ((refl, inr ((g, subst (λ b. Locks m.voter b m.voter t g) (sym body) (refl, refl, refl)), not_current x.phase t x.stamp c)), tt);
+  out = ((refl, inr ((g, subst (λ b. Locks m.voter b m.voter t g) (sym body) (refl, refl, refl)), is_current-false x.phase t x.stamp c)), tt);
   seen = refl;
   quorum = (refl, refl);
 }
-met-locked_by true false x m t g body s c f = met_silent x m s
-met-locked_by true true x m t g body s c f = let k = current_busy x t c in met-enter _ x m t g body s (counts x m.voter g s f) k.0 k.1
+met-locked_by true false x m t g body s c f = met-silent x m s
+met-locked_by true true x m t g body s c f = let k = is_current-busy x t c in met-enter _ x m t g body s (Counts-is_fresh x m.voter g s f) k.0 k.1
 
 -- FAIL and INQUIRE
 
 met-failed_by : (b : Bool) (x : ClientState) (m : ToClient) → IsSound x → MeetsContract x (Takes m) (failed_by b x m.voter)
-met-failed_by false x m s = met_silent x m s
-met-failed_by true x m s = met_by_giving x m (failed_by true x m.voter) s (gives-failed x m.voter s.places)
+met-failed_by false x m s = met-silent x m s
+met-failed_by true x m s = met-GivesBack x m (failed_by true x m.voter) s (GivesBack-failed_by x m.voter s.places)
 
 met-inquired_by : (b hindered : Bool) (x : ClientState) (m : ToClient) → IsSound x → MeetsContract x (Takes m) (inquired_by b hindered x m.voter)
-met-inquired_by false hindered x m s = met_silent x m s
+met-inquired_by false hindered x m s = met-silent x m s
 met-inquired_by true false x m s = record {
   id = refl;
   limit = refl;
@@ -156,7 +156,7 @@ met-inquired_by true false x m s = record {
   seen = refl;
   quorum = (refl, refl);
 }
-met-inquired_by true true x m s = met_by_giving x m (inquired_by true true x m.voter) s (gives_one x m.voter s.places)
+met-inquired_by true true x m s = met-GivesBack x m (inquired_by true true x m.voter) s (GivesBack-relinquish x m.voter s.places)
 
 -- Any message
 
@@ -178,7 +178,7 @@ met-take x m s =
       later = record { stamp = l.stamp; last = l.last; idle = l.idle };
       held = k.held;
       last = k.last;
-      out = all_weaker (λ n. (n.client ≡ y.id) × Says y (Takes m) (take_body y m.voter m.body).state n.voter n.body)
+      out = AllByRecursion-weaker (λ n. (n.client ≡ y.id) × Says y (Takes m) (take_body y m.voter m.body).state n.voter n.body)
           (λ n. (n.client ≡ x.id) × Says x (Takes m) (take_body y m.voter m.body).state n.voter n.body)
           (λ n p. (p.0, says_seen (take_body y m.voter m.body).state n.voter n.body p.1)) (take_body y m.voter m.body).out k.out;
       seen = k.seen;
@@ -192,13 +192,13 @@ met-take x m s =
 
 -- Calls
 
-free_cleared : {A : Type 0} (x : ClientState) (v g : ℕ) → holds_under (cleared x) v g ≡ true → A
-free_cleared x v g h = clash (holds (cleared x) v) (under (cleared x) v g h).0 (ap (ltb 0) (nothing_at 64 v))
+cleared-holds_under_nothing : {A : Type 0} (x : ClientState) (v g : ℕ) → holds_under (cleared x) v g ≡ true → A
+cleared-holds_under_nothing x v g h = absurd-true_false (holds (cleared x) v) (holds_under-parts (cleared x) v g h).0 (ap (ltb 0) (get_or-zeros 64 v))
 
-idle_outside : (p : Phase) → is_idle p ≡ true → is_inside p ≡ false
-idle_outside Idle e = refl
-idle_outside Asking e = refl
-idle_outside Inside e = sym e
+is_idle-outside : (p : Phase) → is_idle p ≡ true → is_inside p ≡ false
+is_idle-outside Idle e = refl
+is_idle-outside Asking e = refl
+is_idle-outside Inside e = sym e
 
 met-asked : (x : ClientState) (q : List ℕ) → IsSound x → is_idle x.phase ≡ true → MeetsContract x (Asks q) (asked x q)
 met-asked x q s idle =
@@ -207,10 +207,10 @@ met-asked x q s idle =
       id = refl;
       limit = refl;
       later = record { stamp = omega arith; last = λ v. omega arith; idle = λ same _. absurd (omega arith) };
-      held = λ v g h. free_cleared x v g h;
+      held = λ v g h. cleared-holds_under_nothing x v g h;
       last = λ v. inl refl;
-      out = all_told (λ m. (m.client ≡ x.id) × Says x (Asks q) (begun x q) m.voter m.body) (λ v. tell (begun x q) v (asks.Request (x.clock + 1))) q (λ v _. (refl, refl));
-      seen = idle_outside x.phase idle;
+      out = AllByRecursion-map_members (λ m. (m.client ≡ x.id) × Says x (Asks q) (begun x q) m.voter m.body) (λ v. tell (begun x q) v (asks.Request (x.clock + 1))) q (λ v _. (refl, refl));
+      seen = is_idle-outside x.phase idle;
       quorum = refl;
     }
 
@@ -222,36 +222,36 @@ met-released x seen cause sees keeps =
       id = refl;
       limit = refl;
       later = record { stamp = omega arith; last = λ v. omega arith; idle = λ _ _. refl };
-      held = λ v g h. free_cleared x v g h;
+      held = λ v g h. cleared-holds_under_nothing x v g h;
       last = λ v. inl refl;
-      out = all_told (λ m. (m.client ≡ x.id) × Says x cause y m.voter m.body) (λ v. tell x v (asks.Release x.stamp)) (members x) (λ v _. (refl, inl (refl, refl)));
+      out = AllByRecursion-map_members (λ m. (m.client ≡ x.id) × Says x cause y m.voter m.body) (λ v. tell x v (asks.Release x.stamp)) (members x) (λ v _. (refl, inl (refl, refl)));
       seen = sees;
       quorum = keeps;
     }
 
 pub met-step : (x : ClientState) (cause : Cause) (o : Outcome) → IsSound x → Accepts x cause → step x cause ≡ Ok o → MeetsContract x cause o
 unfolding step
-met-step x (Asks q) o s accepts e = let k = ask_done x q o e in subst (λ (p : Outcome). MeetsContract x (Asks q) p) k.2 (met-asked x q s k.0)
-met-step x (Takes m) o s accepts e = subst (λ (p : Outcome). MeetsContract x (Takes m) p) (same_Ok (take x m) o e) (met-take x m s)
+met-step x (Asks q) o s accepts e = let k = ask-Ok x q o e in subst (λ (p : Outcome). MeetsContract x (Asks q) p) k.2 (met-asked x q s k.0)
+met-step x (Takes m) o s accepts e = subst (λ (p : Outcome). MeetsContract x (Takes m) p) (Ok-same (take x m) o e) (met-take x m s)
 met-step x Leaves o s accepts e =
-    let k = leave_done x o e in
+    let k = leave-Ok x o e in
     subst (λ (p : Outcome). MeetsContract x Leaves p) k.1 (met-released x Left Leaves (k.0, refl) (refl, refl))
 met-step x GivesUp o s accepts e =
-    let k = give_up_done x o e in
-    subst (λ (p : Outcome). MeetsContract x GivesUp p) k.1 (met-released x Nothing GivesUp (asking_outside x.phase k.0) (refl, refl))
+    let k = give_up-Ok x o e in
+    subst (λ (p : Outcome). MeetsContract x GivesUp p) k.1 (met-released x Nothing GivesUp (is_asking-outside x.phase k.0) (refl, refl))
 
 -- Reminders
 
-repeats_by : (held given : Bool) (x : ClientState) (v : ℕ) → AllRepeat x (remind_by held given x v)
-repeats_by true given x v = tt
-repeats_by false false x v = ((refl, refl), tt)
-repeats_by false true x v = ((refl, refl), ((refl, refl), tt))
+AllRepeat-remind_by : (held given : Bool) (x : ClientState) (v : ℕ) → AllRepeat x (remind_by held given x v)
+AllRepeat-remind_by true given x v = tt
+AllRepeat-remind_by false false x v = ((refl, refl), tt)
+AllRepeat-remind_by false true x v = ((refl, refl), ((refl, refl), tt))
 
-repeats_in : (p : Phase) (x : ClientState) → AllRepeat x (remind_in p x)
-repeats_in Idle x = tt
-repeats_in Asking x = all_told_each (λ m. (m.client ≡ x.id) × Repeats x m.voter m.body) (remind_member x) (members x) (λ v _. repeats_by _ _ x v)
-repeats_in Inside x = tt
+AllRepeat-remind_in : (p : Phase) (x : ClientState) → AllRepeat x (remind_in p x)
+AllRepeat-remind_in Idle x = tt
+AllRepeat-remind_in Asking x = AllByRecursion-flat_map_members (λ m. (m.client ≡ x.id) × Repeats x m.voter m.body) (remind_member x) (members x) (λ v _. AllRepeat-remind_by _ _ x v)
+AllRepeat-remind_in Inside x = tt
 
-pub reminders_repeat : (x : ClientState) → AllRepeat x (remind x)
+pub AllRepeat-remind : (x : ClientState) → AllRepeat x (remind x)
 unfolding remind
-reminders_repeat x = repeats_in x.phase x
+AllRepeat-remind x = AllRepeat-remind_in x.phase x

@@ -11,7 +11,7 @@ use Rattle.requester.specs.declared.state.Seen.TheVariants.{Nothing}
 use Rattle.requester.specs.Words.{held_of, holds, last_of, is_relinquished, is_inquired}
 use Rattle.requester.specs.Soundness.{HasPlaces}
 use Rattle.requester.specs.Steps.{Outcome, silent, tell, relinquish, relinquish_if, relinquish_each}
-use Rattle.requester.proofs.Members.{all_append, all_weaker, clash, has-with_voter, has-without_voter, some_place}
+use Rattle.requester.proofs.Members.{AllByRecursion-append, AllByRecursion-weaker, absurd-true_false, has-with_voter, has-without_voter, get_or-some_below}
 
 pub record Kept (x y : ClientState) (v : ℕ) : Type 0 where
   pub held : held_of y v ≡ held_of x v
@@ -47,8 +47,8 @@ pub record GivesBack (x : ClientState) (o : Outcome) : Type 0 where
   pub votes : (v : ℕ) → Kept x o.state v ⊎ (Given x o.state v × Contains o.out (giving x v))
   pub out : AllByRecursion (IsGiving x o.state) o.out
 
-pub gives_nothing : (x : ClientState) → HasPlaces x → GivesBack x (silent x)
-gives_nothing x places = record {
+pub GivesBack-silent : (x : ClientState) → HasPlaces x → GivesBack x (silent x)
+GivesBack-silent x places = record {
   id = refl;
   limit = refl;
   clock = refl;
@@ -61,29 +61,29 @@ gives_nothing x places = record {
   out = tt;
 }
 
-not_held : (x : ClientState) (v : ℕ) → held_of x v ≡ 0 → holds x v ≡ false
-not_held x v e = ap (ltb 0) e
+holds-zero : (x : ClientState) (v : ℕ) → held_of x v ≡ 0 → holds x v ≡ false
+holds-zero x v e = ap (ltb 0) e
 
-kept_kept : (x y z : ClientState) (v : ℕ) → Kept x y v → Kept y z v → Kept x z v
-kept_kept x y z v a b = record {
+Kept-Kept : (x y z : ClientState) (v : ℕ) → Kept x y v → Kept y z v → Kept x z v
+Kept-Kept x y z v a b = record {
   held = b.held ∙ a.held;
   last = b.last ∙ a.last;
   inquired = λ h. a.inquired (b.inquired h);
   relinquished = λ h. a.relinquished (b.relinquished h);
 }
 
-given_kept : (x y z : ClientState) (v : ℕ) → Given x y v → Kept y z v → Given x z v
-given_kept x y z v a b = record { was = a.was; gone = b.held ∙ a.gone; last = b.last ∙ a.last; inquired = λ h. a.inquired (b.inquired h) }
+Given-Kept : (x y z : ClientState) (v : ℕ) → Given x y v → Kept y z v → Given x z v
+Given-Kept x y z v a b = record { was = a.was; gone = b.held ∙ a.gone; last = b.last ∙ a.last; inquired = λ h. a.inquired (b.inquired h) }
 
-kept_given : (x y z : ClientState) (v : ℕ) → Kept x y v → Given y z v → Given x z v
-kept_given x y z v a b = record { was = ap (ltb 0) (sym a.held) ∙ b.was; gone = b.gone; last = b.last ∙ a.held; inquired = b.inquired }
+Kept-Given : (x y z : ClientState) (v : ℕ) → Kept x y v → Given y z v → Given x z v
+Kept-Given x y z v a b = record { was = ap (ltb 0) (sym a.held) ∙ b.was; gone = b.gone; last = b.last ∙ a.held; inquired = b.inquired }
 
-same_giving : (x y : ClientState) (v : ℕ) → y.id ≡ x.id → held_of y v ≡ held_of x v → giving y v ≡ giving x v
-same_giving x y v id held = λ i. record { client = id i; voter = v; body = asks.Relinquish (held i) }
+giving-same : (x y : ClientState) (v : ℕ) → y.id ≡ x.id → held_of y v ≡ held_of x v → giving y v ≡ giving x v
+giving-same x y v id held = λ i. record { client = id i; voter = v; body = asks.Relinquish (held i) }
 
 -- one thing is given back, and then another
-pub gives_then : (x : ClientState) (a b : Outcome) → GivesBack x a → GivesBack a.state b → GivesBack x (record { out = a.out ++ b.out; seen = Nothing; state = b.state })
-gives_then x a b k l = record {
+pub GivesBack-then : (x : ClientState) (a b : Outcome) → GivesBack x a → GivesBack a.state b → GivesBack x (record { out = a.out ++ b.out; seen = Nothing; state = b.state })
+GivesBack-then x a b k l = record {
   id = l.id ∙ k.id;
   limit = l.limit ∙ k.limit;
   clock = l.clock ∙ k.clock;
@@ -93,40 +93,40 @@ gives_then x a b k l = record {
   places = l.places;
   seen = refl;
   votes = λ v. votes v (k.votes v) (l.votes v);
-  out = all_append (IsGiving x b.state) a.out b.out
-      (all_weaker (IsGiving x a.state) (IsGiving x b.state) earlier a.out k.out)
-      (all_weaker (IsGiving a.state b.state) (IsGiving x b.state) later b.out l.out);
+  out = AllByRecursion-append (IsGiving x b.state) a.out b.out
+      (AllByRecursion-weaker (IsGiving x a.state) (IsGiving x b.state) earlier a.out k.out)
+      (AllByRecursion-weaker (IsGiving a.state b.state) (IsGiving x b.state) later b.out l.out);
 }
   where
     votes : (v : ℕ) → Kept x a.state v ⊎ (Given x a.state v × Contains a.out (giving x v)) → Kept a.state b.state v ⊎ (Given a.state b.state v × Contains b.out (giving a.state v))
         → Kept x b.state v ⊎ (Given x b.state v × Contains (a.out ++ b.out) (giving x v))
-    votes v (inl p) (inl q) = inl (kept_kept x a.state b.state v p q)
+    votes v (inl p) (inl q) = inl (Kept-Kept x a.state b.state v p q)
     votes v (inl p) (inr q) = inr (
-      kept_given x a.state b.state v p q.0,
-      subst (Contains (a.out ++ b.out)) (same_giving x a.state v k.id p.held) (Contains-append_right a.out b.out (giving a.state v) q.1),
+      Kept-Given x a.state b.state v p q.0,
+      subst (Contains (a.out ++ b.out)) (giving-same x a.state v k.id p.held) (Contains-append_right a.out b.out (giving a.state v) q.1),
     )
-    votes v (inr p) (inl q) = inr (given_kept x a.state b.state v p.0 q, Contains-append_left a.out b.out (giving x v) p.1)
-    votes v (inr p) (inr q) = clash (holds a.state v) q.0.was (not_held a.state v p.0.gone)
+    votes v (inr p) (inl q) = inr (Given-Kept x a.state b.state v p.0 q, Contains-append_left a.out b.out (giving x v) p.1)
+    votes v (inr p) (inr q) = absurd-true_false (holds a.state v) q.0.was (holds-zero a.state v p.0.gone)
 
     earlier_vote : (v : ℕ) → Given x a.state v → Kept a.state b.state v ⊎ (Given a.state b.state v × Contains b.out (giving a.state v)) → Given x b.state v
-    earlier_vote v p (inl q) = given_kept x a.state b.state v p q
-    earlier_vote v p (inr q) = clash (holds a.state v) q.0.was (not_held a.state v p.gone)
+    earlier_vote v p (inl q) = Given-Kept x a.state b.state v p q
+    earlier_vote v p (inr q) = absurd-true_false (holds a.state v) q.0.was (holds-zero a.state v p.gone)
 
     earlier : (m : ToVoter) → IsGiving x a.state m → IsGiving x b.state m
     earlier m p = record { client = p.client; vote = earlier_vote m.voter p.vote (l.votes m.voter); body = p.body }
 
     later_by : (m : ToVoter) → IsGiving a.state b.state m → Kept x a.state m.voter ⊎ (Given x a.state m.voter × Contains a.out (giving x m.voter)) → IsGiving x b.state m
-    later_by m q (inl p) = record { client = q.client ∙ k.id; vote = kept_given x a.state b.state m.voter p q.vote; body = q.body ∙ ap (λ g. asks.Relinquish g) p.held }
-    later_by m q (inr p) = clash (holds a.state m.voter) q.vote.was (not_held a.state m.voter p.0.gone)
+    later_by m q (inl p) = record { client = q.client ∙ k.id; vote = Kept-Given x a.state b.state m.voter p q.vote; body = q.body ∙ ap (λ g. asks.Relinquish g) p.held }
+    later_by m q (inr p) = absurd-true_false (holds a.state m.voter) q.vote.was (holds-zero a.state m.voter p.0.gone)
 
     later : (m : ToVoter) → IsGiving a.state b.state m → IsGiving x b.state m
     later m q = later_by m q (k.votes m.voter)
 
-gives_if : (b : Bool) (x : ClientState) (v : ℕ) → HasPlaces x → holds x v ≡ b → GivesBack x (relinquish_if b x v)
-gives_if false x v places e = gives_nothing x places
-gives_if true x v places e =
+GivesBack-relinquish_if : (b : Bool) (x : ClientState) (v : ℕ) → HasPlaces x → holds x v ≡ b → GivesBack x (relinquish_if b x v)
+GivesBack-relinquish_if false x v places e = GivesBack-silent x places
+GivesBack-relinquish_if true x v places e =
     let o = relinquish_if true x v in
-    let place : v < length x.held = some_place x.held v e in
+    let place : v < length x.held = get_or-some_below x.held v e in
     let h = places.held in
     let l = places.last in
     let given : Given x o.state v = record {
@@ -162,12 +162,12 @@ gives_if true x v places e =
       out = (record { client = refl; vote = given; body = refl }, tt);
     }
 
-pub gives_one : (x : ClientState) (v : ℕ) → HasPlaces x → GivesBack x (relinquish x v)
+pub GivesBack-relinquish : (x : ClientState) (v : ℕ) → HasPlaces x → GivesBack x (relinquish x v)
 unfolding relinquish
-gives_one x v places = gives_if (holds x v) x v places refl
+GivesBack-relinquish x v places = GivesBack-relinquish_if (holds x v) x v places refl
 
-pub gives_each : (x : ClientState) (vs : List ℕ) → HasPlaces x → GivesBack x (relinquish_each x vs)
-gives_each x [] places = gives_nothing x places
-gives_each x (v ∷ vs) places =
-    let one = gives_one x v places in
-    gives_then x (relinquish x v) (relinquish_each (relinquish x v).state vs) one (gives_each (relinquish x v).state vs one.places)
+pub GivesBack-relinquish_each : (x : ClientState) (vs : List ℕ) → HasPlaces x → GivesBack x (relinquish_each x vs)
+GivesBack-relinquish_each x [] places = GivesBack-silent x places
+GivesBack-relinquish_each x (v ∷ vs) places =
+    let one = GivesBack-relinquish x v places in
+    GivesBack-then x (relinquish x v) (relinquish_each (relinquish x v).state vs) one (GivesBack-relinquish_each (relinquish x v).state vs one.places)

@@ -9,48 +9,48 @@ use Rattle.numbers.specs.Sets.{has, Ascends, IsSet, set_where}
 use Rattle.numbers.proofs.SetLemmas.{has-above, has-set_where, length-Ascends, IsSet-set_where}
 use Rattle.requester.specs.Words.{with_voter, without_voter}
 
-pub clash : {A : Type 0} → (b : Bool) → b ≡ true → b ≡ false → A
-clash b t f = absurd (false≢true (sym f ∙ t))
+pub absurd-true_false : {A : Type 0} → (b : Bool) → b ≡ true → b ≡ false → A
+absurd-true_false b t f = absurd (false≢true (sym f ∙ t))
 
-pub both : (a b : Bool) → a && b ≡ true → (a ≡ true) × (b ≡ true)
-both a b h = (grind (arith, nat_tests), grind (arith, nat_tests))
+pub both_true-from_and : (a b : Bool) → a && b ≡ true → (a ≡ true) × (b ≡ true)
+both_true-from_and a b h = (grind (arith, nat_tests), grind (arith, nat_tests))
 
-pub negated : (a : Bool) → not a ≡ true → a ≡ false
-negated a h = grind (arith, nat_tests)
+pub false-from_not : (a : Bool) → not a ≡ true → a ≡ false
+false-from_not a h = grind (arith, nat_tests)
 
 -- Sets
 
-pub voters_below : (low : ℕ) (s : List ℕ) → Ascends low 64 s → AllByRecursion (λ v. v < 64) s
-voters_below low [] h = tt
-voters_below low (v ∷ vs) h = (h.1, voters_below (v + 1) vs h.2)
+pub all_below-from_Ascends : (low : ℕ) (s : List ℕ) → Ascends low 64 s → AllByRecursion (λ v. v < 64) s
+all_below-from_Ascends low [] h = tt
+all_below-from_Ascends low (v ∷ vs) h = (h.1, all_below-from_Ascends (v + 1) vs h.2)
 
-all_other : (low v : ℕ) (s : List ℕ) → Ascends low 64 s → v < low → AllByRecursion (λ u. eqb v u ≡ false) s
-all_other low v [] h lt = tt
-all_other low v (u ∷ us) h lt =
+all_differ-from_Ascends : (low v : ℕ) (s : List ℕ) → Ascends low 64 s → v < low → AllByRecursion (λ u. eqb v u ≡ false) s
+all_differ-from_Ascends low v [] h lt = tt
+all_differ-from_Ascends low v (u ∷ us) h lt =
     let differ : v ≡ u → ⊥ = λ e. omega arith in
-    (ne_eqb v u differ, all_other (u + 1) v us h.2 (omega arith))
+    (ne_eqb v u differ, all_differ-from_Ascends (u + 1) v us h.2 (omega arith))
 
-pub voters_apart : (low : ℕ) (s : List ℕ) → Ascends low 64 s → IsDistinct eqb s
+pub IsDistinct-from_Ascends : (low : ℕ) (s : List ℕ) → Ascends low 64 s → IsDistinct eqb s
 unfolding IsDistinct
-voters_apart low [] h = tt
-voters_apart low (v ∷ vs) h = IsDistinct-cons eqb v vs (all_other (v + 1) v vs h.2 (omega arith)) (voters_apart (v + 1) vs h.2)
+IsDistinct-from_Ascends low [] h = tt
+IsDistinct-from_Ascends low (v ∷ vs) h = IsDistinct-cons eqb v vs (all_differ-from_Ascends (v + 1) v vs h.2 (omega arith)) (IsDistinct-from_Ascends (v + 1) vs h.2)
 
-pub few_voters : (s : List ℕ) → IsSet s → length s ≤ 64
-few_voters s h = let most = length-Ascends 0 64 s (omega arith) h in omega arith
+pub length-IsSet : (s : List ℕ) → IsSet s → length s ≤ 64
+length-IsSet s h = let most = length-Ascends 0 64 s (omega arith) h in omega arith
 
-pub member_below : (s : List ℕ) (v : ℕ) → IsSet s → has s v ≡ true → v < 64
-member_below s v h member = elim (cases_lt v 64) [
+pub has-IsSet_below : (s : List ℕ) (v : ℕ) → IsSet s → has s v ≡ true → v < 64
+has-IsSet_below s v h member = elim (cases_lt v 64) [
   | inl less ↦ less
-  | inr above ↦ clash (has s v) member (has-above 0 64 s v h above)
+  | inr above ↦ absurd-true_false (has s v) member (has-above 0 64 s v h above)
 ]
 
-pub all_any : (p : ℕ → Bool) (v : ℕ) (vs : List ℕ) → list_all p vs ≡ true → has vs v ≡ true → p v ≡ true
-all_any p v [] a b = absurd (false≢true b)
-all_any p v (u ∷ us) a b =
-    let parts = both (p u) (list_all p us) a in
+pub list_all-member : (p : ℕ → Bool) (v : ℕ) (vs : List ℕ) → list_all p vs ≡ true → has vs v ≡ true → p v ≡ true
+list_all-member p v [] a b = absurd (false≢true b)
+list_all-member p v (u ∷ us) a b =
+    let parts = both_true-from_and (p u) (list_all p us) a in
     elim (eqb u v) as (λ t. eqb u v ≡ t → (t || has us v) ≡ true → p v ≡ true) [
       | true ↦ λ e _. let same : u ≡ v = grind (arith, nat_tests) in subst (λ n. p n ≡ true) same parts.0
-      | false ↦ λ _ rest. all_any p v us parts.1 rest
+      | false ↦ λ _ rest. list_all-member p v us parts.1 rest
     ] refl b
 
 -- Sets with one voter more or less
@@ -58,7 +58,7 @@ all_any p v (u ∷ us) a b =
 pub has-with_voter : (s : List ℕ) (v u : ℕ) → has (with_voter s v) u ≡ true → (u ≡ v) ⊎ (has s u ≡ true)
 has-with_voter s v u h =
     let p : ℕ → Bool = λ i. eqb i v || has s i in
-    let below = member_below (set_where p) u (IsSet-set_where p) h in
+    let below = has-IsSet_below (set_where p) u (IsSet-set_where p) h in
     let passes : (eqb u v || has s u) ≡ true = sym (has-set_where p u below) ∙ h in
     elim (cases_eq u v) [
       | inl same ↦ inl same
@@ -68,9 +68,9 @@ has-with_voter s v u h =
 pub has-without_voter : (s : List ℕ) (v u : ℕ) → has (without_voter s v) u ≡ true → (u ≢ v) × (has s u ≡ true)
 has-without_voter s v u h =
     let p : ℕ → Bool = λ i. not (eqb i v) && has s i in
-    let below = member_below (set_where p) u (IsSet-set_where p) h in
-    let passes = both (not (eqb u v)) (has s u) (sym (has-set_where p u below) ∙ h) in
-    (λ same. clash (eqb u v) (eq-eqb u v same) (negated (eqb u v) passes.0), passes.1)
+    let below = has-IsSet_below (set_where p) u (IsSet-set_where p) h in
+    let passes = both_true-from_and (not (eqb u v)) (has s u) (sym (has-set_where p u below) ∙ h) in
+    (λ same. absurd-true_false (eqb u v) (eq-eqb u v same) (false-from_not (eqb u v) passes.0), passes.1)
 
 -- a set without a voter has the others as before
 pub has-without_voter-other : (s : List ℕ) (v u : ℕ) → u < 64 → u ≢ v → has (without_voter s v) u ≡ has s u
@@ -79,32 +79,32 @@ has-without_voter-other s v u below other =
 
 -- Lists of messages
 
-pub all_append : {A : Type 0} (P : A → Type 0) (xs ys : List A) → AllByRecursion P xs → AllByRecursion P ys → AllByRecursion P (xs ++ ys)
-all_append P [] ys h k = k
-all_append P (x ∷ xs) ys h k = (h.0, all_append P xs ys h.1 k)
+pub AllByRecursion-append : {A : Type 0} (P : A → Type 0) (xs ys : List A) → AllByRecursion P xs → AllByRecursion P ys → AllByRecursion P (xs ++ ys)
+AllByRecursion-append P [] ys h k = k
+AllByRecursion-append P (x ∷ xs) ys h k = (h.0, AllByRecursion-append P xs ys h.1 k)
 
-pub all_weaker : {A : Type 0} (P Q : A → Type 0) → ((x : A) → P x → Q x) → (xs : List A) → AllByRecursion P xs → AllByRecursion Q xs
-all_weaker P Q f [] h = tt
-all_weaker P Q f (x ∷ xs) h = (f x h.0, all_weaker P Q f xs h.1)
+pub AllByRecursion-weaker : {A : Type 0} (P Q : A → Type 0) → ((x : A) → P x → Q x) → (xs : List A) → AllByRecursion P xs → AllByRecursion Q xs
+AllByRecursion-weaker P Q f [] h = tt
+AllByRecursion-weaker P Q f (x ∷ xs) h = (f x h.0, AllByRecursion-weaker P Q f xs h.1)
 
 -- what is said of each member
-pub all_told : {A : Type 0} (P : A → Type 0) (f : ℕ → A) (vs : List ℕ) → ((v : ℕ) → has vs v ≡ true → P (f v)) → AllByRecursion P (map f vs)
-all_told P f [] h = tt
-all_told P f (v ∷ vs) h = (h v (grind (arith, nat_tests)), all_told P f vs (λ u member. h u (grind (arith, nat_tests))))
+pub AllByRecursion-map_members : {A : Type 0} (P : A → Type 0) (f : ℕ → A) (vs : List ℕ) → ((v : ℕ) → has vs v ≡ true → P (f v)) → AllByRecursion P (map f vs)
+AllByRecursion-map_members P f [] h = tt
+AllByRecursion-map_members P f (v ∷ vs) h = (h v (grind (arith, nat_tests)), AllByRecursion-map_members P f vs (λ u member. h u (grind (arith, nat_tests))))
 
-pub all_told_each : {A : Type 0} (P : A → Type 0) (f : ℕ → List A) (vs : List ℕ) → ((v : ℕ) → has vs v ≡ true → AllByRecursion P (f v)) → AllByRecursion P (flat_map f vs)
-all_told_each P f [] h = tt
-all_told_each P f (v ∷ vs) h = all_append P (f v) (flat_map f vs) (h v (grind (arith, nat_tests))) (all_told_each P f vs (λ u member. h u (grind (arith, nat_tests))))
+pub AllByRecursion-flat_map_members : {A : Type 0} (P : A → Type 0) (f : ℕ → List A) (vs : List ℕ) → ((v : ℕ) → has vs v ≡ true → AllByRecursion P (f v)) → AllByRecursion P (flat_map f vs)
+AllByRecursion-flat_map_members P f [] h = tt
+AllByRecursion-flat_map_members P f (v ∷ vs) h = AllByRecursion-append P (f v) (flat_map f vs) (h v (grind (arith, nat_tests))) (AllByRecursion-flat_map_members P f vs (λ u member. h u (grind (arith, nat_tests))))
 
 -- Places
 
-pub nothing_at : (n v : ℕ) → get_or {A = ℕ} (replicate n 0) v 0 ≡ 0
-nothing_at zero v = refl
-nothing_at (suc n) zero = refl
-nothing_at (suc n) (suc v) = nothing_at n v
+pub get_or-zeros : (n v : ℕ) → get_or {A = ℕ} (replicate n 0) v 0 ≡ 0
+get_or-zeros zero v = refl
+get_or-zeros (suc n) zero = refl
+get_or-zeros (suc n) (suc v) = get_or-zeros n v
 
-pub some_place : (xs : List ℕ) (v : ℕ) → ltb 0 (get_or xs v 0) ≡ true → v < length xs
-some_place xs v h = elim (cases_lt v (length xs)) [
+pub get_or-some_below : (xs : List ℕ) (v : ℕ) → ltb 0 (get_or xs v 0) ≡ true → v < length xs
+get_or-some_below xs v h = elim (cases_lt v (length xs)) [
   | inl less ↦ less
-  | inr past ↦ let none = get_or_past xs v 0 past in clash (ltb 0 (get_or xs v 0)) h (ap (ltb 0) none)
+  | inr past ↦ let none = get_or_past xs v 0 past in absurd-true_false (ltb 0 (get_or xs v 0)) h (ap (ltb 0) none)
 ]

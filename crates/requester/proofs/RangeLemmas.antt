@@ -16,27 +16,27 @@ use Rattle.requester.specs.Words.{is_idle, is_inside, members, is_member, held_o
 use Rattle.requester.specs.Soundness.{IsSound}
 use Rattle.requester.specs.RequesterContract.{Accepts, AllInRange, ComesInRange, IsLocked, IsReached, Locks, RemindersInRange, SaysInRange}
 use Rattle.requester.specs.Steps.{Outcome, asked, begun, tell, hold, enter_if, locked, locked_by, failed, failed_by, inquired, inquired_by, see, take, take_body, released, Cause, Asks, Takes, Leaves, GivesUp, step, remind, remind_in, remind_by, remind_member}
-use Rattle.requester.proofs.Members.{all_told, all_told_each, all_weaker, member_below}
-use Rattle.requester.proofs.Giving.{GivesBack, IsGiving, gives_one}
-use Rattle.requester.proofs.SoundSteps.{asking_busy, ask_done, gives-failed, give_up_done, leave_done, same_Ok, sound-see}
+use Rattle.requester.proofs.Members.{AllByRecursion-map_members, AllByRecursion-flat_map_members, AllByRecursion-weaker, has-IsSet_below}
+use Rattle.requester.proofs.Giving.{GivesBack, IsGiving, GivesBack-relinquish}
+use Rattle.requester.proofs.SoundSteps.{is_asking-busy, ask-Ok, GivesBack-failed_by, give_up-Ok, leave-Ok, Ok-same, sound-see}
 
 abbrev pub InRange : Cause → ClientState → ToVoter → Type 0
 InRange cause y m = IsReached cause y m.voter × (m.voter < 64) × SaysInRange y.limit m.body
 
 -- Steps that give votes back
 
-giving_in_range : (x : ClientState) (cause : Cause) (o : Outcome) → IsSound x → GivesBack x o → (m : ToVoter) → IsGiving x o.state m → InRange cause o.state m
-giving_in_range x cause o s k m g =
+in_range-IsGiving : (x : ClientState) (cause : Cause) (o : Outcome) → IsSound x → GivesBack x o → (m : ToVoter) → IsGiving x o.state m → InRange cause o.state m
+in_range-IsGiving x cause o s k m g =
     let w = s.held m.voter g.vote.was in
     let was = g.vote.was in
     let some : 1 ≤ held_of x m.voter = grind (arith, nat_tests) in (
       inl (ap (λ q. has q.items m.voter) k.quorum ∙ w.member),
-      member_below (members x) m.voter s.quorum w.member,
+      has-IsSet_below (members x) m.voter s.quorum w.member,
       subst (SaysInRange o.state.limit) (sym g.body) some,
     )
 
-given_in_range : (x : ClientState) (cause : Cause) (o : Outcome) → IsSound x → GivesBack x o → AllInRange cause o.state o.out
-given_in_range x cause o s k = all_weaker (IsGiving x o.state) (InRange cause o.state) (giving_in_range x cause o s k) o.out k.out
+in_range-GivesBack : (x : ClientState) (cause : Cause) (o : Outcome) → IsSound x → GivesBack x o → AllInRange cause o.state o.out
+in_range-GivesBack x cause o s k = AllByRecursion-weaker (IsGiving x o.state) (InRange cause o.state) (in_range-IsGiving x cause o s k) o.out k.out
 
 -- Any message
 
@@ -54,12 +54,12 @@ in_range-locked_by true true x m t g body below came = in_range-enter _ (Takes m
 
 in_range-failed_by : (b : Bool) (x : ClientState) (m : ToClient) → IsSound x → AllInRange (Takes m) (failed_by b x m.voter).state (failed_by b x m.voter).out
 in_range-failed_by false x m s = tt
-in_range-failed_by true x m s = given_in_range x (Takes m) (failed_by true x m.voter) s (gives-failed x m.voter s.places)
+in_range-failed_by true x m s = in_range-GivesBack x (Takes m) (failed_by true x m.voter) s (GivesBack-failed_by x m.voter s.places)
 
 in_range-inquired_by : (b hindered : Bool) (x : ClientState) (m : ToClient) → IsSound x → AllInRange (Takes m) (inquired_by b hindered x m.voter).state (inquired_by b hindered x m.voter).out
 in_range-inquired_by false hindered x m s = tt
 in_range-inquired_by true false x m s = tt
-in_range-inquired_by true true x m s = given_in_range x (Takes m) (inquired_by true true x m.voter) s (gives_one x m.voter s.places)
+in_range-inquired_by true true x m s = in_range-GivesBack x (Takes m) (inquired_by true true x m.voter) s (GivesBack-relinquish x m.voter s.places)
 
 in_range-body : (x : ClientState) (m : ToClient) (b : ClientBody) → m.body ≡ b → IsSound x → m.voter < 64 → ComesInRange x.limit (Takes m)
     → AllInRange (Takes m) (take_body x m.voter b).state (take_body x m.voter b).out
@@ -76,51 +76,51 @@ in_range-take x m s below came = in_range-body (see x m.seen) m m.body refl (sou
 
 in_range-asked : (x : ClientState) (q : List ℕ) → IsSet q → x.clock < x.limit → AllInRange (Asks q) (begun x q) (asked x q).out
 in_range-asked x q set room =
-    all_told (InRange (Asks q) (begun x q)) (λ v. tell (begun x q) v (asks.Request (x.clock + 1))) q
-    (λ v member. (inl member, member_below q v set member, (omega arith, omega arith)))
+    AllByRecursion-map_members (InRange (Asks q) (begun x q)) (λ v. tell (begun x q) v (asks.Request (x.clock + 1))) q
+    (λ v member. (inl member, has-IsSet_below q v set member, (omega arith, omega arith)))
 
 in_range-released : (x : ClientState) (seen : Seen) (cause : Cause) → IsSound x → is_idle x.phase ≡ false → AllInRange cause (released x seen).state (released x seen).out
 in_range-released x seen cause s busy =
-    all_told (InRange cause (released x seen).state) (λ v. tell x v (asks.Release x.stamp)) (members x)
-    (λ v member. (inl member, member_below (members x) v s.quorum member, (s.stamped busy, s.stamp)))
+    AllByRecursion-map_members (InRange cause (released x seen).state) (λ v. tell x v (asks.Release x.stamp)) (members x)
+    (λ v member. (inl member, has-IsSet_below (members x) v s.quorum member, (s.stamped busy, s.stamp)))
 
-inside_busy : (p : Phase) → is_inside p ≡ true → is_idle p ≡ false
-inside_busy Idle e = sym e
-inside_busy Asking e = refl
-inside_busy Inside e = refl
+is_inside-busy : (p : Phase) → is_inside p ≡ true → is_idle p ≡ false
+is_inside-busy Idle e = sym e
+is_inside-busy Asking e = refl
+is_inside-busy Inside e = refl
 
 pub in_range-step : (x : ClientState) (cause : Cause) (o : Outcome) → IsSound x → Accepts x cause → ComesInRange x.limit cause → step x cause ≡ Ok o → AllInRange cause o.state o.out
 unfolding step
 in_range-step x (Asks q) o s accepts came e =
-    let k = ask_done x q o e in
+    let k = ask-Ok x q o e in
     subst (λ (p : Outcome). AllInRange (Asks q) p.state p.out) k.2 (in_range-asked x q accepts.0 k.1)
-in_range-step x (Takes m) o s accepts came e = subst (λ (p : Outcome). AllInRange (Takes m) p.state p.out) (same_Ok (take x m) o e) (in_range-take x m s accepts.1 came)
+in_range-step x (Takes m) o s accepts came e = subst (λ (p : Outcome). AllInRange (Takes m) p.state p.out) (Ok-same (take x m) o e) (in_range-take x m s accepts.1 came)
 in_range-step x Leaves o s accepts came e =
-    let k = leave_done x o e in
-    subst (λ (p : Outcome). AllInRange Leaves p.state p.out) k.1 (in_range-released x Left Leaves s (inside_busy x.phase k.0))
+    let k = leave-Ok x o e in
+    subst (λ (p : Outcome). AllInRange Leaves p.state p.out) k.1 (in_range-released x Left Leaves s (is_inside-busy x.phase k.0))
 in_range-step x GivesUp o s accepts came e =
-    let k = give_up_done x o e in
-    subst (λ (p : Outcome). AllInRange GivesUp p.state p.out) k.1 (in_range-released x Nothing GivesUp s (asking_busy x.phase k.0))
+    let k = give_up-Ok x o e in
+    subst (λ (p : Outcome). AllInRange GivesUp p.state p.out) k.1 (in_range-released x Nothing GivesUp s (is_asking-busy x.phase k.0))
 
 -- Reminders
 
 abbrev pub ReminderInRange : ClientState → ToVoter → Type 0
 ReminderInRange x m = (is_member x m.voter ≡ true) × (m.voter < 64) × SaysInRange x.limit m.body
 
-reminder_by : (held given : Bool) (x : ClientState) (v : ℕ) → IsSound x → is_idle x.phase ≡ false → is_relinquished x v ≡ given → is_member x v ≡ true
+in_range-remind_by : (held given : Bool) (x : ClientState) (v : ℕ) → IsSound x → is_idle x.phase ≡ false → is_relinquished x v ≡ given → is_member x v ≡ true
     → RemindersInRange x (remind_by held given x v)
-reminder_by true given x v s busy e member = tt
-reminder_by false false x v s busy e member = ((member, member_below (members x) v s.quorum member, (s.stamped busy, s.stamp)), tt)
-reminder_by false true x v s busy e member =
-    let below = member_below (members x) v s.quorum member in
+in_range-remind_by true given x v s busy e member = tt
+in_range-remind_by false false x v s busy e member = ((member, has-IsSet_below (members x) v s.quorum member, (s.stamped busy, s.stamp)), tt)
+in_range-remind_by false true x v s busy e member =
+    let below = has-IsSet_below (members x) v s.quorum member in
     ((member, below, s.relinquished v e), ((member, below, (s.stamped busy, s.stamp)), tt))
 
-reminders_in : (p : Phase) (x : ClientState) → IsSound x → x.phase ≡ p → RemindersInRange x (remind_in p x)
-reminders_in Idle x s e = tt
-reminders_in Asking x s e =
-    all_told_each (ReminderInRange x) (remind_member x) (members x) (λ v member. reminder_by _ _ x v s (ap is_idle e) refl member)
-reminders_in Inside x s e = tt
+in_range-remind_in : (p : Phase) (x : ClientState) → IsSound x → x.phase ≡ p → RemindersInRange x (remind_in p x)
+in_range-remind_in Idle x s e = tt
+in_range-remind_in Asking x s e =
+    AllByRecursion-flat_map_members (ReminderInRange x) (remind_member x) (members x) (λ v member. in_range-remind_by _ _ x v s (ap is_idle e) refl member)
+in_range-remind_in Inside x s e = tt
 
-pub reminders_in_range : (x : ClientState) → IsSound x → RemindersInRange x (remind x)
+pub in_range-remind : (x : ClientState) → IsSound x → RemindersInRange x (remind x)
 unfolding remind
-reminders_in_range x s = reminders_in x.phase x s refl
+in_range-remind x s = in_range-remind_in x.phase x s refl

@@ -8,49 +8,49 @@ use Rattle.requester.specs.Words.{holds, is_inquired, without_voter}
 use Rattle.requester.specs.Steps.{relinquish, relinquish_if, relinquish_each, relinquish_marked, relinquish_marked_if, relinquish_inquired}
 use Rattle.requester.proofs.Members.{has-without_voter-other}
 
-marks_apart : (s t : ClientState) (v : ℕ) (vs : List ℕ) → t.inquired ≡ without_voter s.inquired v → AllByRecursion (λ u. u < 64) vs → AllByRecursion (λ u. eqb v u ≡ false) vs
+filter-without_voter : (s t : ClientState) (v : ℕ) (vs : List ℕ) → t.inquired ≡ without_voter s.inquired v → AllByRecursion (λ u. u < 64) vs → AllByRecursion (λ u. eqb v u ≡ false) vs
     → filter (is_inquired t) vs ≡ filter (is_inquired s) vs
-marks_apart s t v [] same below h = refl
-marks_apart s t v (u ∷ us) same below h =
+filter-without_voter s t v [] same below h = refl
+filter-without_voter s t v (u ∷ us) same below h =
     let other : u ≢ v = grind (arith, nat_tests) in
-    let mark : is_inquired t u ≡ is_inquired s u = ap (λ (marks : List ℕ). has marks u) same ∙ has-without_voter-other s.inquired v u below.0 other in
-    let rest = marks_apart s t v us same below.1 h.1 in
+    let mark : is_inquired t u ≡ is_inquired s u = ap (λ (marked : List ℕ). has marked u) same ∙ has-without_voter-other s.inquired v u below.0 other in
+    let rest = filter-without_voter s t v us same below.1 h.1 in
     λ i. cond (mark i) (u ∷ rest i) (rest i)
 
-marks_after : (b : Bool) (s : ClientState) (v : ℕ) (vs : List ℕ) → AllByRecursion (λ u. u < 64) vs → AllByRecursion (λ u. eqb v u ≡ false) vs
+filter-relinquish_if : (b : Bool) (s : ClientState) (v : ℕ) (vs : List ℕ) → AllByRecursion (λ u. u < 64) vs → AllByRecursion (λ u. eqb v u ≡ false) vs
     → filter (is_inquired (relinquish_if b s v).state) vs ≡ filter (is_inquired s) vs
-marks_after false s v vs below h = refl
-marks_after true s v vs below h = marks_apart s (relinquish_if true s v).state v vs refl below h
+filter-relinquish_if false s v vs below h = refl
+filter-relinquish_if true s v vs below h = filter-without_voter s (relinquish_if true s v).state v vs refl below h
 
-marks : (s : ClientState) (v : ℕ) (vs : List ℕ) → AllByRecursion (λ u. u < 64) vs → AllByRecursion (λ u. eqb v u ≡ false) vs
+filter-relinquish : (s : ClientState) (v : ℕ) (vs : List ℕ) → AllByRecursion (λ u. u < 64) vs → AllByRecursion (λ u. eqb v u ≡ false) vs
     → filter (is_inquired (relinquish s v).state) vs ≡ filter (is_inquired s) vs
 unfolding relinquish
-marks s v vs below h = marks_after (holds s v) s v vs below h
+filter-relinquish s v vs below h = filter-relinquish_if (holds s v) s v vs below h
 
-pub rest_state : (s : ClientState) (v : ℕ) (vs : List ℕ) → AllByRecursion (λ u. u < 64) vs → AllByRecursion (λ u. eqb v u ≡ false) vs → (relinquish_inquired s (v ∷ vs)).state ≡ (relinquish_inquired (relinquish_marked s v).state vs).state
-rest_state s v vs below h =
+pub relinquish_inquired-cons_state : (s : ClientState) (v : ℕ) (vs : List ℕ) → AllByRecursion (λ u. u < 64) vs → AllByRecursion (λ u. eqb v u ≡ false) vs → (relinquish_inquired s (v ∷ vs)).state ≡ (relinquish_inquired (relinquish_marked s v).state vs).state
+relinquish_inquired-cons_state s v vs below h =
     let F = filter (is_inquired s) vs in
     elim (is_inquired s v) as (λ b. (relinquish_each s (cond b (v ∷ F) F)).state ≡ (relinquish_inquired (relinquish_marked_if b s v).state vs).state) [
-      | true ↦ ap (λ G. (relinquish_each (relinquish s v).state G).state) (sym (marks s v vs below h))
+      | true ↦ ap (λ G. (relinquish_each (relinquish s v).state G).state) (sym (filter-relinquish s v vs below h))
       | false ↦ refl
     ]
 
-pub rest_out : (s : ClientState) (v : ℕ) (vs : List ℕ) → AllByRecursion (λ u. u < 64) vs → AllByRecursion (λ u. eqb v u ≡ false) vs → (relinquish_inquired s (v ∷ vs)).out ≡ (relinquish_marked s v).out ++ (relinquish_inquired (relinquish_marked s v).state vs).out
-rest_out s v vs below h =
+pub relinquish_inquired-cons_out : (s : ClientState) (v : ℕ) (vs : List ℕ) → AllByRecursion (λ u. u < 64) vs → AllByRecursion (λ u. eqb v u ≡ false) vs → (relinquish_inquired s (v ∷ vs)).out ≡ (relinquish_marked s v).out ++ (relinquish_inquired (relinquish_marked s v).state vs).out
+relinquish_inquired-cons_out s v vs below h =
     let F = filter (is_inquired s) vs in
     elim (is_inquired s v) as (λ b. (relinquish_each s (cond b (v ∷ F) F)).out ≡ (relinquish_marked_if b s v).out ++ (relinquish_inquired (relinquish_marked_if b s v).state vs).out) [
-      | true ↦ ap (λ G. (relinquish s v).out ++ (relinquish_each (relinquish s v).state G).out) (sym (marks s v vs below h))
+      | true ↦ ap (λ G. (relinquish s v).out ++ (relinquish_each (relinquish s v).state G).out) (sym (filter-relinquish s v vs below h))
       | false ↦ refl
     ]
 
-quorum_if : (b : Bool) (s : ClientState) (v : ℕ) → (relinquish_if b s v).state.quorum ≡ s.quorum
-quorum_if false s v = refl
-quorum_if true s v = refl
+quorum-relinquish_if : (b : Bool) (s : ClientState) (v : ℕ) → (relinquish_if b s v).state.quorum ≡ s.quorum
+quorum-relinquish_if false s v = refl
+quorum-relinquish_if true s v = refl
 
-quorum_marked_if : (b : Bool) (s : ClientState) (v : ℕ) → (relinquish_marked_if b s v).state.quorum ≡ s.quorum
+quorum-relinquish_marked_if : (b : Bool) (s : ClientState) (v : ℕ) → (relinquish_marked_if b s v).state.quorum ≡ s.quorum
 unfolding relinquish
-quorum_marked_if false s v = refl
-quorum_marked_if true s v = quorum_if (holds s v) s v
+quorum-relinquish_marked_if false s v = refl
+quorum-relinquish_marked_if true s v = quorum-relinquish_if (holds s v) s v
 
-pub quorum_marked : (s : ClientState) (v : ℕ) → (relinquish_marked s v).state.quorum ≡ s.quorum
-quorum_marked s v = quorum_marked_if (is_inquired s v) s v
+pub quorum-relinquish_marked : (s : ClientState) (v : ℕ) → (relinquish_marked s v).state.quorum ≡ s.quorum
+quorum-relinquish_marked s v = quorum-relinquish_marked_if (is_inquired s v) s v

@@ -19,25 +19,25 @@ use Rattle.requester.specs.Words.{is_idle, is_asking, is_inside, members, is_mem
 use Rattle.requester.specs.Soundness.{IsHeldWell, HasPlaces, IsSound}
 use Rattle.requester.specs.RequesterContract.{Accepts}
 use Rattle.requester.specs.Steps.{Outcome, cleared, begun, asked, ask, ask_in, ask_unless, is_fresh, hold, enter_if, locked, locked_by, fail, failed, failed_by, inquire, inquired, inquired_by, see, take_body, take, released, leave, leave_in, give_up, give_up_in, Cause, Asks, Takes, Leaves, GivesUp, step, start}
-use Rattle.requester.proofs.Members.{clash, both, all_weaker, negated, member_below, all_any, has-with_voter, has-without_voter, nothing_at}
-use Rattle.requester.proofs.Giving.{GivesBack, IsGiving, Kept, Given, gives_one, gives_each}
+use Rattle.requester.proofs.Members.{absurd-true_false, both_true-from_and, AllByRecursion-weaker, false-from_not, has-IsSet_below, list_all-member, has-with_voter, has-without_voter, get_or-zeros}
+use Rattle.requester.proofs.Giving.{GivesBack, IsGiving, Kept, Given, GivesBack-relinquish, GivesBack-relinquish_each}
 
 -- Asking is neither idle nor inside.
 
-pub asking_busy : (p : Phase) → is_asking p ≡ true → is_idle p ≡ false
-asking_busy Idle e = sym e
-asking_busy Asking e = refl
-asking_busy Inside e = refl
+pub is_asking-busy : (p : Phase) → is_asking p ≡ true → is_idle p ≡ false
+is_asking-busy Idle e = sym e
+is_asking-busy Asking e = refl
+is_asking-busy Inside e = refl
 
-pub asking_outside : (p : Phase) → is_asking p ≡ true → is_inside p ≡ false
-asking_outside Idle e = refl
-asking_outside Asking e = refl
-asking_outside Inside e = sym e
+pub is_asking-outside : (p : Phase) → is_asking p ≡ true → is_inside p ≡ false
+is_asking-outside Idle e = refl
+is_asking-outside Asking e = refl
+is_asking-outside Inside e = sym e
 
 -- Giving back, while not inside
 
-sound_held : (x : ClientState) (o : Outcome) → IsSound x → GivesBack x o → (v : ℕ) → Kept x o.state v → holds o.state v ≡ true → IsHeldWell o.state v
-sound_held x o s k v kept h =
+IsHeldWell-Kept : (x : ClientState) (o : Outcome) → IsSound x → GivesBack x o → (v : ℕ) → Kept x o.state v → holds o.state v ≡ true → IsHeldWell o.state v
+IsHeldWell-Kept x o s k v kept h =
     let held = kept.held in
     let last = kept.last in
     let w = s.held v (ap (ltb 0) (sym held) ∙ h) in
@@ -48,11 +48,11 @@ sound_held x o s k v kept h =
       fresh = omega arith;
     }
 
-given_gone : {A : Type 0} (x y : ClientState) (v : ℕ) → Given x y v → holds y v ≡ true → A
-given_gone x y v g h = clash (holds y v) h (ap (ltb 0) g.gone)
+Given-not_held : {A : Type 0} (x y : ClientState) (v : ℕ) → Given x y v → holds y v ≡ true → A
+Given-not_held x y v g h = absurd-true_false (holds y v) h (ap (ltb 0) g.gone)
 
-pub sound_given : (x : ClientState) (o : Outcome) → IsSound x → is_inside x.phase ≡ false → GivesBack x o → IsSound o.state
-sound_given x o s outside k =
+pub IsSound-GivesBack : (x : ClientState) (o : Outcome) → IsSound x → is_inside x.phase ≡ false → GivesBack x o → IsSound o.state
+IsSound-GivesBack x o s outside k =
     let id = k.id in
     let limit = k.limit in
     let clock = k.clock in
@@ -74,10 +74,10 @@ sound_given x o s outside k =
       quorum = subst (λ q. IsSet q.items) (sym k.quorum) s.quorum;
       asked = λ busy. subst (λ q. 1 ≤ length q.items) (sym k.quorum) (s.asked (before busy));
       held = λ v h. elim (k.votes v) [
-        | inl kept ↦ sound_held x o s k v kept h
-        | inr given ↦ given_gone x o.state v given.0 h
+        | inl kept ↦ IsHeldWell-Kept x o s k v kept h
+        | inr given ↦ Given-not_held x o.state v given.0 h
       ];
-      inside = λ inside. clash (is_inside x.phase) (ap is_inside (sym k.phase) ∙ inside) outside;
+      inside = λ inside. absurd-true_false (is_inside x.phase) (ap is_inside (sym k.phase) ∙ inside) outside;
       inquired = λ v h. elim (k.votes v) [
         | inl kept ↦ ap (ltb 0) kept.held ∙ s.inquired v (kept.inquired h)
         | inr given ↦ absurd (given.0.inquired h)
@@ -96,21 +96,21 @@ pub record Counts (x : ClientState) (v g : ℕ) : Type 0 where
   pub newer : last_of x v < g
   pub place : v < 64
 
-pub counts : (x : ClientState) (v g : ℕ) → IsSound x → is_fresh x v g ≡ true → Counts x v g
-counts x v g s e =
-    let p = both (is_member x v && not (holds x v)) (nat_lt (last_of x v) g) e in
-    let q = both (is_member x v) (not (holds x v)) p.0 in
+pub Counts-is_fresh : (x : ClientState) (v g : ℕ) → IsSound x → is_fresh x v g ≡ true → Counts x v g
+Counts-is_fresh x v g s e =
+    let p = both_true-from_and (is_member x v && not (holds x v)) (nat_lt (last_of x v) g) e in
+    let q = both_true-from_and (is_member x v) (not (holds x v)) p.0 in
     record {
       member = q.0;
-      free = negated (holds x v) q.1;
+      free = false-from_not (holds x v) q.1;
       newer = grind (arith, nat_tests);
-      place = member_below (members x) v s.quorum q.0;
+      place = has-IsSet_below (members x) v s.quorum q.0;
     }
 
-pub current_busy : (x : ClientState) (s : ℕ) → is_current x s ≡ true → (is_idle x.phase ≡ false) × (s ≡ x.stamp)
-current_busy x s e =
-    let p = both (not (is_idle x.phase)) (s == x.stamp) e in
-    (negated (is_idle x.phase) p.0, grind (arith, nat_tests))
+pub is_current-busy : (x : ClientState) (s : ℕ) → is_current x s ≡ true → (is_idle x.phase ≡ false) × (s ≡ x.stamp)
+is_current-busy x s e =
+    let p = both_true-from_and (not (is_idle x.phase)) (s == x.stamp) e in
+    (false-from_not (is_idle x.phase) p.0, grind (arith, nat_tests))
 
 -- what is held besides
 pub record HoldsMore (x y : ClientState) (v g : ℕ) : Type 0 where
@@ -119,8 +119,8 @@ pub record HoldsMore (x y : ClientState) (v g : ℕ) : Type 0 where
   pub inquired : (u : ℕ) → is_inquired y u ≡ true → (u ≢ v) × (is_inquired x u ≡ true)
   pub relinquished : (u : ℕ) → is_relinquished y u ≡ true → (u ≢ v) × (is_relinquished x u ≡ true)
 
-pub holds_more : (x : ClientState) (v g : ℕ) → HasPlaces x → v < 64 → HoldsMore x (hold x v g) v g
-holds_more x v g places lt =
+pub HoldsMore-hold : (x : ClientState) (v g : ℕ) → HasPlaces x → v < 64 → HoldsMore x (hold x v g) v g
+HoldsMore-hold x v g places lt =
     let h = places.held in
     record {
       held = get_or-set_same x.held v g 0 (omega arith);
@@ -129,20 +129,20 @@ holds_more x v g places lt =
       relinquished = λ u marked. has-without_voter x.relinquished v u marked;
     }
 
-places-hold : (x : ClientState) (v g : ℕ) → HasPlaces x → HasPlaces (hold x v g)
-places-hold x v g places = record { held = length-set x.held v g ∙ places.held; last = places.last }
+HasPlaces-hold : (x : ClientState) (v g : ℕ) → HasPlaces x → HasPlaces (hold x v g)
+HasPlaces-hold x v g places = record { held = length-set x.held v g ∙ places.held; last = places.last }
 
 -- the phase may be another one, so long as a request runs
-held-hold : (x : ClientState) (p : Phase) (v g : ℕ) → IsSound x → Counts x v g → is_idle x.phase ≡ false → is_idle p ≡ false
+IsHeldWell-hold : (x : ClientState) (p : Phase) (v g : ℕ) → IsSound x → Counts x v g → is_idle x.phase ≡ false → is_idle p ≡ false
     → (u : ℕ) → holds (hold x v g) u ≡ true → IsHeldWell (record (hold x v g) { phase = p }) u
-held-hold x p v g s c busy runs u h = elim (cases_eq u v) [
+IsHeldWell-hold x p v g s c busy runs u h = elim (cases_eq u v) [
   | inl same ↦
       let newer = c.newer in
-      let held = (holds_more x v g s.places c.place).held in
+      let held = (HoldsMore-hold x v g s.places c.place).held in
       let there : IsHeldWell (record (hold x v g) { phase = p }) v = record { busy = runs; member = c.member; fresh = omega arith } in
       subst (IsHeldWell (record (hold x v g) { phase = p })) (sym same) there
   | inr other ↦
-      let held = (holds_more x v g s.places c.place).other_held u other in
+      let held = (HoldsMore-hold x v g s.places c.place).other_held u other in
       let w = s.held u (ap (ltb 0) (sym held) ∙ h) in
       let fresh = w.fresh in
       record { busy = runs; member = w.member; fresh = omega arith }
@@ -151,46 +151,46 @@ held-hold x p v g s c busy runs u h = elim (cases_eq u v) [
 sound-hold : (x : ClientState) (p : Phase) (v g : ℕ) → IsSound x → Counts x v g → is_idle x.phase ≡ false → is_idle p ≡ false
     → (is_inside p ≡ true → is_covered (hold x v g) ≡ true) → IsSound (record (hold x v g) { phase = p })
 sound-hold x p v g s c busy runs inside =
-    let m = holds_more x v g s.places c.place in
+    let m = HoldsMore-hold x v g s.places c.place in
     record {
       id = s.id;
       some = s.some;
       limit = s.limit;
-      places = let k = places-hold x v g s.places in record { held = k.held; last = k.last };
+      places = let k = HasPlaces-hold x v g s.places in record { held = k.held; last = k.last };
       stamp = s.stamp;
       clock = s.clock;
       stamped = λ _. s.stamped busy;
       quorum = s.quorum;
       asked = λ _. s.asked busy;
-      held = held-hold x p v g s c busy runs;
+      held = IsHeldWell-hold x p v g s c busy runs;
       inside = inside;
       inquired = λ u h. let was = m.inquired u h in ap (ltb 0) (m.other_held u was.0) ∙ s.inquired u was.1;
       relinquished = λ u h. s.relinquished u (m.relinquished u h).1;
     }
 
 -- who does not hold a member's vote is not inside
-pub not_inside : (x : ClientState) (v g : ℕ) → IsSound x → Counts x v g → is_inside x.phase ≡ false
-not_inside x v g s c = elim (is_inside x.phase) as (λ b. is_inside x.phase ≡ b → b ≡ false) [
-  | true ↦ λ inside. clash (holds x v) (all_any (holds x) v (members x) (s.inside inside) c.member) c.free
+pub is_inside-from_Counts : (x : ClientState) (v g : ℕ) → IsSound x → Counts x v g → is_inside x.phase ≡ false
+is_inside-from_Counts x v g s c = elim (is_inside x.phase) as (λ b. is_inside x.phase ≡ b → b ≡ false) [
+  | true ↦ λ inside. absurd-true_false (holds x v) (list_all-member (holds x) v (members x) (s.inside inside) c.member) c.free
   | false ↦ λ _. refl
 ] refl
 
 sound-enter : (b : Bool) (x : ClientState) (v g : ℕ) → IsSound x → Counts x v g → is_idle x.phase ≡ false → is_covered (hold x v g) ≡ b → IsSound (enter_if b (hold x v g)).state
-sound-enter false x v g s c busy e = sound-hold x x.phase v g s c busy busy (λ inside. clash (is_inside x.phase) inside (not_inside x v g s c))
+sound-enter false x v g s c busy e = sound-hold x x.phase v g s c busy busy (λ inside. absurd-true_false (is_inside x.phase) inside (is_inside-from_Counts x v g s c))
 sound-enter true x v g s c busy e = sound-hold x Inside v g s c busy refl (λ _. e)
 
 sound-locked_by : (current fresh : Bool) (x : ClientState) (v t g : ℕ) → IsSound x → is_current x t ≡ current → is_fresh x v g ≡ fresh → IsSound (locked_by current fresh x v t g).state
 sound-locked_by false fresh x v t g s c f = s
 sound-locked_by true false x v t g s c f = s
-sound-locked_by true true x v t g s c f = sound-enter _ x v g s (counts x v g s f) (current_busy x t c).0 refl
+sound-locked_by true true x v t g s c f = sound-enter _ x v g s (Counts-is_fresh x v g s f) (is_current-busy x t c).0 refl
 
 -- FAIL and INQUIRE
 
-pub gives-failed : (x : ClientState) (v : ℕ) → HasPlaces x → GivesBack x (failed_by true x v)
-gives-failed x v places =
+pub GivesBack-failed_by : (x : ClientState) (v : ℕ) → HasPlaces x → GivesBack x (failed_by true x v)
+GivesBack-failed_by x v places =
     let y = fail x v in
     let there : HasPlaces y = record { held = places.held; last = places.last } in
-    let k = gives_each y (filter (is_inquired y) (members y)) there in
+    let k = GivesBack-relinquish_each y (filter (is_inquired y) (members y)) there in
     let o = failed_by true x v in
     record {
       id = k.id;
@@ -205,19 +205,19 @@ gives-failed x v places =
         | inl kept ↦ inl (record { held = kept.held; last = kept.last; inquired = kept.inquired; relinquished = kept.relinquished })
         | inr given ↦ inr (record { was = given.0.was; gone = given.0.gone; last = given.0.last; inquired = given.0.inquired }, given.1)
       ];
-      out = all_weaker (IsGiving y o.state) (IsGiving x o.state)
+      out = AllByRecursion-weaker (IsGiving y o.state) (IsGiving x o.state)
           (λ m p. let g = p.vote in record { client = p.client; vote = record { was = g.was; gone = g.gone; last = g.last; inquired = g.inquired }; body = p.body }) o.out k.out;
     }
 
 sound-failed_by : (b : Bool) (x : ClientState) (v : ℕ) → IsSound x → (b ≡ true → is_asking x.phase ≡ true) → IsSound (failed_by b x v).state
 sound-failed_by false x v s asking = s
-sound-failed_by true x v s asking = sound_given x (failed_by true x v) s (asking_outside x.phase (asking refl)) (gives-failed x v s.places)
+sound-failed_by true x v s asking = IsSound-GivesBack x (failed_by true x v) s (is_asking-outside x.phase (asking refl)) (GivesBack-failed_by x v s.places)
 
-pub asking_failed : (x : ClientState) (v t : ℕ) → (is_asking x.phase && t == x.stamp && is_member x v && not (holds x v)) ≡ true → is_asking x.phase ≡ true
-asking_failed x v t e = grind (arith, nat_tests)
+pub is_asking-from_failed : (x : ClientState) (v t : ℕ) → (is_asking x.phase && t == x.stamp && is_member x v && not (holds x v)) ≡ true → is_asking x.phase ≡ true
+is_asking-from_failed x v t e = grind (arith, nat_tests)
 
-under_holds : (x : ClientState) (v g : ℕ) → holds_under x v g ≡ true → holds x v ≡ true
-under_holds x v g e = (both (holds x v) (held_of x v == g) e).0
+holds_under-holds : (x : ClientState) (v g : ℕ) → holds_under x v g ≡ true → holds x v ≡ true
+holds_under-holds x v g e = (both_true-from_and (holds x v) (held_of x v == g) e).0
 
 sound-inquire : (x : ClientState) (v : ℕ) → IsSound x → holds x v ≡ true → IsSound (inquire x v)
 sound-inquire x v s h =
@@ -243,15 +243,15 @@ sound-inquire x v s h =
 
 sound-inquired_by : (b hindered : Bool) (x : ClientState) (v g : ℕ) → IsSound x → (is_asking x.phase && holds_under x v g) ≡ b → IsSound (inquired_by b hindered x v).state
 sound-inquired_by false hindered x v g s e = s
-sound-inquired_by true false x v g s e = sound-inquire x v s (under_holds x v g (both (is_asking x.phase) (holds_under x v g) e).1)
-sound-inquired_by true true x v g s e = sound_given x (inquired_by true true x v) s (asking_outside x.phase (both (is_asking x.phase) (holds_under x v g) e).0) (gives_one x v s.places)
+sound-inquired_by true false x v g s e = sound-inquire x v s (holds_under-holds x v g (both_true-from_and (is_asking x.phase) (holds_under x v g) e).1)
+sound-inquired_by true true x v g s e = IsSound-GivesBack x (inquired_by true true x v) s (is_asking-outside x.phase (both_true-from_and (is_asking x.phase) (holds_under x v g) e).0) (GivesBack-relinquish x v s.places)
 
 -- Any message
 
 sound-body : (x : ClientState) (v : ℕ) (b : ClientBody) → IsSound x → IsSound (take_body x v b).state
 unfolding locked failed inquired
 sound-body x v (tells.Locked t g) s = sound-locked_by _ _ x v t g s refl refl
-sound-body x v (tells.Fail t) s = sound-failed_by _ x v s (asking_failed x v t)
+sound-body x v (tells.Fail t) s = sound-failed_by _ x v s (is_asking-from_failed x v t)
 sound-body x v (tells.Inquire g) s = sound-inquired_by _ _ x v g s refl
 
 pub sound-see : (x : ClientState) (t : ℕ) → IsSound x → IsSound (see x t)
@@ -280,15 +280,15 @@ sound-take x m s = sound-body (see x m.seen) m.voter m.body (sound-see x m.seen 
 
 -- Calls
 
-pub places-cleared : (x : ClientState) → HasPlaces x → HasPlaces (cleared x)
-places-cleared x p = record { held = refl; last = p.last }
+pub HasPlaces-cleared : (x : ClientState) → HasPlaces x → HasPlaces (cleared x)
+HasPlaces-cleared x p = record { held = refl; last = p.last }
 
-nothing_held : {A : Type 0} (x : ClientState) (v : ℕ) → holds (cleared x) v ≡ true → A
-nothing_held x v h = clash (holds (cleared x) v) h (ap (ltb 0) (nothing_at 64 v))
+cleared-holds_nothing : {A : Type 0} (x : ClientState) (v : ℕ) → holds (cleared x) v ≡ true → A
+cleared-holds_nothing x v h = absurd-true_false (holds (cleared x) v) h (ap (ltb 0) (get_or-zeros 64 v))
 
 sound-asked : (x : ClientState) (q : List ℕ) → IsSound x → IsSet q → 1 ≤ length q → x.clock < x.limit → IsSound (begun x q)
 sound-asked x q s set some room =
-    let p = places-cleared x s.places in
+    let p = HasPlaces-cleared x s.places in
     record {
       id = s.id;
       some = s.some;
@@ -299,15 +299,15 @@ sound-asked x q s set some room =
       stamped = λ _. omega arith;
       quorum = set;
       asked = λ _. some;
-      held = λ v h. nothing_held x v h;
-      inside = λ inside. clash false inside refl;
-      inquired = λ v h. clash false h refl;
-      relinquished = λ v h. clash false h refl;
+      held = λ v h. cleared-holds_nothing x v h;
+      inside = λ inside. absurd-true_false false inside refl;
+      inquired = λ v h. absurd-true_false false h refl;
+      relinquished = λ v h. absurd-true_false false h refl;
     }
 
 sound-released : (x : ClientState) (seen : Seen) → IsSound x → IsSound (released x seen).state
 sound-released x seen s =
-    let p = places-cleared x s.places in
+    let p = HasPlaces-cleared x s.places in
     record {
       id = s.id;
       some = s.some;
@@ -315,70 +315,70 @@ sound-released x seen s =
       places = record { held = p.held; last = p.last };
       stamp = s.stamp;
       clock = s.clock;
-      stamped = λ busy. clash true refl busy;
+      stamped = λ busy. absurd-true_false true refl busy;
       quorum = s.quorum;
-      asked = λ busy. clash true refl busy;
-      held = λ v h. nothing_held x v h;
-      inside = λ inside. clash false inside refl;
-      inquired = λ v h. clash false h refl;
-      relinquished = λ v h. clash false h refl;
+      asked = λ busy. absurd-true_false true refl busy;
+      held = λ v h. cleared-holds_nothing x v h;
+      inside = λ inside. absurd-true_false false inside refl;
+      inquired = λ v h. absurd-true_false false h refl;
+      relinquished = λ v h. absurd-true_false false h refl;
     }
 
 -- An answered call
 
-pub same_Ok : {A E : Type 0} (a b : A) → ◌≡◌ {A = Result A E} (Ok a) (Ok b) → a ≡ b
-same_Ok a b e = same_Some a b (ap result_ok e)
+pub Ok-same : {A E : Type 0} (a b : A) → ◌≡◌ {A = Result A E} (Ok a) (Ok b) → a ≡ b
+Ok-same a b e = same_Some a b (ap result_ok e)
 
-not_Ok : {A E B : Type 0} (f : E) (b : B) → ◌≡◌ {A = Result B E} (Err f) (Ok b) → A
-not_Ok f b e = clash true refl (ap is_err e)
+Err-not_Ok : {A E B : Type 0} (f : E) (b : B) → ◌≡◌ {A = Result B E} (Err f) (Ok b) → A
+Err-not_Ok f b e = absurd-true_false true refl (ap is_err e)
 
-ask_room : (b : Bool) (x : ClientState) (q : List ℕ) (o : Outcome) → ask_unless b x q ≡ Ok o → (b ≡ false) × (asked x q ≡ o)
-ask_room true x q o e = not_Ok _ o e
-ask_room false x q o e = (refl, same_Ok (asked x q) o e)
+ask_unless-Ok : (b : Bool) (x : ClientState) (q : List ℕ) (o : Outcome) → ask_unless b x q ≡ Ok o → (b ≡ false) × (asked x q ≡ o)
+ask_unless-Ok true x q o e = Err-not_Ok _ o e
+ask_unless-Ok false x q o e = (refl, Ok-same (asked x q) o e)
 
-ask_idle : (p : Phase) (x : ClientState) (q : List ℕ) (o : Outcome) → ask_in p x q ≡ Ok o → (is_idle p ≡ true) × (is_spent x ≡ false) × (asked x q ≡ o)
-ask_idle Idle x q o e = let k = ask_room (is_spent x) x q o e in (refl, k.0, k.1)
-ask_idle Asking x q o e = not_Ok _ o e
-ask_idle Inside x q o e = not_Ok _ o e
+ask_in-Ok : (p : Phase) (x : ClientState) (q : List ℕ) (o : Outcome) → ask_in p x q ≡ Ok o → (is_idle p ≡ true) × (is_spent x ≡ false) × (asked x q ≡ o)
+ask_in-Ok Idle x q o e = let k = ask_unless-Ok (is_spent x) x q o e in (refl, k.0, k.1)
+ask_in-Ok Asking x q o e = Err-not_Ok _ o e
+ask_in-Ok Inside x q o e = Err-not_Ok _ o e
 
 -- an ask that is not refused
-pub ask_done : (x : ClientState) (q : List ℕ) (o : Outcome) → ask x q ≡ Ok o → (is_idle x.phase ≡ true) × (x.clock < x.limit) × (asked x q ≡ o)
+pub ask-Ok : (x : ClientState) (q : List ℕ) (o : Outcome) → ask x q ≡ Ok o → (is_idle x.phase ≡ true) × (x.clock < x.limit) × (asked x q ≡ o)
 unfolding ask
-ask_done x q o e = let k = ask_idle x.phase x q o e in let spent = k.1 in (k.0, grind (arith, nat_tests), k.2)
+ask-Ok x q o e = let k = ask_in-Ok x.phase x q o e in let spent = k.1 in (k.0, grind (arith, nat_tests), k.2)
 
-leave_inside : (p : Phase) (x : ClientState) (o : Outcome) → leave_in p x ≡ Ok o → (is_inside p ≡ true) × (released x Left ≡ o)
-leave_inside Idle x o e = not_Ok _ o e
-leave_inside Asking x o e = not_Ok _ o e
-leave_inside Inside x o e = (refl, same_Ok (released x Left) o e)
+leave_in-Ok : (p : Phase) (x : ClientState) (o : Outcome) → leave_in p x ≡ Ok o → (is_inside p ≡ true) × (released x Left ≡ o)
+leave_in-Ok Idle x o e = Err-not_Ok _ o e
+leave_in-Ok Asking x o e = Err-not_Ok _ o e
+leave_in-Ok Inside x o e = (refl, Ok-same (released x Left) o e)
 
-pub leave_done : (x : ClientState) (o : Outcome) → leave x ≡ Ok o → (is_inside x.phase ≡ true) × (released x Left ≡ o)
+pub leave-Ok : (x : ClientState) (o : Outcome) → leave x ≡ Ok o → (is_inside x.phase ≡ true) × (released x Left ≡ o)
 unfolding leave
-leave_done x o e = leave_inside x.phase x o e
+leave-Ok x o e = leave_in-Ok x.phase x o e
 
-give_up_asking : (p : Phase) (x : ClientState) (o : Outcome) → give_up_in p x ≡ Ok o → (is_asking p ≡ true) × (released x Nothing ≡ o)
-give_up_asking Idle x o e = not_Ok _ o e
-give_up_asking Asking x o e = (refl, same_Ok (released x Nothing) o e)
-give_up_asking Inside x o e = not_Ok _ o e
+give_up_in-Ok : (p : Phase) (x : ClientState) (o : Outcome) → give_up_in p x ≡ Ok o → (is_asking p ≡ true) × (released x Nothing ≡ o)
+give_up_in-Ok Idle x o e = Err-not_Ok _ o e
+give_up_in-Ok Asking x o e = (refl, Ok-same (released x Nothing) o e)
+give_up_in-Ok Inside x o e = Err-not_Ok _ o e
 
-pub give_up_done : (x : ClientState) (o : Outcome) → give_up x ≡ Ok o → (is_asking x.phase ≡ true) × (released x Nothing ≡ o)
+pub give_up-Ok : (x : ClientState) (o : Outcome) → give_up x ≡ Ok o → (is_asking x.phase ≡ true) × (released x Nothing ≡ o)
 unfolding give_up
-give_up_done x o e = give_up_asking x.phase x o e
+give_up-Ok x o e = give_up_in-Ok x.phase x o e
 
 pub sound-ask : (x : ClientState) (q : List ℕ) (o : Outcome) → IsSound x → IsSet q → 1 ≤ length q → ask x q ≡ Ok o → IsSound o.state
 sound-ask x q o s set some e =
-    let k = ask_done x q o e in
+    let k = ask-Ok x q o e in
     subst (λ (p : Outcome). IsSound p.state) k.2 (sound-asked x q s set some k.1)
 
 pub sound-leave : (x : ClientState) (o : Outcome) → IsSound x → leave x ≡ Ok o → IsSound o.state
-sound-leave x o s e = subst (λ (p : Outcome). IsSound p.state) (leave_done x o e).1 (sound-released x Left s)
+sound-leave x o s e = subst (λ (p : Outcome). IsSound p.state) (leave-Ok x o e).1 (sound-released x Left s)
 
 pub sound-give_up : (x : ClientState) (o : Outcome) → IsSound x → give_up x ≡ Ok o → IsSound o.state
-sound-give_up x o s e = subst (λ (p : Outcome). IsSound p.state) (give_up_done x o e).1 (sound-released x Nothing s)
+sound-give_up x o s e = subst (λ (p : Outcome). IsSound p.state) (give_up-Ok x o e).1 (sound-released x Nothing s)
 
 pub sound-step : (x : ClientState) (cause : Cause) (o : Outcome) → IsSound x → Accepts x cause → step x cause ≡ Ok o → IsSound o.state
 unfolding step
 sound-step x (Asks q) o s accepts e = sound-ask x q o s accepts.0 accepts.1 e
-sound-step x (Takes m) o s accepts e = subst (λ (p : Outcome). IsSound p.state) (same_Ok (take x m) o e) (sound-take x m s)
+sound-step x (Takes m) o s accepts e = subst (λ (p : Outcome). IsSound p.state) (Ok-same (take x m) o e) (sound-take x m s)
 sound-step x Leaves o s accepts e = sound-leave x o s e
 sound-step x GivesUp o s accepts e = sound-give_up x o s e
 
@@ -392,11 +392,11 @@ sound-start id limit small some most =
       places = record { held = refl; last = refl };
       stamp = omega arith;
       clock = omega arith;
-      stamped = λ busy. clash true refl busy;
+      stamped = λ busy. absurd-true_false true refl busy;
       quorum = tt;
-      asked = λ busy. clash true refl busy;
-      held = λ v h. clash (holds x v) h (ap (ltb 0) (nothing_at 64 v));
-      inside = λ inside. clash false inside refl;
-      inquired = λ v h. clash false h refl;
-      relinquished = λ v h. clash false h refl;
+      asked = λ busy. absurd-true_false true refl busy;
+      held = λ v h. absurd-true_false (holds x v) h (ap (ltb 0) (get_or-zeros 64 v));
+      inside = λ inside. absurd-true_false false inside refl;
+      inquired = λ v h. absurd-true_false false h refl;
+      relinquished = λ v h. absurd-true_false false h refl;
     }

@@ -14,11 +14,15 @@ HoldsBesides x voter (tells.Locked stamp grant) y = y.held ≡ slice_set x.held 
 HoldsBesides x voter (tells.Fail stamp) y = ⊥
 HoldsBesides x voter (tells.Inquire grant) y = ⊥
 
--- the vote is held as before; or it was held, no longer is, and its RELINQUISH is sent
+-- the vote was held, no longer is, and its RELINQUISH is sent
+abbrev pub IsGivenBack : ClientState → Outcome → ℕ → Type 0
+IsGivenBack x o voter =
+    (holds x voter ≡ true) × (held_of o.state voter ≡ 0)
+    × Contains o.out (tell x voter (asks.Relinquish (held_of x voter)))
+
+-- the vote is held as before, or it is given back
 abbrev pub IsKeptOrGiven : ClientState → Outcome → ℕ → Type 0
-IsKeptOrGiven x o voter =
-    (held_of o.state voter ≡ held_of x voter)
-    ⊎ ((holds x voter ≡ true) × (held_of o.state voter ≡ 0) × Contains o.out (tell x voter (asks.Relinquish (held_of x voter))))
+IsKeptOrGiven x o voter = (held_of o.state voter ≡ held_of x voter) ⊎ IsGivenBack x o voter
 
 -- no vote is held
 abbrev pub HoldsNothing : ClientState → Type 0

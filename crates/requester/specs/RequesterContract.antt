@@ -77,9 +77,11 @@ KeepsQuorum x GivesUp y = (members y ≡ members x) × (is_idle y.phase ≡ true
 -- - RELEASE with the stamp of a LOCKED that arrived, if no request with that stamp runs.
 abbrev pub Says : ClientState → Cause → ClientState → ℕ → VoterBody → Type 0
 Says x cause y voter (asks.Request stamp) = stamp ≡ y.stamp
-Says x cause y voter (asks.Relinquish grant) = (grant ≡ last_of y voter) × (holds_under x voter grant ≡ true) × (holds y voter ≡ false)
+Says x cause y voter (asks.Relinquish grant) =
+    (grant ≡ last_of y voter) × (holds_under x voter grant ≡ true) × (holds y voter ≡ false)
 Says x cause y voter (asks.Release stamp) =
-    ((stamp ≡ y.stamp) × (is_idle y.phase ≡ true)) ⊎ (IsLockedOf cause voter stamp × ((is_idle y.phase ≡ true) ⊎ (stamp ≢ y.stamp)))
+    ((stamp ≡ y.stamp) × (is_idle y.phase ≡ true))
+    ⊎ (IsLockedOf cause voter stamp × ((is_idle y.phase ≡ true) ⊎ (stamp ≢ y.stamp)))
 
 -- each of these messages is from this client, and is one that the step sends
 abbrev pub AllSay : ClientState → Cause → ClientState → List ToVoter → Type 0
@@ -92,8 +94,9 @@ pub record MeetsContract (x : ClientState) (cause : Cause) (o : Outcome) : Type 
   pub later : IsLater x o.state
   -- a held vote was held before under the same stamp, or the cause of the step is its LOCKED, which
   -- counts
-  pub held : (v g : ℕ) → holds_under o.state v g ≡ true →
-      ((holds_under x v g ≡ true) × (o.state.stamp ≡ x.stamp)) ⊎ (IsLocked cause v o.state.stamp g × IsLive o.state v o.state.stamp g)
+  pub held : (v g : ℕ) → holds_under o.state v g ≡ true
+      → ((holds_under x v g ≡ true) × (o.state.stamp ≡ x.stamp))
+      ⊎ (IsLocked cause v o.state.stamp g × IsLive o.state v o.state.stamp g)
   -- the last grant given back is the same as before, or the one that was held
   pub last : (v : ℕ) → (last_of o.state v ≡ last_of x v) ⊎ (holds_under x v (last_of o.state v) ≡ true)
   pub out : AllSay x cause o.state o.out
@@ -133,8 +136,10 @@ IsReached cause y voter = (is_member y voter ≡ true) ⊎ ((stamp : ℕ) × IsL
 
 -- each of these messages goes to such a voter, which is below 64, and is in range
 abbrev pub AllInRange : Cause → ClientState → List ToVoter → Type 0
-AllInRange cause y out = AllByRecursion (λ m. IsReached cause y m.voter × (m.voter < 64) × SaysInRange y.limit m.body) out
+AllInRange cause y out =
+    AllByRecursion (λ m. IsReached cause y m.voter × (m.voter < 64) × SaysInRange y.limit m.body) out
 
 -- each of these reminders goes to a member, which is below 64, and is in range
 abbrev pub RemindersInRange : ClientState → List ToVoter → Type 0
-RemindersInRange x out = AllByRecursion (λ m. (is_member x m.voter ≡ true) × (m.voter < 64) × SaysInRange x.limit m.body) out
+RemindersInRange x out =
+    AllByRecursion (λ m. (is_member x m.voter ≡ true) × (m.voter < 64) × SaysInRange x.limit m.body) out

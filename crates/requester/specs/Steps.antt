@@ -146,7 +146,8 @@ enter_if true x = record { out = []; seen = Entered; state = record x { phase = 
 -- By whether the request of this stamp runs, and whether the grant counts. A vote for any other
 -- request goes back by RELEASE.
 abbrev pub locked_by : Bool → Bool → ClientState → ℕ → ℕ → ℕ → Outcome
-locked_by false fresh x voter stamp grant = record { out = tell x voter (asks.Release stamp) ∷ []; seen = Nothing; state = x }
+locked_by false fresh x voter stamp grant =
+    record { out = tell x voter (asks.Release stamp) ∷ []; seen = Nothing; state = x }
 locked_by true false x voter stamp grant = silent x
 locked_by true true x voter stamp grant = enter_if (is_covered (hold x voter grant)) (hold x voter grant)
 
@@ -170,7 +171,8 @@ failed_by true x voter = relinquish_inquired (fail x voter) (members x)
 
 -- FAIL counts while the client asks under this stamp, from a member whose vote is not held
 unfoldable pub failed : ClientState → ℕ → ℕ → Outcome
-failed x voter stamp = failed_by (is_asking x.phase && stamp == x.stamp && is_member x voter && not (holds x voter)) x voter
+failed x voter stamp =
+    failed_by (is_asking x.phase && stamp == x.stamp && is_member x voter && not (holds x voter)) x voter
 
 -- INQUIRE
 
@@ -273,7 +275,8 @@ Foretells {F = F} None result = (o : F) × (result ≡ Ok o)
 abbrev pub remind_by : Bool → Bool → ClientState → ℕ → List ToVoter
 remind_by true given_back x voter = []
 remind_by false false x voter = tell x voter (asks.Request x.stamp) ∷ []
-remind_by false true x voter = tell x voter (asks.Relinquish (last_of x voter)) ∷ tell x voter (asks.Request x.stamp) ∷ []
+remind_by false true x voter =
+    tell x voter (asks.Relinquish (last_of x voter)) ∷ tell x voter (asks.Request x.stamp) ∷ []
 
 -- what is sent to a member again: nothing if its vote is held, else RELINQUISH if the vote was
 -- given back, and REQUEST

@@ -17,7 +17,8 @@ use crate::state::Seen;
 /// - it holds only votes that a LOCKED brought for the request that runs;
 /// - each message that it sends says what is so after the step.
 pub fn requesters_meet_the_contract()
-    ensures steps { (x : ClientState) (cause : Cause) (o : Outcome) → IsSound x → Accepts x cause → step x cause ≡ Ok o → MeetsContract x cause o }
+    ensures steps { (x : ClientState) (cause : Cause) (o : Outcome) → IsSound x → Accepts x cause
+        → step x cause ≡ Ok o → MeetsContract x cause o }
     ensures reminders { (x : ClientState) → AllRepeat x (remind x) }
 {}
 
@@ -29,7 +30,8 @@ pub fn requesters_meet_the_contract()
 /// - stamps are from 1 to the limit.
 pub fn requesters_stay_sound()
     ensures first { (id limit : ℕ) → id < 64 → 1 ≤ limit → limit ≤ 2 ^ 40 → IsSound (start id limit) }
-    ensures steps { (x : ClientState) (cause : Cause) (o : Outcome) → IsSound x → Accepts x cause → step x cause ≡ Ok o → IsSound o.state }
+    ensures steps { (x : ClientState) (cause : Cause) (o : Outcome) → IsSound x → Accepts x cause
+        → step x cause ≡ Ok o → IsSound o.state }
 {}
 
 /// Messages are in range:
@@ -38,7 +40,8 @@ pub fn requesters_stay_sound()
 /// - their stamps are from 1 to the limit, if those that arrive are;
 /// - their grants are at least 1.
 pub fn messages_are_in_range()
-    ensures steps { (x : ClientState) (cause : Cause) (o : Outcome) → IsSound x → Accepts x cause → ComesInRange x.limit cause → step x cause ≡ Ok o → AllInRange cause o.state o.out }
+    ensures steps { (x : ClientState) (cause : Cause) (o : Outcome) → IsSound x → Accepts x cause
+        → ComesInRange x.limit cause → step x cause ≡ Ok o → AllInRange cause o.state o.out }
     ensures reminders { (x : ClientState) → IsSound x → RemindersInRange x (remind x) }
 {}
 
@@ -46,14 +49,17 @@ pub fn messages_are_in_range()
 /// message adds none, and the votes that are no longer held are exactly those that the client
 /// relinquishes.
 pub fn messages_move_votes()
-    ensures would_hold { (x : ClientState) (m : ToClient) → IsSound x → would_hold x m ≡ true → HoldsBesides x m.voter m.body (take x m).state }
-    ensures others { (x : ClientState) (m : ToClient) → IsSound x → would_hold x m ≡ false → (v : ℕ) → IsKeptOrGiven x (take x m) v }
+    ensures would_hold { (x : ClientState) (m : ToClient) → IsSound x → would_hold x m ≡ true
+        → HoldsBesides x m.voter m.body (take x m).state }
+    ensures others { (x : ClientState) (m : ToClient) → IsSound x → would_hold x m ≡ false → (v : ℕ)
+        → IsKeptOrGiven x (take x m) v }
 {}
 
 /// A client that is idle holds nothing. A client that is inside holds the vote of each member.
 pub fn phases_tell_votes()
     ensures idle { (x : ClientState) → IsSound x → is_idle x.phase ≡ true → HoldsNothing x }
-    ensures inside { (x : ClientState) (v : ℕ) → IsSound x → is_inside x.phase ≡ true → is_member x v ≡ true → holds x v ≡ true }
+    ensures inside { (x : ClientState) (v : ℕ) → IsSound x → is_inside x.phase ≡ true → is_member x v ≡ true
+        → holds x v ≡ true }
     ensures asked { (x : ClientState) (quorum : List ℕ) (o : Outcome) → ask x quorum ≡ Ok o → HoldsNothing o.state }
     ensures left { (x : ClientState) (o : Outcome) → leave x ≡ Ok o → HoldsNothing o.state }
     ensures given_up { (x : ClientState) (o : Outcome) → give_up x ≡ Ok o → HoldsNothing o.state }
@@ -63,8 +69,10 @@ pub fn phases_tell_votes()
 /// whether the stamps are spent.
 pub fn phases_tell_refusals()
     ensures busy { (x : ClientState) (quorum : List ℕ) → is_idle x.phase ≡ false → ask x quorum ≡ Err ClientFault.Busy }
-    ensures spent { (x : ClientState) (quorum : List ℕ) → is_idle x.phase ≡ true → is_spent x ≡ true → ask x quorum ≡ Err ClientFault.StampsSpent }
-    ensures asked { (x : ClientState) (quorum : List ℕ) → is_idle x.phase ≡ true → is_spent x ≡ false → ask x quorum ≡ Ok (asked x quorum) }
+    ensures spent { (x : ClientState) (quorum : List ℕ) → is_idle x.phase ≡ true → is_spent x ≡ true
+        → ask x quorum ≡ Err ClientFault.StampsSpent }
+    ensures asked { (x : ClientState) (quorum : List ℕ) → is_idle x.phase ≡ true → is_spent x ≡ false
+        → ask x quorum ≡ Ok (asked x quorum) }
     ensures not_inside { (x : ClientState) → is_inside x.phase ≡ false → leave x ≡ Err ClientFault.NotInside }
     ensures left { (x : ClientState) → is_inside x.phase ≡ true → leave x ≡ Ok (released x Seen.Left) }
     ensures not_asking { (x : ClientState) → is_asking x.phase ≡ false → give_up x ≡ Err ClientFault.NotAsking }

@@ -56,7 +56,8 @@
 //! let mut client = Requester::new(7, 1000);
 //! let reply = client.ask(&quorum)?;
 //! // reply.out: REQUEST with stamp 1 to voter 0
-//! let locked = ToClient { voter: 0, client: 7, seen: 1, body: ClientBody::Locked { stamp: 1, grant: 1 } };
+//! let body = ClientBody::Locked { stamp: 1, grant: 1 };
+//! let locked = ToClient { voter: 0, client: 7, seen: 1, body };
 //! let reply = client.take(&locked);
 //! // reply.seen: Entered
 //! ```

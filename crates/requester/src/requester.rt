@@ -137,7 +137,8 @@ impl Requester {
     /// Fails with C1 unless the client is idle, and then with C4 if no stamp is left.
     pub fn ask(&mut self, quorum: &QSet) -> Result<Reply, ClientFault>
         requires { 1 ≤ length quorum.now }
-        ensures asked { IfOk result (λ r. ask self.old quorum.now ≡ Ok (record { out = r.out.items; seen = r.seen; state = self.new })) }
+        ensures asked { IfOk result (λ r. ask self.old quorum.now
+            ≡ Ok (record { out = r.out.items; seen = r.seen; state = self.new })) }
         ensures refused { IfErr result (λ fault. (ask self.old quorum.now ≡ Err fault) × (self.new ≡ self.old)) }
         ensures id { self.new.id ≡ self.old.id }
         ensures limit { self.new.limit ≡ self.old.limit }
@@ -151,8 +152,10 @@ impl Requester {
     /// it fails, `out` is empty.
     pub fn ask_into(&mut self, quorum: &QSet, out: &mut Messages) -> Result<Seen, ClientFault>
         requires { 1 ≤ length quorum.now }
-        ensures asked { IfOk result (λ seen. ask self.old quorum.now ≡ Ok (record { out = out.new.items; seen = seen; state = self.new })) }
-        ensures refused { IfErr result (λ fault. (ask self.old quorum.now ≡ Err fault) × (self.new ≡ self.old) × (out.new.items ≡ [])) }
+        ensures asked { IfOk result (λ seen. ask self.old quorum.now
+            ≡ Ok (record { out = out.new.items; seen = seen; state = self.new })) }
+        ensures refused { IfErr result (λ fault. (ask self.old quorum.now ≡ Err fault)
+            × (self.new ≡ self.old) × (out.new.items ≡ [])) }
         ensures id { self.new.id ≡ self.old.id }
         ensures limit { self.new.limit ≡ self.old.limit }
     {
@@ -165,7 +168,8 @@ impl Requester {
     pub fn take(&mut self, message: &ToClient) -> Reply
         requires client { message.now.client ≡ self.old.id }
         requires voter { message.now.voter < 64 }
-        ensures taken { take self.old message.now ≡ record { out = result.out.items; seen = result.seen; state = self.new } }
+        ensures taken { take self.old message.now
+            ≡ record { out = result.out.items; seen = result.seen; state = self.new } }
         ensures id { self.new.id ≡ self.old.id }
         ensures limit { self.new.limit ≡ self.old.limit }
     {
@@ -197,7 +201,8 @@ impl Requester {
     /// Leaves. The reply has a RELEASE for each member, in ascending order. Fails with C2 unless
     /// the client is inside.
     pub fn leave(&mut self) -> Result<Reply, ClientFault>
-        ensures left { IfOk result (λ r. leave self.old ≡ Ok (record { out = r.out.items; seen = r.seen; state = self.new })) }
+        ensures left { IfOk result (λ r. leave self.old
+            ≡ Ok (record { out = r.out.items; seen = r.seen; state = self.new })) }
         ensures refused { IfErr result (λ fault. (leave self.old ≡ Err fault) × (self.new ≡ self.old)) }
         ensures id { self.new.id ≡ self.old.id }
         ensures limit { self.new.limit ≡ self.old.limit }
@@ -210,8 +215,10 @@ impl Requester {
     /// Does what [`Requester::leave`] does, with the messages in `out` in place of what was there.
     /// If it fails, `out` is empty.
     pub fn leave_into(&mut self, out: &mut Messages) -> Result<Seen, ClientFault>
-        ensures left { IfOk result (λ seen. leave self.old ≡ Ok (record { out = out.new.items; seen = seen; state = self.new })) }
-        ensures refused { IfErr result (λ fault. (leave self.old ≡ Err fault) × (self.new ≡ self.old) × (out.new.items ≡ [])) }
+        ensures left { IfOk result (λ seen. leave self.old
+            ≡ Ok (record { out = out.new.items; seen = seen; state = self.new })) }
+        ensures refused { IfErr result (λ fault. (leave self.old ≡ Err fault)
+            × (self.new ≡ self.old) × (out.new.items ≡ [])) }
         ensures id { self.new.id ≡ self.old.id }
         ensures limit { self.new.limit ≡ self.old.limit }
     {
@@ -222,7 +229,8 @@ impl Requester {
     /// Gives up the request. The reply has a RELEASE for each member, in ascending order. Fails
     /// with C3 unless the client is asking.
     pub fn give_up(&mut self) -> Result<Reply, ClientFault>
-        ensures given_up { IfOk result (λ r. give_up self.old ≡ Ok (record { out = r.out.items; seen = r.seen; state = self.new })) }
+        ensures given_up { IfOk result (λ r. give_up self.old
+            ≡ Ok (record { out = r.out.items; seen = r.seen; state = self.new })) }
         ensures refused { IfErr result (λ fault. (give_up self.old ≡ Err fault) × (self.new ≡ self.old)) }
         ensures id { self.new.id ≡ self.old.id }
         ensures limit { self.new.limit ≡ self.old.limit }
@@ -235,8 +243,10 @@ impl Requester {
     /// Does what [`Requester::give_up`] does, with the messages in `out` in place of what was
     /// there. If it fails, `out` is empty.
     pub fn give_up_into(&mut self, out: &mut Messages) -> Result<Seen, ClientFault>
-        ensures given_up { IfOk result (λ seen. give_up self.old ≡ Ok (record { out = out.new.items; seen = seen; state = self.new })) }
-        ensures refused { IfErr result (λ fault. (give_up self.old ≡ Err fault) × (self.new ≡ self.old) × (out.new.items ≡ [])) }
+        ensures given_up { IfOk result (λ seen. give_up self.old
+            ≡ Ok (record { out = out.new.items; seen = seen; state = self.new })) }
+        ensures refused { IfErr result (λ fault. (give_up self.old ≡ Err fault)
+            × (self.new ≡ self.old) × (out.new.items ≡ [])) }
         ensures id { self.new.id ≡ self.old.id }
         ensures limit { self.new.limit ≡ self.old.limit }
     {

@@ -199,8 +199,10 @@ impl ClientState {
     pub fn ask(&mut self, quorum: &QSet, out: &mut Messages) -> Result<Seen, ClientFault>
         requires few { self.old.limit < 2 ^ 63 }
         requires room { out.old.items ≡ [] }
-        ensures asked { IfOk result (λ seen. ask self.old quorum.now ≡ Ok (record { out = out.new.items; seen = seen; state = self.new })) }
-        ensures refused { IfErr result (λ fault. (ask self.old quorum.now ≡ Err fault) × (self.new ≡ self.old) × (out.new.items ≡ [])) }
+        ensures asked { IfOk result (λ seen. ask self.old quorum.now
+            ≡ Ok (record { out = out.new.items; seen = seen; state = self.new })) }
+        ensures refused { IfErr result (λ fault. (ask self.old quorum.now ≡ Err fault)
+            × (self.new ≡ self.old) × (out.new.items ≡ [])) }
         ensures set { IfOk result (λ _. IsSet quorum.now) }
     {
         if let Some(fault) = self.ask_fault() {
@@ -409,8 +411,10 @@ impl ClientState {
     pub fn leave(&mut self, out: &mut Messages) -> Result<Seen, ClientFault>
         requires few { array_vec_len self.old.quorum ≤ 64 }
         requires room { out.old.items ≡ [] }
-        ensures left { IfOk result (λ seen. leave self.old ≡ Ok (record { out = out.new.items; seen = seen; state = self.new })) }
-        ensures refused { IfErr result (λ fault. (leave self.old ≡ Err fault) × (self.new ≡ self.old) × (out.new.items ≡ [])) }
+        ensures left { IfOk result (λ seen. leave self.old
+            ≡ Ok (record { out = out.new.items; seen = seen; state = self.new })) }
+        ensures refused { IfErr result (λ fault. (leave self.old ≡ Err fault)
+            × (self.new ≡ self.old) × (out.new.items ≡ [])) }
     {
         if let Some(fault) = self.leave_fault() {
             return Err(fault);
@@ -435,8 +439,10 @@ impl ClientState {
     pub fn give_up(&mut self, out: &mut Messages) -> Result<Seen, ClientFault>
         requires few { array_vec_len self.old.quorum ≤ 64 }
         requires room { out.old.items ≡ [] }
-        ensures given_up { IfOk result (λ seen. give_up self.old ≡ Ok (record { out = out.new.items; seen = seen; state = self.new })) }
-        ensures refused { IfErr result (λ fault. (give_up self.old ≡ Err fault) × (self.new ≡ self.old) × (out.new.items ≡ [])) }
+        ensures given_up { IfOk result (λ seen. give_up self.old
+            ≡ Ok (record { out = out.new.items; seen = seen; state = self.new })) }
+        ensures refused { IfErr result (λ fault. (give_up self.old ≡ Err fault)
+            × (self.new ≡ self.old) × (out.new.items ≡ [])) }
     {
         if let Some(fault) = self.give_up_fault() {
             return Err(fault);

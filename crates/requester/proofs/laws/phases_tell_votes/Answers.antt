@@ -1,17 +1,17 @@
-use Rattle.requester.proofs.VoteLemmas.{asked_holds_nothing, given_up_holds_nothing, idle_holds_nothing, inside_holds, left_holds_nothing}
+use Rattle.requester.proofs.VoteLemmas.{HoldsNothing-ask, HoldsNothing-give_up, HoldsNothing-idle, holds-inside, HoldsNothing-leave}
 use Rattle.requester.proofs.laws.phases_tell_votes.Goals as goal
 
 pub returns-clause-idle : goal.returns-clause-idle
-returns-clause-idle c = idle_holds_nothing
+returns-clause-idle c = HoldsNothing-idle
 
 pub returns-clause-inside : goal.returns-clause-inside
-returns-clause-inside c = inside_holds
+returns-clause-inside c = holds-inside
 
 pub returns-clause-asked : goal.returns-clause-asked
-returns-clause-asked c = asked_holds_nothing
+returns-clause-asked c = HoldsNothing-ask
 
 pub returns-clause-left : goal.returns-clause-left
-returns-clause-left c = left_holds_nothing
+returns-clause-left c = HoldsNothing-leave
 
 pub returns-clause-given_up : goal.returns-clause-given_up
-returns-clause-given_up c = given_up_holds_nothing
+returns-clause-given_up c = HoldsNothing-give_up

@@ -4,7 +4,7 @@ use Rattle.std.proofs.lemmas.List.{drop_more, append_assoc}
 use Rattle.std.proofs.lemmas.Map.Keys.{IsDistinct-head, IsDistinct-tail}
 use Rattle.requester.specs.declared.state.ClientState.{ClientState}
 use Rattle.requester.specs.Steps.{relinquish_marked, relinquish_inquired}
-use Rattle.requester.proofs.Rest.{rest_state, rest_out, quorum_marked}
+use Rattle.requester.proofs.Rest.{relinquish_inquired-cons_state, relinquish_inquired-cons_out, quorum-relinquish_marked}
 use Rattle.requester.proofs.state.ClientState.relinquish_inquired.Goals as goal
 
 pub loop-i-preserved : goal.loop-i-preserved
@@ -22,15 +22,15 @@ loop-i-preserved c =
     let below = (subst (AllByRecursion (λ u. u < 64)) cut inv.small).1 in
     let after = c.relinquish_marked.ensures.state in
     record {
-      same = ap (λ (s : ClientState). s.quorum) after ∙ quorum_marked self v ∙ inv.same;
+      same = ap (λ (s : ClientState). s.quorum) after ∙ quorum-relinquish_marked self v ∙ inv.same;
       small = below;
       apart = IsDistinct-tail eqb v rest apart;
-      state = ap (λ (s : ClientState). (relinquish_inquired s rest).state) after ∙ sym (rest_state self v rest below others)
+      state = ap (λ (s : ClientState). (relinquish_inquired s rest).state) after ∙ sym (relinquish_inquired-cons_state self v rest below others)
           ∙ ap (λ (vs : List ℕ). (relinquish_inquired self vs).state) (sym cut) ∙ inv.state;
       out = ap (λ (s : ClientState). c.relinquish_marked.new.out.items ++ (relinquish_inquired s rest).out) after
           ∙ ap (λ o. o ++ (relinquish_inquired (relinquish_marked self v).state rest).out) c.relinquish_marked.ensures.out
           ∙ append_assoc c.loop-i.out.items (relinquish_marked self v).out (relinquish_inquired (relinquish_marked self v).state rest).out
-          ∙ ap (λ o. c.loop-i.out.items ++ o) (sym (rest_out self v rest below others))
+          ∙ ap (λ o. c.loop-i.out.items ++ o) (sym (relinquish_inquired-cons_out self v rest below others))
           ∙ ap (λ (vs : List ℕ). c.loop-i.out.items ++ (relinquish_inquired self vs).out) (sym cut) ∙ inv.out;
       len = omega arith;
     }
