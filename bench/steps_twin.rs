@@ -222,6 +222,24 @@ enum Phase {
     Inside,
 }
 
+/// A set of numbers below 64.
+#[derive(Clone, Copy)]
+struct Set(u64);
+
+impl Set {
+    fn has(&self, i: u8) -> bool {
+        self.0 >> i & 1 == 1
+    }
+
+    fn insert(&mut self, i: u8) {
+        self.0 |= 1 << i;
+    }
+
+    fn remove(&mut self, i: u8) {
+        self.0 &= !(1 << i);
+    }
+}
+
 struct Requester {
     id: u8,
     limit: u64,
@@ -231,9 +249,9 @@ struct Requester {
     quorum: Vec<u8>,
     held: [u64; 64],
     last: [u64; 64],
-    failed: [bool; 64],
-    relinquished: [bool; 64],
-    inquired: [bool; 64],
+    failed: Set,
+    relinquished: Set,
+    inquired: Set,
 }
 
 impl Requester {
@@ -247,9 +265,9 @@ impl Requester {
             quorum: Vec::new(),
             held: [0; 64],
             last: [0; 64],
-            failed: [false; 64],
-            relinquished: [false; 64],
-            inquired: [false; 64],
+            failed: Set(0),
+            relinquished: Set(0),
+            inquired: Set(0),
         }
     }
 
@@ -263,9 +281,9 @@ impl Requester {
 
     fn clear(&mut self) {
         self.held = [0; 64];
-        self.failed = [false; 64];
-        self.relinquished = [false; 64];
-        self.inquired = [false; 64];
+        self.failed = Set(0);
+        self.relinquished = Set(0);
+        self.inquired = Set(0);
     }
 
     /// Whether the client asks.
@@ -302,8 +320,8 @@ impl Requester {
             let grant = self.held[place];
             self.held[place] = 0;
             self.last[place] = grant;
-            self.inquired[place] = false;
-            self.relinquished[place] = true;
+            self.inquired.remove(voter);
+            self.relinquished.insert(voter);
             self.tell(voter, VoterBody::Relinquish { grant }, out);
         }
     }
@@ -318,9 +336,9 @@ impl Requester {
             return false;
         }
         self.held[place] = grant;
-        self.failed[place] = false;
-        self.relinquished[place] = false;
-        self.inquired[place] = false;
+        self.failed.remove(voter);
+        self.relinquished.remove(voter);
+        self.inquired.remove(voter);
         if !self.quorum.iter().all(|v| self.held[*v as usize] > 0) {
             return false;
         }
@@ -334,10 +352,10 @@ impl Requester {
             && self.quorum.contains(&voter)
             && self.held[voter as usize] == 0
         {
-            self.failed[voter as usize] = true;
+            self.failed.insert(voter);
             for i in 0..self.quorum.len() {
                 let member = self.quorum[i];
-                if self.inquired[member as usize] {
+                if self.inquired.has(member) {
                     self.relinquish(member, out);
                 }
             }
@@ -346,11 +364,11 @@ impl Requester {
 
     fn inquired(&mut self, voter: u8, grant: u64, out: &mut Vec<ToVoter>) {
         if self.phase == Phase::Asking && grant > 0 && self.held[voter as usize] == grant {
-            let hindered = |v: &u8| self.failed[*v as usize] || self.relinquished[*v as usize];
+            let hindered = |v: &u8| self.failed.has(*v) || self.relinquished.has(*v);
             if self.quorum.iter().any(hindered) {
                 self.relinquish(voter, out);
             } else {
-                self.inquired[voter as usize] = true;
+                self.inquired.insert(voter);
             }
         }
     }

@@ -13,12 +13,14 @@ use Rattle.requester.specs.Soundness.{HasPlaces}
 use Rattle.requester.specs.Steps.{Outcome, silent, tell, relinquish, relinquish_if, relinquish_each}
 use Rattle.requester.proofs.Members.{AllByRecursion-append, AllByRecursion-weaker, absurd-true_false, has-with_voter, has-without_voter, get_or-some_below}
 
+-- the vote and its last grant are as before, and no mark is new
 pub record Kept (x y : ClientState) (v : ℕ) : Type 0 where
   pub held : held_of y v ≡ held_of x v
   pub last : last_of y v ≡ last_of x v
   pub inquired : is_inquired y v ≡ true → is_inquired x v ≡ true
   pub relinquished : is_relinquished y v ≡ true → is_relinquished x v ≡ true
 
+-- the vote was held and no longer is; its grant is the last one given back, and nobody asks for it
 pub record Given (x y : ClientState) (v : ℕ) : Type 0 where
   pub was : holds x v ≡ true
   pub gone : held_of y v ≡ 0
@@ -35,6 +37,7 @@ pub record IsGiving (x y : ClientState) (m : ToVoter) : Type 0 where
   pub vote : Given x y m.voter
   pub body : m.body ≡ asks.Relinquish (held_of x m.voter)
 
+-- the step gives votes back and does nothing else: each vote is kept, or goes back by its message
 pub record GivesBack (x : ClientState) (o : Outcome) : Type 0 where
   pub id : o.state.id ≡ x.id
   pub limit : o.state.limit ≡ x.limit
