@@ -9,7 +9,10 @@ ghost use Rattle.std.specs.Prelude.{◌≡◌};
 ghost use Rattle.qlock_cli.specs.Commands.{IsInRange};
 ghost use Rattle.qlock.specs.Statuses.{status_of, usage_status};
 
-use qlock_cli::{Command, DeviceFault, Fault, NoGate, Usage, Watched, execute, execute_run, named_commands_are_in_range, read_words};
+use qlock_cli::{
+    Command, DeviceFault, Fault, NoGate, Usage, Watched, execute, execute_run,
+    named_commands_are_in_range, read_words,
+};
 use std::process::ExitCode;
 use std::sync::Wait;
 use std::thread::Threads;

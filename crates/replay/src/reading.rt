@@ -6,8 +6,8 @@ ghost use Rattle.replay.specs.declared.fault.ReplayFault.TheVariants.{BadLine, O
 
 use crate::fault::ReplayFault;
 use crate::script::Script;
-use texts::{cut, cut_at, fields};
 use std::alloc::Global;
+use texts::{cut, cut_at, fields};
 use world::Step;
 
 /// The highest limit of stamps and grants.

@@ -9,8 +9,8 @@ ghost use Rattle.replay.specs.declared.record_reading.RecordLine.{RecordLine};
 
 use crate::fault::ReplayFault;
 use cluster::RunRecord;
-use texts::{cut, cut_at, fields};
 use std::alloc::{AllocError, Global};
+use texts::{cut, cut_at, fields};
 
 /// The first line of a record.
 const TITLE: &[u8] = b"quorum-record 1";
