@@ -1,8 +1,28 @@
-//! Sets, sums and counts of whole numbers, and lemmas about them: no code.
+//! Sets, sums and counts of whole numbers, lemmas about them, and the bounds of the lock: constants,
+//! no functions.
 //!
+//! - `specs/Bounds.antt`: the bounds by name, for contracts. The constants below are the same.
 //! - `specs/Sets.antt`: sets of numbers below 64, each as the ascending list of its members.
 //! - `specs/Sums.antt`: sums over the numbers below a bound, and lists of all of them.
 //! - `specs/Counts.antt`: how often a number is in a list, and the greatest value of a function.
 //!
 //! This is the one crate whose lemmas other crates use (`proofs/`): they are its public matter.
 #![tactic(auto)]
+
+/// The most voters of a coterie. Voters are numbered from 0.
+pub const MAX_VOTERS: usize = 64;
+
+/// The most clients. Clients are numbered from 0.
+pub const MAX_CLIENTS: usize = 64;
+
+/// The most quorums of a coterie. Quorums are numbered from 0.
+pub const MAX_QUORUMS: usize = 4096;
+
+/// The most entries of a cycle, and the largest sum of the voters' weights.
+pub const MAX_CYCLE: u64 = 1_000_000;
+
+/// The highest stamp, and the highest number of a grant.
+pub const MAX_STAMP: u64 = 1 << 40;
+
+/// The most tickets. As each pass has a ticket, it is also the highest number of a register.
+pub const MAX_TICKETS: u64 = 1 << 63;
