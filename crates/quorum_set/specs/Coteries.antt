@@ -4,6 +4,7 @@ use Rattle.std.specs.Prelude.{◌⊎◌, ◌≡◌, ℕ, ◌+◌, ◌<◌, ◌�
 use Rattle.std.specs.Option.{option_or}
 use Rattle.std.specs.List.{All, AllPairs}
 use Rattle.std.specs.Prelude.{Option, Result, Ok, Err, None, Some}
+use Rattle.numbers.specs.Bounds.{max_voters, max_quorums}
 use Rattle.numbers.specs.Sets.{has, meet, within, IsSet}
 use Rattle.quorum_set.specs.declared.fault.CoterieFault.{CoterieFault}
 use Rattle.quorum_set.specs.declared.fault.CoterieFault.TheVariants.{NoVoters, TooManyVoters, NoQuorums, TooManyQuorums, EmptyQuorum, VoterOutOfRange, Disjoint, Contained}
@@ -17,9 +18,9 @@ pub record QuorumSystem : Type 0 where
 -- quorums at different places have a common member, and neither is within the other.
 pub record IsCoterie (s : QuorumSystem) : Type 0 where
   pub some_voter : 0 < s.voters
-  pub few_voters : s.voters ≤ 64
+  pub few_voters : s.voters ≤ max_voters
   pub some_quorum : 0 < length s.quorums
-  pub few_quorums : length s.quorums ≤ 4096
+  pub few_quorums : length s.quorums ≤ max_quorums
   pub sets : All IsSet s.quorums
   pub not_empty : All (λ q. 0 < length q) s.quorums
   pub in_range : All (λ q. All (λ i. i < s.voters) q) s.quorums
@@ -72,9 +73,9 @@ fault_if b e = if b then Some e else None
 abbrev pub first_fault : ℕ → List (List ℕ) → Option CoterieFault
 first_fault n sets =
     option_or (fault_if (n == 0) NoVoters)
-    (option_or (fault_if (nat_lt 64 n) TooManyVoters)
+    (option_or (fault_if (nat_lt max_voters n) TooManyVoters)
     (option_or (fault_if (length sets == 0) NoQuorums)
-    (option_or (fault_if (nat_lt 4096 (length sets)) TooManyQuorums)
+    (option_or (fault_if (nat_lt max_quorums (length sets)) TooManyQuorums)
     (option_or (option_map EmptyQuorum (position (λ s. length s == 0) sets))
     (option_or (option_map (λ p. VoterOutOfRange p.0 p.1) (first_outside n 0 sets))
     (option_or (option_map (λ p. Disjoint p.0 p.1) (first_pair are_disjoint 0 sets))

@@ -5,6 +5,7 @@ ghost use Rattle.quorum_set.specs.Coteries.{IsCoterie, first_outside, first_from
 
 use crate::fault::CoterieFault;
 use crate::qset::QSet;
+use numbers::{MAX_QUORUMS, MAX_VOTERS};
 use std::alloc::{AllocError, Global};
 use std::marker::Model;
 
@@ -113,13 +114,13 @@ fn fault_of(n: usize, sets: &[QSet]) -> Option<CoterieFault>
     if n == 0 {
         return Some(CoterieFault::NoVoters);
     }
-    if n > 64 {
+    if n > MAX_VOTERS {
         return Some(CoterieFault::TooManyVoters);
     }
     if sets.is_empty() {
         return Some(CoterieFault::NoQuorums);
     }
-    if sets.len() > 4096 {
+    if sets.len() > MAX_QUORUMS {
         return Some(CoterieFault::TooManyQuorums);
     }
     if let Some(j) = first_empty(sets) {
