@@ -3,6 +3,7 @@ use Rattle.std.specs.Prelude.{◌≡◌, ℕ, ◌*◌, ◌<◌, ◌≤◌, not, 
 use Rattle.std.specs.List.{All}
 use Rattle.quorum_set.specs.Coteries.{QuorumSystem, IsCoterie}
 use Rattle.quorum_set.specs.Counts.{busiest_of}
+use Rattle.numbers.specs.Bounds.{max_cycle}
 use Rattle.numbers.specs.Counts.{greatest_below}
 use Rattle.divisor.specs.Gcd.{lowest_terms}
 use Rattle.certificate.specs.Loads.{weight_on, weight_within}
@@ -42,9 +43,9 @@ pub record IsCertificate (w : Weighted) : Type 0 where
   pub quorums : length w.quorum_weights ≡ length w.system.quorums
   pub voters : length w.voter_weights ≡ w.system.voters
   pub some_quorum : 0 < cycle_len w
-  pub few_quorums : cycle_len w ≤ 1000000
+  pub few_quorums : cycle_len w ≤ max_cycle
   pub some_voter : 0 < voter_total w
-  pub few_voters : voter_total w ≤ 1000000
+  pub few_voters : voter_total w ≤ max_cycle
   pub balanced : busiest_count w * voter_total w ≡ lightest_quorum w * cycle_len w
 
 -- the numbers that a plan stores next to its weights: the cycle's length and the busiest count
@@ -63,7 +64,7 @@ load_of w = lowest_terms (busiest_count w) (cycle_len w)
 abbrev pub weights_fault : Weighted → Option PlanFault
 weights_fault w =
     if not ((length w.quorum_weights == length w.system.quorums) && (length w.voter_weights == w.system.voters)) then Some WrongLength else
-    if nat_lt 1000000 (cycle_len w) || nat_lt 1000000 (voter_total w) then Some TooLarge else
+    if nat_lt max_cycle (cycle_len w) || nat_lt max_cycle (voter_total w) then Some TooLarge else
     if (cycle_len w == 0) || (voter_total w == 0) then Some Empty else
     if not (busiest_count w * voter_total w == lightest_quorum w * cycle_len w)
     then Some (NotOptimal (busiest_count w) (voter_total w) (lightest_quorum w) (cycle_len w)) else None

@@ -1,22 +1,21 @@
 //! Sums of weights: of the quorums with a voter, and of a quorum's members.
 ghost use Rattle.std.specs.Prelude.{◌≡◌, ◌<◌, ◌≤◌, ◌^◌, length, sum, All, SomeIff};
 ghost use Rattle.quorum_set.specs.Coteries.{IsCoterie};
+ghost use Rattle.numbers.specs.Bounds.{max_cycle};
 ghost use Rattle.numbers.specs.Counts.{greatest_below};
 ghost use Rattle.certificate.specs.Loads.{weight_on, weight_within};
 ghost use Rattle.numbers.specs.Counts.{least_of};
 
+use numbers::MAX_CYCLE;
 use quorum_set::{Coterie, QSet};
-
-/// The greatest sum that the quorums' weights may have, and the voters' weights.
-const LARGEST: u64 = 1_000_000;
 
 /// Returns the sum of the weights, or `None` if it is above 1,000,000.
 pub(crate) fn total(weights: &[u64]) -> Option<u64>
-    ensures { SomeIff result (sum weights.now ≤ 1000000) (sum weights.now) }
+    ensures { SomeIff result (sum weights.now ≤ max_cycle) (sum weights.now) }
 {
     let mut total = 0;
     for weight in weights {
-        if *weight > LARGEST - total {
+        if *weight > MAX_CYCLE - total {
             return None;
         }
         total += *weight;
@@ -44,7 +43,7 @@ pub fn weight_on(coterie: &Coterie, weights: &[u64], voter: u8) -> u64
 /// Returns the greatest sum, over the voters, of the weights of the quorums with that voter.
 pub(crate) fn busiest_count(coterie: &Coterie, weights: &[u64]) -> u64
     requires lengths { length weights.now ≡ length coterie.now.quorums }
-    requires small { sum weights.now ≤ 1000000 }
+    requires small { sum weights.now ≤ max_cycle }
     ensures count { result ≡ greatest_below coterie.now.voters (λ i. weight_on i coterie.now.quorums weights.now) }
     ensures small { result ≤ sum weights.now }
 {
@@ -58,7 +57,7 @@ pub(crate) fn busiest_count(coterie: &Coterie, weights: &[u64]) -> u64
 /// Returns the sum of the weights of a quorum's members.
 fn weight_within(quorum: &QSet, weights: &[u64]) -> u64
     requires members { All (λ i. i < length weights.now) quorum.now }
-    requires small { sum weights.now ≤ 1000000 }
+    requires small { sum weights.now ≤ max_cycle }
     ensures weight { result ≡ weight_within weights.now quorum.now }
     ensures small { result ≤ 64000000 }
 {
@@ -74,7 +73,7 @@ fn weight_within(quorum: &QSet, weights: &[u64]) -> u64
 pub(crate) fn lightest_quorum(coterie: &Coterie, weights: &[u64]) -> u64
     requires coterie { IsCoterie coterie.now }
     requires lengths { length weights.now ≡ coterie.now.voters }
-    requires small { sum weights.now ≤ 1000000 }
+    requires small { sum weights.now ≤ max_cycle }
     ensures weight { result ≡ least_of (weight_within weights.now) coterie.now.quorums }
     ensures small { result ≤ 64000000 }
 {

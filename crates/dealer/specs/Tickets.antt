@@ -1,7 +1,8 @@
 -- The rule of an office's ticket word, and what the steps on it show.
-use Rattle.std.specs.Prelude.{◌≡◌, ℕ, ◌+◌, ◌-◌, ◌^◌, ◌<◌, ◌≤◌, List, [], ◌∷◌, ◌++◌, length, slice_index}
+use Rattle.std.specs.Prelude.{◌≡◌, ℕ, ◌+◌, ◌-◌, ◌<◌, ◌≤◌, List, [], ◌∷◌, ◌++◌, length, slice_index}
 use Rattle.std.specs.List.{All, sum_by}
 use Rattle.atomic_table.specs.Table.{State, Me, Step}
+use Rattle.numbers.specs.Bounds.{max_tickets}
 use Rattle.numbers.specs.Sums.{sum_below, AreAllBelow}
 use Rattle.certificate.specs.Certificates.{Weighted}
 use Rattle.dealer.specs.declared.tickets.Hand.{Hand}
@@ -16,7 +17,7 @@ hand cycle rest drawn = record { cycle = cycle; rest = rest; drawn = drawn }
 -- each once: however numbers are weighed, both have the same sum.
 pub record IsDealt (quota : ℕ) (words : List ℕ) (views : List Hand) : Type 0 where
   pub one_word : length words ≡ 1
-  pub fits : quota ≤ 2 ^ 63
+  pub fits : quota ≤ max_tickets
   pub quota_kept : slice_index words 0 + sum_by (λ v. v.rest) views ≡ quota
   pub each_once : (h : ℕ → ℕ) → sum_by (λ v. sum_by h v.drawn) views ≡ sum_below h (slice_index words 0)
 
@@ -34,7 +35,7 @@ Draws quota st m found after =
 
 -- a read, which changes nothing: a seat may draw no more than 2^63 tickets
 abbrev pub Looks : Step (Unit {0}) → Me (Unit {0}) Hand → ℕ → Me (Unit {0}) Hand → Type 0
-Looks st m found after = (after ≡ m) × (m.0.rest ≤ 2 ^ 63)
+Looks st m found after = (after ≡ m) × (m.0.rest ≤ max_tickets)
 
 -- two seats in one: what they may draw, and what they drew
 abbrev pub joined : Hand → Hand → Hand
@@ -48,5 +49,5 @@ nothing = hand (record { system = record { voters = 0; quorums = [] }; quorum_we
 -- it, it has all tickets that were drawn.
 abbrev pub Ends : Sheet → Hand → Type 0
 Ends sheet v =
-    (sheet.quota ≤ 2 ^ 63) × (length v.drawn + v.rest ≤ sheet.quota)
+    (sheet.quota ≤ max_tickets) × (length v.drawn + v.rest ≤ sheet.quota)
     × (length v.drawn + v.rest ≡ sheet.quota → AreAllBelow v.drawn (length v.drawn))

@@ -1,6 +1,7 @@
 //! Offices: tickets for the clerks of any number of threads.
-ghost use Rattle.std.specs.Prelude.{◌≡◌, ℕ, ◌+◌, ◌-◌, ◌*◌, ◌^◌, ◌<◌, ◌≤◌, [], ◌∷◌, ◌++◌, length, map, IfOk, IfErr};
+ghost use Rattle.std.specs.Prelude.{◌≡◌, ℕ, ◌+◌, ◌-◌, ◌*◌, ◌<◌, ◌≤◌, [], ◌∷◌, ◌++◌, length, map, IfOk, IfErr};
 ghost use Rattle.std.specs.List.{All};
+ghost use Rattle.numbers.specs.Bounds.{max_tickets};
 ghost use Rattle.numbers.specs.Counts.{times};
 ghost use Rattle.numbers.specs.Sums.{AreAllBelow};
 ghost use Rattle.certificate.specs.Certificates.{busiest_count, cycle_len};
@@ -29,7 +30,7 @@ pub struct Office {
 }
 
 impl Model for Office {
-    ghost use Rattle.std.specs.Prelude.{◌≡◌, ◌≤◌, ◌^◌};
+    ghost use Rattle.std.specs.Prelude.{◌≡◌, ◌≤◌};
     ghost use Rattle.dealer.specs.Offices.{OfficeState};
 
     ghost Value = { OfficeState };
@@ -76,7 +77,7 @@ impl Office {
         cycle: Cycle,
         quota: u64,
     ) -> Result<(Office, Clerk), (Cycle, AllocError)>
-        requires { quota ≤ 2 ^ 63 }
+        requires { quota ≤ max_tickets }
         ensures cycle { IfOk result (λ made. made.0.name.cycle ≡ cycle) }
         ensures quota { IfOk result (λ made. made.0.quota ≡ quota) }
         ensures clerk { IfOk result (λ made. made.1

@@ -1,7 +1,8 @@
 //! The atomic word of an office's tickets: its rule, and the steps on it. Nothing else touches the
 //! word.
-ghost use Rattle.std.specs.Prelude.{◌≡◌, ◌+◌, ◌-◌, ◌<◌, ◌≤◌, ◌^◌, [], ◌∷◌, ◌++◌, length};
+ghost use Rattle.std.specs.Prelude.{◌≡◌, ◌+◌, ◌-◌, ◌<◌, ◌≤◌, [], ◌∷◌, ◌++◌, length};
 ghost use Rattle.std.specs.List.{All};
+ghost use Rattle.numbers.specs.Bounds.{max_tickets};
 ghost use Rattle.dealer.specs.Tickets.{hand, joined, Ends};
 
 use crate::cycle::Cycle;
@@ -148,7 +149,7 @@ pub(crate) fn take_in(table: &TicketTable, seat: &mut Seat<(), Hand>, other: Sea
     requires word { 0 < table.now.shared.table_id.words }
     requires no_slot { other.me.1 ≡ [] }
     ensures both { seat.new.me ≡ (joined seat.old.me.0 other.me.0, seat.old.me.1) }
-    ensures fits { seat.old.me.0.rest + other.me.0.rest ≤ 2 ^ 63 }
+    ensures fits { seat.old.me.0.rest + other.me.0.rest ≤ max_tickets }
     ensures table { seat.new.table_id ≡ seat.old.table_id }
 {
     table.shared.join_seat::<Merge>(seat, other);
