@@ -3,6 +3,7 @@
 use Rattle.std.specs.Prelude.{ℕ, ◌+◌, ◌%◌, ◌==◌, ◌||◌, Bool, false, not, List, [], ◌∷◌, Result, Ok, Err, length, map, nat_lt}
 use Rattle.std.specs.List.{list_any, list_all, range_with_len}
 use Rattle.quorum_set.specs.Coteries.{QuorumSystem, coterie_of}
+use Rattle.numbers.specs.Bounds.{max_voters}
 use Rattle.numbers.specs.Sets.{has, set_where}
 use Rattle.quorum_set.specs.declared.fault.CoterieFault.{CoterieFault}
 use Rattle.quorum_set.specs.declared.fault.CoterieFault.TheVariants.{Disjoint, Contained}
@@ -39,7 +40,7 @@ as_construct (Err fault) = Err (Coterie fault)
 -- the cyclic coterie of the base, or the fault of the numbers, or else the fault of the shifted
 -- sets
 abbrev pub cyclic_at : ℕ → List ℕ → Result QuorumSystem ConstructFault
-cyclic_at n base = sized (is_bad_base n base) (nat_lt 64 n) (as_construct (coterie_of n (cyclic_quorums n base)))
+cyclic_at n base = sized (is_bad_base n base) (nat_lt max_voters n) (as_construct (coterie_of n (cyclic_quorums n base)))
 
 -- if the fault is one of sets, two of them are disjoint, or one lies within the other
 abbrev pub IsCyclicFault : ConstructFault → Type 0

@@ -3,6 +3,7 @@
 use Rattle.std.specs.Prelude.{ℕ, ◌*◌, ◌/◌, ◌%◌, ◌==◌, ◌||◌, ◌&&◌, List, Result, Ok, map, nat_lt}
 use Rattle.std.specs.List.{range_with_len}
 use Rattle.quorum_set.specs.Coteries.{QuorumSystem}
+use Rattle.numbers.specs.Bounds.{max_voters}
 use Rattle.numbers.specs.Sets.{set_where}
 use Rattle.construct.specs.Answers.{sized}
 use Rattle.construct.specs.declared.fault.ConstructFault.{ConstructFault}
@@ -22,4 +23,4 @@ grid_system r c = record { voters = r * c; quorums = grid_quorums r c }
 
 -- the grid of r rows of c voters, or the fault of its sizes
 abbrev pub grid_at : ℕ → ℕ → Result QuorumSystem ConstructFault
-grid_at r c = sized (nat_lt r 2 || nat_lt c 2) (nat_lt 64 (r * c)) (Ok (grid_system r c))
+grid_at r c = sized (nat_lt r 2 || nat_lt c 2) (nat_lt max_voters (r * c)) (Ok (grid_system r c))

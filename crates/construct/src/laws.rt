@@ -1,6 +1,7 @@
 //! Laws about the constructions. Each is the contract of a function with an empty body, and holds
 //! for all sizes that it allows.
 ghost use Rattle.std.specs.Prelude.{◌≡◌, ◌+◌, ◌*◌, ◌^◌, ◌<◌, ◌≤◌, ℕ, List, [], false, length, slice_index_or, All, Contains, IfErr};
+ghost use Rattle.numbers.specs.Bounds.{max_voters};
 ghost use Rattle.numbers.specs.Sets.{Ascends};
 ghost use Rattle.quorum_set.specs.Coteries.{IsCoterie, coterie_of};
 ghost use Rattle.construct.specs.Cyclic.{cyclic_quorums, is_bad_base, as_construct, IsCyclicFault};
@@ -11,7 +12,7 @@ ghost use Rattle.construct.specs.Wheel.{wheel_quorums, wheel_system};
 
 /// The quorums of a grid are a coterie: each row meets each column.
 pub fn grids_are_coteries()
-    ensures { (r c : ℕ) → 2 ≤ r → 2 ≤ c → r * c ≤ 64 → IsCoterie (grid_system r c) }
+    ensures { (r c : ℕ) → 2 ≤ r → 2 ≤ c → r * c ≤ max_voters → IsCoterie (grid_system r c) }
 {}
 
 /// A grid of r rows of c voters has r * c quorums, and quorum i * c + k is row i with column k.
@@ -43,7 +44,7 @@ pub fn trees_double_their_exponent()
 /// If sets that are shifted round a ring are no coterie, two of them are disjoint, or one lies
 /// within another.
 pub fn cyclic_sets_cross_or_not()
-    ensures { (n : ℕ) (base : List ℕ) → n ≤ 64 → is_bad_base n base ≡ false → IfErr (as_construct (coterie_of n (cyclic_quorums n base))) IsCyclicFault }
+    ensures { (n : ℕ) (base : List ℕ) → n ≤ max_voters → is_bad_base n base ≡ false → IfErr (as_construct (coterie_of n (cyclic_quorums n base))) IsCyclicFault }
 {}
 
 /// The majorities of up to 14 voters are a coterie: two sets of more than half of the voters meet.

@@ -1,5 +1,6 @@
 //! Laws about names, lists and the coteries of texts.
 ghost use Rattle.std.specs.Prelude.{◌≡◌, ◌<◌, ◌≤◌, ◌↔◌, ℕ, List, [], length, map, true, None, Some, Ok, Contains, MatchOption};
+ghost use Rattle.numbers.specs.Bounds.{max_voters};
 ghost use Rattle.numbers.specs.Sets.{has};
 ghost use Rattle.toml.specs.Data.{Items, array};
 ghost use Rattle.toml.specs.View.{items_of};
@@ -29,7 +30,7 @@ pub fn lists_are_arrays_of_strings()
 
 /// A voter is in the quorum that is read if and only if the quorum lists the voter's name.
 pub fn quorums_have_the_listed_voters()
-    ensures { (names members : List (List ℕ)) (i : ℕ) → AllDiffer names → length names ≤ 64 → (has (quorum_of names members) i ≡ true) ↔ ((i < length names) × Contains members (name_at names i)) }
+    ensures { (names members : List (List ℕ)) (i : ℕ) → AllDiffer names → length names ≤ max_voters → (has (quorum_of names members) i ≡ true) ↔ ((i < length names) × Contains members (name_at names i)) }
 {}
 
 /// A text is read as a coterie with names if and only if its lists have good names, and quorums of

@@ -2,6 +2,7 @@
 ghost use Rattle.std.specs.Prelude.{◌≡◌, ◌≤◌, [], length, map, not, Err, IfOk, OnOk, position, is_some, string_bytes};
 ghost use Rattle.std.specs.List.{list_all};
 ghost use Rattle.toml.specs.Errors.{IsBlank};
+ghost use Rattle.numbers.specs.Bounds.{max_voters};
 ghost use Rattle.coterie_file.specs.Answers.{Gives, unless};
 ghost use Rattle.coterie_file.specs.Lists.{listed};
 ghost use Rattle.coterie_file.specs.Names.{has_name, number_of, first_repeat, AreNames};
@@ -13,6 +14,7 @@ use crate::lists::NameLists;
 use crate::named::Named;
 use crate::names::{numbered, voters_of};
 use indexmap::IndexSet;
+use numbers::MAX_VOTERS;
 use quorum_set::{Coterie, CoterieFault, QSet};
 use std::alloc::{AllocError, Global};
 
@@ -70,7 +72,7 @@ fn number_in(voters: &IndexSet<&str>, name: &str) -> Option<usize>
 
 /// Returns the set of the members' numbers.
 fn set_of(voters: &IndexSet<&str>, members: &[String]) -> QSet
-    requires { length voters.now.keys ≤ 64 }
+    requires { length voters.now.keys ≤ max_voters }
     ensures { result ≡ quorum_of (map (λ k. k.now) voters.now.keys) (map string_bytes members.now) }
 {
     let mut set = QSet::empty();
@@ -88,7 +90,7 @@ fn sets_of(
     voters: &IndexSet<&str>,
     quorums: &[Vec<String>],
 ) -> Result<Vec<QSet>, AllocError>
-    requires { length voters.now.keys ≤ 64 }
+    requires { length voters.now.keys ≤ max_voters }
     ensures { IfOk result (λ v. v.items ≡ map (λ q. quorum_of (map (λ k. k.now) voters.now.keys) (map string_bytes q.items)) quorums.now) }
 {
     let mut sets = Vec::with_capacity(alloc, quorums.len())?;
@@ -114,7 +116,7 @@ fn coterie_of(
     if let Some(j) = first_repeated(alloc, quorums)? {
         return Err(FileFault::RepeatedMember(j));
     }
-    if voters.len() > 64 {
+    if voters.len() > MAX_VOTERS {
         return Err(FileFault::Coterie(CoterieFault::TooManyVoters));
     }
     let sets = sets_of(alloc, &voters, quorums)?;

@@ -1,6 +1,7 @@
 //! The state of the simplex method between two pivots.
 ghost use Rattle.std.specs.Prelude.{◌≡◌, ◌+◌, ◌<◌, ◌≤◌, ◌^◌, length, vec_len, IfOk, IfErr, IfSome, OnOk, OnErr};
 ghost use Rattle.std.specs.List.{All};
+ghost use Rattle.numbers.specs.Bounds.{max_voters, max_quorums};
 
 use crate::tableau::Tableau;
 use fraction::FracFault;
@@ -67,7 +68,7 @@ fn gives_way(exit: &Exit, best: &Option<Exit>) -> Result<bool, FracFault> {
 /// Returns the columns of the members' slacks and of the unit.
 fn summands(alloc: Global, members: &[u8], voters: usize) -> Result<Vec<usize>, AllocError>
     requires members { All (λ i. i < voters) members.now }
-    requires voters { voters ≤ 64 }
+    requires voters { voters ≤ max_voters }
     ensures { IfOk result (λ v. All (λ j. j < voters + 3) v.items) }
 {
     let mut columns = Vec::with_capacity(alloc, members.len() + 1)?;
@@ -115,8 +116,8 @@ fn all_summands(alloc: Global, coterie: &Coterie) -> Result<Vec<Vec<usize>>, All
 
 /// Returns the numbers of the slacks' columns.
 fn slacks(alloc: Global, quorums: usize, voters: usize) -> Result<Vec<usize>, AllocError>
-    requires voters { voters ≤ 64 }
-    requires quorums { quorums ≤ 4096 }
+    requires voters { voters ≤ max_voters }
+    requires quorums { quorums ≤ max_quorums }
     ensures { IfOk result (λ v. vec_len v ≡ voters) }
 {
     let mut columns = Vec::with_capacity(alloc, voters)?;

@@ -1,6 +1,7 @@
 //! The tableau of the revised simplex method.
 ghost use Rattle.std.specs.Prelude.{◌≡◌, ◌+◌, ◌<◌, ◌≤◌, ℕ, pos, ◌<ℤ◌, length, vec_len, IfOk};
 ghost use Rattle.std.specs.List.{All};
+ghost use Rattle.numbers.specs.Bounds.{max_voters};
 ghost use Rattle.fraction.specs.Tables.{row_of, entry_at};
 ghost use Rattle.simplex.specs.Starts.{IsStartRow, AreStartRows};
 
@@ -19,7 +20,7 @@ use std::alloc::{AllocError, Global};
 pub(crate) struct Tableau {
     voters: usize,
     cells: Shared,
-    ghost few_voters: { voters ≤ 64 },
+    ghost few_voters: { voters ≤ max_voters },
     ghost rows: { length cells.rows ≡ voters + 1 },
     ghost columns: { (i : ℕ) → i < voters + 1 → length (row_of cells i) ≡ voters + 3 },
 }
@@ -43,7 +44,7 @@ fn row_with(
 
 /// Returns the rows before the first pivot: no quorum is used, and each voter's slack is 1.
 fn start_rows(alloc: Global, voters: usize) -> Result<Vec<Vec<i128>>, AllocError>
-    requires { voters ≤ 64 }
+    requires { voters ≤ max_voters }
     ensures { IfOk result (λ v. AreStartRows (voters + 1) (voters + 3) v.items) }
 {
     let mut rows = Vec::with_capacity(alloc, voters + 1)?;
@@ -61,7 +62,7 @@ fn start_rows(alloc: Global, voters: usize) -> Result<Vec<Vec<i128>>, AllocError
 impl Tableau {
     /// Returns the tableau before the first pivot.
     pub(crate) fn of(alloc: Global, voters: usize) -> Result<Tableau, AllocError>
-        requires { voters ≤ 64 }
+        requires { voters ≤ max_voters }
         ensures { IfOk result (λ t. t.voters ≡ voters) }
     {
         let rows = start_rows(alloc, voters)?;
@@ -74,7 +75,7 @@ impl Tableau {
     /// Returns the number of voters.
     pub(crate) fn voters(&self) -> usize
         ensures value { result ≡ self.now.voters }
-        ensures few { result ≤ 64 }
+        ensures few { result ≤ max_voters }
     {
         self.voters
     }

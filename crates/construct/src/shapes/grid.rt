@@ -1,5 +1,6 @@
 //! Grids.
 ghost use Rattle.std.specs.Prelude.{◌≡◌, ◌==◌, ◌&&◌, ◌*◌, ◌/◌, ◌%◌, ◌<◌, ◌≤◌, nat_lt, map, Err, IfErr, IfOk};
+ghost use Rattle.numbers.specs.Bounds.{max_voters};
 ghost use Rattle.numbers.specs.Sets.{set_where};
 ghost use Rattle.construct.specs.Answers.{Gives};
 ghost use Rattle.construct.specs.Grid.{row_with_column, grid_quorums, grid_at};
@@ -13,7 +14,7 @@ use std::alloc::{AllocError, Global};
 /// Returns the voters of row i of r rows of c voters.
 fn row(r: u32, c: u32, i: u32) -> QSet
     requires some { 0 < c }
-    requires few { r * c ≤ 64 }
+    requires few { r * c ≤ max_voters }
     ensures { result ≡ set_where (λ v. nat_lt v (r * c) && (v / c == i)) }
 {
     let voters = r * c;
@@ -23,7 +24,7 @@ fn row(r: u32, c: u32, i: u32) -> QSet
 /// Returns the voters of column k of r rows of c voters.
 fn column(r: u32, c: u32, k: u32) -> QSet
     requires some { 0 < c }
-    requires few { r * c ≤ 64 }
+    requires few { r * c ≤ max_voters }
     ensures { result ≡ set_where (λ v. nat_lt v (r * c) && (v % c == k)) }
 {
     let voters = r * c;
@@ -33,7 +34,7 @@ fn column(r: u32, c: u32, k: u32) -> QSet
 /// Returns row i joined with column k, of r rows of c voters.
 fn row_with_column(r: u32, c: u32, i: u32, k: u32) -> QSet
     requires some { 0 < c }
-    requires few { r * c ≤ 64 }
+    requires few { r * c ≤ max_voters }
     ensures { result ≡ row_with_column r c i k }
 {
     row(r, c, i).join(&column(r, c, k))
@@ -42,7 +43,7 @@ fn row_with_column(r: u32, c: u32, i: u32, k: u32) -> QSet
 /// Returns for each voter its row with its column.
 fn quorums_of(alloc: Global, r: u32, c: u32) -> Result<Vec<QSet>, AllocError>
     requires some { 0 < c }
-    requires few { r * c ≤ 64 }
+    requires few { r * c ≤ max_voters }
     ensures { IfOk result (λ v. v.items ≡ grid_quorums r c) }
 {
     (0..r * c)

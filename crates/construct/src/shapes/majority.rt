@@ -3,6 +3,7 @@ ghost use Rattle.std.specs.Prelude.{◌≡◌, ◌≤◌, [], Err, IfErr, IfOk, 
 ghost use Rattle.std.specs.List.{range_with_len};
 ghost use Rattle.itertools.specs.Odometer.{ways};
 ghost use Rattle.itertools.specs.Pool.{ascending_low, ascending_high, combination_can, combination_left};
+ghost use Rattle.numbers.specs.Bounds.{max_voters};
 ghost use Rattle.numbers.specs.Sets.{has, set_where};
 ghost use Rattle.construct.specs.Answers.{Gives};
 ghost use Rattle.construct.specs.Majority.{sets_from, majority_at};
@@ -39,7 +40,7 @@ fn choices(alloc: Global, n: u8, k: usize) -> Result<Combinations<u8, Global>, A
 
 /// Returns the sets of k of the numbers below n, in lexicographic order.
 fn sets_of(alloc: Global, n: u8, k: usize) -> Result<Vec<QSet>, AllocError>
-    requires { n ≤ 64 }
+    requires { n ≤ max_voters }
     ensures { IfOk result (λ v. v.items ≡ sets_from 0 n k) }
 {
     let mut sets = Vec::new(alloc);
