@@ -1,7 +1,8 @@
 -- The steps of a voter: its replies to a message, and its state afterwards (Maekawa, ACM TOCS 3(2),
 -- 1985, with rules for repeated messages).
-use Rattle.std.specs.Prelude.{ℕ, ◌≡◌, ◌≤◌, ◌+◌, ◌==◌, ◌^◌, nat_lt, nat_le, Bool, true, false, ◌&&◌, ◌||◌, not, List, [], ◌∷◌, ◌++◌, Option, Some, None, if◌then◌else◌, slice_index, slice_set, replicate, max, is_none, is_some}
+use Rattle.std.specs.Prelude.{ℕ, ◌≡◌, ◌≤◌, ◌+◌, ◌==◌, nat_lt, nat_le, Bool, true, false, ◌&&◌, ◌||◌, not, List, [], ◌∷◌, ◌++◌, Option, Some, None, if◌then◌else◌, slice_index, slice_set, replicate, max, is_none, is_some}
 use Rattle.std.specs.FinMap.{get, insert, remove, empty}
+use Rattle.numbers.specs.Bounds.{max_clients, max_stamp}
 use Rattle.message.specs.declared.request.Request.{Request}
 use Rattle.message.specs.declared.message.ToVoter.{ToVoter}
 use Rattle.message.specs.declared.message.ToClient.{ToClient}
@@ -271,7 +272,7 @@ effect_of v m = effect_by v (step v m)
 
 -- a new voter, which has taken no message
 abbrev pub start : ℕ → ℕ → VoterState
-start id limit = record { id = id; limit = limit; held = None; inquiring = false; waiting = empty; finished = replicate 64 0; granted = 0; seen = 0 }
+start id limit = record { id = id; limit = limit; held = None; inquiring = false; waiting = empty; finished = replicate max_clients 0; granted = 0; seen = 0 }
 
 -- How the code looks ahead
 
@@ -304,7 +305,7 @@ ends_grant v client (asks.Release stamp) = is_up_to (held_stamp v.held client) s
 
 -- what holds of every voter
 pub record IsSound (v : VoterState) : Type 0 where
-  pub limit : v.limit ≤ 2 ^ 40
+  pub limit : v.limit ≤ max_stamp
   pub granted : v.granted ≤ v.limit
   -- the number of the current grant is at most the number of grants given
   pub numbered : (g : Grant) → v.held ≡ Some g → g.grant ≤ v.granted

@@ -3,6 +3,7 @@ use Rattle.std.specs.Prelude.{ℕ, ◌≡◌, ◌≢◌, ◌<◌, ◌==◌, nat_
 use Rattle.std.specs.Ordering.{nat_cmp}
 use Rattle.std.specs.List.{AllByRecursion, filter}
 use Rattle.std.specs.FinMap.{FinMap, entries, from_entries}
+use Rattle.numbers.specs.Bounds.{max_clients}
 use Rattle.message.specs.declared.request.Request.{Request}
 
 -- the waiting requests: a finite map from client to the stamp of its request
@@ -47,7 +48,7 @@ pub record Follows (r q : Request) : Type 0 where
 -- requests of clients below 64, each before all that follow it, and at most one for each client
 abbrev pub IsQueue : List Request → Type 0
 IsQueue [] = Unit {0}
-IsQueue (r ∷ rs) = (r.client < 64) × AllByRecursion (Follows r) rs × IsQueue rs
+IsQueue (r ∷ rs) = (r.client < max_clients) × AllByRecursion (Follows r) rs × IsQueue rs
 
 -- the requests of the other clients
 abbrev pub without : ℕ → List Request → List Request

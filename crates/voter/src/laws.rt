@@ -1,5 +1,6 @@
 //! Laws: what is proved about the definitions.
-ghost use Rattle.std.specs.Prelude.{◌≡◌, ◌≤◌, ◌^◌, ℕ, Some};
+ghost use Rattle.std.specs.Prelude.{◌≡◌, ◌≤◌, ℕ, Some};
+ghost use Rattle.numbers.specs.Bounds.{max_stamp};
 ghost use Rattle.message.specs.declared.message.ToVoter.{ToVoter};
 ghost use Rattle.voter.specs.declared.state.VoterState.{VoterState};
 ghost use Rattle.voter.specs.Replies.{AllCarry, AllTellPlace, AreAnswers, CarrySeen};
@@ -30,7 +31,7 @@ pub fn grants_are_numbered()
 /// - nobody waits for a free vote;
 /// - a grant's number is at most the number of grants, and that is at most the limit.
 pub fn voters_stay_sound()
-    ensures first { (id limit : ℕ) → limit ≤ 2 ^ 40 → IsSound (start id limit) }
+    ensures first { (id limit : ℕ) → limit ≤ max_stamp → IsSound (start id limit) }
     ensures steps { (v : VoterState) (m : ToVoter) (o : Outcome) → IsSound v → step v m ≡ Some o → IsSound o.state }
 {}
 

@@ -1,11 +1,13 @@
 //! What a voter knows, and its steps.
 ghost use Rattle.std.specs.Prelude.{◌≡◌, ◌<◌, ◌≤◌, ◌+◌, ◌^◌, ◌∷◌, ◌++◌, [], true, slice_index};
 ghost use Rattle.arrayvec.specs.ArrayVec.{array_vec_len};
+ghost use Rattle.numbers.specs.Bounds.{max_clients};
 ghost use Rattle.voter.specs.Steps.{admitted, again, ends_grant, grant_front, held_stamp, inquiry, is_before, is_grant, is_later, is_older, is_refused, is_up_to, needs_grant, outcome_of, queued, released, relinquished, remind, reply, requested, requested_beside, standing};
 
 use crate::queue::{Queue, precedes};
 use arrayvec::ArrayVec;
 use message::{ClientBody, Request, ToClient, ToVoter, VoterBody};
+use numbers::MAX_CLIENTS;
 
 /// A grant of the vote to a request.
 #[derive(Clone, Copy, Debug, PartialEq, Eq)]
@@ -44,7 +46,7 @@ pub struct VoterState {
     /// The requests that wait for the vote.
     pub waiting: Queue,
     /// For each client the highest stamp of its finished requests, 0 at first.
-    pub finished: [u64; 64],
+    pub finished: [u64; MAX_CLIENTS],
     /// How many grants were given.
     pub granted: u64,
     /// The highest stamp that it saw, 0 at first.
@@ -107,7 +109,7 @@ impl VoterState {
 
     #[tactic(auto, unfolding(crate::specs::Steps::released))]
     fn release(&mut self, client: u8, stamp: u64, replies: &mut Replies)
-        requires client { client < 64 }
+        requires client { client < max_clients }
         requires room { array_vec_len replies.old < 3 }
         requires few { self.old.granted < 2 ^ 63 }
         ensures state { self.new ≡ (released self.old client stamp).state }
@@ -151,7 +153,7 @@ impl VoterState {
     /// Queues a new request while another one holds the vote.
     #[tactic(auto, unfolding(crate::specs::Steps::queued))]
     fn queue_behind(&mut self, grant: Grant, request: Request, replies: &mut Replies)
-        requires client { request.client < 64 }
+        requires client { request.client < max_clients }
         requires room { array_vec_len replies.old < 2 }
         ensures state { self.new ≡ (queued self.old grant request.client request.stamp).state }
         ensures replies { replies.new.items ≡ replies.old.items ++ (queued self.old grant request.client request.stamp).replies }
@@ -179,7 +181,7 @@ impl VoterState {
     /// Admits a new request of a client that neither holds the vote nor waits.
     #[tactic(auto, unfolding(crate::specs::Steps::admitted))]
     fn admit(&mut self, request: Request, replies: &mut Replies)
-        requires client { request.client < 64 }
+        requires client { request.client < max_clients }
         requires room { array_vec_len replies.old < 2 }
         requires few { self.old.granted < 2 ^ 63 }
         ensures state { self.new ≡ (admitted self.old request.client request.stamp).state }
@@ -222,7 +224,7 @@ impl VoterState {
 
     #[tactic(auto, unfolding(crate::specs::Steps::requested_beside))]
     fn request_beside(&mut self, request: Request, standing: Option<u64>, replies: &mut Replies)
-        requires client { request.client < 64 }
+        requires client { request.client < max_clients }
         requires room { replies.old.items ≡ [] }
         requires few { self.old.granted + 1 < 2 ^ 63 }
         ensures state { self.new ≡ (requested_beside self.old request.client request.stamp standing).state }
@@ -243,7 +245,7 @@ impl VoterState {
 
     #[tactic(auto, unfolding(crate::specs::Steps::requested))]
     fn request(&mut self, request: Request, replies: &mut Replies)
-        requires client { request.client < 64 }
+        requires client { request.client < max_clients }
         requires room { replies.old.items ≡ [] }
         requires few { self.old.granted + 1 < 2 ^ 63 }
         ensures state { self.new ≡ (requested self.old request.client request.stamp).state }
@@ -257,7 +259,7 @@ impl VoterState {
 
     #[tactic(auto, unfolding(crate::specs::Steps::relinquished))]
     fn relinquish(&mut self, client: u8, grant: u64, replies: &mut Replies)
-        requires client { client < 64 }
+        requires client { client < max_clients }
         requires room { array_vec_len replies.old < 3 }
         requires few { self.old.granted < 2 ^ 63 }
         ensures state { self.new ≡ (relinquished self.old client grant).state }
@@ -341,7 +343,7 @@ impl VoterState {
 
     /// Does what a message asks for. Enough grants have to be left.
     pub fn act(&mut self, message: &ToVoter, replies: &mut Replies)
-        requires client { message.now.client < 64 }
+        requires client { message.now.client < max_clients }
         requires room { replies.old.items ≡ [] }
         requires few { self.old.granted + 1 < 2 ^ 63 }
         ensures state { self.new ≡ (outcome_of self.old message.now.client message.now.body).state }

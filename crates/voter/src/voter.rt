@@ -1,4 +1,5 @@
-ghost use Rattle.std.specs.Prelude.{◌≡◌, ◌<◌, ◌≤◌, ◌^◌, [], IfErr, IfOk, OnErr, OnOk, None, Option, Result, Some};
+ghost use Rattle.std.specs.Prelude.{◌≡◌, ◌<◌, ◌≤◌, [], IfErr, IfOk, OnErr, OnOk, None, Option, Result, Some};
+ghost use Rattle.numbers.specs.Bounds.{max_voters, max_clients, max_stamp};
 ghost use Rattle.voter.specs.Steps.{IsSound, effect_of, remind, start, step};
 
 use crate::fault::VoterFault;
@@ -6,6 +7,7 @@ use crate::queue::Queue;
 use crate::state::{Effect, Grant, Replies, VoterState};
 use arrayvec::ArrayVec;
 use message::ToVoter;
+use numbers::MAX_CLIENTS;
 use std::marker::Model;
 
 /// A voter: it has one vote, which it grants to one request at a time.
@@ -34,9 +36,9 @@ impl Model for Voter {
 impl Voter {
     /// Returns a new voter with this number, 0 to 63. It may give `limit` grants, 1 to 2^40.
     pub fn new(id: u8, limit: u64) -> Self
-        requires id { id < 64 }
+        requires id { id < max_voters }
         requires least { 1 ≤ limit }
-        requires most { limit ≤ 2 ^ 40 }
+        requires most { limit ≤ max_stamp }
         ensures { result ≡ start id limit }
     {
         Voter {
@@ -46,7 +48,7 @@ impl Voter {
                 held: None,
                 inquiring: false,
                 waiting: Queue::new(),
-                finished: [0; 64],
+                finished: [0; MAX_CLIENTS],
                 granted: 0,
                 seen: 0,
             },
@@ -66,7 +68,7 @@ impl Voter {
     /// within the limit. The voter is then unchanged.
     pub fn take(&mut self, message: &ToVoter) -> Result<Replies, VoterFault>
         requires voter { message.now.voter ≡ self.old.id }
-        requires client { message.now.client < 64 }
+        requires client { message.now.client < max_clients }
         ensures taken { IfOk result (λ replies. step self.old message.now ≡ Some (record { replies = replies.items; state = self.new })) }
         ensures refused { IfErr result (λ _. (step self.old message.now ≡ None) × (self.new ≡ self.old)) }
         ensures id { self.new.id ≡ self.old.id }
@@ -80,7 +82,7 @@ impl Voter {
     /// it fails, `replies` is empty.
     pub fn take_into(&mut self, message: &ToVoter, replies: &mut Replies) -> Result<(), VoterFault>
         requires voter { message.now.voter ≡ self.old.id }
-        requires client { message.now.client < 64 }
+        requires client { message.now.client < max_clients }
         ensures taken { OnOk result (step self.old message.now ≡ Some (record { replies = replies.new.items; state = self.new })) }
         ensures refused { OnErr result ((step self.old message.now ≡ None) × (self.new ≡ self.old) × (replies.new.items ≡ [])) }
         ensures id { self.new.id ≡ self.old.id }
