@@ -1,9 +1,10 @@
 -- The kinds of step: what each finds in its word and leaves there, and what it changes in the seat
 -- that makes it. `found` is what the word was. A store or a swap writes `st.first`. An exchange
 -- looks for `st.first` and, if it finds it, writes `st.second`.
-use Rattle.std.specs.Prelude.{◌≡◌, ◌≢◌, ◌⊎◌, ℕ, ◌+◌, ◌-◌, ◌^◌, ◌<◌, ◌≤◌, [], ◌∷◌, ◌++◌, Some, None, slice_index, slice_set}
+use Rattle.std.specs.Prelude.{◌≡◌, ◌≢◌, ◌⊎◌, ℕ, ◌+◌, ◌-◌, ◌<◌, ◌≤◌, [], ◌∷◌, ◌++◌, Some, None, slice_index, slice_set}
 use Rattle.std.specs.List.{All}
 use Rattle.atomic_table.specs.Table.{Me, Step}
+use Rattle.numbers.specs.Bounds.{max_tickets}
 use Rattle.board.specs.declared.table.View.{View}
 use Rattle.board.specs.Words.{name_of, free, offered, taken, returned, name_in, number_in}
 
@@ -43,7 +44,7 @@ GaveBack st m found w =
 -- A client's seat reads the register for quorum j. The number is above each of its pass numbers,
 -- and at most 2^63.
 abbrev pub Read : ℕ → Step (Unit {0}) → Mine → ℕ → Mine → Type 0
-Read j st m found w = (w ≡ (record m.0 { reading = Some (j, found) }, m.1)) × All (λ x. x < found) m.0.passes × (found ≤ 2 ^ 63)
+Read j st m found w = (w ≡ (record m.0 { reading = Some (j, found) }, m.1)) × All (λ x. x < found) m.0.passes × (found ≤ max_tickets)
 
 -- a client's seat writes the register and passes; its pass number is one less than what it writes
 abbrev pub Wrote : Step (Unit {0}) → Mine → ℕ → Mine → Type 0

@@ -1,6 +1,7 @@
 -- How the root's fields agree with its view, and what the fields of seats may be.
-use Rattle.std.specs.Prelude.{◌≡◌, ◌≢◌, ℕ, ◌+◌, ◌^◌, ◌<◌, ◌≤◌, cond, Bool, true, false, List, [], Option, None, Some, length, map, slice_index, slice_index_or}
+use Rattle.std.specs.Prelude.{◌≡◌, ◌≢◌, ℕ, ◌+◌, ◌<◌, ◌≤◌, cond, Bool, true, false, List, [], Option, None, Some, length, map, slice_index, slice_index_or}
 use Rattle.std.specs.List.{sum_by}
+use Rattle.numbers.specs.Bounds.{max_voters, max_clients, max_stamp}
 use Rattle.board.specs.declared.table.View.{View}
 
 -- 1 for true, 0 for false
@@ -16,7 +17,7 @@ pub record IsRoot (u : View) (count : ℕ) (free_voters free_clients : List Bool
   pub held : u.held ≡ []
   pub reading : u.reading ≡ None
   pub passes : u.passes ≡ map (λ p. p.1) kept
-  pub wide : length u.voters ≡ 64
+  pub wide : length u.voters ≡ max_voters
   pub given : (v : ℕ) → slice_index_or free_voters v false ≡ true → slice_index u.voters v ≡ 1
 
 -- each of these numbers, with the client
@@ -34,5 +35,5 @@ AreOnBoard words held = (v : ℕ) → slice_index held v ≢ 0 → v + 1 < words
 -- The current grant, if there is one, has a client below 64, and its number is from 1 to `last`,
 -- the number of the last grant. That is at most 2^40.
 abbrev pub IsCurrent : Option (ℕ × ℕ) → ℕ → Type 0
-IsCurrent None last = last ≤ 2 ^ 40
-IsCurrent (Some x) last = (x.0 < 64) × (1 ≤ x.1) × (x.1 ≤ last) × (last ≤ 2 ^ 40)
+IsCurrent None last = last ≤ max_stamp
+IsCurrent (Some x) last = (x.0 < max_clients) × (1 ≤ x.1) × (x.1 ≤ last) × (last ≤ max_stamp)

@@ -1,6 +1,6 @@
 -- The rule that holds for the words of the votes, the register and all seats between any two steps.
 -- It is written as sums over all seats: for how many of them a fact holds.
-use Rattle.std.specs.Prelude.{◌≡◌, ◌⊎◌, ℕ, ◌+◌, ◌/◌, ◌%◌, ◌^◌, ◌<◌, ◌≤◌, List, [], length, slice_index, IfSome}
+use Rattle.std.specs.Prelude.{◌≡◌, ◌⊎◌, ℕ, ◌+◌, ◌/◌, ◌%◌, ◌<◌, ◌≤◌, List, [], length, slice_index, IfSome}
 use Rattle.std.specs.List.{sum_by}
 use mathlib.Core.Option.{some}
 use lib.ListN.{get_elem?}
@@ -9,6 +9,7 @@ use Rattle.board.specs.declared.table.View.{View}
 use Rattle.board.specs.Seats.{Setting}
 use Rattle.board.specs.Quorums.{quorum_at, HoldsAll}
 use Rattle.board.specs.Words.{name_of, taken, is}
+use Rattle.numbers.specs.Bounds.{max_clients, max_tickets}
 use Rattle.numbers.specs.Sums.{sum_below}
 
 -- 1 if the seat stands for voter v and the grant that it knows has this name, else 0; name 0 means
@@ -42,9 +43,9 @@ pub record IsKept (b : Setting) (words : List ℕ) (views : List View) : Type 0 
   pub passes : (h : ℕ → ℕ) → sum_by (λ u. sum_by h u.passes) views ≡ sum_below h (slice_index words b.voters)
   pub parts : sum_by (λ u. u.parts) views ≡ b.voters + b.clients + 1
   pub idle : (i : ℕ) (u : View) → get_elem? views i ≡ some u → u.parts ≡ 0 → u.passes ≡ []
-  pub client : (i : ℕ) (u : View) → get_elem? views i ≡ some u → u.client < 64
+  pub client : (i : ℕ) (u : View) → get_elem? views i ≡ some u → u.client < max_clients
   pub limit : slice_index words b.voters ≤ b.limit
-  pub small : b.limit ≤ 2 ^ 63
+  pub small : b.limit ≤ max_tickets
   pub few : b.voters + b.clients ≤ 128
 
 -- the rule that each step keeps

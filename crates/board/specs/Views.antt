@@ -1,5 +1,6 @@
 -- What each seat knows.
 use Rattle.std.specs.Prelude.{ℕ, ◌+◌, ◌-◌, ◌++◌, List, [], Option, None, Some, replicate, slice_set}
+use Rattle.numbers.specs.Bounds.{max_voters}
 use Rattle.board.specs.declared.table.View.{View}
 use Rattle.board.specs.Words.{name_of, nobody}
 
@@ -18,7 +19,7 @@ client_view client held reading passes = record { parts = 1; voters = nobody; cl
 
 -- the view of the first seat, the root: it stands for all seats and for itself
 abbrev pub root_view : ℕ → ℕ → View
-root_view voters clients = record { parts = voters + clients + 1; voters = replicate 64 1; client = 0; held = []; reading = None; passes = [] }
+root_view voters clients = record { parts = voters + clients + 1; voters = replicate max_voters 1; client = 0; held = []; reading = None; passes = [] }
 
 -- the view of a seat that was joined
 abbrev pub spent_view : View

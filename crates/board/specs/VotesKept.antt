@@ -4,6 +4,7 @@ use Rattle.std.specs.Prelude.{◌≡◌, ◌≢◌, ◌⊎◌, ◌↔◌, ℕ, z
 use mathlib.Core.Option.{some}
 use lib.ListN.{get_elem?}
 use Rattle.atomic_table.specs.Table.{State}
+use Rattle.numbers.specs.Bounds.{max_clients}
 use Rattle.numbers.specs.Sums.{AreAllBelow}
 use Rattle.board.specs.declared.table.View.{View}
 use Rattle.board.specs.Seats.{Setting}
@@ -42,7 +43,7 @@ IsInside b u = (j : ℕ) × (j < length b.quorums) × HoldsAll (quorum_at b.quor
 pub record KeepsVotes (b : Setting) (words : List ℕ) (views : List View) : Type 0 where
   pub one_stands : (v : ℕ) → v < b.voters → OneStandsFor v views
   pub granted : (v name i : ℕ) (u : View) → v < b.voters → get_elem? views i ≡ some u → slice_index u.voters v ≡ name + 1 → IsWordOf name (slice_index words v)
-  pub held : (v c g : ℕ) → v < b.voters → c < 64 → 1 ≤ g → Holds views c v g ↔ (slice_index words v ≡ taken (name_of c g))
+  pub held : (v c g : ℕ) → v < b.voters → c < max_clients → 1 ≤ g → Holds views c v g ↔ (slice_index words v ≡ taken (name_of c g))
   pub one_holds : (v i k : ℕ) (u w : View) → v < b.voters → get_elem? views i ≡ some u → get_elem? views k ≡ some w → slice_index u.held v ≢ 0 → slice_index w.held v ≢ 0 → i ≡ k
   pub readings : (i j x : ℕ) (u : View) → get_elem? views i ≡ some u → u.reading ≡ Some (j, x) → (j < length b.quorums) × HoldsAll (quorum_at b.quorums j) u.held × (x ≡ slice_index words b.voters)
   pub passes : AreAllBelow (flat_map (λ u. u.passes) views) (slice_index words b.voters)

@@ -1,5 +1,6 @@
 -- What the word of a voter's vote says.
-use Rattle.std.specs.Prelude.{ℕ, ◌+◌, ◌*◌, ◌/◌, ◌^◌, ◌≤◌, ◌==◌, cond, List, replicate}
+use Rattle.std.specs.Prelude.{ℕ, ◌+◌, ◌*◌, ◌/◌, ◌≤◌, ◌==◌, cond, List, replicate}
+use Rattle.numbers.specs.Bounds.{max_voters, max_stamp}
 use Rattle.board.specs.declared.vote.Vote.{Vote}
 use Rattle.board.specs.declared.vote.Vote.TheVariants.{Free, Offered, Held, Returned}
 
@@ -33,9 +34,9 @@ word_of (Returned client grant) = returned (name_of client grant)
 -- the number of the vote's grant, if it has one, is at most 2^40
 abbrev pub IsSmall : Vote → Type 0
 IsSmall Free = Unit {0}
-IsSmall (Offered client grant) = grant ≤ 2 ^ 40
-IsSmall (Held client grant) = grant ≤ 2 ^ 40
-IsSmall (Returned client grant) = grant ≤ 2 ^ 40
+IsSmall (Offered client grant) = grant ≤ max_stamp
+IsSmall (Held client grant) = grant ≤ max_stamp
+IsSmall (Returned client grant) = grant ≤ max_stamp
 
 -- a voter may settle a vote in this state, and the vote's grant, as client and number, has property
 -- P
@@ -57,6 +58,6 @@ number_in word = word / 256
 abbrev pub is : ℕ → ℕ → ℕ
 is a b = cond (a == b) 1 0
 
--- a number for each of 64 voters, all 0
+-- a number for each voter that there can be, all 0
 abbrev pub nobody : List ℕ
-nobody = replicate 64 0
+nobody = replicate max_voters 0

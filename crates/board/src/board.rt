@@ -1,6 +1,7 @@
 //! The board, on which all seats make their steps.
-ghost use Rattle.std.specs.Prelude.{◌≡◌, ℕ, ◌+◌, ◌-◌, ◌<◌, ◌≤◌, ◌^◌, [], true, false, IfOk, IfErr, map, nat_lt, length, replicate, slice_index_or};
+ghost use Rattle.std.specs.Prelude.{◌≡◌, ℕ, ◌+◌, ◌-◌, ◌<◌, ◌≤◌, [], true, false, IfOk, IfErr, map, nat_lt, length, replicate, slice_index_or};
 ghost use Rattle.std.specs.List.{sum_by};
+ghost use Rattle.numbers.specs.Bounds.{max_voters, max_clients, max_tickets};
 ghost use Rattle.numbers.specs.Sums.{AreAllBelow};
 ghost use Rattle.quorum_set.specs.Meetings.{AllMeet};
 ghost use Rattle.board.specs.Roots.{weight};
@@ -22,7 +23,8 @@ pub struct Board {
 }
 
 impl Model for Board {
-    ghost use Rattle.std.specs.Prelude.{◌≡◌, ◌+◌, ◌≤◌, ◌^◌};
+    ghost use Rattle.std.specs.Prelude.{◌≡◌, ◌+◌, ◌≤◌};
+    ghost use Rattle.numbers.specs.Bounds.{max_voters, max_clients, max_tickets};
     ghost use Rattle.quorum_set.specs.Meetings.{AllMeet};
     ghost use Rattle.board.specs.Seats.{BoardState};
 
@@ -30,7 +32,7 @@ impl Model for Board {
 
     ghost view = { λ b. record { table = b.table.shared.table_id; voters = b.sheet.voters; quorums = b.sheet.quorums; clients = b.sheet.clients; limit = b.sheet.limit } };
 
-    ghost invariant = { λ b. (b.table.shared.key ≡ b.sheet) × (b.table.shared.table_id.words ≡ b.sheet.voters + 1) × (b.table.shared.table_id.slots ≡ 0) × (1 ≤ b.sheet.limit) × (b.sheet.limit ≤ 2 ^ 63) × (1 ≤ b.sheet.clients) × (b.sheet.clients ≤ 64) × (1 ≤ b.sheet.voters) × (b.sheet.voters ≤ 64) × AllMeet b.sheet.voters b.sheet.quorums };
+    ghost invariant = { λ b. (b.table.shared.key ≡ b.sheet) × (b.table.shared.table_id.words ≡ b.sheet.voters + 1) × (b.table.shared.table_id.slots ≡ 0) × (1 ≤ b.sheet.limit) × (b.sheet.limit ≤ max_tickets) × (1 ≤ b.sheet.clients) × (b.sheet.clients ≤ max_clients) × (1 ≤ b.sheet.voters) × (b.sheet.voters ≤ max_voters) × AllMeet b.sheet.voters b.sheet.quorums };
 }
 
 impl Board {
@@ -44,9 +46,9 @@ impl Board {
         limit: u64,
     ) -> Result<(Board, BoardRoot), AllocError>
         requires some_client { 1 ≤ clients }
-        requires few_clients { clients ≤ 64 }
+        requires few_clients { clients ≤ max_clients }
         requires some_number { 1 ≤ limit }
-        requires limit { limit ≤ 2 ^ 63 }
+        requires limit { limit ≤ max_tickets }
         ensures coterie { IfOk result (λ r. (r.0.voters ≡ coterie.now.voters) × (r.0.quorums ≡ coterie.now.quorums)) }
         ensures clients { IfOk result (λ r. r.0.clients ≡ clients) }
         ensures limit { IfOk result (λ r. r.0.limit ≡ limit) }
@@ -79,7 +81,7 @@ impl Board {
     pub fn voters(&self) -> usize
         ensures value { result ≡ self.now.voters }
         ensures some_voter { 1 ≤ self.now.voters }
-        ensures few { self.now.voters ≤ 64 }
+        ensures few { self.now.voters ≤ max_voters }
         ensures meet { AllMeet self.now.voters self.now.quorums }
     {
         self.sheet.voters()
@@ -89,7 +91,7 @@ impl Board {
     pub fn clients(&self) -> u8
         ensures value { result ≡ self.now.clients }
         ensures some_client { 1 ≤ self.now.clients }
-        ensures few { self.now.clients ≤ 64 }
+        ensures few { self.now.clients ≤ max_clients }
     {
         self.sheet.clients()
     }
@@ -98,7 +100,7 @@ impl Board {
     pub fn limit(&self) -> u64
         ensures value { result ≡ self.now.limit }
         ensures some_number { 1 ≤ self.now.limit }
-        ensures fits { self.now.limit ≤ 2 ^ 63 }
+        ensures fits { self.now.limit ≤ max_tickets }
     {
         self.sheet.limit()
     }

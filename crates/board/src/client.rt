@@ -1,8 +1,9 @@
 //! The seat of a client: it takes votes and gives them back, and reads and writes the register.
-ghost use Rattle.std.specs.Prelude.{◌≡◌, ◌≢◌, ◌⊎◌, ℕ, ◌+◌, ◌<◌, ◌≤◌, ◌^◌, ◌++◌, ◌∷◌, [], length, None, Some, Err, IsSome, MatchBool, MatchOption, IfOk, IfErr, IfSome, slice_index, slice_set};
+ghost use Rattle.std.specs.Prelude.{◌≡◌, ◌≢◌, ◌⊎◌, ℕ, ◌+◌, ◌<◌, ◌≤◌, ◌++◌, ◌∷◌, [], length, None, Some, Err, IsSome, MatchBool, MatchOption, IfOk, IfErr, IfSome, slice_index, slice_set};
 ghost use Rattle.std.specs.List.{All};
 ghost use mathlib.Core.Option.{none};
 ghost use Rattle.atomic_table.specs.Table.{step};
+ghost use Rattle.numbers.specs.Bounds.{max_voters, max_clients, max_stamp};
 ghost use Rattle.board.specs.Moves.{Read};
 ghost use Rattle.board.specs.Quorums.{quorum_at, HoldsAll};
 ghost use Rattle.board.specs.Seats.{BoardState, ClientSeatState};
@@ -12,6 +13,7 @@ use crate::fault::BoardFault;
 use crate::table::{GiveBack, Number, ReadFor, Take, View, VoteTable, Write};
 use crate::vote::Vote;
 use atomic_table::Seat;
+use numbers::MAX_VOTERS;
 use std::marker::{Brand, Model};
 
 /// The only right to take votes for a client. It may be moved to a thread. Contracts see a
@@ -21,14 +23,15 @@ pub struct ClientSeat {
     pub(crate) seat: Seat<(), View>,
     pub(crate) client: u8,
     /// For each voter, the grant under which its vote is held, or 0.
-    pub(crate) held: [u64; 64],
+    pub(crate) held: [u64; MAX_VOTERS],
     pub(crate) reading: Option<(usize, u64)>,
     pub(crate) passes: Vec<u64>,
 }
 
 impl Model for ClientSeat {
-    ghost use Rattle.std.specs.Prelude.{◌≡◌, ◌<◌, ◌≤◌, ◌^◌, [], IfSome};
+    ghost use Rattle.std.specs.Prelude.{◌≡◌, ◌<◌, ◌≤◌, [], IfSome};
     ghost use Rattle.std.specs.List.{All};
+    ghost use Rattle.numbers.specs.Bounds.{max_clients, max_stamp, max_tickets};
     ghost use Rattle.board.specs.Seats.{ClientSeatState};
     ghost use Rattle.board.specs.Roots.{AreOnBoard};
     ghost use Rattle.board.specs.Views.{client_view};
@@ -37,14 +40,14 @@ impl Model for ClientSeat {
 
     ghost view = { λ s. record { table = s.seat.table_id; client = s.client; held = s.held; reading = s.reading; passes = s.passes.items } };
 
-    ghost invariant = { λ s. (s.seat.me ≡ (client_view s.client s.held s.reading s.passes.items, [])) × (s.client < 64) × All (λ g. g ≤ 2 ^ 40) s.held × IfSome s.reading (λ r. r.1 ≤ 2 ^ 63) × AreOnBoard s.seat.table_id.words s.held };
+    ghost invariant = { λ s. (s.seat.me ≡ (client_view s.client s.held s.reading s.passes.items, [])) × (s.client < max_clients) × All (λ g. g ≤ max_stamp) s.held × IfSome s.reading (λ r. r.1 ≤ max_tickets) × AreOnBoard s.seat.table_id.words s.held };
 }
 
 impl ClientSeat {
     /// Returns the client's number.
     pub fn client(&self) -> u8
         ensures value { result ≡ self.now.client }
-        ensures few { self.now.client < 64 }
+        ensures few { self.now.client < max_clients }
     {
         self.client
     }
@@ -53,8 +56,8 @@ impl ClientSeat {
     /// it doesn't hold that vote.
     pub fn held(&self, voter: u8) -> Option<u64>
         ensures value { MatchOption result (slice_index self.now.held voter ≡ 0) (λ g. (slice_index self.now.held voter ≡ g) × (0 < g)) }
-        ensures voters { length self.now.held ≡ 64 }
-        ensures small { All (λ g. g ≤ 2 ^ 40) self.now.held }
+        ensures voters { length self.now.held ≡ max_voters }
+        ensures small { All (λ g. g ≤ max_stamp) self.now.held }
     {
         match self.held.get(usize::from(voter)) {
             Some(grant) if *grant > 0 => Some(*grant),
@@ -86,7 +89,7 @@ impl ClientSeat {
         requires voter { voter < board.now.voters }
         requires free { slice_index self.old.held voter ≡ 0 }
         requires grant { 1 ≤ grant }
-        requires fits { grant ≤ 2 ^ 40 }
+        requires fits { grant ≤ max_stamp }
         ensures taken { MatchBool result (self.new ≡ record self.old { held = slice_set self.old.held voter grant }) (self.new ≡ self.old) }
         ensures holds { MatchBool result (slice_index self.new.held voter ≡ grant) (slice_index self.new.held voter ≡ 0) }
         ensures table { self.new.table ≡ self.old.table }

@@ -1,5 +1,6 @@
 //! The root of a board, which gives the seats and takes them back.
 ghost use Rattle.std.specs.Prelude.{◌≡◌, ◌≢◌, ℕ, ◌+◌, ◌-◌, ◌<◌, ◌≤◌, ◌++◌, [], length, true, false, None, IsSome, MatchOption, MatchResult, IfOk, IfErr, slice_index, slice_index_or, slice_set};
+ghost use Rattle.numbers.specs.Bounds.{max_voters, max_clients};
 ghost use Rattle.board.specs.Faults.{IsOut};
 ghost use Rattle.board.specs.Roots.{passes_of};
 ghost use Rattle.board.specs.Seats.{BoardState, RootState, VoterSeatState, ClientSeatState};
@@ -12,6 +13,7 @@ use crate::fault::BoardFault;
 use crate::table::{ClientBack, ClientPart, Count, Number, View, VoteTable, VoterPart};
 use crate::voter::VoterSeat;
 use atomic_table::Seat;
+use numbers::{MAX_CLIENTS, MAX_VOTERS};
 use std::alloc::{AllocError, Global};
 use std::marker::{Brand, Model};
 
@@ -23,9 +25,9 @@ pub struct BoardRoot {
     /// How many seats it has: those never given, and those joined again.
     pub(crate) seats: u64,
     /// For each voter, whether its seat was never given.
-    pub(crate) voters: [bool; 64],
+    pub(crate) voters: [bool; MAX_VOTERS],
     /// For each client, whether its seat was never given.
-    pub(crate) clients: [bool; 64],
+    pub(crate) clients: [bool; MAX_CLIENTS],
     /// The passes of the joined seats, each as its client and its number.
     pub(crate) passes: Vec<(u8, u64)>,
 }
@@ -169,7 +171,7 @@ impl BoardRoot {
 }
 
 /// Returns the smallest voter whose vote is held.
-fn first_held(held: &[u64; 64]) -> Option<u8>
+fn first_held(held: &[u64; MAX_VOTERS]) -> Option<u8>
     ensures { MatchOption result ((v : ℕ) → slice_index held.now v ≡ 0) (λ v. (slice_index held.now v ≢ 0) × ((k : ℕ) → k < v → slice_index held.now k ≡ 0)) }
 {
     for voter in 0..64u8 {
@@ -195,7 +197,7 @@ fn append(passes: &mut Vec<(u8, u64)>, client: u8, numbers: &[u64]) -> Result<()
 fn cut_voter<N: Number>(table: &VoteTable, seat: &mut Seat<(), View>, voter: u8) -> Seat<(), View>
     requires pick { voter ≡ N.number }
     requires table { (seat.old.table_id ≡ table.now.shared.table_id) × (0 < table.now.shared.table_id.words) }
-    requires there { (voter < 64) × (length seat.old.me.0.voters ≡ 64) × (slice_index seat.old.me.0.voters voter ≡ 1) × (1 < seat.old.me.0.parts) }
+    requires there { (voter < max_voters) × (length seat.old.me.0.voters ≡ max_voters) × (slice_index seat.old.me.0.voters voter ≡ 1) × (1 < seat.old.me.0.parts) }
     ensures kept { (seat.new.table_id ≡ seat.old.table_id) × (seat.new.me ≡ (without_voter voter seat.old.me.0, seat.old.me.1)) }
     ensures given { (result.table_id ≡ seat.old.table_id) × (result.me ≡ (voter_view voter None, [])) }
 {
@@ -211,7 +213,7 @@ fn join_voter_seat<N: Number>(
 )
     requires pick { voter ≡ N.number }
     requires table { (seat.old.table_id ≡ table.now.shared.table_id) × (other.table_id ≡ table.now.shared.table_id) × (0 < table.now.shared.table_id.words) }
-    requires root { (voter < table.now.shared.key.voters) × (voter < 64) × (length seat.old.me.0.voters ≡ 64) × (seat.old.me.0.client ≡ 0) × (seat.old.me.0.held ≡ []) }
+    requires root { (voter < table.now.shared.key.voters) × (voter < max_voters) × (length seat.old.me.0.voters ≡ max_voters) × (seat.old.me.0.client ≡ 0) × (seat.old.me.0.held ≡ []) }
     requires other { other.me ≡ (voter_view voter None, []) }
     ensures { (seat.new.table_id ≡ seat.old.table_id) × (seat.new.me ≡ (with_voter voter seat.old.me.0 (voter_view voter None), seat.old.me.1)) × (seat.new.me.0.parts ≤ 129) }
 {
@@ -223,7 +225,7 @@ fn join_voter_seat<N: Number>(
 fn cut_client<N: Number>(table: &VoteTable, seat: &mut Seat<(), View>, client: u8) -> Seat<(), View>
     requires pick { client ≡ N.number }
     requires table { (seat.old.table_id ≡ table.now.shared.table_id) × (0 < table.now.shared.table_id.words) }
-    requires there { (client < 64) × (1 < seat.old.me.0.parts) }
+    requires there { (client < max_clients) × (1 < seat.old.me.0.parts) }
     ensures kept { (seat.new.table_id ≡ seat.old.table_id) × (seat.new.me ≡ (without_client seat.old.me.0, seat.old.me.1)) }
     ensures given { (result.table_id ≡ seat.old.table_id) × (result.me ≡ (client_view client nobody None [], [])) }
 {
@@ -232,7 +234,7 @@ fn cut_client<N: Number>(table: &VoteTable, seat: &mut Seat<(), View>, client: u
 
 /// Returns the seat of a client that has done nothing.
 fn fresh_client(alloc: Global, seat: Seat<(), View>, client: u8) -> ClientSeat
-    requires { (seat.me ≡ (client_view client nobody None [], [])) × (client < 64) }
+    requires { (seat.me ≡ (client_view client nobody None [], [])) × (client < max_clients) }
     ensures { result ≡ record { table = seat.table_id; client = client; held = nobody; reading = None; passes = [] } }
 {
     ClientSeat {
@@ -245,8 +247,8 @@ fn fresh_client(alloc: Global, seat: Seat<(), View>, client: u8) -> ClientSeat
 }
 
 /// Returns a 0 for each voter: no vote is held.
-fn no_votes() -> [u64; 64]
+fn no_votes() -> [u64; MAX_VOTERS]
     ensures { result ≡ nobody }
 {
-    [0; 64]
+    [0; MAX_VOTERS]
 }

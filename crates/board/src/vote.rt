@@ -1,5 +1,6 @@
 //! The states of a voter's vote, and the word that stands for each.
-ghost use Rattle.std.specs.Prelude.{◌≡◌, ◌≤◌, ◌^◌};
+ghost use Rattle.std.specs.Prelude.{◌≡◌, ◌≤◌};
+ghost use Rattle.numbers.specs.Bounds.{max_stamp};
 ghost use Rattle.board.specs.Words.{IsSmall, name_of, word_of};
 
 /// The state of a voter's vote. A grant has a client, below 64, and a number, from 1 to 2^40.
@@ -17,7 +18,7 @@ pub enum Vote {
 
 /// Returns the name of a grant: one number that stands for its client and its number.
 fn name_of(client: u8, grant: u64) -> u64
-    requires { grant ≤ 2 ^ 40 }
+    requires { grant ≤ max_stamp }
     ensures { result ≡ name_of client grant }
 {
     64 * grant + u64::from(client)

@@ -1,5 +1,6 @@
 //! The seat of a voter: it grants the voter's vote, and settles the grant.
-ghost use Rattle.std.specs.Prelude.{◌≡◌, ◌⊎◌, ℕ, ◌+◌, ◌<◌, ◌≤◌, ◌^◌, [], None, Some, IsSome, MatchBool};
+ghost use Rattle.std.specs.Prelude.{◌≡◌, ◌⊎◌, ℕ, ◌+◌, ◌<◌, ◌≤◌, [], None, Some, IsSome, MatchBool};
+ghost use Rattle.numbers.specs.Bounds.{max_voters, max_stamp};
 ghost use Rattle.board.specs.Roots.{IsCurrent};
 ghost use Rattle.board.specs.Seats.{BoardState, VoterSeatState};
 ghost use Rattle.board.specs.Views.{voter_view};
@@ -23,6 +24,7 @@ pub struct VoterSeat {
 
 impl Model for VoterSeat {
     ghost use Rattle.std.specs.Prelude.{◌≡◌, ◌+◌, ◌<◌, []};
+    ghost use Rattle.numbers.specs.Bounds.{max_voters};
     ghost use Rattle.board.specs.Roots.{IsCurrent};
     ghost use Rattle.board.specs.Seats.{VoterSeatState};
     ghost use Rattle.board.specs.Views.{voter_view};
@@ -31,14 +33,14 @@ impl Model for VoterSeat {
 
     ghost view = { λ s. record { table = s.seat.table_id; voter = s.voter; current = s.current; last = s.last } };
 
-    ghost invariant = { λ s. (s.seat.me ≡ (voter_view s.voter s.current, [])) × (s.voter < 64) × IsCurrent s.current s.last × (s.voter + 1 < s.seat.table_id.words) };
+    ghost invariant = { λ s. (s.seat.me ≡ (voter_view s.voter s.current, [])) × (s.voter < max_voters) × IsCurrent s.current s.last × (s.voter + 1 < s.seat.table_id.words) };
 }
 
 impl VoterSeat {
     /// Returns the voter's number.
     pub fn voter(&self) -> u8
         ensures value { result ≡ self.now.voter }
-        ensures few { self.now.voter < 64 }
+        ensures few { self.now.voter < max_voters }
     {
         self.voter
     }
@@ -58,7 +60,7 @@ impl VoterSeat {
         requires free { self.old.current ≡ None }
         requires client { client < board.now.clients }
         requires above { self.old.last < grant }
-        requires fits { grant ≤ 2 ^ 40 }
+        requires fits { grant ≤ max_stamp }
         ensures granted { self.new ≡ record self.old { current = Some (client, grant); last = grant } }
         ensures table { self.new.table ≡ self.old.table }
     {
@@ -98,8 +100,8 @@ impl VoterSeat {
 /// Ends the grant if its vote is in this state, offered or given back. Returns whether it did.
 fn frees(table: &VoteTable, seat: &mut Seat<(), View>, voter: u8, vote: Vote) -> bool
     requires table { (seat.old.table_id ≡ table.now.shared.table_id) × (table.now.shared.table_id.words ≡ table.now.shared.key.voters + 1) }
-    requires voter { (voter < table.now.shared.key.voters) × (voter < 64) }
-    requires seat { IsSettledFrom vote (λ current. (seat.old.me ≡ (voter_view voter (Some current), [])) × IsCurrent (Some current) (2 ^ 40)) }
+    requires voter { (voter < table.now.shared.key.voters) × (voter < max_voters) }
+    requires seat { IsSettledFrom vote (λ current. (seat.old.me ≡ (voter_view voter (Some current), [])) × IsCurrent (Some current) max_stamp) }
     ensures table { seat.new.table_id ≡ seat.old.table_id }
     ensures seat { MatchBool result (seat.new.me ≡ (voter_view voter None, [])) (seat.new.me ≡ seat.old.me) }
 {
