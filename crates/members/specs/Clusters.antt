@@ -1,5 +1,6 @@
 -- Clusters, as contracts see them.
-use Rattle.std.specs.Prelude.{◌≡◌, ℕ, ◌+◌, ◌*◌, ◌^◌, ◌≤◌, [], false, nat_lt, slice_index_or}
+use Rattle.std.specs.Prelude.{◌≡◌, ℕ, ◌+◌, ◌*◌, ◌≤◌, [], false, nat_lt, slice_index_or}
+use Rattle.numbers.specs.Bounds.{max_voters, max_clients, max_tickets}
 use Rattle.board.specs.Seats.{BoardState, RootState}
 use Rattle.dealer.specs.Offices.{OfficeState, ClerkState}
 pub use Rattle.node.specs.Names.{ClusterState, no_cluster}
@@ -9,10 +10,10 @@ pub use Rattle.node.specs.Names.{ClusterState, no_cluster}
 pub record IsCluster (c : ClusterState) : Type 0 where
   pub voters : c.board.voters ≡ c.office.cycle.system.voters
   pub quorums : c.board.quorums ≡ c.office.cycle.system.quorums
-  pub few_voters : c.board.voters ≤ 64
+  pub few_voters : c.board.voters ≤ max_voters
   pub some_client : 1 ≤ c.board.clients
-  pub clients : c.board.clients ≤ 64
-  pub limit : c.board.limit ≡ 2 ^ 63
+  pub clients : c.board.clients ≤ max_clients
+  pub limit : c.board.limit ≡ max_tickets
 
 -- a running cluster: its board and its office, a node for each voter and a mailbox for each client
 pub record Runs (c : ClusterState) (board : BoardState) (office : OfficeState) (nodes mailboxes : ℕ) : Type 0 where

@@ -1,5 +1,6 @@
 -- Members of a cluster, as contracts see them, and what their calls do.
-use Rattle.std.specs.Prelude.{◌≡◌, ◌⊎◌, ℕ, ◌-◌, ◌^◌, ◌<◌, ◌++◌, ◌∷◌, [], true, false, List, Option, None, Ok, All, length}
+use Rattle.std.specs.Prelude.{◌≡◌, ◌⊎◌, ℕ, ◌-◌, ◌<◌, ◌++◌, ◌∷◌, [], true, false, List, Option, None, Ok, All, length}
+use Rattle.numbers.specs.Bounds.{max_stamp}
 use Rattle.message.specs.declared.message.ToClient.{ToClient}
 use Rattle.requester.specs.declared.fault.ClientFault.{ClientFault}
 use Rattle.requester.specs.declared.fault.ClientFault.TheVariants.{Busy, NotInside as Outside, NotAsking, StampsSpent}
@@ -52,7 +53,7 @@ pub record IsMember (c : ClusterState) (x : ClientState) (seat : SeatState) (cle
 -- the member with this number, just after the cluster was opened
 abbrev pub fresh_member : ClusterState → ℕ → MemberState
 fresh_member c client = record {
-  requester = start client (2 ^ 40);
+  requester = start client max_stamp;
   seat = record { table = c.board.table; client = client; held = nobody; reading = None; passes = [] };
   clerk = record { office = c.office; rest = c.quota; receipts = [] };
   lost = 0;

@@ -1,6 +1,7 @@
 //! A cluster before it has a name.
-ghost use Rattle.std.specs.Prelude.{◌≡◌, ℕ, ◌+◌, ◌*◌, ◌<◌, ◌≤◌, ◌^◌, [], false, IfOk, length, map, nat_lt, slice_index_or};
+ghost use Rattle.std.specs.Prelude.{◌≡◌, ℕ, ◌+◌, ◌*◌, ◌<◌, ◌≤◌, [], false, IfOk, length, map, nat_lt, slice_index_or};
 ghost use Rattle.std.specs.List.{range_with_len};
+ghost use Rattle.numbers.specs.Bounds.{max_clients, max_tickets};
 ghost use Rattle.board.specs.Seats.{BoardState, RootState};
 ghost use Rattle.dealer.specs.Offices.{ClerkState};
 ghost use Rattle.members.specs.Clusters.{ClusterState, IsCluster};
@@ -12,12 +13,10 @@ use board::{Board, BoardRoot};
 use certificate::Plan;
 use dealer::{Clerk, Cycle, Office};
 use node::{ClusterName, Mailbox, Node};
+use numbers::MAX_TICKETS;
 use std::alloc::{AllocError, Global};
 use std::marker::{Model, PhantomData};
 use std::sync::Mutex;
-
-/// The greatest number of passes of a cluster.
-const PASSES: u64 = 1 << 63;
 
 /// A cluster that was created and has no name yet. Contracts see which cluster it is.
 #[derive(Drop)]
@@ -95,7 +94,7 @@ fn members_of<N: ClusterName>(
     requires board { board.now ≡ N.cluster.board }
     requires office { office.now.name ≡ N.cluster.office }
     requires quota { quota ≡ N.cluster.quota }
-    requires clients { (clients ≡ N.cluster.board.clients) × (clients ≤ 64) }
+    requires clients { (clients ≡ N.cluster.board.clients) × (clients ≤ max_clients) }
     requires table { root.old.table ≡ board.now.table }
     requires there { (c : ℕ) → slice_index_or root.old.clients c false ≡ nat_lt c clients }
     requires seats { root.old.seats ≡ clients }
@@ -120,15 +119,15 @@ impl Blank {
     /// runs out of memory.
     pub fn new(alloc: Global, plan: Plan, clients: u8, quota: u64) -> Result<Blank, AllocError>
         requires some_client { 1 ≤ clients }
-        requires few_clients { clients ≤ 64 }
-        requires quota { clients * quota ≤ 2 ^ 63 }
+        requires few_clients { clients ≤ max_clients }
+        requires quota { clients * quota ≤ max_tickets }
         ensures plan { IfOk result (λ blank. blank.office.cycle ≡ plan) }
         ensures clients { IfOk result (λ blank. blank.board.clients ≡ clients) }
         ensures quota { IfOk result (λ blank. blank.quota ≡ quota) }
         ensures cluster { IfOk result IsCluster }
     {
         let voters = plan.coterie().voters() as u8;
-        let (board, root) = Board::new(alloc, plan.coterie(), clients, PASSES)?;
+        let (board, root) = Board::new(alloc, plan.coterie(), clients, MAX_TICKETS)?;
         let cycle = match Cycle::of(alloc, plan) {
             Ok(cycle) => cycle,
             Err((_, error)) => return Err(error),

@@ -1,6 +1,7 @@
 //! Members of a cluster, which threads drive.
-ghost use Rattle.std.specs.Prelude.{◌≡◌, ◌≢◌, ◌⊎◌, ℕ, ◌+◌, ◌<◌, ◌≤◌, ◌^◌, [], true, false, None, Some, Ok, Err, IfOk, IfErr, IfSome, length, slice_index_or};
+ghost use Rattle.std.specs.Prelude.{◌≡◌, ◌≢◌, ◌⊎◌, ℕ, ◌+◌, ◌<◌, ◌≤◌, [], true, false, None, Some, Ok, Err, IfOk, IfErr, IfSome, length, slice_index_or};
 ghost use Rattle.std.specs.List.{All};
+ghost use Rattle.numbers.specs.Bounds.{max_voters, max_clients};
 ghost use Rattle.board.specs.Quorums.{quorum_at};
 ghost use Rattle.board.specs.Seats.{BoardState, ClientSeatState};
 ghost use Rattle.board.specs.declared.fault.BoardFault.{BoardFault};
@@ -22,12 +23,10 @@ use board::ClientSeat;
 use dealer::{Clerk, Receipt};
 use message::ToClient;
 use node::{ClusterName, accept, give_back};
+use numbers::MAX_STAMP;
 use requester::{ClientFault, Messages, Phase, Requester, Seen, requesters_stay_sound};
 use std::marker::{Model, PhantomData};
 use std::sync::Wait;
-
-/// The highest stamp of a cluster's clients.
-const STAMPS: u64 = 1 << 40;
 
 /// A client of a cluster with its seat on the board and its clerk. It may be moved to a thread,
 /// which drives it. Whenever no call runs, the client holds the votes that the seat holds.
@@ -72,7 +71,7 @@ fn finish<N: ClusterName>(
     seat: &mut ClientSeat,
 ) -> u64
     requires table { seat.old.table ≡ N.cluster.board.table }
-    requires places { (length seat.old.held ≡ 64) × (length requester.now.held ≡ 64) }
+    requires places { (length seat.old.held ≡ max_voters) × (length requester.now.held ≡ max_voters) }
     requires within { HoldsWithin N.cluster.board.voters seat.old.held }
     requires fewer { HoldsFewer requester.now.held seat.old.held }
     ensures held { seat.new.held ≡ requester.now.held }
@@ -88,14 +87,14 @@ impl<N: ClusterName> Member<N> {
     /// Creates a member from a clerk and from a seat that holds no vote and has not passed.
     pub(crate) fn new(seat: ClientSeat, clerk: Clerk) -> Member<N>
         requires client { seat.client < N.cluster.board.clients }
-        requires few { N.cluster.board.clients ≤ 64 }
+        requires few { N.cluster.board.clients ≤ max_clients }
         requires fresh { seat ≡ (fresh_member N.cluster seat.client).seat }
         requires clerk { clerk ≡ (fresh_member N.cluster seat.client).clerk }
         ensures { result ≡ fresh_member N.cluster seat.client }
     {
         requesters_stay_sound();
         Member {
-            requester: Requester::new(seat.client(), STAMPS),
+            requester: Requester::new(seat.client(), MAX_STAMP),
             seat,
             clerk,
             lost: 0,

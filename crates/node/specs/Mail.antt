@@ -1,5 +1,6 @@
 -- Messages to a client, and the mailbox where they wait.
-use Rattle.std.specs.Prelude.{◌≡◌, ℕ, ◌^◌, ◌<◌, ◌++◌, ◌∷◌, [], Bool, true, ◌&&◌, List, nat_le}
+use Rattle.std.specs.Prelude.{◌≡◌, ℕ, ◌<◌, ◌++◌, ◌∷◌, [], Bool, true, ◌&&◌, List, nat_le}
+use Rattle.numbers.specs.Bounds.{max_stamp}
 use Rattle.message.specs.declared.message.ToClient.{ToClient}
 use Rattle.message.specs.declared.message.ClientBody.{ClientBody}
 use Rattle.message.specs.declared.message.ClientBody.TheVariants as tells
@@ -7,7 +8,7 @@ use Rattle.board.specs.Seats.{BoardState}
 
 -- whether the grant of a LOCKED is from 1 to 2^40; true for other messages
 abbrev pub has_grant : ClientBody → Bool
-has_grant (tells.Locked stamp grant) = nat_le 1 grant && nat_le grant (2 ^ 40)
+has_grant (tells.Locked stamp grant) = nat_le 1 grant && nat_le grant max_stamp
 has_grant (tells.Fail stamp) = true
 has_grant (tells.Inquire grant) = true
 

@@ -1,6 +1,7 @@
 -- Nodes: a voter, the messages that it took, and its seat on the board.
-use Rattle.std.specs.Prelude.{◌≡◌, ℕ, ◌^◌, ◌<◌, ◌≤◌, Bool, true, false, List, [], ◌∷◌, Option, None, Some, option_map}
+use Rattle.std.specs.Prelude.{◌≡◌, ℕ, ◌<◌, ◌≤◌, Bool, true, false, List, [], ◌∷◌, Option, None, Some, option_map}
 use Rattle.std.specs.List.{All}
+use Rattle.numbers.specs.Bounds.{max_clients, max_stamp}
 use Rattle.message.specs.declared.message.ToVoter.{ToVoter}
 use Rattle.voter.specs.declared.state.Grant.{Grant}
 use Rattle.voter.specs.declared.state.VoterState.{VoterState}
@@ -38,17 +39,17 @@ pub record IsFor (board : BoardState) (voter : ℕ) (m : ToVoter) : Type 0 where
 -- nothing and may give 2^40 grants. Its seat on the board has the voter's current grant. The number
 -- of the seat's last grant is how many grants the voter gave.
 pub record IsNode (board : BoardState) (voter : VoterState) (log : List ToVoter) (seat : SeatState) : Type 0 where
-  pub follows : run (Some (start seat.voter (2 ^ 40))) log ≡ Some voter
+  pub follows : run (Some (start seat.voter max_stamp)) log ≡ Some voter
   pub known : All (IsFor board seat.voter) log
   pub table : seat.table ≡ board.table
   pub inside : seat.voter < board.voters
   pub current : seat.current ≡ seat_grant voter.held
   pub last : seat.last ≡ voter.granted
   pub id : voter.id ≡ seat.voter
-  pub limit : voter.limit ≡ 2 ^ 40
+  pub limit : voter.limit ≡ max_stamp
   -- each client that holds the vote or waits for it is one of the board
   pub clients : (client stamp : ℕ) → IsEntry voter client stamp → client < board.clients
-  pub few : board.clients ≤ 64
+  pub few : board.clients ≤ max_clients
   pub sound : IsSound voter
 
 -- the seat after it settled its grant, if a message frees the vote

@@ -4,8 +4,8 @@ ghost use Rattle.node.specs.Names.{ClusterState};
 ghost use Rattle.node.specs.Mail.{IsMail, MailboxState, has_grant, with_message};
 
 use crate::name::ClusterName;
-use crate::node::GRANTS;
 use message::{ClientBody, ToClient};
+use numbers::MAX_STAMP;
 use std::alloc::{AllocError, Global};
 use std::collections::VecDeque;
 use std::marker::{Model, PhantomData};
@@ -36,7 +36,7 @@ fn has_grant(body: ClientBody) -> bool
     ensures { result ≡ has_grant body }
 {
     match body {
-        ClientBody::Locked { stamp: _, grant } => 1 <= grant && grant <= GRANTS,
+        ClientBody::Locked { stamp: _, grant } => 1 <= grant && grant <= MAX_STAMP,
         ClientBody::Fail { .. } | ClientBody::Inquire { .. } => true,
     }
 }

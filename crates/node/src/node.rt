@@ -1,5 +1,6 @@
 //! A voter with its seat on the board, to be put behind a lock.
-ghost use Rattle.std.specs.Prelude.{◌≡◌, ◌⊎◌, ◌<◌, ◌≤◌, ◌^◌, ◌++◌, ◌∷◌, [], true, false, None, Some, IfOk, IfErr, IfSome, MatchBool, MatchOption, IsSome};
+ghost use Rattle.std.specs.Prelude.{◌≡◌, ◌⊎◌, ◌<◌, ◌≤◌, ◌++◌, ◌∷◌, [], true, false, None, Some, IfOk, IfErr, IfSome, MatchBool, MatchOption, IsSome};
+ghost use Rattle.numbers.specs.Bounds.{max_voters, max_clients, max_stamp};
 ghost use Rattle.voter.specs.Steps.{effect_of, remind, start, step};
 ghost use Rattle.board.specs.Seats.{BoardState};
 ghost use Rattle.node.specs.Names.{ClusterState};
@@ -8,15 +9,13 @@ ghost use Rattle.node.specs.Nodes.{NodeState, IsFor, offered, seat_grant, settle
 use crate::name::ClusterName;
 use board::{Board, VoterSeat};
 use message::ToVoter;
+use numbers::MAX_STAMP;
 use std::alloc::{AllocError, Global};
 use std::marker::{Model, PhantomData};
 use voter::{
     Grant, Replies, Voter, grants_are_numbered, replies_carry_what_was_seen,
     voters_meet_the_contract, voters_stay_sound,
 };
-
-/// The number of grants that a voter of a cluster may give.
-pub(crate) const GRANTS: u64 = 1 << 40;
 
 /// A voter of a cluster, the messages that it took, and its seat on the board. Whenever no call
 /// runs, the voter is what its definition makes of the log, and the seat has the voter's current
@@ -57,7 +56,7 @@ fn settle(seat: &mut VoterSeat, board: &Board, frees: bool) -> bool
 /// Offers the voter's grant, if it has one and its seat has none.
 fn offer(seat: &mut VoterSeat, board: &Board, held: Option<Grant>)
     requires table { seat.old.table ≡ board.now.table }
-    requires next { seat.old.current ≡ None → IfSome held (λ g. (g.client < board.now.clients) × (seat.old.last < g.grant) × (g.grant ≤ 2 ^ 40)) }
+    requires next { seat.old.current ≡ None → IfSome held (λ g. (g.client < board.now.clients) × (seat.old.last < g.grant) × (g.grant ≤ max_stamp)) }
     ensures { seat.new ≡ offered held seat.old }
 {
     if seat.current().is_some() {
@@ -74,14 +73,14 @@ impl<N: ClusterName> Node<N> {
     /// 64 clients. The seat must be of the cluster's board and must never have had a grant.
     pub fn new(alloc: Global, seat: VoterSeat) -> Node<N>
         requires table { seat.table ≡ N.cluster.board.table }
-        requires voter { (seat.voter < N.cluster.board.voters) × (seat.voter < 64) }
+        requires voter { (seat.voter < N.cluster.board.voters) × (seat.voter < max_voters) }
         requires fresh { (seat.current ≡ None) × (seat.last ≡ 0) }
-        requires clients { N.cluster.board.clients ≤ 64 }
-        ensures { result ≡ record { voter = start seat.voter (2 ^ 40); log = []; number = seat.voter } }
+        requires clients { N.cluster.board.clients ≤ max_clients }
+        ensures { result ≡ record { voter = start seat.voter max_stamp; log = []; number = seat.voter } }
     {
         voters_stay_sound();
         Node {
-            voter: Voter::new(seat.voter(), GRANTS),
+            voter: Voter::new(seat.voter(), MAX_STAMP),
             log: Vec::new(alloc),
             seat,
             of: PhantomData,

@@ -1,5 +1,6 @@
 //! How a client's votes move on the board.
 ghost use Rattle.std.specs.Prelude.{◌≡◌, ◌≢◌, ◌⊎◌, ℕ, ◌<◌, true, false, None, length, slice_index};
+ghost use Rattle.numbers.specs.Bounds.{max_voters};
 ghost use Rattle.board.specs.Seats.{BoardState, ClientSeatState};
 ghost use Rattle.requester.specs.Soundness.{IsSound};
 ghost use Rattle.requester.specs.Steps.{take, would_hold};
@@ -31,7 +32,7 @@ fn drop_vote(seat: &mut ClientSeat, board: &Board, voter: u8)
 /// Gives a vote back if the seat holds it and the client no longer holds it.
 fn keep_vote(seat: &mut ClientSeat, board: &Board, requester: &Requester, voter: u8)
     requires table { seat.old.table ≡ board.now.table }
-    requires voter { (voter < 64) × (length seat.old.held ≡ 64) }
+    requires voter { (voter < max_voters) × (length seat.old.held ≡ max_voters) }
     requires within { HoldsWithin board.now.voters seat.old.held }
     requires fewer { HoldsFewer requester.now.held seat.old.held }
     ensures kept { slice_index seat.new.held voter ≡ slice_index requester.now.held voter }
@@ -54,7 +55,7 @@ fn keep_vote(seat: &mut ClientSeat, board: &Board, requester: &Requester, voter:
 /// The seat must be of this board.
 pub fn give_back(seat: &mut ClientSeat, board: &Board, requester: &Requester)
     requires table { seat.old.table ≡ board.now.table }
-    requires places { (length seat.old.held ≡ 64) × (length requester.now.held ≡ 64) }
+    requires places { (length seat.old.held ≡ max_voters) × (length requester.now.held ≡ max_voters) }
     requires within { HoldsWithin board.now.voters seat.old.held }
     requires fewer { HoldsFewer requester.now.held seat.old.held }
     ensures held { seat.new.held ≡ requester.now.held }
@@ -99,7 +100,7 @@ pub fn accept(
 ) -> bool
     requires table { seat.old.table ≡ board.now.table }
     requires mail { IsMail board.now requester.now.id message.now }
-    requires voter { message.now.voter < 64 }
+    requires voter { message.now.voter < max_voters }
     requires sound { IsSound requester.now }
     requires held { seat.old.held ≡ requester.now.held }
     requires within { HoldsWithin board.now.voters seat.old.held }
