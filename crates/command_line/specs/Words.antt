@@ -10,6 +10,7 @@ use Rattle.clap.specs.Lexer.{usize_max}
 use Rattle.clap.specs.declared.builder.range.ValueRange.{ValueRange}
 use Rattle.clap.specs.declared.builder.command.Command.{Command as Parser}
 use Rattle.clap.specs.declared.builder.command.Command.TheViews.{out-Command}
+use Rattle.numbers.specs.Bounds.{max_clients}
 use Rattle.command_line.specs.declared.command.Command.{Command}
 use Rattle.command_line.specs.declared.command.Command.TheVariants.{Check, Deal, Make, Plan, Replay, Run, World}
 use Rattle.command_line.specs.declared.command.Shape.{Shape}
@@ -57,7 +58,7 @@ world_app = new_app (codes "world")
 
 -- CLIENTS, for `run`: 1 to 64
 abbrev pub clients_rule : Rule
-clients_rule = record (new_rule (codes "CLIENTS")) { required = true; parser = Some (Unsigned 1 64) }
+clients_rule = record (new_rule (codes "CLIENTS")) { required = true; parser = Some (Unsigned 1 max_clients) }
 
 -- PASSES: at most 1000
 abbrev pub passes_rule : Rule
@@ -135,7 +136,7 @@ IsNamedBy (Some used) World = used.0 ≡ codes "world"
 IsNamedBy (Some used) Replay = used.0 ≡ codes "replay"
 IsNamedBy (Some used) (Run clients passes turns) =
     (used.0 ≡ codes "run")
-    × HasNumber (codes "CLIENTS") 1 64 used.1 clients
+    × HasNumber (codes "CLIENTS") 1 max_clients used.1 clients
     × HasNumber (codes "PASSES") 0 1000 used.1 passes
     × HasNumber (codes "TURNS") 0 (10 ^ 12) used.1 turns
 IsNamedBy (Some used) (Deal n) = (used.0 ≡ codes "deal") × HasNumber (codes "N") 0 100000 used.1 n

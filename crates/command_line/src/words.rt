@@ -8,13 +8,14 @@ use crate::command::{Command, Shape};
 use crate::usage::Usage;
 use clap::builder::ValueParser;
 use clap::{Arg, ArgMatches};
+use numbers::MAX_CLIENTS;
 use std::alloc::{AllocError, Global};
 
 /// The greatest number of tickets that one call deals.
 const MOST_TICKETS: u64 = 100_000;
 
 /// The greatest number of clients that run.
-const MOST_CLIENTS: u64 = 64;
+const MOST_CLIENTS: u64 = MAX_CLIENTS as u64;
 
 /// The greatest number of passes of each client that runs.
 const MOST_PASSES: u64 = 1_000;

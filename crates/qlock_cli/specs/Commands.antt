@@ -4,6 +4,7 @@ use Rattle.std.specs.List.{flat_map, range_with_len}
 use Rattle.std.specs.Fmt.{decimal}
 use Rattle.std.specs.Io.KnownBytes.{Appends, IsAtEnd, Keeps}
 use Rattle.std.specs.Str.{is_utf8}
+use Rattle.numbers.specs.Bounds.{max_clients}
 use Rattle.quorum_set.specs.Coteries.{QuorumSystem}
 use Rattle.construct.specs.Cyclic.{cyclic_at}
 use Rattle.construct.specs.Grid.{grid_at}
@@ -300,7 +301,7 @@ IsServed command = ⊤
 
 -- `execute_run` serves `run`, with 1 to 64 clients and at most 1000 passes
 abbrev pub IsRunnable : Command → Type 0
-IsRunnable (Run clients passes turns) = (1 ≤ clients) × (clients ≤ 64) × (passes ≤ 1000)
+IsRunnable (Run clients passes turns) = (1 ≤ clients) × (clients ≤ max_clients) × (passes ≤ 1000)
 IsRunnable command = ⊥
 
 -- the gate lets each client of a run pass, if any passes are to be made

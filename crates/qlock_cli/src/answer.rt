@@ -1,5 +1,6 @@
 //! What each command writes for its input.
-ghost use Rattle.std.specs.Prelude.{◌≡◌, ◌≤◌, ◌<◌, ◌++◌, ◌^◌, length, IfErr, IfOk, slice_index, string_bytes};
+ghost use Rattle.std.specs.Prelude.{◌≡◌, ◌≤◌, ◌<◌, ◌++◌, length, IfErr, IfOk, slice_index, string_bytes};
+ghost use Rattle.numbers.specs.Bounds.{max_tickets};
 ghost use Rattle.construct.specs.Answers as construct_answers;
 ghost use Rattle.coterie_file.specs.Named.{IsNamed};
 ghost use Rattle.certificate.specs.Certificates.{IsCertificate, cycle_len, load_of};
@@ -128,7 +129,7 @@ fn check_text_of(alloc: Global, planned: &Planned) -> Result<String, AllocError>
 #[tactic(auto, unfolding(crate::specs::Commands::deal_text))]
 fn deal_text_of(alloc: Global, planned: Planned, count: u64) -> Result<String, AllocError>
     requires same { planned.plan.system ≡ planned.named.system }
-    requires count { count ≤ 2 ^ 63 }
+    requires count { count ≤ max_tickets }
     ensures { IfOk result (λ text. string_bytes text ≡ deal_text planned count) }
 {
     let Planned { named, plan } = planned;

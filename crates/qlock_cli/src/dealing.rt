@@ -1,6 +1,7 @@
 //! Drawing tickets from an office, for the command `deal`.
-ghost use Rattle.std.specs.Prelude.{◌≡◌, ◌<◌, ◌≤◌, ◌-◌, ◌^◌, ◌++◌, [], ◌∷◌, length, map, IfOk};
+ghost use Rattle.std.specs.Prelude.{◌≡◌, ◌<◌, ◌≤◌, ◌-◌, ◌++◌, [], ◌∷◌, length, map, IfOk};
 ghost use Rattle.std.specs.List.{range_with_len};
+ghost use Rattle.numbers.specs.Bounds.{max_tickets};
 ghost use Rattle.dealer.specs.Accounts.{account_of};
 ghost use Rattle.dealer.specs.Offices.{receipt_of, share_of, tickets_of};
 ghost use Rattle.qlock_cli.specs.Dealing.{after_draws};
@@ -21,7 +22,7 @@ fn cycle_of_plan(alloc: Global, plan: Plan) -> Result<Cycle, AllocError>
 
 /// Returns an office of a cycle with this quota, and the clerk that may draw all of it.
 fn office_of(alloc: Global, cycle: Cycle, quota: u64) -> Result<(Office, Clerk), AllocError>
-    requires { quota ≤ 2 ^ 63 }
+    requires { quota ≤ max_tickets }
     ensures cycle { IfOk result (λ made. made.0.name.cycle ≡ cycle) }
     ensures quota { IfOk result (λ made. made.0.quota ≡ quota) }
     ensures clerk { IfOk result (λ made. made.1 ≡ after_draws made.0.name quota 0) }
@@ -88,7 +89,7 @@ fn closed(
 /// Deals `count` tickets of a plan, from an office with that quota. Returns their account, and
 /// their receipts in order.
 pub fn dealt(alloc: Global, plan: Plan, count: u64) -> Result<(Account, Vec<Receipt>), AllocError>
-    requires { count ≤ 2 ^ 63 }
+    requires { count ≤ max_tickets }
     ensures account { IfOk result (λ dealt. dealt.0 ≡ account_of plan (range_with_len 0 count)) }
     ensures receipts { IfOk result (λ dealt. dealt.1.items ≡ map (receipt_of plan) (range_with_len 0 count)) }
     ensures one_each { IfOk result (λ dealt. length dealt.0.voters ≡ plan.system.voters) }

@@ -1,5 +1,6 @@
 //! Runs, from the plan to the record.
-ghost use Rattle.std.specs.Prelude.{◌≡◌, ◌*◌, ◌^◌, ◌<◌, ◌≤◌, IfOk, IfErr};
+ghost use Rattle.std.specs.Prelude.{◌≡◌, ◌*◌, ◌<◌, ◌≤◌, IfOk, IfErr};
+ghost use Rattle.numbers.specs.Bounds.{max_clients, max_tickets};
 ghost use Rattle.certificate.specs.Certificates.{IsCertificate};
 ghost use Rattle.members.specs.Clusters.{ClusterState, IsCluster};
 ghost use Rattle.runs.specs.Runs.{AreLet, IsRun, EndsRun};
@@ -71,8 +72,8 @@ pub fn record_of_run<R: Threads + Wait + Sync, G: Gate>(
     gate: &G,
 ) -> Result<RunRecord, RunFault>
     requires some_client { 1 ≤ clients }
-    requires few_clients { clients ≤ 64 }
-    requires tickets { clients * passes ≤ 2 ^ 63 }
+    requires few_clients { clients ≤ max_clients }
+    requires tickets { clients * passes ≤ max_tickets }
     ensures run { IfOk result (IsRun plan clients passes) }
     ensures ended { IfErr result (EndsRun clients) }
     ensures let_pass { IfOk result (λ _. 0 < passes → AreLet (G.lets gate.now) clients) }
