@@ -9,14 +9,12 @@ ghost use Rattle.std.specs.Prelude.{◌≡◌};
 
 use arrayvec::ArrayVec;
 use message::{ToClient, ToVoter};
+use numbers::MAX_STAMP;
 use quorum_set::QSet;
 use requester::{ClientFault, Messages, Requester, Seen};
 use std::env;
 use std::process::ExitCode;
 use voter::{Replies, Voter};
-
-/// The limit of stamps and grants: 2^40.
-const LIMIT: u64 = 1 << 40;
 
 /// One voter, two clients, and the counts.
 #[derive(Drop)]
@@ -36,9 +34,9 @@ struct Lock {
 impl Lock {
     fn new() -> Lock {
         Lock {
-            voter: Voter::new(0, LIMIT),
-            first: Requester::new(0, LIMIT),
-            second: Requester::new(1, LIMIT),
+            voter: Voter::new(0, MAX_STAMP),
+            first: Requester::new(0, MAX_STAMP),
+            second: Requester::new(1, MAX_STAMP),
             answers: ArrayVec::new(),
             steps: 0,
             entered: 0,

@@ -12,6 +12,7 @@
 -- space is between two words, and each line ends with a newline.
 use Rattle.std.specs.Prelude.{ℕ, ◌≡◌, ◌≢◌, ◌<◌, ◌≤◌, ◌+◌, ◌^◌, ◌⊎◌, List, [], ◌∷◌, ◌++◌, length, map, codes}
 use Rattle.std.specs.List.{AllByRecursion}
+use Rattle.numbers.specs.Bounds.{max_clients, max_stamp}
 use Rattle.certificate.specs.PlanTexts.{text_of_lines}
 use Rattle.texts.specs.Fields.{fields}
 use Rattle.world.specs.declared.step.Step.{Step}
@@ -67,9 +68,9 @@ world_line clients limit = codes "world" ++ fields (clients ∷ limit ∷ [])
 -- how large a world may be
 pub record AreSizes (clients limit : ℕ) : Type 0 where
   pub some_client : 1 ≤ clients
-  pub few_clients : clients ≤ 64
+  pub few_clients : clients ≤ max_clients
   pub some_stamp : 1 ≤ limit
-  pub few_stamps : limit ≤ 2 ^ 40
+  pub few_stamps : limit ≤ max_stamp
 
 -- each of these steps has a line
 abbrev pub HaveLines : List Step → Type 0

@@ -6,12 +6,13 @@ ghost use Rattle.replay.specs.declared.fault.ReplayFault.TheVariants.{BadLine, O
 
 use crate::fault::ReplayFault;
 use crate::script::Script;
+use numbers::{MAX_CLIENTS, MAX_STAMP};
 use std::alloc::Global;
 use texts::{cut, cut_at, fields};
 use world::Step;
 
-/// The highest limit of stamps and grants.
-const HIGHEST_LIMIT: u64 = 1 << 40;
+/// The most clients of a world.
+const MOST_CLIENTS: u64 = MAX_CLIENTS as u64;
 
 /// Returns the step of a word and its number.
 fn step_of(word: &[u8], number: u64) -> Option<Step>
@@ -92,8 +93,8 @@ fn sizes_of(word: &[u8], clients: u64, limit: u64) -> Option<(u8, u64)>
     ensures read { AreSizes clients limit → word.now ≡ codes "world" → result ≡ Some (clients, limit) }
 {
     if word == b"world".as_slice()
-        && (1..=64).contains(&clients)
-        && (1..=HIGHEST_LIMIT).contains(&limit)
+        && (1..=MOST_CLIENTS).contains(&clients)
+        && (1..=MAX_STAMP).contains(&limit)
     {
         Some((clients as u8, limit))
     } else {

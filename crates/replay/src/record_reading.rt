@@ -9,6 +9,7 @@ ghost use Rattle.replay.specs.declared.record_reading.RecordLine.{RecordLine};
 
 use crate::fault::ReplayFault;
 use cluster::RunRecord;
+use numbers::{MAX_CLIENTS, MAX_QUORUMS};
 use std::alloc::{AllocError, Global};
 use texts::{cut, cut_at, fields};
 
@@ -16,10 +17,10 @@ use texts::{cut, cut_at, fields};
 const TITLE: &[u8] = b"quorum-record 1";
 
 /// The highest number of a client.
-const HIGHEST_CLIENT: u64 = 63;
+const HIGHEST_CLIENT: u64 = MAX_CLIENTS as u64 - 1;
 
 /// The highest number of a quorum.
-const HIGHEST_QUORUM: u64 = 4095;
+const HIGHEST_QUORUM: u64 = MAX_QUORUMS as u64 - 1;
 
 /// What a line after the first says.
 #[derive(Clone, Copy)]

@@ -1,6 +1,7 @@
 -- Ranges: which client and voter a message of a world names, and how large its numbers are.
 use Rattle.std.specs.Prelude.{ℕ, ◌≡◌, ◌<◌, ◌≤◌, List, length}
 use Rattle.std.specs.List.{AllByRecursion}
+use Rattle.numbers.specs.Bounds.{max_voters, max_clients}
 use Rattle.message.specs.declared.message.Message.{Message}
 use Rattle.message.specs.declared.message.Message.TheVariants as kinds
 use Rattle.message.specs.declared.message.ClientBody.{ClientBody}
@@ -40,8 +41,8 @@ IsAddressed w (kinds.ToClient m) = (m.client < length w.clients) × (m.voter < l
 pub record IsNumbered (w : WorldState) : Type 0 where
   pub clients : (c : ℕ) → c < length w.clients → (client_at w.clients c).id ≡ c
   pub voters : (v : ℕ) → v < length w.voters → (voter_at w.voters v).id ≡ v
-  pub few_clients : length w.clients ≤ 64
-  pub few_voters : length w.voters ≤ 64
+  pub few_clients : length w.clients ≤ max_clients
+  pub few_voters : length w.voters ≤ max_voters
   pub messages : AllByRecursion (IsAddressed w) w.sent
 
 -- what holds after every run of a world with this number of voters, this number of clients and this

@@ -1,6 +1,7 @@
 -- Runs: what a list of steps makes of a new world. A refused step changes nothing.
-use Rattle.std.specs.Prelude.{ℕ, ◌≡◌, ◌+◌, ◌≤◌, ◌^◌, List, [], ◌∷◌, ◌++◌, length, map, Result, Ok, Err}
+use Rattle.std.specs.Prelude.{ℕ, ◌≡◌, ◌+◌, ◌≤◌, List, [], ◌∷◌, ◌++◌, length, map, Result, Ok, Err}
 use Rattle.std.specs.List.{range_with_len}
+use Rattle.numbers.specs.Bounds.{max_voters, max_clients, max_stamp}
 use Rattle.certificate.specs.Certificates.{Weighted, IsCertificate}
 use Rattle.voter.specs.Steps as voter
 use Rattle.requester.specs.Steps as client
@@ -48,10 +49,10 @@ run_by plan clients limit steps = run_of (quorum_by plan) steps (start_by plan c
 
 -- at most 64 voters and 64 clients, and a limit of stamps and grants from 1 to 2^40
 pub record AreLimits (voters clients limit : ℕ) : Type 0 where
-  pub few_voters : voters ≤ 64
-  pub few_clients : clients ≤ 64
+  pub few_voters : voters ≤ max_voters
+  pub few_clients : clients ≤ max_clients
   pub some_stamp : 1 ≤ limit
-  pub few_stamps : limit ≤ 2 ^ 40
+  pub few_stamps : limit ≤ max_stamp
 
 -- some list of steps made this world from a new one
 pub record IsReached (w : Planned) : Type 0 where

@@ -1,5 +1,6 @@
 //! Steps of one client or one voter in a list of all.
 ghost use Rattle.std.specs.Prelude.{◌≡◌, ◌<◌, ◌≤◌, Err, IfErr, IfOk, None, Ok, OnErr, OnOk, Some, length, slice_set};
+ghost use Rattle.numbers.specs.Bounds.{max_voters, max_clients};
 ghost use Rattle.requester.specs.Steps.{step};
 ghost use Rattle.requester.specs.Steps.Cause.{Asks, GivesUp, Leaves, Takes};
 ghost use Rattle.voter.specs.Steps as polls;
@@ -47,7 +48,7 @@ pub fn ask(
 pub fn take(clients: &mut [Requester], message: &ToClient, out: &mut Messages) -> Seen
     requires client { message.now.client < length clients.old }
     requires id { (client_at clients.old message.now.client).id ≡ message.now.client }
-    requires voter { message.now.voter < 64 }
+    requires voter { message.now.voter < max_voters }
     ensures taken { step (client_at clients.old message.now.client) (Takes message.now) ≡ Ok (record { out = out.new.items; seen = result; state = client_at clients.new message.now.client }) }
     ensures others { clients.new ≡ slice_set clients.old message.now.client (client_at clients.new message.now.client) }
 {
@@ -89,7 +90,7 @@ pub fn vote(
 ) -> Result<(), VoterFault>
     requires voter { message.now.voter < length voters.old }
     requires id { (voter_at voters.old message.now.voter).id ≡ message.now.voter }
-    requires client { message.now.client < 64 }
+    requires client { message.now.client < max_clients }
     ensures taken { OnOk result (polls.step (voter_at voters.old message.now.voter) message.now ≡ Some (record { replies = replies.new.items; state = voter_at voters.new message.now.voter })) }
     ensures refused { OnErr result ((polls.step (voter_at voters.old message.now.voter) message.now ≡ None) × (voters.new ≡ voters.old)) }
     ensures others { voters.new ≡ slice_set voters.old message.now.voter (voter_at voters.new message.now.voter) }

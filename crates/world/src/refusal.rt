@@ -1,6 +1,7 @@
 //! Faults of a step, found before it is made. So a step fails with `OutOfMemory` only if no other
 //! fault applies.
 ghost use Rattle.std.specs.Prelude.{◌≡◌, ◌<◌, ℕ, List, length, is_none};
+ghost use Rattle.numbers.specs.Bounds.{max_clients};
 ghost use Rattle.requester.specs.Steps.{Foretells};
 ghost use Rattle.voter.specs.Steps as polls;
 ghost use Rattle.world.specs.declared.step.Step.TheVariants as steps;
@@ -20,7 +21,7 @@ use voter::{Voter, VoterFault};
 fn is_refused(voters: &[Voter], message: &ToVoter) -> bool
     requires voter { message.now.voter < length voters.now }
     requires id { (voter_at voters.now message.now.voter).id ≡ message.now.voter }
-    requires client { message.now.client < 64 }
+    requires client { message.now.client < max_clients }
     ensures { result ≡ is_none (polls.step (voter_at voters.now message.now.voter) message.now) }
 {
     voter_of(voters, message.voter).effect(message).refused

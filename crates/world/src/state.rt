@@ -1,5 +1,6 @@
 //! The state of a world, and its steps once there is room for them.
 ghost use Rattle.std.specs.Prelude.{◌≡◌, ◌<◌, ◌≤◌, ◌+◌, ◌++◌, ℕ, List, IfNone, IfSome, OnOk, length, map, slice_get, vec_capacity, vec_len};
+ghost use Rattle.numbers.specs.Bounds.{max_voters, max_clients};
 ghost use Rattle.message.specs.declared.message.Message.TheVariants as kinds;
 ghost use Rattle.world.specs.declared.step.Step.TheVariants as steps;
 ghost use Rattle.requester.specs.Steps.Cause.{Takes};
@@ -82,7 +83,7 @@ impl State {
 
     /// Records the step of a client whose messages are in `out`, and returns what the step did.
     fn tell(&mut self, client: u8, seen: Seen) -> Stepped
-        requires sent { vec_len self.old.sent + 64 ≤ vec_capacity self.old.sent }
+        requires sent { vec_len self.old.sent + max_voters ≤ vec_capacity self.old.sent }
         requires visible { vec_len self.old.visible + 1 ≤ vec_capacity self.old.visible }
         ensures sent { result.sent ≡ length self.old.out.items }
         ensures seen { result.seen ≡ seen }
@@ -146,7 +147,7 @@ impl State {
         requires room { HasRoom self.old }
         requires client { message.now.client < length self.old.clients.items }
         requires id { (client_at self.old.clients.items message.now.client).id ≡ message.now.client }
-        requires voter { message.now.voter < 64 }
+        requires voter { message.now.voter < max_voters }
         ensures { Does (act (shown self.old) message.now.client (Takes message.now)) (shown self.old) (Ok result) (shown self.new) }
     {
         let seen = moves::take(&mut self.clients, message, &mut self.out);
@@ -157,7 +158,7 @@ impl State {
         requires room { HasRoom self.old }
         requires voter { message.now.voter < length self.old.voters.items }
         requires id { (voter_at self.old.voters.items message.now.voter).id ≡ message.now.voter }
-        requires client { message.now.client < 64 }
+        requires client { message.now.client < max_clients }
         ensures { Does (vote (shown self.old) message.now) (shown self.old) result (shown self.new) }
     {
         match moves::vote(&mut self.voters, message, &mut self.replies) {

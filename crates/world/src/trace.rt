@@ -1,5 +1,6 @@
 //! Runs of a world.
-ghost use Rattle.std.specs.Prelude.{◌≡◌, ◌≢◌, ◌≤◌, ◌^◌, ◌++◌, ◌∷◌, [], IfOk, OnOk};
+ghost use Rattle.std.specs.Prelude.{◌≡◌, ◌≢◌, ◌≤◌, ◌++◌, ◌∷◌, [], IfOk, OnOk};
+ghost use Rattle.numbers.specs.Bounds.{max_clients, max_stamp};
 ghost use Rattle.world.specs.declared.fault.WorldFault.TheVariants.{OutOfMemory};
 ghost use Rattle.std.specs.List.{AllByRecursion};
 ghost use Rattle.message.specs.Lines.{HasLine};
@@ -42,9 +43,9 @@ pub fn run(
     steps: &[Step],
 ) -> Result<Trace, AllocError>
     requires some { 1 ≤ clients }
-    requires few { clients ≤ 64 }
+    requires few { clients ≤ max_clients }
     requires least { 1 ≤ limit }
-    requires most { limit ≤ 2 ^ 40 }
+    requires most { limit ≤ max_stamp }
     ensures visible { IfOk result (λ trace. trace.visible.items ≡ (run_by plan clients limit steps.now).visible) }
     ensures draws { IfOk result (λ trace. trace.draws.items ≡ (run_by plan clients limit steps.now).draws) }
     ensures messages { IfOk result (λ trace. trace.messages.items ≡ (run_by plan clients limit steps.now).sent) }

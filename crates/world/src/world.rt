@@ -1,6 +1,7 @@
 //! Worlds, which make steps one by one.
-ghost use Rattle.std.specs.Prelude.{◌≡◌, ◌<◌, ◌≤◌, ◌^◌, IfErr, IfOk, Ok, OnErr, Some, length, map, slice_get};
+ghost use Rattle.std.specs.Prelude.{◌≡◌, ◌<◌, ◌≤◌, IfErr, IfOk, Ok, OnErr, Some, length, map, slice_get};
 ghost use Rattle.std.specs.List.{AllByRecursion, range_with_len};
+ghost use Rattle.numbers.specs.Bounds.{max_voters, max_clients, max_stamp};
 ghost use Rattle.requester.specs.Steps as requesters;
 ghost use Rattle.voter.specs.Steps as polls;
 ghost use Rattle.message.specs.Lines.{HasLine};
@@ -54,9 +55,9 @@ impl World {
     /// memory.
     pub fn new(alloc: Global, plan: Plan, clients: u8, limit: u64) -> Result<World, AllocError>
         requires some { 1 ≤ clients }
-        requires few { clients ≤ 64 }
+        requires few { clients ≤ max_clients }
         requires least { 1 ≤ limit }
-        requires most { limit ≤ 2 ^ 40 }
+        requires most { limit ≤ max_stamp }
         ensures { IfOk result (λ world. world ≡ record { plan = plan; state = start_by plan clients limit }) }
     {
         let _ = plan.cycle_len();
@@ -154,9 +155,9 @@ impl World {
 
 /// Returns `count` new voters, numbered from 0.
 fn new_voters(alloc: Global, count: usize, limit: u64) -> Result<Vec<Voter>, AllocError>
-    requires few { count ≤ 64 }
+    requires few { count ≤ max_voters }
     requires least { 1 ≤ limit }
-    requires most { limit ≤ 2 ^ 40 }
+    requires most { limit ≤ max_stamp }
     ensures { IfOk result (λ voters. voters.items ≡ map (λ v. polls.start v limit) (range_with_len 0 count)) }
 {
     let mut voters = Vec::with_capacity(alloc, count)?;
@@ -168,9 +169,9 @@ fn new_voters(alloc: Global, count: usize, limit: u64) -> Result<Vec<Voter>, All
 
 /// Returns `count` new clients, numbered from 0.
 fn new_clients(alloc: Global, count: u8, limit: u64) -> Result<Vec<Requester>, AllocError>
-    requires few { count ≤ 64 }
+    requires few { count ≤ max_clients }
     requires least { 1 ≤ limit }
-    requires most { limit ≤ 2 ^ 40 }
+    requires most { limit ≤ max_stamp }
     ensures { IfOk result (λ clients. clients.items ≡ map (λ c. requesters.start c limit) (range_with_len 0 count)) }
 {
     let mut clients = Vec::with_capacity(alloc, usize::from(count))?;
