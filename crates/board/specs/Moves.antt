@@ -24,27 +24,33 @@ Granted st m found w =
 -- changes.
 abbrev pub Settled : Step (Unit {0}) → Mine → ℕ → Mine → Type 0
 Settled st m found w =
-    (slice_index m.0.voters st.word ≡ name_in st.first + 1) × ((st.first ≡ offered (name_in st.first)) ⊎ (st.first ≡ returned (name_in st.first))) × (st.second ≡ free)
-    × (found ≡ st.first → w ≡ (record m.0 { voters = slice_set m.0.voters st.word 1 }, m.1)) × (found ≢ st.first → w ≡ m)
+    (slice_index m.0.voters st.word ≡ name_in st.first + 1)
+    × ((st.first ≡ offered (name_in st.first)) ⊎ (st.first ≡ returned (name_in st.first))) × (st.second ≡ free)
+    × (found ≡ st.first → w ≡ (record m.0 { voters = slice_set m.0.voters st.word 1 }, m.1))
+    × (found ≢ st.first → w ≡ m)
 
 -- From offered to held. A client's seat takes the vote if it is offered to this client under the
 -- grant that the step names; otherwise nothing changes.
 abbrev pub Took : Step (Unit {0}) → Mine → ℕ → Mine → Type 0
 Took st m found w =
-    (st.first ≡ offered (name_of m.0.client (number_in st.first))) × (st.second ≡ taken (name_of m.0.client (number_in st.first)))
-    × (found ≡ st.first → w ≡ (record m.0 { held = slice_set m.0.held st.word (number_in st.first) }, m.1)) × (found ≢ st.first → w ≡ m)
+    (st.first ≡ offered (name_of m.0.client (number_in st.first)))
+    × (st.second ≡ taken (name_of m.0.client (number_in st.first)))
+    × (found ≡ st.first → w ≡ (record m.0 { held = slice_set m.0.held st.word (number_in st.first) }, m.1))
+    × (found ≢ st.first → w ≡ m)
 
 -- From held to returned. A client's seat finds that it holds the vote, and gives it back. Its
 -- reading no longer counts.
 abbrev pub GaveBack : Step (Unit {0}) → Mine → ℕ → Mine → Type 0
 GaveBack st m found w =
-    (found ≡ taken (name_of m.0.client (slice_index m.0.held st.word))) × (st.first ≡ returned (name_of m.0.client (slice_index m.0.held st.word)))
+    (found ≡ taken (name_of m.0.client (slice_index m.0.held st.word)))
+    × (st.first ≡ returned (name_of m.0.client (slice_index m.0.held st.word)))
     × (w ≡ (record m.0 { held = slice_set m.0.held st.word 0; reading = None }, m.1))
 
 -- A client's seat reads the register for quorum j. The number is above each of its pass numbers,
 -- and at most 2^63.
 abbrev pub Read : ℕ → Step (Unit {0}) → Mine → ℕ → Mine → Type 0
-Read j st m found w = (w ≡ (record m.0 { reading = Some (j, found) }, m.1)) × All (λ x. x < found) m.0.passes × (found ≤ max_tickets)
+Read j st m found w =
+    (w ≡ (record m.0 { reading = Some (j, found) }, m.1)) × All (λ x. x < found) m.0.passes × (found ≤ max_tickets)
 
 -- a client's seat writes the register and passes; its pass number is one less than what it writes
 abbrev pub Wrote : Step (Unit {0}) → Mine → ℕ → Mine → Type 0

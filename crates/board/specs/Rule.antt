@@ -31,7 +31,8 @@ pub record IsVote (v word : ℕ) (views : List View) : Type 0 where
 -- if the seat has a reading, it holds the votes of the quorum that it read for, and the number read
 -- is the register's
 abbrev pub IsReading : Setting → ℕ → View → Type 0
-IsReading b register u = IfSome u.reading (λ r. (r.0 < length b.quorums) × HoldsAll (quorum_at b.quorums r.0) u.held × (r.1 ≡ register))
+IsReading b register u =
+    IfSome u.reading (λ r. (r.0 < length b.quorums) × HoldsAll (quorum_at b.quorums r.0) u.held × (r.1 ≡ register))
 
 -- The pass numbers of all seats together are those below the register, each once. No seat is lost:
 -- together they stand for all voters' and clients' seats and the root. A seat that stands for none

@@ -11,15 +11,36 @@ current_name (Some x) = name_of x.0 x.1
 
 -- the view of a voter's seat
 abbrev pub voter_view : ℕ → Option (ℕ × ℕ) → View
-voter_view v current = record { parts = 1; voters = slice_set nobody v (current_name current + 1); client = 0; held = []; reading = None; passes = [] }
+voter_view v current = record {
+  parts = 1;
+  voters = slice_set nobody v (current_name current + 1);
+  client = 0;
+  held = [];
+  reading = None;
+  passes = [];
+}
 
 -- the view of a client's seat
 abbrev pub client_view : ℕ → List ℕ → Option (ℕ × ℕ) → List ℕ → View
-client_view client held reading passes = record { parts = 1; voters = nobody; client = client; held = held; reading = reading; passes = passes }
+client_view client held reading passes = record {
+  parts = 1;
+  voters = nobody;
+  client = client;
+  held = held;
+  reading = reading;
+  passes = passes;
+}
 
 -- the view of the first seat, the root: it stands for all seats and for itself
 abbrev pub root_view : ℕ → ℕ → View
-root_view voters clients = record { parts = voters + clients + 1; voters = replicate max_voters 1; client = 0; held = []; reading = None; passes = [] }
+root_view voters clients = record {
+  parts = voters + clients + 1;
+  voters = replicate max_voters 1;
+  client = 0;
+  held = [];
+  reading = None;
+  passes = [];
+}
 
 -- the view of a seat that was joined
 abbrev pub spent_view : View

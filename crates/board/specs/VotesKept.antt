@@ -42,10 +42,14 @@ IsInside b u = (j : ℕ) × (j < length b.quorums) × HoldsAll (quorum_at b.quor
 -- - The numbers of all passes are those below the register, each once.
 pub record KeepsVotes (b : Setting) (words : List ℕ) (views : List View) : Type 0 where
   pub one_stands : (v : ℕ) → v < b.voters → OneStandsFor v views
-  pub granted : (v name i : ℕ) (u : View) → v < b.voters → get_elem? views i ≡ some u → slice_index u.voters v ≡ name + 1 → IsWordOf name (slice_index words v)
-  pub held : (v c g : ℕ) → v < b.voters → c < max_clients → 1 ≤ g → Holds views c v g ↔ (slice_index words v ≡ taken (name_of c g))
-  pub one_holds : (v i k : ℕ) (u w : View) → v < b.voters → get_elem? views i ≡ some u → get_elem? views k ≡ some w → slice_index u.held v ≢ 0 → slice_index w.held v ≢ 0 → i ≡ k
-  pub readings : (i j x : ℕ) (u : View) → get_elem? views i ≡ some u → u.reading ≡ Some (j, x) → (j < length b.quorums) × HoldsAll (quorum_at b.quorums j) u.held × (x ≡ slice_index words b.voters)
+  pub granted : (v name i : ℕ) (u : View) → v < b.voters → get_elem? views i ≡ some u
+      → slice_index u.voters v ≡ name + 1 → IsWordOf name (slice_index words v)
+  pub held : (v c g : ℕ) → v < b.voters → c < max_clients → 1 ≤ g
+      → Holds views c v g ↔ (slice_index words v ≡ taken (name_of c g))
+  pub one_holds : (v i k : ℕ) (u w : View) → v < b.voters → get_elem? views i ≡ some u → get_elem? views k ≡ some w
+      → slice_index u.held v ≢ 0 → slice_index w.held v ≢ 0 → i ≡ k
+  pub readings : (i j x : ℕ) (u : View) → get_elem? views i ≡ some u → u.reading ≡ Some (j, x)
+      → (j < length b.quorums) × HoldsAll (quorum_at b.quorums j) u.held × (x ≡ slice_index words b.voters)
   pub passes : AreAllBelow (flat_map (λ u. u.passes) views) (slice_index words b.voters)
 
 -- the rule means that votes are kept between any two steps
@@ -55,4 +59,5 @@ VotesAreKept = (b : Setting) (s : State (Unit {0}) View) → Kept b s → KeepsV
 -- if any two quorums meet, of two seats one is not inside
 abbrev pub OneInside : Type 0
 OneInside = (b : Setting) (s : State (Unit {0}) View) → AllMeet b.voters b.quorums → Kept b s
-    → (i k : ℕ) (u w : View) → get_elem? s.views i ≡ some u → get_elem? s.views k ≡ some w → IsInside b u → IsInside b w → i ≡ k
+    → (i k : ℕ) (u w : View) → get_elem? s.views i ≡ some u → get_elem? s.views k ≡ some w
+    → IsInside b u → IsInside b w → i ≡ k

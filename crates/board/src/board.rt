@@ -30,9 +30,20 @@ impl Model for Board {
 
     ghost Value = { BoardState };
 
-    ghost view = { λ b. record { table = b.table.shared.table_id; voters = b.sheet.voters; quorums = b.sheet.quorums; clients = b.sheet.clients; limit = b.sheet.limit } };
+    ghost view = { λ b. record {
+      table = b.table.shared.table_id;
+      voters = b.sheet.voters;
+      quorums = b.sheet.quorums;
+      clients = b.sheet.clients;
+      limit = b.sheet.limit;
+    } };
 
-    ghost invariant = { λ b. (b.table.shared.key ≡ b.sheet) × (b.table.shared.table_id.words ≡ b.sheet.voters + 1) × (b.table.shared.table_id.slots ≡ 0) × (1 ≤ b.sheet.limit) × (b.sheet.limit ≤ max_tickets) × (1 ≤ b.sheet.clients) × (b.sheet.clients ≤ max_clients) × (1 ≤ b.sheet.voters) × (b.sheet.voters ≤ max_voters) × AllMeet b.sheet.voters b.sheet.quorums };
+    ghost invariant = { λ b. (b.table.shared.key ≡ b.sheet)
+        × (b.table.shared.table_id.words ≡ b.sheet.voters + 1) × (b.table.shared.table_id.slots ≡ 0)
+        × (1 ≤ b.sheet.limit) × (b.sheet.limit ≤ max_tickets)
+        × (1 ≤ b.sheet.clients) × (b.sheet.clients ≤ max_clients)
+        × (1 ≤ b.sheet.voters) × (b.sheet.voters ≤ max_voters)
+        × AllMeet b.sheet.voters b.sheet.quorums };
 }
 
 impl Board {
@@ -52,8 +63,10 @@ impl Board {
         ensures coterie { IfOk result (λ r. (r.0.voters ≡ coterie.now.voters) × (r.0.quorums ≡ coterie.now.quorums)) }
         ensures clients { IfOk result (λ r. r.0.clients ≡ clients) }
         ensures limit { IfOk result (λ r. r.0.limit ≡ limit) }
-        ensures root { IfOk result (λ r. (r.1.table ≡ r.0.table) × (r.1.seats ≡ coterie.now.voters + clients) × (r.1.passes ≡ [])) }
-        ensures voter_seats { IfOk result (λ r. (v : ℕ) → slice_index_or r.1.voters v false ≡ nat_lt v coterie.now.voters) }
+        ensures root { IfOk result (λ r.
+            (r.1.table ≡ r.0.table) × (r.1.seats ≡ coterie.now.voters + clients) × (r.1.passes ≡ [])) }
+        ensures voter_seats { IfOk result (λ r.
+            (v : ℕ) → slice_index_or r.1.voters v false ≡ nat_lt v coterie.now.voters) }
         ensures client_seats { IfOk result (λ r. (c : ℕ) → slice_index_or r.1.clients c false ≡ nat_lt c clients) }
     {
         coteries_meet();
@@ -113,7 +126,8 @@ impl Board {
         ensures register { IfOk result (λ t. t.register ≡ length root.passes) }
         ensures passes { IfOk result (λ t. t.passes.items ≡ root.passes) }
         ensures once { IfOk result (λ t. AreAllBelow (map (λ p. p.1) root.passes) t.register) }
-        ensures out { IfErr result (λ e. (root.seats < self.voters + self.clients) × (e ≡ BoardFault.SeatsOut (self.voters + self.clients - root.seats))) }
+        ensures out { IfErr result (λ e. (root.seats < self.voters + self.clients)
+            × (e ≡ BoardFault.SeatsOut (self.voters + self.clients - root.seats))) }
     {
         let Board { table, sheet } = self;
         let BoardRoot {

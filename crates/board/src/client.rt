@@ -38,9 +38,18 @@ impl Model for ClientSeat {
 
     ghost Value = { ClientSeatState };
 
-    ghost view = { λ s. record { table = s.seat.table_id; client = s.client; held = s.held; reading = s.reading; passes = s.passes.items } };
+    ghost view = { λ s. record {
+      table = s.seat.table_id;
+      client = s.client;
+      held = s.held;
+      reading = s.reading;
+      passes = s.passes.items;
+    } };
 
-    ghost invariant = { λ s. (s.seat.me ≡ (client_view s.client s.held s.reading s.passes.items, [])) × (s.client < max_clients) × All (λ g. g ≤ max_stamp) s.held × IfSome s.reading (λ r. r.1 ≤ max_tickets) × AreOnBoard s.seat.table_id.words s.held };
+    ghost invariant = { λ s. (s.seat.me ≡ (client_view s.client s.held s.reading s.passes.items, []))
+        × (s.client < max_clients)
+        × All (λ g. g ≤ max_stamp) s.held × IfSome s.reading (λ r. r.1 ≤ max_tickets)
+        × AreOnBoard s.seat.table_id.words s.held };
 }
 
 impl ClientSeat {
@@ -55,7 +64,8 @@ impl ClientSeat {
     /// Returns the number of the grant under which the client holds the voter's vote, or `None` if
     /// it doesn't hold that vote.
     pub fn held(&self, voter: u8) -> Option<u64>
-        ensures value { MatchOption result (slice_index self.now.held voter ≡ 0) (λ g. (slice_index self.now.held voter ≡ g) × (0 < g)) }
+        ensures value { MatchOption result (slice_index self.now.held voter ≡ 0)
+            (λ g. (slice_index self.now.held voter ≡ g) × (0 < g)) }
         ensures voters { length self.now.held ≡ max_voters }
         ensures small { All (λ g. g ≤ max_stamp) self.now.held }
     {
@@ -90,8 +100,10 @@ impl ClientSeat {
         requires free { slice_index self.old.held voter ≡ 0 }
         requires grant { 1 ≤ grant }
         requires fits { grant ≤ max_stamp }
-        ensures taken { MatchBool result (self.new ≡ record self.old { held = slice_set self.old.held voter grant }) (self.new ≡ self.old) }
-        ensures holds { MatchBool result (slice_index self.new.held voter ≡ grant) (slice_index self.new.held voter ≡ 0) }
+        ensures taken { MatchBool result (self.new ≡ record self.old { held = slice_set self.old.held voter grant })
+            (self.new ≡ self.old) }
+        ensures holds { MatchBool result (slice_index self.new.held voter ≡ grant)
+            (slice_index self.new.held voter ≡ 0) }
         ensures table { self.new.table ≡ self.old.table }
     {
         let place = usize::from(voter);
@@ -154,9 +166,11 @@ impl ClientSeat {
     pub fn write_register(&mut self, board: &Board) -> Result<u64, BoardFault>
         requires table { self.old.table ≡ board.now.table }
         requires reading { IsSome self.old.reading }
-        ensures passed { IfOk result (λ x. IfSome self.old.reading (λ r. r.1 ≡ x) × (x ≢ board.now.limit) × (self.new ≡ record self.old { reading = None; passes = self.old.passes ++ x ∷ [] })) }
+        ensures passed { IfOk result (λ x. IfSome self.old.reading (λ r. r.1 ≡ x) × (x ≢ board.now.limit)
+            × (self.new ≡ record self.old { reading = None; passes = self.old.passes ++ x ∷ [] })) }
         ensures limit { IfSome self.old.reading (λ r. r.1 ≡ board.now.limit) → result ≡ Err BoardFault.RegisterFull }
-        ensures full { IfErr result (λ e. e ≡ BoardFault.RegisterFull → IfSome self.old.reading (λ r. r.1 ≡ board.now.limit)) }
+        ensures full { IfErr result (λ e.
+            e ≡ BoardFault.RegisterFull → IfSome self.old.reading (λ r. r.1 ≡ board.now.limit)) }
         ensures faults { IfErr result (λ e. (e ≡ BoardFault.RegisterFull) ⊎ (e ≡ BoardFault.OutOfMemory)) }
         ensures kept { IfErr result (λ _. self.new ≡ self.old) }
         ensures table { self.new.table ≡ self.old.table }
@@ -185,8 +199,10 @@ impl ClientSeat {
 /// Reads the register, which is at place `word`, for a quorum.
 fn read<J: Number>(table: &VoteTable, seat: &mut Seat<(), View>, word: usize, quorum: usize) -> u64
     requires pick { quorum ≡ J.number }
-    requires table { (seat.old.table_id ≡ table.now.shared.table_id) × (word < table.now.shared.table_id.words) × (word ≡ table.now.shared.key.voters) }
-    requires quorum { (quorum < length table.now.shared.key.quorums) × HoldsAll (quorum_at table.now.shared.key.quorums quorum) seat.old.me.0.held }
+    requires table { (seat.old.table_id ≡ table.now.shared.table_id) × (word < table.now.shared.table_id.words)
+        × (word ≡ table.now.shared.key.voters) }
+    requires quorum { (quorum < length table.now.shared.key.quorums)
+        × HoldsAll (quorum_at table.now.shared.key.quorums quorum) seat.old.me.0.held }
     ensures table { seat.new.table_id ≡ seat.old.table_id }
     ensures seat { Read quorum (step 0 0 0 0 none) seat.old.me result seat.new.me }
 {

@@ -39,9 +39,17 @@ impl Model for BoardRoot {
 
     ghost Value = { RootState };
 
-    ghost view = { λ r. record { table = r.seat.table_id; seats = r.seats; voters = r.voters; clients = r.clients; passes = r.passes.items } };
+    ghost view = { λ r. record {
+      table = r.seat.table_id;
+      seats = r.seats;
+      voters = r.voters;
+      clients = r.clients;
+      passes = r.passes.items;
+    } };
 
-    ghost invariant = { λ r. (r.seat.me.1 ≡ []) × IsRoot r.seat.me.0 r.seats r.voters r.clients r.passes.items × AreWithin r.seat.table_id.words r.voters };
+    ghost invariant = { λ r. (r.seat.me.1 ≡ [])
+        × IsRoot r.seat.me.0 r.seats r.voters r.clients r.passes.items
+        × AreWithin r.seat.table_id.words r.voters };
 }
 
 impl BoardRoot {
@@ -71,7 +79,10 @@ impl BoardRoot {
         requires table { self.old.table ≡ board.now.table }
         requires there { slice_index_or self.old.voters voter false ≡ true }
         ensures given { result ≡ record { table = board.now.table; voter = voter; current = None; last = 0 } }
-        ensures left { self.new ≡ record self.old { seats = self.old.seats - 1; voters = slice_set self.old.voters voter false } }
+        ensures left { self.new ≡ record self.old {
+          seats = self.old.seats - 1;
+          voters = slice_set self.old.voters voter false;
+        } }
         ensures table { self.new.table ≡ self.old.table }
     {
         let seat = cut_voter::<Brand>(&board.table, &mut self.seat, voter);
@@ -90,8 +101,17 @@ impl BoardRoot {
     pub fn client(&mut self, board: &Board, client: u8) -> ClientSeat
         requires table { self.old.table ≡ board.now.table }
         requires there { slice_index_or self.old.clients client false ≡ true }
-        ensures given { result ≡ record { table = board.now.table; client = client; held = nobody; reading = None; passes = [] } }
-        ensures left { self.new ≡ record self.old { seats = self.old.seats - 1; clients = slice_set self.old.clients client false } }
+        ensures given { result ≡ record {
+          table = board.now.table;
+          client = client;
+          held = nobody;
+          reading = None;
+          passes = [];
+        } }
+        ensures left { self.new ≡ record self.old {
+          seats = self.old.seats - 1;
+          clients = slice_set self.old.clients client false;
+        } }
         ensures table { self.new.table ≡ self.old.table }
     {
         let seat = cut_client::<Brand>(&board.table, &mut self.seat, client);
@@ -109,7 +129,8 @@ impl BoardRoot {
     ) -> Result<(), (VoterSeat, BoardFault)>
         requires table { self.old.table ≡ board.now.table }
         requires other { other.table ≡ board.now.table }
-        ensures joined { IfOk result (λ _. (other.current ≡ None) × (self.new ≡ record self.old { seats = self.old.seats + 1 })) }
+        ensures joined { IfOk result (λ _.
+            (other.current ≡ None) × (self.new ≡ record self.old { seats = self.old.seats + 1 })) }
         ensures out { IfErr result (λ e. IsSome other.current × (e.1 ≡ BoardFault.VoteOut other.voter)) }
         ensures kept { IfErr result (λ e. (e.0 ≡ other) × (self.new ≡ self.old)) }
         ensures table { self.new.table ≡ self.old.table }
@@ -141,7 +162,10 @@ impl BoardRoot {
     ) -> Result<(), (ClientSeat, BoardFault)>
         requires table { self.old.table ≡ board.now.table }
         requires other { other.table ≡ board.now.table }
-        ensures joined { IfOk result (λ _. self.new ≡ record self.old { seats = self.old.seats + 1; passes = self.old.passes ++ passes_of other.client other.passes }) }
+        ensures joined { IfOk result (λ _. self.new ≡ record self.old {
+          seats = self.old.seats + 1;
+          passes = self.old.passes ++ passes_of other.client other.passes;
+        }) }
         ensures none_held { IfOk result (λ _. (v : ℕ) → slice_index other.held v ≡ 0) }
         ensures out { IfErr result (λ e. IsOut other.held e.1) }
         ensures kept { IfErr result (λ e. (e.0 ≡ other) × (self.new ≡ self.old)) }
@@ -172,7 +196,8 @@ impl BoardRoot {
 
 /// Returns the smallest voter whose vote is held.
 fn first_held(held: &[u64; MAX_VOTERS]) -> Option<u8>
-    ensures { MatchOption result ((v : ℕ) → slice_index held.now v ≡ 0) (λ v. (slice_index held.now v ≢ 0) × ((k : ℕ) → k < v → slice_index held.now k ≡ 0)) }
+    ensures { MatchOption result ((v : ℕ) → slice_index held.now v ≡ 0)
+        (λ v. (slice_index held.now v ≢ 0) × ((k : ℕ) → k < v → slice_index held.now k ≡ 0)) }
 {
     for voter in 0..64u8 {
         if held[usize::from(voter)] != 0 {
@@ -184,7 +209,8 @@ fn first_held(held: &[u64; MAX_VOTERS]) -> Option<u8>
 
 /// Appends a client's numbers to the passes. Changes nothing if it runs out of memory.
 fn append(passes: &mut Vec<(u8, u64)>, client: u8, numbers: &[u64]) -> Result<(), AllocError>
-    ensures { MatchResult result (λ _. passes.new.items ≡ passes.old.items ++ passes_of client numbers.now) (λ _. passes.new.items ≡ passes.old.items) }
+    ensures { MatchResult result (λ _. passes.new.items ≡ passes.old.items ++ passes_of client numbers.now)
+        (λ _. passes.new.items ≡ passes.old.items) }
 {
     passes.reserve(numbers.len())?;
     for number in numbers {
@@ -197,8 +223,10 @@ fn append(passes: &mut Vec<(u8, u64)>, client: u8, numbers: &[u64]) -> Result<()
 fn cut_voter<N: Number>(table: &VoteTable, seat: &mut Seat<(), View>, voter: u8) -> Seat<(), View>
     requires pick { voter ≡ N.number }
     requires table { (seat.old.table_id ≡ table.now.shared.table_id) × (0 < table.now.shared.table_id.words) }
-    requires there { (voter < max_voters) × (length seat.old.me.0.voters ≡ max_voters) × (slice_index seat.old.me.0.voters voter ≡ 1) × (1 < seat.old.me.0.parts) }
-    ensures kept { (seat.new.table_id ≡ seat.old.table_id) × (seat.new.me ≡ (without_voter voter seat.old.me.0, seat.old.me.1)) }
+    requires there { (voter < max_voters) × (length seat.old.me.0.voters ≡ max_voters)
+        × (slice_index seat.old.me.0.voters voter ≡ 1) × (1 < seat.old.me.0.parts) }
+    ensures kept { (seat.new.table_id ≡ seat.old.table_id)
+        × (seat.new.me ≡ (without_voter voter seat.old.me.0, seat.old.me.1)) }
     ensures given { (result.table_id ≡ seat.old.table_id) × (result.me ≡ (voter_view voter None, [])) }
 {
     table.shared.split_seat::<VoterPart<N>>(seat)
@@ -212,10 +240,14 @@ fn join_voter_seat<N: Number>(
     voter: u8,
 )
     requires pick { voter ≡ N.number }
-    requires table { (seat.old.table_id ≡ table.now.shared.table_id) × (other.table_id ≡ table.now.shared.table_id) × (0 < table.now.shared.table_id.words) }
-    requires root { (voter < table.now.shared.key.voters) × (voter < max_voters) × (length seat.old.me.0.voters ≡ max_voters) × (seat.old.me.0.client ≡ 0) × (seat.old.me.0.held ≡ []) }
+    requires table { (seat.old.table_id ≡ table.now.shared.table_id) × (other.table_id ≡ table.now.shared.table_id)
+        × (0 < table.now.shared.table_id.words) }
+    requires root { (voter < table.now.shared.key.voters) × (voter < max_voters)
+        × (length seat.old.me.0.voters ≡ max_voters) × (seat.old.me.0.client ≡ 0) × (seat.old.me.0.held ≡ []) }
     requires other { other.me ≡ (voter_view voter None, []) }
-    ensures { (seat.new.table_id ≡ seat.old.table_id) × (seat.new.me ≡ (with_voter voter seat.old.me.0 (voter_view voter None), seat.old.me.1)) × (seat.new.me.0.parts ≤ 129) }
+    ensures { (seat.new.table_id ≡ seat.old.table_id)
+        × (seat.new.me ≡ (with_voter voter seat.old.me.0 (voter_view voter None), seat.old.me.1))
+        × (seat.new.me.0.parts ≤ 129) }
 {
     table.shared.join_seat::<VoterPart<N>>(seat, other);
     table.shared.load::<Count>(seat, 0);
@@ -226,7 +258,8 @@ fn cut_client<N: Number>(table: &VoteTable, seat: &mut Seat<(), View>, client: u
     requires pick { client ≡ N.number }
     requires table { (seat.old.table_id ≡ table.now.shared.table_id) × (0 < table.now.shared.table_id.words) }
     requires there { (client < max_clients) × (1 < seat.old.me.0.parts) }
-    ensures kept { (seat.new.table_id ≡ seat.old.table_id) × (seat.new.me ≡ (without_client seat.old.me.0, seat.old.me.1)) }
+    ensures kept { (seat.new.table_id ≡ seat.old.table_id)
+        × (seat.new.me ≡ (without_client seat.old.me.0, seat.old.me.1)) }
     ensures given { (result.table_id ≡ seat.old.table_id) × (result.me ≡ (client_view client nobody None [], [])) }
 {
     table.shared.split_seat::<ClientPart<N>>(seat)

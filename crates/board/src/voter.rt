@@ -33,7 +33,8 @@ impl Model for VoterSeat {
 
     ghost view = { λ s. record { table = s.seat.table_id; voter = s.voter; current = s.current; last = s.last } };
 
-    ghost invariant = { λ s. (s.seat.me ≡ (voter_view s.voter s.current, [])) × (s.voter < max_voters) × IsCurrent s.current s.last × (s.voter + 1 < s.seat.table_id.words) };
+    ghost invariant = { λ s. (s.seat.me ≡ (voter_view s.voter s.current, [])) × (s.voter < max_voters)
+        × IsCurrent s.current s.last × (s.voter + 1 < s.seat.table_id.words) };
 }
 
 impl VoterSeat {
@@ -99,9 +100,11 @@ impl VoterSeat {
 
 /// Ends the grant if its vote is in this state, offered or given back. Returns whether it did.
 fn frees(table: &VoteTable, seat: &mut Seat<(), View>, voter: u8, vote: Vote) -> bool
-    requires table { (seat.old.table_id ≡ table.now.shared.table_id) × (table.now.shared.table_id.words ≡ table.now.shared.key.voters + 1) }
+    requires table { (seat.old.table_id ≡ table.now.shared.table_id)
+        × (table.now.shared.table_id.words ≡ table.now.shared.key.voters + 1) }
     requires voter { (voter < table.now.shared.key.voters) × (voter < max_voters) }
-    requires seat { IsSettledFrom vote (λ current. (seat.old.me ≡ (voter_view voter (Some current), [])) × IsCurrent (Some current) max_stamp) }
+    requires seat { IsSettledFrom vote (λ current.
+        (seat.old.me ≡ (voter_view voter (Some current), [])) × IsCurrent (Some current) max_stamp) }
     ensures table { seat.new.table_id ≡ seat.old.table_id }
     ensures seat { MatchBool result (seat.new.me ≡ (voter_view voter None, [])) (seat.new.me ≡ seat.old.me) }
 {

@@ -54,7 +54,9 @@ IsKept w len top = IsCertificate w × (len ≡ cycle_len w) × (top ≡ busiest_
 
 -- no list of quorum numbers has, for its length, a smaller busiest count than the cycle
 abbrev pub IsOptimal : Weighted → Type 0
-IsOptimal w = (list : List ℕ) → All (λ j. j < length w.system.quorums) list → length list * busiest_count w ≤ busiest_of w.system list * cycle_len w
+IsOptimal w =
+    (list : List ℕ) → All (λ j. j < length w.system.quorums) list
+    → length list * busiest_count w ≤ busiest_of w.system list * cycle_len w
 
 -- the load, in lowest terms: the share of a cycle's quorums that have the busiest voter
 abbrev pub load_of : Weighted → ℕ × ℕ
@@ -63,7 +65,8 @@ load_of w = lowest_terms (busiest_count w) (cycle_len w)
 -- the first fault of the weights
 abbrev pub weights_fault : Weighted → Option PlanFault
 weights_fault w =
-    if not ((length w.quorum_weights == length w.system.quorums) && (length w.voter_weights == w.system.voters)) then Some WrongLength else
+    if not ((length w.quorum_weights == length w.system.quorums) && (length w.voter_weights == w.system.voters))
+    then Some WrongLength else
     if nat_lt max_cycle (cycle_len w) || nat_lt max_cycle (voter_total w) then Some TooLarge else
     if (cycle_len w == 0) || (voter_total w == 0) then Some Empty else
     if not (busiest_count w * voter_total w == lightest_quorum w * cycle_len w)

@@ -29,7 +29,8 @@ pub record Telling : Type 0 where
 
 -- the values in the lines of a plan's text
 abbrev pub telling_of : Weighted → Telling
-telling_of w = record { load = load_of w; cycle = cycle_len w; quorum_weights = w.quorum_weights; voter_weights = w.voter_weights }
+telling_of w =
+    record { load = load_of w; cycle = cycle_len w; quorum_weights = w.quorum_weights; voter_weights = w.voter_weights }
 
 -- Format
 
@@ -59,7 +60,9 @@ weights_line word weights = word ++ spaced weights
 
 -- the five lines of a plan
 abbrev pub lines_of : Telling → List (List ℕ)
-lines_of t = title_line ∷ load_line t.load ∷ cycle_line t.cycle ∷ weights_line (codes "quorum ") t.quorum_weights ∷ weights_line (codes "voter ") t.voter_weights ∷ []
+lines_of t =
+    title_line ∷ load_line t.load ∷ cycle_line t.cycle
+    ∷ weights_line (codes "quorum ") t.quorum_weights ∷ weights_line (codes "voter ") t.voter_weights ∷ []
 
 -- the lines, each with a newline at its end
 abbrev pub text_of_lines : List (List ℕ) → List ℕ
@@ -74,7 +77,10 @@ plan_text w = text_of_lines (lines_of (telling_of w))
 
 -- whether the bytes are a number: 1 to 7 decimal digits, without a leading zero
 abbrev pub is_number : List ℕ → Bool
-is_number bytes = nat_lt 0 (length bytes) && (nat_lt (length bytes) 8 && ((length bytes == 1 || not (slice_index bytes 0 == 48)) && list_all is_ascii_digit bytes))
+is_number bytes =
+    nat_lt 0 (length bytes)
+    && (nat_lt (length bytes) 8
+    && ((length bytes == 1 || not (slice_index bytes 0 == 48)) && list_all is_ascii_digit bytes))
 
 -- the number that these bytes are, if they are one
 abbrev pub number_of : List ℕ → Option ℕ
@@ -112,7 +118,8 @@ read_weights word line = option_and_then (λ rest. numbers_of (slice_split (λ b
 -- The value of the line at the front of a text, and the rest of the text. If the line is missing,
 -- has no newline at its end, or is not in the format, it is the fault `BadText` with this number.
 abbrev pub line_at : {X : Type 0} → ℕ → (List ℕ → Option X) → List ℕ → Result (X × List ℕ) PlanFault
-line_at number read text = ok_or (option_and_then (λ cut. option_map (λ x. (x, cut.1)) (read cut.0)) (cut_at 10 text)) (BadText number)
+line_at number read text =
+    ok_or (option_and_then (λ cut. option_map (λ x. (x, cut.1)) (read cut.0)) (cut_at 10 text)) (BadText number)
 
 infixl 10 ◌>>=◌
 abbrev pub ◌>>=◌ : {A B : Type 0} → Result A PlanFault → (A → Result B PlanFault) → Result B PlanFault
@@ -127,7 +134,9 @@ telling_at text = do
   cycle ← line_at 3 read_cycle load.1
   quorums ← line_at 4 (read_weights (codes "quorum ")) cycle.1
   voters ← line_at 5 (read_weights (codes "voter ")) quorums.1
-  if length voters.1 == 0 then Ok (record { load = load.0; cycle = cycle.0; quorum_weights = quorums.0; voter_weights = voters.0 }) else Err (BadText 6)
+  if length voters.1 == 0
+      then Ok (record { load = load.0; cycle = cycle.0; quorum_weights = quorums.0; voter_weights = voters.0 })
+      else Err (BadText 6)
 
 -- the load and the cycle's length in the first three lines, and the rest of the text; or the first
 -- of these lines that is bad

@@ -15,8 +15,12 @@ ghost use Rattle.certificate.specs.Loads.{weight_on};
 /// With k = 1: the busiest count is the greatest count of a voter in any list that has each quorum
 /// as often as its weight.
 pub fn whole_cycles_are_even()
-    ensures counts { (w : Weighted) (k : ℕ) (list : List ℕ) → length w.quorum_weights ≡ length w.system.quorums → ((j : ℕ) → times j list ≡ k * slice_index w.quorum_weights j) → (i : ℕ) → count_of w.system i list ≡ k * weight_on i w.system.quorums w.quorum_weights }
-    ensures busiest { (w : Weighted) (k : ℕ) (list : List ℕ) → length w.quorum_weights ≡ length w.system.quorums → ((j : ℕ) → times j list ≡ k * slice_index w.quorum_weights j) → busiest_of w.system list ≡ k * busiest_count w }
+    ensures counts { (w : Weighted) (k : ℕ) (list : List ℕ) → length w.quorum_weights ≡ length w.system.quorums
+        → ((j : ℕ) → times j list ≡ k * slice_index w.quorum_weights j)
+        → (i : ℕ) → count_of w.system i list ≡ k * weight_on i w.system.quorums w.quorum_weights }
+    ensures busiest { (w : Weighted) (k : ℕ) (list : List ℕ) → length w.quorum_weights ≡ length w.system.quorums
+        → ((j : ℕ) → times j list ≡ k * slice_index w.quorum_weights j)
+        → busiest_of w.system list ≡ k * busiest_count w }
 {}
 
 /// Weights of a coterie have no fault if and only if they are a certificate.
@@ -32,12 +36,15 @@ pub fn numbers_have_one_spelling()
 /// A line is read as a load, a cycle's length, or weights after their word if and only if it is
 /// the line that is written for these.
 pub fn lines_are_read_as_spelled()
-    ensures load { (line : List ℕ) (load : ℕ × ℕ) → (read_load line ≡ Some load) ↔ ((line ≡ load_line load) × (IsShort load.0 × IsShort load.1)) }
+    ensures load { (line : List ℕ) (load : ℕ × ℕ)
+        → (read_load line ≡ Some load) ↔ ((line ≡ load_line load) × (IsShort load.0 × IsShort load.1)) }
     ensures cycle { (line : List ℕ) (n : ℕ) → (read_cycle line ≡ Some n) ↔ ((line ≡ cycle_line n) × IsShort n) }
-    ensures weights { (word line weights : List ℕ) → (read_weights word line ≡ Some weights) ↔ ((line ≡ weights_line word weights) × (All IsShort weights × (0 < length weights))) }
+    ensures weights { (word line weights : List ℕ) → (read_weights word line ≡ Some weights)
+        ↔ ((line ≡ weights_line word weights) × (All IsShort weights × (0 < length weights))) }
 {}
 
 /// No text of a plan is the beginning of a longer text of a plan.
 pub fn plan_texts_end()
-    ensures { (v w : Weighted) (more : List ℕ) → IsCertificate v → IsCertificate w → plan_text v ++ more ≡ plan_text w → more ≡ [] }
+    ensures { (v w : Weighted) (more : List ℕ) → IsCertificate v → IsCertificate w
+        → plan_text v ++ more ≡ plan_text w → more ≡ [] }
 {}

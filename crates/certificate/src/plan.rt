@@ -26,9 +26,15 @@ impl Model for Plan {
 
     ghost Value = { Weighted };
 
-    ghost view = { λ p. record { system = p.coterie; quorum_weights = p.quorum_weights.items; voter_weights = p.voter_weights.items } };
+    ghost view = { λ p. record {
+      system = p.coterie;
+      quorum_weights = p.quorum_weights.items;
+      voter_weights = p.voter_weights.items;
+    } };
 
-    ghost invariant = { λ p. IsKept (record { system = p.coterie; quorum_weights = p.quorum_weights.items; voter_weights = p.voter_weights.items }) p.cycle_len p.busiest };
+    ghost invariant = { λ p. IsKept
+        (record { system = p.coterie; quorum_weights = p.quorum_weights.items; voter_weights = p.voter_weights.items })
+        p.cycle_len p.busiest };
 }
 
 /// Checks weights of the quorums against weights of the voters. Returns the plan that has both and
@@ -47,7 +53,9 @@ pub fn check(
     quorum_weights: Vec<u64>,
     voter_weights: Vec<u64>,
 ) -> Result<Plan, PlanFault>
-    ensures exact { AnswersPlan (record { system = coterie.now; quorum_weights = quorum_weights.items; voter_weights = voter_weights.items }) result }
+    ensures exact { AnswersPlan
+        (record { system = coterie.now; quorum_weights = quorum_weights.items; voter_weights = voter_weights.items })
+        result }
     ensures certificate { IfOk result IsCertificate }
     ensures optimal { IfOk result IsOptimal }
 {
@@ -61,7 +69,9 @@ fn plan_of(
     quorum_weights: Vec<u64>,
     voter_weights: Vec<u64>,
 ) -> Result<Plan, PlanFault>
-    ensures exact { AnswersPlan (record { system = coterie.now; quorum_weights = quorum_weights.items; voter_weights = voter_weights.items }) result }
+    ensures exact { AnswersPlan
+        (record { system = coterie.now; quorum_weights = quorum_weights.items; voter_weights = voter_weights.items })
+        result }
     ensures certificate { IfOk result IsCertificate }
 {
     if quorum_weights.len() != coterie.count() || voter_weights.len() != coterie.voters() {

@@ -51,7 +51,8 @@ fn number(bytes: &[u8]) -> Option<u64>
 
 /// Returns the numbers between the spaces, or `None` if a word is no number.
 fn numbers(alloc: Global, text: &[u8]) -> Result<Option<Vec<u64>>, AllocError>
-    ensures { IfOk result (λ found. option_map (λ v. v.items) found ≡ numbers_of (slice_split (λ b. b == 32) text.now)) }
+    ensures { IfOk result (λ found.
+        option_map (λ v. v.items) found ≡ numbers_of (slice_split (λ b. b == 32) text.now)) }
 {
     let mut found = Vec::new(alloc);
     let mut rest = text;
@@ -168,7 +169,12 @@ fn weights_line<'a>(
 /// Returns the values of the lines, or the first bad line.
 #[tactic(auto, unfolding(crate::specs::PlanTexts::telling_at, crate::specs::PlanTexts::head_at))]
 fn read_lines(alloc: Global, text: &[u8]) -> Result<LinesTold, PlanFault>
-    ensures exact { Gives (λ t. record { load = t.load; cycle = t.cycle; quorum_weights = t.quorum_weights.items; voter_weights = t.voter_weights.items }) result (telling_at text.now) }
+    ensures exact { Gives (λ t. record {
+      load = t.load;
+      cycle = t.cycle;
+      quorum_weights = t.quorum_weights.items;
+      voter_weights = t.voter_weights.items;
+    }) result (telling_at text.now) }
     ensures head { RefusesAs (head_at text.now) result }
 {
     let rest = title_line(text)?;
@@ -241,7 +247,8 @@ pub fn read_plan(alloc: Global, coterie: &Coterie, text: &[u8]) -> Result<Plan, 
     // A text that is read is the text of the plan.
     ensures spelled { IfOk result (λ p. (p.system ≡ coterie.now) × (text.now ≡ plan_text p)) }
     // The text of a plan of this coterie is read.
-    ensures read { (w : Weighted) → w.system ≡ coterie.now → IsCertificate w → text.now ≡ plan_text w → MemoryAside result (Ok w) }
+    ensures read { (w : Weighted) → w.system ≡ coterie.now → IsCertificate w → text.now ≡ plan_text w
+        → MemoryAside result (Ok w) }
     // The result is the plan or the first fault, by the definition.
     ensures exact { MemoryAside result (plan_at coterie.now text.now) }
     // A fault of the first three lines is found before anything is allocated.

@@ -257,8 +257,10 @@ pub fn drive<N: ClusterName + Send + Sync, R: Threads + Wait + Sync, G: Gate>(
     ensures served { IfOk result (λ driven. AllZip (HasServed passes) members.items driven.items) }
     ensures back { IfErr result (λ driven. AllZip (IsBack passes) members.items driven.members.items) }
     ensures least { IfErr result (λ driven. IsLeastFault driven.members.items driven.fault) }
-    ensures let_pass { MatchResult result (λ driven. AllZip (WasLet (G.lets gate.now)) members.items driven.items) (λ driven. AllZip (WasLet (G.lets gate.now)) members.items driven.members.items) }
-    ensures in_turns { MatchResult result (λ driven. AllZip (TookTurns turns) members.items driven.items) (λ driven. AllZip (TookTurns turns) members.items driven.members.items) }
+    ensures let_pass { MatchResult result (λ driven. AllZip (WasLet (G.lets gate.now)) members.items driven.items)
+        (λ driven. AllZip (WasLet (G.lets gate.now)) members.items driven.members.items) }
+    ensures in_turns { MatchResult result (λ driven. AllZip (TookTurns turns) members.items driven.items)
+        (λ driven. AllZip (TookTurns turns) members.items driven.members.items) }
     ensures idle { MatchResult result (λ driven. AreIdle driven.items) (λ driven. AreIdle driven.members.items) }
 {
     serve_all(rt, cluster, members.as_mut_slice(), passes, turns, gate);

@@ -82,7 +82,8 @@ required_subcommand a = record a { top = record a.top { subcommand_required = tr
 
 -- qlock with `make` and `plan`
 abbrev pub planning_app : App
-planning_app = with_subcommand (with_subcommand (required_subcommand (new_app (codes "qlock"))) make_app.top) plan_app.top
+planning_app =
+    with_subcommand (with_subcommand (required_subcommand (new_app (codes "qlock"))) make_app.top) plan_app.top
 
 -- and with `check` and `deal`
 abbrev pub dealing_app : App
@@ -103,7 +104,9 @@ IsNumber text n = ParsesUnsigned {E = ℕ} 32 10 text (Ok n)
 -- the value of the argument with this name reads as the number n, which is at least `least` and at
 -- most `most`
 abbrev pub HasNumber : Text → ℕ → ℕ → List Row → ℕ → Type 0
-HasNumber name least most rows n = ((text : List ℕ) × (first_of name rows ≡ Some text) × ParsesUnsigned {E = ℕ} 64 10 text (Ok n)) × (least ≤ n) × (n ≤ most)
+HasNumber name least most rows n =
+    ((text : List ℕ) × (first_of name rows ≡ Some text) × ParsesUnsigned {E = ℕ} 64 10 text (Ok n))
+    × (least ≤ n) × (n ≤ most)
 
 -- the texts read as the sizes, which are at most 9999
 abbrev pub AreSizes : List Text → List ℕ → Type 0
@@ -129,7 +132,8 @@ abbrev pub IsNamedBy : Option (Text × List Row) → Command → Type 0
 IsNamedBy None command = ⊥
 IsNamedBy (Some used) (Make shape) =
     (used.0 ≡ codes "make")
-    × ((name : List ℕ) × (first_of (codes "SHAPE") used.1 ≡ Some name) × ((sizes : List ℕ) × AreSizes (size_texts used.1) sizes × IsShapeOf name sizes shape))
+    × ((name : List ℕ) × (first_of (codes "SHAPE") used.1 ≡ Some name)
+    × ((sizes : List ℕ) × AreSizes (size_texts used.1) sizes × IsShapeOf name sizes shape))
 IsNamedBy (Some used) Plan = used.0 ≡ codes "plan"
 IsNamedBy (Some used) Check = used.0 ≡ codes "check"
 IsNamedBy (Some used) World = used.0 ≡ codes "world"
@@ -160,7 +164,9 @@ RefusesUse used OutOfMemory = ⊤
 
 -- clap's error becomes this usage: out of memory, or clap's text
 abbrev pub BecomesUsage : Error → Usage → Type 0
-BecomesUsage error usage = ((kind_of error ≡ kind.OutOfMemory) × (usage ≡ OutOfMemory)) ⊎ ((kind_of error ≢ kind.OutOfMemory) × (usage ≡ Refused error))
+BecomesUsage error usage =
+    ((kind_of error ≡ kind.OutOfMemory) × (usage ≡ OutOfMemory))
+    ⊎ ((kind_of error ≢ kind.OutOfMemory) × (usage ≡ Refused error))
 
 -- clap finds no fault in the words, and they name this command
 abbrev pub Names : List Text → Command → Type 0

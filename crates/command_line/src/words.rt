@@ -233,8 +233,10 @@ fn sizes_of(alloc: Global, texts: &[&str]) -> Result<Option<Vec<u32>>, AllocErro
 /// Returns the numbers after the shape on the command line, or `None` if one is not a number or too
 /// large.
 fn sizes_given(alloc: Global, used: &ArgMatches) -> Result<Option<Vec<u32>>, AllocError>
-    ensures some { IfOk result (λ o. IfSome o (λ sizes. AreSizes (size_texts (rows_of (found_of used.now))) sizes.items)) }
-    ensures none { IfOk result (λ o. o ≡ None → (sizes : List ℕ) → ¬ AreSizes (size_texts (rows_of (found_of used.now))) sizes) }
+    ensures some { IfOk result (λ o.
+        IfSome o (λ sizes. AreSizes (size_texts (rows_of (found_of used.now))) sizes.items)) }
+    ensures none { IfOk result (λ o.
+        o ≡ None → (sizes : List ℕ) → ¬ AreSizes (size_texts (rows_of (found_of used.now))) sizes) }
 {
     match used.get_strs("NUMBERS") {
         Some(texts) => sizes_of(alloc, texts),

@@ -15,7 +15,8 @@ with_node i s = set_where (λ v. (v == i) || has s v)
 -- the quorums of an inner node, from those of its children: the node with a left one, the node with
 -- a right one, and a left one with a right one
 abbrev pub node_quorums : ℕ → List (List ℕ) → List (List ℕ) → List (List ℕ)
-node_quorums i left right = map (with_node i) left ++ map (with_node i) right ++ flat_map (λ p. map (union p) right) left
+node_quorums i left right =
+    map (with_node i) left ++ map (with_node i) right ++ flat_map (λ p. map (union p) right) left
 
 -- the quorums of the tree of height h under node i; its children are nodes 2 * i + 1 and 2 * i + 2
 unfoldable pub quorums_under : ℕ → ℕ → List (List ℕ)

@@ -18,7 +18,8 @@ pub fn grids_are_coteries()
 /// A grid of r rows of c voters has r * c quorums, and quorum i * c + k is row i with column k.
 pub fn grids_have_a_quorum_for_each_voter()
     ensures number { (r c : ℕ) → length (grid_quorums r c) ≡ r * c }
-    ensures place { (r c i k : ℕ) → i < r → k < c → slice_index_or (grid_quorums r c) (i * c + k) [] ≡ row_with_column r c i k }
+    ensures place { (r c i k : ℕ) → i < r → k < c
+        → slice_index_or (grid_quorums r c) (i * c + k) [] ≡ row_with_column r c i k }
 {}
 
 /// The quorums of a wheel are a coterie: spokes meet at the hub, and each meets the rim.
@@ -44,7 +45,8 @@ pub fn trees_double_their_exponent()
 /// If sets that are shifted round a ring are no coterie, two of them are disjoint, or one lies
 /// within another.
 pub fn cyclic_sets_cross_or_not()
-    ensures { (n : ℕ) (base : List ℕ) → n ≤ max_voters → is_bad_base n base ≡ false → IfErr (as_construct (coterie_of n (cyclic_quorums n base))) IsCyclicFault }
+    ensures { (n : ℕ) (base : List ℕ) → n ≤ max_voters → is_bad_base n base ≡ false
+        → IfErr (as_construct (coterie_of n (cyclic_quorums n base))) IsCyclicFault }
 {}
 
 /// The majorities of up to 14 voters are a coterie: two sets of more than half of the voters meet.
@@ -56,7 +58,8 @@ pub fn majorities_are_coteries()
 /// each such set is an entry.
 pub fn majorities_are_all_sets_of_their_size()
     ensures listed { (low n k : ℕ) → All (λ s. Ascends low (low + n) s × (length s ≡ k)) (sets_from low n k) }
-    ensures complete { (low n k : ℕ) (s : List ℕ) → Ascends low (low + n) s → length s ≡ k → Contains (sets_from low n k) s }
+    ensures complete { (low n k : ℕ) (s : List ℕ) → Ascends low (low + n) s → length s ≡ k
+        → Contains (sets_from low n k) s }
 {}
 
 /// There are n choose k sets of k of n numbers.

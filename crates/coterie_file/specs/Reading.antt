@@ -28,7 +28,8 @@ system_of lists = record { voters = length lists.names; quorums = map (quorum_of
 abbrev pub lists_fault : NameLists → Option FileFault
 lists_fault lists =
     option_or (names_fault lists.names)
-    (option_or (option_map UnknownName (position (λ members. not (list_all (has_name lists.names) members)) lists.quorums))
+    (option_or
+    (option_map UnknownName (position (λ members. not (list_all (has_name lists.names) members)) lists.quorums))
     (option_or (option_map RepeatedMember (position (λ members. is_some (first_repeat [] members)) lists.quorums))
     (option_map Coterie (first_fault (system_of lists).voters (system_of lists).quorums))))
 

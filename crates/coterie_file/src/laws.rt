@@ -25,12 +25,14 @@ pub fn names_have_no_fault()
 /// of texts if and only if it is the array of these arrays of strings.
 pub fn lists_are_arrays_of_strings()
     ensures texts { (items : Items) (texts : List (List ℕ)) → (texts_of items ≡ Some texts) ↔ (items ≡ strings texts) }
-    ensures lists { (items : Items) (lists : List (List (List ℕ))) → (text_lists_of items ≡ Some lists) ↔ (items ≡ items_of (map (λ texts. array (strings texts)) lists)) }
+    ensures lists { (items : Items) (lists : List (List (List ℕ)))
+        → (text_lists_of items ≡ Some lists) ↔ (items ≡ items_of (map (λ texts. array (strings texts)) lists)) }
 {}
 
 /// A voter is in the quorum that is read if and only if the quorum lists the voter's name.
 pub fn quorums_have_the_listed_voters()
-    ensures { (names members : List (List ℕ)) (i : ℕ) → AllDiffer names → length names ≤ max_voters → (has (quorum_of names members) i ≡ true) ↔ ((i < length names) × Contains members (name_at names i)) }
+    ensures { (names members : List (List ℕ)) (i : ℕ) → AllDiffer names → length names ≤ max_voters
+        → (has (quorum_of names members) i ≡ true) ↔ ((i < length names) × Contains members (name_at names i)) }
 {}
 
 /// A text is read as a coterie with names if and only if its lists have good names, and quorums of

@@ -64,7 +64,8 @@ fn texts_of(alloc: Global, values: &[Value]) -> Result<Vec<String>, FileFault>
 
 /// Returns the texts of an array of arrays of strings, or `Keys` if an item is not such an array.
 fn text_lists_of(alloc: Global, values: &[Value]) -> Result<Vec<Vec<String>>, FileFault>
-    ensures { Gives (λ v. map (λ q. map string_bytes q.items) v.items) result (ok_or (text_lists_of (items_view values.now)) Keys) }
+    ensures { Gives (λ v. map (λ q. map string_bytes q.items) v.items) result
+        (ok_or (text_lists_of (items_view values.now)) Keys) }
 {
     let mut lists = Vec::new(alloc);
     for value in values {

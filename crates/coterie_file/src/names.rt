@@ -82,7 +82,10 @@ pub(crate) fn numbered<'a>(
     alloc: Global,
     names: &'a [String],
 ) -> Result<Result<IndexSet<&'a str>, usize>, AllocError>
-    ensures { IfOk result (λ r. MatchResult r (λ s. (map (λ k. k.now) s.keys ≡ map string_bytes names.now) × (first_repeat [] (map string_bytes names.now) ≡ None)) (λ i. first_repeat [] (map string_bytes names.now) ≡ Some i)) }
+    ensures { IfOk result (λ r. MatchResult r
+        (λ s. (map (λ k. k.now) s.keys ≡ map string_bytes names.now)
+        × (first_repeat [] (map string_bytes names.now) ≡ None))
+        (λ i. first_repeat [] (map string_bytes names.now) ≡ Some i)) }
 {
     let mut seen: IndexSet<&'a str> = IndexSet::new(alloc);
     for (i, name) in names.iter().enumerate() {
@@ -99,7 +102,8 @@ pub(crate) fn voters_of<'a>(
     alloc: Global,
     names: &'a [String],
 ) -> Result<IndexSet<&'a str>, FileFault>
-    ensures exact { Gives (λ s. map (λ k. k.now) s.keys) result (unless (names_fault (map string_bytes names.now)) (map string_bytes names.now)) }
+    ensures exact { Gives (λ s. map (λ k. k.now) s.keys) result
+        (unless (names_fault (map string_bytes names.now)) (map string_bytes names.now)) }
     ensures names { OnOk result (AreNames (map string_bytes names.now)) }
 {
     if let Some(i) = first_bad_name(names) {

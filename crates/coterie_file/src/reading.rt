@@ -34,7 +34,9 @@ fn knows_all(voters: &IndexSet<&str>, members: &[String]) -> bool
 
 /// Returns the first quorum with a name that no voter has.
 fn first_unknown(voters: &IndexSet<&str>, quorums: &[Vec<String>]) -> Option<usize>
-    ensures { result ≡ position (λ q. not (list_all (λ n. has_name (map (λ k. k.now) voters.now.keys) (string_bytes n)) q.items)) quorums.now }
+    ensures { result ≡ position
+        (λ q. not (list_all (λ n. has_name (map (λ k. k.now) voters.now.keys) (string_bytes n)) q.items))
+        quorums.now }
 {
     quorums
         .iter()
@@ -91,7 +93,8 @@ fn sets_of(
     quorums: &[Vec<String>],
 ) -> Result<Vec<QSet>, AllocError>
     requires { length voters.now.keys ≤ max_voters }
-    ensures { IfOk result (λ v. v.items ≡ map (λ q. quorum_of (map (λ k. k.now) voters.now.keys) (map string_bytes q.items)) quorums.now) }
+    ensures { IfOk result (λ v.
+        v.items ≡ map (λ q. quorum_of (map (λ k. k.now) voters.now.keys) (map string_bytes q.items)) quorums.now) }
 {
     let mut sets = Vec::with_capacity(alloc, quorums.len())?;
     for members in quorums {
@@ -106,7 +109,8 @@ fn coterie_of(
     names: &[String],
     quorums: &[Vec<String>],
 ) -> Result<Coterie, FileFault>
-    ensures exact { Gives (λ c. c) result (unless (lists_fault (listed names.now quorums.now)) (system_of (listed names.now quorums.now))) }
+    ensures exact { Gives (λ c. c) result
+        (unless (lists_fault (listed names.now quorums.now)) (system_of (listed names.now quorums.now))) }
     ensures names { OnOk result (AreNames (map string_bytes names.now)) }
 {
     let voters = voters_of(alloc, names)?;

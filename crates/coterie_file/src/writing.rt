@@ -37,7 +37,8 @@ fn members_of<'a>(
 /// Returns the line of a quorum.
 fn line_of(alloc: Global, named: &Named, j: usize) -> Result<String, AllocError>
     requires { j < length named.now.system.quorums }
-    ensures { IfOk result (λ t. string_bytes t ≡ quorum_line named.now.names (slice_index_or named.now.system.quorums j [])) }
+    ensures { IfOk result (λ t.
+        string_bytes t ≡ quorum_line named.now.names (slice_index_or named.now.system.quorums j [])) }
 {
     let names = members_of(alloc, named, named.coterie().quorum(j))?;
     let list = list_of(alloc, &names)?;

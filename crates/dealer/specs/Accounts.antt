@@ -35,4 +35,5 @@ pub record IsWholeCycles (w : Weighted) (k : ℕ) (tickets : List ℕ) : Type 0 
 
 -- no list of n quorums uses its busiest voter less often than this
 abbrev pub IsLeastBusiest : Weighted → ℕ → ℕ → Type 0
-IsLeastBusiest w n count = (list : List ℕ) → length list ≡ n → All (λ j. j < length w.system.quorums) list → count ≤ busiest_of w.system list
+IsLeastBusiest w n count =
+    (list : List ℕ) → length list ≡ n → All (λ j. j < length w.system.quorums) list → count ≤ busiest_of w.system list

@@ -25,7 +25,8 @@ turn_at list place = times (slice_index list place) (take (place + 1) list)
 abbrev pub GoesByTurns : List ℕ → Type 0
 GoesByTurns list =
     (place later : ℕ) → place < later → later < length list
-    → (turn_at list place < turn_at list later) ⊎ ((turn_at list place ≡ turn_at list later) × (slice_index list place < slice_index list later))
+    → (turn_at list place < turn_at list later)
+    ⊎ ((turn_at list place ≡ turn_at list later) × (slice_index list place < slice_index list later))
 
 -- the quorum of a ticket: the tickets use the cycle in order, and begin again at its end
 abbrev pub quorum_of_ticket : Weighted → ℕ → ℕ

@@ -33,10 +33,14 @@ IsRatio p q f = f.num *ℤ q ≡ p *ℤ f.den
 -- comparison.
 
 abbrev pub SumFits : Fraction → Fraction → Type 0
-SumFits f g = Fits (f.num *ℤ g.den) × Fits (g.num *ℤ f.den) × Fits (f.den *ℤ g.den) × Fits ((f.num *ℤ g.den) +ℤ (g.num *ℤ f.den))
+SumFits f g =
+    Fits (f.num *ℤ g.den) × Fits (g.num *ℤ f.den) × Fits (f.den *ℤ g.den)
+    × Fits ((f.num *ℤ g.den) +ℤ (g.num *ℤ f.den))
 
 abbrev pub DifferenceFits : Fraction → Fraction → Type 0
-DifferenceFits f g = Fits (f.num *ℤ g.den) × Fits (g.num *ℤ f.den) × Fits (f.den *ℤ g.den) × Fits ((f.num *ℤ g.den) -ℤ (g.num *ℤ f.den))
+DifferenceFits f g =
+    Fits (f.num *ℤ g.den) × Fits (g.num *ℤ f.den) × Fits (f.den *ℤ g.den)
+    × Fits ((f.num *ℤ g.den) -ℤ (g.num *ℤ f.den))
 
 abbrev pub ProductFits : Fraction → Fraction → Type 0
 ProductFits f g = Fits (f.num *ℤ g.num) × Fits (f.den *ℤ g.den)

@@ -23,7 +23,9 @@ combined r scale other taken j = (entry_of r j *ℤ scale) -ℤ (taken *ℤ entr
 
 -- both products and their difference fit, in each column
 abbrev pub CombineFits : List ℤ → ℤ → List ℤ → ℤ → Type 0
-CombineFits r scale other taken = (j : ℕ) → j < length r → Fits (entry_of r j *ℤ scale) × Fits (taken *ℤ entry_of other j) × Fits (combined r scale other taken j)
+CombineFits r scale other taken =
+    (j : ℕ) → j < length r
+    → Fits (entry_of r j *ℤ scale) × Fits (taken *ℤ entry_of other j) × Fits (combined r scale other taken j)
 
 -- the numbers fit that are computed for a row when the other row, times the row's entry in the
 -- column, is subtracted from it
@@ -33,7 +35,9 @@ EliminateFits r scale other column = CombineFits r scale other (entry_of r colum
 -- the new row is the old row times `scale`, minus the other row times the old row's entry in the
 -- column
 abbrev pub IsEliminated : List ℤ → List ℤ → ℤ → List ℤ → ℕ → Type 0
-IsEliminated old new scale other column = (length new ≡ length old) × ((j : ℕ) → j < length old → entry_of new j ≡ combined old scale other (entry_of old column) j)
+IsEliminated old new scale other column =
+    (length new ≡ length old)
+    × ((j : ℕ) → j < length old → entry_of new j ≡ combined old scale other (entry_of old column) j)
 
 -- The greatest number that divides a number and each entry.
 pub record IsDivisorOf (start : ℕ) (r : List ℤ) (g : ℕ) : Type 0 where
@@ -58,7 +62,10 @@ row_at rows i = slice_index_or rows i []
 -- each row has the column and the length of the pivot's row, and the numbers that are computed for
 -- it fit
 abbrev pub AllEliminateFit : List (List ℤ) → ℤ → List ℤ → ℕ → Type 0
-AllEliminateFit rows scale pivot_row column = (i : ℕ) → i < length rows → (length (row_at rows i) ≡ length pivot_row) × (column < length pivot_row) × EliminateFits (row_at rows i) scale pivot_row column
+AllEliminateFit rows scale pivot_row column =
+    (i : ℕ) → i < length rows
+    → (length (row_at rows i) ≡ length pivot_row) × (column < length pivot_row)
+    × EliminateFits (row_at rows i) scale pivot_row column
 
 -- the lists have the same length, and the relation holds for each old row and its new one
 abbrev pub EachRow : (List ℤ → List ℤ → Type 0) → List (List ℤ) → List (List ℤ) → Type 0
@@ -68,11 +75,15 @@ EachRow R old new = (length new ≡ length old) × ((i : ℕ) → i < length old
 pub record IsDivisorOfAll (start : ℕ) (rows : List (List ℤ)) (g : ℕ) : Type 0 where
   pub number : g ∣ start
   pub entries : (i j : ℕ) → i < length rows → j < length (row_at rows i) → g ∣ unsigned_abs (entry_of (row_at rows i) j)
-  pub greatest : (d : ℕ) → d ∣ start → ((i j : ℕ) → i < length rows → j < length (row_at rows i) → d ∣ unsigned_abs (entry_of (row_at rows i) j)) → d ∣ g
+  pub greatest : (d : ℕ) → d ∣ start
+      → ((i j : ℕ) → i < length rows → j < length (row_at rows i) → d ∣ unsigned_abs (entry_of (row_at rows i) j))
+      → d ∣ g
 
 -- all entries fit, and the number divides each
 abbrev pub DividesAll : ℕ → List (List ℤ) → Type 0
-DividesAll g rows = (i j : ℕ) → i < length rows → j < length (row_at rows i) → Fits (entry_of (row_at rows i) j) × (g ∣ unsigned_abs (entry_of (row_at rows i) j))
+DividesAll g rows =
+    (i j : ℕ) → i < length rows → j < length (row_at rows i)
+    → Fits (entry_of (row_at rows i) j) × (g ∣ unsigned_abs (entry_of (row_at rows i) j))
 
 -- a row's old entries are its new ones times the number
 abbrev pub IsDivided : ℕ → List ℤ → List ℤ → Type 0
@@ -84,12 +95,14 @@ IsLevelWith rows row = (i : ℕ) → i < length rows → length (row_at rows i) 
 
 -- the numbers that are computed for each row except the pivot's fit
 abbrev pub OthersFit : List (List ℤ) → ℤ → ℕ → ℕ → Type 0
-OthersFit rows scale row column = (i : ℕ) → i < length rows → i ≢ row → EliminateFits (row_at rows i) scale (row_at rows row) column
+OthersFit rows scale row column =
+    (i : ℕ) → i < length rows → i ≢ row → EliminateFits (row_at rows i) scale (row_at rows row) column
 
 -- The rows have the numbers of the pivot at (row, column) of a table, before they are divided.
 pub record IsUnreduced (t : Table) (rows : List (List ℤ)) (row column : ℕ) : Type 0 where
   pub count : length rows ≡ length t.rows
-  pub entries : (i : ℕ) → i < length t.rows → (length (row_at rows i) ≡ length (row_of t i)) × ((j : ℕ) → j < length (row_of t i) → entry_of (row_at rows i) j ≡ pivoted t row column i j)
+  pub entries : (i : ℕ) → i < length t.rows → (length (row_at rows i) ≡ length (row_of t i))
+      × ((j : ℕ) → j < length (row_of t i) → entry_of (row_at rows i) j ≡ pivoted t row column i j)
 
 -- The new rows and denominator, times a divisor, are the old ones. They have no common divisor
 -- above 1 themselves.
@@ -98,11 +111,15 @@ pub record IsLowest (old new : List (List ℤ)) (den low : ℤ) : Type 0 where
   pub positive : 0 < divisor
   pub den_is : low *ℤ pos divisor ≡ den
   pub rows : EachRow (IsDivided divisor) old new
-  pub lowest : (d : ℕ) → d ∣ unsigned_abs low → ((i j : ℕ) → i < length old → j < length (row_at old i) → d ∣ unsigned_abs (entry_of (row_at new i) j)) → d ≡ 1
+  pub lowest : (d : ℕ) → d ∣ unsigned_abs low
+      → ((i j : ℕ) → i < length old → j < length (row_at old i) → d ∣ unsigned_abs (entry_of (row_at new i) j))
+      → d ≡ 1
 
 -- a row has the sum of its entries in some columns at one column, and is otherwise unchanged
 abbrev pub IsSummedRow : List ℕ → ℕ → List ℤ → List ℤ → Type 0
-IsSummedRow columns into old new = (length new ≡ length old) × (entry_of new into ≡ sum_in old columns) × ((j : ℕ) → j ≢ into → entry_of new j ≡ entry_of old j)
+IsSummedRow columns into old new =
+    (length new ≡ length old) × (entry_of new into ≡ sum_in old columns)
+    × ((j : ℕ) → j ≢ into → entry_of new j ≡ entry_of old j)
 
 -- each row has a column
 abbrev pub HaveColumn : List (List ℤ) → ℕ → Type 0

@@ -38,14 +38,17 @@ pub record HasSameShape (t u : Table) : Type 0 where
 -- entry
 abbrev pub pivoted : Table → ℕ → ℕ → ℕ → ℕ → ℤ
 pivoted t row col i j =
-    if i == row then entry_at t row j *ℤ t.den else (entry_at t i j *ℤ entry_at t row col) -ℤ (entry_at t i col *ℤ entry_at t row j)
+    if i == row then entry_at t row j *ℤ t.den
+    else (entry_at t i j *ℤ entry_at t row col) -ℤ (entry_at t i col *ℤ entry_at t row j)
 
 -- The numbers that the pivot at (row, col) computes fit: the denominator, the entries of the
 -- pivot's row, and for each other entry its two products and their difference.
 pub record PivotFits (t : Table) (row col : ℕ) : Type 0 where
   pub den : Fits (t.den *ℤ entry_at t row col)
   pub pivot_row : (j : ℕ) → IsPlace t row j → Fits (entry_at t row j *ℤ t.den)
-  pub others : (i j : ℕ) → i ≢ row → IsPlace t i j → Fits (entry_at t i j *ℤ entry_at t row col) × Fits (entry_at t i col *ℤ entry_at t row j) × Fits ((entry_at t i j *ℤ entry_at t row col) -ℤ (entry_at t i col *ℤ entry_at t row j))
+  pub others : (i j : ℕ) → i ≢ row → IsPlace t i j
+      → Fits (entry_at t i j *ℤ entry_at t row col) × Fits (entry_at t i col *ℤ entry_at t row j)
+      × Fits ((entry_at t i j *ℤ entry_at t row col) -ℤ (entry_at t i col *ℤ entry_at t row j))
 
 -- The new table has the numbers of the pivot at (row, col), divided by their greatest common
 -- divisor.
@@ -55,7 +58,8 @@ pub record IsPivoted (t u : Table) (row col : ℕ) : Type 0 where
   pub positive : 0 < divisor
   pub den : u.den *ℤ pos divisor ≡ t.den *ℤ entry_at t row col
   pub entries : (i j : ℕ) → IsPlace t i j → entry_at u i j *ℤ pos divisor ≡ pivoted t row col i j
-  pub lowest : (d : ℕ) → d ∣ unsigned_abs u.den → ((i j : ℕ) → IsPlace t i j → d ∣ unsigned_abs (entry_at u i j)) → d ≡ 1
+  pub lowest : (d : ℕ) → d ∣ unsigned_abs u.den → ((i j : ℕ) → IsPlace t i j → d ∣ unsigned_abs (entry_at u i j))
+      → d ≡ 1
 
 -- each row has this column
 abbrev pub IsColumn : Table → ℕ → Type 0

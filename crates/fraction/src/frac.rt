@@ -81,7 +81,8 @@ impl Frac {
     /// Returns the sum of `a/b` and `c/d`. Fails with `Overflow` if and only if `a * d`, `c * b`,
     /// `b * d` or `a * d + c * b` does not fit.
     pub fn add(self, other: Frac) -> Result<Frac, FracFault>
-        ensures value { IfOk result (IsRatio ((self.num *ℤ other.den) +ℤ (other.num *ℤ self.den)) (self.den *ℤ other.den)) }
+        ensures value { IfOk result
+            (IsRatio ((self.num *ℤ other.den) +ℤ (other.num *ℤ self.den)) (self.den *ℤ other.den)) }
         ensures reduced { IfOk result IsReduced }
         ensures fits { IsOk result ↔ SumFits self other }
         ensures overflow { IfErr result (λ e. e ≡ FracFault.Overflow) }
@@ -93,7 +94,8 @@ impl Frac {
     /// Returns the difference of `a/b` and `c/d`. Fails with `Overflow` if and only if `a * d`,
     /// `c * b`, `b * d` or `a * d - c * b` does not fit.
     pub fn sub(self, other: Frac) -> Result<Frac, FracFault>
-        ensures value { IfOk result (IsRatio ((self.num *ℤ other.den) -ℤ (other.num *ℤ self.den)) (self.den *ℤ other.den)) }
+        ensures value { IfOk result
+            (IsRatio ((self.num *ℤ other.den) -ℤ (other.num *ℤ self.den)) (self.den *ℤ other.den)) }
         ensures reduced { IfOk result IsReduced }
         ensures fits { IsOk result ↔ DifferenceFits self other }
         ensures overflow { IfErr result (λ e. e ≡ FracFault.Overflow) }

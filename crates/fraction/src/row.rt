@@ -73,7 +73,8 @@ pub(crate) fn test_combine(
 /// Multiplies each entry by a factor.
 pub(crate) fn scale(row: &mut [i128], factor: i128)
     requires { EachFits row.old factor }
-    ensures { (j : ℕ) → j < length row.old → slice_index_or row.new j (pos 0) ≡ slice_index_or row.old j (pos 0) *ℤ factor }
+    ensures { (j : ℕ) → j < length row.old
+        → slice_index_or row.new j (pos 0) ≡ slice_index_or row.old j (pos 0) *ℤ factor }
 {
     for entry in row.iter_mut() {
         *entry = *entry * factor;
@@ -84,7 +85,8 @@ pub(crate) fn scale(row: &mut [i128], factor: i128)
 pub(crate) fn combine(row: &mut [i128], scale: i128, pivot_row: &[i128], taken: i128)
     requires lengths { length row.old ≡ length pivot_row.now }
     requires fits { CombineFits row.old scale pivot_row.now taken }
-    ensures { (j : ℕ) → j < length row.old → slice_index_or row.new j (pos 0) ≡ combined row.old scale pivot_row.now taken j }
+    ensures { (j : ℕ) → j < length row.old
+        → slice_index_or row.new j (pos 0) ≡ combined row.old scale pivot_row.now taken j }
 {
     for (j, entry) in row.iter_mut().enumerate() {
         *entry = *entry * scale - taken * pivot_row[j];
@@ -137,7 +139,8 @@ pub(crate) fn divide(row: &mut [i128], divisor: u128)
     requires some { divisor ≢ 0 }
     requires fits { (j : ℕ) → j < length row.old → Fits (slice_index_or row.old j (pos 0)) }
     requires divides { (j : ℕ) → j < length row.old → divisor ∣ unsigned_abs (slice_index_or row.old j (pos 0)) }
-    ensures { (j : ℕ) → j < length row.old → slice_index_or row.new j (pos 0) *ℤ pos divisor ≡ slice_index_or row.old j (pos 0) }
+    ensures { (j : ℕ) → j < length row.old
+        → slice_index_or row.new j (pos 0) *ℤ pos divisor ≡ slice_index_or row.old j (pos 0) }
 {
     for entry in row.iter_mut() {
         *entry = signed(*entry >= 0, quotient(entry.unsigned_abs(), divisor));

@@ -33,7 +33,8 @@ pub(crate) fn are_small(rows: &[Vec<i128>]) -> bool
 /// Subtracts the pivot's row, times the row's entry in the column, from `scale` times each row.
 fn eliminate_each(rows: &mut [Vec<i128>], scale: i128, pivot_row: &[i128], column: usize)
     requires { AllEliminateFit (lists_of rows.old) scale pivot_row.now column }
-    ensures { EachRow (λ old new. IsEliminated old new scale pivot_row.now column) (lists_of rows.old) (lists_of rows.new) }
+    ensures { EachRow (λ old new. IsEliminated old new scale pivot_row.now column)
+        (lists_of rows.old) (lists_of rows.new) }
 {
     for row in rows.iter_mut() {
         row::eliminate(row, scale, pivot_row, column);
@@ -101,7 +102,8 @@ fn pivot(rows: &mut [Vec<i128>], den: i128, row: usize, column: usize)
 fn reduce(rows: &mut [Vec<i128>], den: i128) -> i128
     requires positive { pos 0 <ℤ den }
     requires den_fits { Fits den }
-    requires fits { (i j : ℕ) → i < length rows.old → j < length (row_at (lists_of rows.old) i) → Fits (entry_of (row_at (lists_of rows.old) i) j) }
+    requires fits { (i j : ℕ) → i < length rows.old → j < length (row_at (lists_of rows.old) i)
+        → Fits (entry_of (row_at (lists_of rows.old) i) j) }
     ensures { IsLowest (lists_of rows.old) (lists_of rows.new) den result }
 {
     let size = den.unsigned_abs();

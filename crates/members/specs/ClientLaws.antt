@@ -10,8 +10,10 @@ use Rattle.requester.specs.Words.{is_idle}
 -- a step of a sound client leaves it sound and meets the contract; a client that is idle, has just
 -- asked, left or given up holds no vote
 pub record AreClientLaws : Type 0 where
-  pub sound : (x : ClientState) (cause : Cause) (o : Outcome) → IsSound x → Accepts x cause → step x cause ≡ Ok o → IsSound o.state
-  pub meets : (x : ClientState) (cause : Cause) (o : Outcome) → IsSound x → Accepts x cause → step x cause ≡ Ok o → MeetsContract x cause o
+  pub sound : (x : ClientState) (cause : Cause) (o : Outcome)
+      → IsSound x → Accepts x cause → step x cause ≡ Ok o → IsSound o.state
+  pub meets : (x : ClientState) (cause : Cause) (o : Outcome)
+      → IsSound x → Accepts x cause → step x cause ≡ Ok o → MeetsContract x cause o
   pub idle : (x : ClientState) → IsSound x → is_idle x.phase ≡ true → HoldsNothing x
   pub asked : (x : ClientState) (quorum : List ℕ) (o : Outcome) → ask x quorum ≡ Ok o → HoldsNothing o.state
   pub left : (x : ClientState) (o : Outcome) → leave x ≡ Ok o → HoldsNothing o.state

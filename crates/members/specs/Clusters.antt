@@ -31,7 +31,8 @@ IsLeft c root clerk =
     × (clerk ≡ record { office = c.office; rest = 0; receipts = [] })
 
 -- a cluster that is not open yet: all rights to seats and tickets are with the root and the clerk
-pub record IsBlank (c : ClusterState) (quota : ℕ) (root : RootState) (clerk : ClerkState) (voters clients : ℕ) : Type 0 where
+pub record IsBlank (c : ClusterState) (quota : ℕ) (root : RootState) (clerk : ClerkState)
+    (voters clients : ℕ) : Type 0 where
   pub cluster : IsCluster c
   pub office_is : quota ≡ c.board.clients * c.quota
   pub voters_are : voters ≡ c.board.voters

@@ -39,7 +39,8 @@ AreIdle members = All (λ m. is_idle m.requester.phase ≡ true) members
 
 -- The client is of this cluster, and the votes that it holds are those that its seat holds. While a
 -- request runs, its quorum is the one with this number.
-pub record IsMember (c : ClusterState) (x : ClientState) (seat : SeatState) (clerk : ClerkState) (quorum : ℕ) : Type 0 where
+pub record IsMember (c : ClusterState) (x : ClientState) (seat : SeatState) (clerk : ClerkState)
+    (quorum : ℕ) : Type 0 where
   pub sound : IsSound x
   pub client : x.id ≡ seat.client
   pub inside : seat.client < c.board.clients
@@ -48,7 +49,8 @@ pub record IsMember (c : ClusterState) (x : ClientState) (seat : SeatState) (cle
   pub share : share_of clerk ≡ c.quota
   pub held : seat.held ≡ x.held
   pub within : HoldsWithin c.board.voters seat.held
-  pub asks : is_idle x.phase ≡ false → (quorum < length c.board.quorums) × (members x ≡ quorum_at c.board.quorums quorum)
+  pub asks : is_idle x.phase ≡ false
+      → (quorum < length c.board.quorums) × (members x ≡ quorum_at c.board.quorums quorum)
 
 -- the member with this number, just after the cluster was opened
 abbrev pub fresh_member : ClusterState → ℕ → MemberState
@@ -82,7 +84,8 @@ GaveUp before after = (o : Outcome) × (give_up before.requester ≡ Ok o) × Ma
 abbrev pub Met : MemberState → ToClient → Seen → MemberState → Type 0
 Met before m seen after =
     (((take before.requester m).seen ≡ seen) × Makes (take before.requester m) before after)
-    ⊎ ((would_hold before.requester m ≡ true) × (seen ≡ Nothing) × (after ≡ record before { lost = one_more before.lost }))
+    ⊎ ((would_hold before.requester m ≡ true) × (seen ≡ Nothing)
+    × (after ≡ record before { lost = one_more before.lost }))
 
 -- a message from its mailbox came to the member
 abbrev pub Pumped : BoardState → MemberState → Seen → MemberState → Type 0
@@ -98,8 +101,10 @@ RefusesStart x NotAsking = ⊥
 -- why a member can't ask
 abbrev pub RefusesAsk : MemberState → ClusterFault → Type 0
 RefusesAsk m (refuses.Client e) = RefusesStart m.requester e
-RefusesAsk m (refuses.Deal QuotaSpent) = (is_idle m.requester.phase ≡ true) × (is_spent m.requester ≡ false) × (m.clerk.rest ≡ 0)
-RefusesAsk m (refuses.Deal NoRoom) = (is_idle m.requester.phase ≡ true) × (is_spent m.requester ≡ false) × (0 < m.clerk.rest)
+RefusesAsk m (refuses.Deal QuotaSpent) =
+    (is_idle m.requester.phase ≡ true) × (is_spent m.requester ≡ false) × (m.clerk.rest ≡ 0)
+RefusesAsk m (refuses.Deal NoRoom) =
+    (is_idle m.requester.phase ≡ true) × (is_spent m.requester ≡ false) × (0 < m.clerk.rest)
 RefusesAsk m (refuses.Board e) = ⊥
 RefusesAsk m refuses.NotInside = ⊥
 RefusesAsk m (refuses.TurnsSpent c) = ⊥

@@ -37,7 +37,9 @@ impl Model for Blank {
 
     ghost view = { λ b. record { board = b.board; office = b.office.name; quota = b.quota } };
 
-    ghost invariant = { λ b. IsBlank (record { board = b.board; office = b.office.name; quota = b.quota }) b.office.quota b.root b.clerk b.voters b.clients };
+    ghost invariant = { λ b. IsBlank
+        (record { board = b.board; office = b.office.name; quota = b.quota })
+        b.office.quota b.root b.clerk b.voters b.clients };
 }
 
 /// Creates a node for each voter, with the voter's seat from the root.
@@ -155,7 +157,8 @@ impl Blank {
         alloc: Global,
     ) -> Result<(Cluster<N>, Vec<Member<N>>), AllocError>
         requires { self ≡ N.cluster }
-        ensures members { IfOk result (λ opened. opened.1.items ≡ map (fresh_member N.cluster) (range_with_len 0 N.cluster.board.clients)) }
+        ensures members { IfOk result (λ opened.
+            opened.1.items ≡ map (fresh_member N.cluster) (range_with_len 0 N.cluster.board.clients)) }
         ensures idle { IfOk result (λ opened. AreIdle opened.1.items) }
     {
         let Blank {

@@ -64,7 +64,8 @@ fn count_idle<N: ClusterName>(members: &[Member<N>]) -> u64
 /// Returns how many of a cluster's members are missing among these or not idle, or `None` if all
 /// are back and idle. It only reads, so a cluster that can't be closed yet stays as it was.
 fn missing<N: ClusterName>(cluster: &Cluster<N>, members: &[Member<N>]) -> Option<u64>
-    ensures some { IfSome result (λ missing. (0 < missing) × (idle_count members.now + missing ≡ N.cluster.board.clients)) }
+    ensures some { IfSome result (λ missing.
+        (0 < missing) × (idle_count members.now + missing ≡ N.cluster.board.clients)) }
     ensures none { IfNone result (N.cluster.board.clients ≤ idle_count members.now) }
     ensures all { IfNone result (N.cluster.board.clients ≤ length members.now) }
 {
@@ -190,7 +191,8 @@ fn join_members<N: ClusterName>(
     ensures passes { IfOk result (λ _. root.new.passes ≡ root.old.passes ++ all_passes members.items) }
     ensures each { IfOk result (λ _. All (λ p. p.0 < N.cluster.board.clients) (all_passes members.items)) }
     ensures receipts { IfOk result (λ _. clerk.new.receipts ≡ clerk.old.receipts ++ all_receipts members.items) }
-    ensures share { IfOk result (λ _. share_of clerk.new ≡ share_of clerk.old + length members.items * N.cluster.quota) }
+    ensures share { IfOk result (λ _.
+        share_of clerk.new ≡ share_of clerk.old + length members.items * N.cluster.quota) }
     ensures table { root.new.table ≡ root.old.table }
     ensures office { clerk.new.office ≡ clerk.old.office }
     ensures lost { IfErr result (IsLoss N.cluster) }

@@ -56,7 +56,13 @@ impl<N: ClusterName> Model for Member<N> {
 
     ghost coded = { Prim.hlevel (codes, known.the_row.coded) };
 
-    ghost view = { λ m. record { requester = m.requester; seat = m.seat; clerk = m.clerk; lost = m.lost; fault = m.fault } };
+    ghost view = { λ m. record {
+      requester = m.requester;
+      seat = m.seat;
+      clerk = m.clerk;
+      lost = m.lost;
+      fault = m.fault;
+    } };
 
     ghost invariant = { λ m. IsMember N.cluster m.requester m.seat m.clerk m.quorum };
 }
@@ -77,7 +83,8 @@ fn finish<N: ClusterName>(
     ensures held { seat.new.held ≡ requester.now.held }
     ensures few { result ≤ most_lost (length out.now.items) }
     ensures within { HoldsWithin N.cluster.board.voters seat.new.held }
-    ensures same { (seat.new.table ≡ seat.old.table) × (seat.new.client ≡ seat.old.client) × (seat.new.passes ≡ seat.old.passes) }
+    ensures same { (seat.new.table ≡ seat.old.table) × (seat.new.client ≡ seat.old.client)
+        × (seat.new.passes ≡ seat.old.passes) }
 {
     give_back(seat, &cluster.board, requester);
     cluster.send(rt, requester, seat, out.as_slice())
@@ -206,8 +213,10 @@ impl<N: ClusterName> Member<N> {
     /// the message is lost and the client makes no step.
     pub fn pump(&mut self, rt: &impl Wait, cluster: &Cluster<N>) -> Option<Seen>
         ensures pumped { IfSome result (λ seen. Pumped N.cluster.board self.old seen self.new) }
-        ensures entered { result ≡ Some Seen.Entered → (is_inside self.old.requester.phase ≡ false) × (is_inside self.new.requester.phase ≡ true) }
-        ensures stays { result ≡ Some Seen.Nothing → is_inside self.new.requester.phase ≡ is_inside self.old.requester.phase }
+        ensures entered { result ≡ Some Seen.Entered
+            → (is_inside self.old.requester.phase ≡ false) × (is_inside self.new.requester.phase ≡ true) }
+        ensures stays { result ≡ Some Seen.Nothing
+            → is_inside self.new.requester.phase ≡ is_inside self.old.requester.phase }
         ensures not_left { result ≢ Some Seen.Left }
         ensures busy { is_idle self.new.requester.phase ≡ is_idle self.old.requester.phase }
         ensures empty { result ≡ None → self.new ≡ self.old }
@@ -226,8 +235,10 @@ impl<N: ClusterName> Member<N> {
     pub(crate) fn meet(&mut self, rt: &impl Wait, cluster: &Cluster<N>, message: &ToClient) -> Seen
         requires mail { IsMail N.cluster.board self.old.requester.id message.now }
         ensures met { Met self.old message.now result self.new }
-        ensures entered { result ≡ Seen.Entered → (is_inside self.old.requester.phase ≡ false) × (is_inside self.new.requester.phase ≡ true) }
-        ensures stays { result ≡ Seen.Nothing → is_inside self.new.requester.phase ≡ is_inside self.old.requester.phase }
+        ensures entered { result ≡ Seen.Entered
+            → (is_inside self.old.requester.phase ≡ false) × (is_inside self.new.requester.phase ≡ true) }
+        ensures stays { result ≡ Seen.Nothing
+            → is_inside self.new.requester.phase ≡ is_inside self.old.requester.phase }
         ensures not_left { result ≢ Seen.Left }
         ensures busy { is_idle self.new.requester.phase ≡ is_idle self.old.requester.phase }
         ensures clerk { self.new.clerk ≡ self.old.clerk }
@@ -253,7 +264,8 @@ impl<N: ClusterName> Member<N> {
         ensures left { IfOk result (λ _. HasLeft self.old self.new) }
         ensures idle { IfOk result (λ _. is_idle self.new.requester.phase ≡ true) }
         ensures may { IfOk result (λ _. is_inside self.old.requester.phase ≡ true) }
-        ensures refused { IfErr result (λ fault. (fault ≡ ClusterFault.NotInside) × (is_inside self.old.requester.phase ≡ false)) }
+        ensures refused { IfErr result (λ fault.
+            (fault ≡ ClusterFault.NotInside) × (is_inside self.old.requester.phase ≡ false)) }
         ensures kept { IfErr result (λ _. self.new ≡ self.old) }
         ensures clerk { self.new.clerk ≡ self.old.clerk }
         ensures passes { self.new.seat.passes ≡ self.old.seat.passes }
@@ -276,7 +288,8 @@ impl<N: ClusterName> Member<N> {
         ensures given_up { IfOk result (λ _. GaveUp self.old self.new) }
         ensures idle { IfOk result (λ _. is_idle self.new.requester.phase ≡ true) }
         ensures may { IfOk result (λ _. is_asking self.old.requester.phase ≡ true) }
-        ensures refused { IfErr result (λ fault. (fault ≡ ClusterFault.Client ClientFault.NotAsking) × (is_asking self.old.requester.phase ≡ false)) }
+        ensures refused { IfErr result (λ fault.
+            (fault ≡ ClusterFault.Client ClientFault.NotAsking) × (is_asking self.old.requester.phase ≡ false)) }
         ensures kept { IfErr result (λ _. self.new ≡ self.old) }
         ensures clerk { self.new.clerk ≡ self.old.clerk }
         ensures passes { self.new.seat.passes ≡ self.old.seat.passes }
@@ -298,7 +311,9 @@ impl<N: ClusterName> Member<N> {
     pub fn remind(&mut self, rt: &impl Wait, cluster: &Cluster<N>)
         ensures same { self.new ≡ record self.old { lost = self.new.lost } }
         ensures else_nothing { is_asking self.old.requester.phase ≡ false → self.new ≡ self.old }
-        ensures lost { LosesAtMost (most_lost (length (remind self.old.requester) + length (members self.old.requester))) self.old.lost self.new.lost }
+        ensures lost { LosesAtMost
+            (most_lost (length (remind self.old.requester) + length (members self.old.requester)))
+            self.old.lost self.new.lost }
     {
         if self.requester.phase() != Phase::Asking {
             return;
@@ -319,13 +334,16 @@ impl<N: ClusterName> Member<N> {
         ensures may { IfOk result (λ _. is_inside self.old.requester.phase ≡ true) }
         ensures above { IfOk result (λ x. All (λ y. y < x) self.old.seat.passes) }
         ensures refused { IfErr result (RefusesPass self.old) }
-        ensures full { result ≡ Err (ClusterFault.Board BoardFault.RegisterFull) → (j : ℕ) × (self.new.seat.reading ≡ Some (j, N.cluster.board.limit)) }
-        ensures room { result ≡ Err (ClusterFault.Board BoardFault.OutOfMemory) → (j : ℕ) × (x : ℕ) × (self.new.seat.reading ≡ Some (j, x)) × (x ≢ N.cluster.board.limit) }
+        ensures full { result ≡ Err (ClusterFault.Board BoardFault.RegisterFull)
+            → (j : ℕ) × (self.new.seat.reading ≡ Some (j, N.cluster.board.limit)) }
+        ensures room { result ≡ Err (ClusterFault.Board BoardFault.OutOfMemory)
+            → (j : ℕ) × (x : ℕ) × (self.new.seat.reading ≡ Some (j, x)) × (x ≢ N.cluster.board.limit) }
         ensures outside { result ≡ Err ClusterFault.NotInside → self.new ≡ self.old }
         ensures requester { self.new.requester ≡ self.old.requester }
         ensures clerk { self.new.clerk ≡ self.old.clerk }
         ensures fault { self.new.fault ≡ self.old.fault }
-        ensures kept { IfErr result (λ _. self.new ≡ record self.old { seat = record self.old.seat { reading = self.new.seat.reading } }) }
+        ensures kept { IfErr result (λ _.
+            self.new ≡ record self.old { seat = record self.old.seat { reading = self.new.seat.reading } }) }
     {
         if self.requester.phase() != Phase::Inside {
             return Err(ClusterFault::NotInside);

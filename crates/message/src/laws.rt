@@ -5,5 +5,6 @@ ghost use Rattle.message.specs.Lines.{HasLine, message_line};
 
 /// No message's line, with its newline, is the beginning of another one that is longer.
 pub fn lines_end()
-    ensures { (m n : Message) (more : List ℕ) → HasLine m → HasLine n → message_line m ++ 10 ∷ more ≡ message_line n ++ 10 ∷ [] → more ≡ [] }
+    ensures { (m n : Message) (more : List ℕ) → HasLine m → HasLine n
+        → message_line m ++ 10 ∷ more ≡ message_line n ++ 10 ∷ [] → more ≡ [] }
 {}

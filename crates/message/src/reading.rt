@@ -63,7 +63,8 @@ fn locked(
     seen: u64,
 ) -> Option<Message>
     ensures spelled { IfSome result (λ m. IsMessageOf m word.now (voter ∷ client ∷ stamp ∷ grant ∷ seen ∷ [])) }
-    ensures read { (m : Message) → IsMessageOf m word.now (voter ∷ client ∷ stamp ∷ grant ∷ seen ∷ []) → result ≡ Some m }
+    ensures read { (m : Message) → IsMessageOf m word.now (voter ∷ client ∷ stamp ∷ grant ∷ seen ∷ [])
+        → result ≡ Some m }
 {
     if word != b"locked".as_slice()
         || voter > HIGHEST

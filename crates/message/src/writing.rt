@@ -38,7 +38,8 @@ fn line_to_voter(
     voter: u8,
     body: VoterBody,
 ) -> Result<String, AllocError>
-    ensures { IfOk result (λ line. string_bytes line ≡ voter_word body ++ fields (client ∷ voter ∷ voter_number body ∷ [])) }
+    ensures { IfOk result (λ line.
+        string_bytes line ≡ voter_word body ++ fields (client ∷ voter ∷ voter_number body ∷ [])) }
 {
     match body {
         VoterBody::Request { stamp } => three(alloc, "request", client, voter, stamp),
@@ -54,7 +55,8 @@ fn line_to_client(
     seen: u64,
     body: ClientBody,
 ) -> Result<String, AllocError>
-    ensures { IfOk result (λ line. string_bytes line ≡ client_word body ++ fields (voter ∷ client ∷ client_numbers body ++ seen ∷ [])) }
+    ensures { IfOk result (λ line.
+        string_bytes line ≡ client_word body ++ fields (voter ∷ client ∷ client_numbers body ++ seen ∷ [])) }
 {
     match body {
         ClientBody::Locked { stamp, grant } => five(

@@ -70,7 +70,8 @@ impl<N: ClusterName> Mailbox<N> {
     pub fn put(&mut self, message: ToClient, voters: usize) -> Result<bool, AllocError>
         requires { voters ≡ N.cluster.board.voters }
         ensures mail { IfOk result (λ put. IsTrue put ↔ IsMail N.cluster.board self.old.client message) }
-        ensures put { IfOk result (λ put. MatchBool put (self.new ≡ with_message self.old message) (self.new ≡ self.old)) }
+        ensures put { IfOk result (λ put.
+            MatchBool put (self.new ≡ with_message self.old message) (self.new ≡ self.old)) }
         ensures memory { IfErr result (λ _. self.new ≡ self.old) }
     {
         if !is_mail(self.client, message, voters) {

@@ -56,7 +56,8 @@ fn settle(seat: &mut VoterSeat, board: &Board, frees: bool) -> bool
 /// Offers the voter's grant, if it has one and its seat has none.
 fn offer(seat: &mut VoterSeat, board: &Board, held: Option<Grant>)
     requires table { seat.old.table ≡ board.now.table }
-    requires next { seat.old.current ≡ None → IfSome held (λ g. (g.client < board.now.clients) × (seat.old.last < g.grant) × (g.grant ≤ max_stamp)) }
+    requires next { seat.old.current ≡ None
+        → IfSome held (λ g. (g.client < board.now.clients) × (seat.old.last < g.grant) × (g.grant ≤ max_stamp)) }
     ensures { seat.new ≡ offered held seat.old }
 {
     if seat.current().is_some() {
@@ -103,9 +104,12 @@ impl<N: ClusterName> Node<N> {
     pub fn take(&mut self, board: &Board, message: &ToVoter) -> Result<Option<Replies>, AllocError>
         requires board { board.now ≡ N.cluster.board }
         requires message { IsFor N.cluster.board self.old.number message.now }
-        ensures taken { IfOk result (λ r. IfSome r (λ replies. step self.old.voter message.now ≡ Some (record { replies = replies.items; state = self.new.voter }))) }
+        ensures taken { IfOk result (λ r. IfSome r (λ replies.
+            step self.old.voter message.now ≡ Some (record { replies = replies.items; state = self.new.voter }))) }
         ensures logged { IfOk result (λ r. IfSome r (λ _. self.new.log ≡ self.old.log ++ message.now ∷ [])) }
-        ensures dropped { IfOk result (λ r. r ≡ None → (self.new ≡ self.old) × (((effect_of self.old.voter message.now).refused ≡ true) ⊎ ((effect_of self.old.voter message.now).frees ≡ true))) }
+        ensures dropped { IfOk result (λ r. r ≡ None → (self.new ≡ self.old)
+            × (((effect_of self.old.voter message.now).refused ≡ true)
+            ⊎ ((effect_of self.old.voter message.now).frees ≡ true))) }
         ensures refused { IfErr result (λ _. self.new ≡ self.old) }
         ensures number { self.new.number ≡ self.old.number }
     {

@@ -20,7 +20,8 @@ fn drop_vote(seat: &mut ClientSeat, board: &Board, voter: u8)
     ensures dropped { slice_index seat.new.held voter ≡ 0 }
     ensures others { (v : ℕ) → v ≢ voter → slice_index seat.new.held v ≡ slice_index seat.old.held v }
     ensures len { length seat.new.held ≡ length seat.old.held }
-    ensures same { (seat.new.table ≡ seat.old.table) × (seat.new.client ≡ seat.old.client) × (seat.new.passes ≡ seat.old.passes) }
+    ensures same { (seat.new.table ≡ seat.old.table) × (seat.new.client ≡ seat.old.client)
+        × (seat.new.passes ≡ seat.old.passes) }
     ensures idle { slice_index seat.old.held voter ≡ 0 → seat.new ≡ seat.old }
     ensures reading { (seat.new ≡ seat.old) ⊎ (seat.new.reading ≡ None) }
 {
@@ -38,7 +39,8 @@ fn keep_vote(seat: &mut ClientSeat, board: &Board, requester: &Requester, voter:
     ensures kept { slice_index seat.new.held voter ≡ slice_index requester.now.held voter }
     ensures others { (v : ℕ) → v ≢ voter → slice_index seat.new.held v ≡ slice_index seat.old.held v }
     ensures len { length seat.new.held ≡ length seat.old.held }
-    ensures same { (seat.new.table ≡ seat.old.table) × (seat.new.client ≡ seat.old.client) × (seat.new.passes ≡ seat.old.passes) }
+    ensures same { (seat.new.table ≡ seat.old.table) × (seat.new.client ≡ seat.old.client)
+        × (seat.new.passes ≡ seat.old.passes) }
     ensures idle { slice_index seat.old.held voter ≡ slice_index requester.now.held voter → seat.new ≡ seat.old }
     ensures reading { (seat.new ≡ seat.old) ⊎ (seat.new.reading ≡ None) }
 {
@@ -60,7 +62,8 @@ pub fn give_back(seat: &mut ClientSeat, board: &Board, requester: &Requester)
     requires fewer { HoldsFewer requester.now.held seat.old.held }
     ensures held { seat.new.held ≡ requester.now.held }
     ensures within { HoldsWithin board.now.voters seat.new.held }
-    ensures same { (seat.new.table ≡ seat.old.table) × (seat.new.client ≡ seat.old.client) × (seat.new.passes ≡ seat.old.passes) }
+    ensures same { (seat.new.table ≡ seat.old.table) × (seat.new.client ≡ seat.old.client)
+        × (seat.new.passes ≡ seat.old.passes) }
     ensures idle { seat.old.held ≡ requester.now.held → seat.new ≡ seat.old }
     ensures reading { (seat.new ≡ seat.old) ⊎ (seat.new.reading ≡ None) }
 {
@@ -108,7 +111,8 @@ pub fn accept(
     ensures within { HoldsWithin board.now.voters seat.new.held }
     ensures len { length seat.new.held ≡ length seat.old.held }
     ensures same { seat.new ≡ record seat.old { held = seat.new.held } }
-    ensures taken { result ≡ true → would_hold requester.now message.now ≡ true → HoldsLocked seat.old.held message.now.voter message.now.body seat.new.held }
+    ensures taken { result ≡ true → would_hold requester.now message.now ≡ true
+        → HoldsLocked seat.old.held message.now.voter message.now.body seat.new.held }
     ensures else_same { would_hold requester.now message.now ≡ false → seat.new ≡ seat.old }
     ensures lost { result ≡ false → (seat.new ≡ seat.old) × (would_hold requester.now message.now ≡ true) }
 {

@@ -132,7 +132,8 @@ register_line number = codes "register " ++ (decimal number ++ 10 ∷ [])
 
 -- the line of a load and the length of a cycle
 abbrev pub load_line : ℕ × ℕ → ℕ → List ℕ
-load_line load cycle = codes "load " ++ (decimal load.0 ++ (47 ∷ (decimal load.1 ++ (codes " cycle " ++ (decimal cycle ++ 10 ∷ [])))))
+load_line load cycle =
+    codes "load " ++ (decimal load.0 ++ (47 ∷ (decimal load.1 ++ (codes " cycle " ++ (decimal cycle ++ 10 ∷ [])))))
 
 -- Texts
 
@@ -142,7 +143,8 @@ ticket_lines w n = flat_map (ticket_line w) (range_with_len 0 n)
 
 -- a line for each voter, with its name and how often it was used
 abbrev pub voter_lines : List (List ℕ) → List ℕ → List ℕ
-voter_lines names counts = flat_map (λ i. voter_line (name_at names i) (slice_index counts i)) (range_with_len 0 (length names))
+voter_lines names counts =
+    flat_map (λ i. voter_line (name_at names i) (slice_index counts i)) (range_with_len 0 (length names))
 
 -- the lines of an account
 abbrev pub account_text : List (List ℕ) → Account → List ℕ
@@ -370,11 +372,13 @@ IsShortFor command input = reads_input command ≡ true → length input ≤ 167
 
 -- the command's output for the input was written after what was there
 abbrev pub Answers : Command → List ℕ → Option (List ℕ) → Option (List ℕ) → Type 0
-Answers command input old new = IsShortFor command input × ((output : List ℕ) × IsAnswer command input output × Appends old new output)
+Answers command input old new =
+    IsShortFor command input × ((output : List ℕ) × IsAnswer command input output × Appends old new output)
 
 -- a beginning of the command's output for the input was written after what was there
 abbrev pub BeginsAnswer : Command → List ℕ → Option (List ℕ) → Option (List ℕ) → Type 0
-BeginsAnswer command input old new = IsShortFor command input × ((output : List ℕ) × IsAnswer command input output × AppendsBeginning old new output)
+BeginsAnswer command input old new =
+    IsShortFor command input × ((output : List ℕ) × IsAnswer command input output × AppendsBeginning old new output)
 
 -- What is written after a fault. After a failed write it is a beginning of the output for the
 -- input, if the input is known, added to what was there. After any other fault it is what was

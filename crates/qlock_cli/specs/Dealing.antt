@@ -5,4 +5,5 @@ use Rattle.dealer.specs.Offices.{OfficeName, ClerkState, receipt_of}
 
 -- a clerk with this quota of an office, after it drew the tickets below n
 abbrev pub after_draws : OfficeName → ℕ → ℕ → ClerkState
-after_draws office quota n = record { office = office; rest = quota - n; receipts = map (receipt_of office.cycle) (range_with_len 0 n) }
+after_draws office quota n =
+    record { office = office; rest = quota - n; receipts = map (receipt_of office.cycle) (range_with_len 0 n) }

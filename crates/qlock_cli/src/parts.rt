@@ -34,7 +34,8 @@ fn mark_in(input: &[u8]) -> Option<usize>
 /// such line, fails with `MissingPart`; `next` is the number of the part that is missing.
 #[tactic(auto, unfolding(crate::specs::Parts::split))]
 pub fn split_part(input: &[u8], next: usize) -> Result<(&[u8], &[u8]), Fault>
-    ensures exact { MatchResult result (λ p. split next input.now ≡ Ok (p.0.now, p.1.now)) (λ e. split next input.now ≡ Err e) }
+    ensures exact { MatchResult result (λ p. split next input.now ≡ Ok (p.0.now, p.1.now))
+        (λ e. split next input.now ≡ Err e) }
     ensures missing { IfErr result (λ e. e ≡ MissingPart next) }
 {
     match mark_in(input) {

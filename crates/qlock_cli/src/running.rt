@@ -85,12 +85,14 @@ pub fn execute_run<T: Threads + Wait + Sync, R: Read, W: Write, G: Gate>(
     ensures in_turns { OnOk result (HasTurns command.now) }
 
     // A fault comes only for an input with this fault, or from a device or memory.
-    ensures refused { IfErr result (λ fault. IfSome (R.remaining reader.old.inner) (λ input. ComesOf command.now input fault)) }
+    ensures refused { IfErr result (λ fault.
+        IfSome (R.remaining reader.old.inner) (λ input. ComesOf command.now input fault)) }
 
     // A fault other than a failed write writes nothing. After a failed write a beginning of the
     // output was written.
     ensures left { IfErr result (λ fault.
-        LeavesWritten command.now (R.remaining reader.old.inner) fault (W.contents writer.old.inner) (W.contents writer.new.inner)) }
+        LeavesWritten command.now (R.remaining reader.old.inner) fault
+        (W.contents writer.old.inner) (W.contents writer.new.inner)) }
 
     // A read fault or a write fault is returned if and only if that device failed.
     ensures devices { FailsAs reader.new.failed writer.new.failed result }

@@ -21,10 +21,12 @@ pub fn input_for<R: Read>(
     reader: &mut Watched<R>,
 ) -> Result<Vec<u8>, Fault>
     requires { reader.old.failed ≡ false }
-    ensures all { IfOk result (λ v. reads_input command.now ≡ true → IfSome (R.remaining reader.old.inner) (λ bytes. v.items ≡ bytes)) }
+    ensures all { IfOk result (λ v.
+        reads_input command.now ≡ true → IfSome (R.remaining reader.old.inner) (λ bytes. v.items ≡ bytes)) }
     ensures end { OnOk result (EndsAfter command.now (R.remaining reader.new.inner)) }
     ensures short { IfOk result (λ v. IsShortFor command.now v.items) }
-    ensures refused { IfErr result (λ fault. (reads_input command.now ≡ true) × IsOfReading (R.remaining reader.old.inner) fault) }
+    ensures refused { IfErr result (λ fault.
+        (reads_input command.now ≡ true) × IsOfReading (R.remaining reader.old.inner) fault) }
     ensures failed { FailsAs reader.new.failed false result }
     ensures unread { reads_input command.now ≡ false → reader.new ≡ reader.old }
 {
@@ -46,7 +48,8 @@ pub fn input_for<R: Read>(
 pub fn write_answer<W: Write>(writer: &mut Watched<W>, answer: &[u8]) -> Result<(), Fault>
     requires { writer.old.failed ≡ false }
     ensures ok { OnOk result (Appends (W.contents writer.old.inner) (W.contents writer.new.inner) answer.now) }
-    ensures begun { OnErr result (AppendsBeginning (W.contents writer.old.inner) (W.contents writer.new.inner) answer.now) }
+    ensures begun { OnErr result
+        (AppendsBeginning (W.contents writer.old.inner) (W.contents writer.new.inner) answer.now) }
     ensures refused { IfErr result (λ fault. fault ≡ Device WriteFault) }
     ensures failed { FailsAs false writer.new.failed result }
 {
@@ -87,12 +90,14 @@ pub fn execute<R: Read, W: Write>(
     ensures end { OnOk result (EndsAfter command.now (R.remaining reader.new.inner)) }
 
     // A fault comes only for an input with this fault, or from a device or memory.
-    ensures refused { IfErr result (λ fault. IfSome (R.remaining reader.old.inner) (λ input. ComesOf command.now input fault)) }
+    ensures refused { IfErr result (λ fault.
+        IfSome (R.remaining reader.old.inner) (λ input. ComesOf command.now input fault)) }
 
     // A fault other than a failed write writes nothing. After a failed write a beginning of the
     // output was written.
     ensures left { IfErr result (λ fault.
-        LeavesWritten command.now (R.remaining reader.old.inner) fault (W.contents writer.old.inner) (W.contents writer.new.inner)) }
+        LeavesWritten command.now (R.remaining reader.old.inner) fault
+        (W.contents writer.old.inner) (W.contents writer.new.inner)) }
 
     // What a command does not read is left in the reader.
     ensures unread { reads_input command.now ≡ false → reader.new ≡ reader.old }

@@ -41,14 +41,16 @@ first_outside n j (s ∷ sets) = option_or (option_map (λ i. (j, i)) (first_fro
 -- the places, counted from j on, of the first pair of a set and a later one that passes the test
 abbrev pub first_pair : (List ℕ → List ℕ → Bool) → ℕ → List (List ℕ) → Option (ℕ × ℕ)
 first_pair test j [] = None
-first_pair test j (s ∷ sets) = option_or (option_map (λ k. (j, j + 1 + k)) (position (test s) sets)) (first_pair test (j + 1) sets)
+first_pair test j (s ∷ sets) =
+    option_or (option_map (λ k. (j, j + 1 + k)) (position (test s) sets)) (first_pair test (j + 1) sets)
 
 -- the pair of places passes the test, and is the smallest that does: by the first place, then by
 -- the second
 abbrev pub IsLeastPair : (List ℕ → List ℕ → Bool) → List (List ℕ) → ℕ → ℕ → Type 0
 IsLeastPair test sets j k =
     (j < k) × (k < length sets) × (test (slice_index_or sets j []) (slice_index_or sets k []) ≡ true)
-    × ((a b : ℕ) → a < b → b < length sets → test (slice_index_or sets a []) (slice_index_or sets b []) ≡ true → (j < a) ⊎ ((j ≡ a) × (k ≤ b)))
+    × ((a b : ℕ) → a < b → b < length sets
+    → test (slice_index_or sets a []) (slice_index_or sets b []) ≡ true → (j < a) ⊎ ((j ≡ a) × (k ≤ b)))
 
 -- The number is a member of the set at the place, and is not below n. No earlier set has such a
 -- number, and this set has no smaller one.

@@ -9,4 +9,6 @@ Meet voters p q = (v : ℕ) × (v < voters) × (has p v ≡ true) × (has q v �
 
 -- any two of the quorums meet, and each meets itself
 abbrev pub AllMeet : ℕ → List (List ℕ) → Type 0
-AllMeet voters quorums = (j k : ℕ) → j < length quorums → k < length quorums → Meet voters (slice_index_or quorums j []) (slice_index_or quorums k [])
+AllMeet voters quorums =
+    (j k : ℕ) → j < length quorums → k < length quorums
+    → Meet voters (slice_index_or quorums j []) (slice_index_or quorums k [])

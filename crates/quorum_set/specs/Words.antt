@@ -12,18 +12,23 @@ use Rattle.numbers.specs.Sets.{numbers_from, set_where, members_of}
 abbrev pub word_of : List ℕ → ℕ
 word_of s = sum_by (λ i. 2 ^ i) s
 
-both : (b : Bool) (x : ℕ) (more less last : List ℕ) → more ≡ less ++ last → cond b (x ∷ more) more ≡ cond b (x ∷ less) less ++ last
+both : (b : Bool) (x : ℕ) (more less last : List ℕ) → more ≡ less ++ last
+    → cond b (x ∷ more) more ≡ cond b (x ∷ less) less ++ last
 both true x more less last e = ap (λ t. x ∷ t) e
 both false x more less last e = e
 
 -- a range of numbers with one more at its end, which passes or not
-pub numbers_from-more : (low n : ℕ) (p : ℕ → Bool) → numbers_from low (n + 1) p ≡ numbers_from low n p ++ cond (p (low + n)) ((low + n) ∷ []) []
+pub numbers_from-more : (low n : ℕ) (p : ℕ → Bool)
+    → numbers_from low (n + 1) p ≡ numbers_from low n p ++ cond (p (low + n)) ((low + n) ∷ []) []
 numbers_from-more low zero p = let e : low + 0 ≡ low = omega arith in rw e refl
 numbers_from-more low (suc n) p =
     let e : (low + 1) + n ≡ low + suc n = omega arith in
-    let rest : numbers_from (low + 1) (n + 1) p ≡ numbers_from (low + 1) n p ++ cond (p (low + suc n)) ((low + suc n) ∷ []) [] = rw e at (numbers_from-more (low + 1) n p) in
+    let rest : numbers_from (low + 1) (n + 1) p
+    ≡ numbers_from (low + 1) n p ++ cond (p (low + suc n)) ((low + suc n) ∷ []) [] =
+    rw e at (numbers_from-more (low + 1) n p) in
     let next : suc n + 1 ≡ suc (n + 1) = omega arith in
-    rw next (both (p low) low (numbers_from (low + 1) (n + 1) p) (numbers_from (low + 1) n p) (cond (p (low + suc n)) ((low + suc n) ∷ []) []) rest)
+    rw next (both (p low) low (numbers_from (low + 1) (n + 1) p) (numbers_from (low + 1) n p)
+    (cond (p (low + suc n)) ((low + suc n) ∷ []) []) rest)
 
 -- the low n + 1 bits of a word, from bit n and the low n bits
 pub low_more : (m n : ℕ) → m % 2 ^ suc n ≡ bit_at m n * 2 ^ n + m % 2 ^ n
@@ -39,7 +44,8 @@ last_of m n = cond (eqb (bit_at m n) 1) (n ∷ []) []
 pub below-more : (m n : ℕ) → below m (suc n) ≡ below m n ++ last_of m n
 below-more m n =
     let zero_first : 0 + n ≡ n = omega arith in
-    ap (below m) (sym (add-one n)) ∙ numbers_from-more 0 n (λ j. eqb (bit_at m j) 1) ∙ ap (λ k. below m n ++ last_of m k) zero_first
+    ap (below m) (sym (add-one n)) ∙ numbers_from-more 0 n (λ j. eqb (bit_at m j) 1)
+    ∙ ap (λ k. below m n ++ last_of m k) zero_first
 
 one_or_none : (b n : ℕ) → b < 2 → sum_by (λ i. 2 ^ i) (cond (eqb b 1) (n ∷ []) []) ≡ b * 2 ^ n
 one_or_none zero n lt = omega arith

@@ -61,7 +61,9 @@ refusal_of fault = codes "! " ++ (fault ++ 10 ∷ [])
 -- What a step writes, given the world before it: the messages that it sent, and who entered or
 -- left. A refused step writes its fault.
 abbrev pub step_output : WorldState → Result Outcome WorldFault → List ℕ
-step_output w (Ok o) = sent_lines (length w.sent) (drop (length w.sent) o.state.sent) ++ flat_map event_line (drop (length w.visible) o.state.visible)
+step_output w (Ok o) =
+    sent_lines (length w.sent) (drop (length w.sent) o.state.sent)
+    ++ flat_map event_line (drop (length w.visible) o.state.visible)
 step_output w (Err fault) = refusal_of (fault_text fault)
 
 -- what the steps write, one after the other

@@ -124,7 +124,8 @@ pub record StopsBehind (body : List ℕ) (draws : List Draw) (passes : List Pass
   pub passes_have_lines : AllByRecursion HasPassLine passes
   pub rest : List ℕ
   pub body_is : body ≡ draws_text draws ++ (passes_text passes ++ rest)
-  pub bad : (line : RecordLine) (more : List ℕ) → HasLine line → MayFollow passes line → rest ≢ record_line line ++ 10 ∷ more
+  pub bad : (line : RecordLine) (more : List ℕ) → HasLine line → MayFollow passes line
+      → rest ≢ record_line line ++ 10 ∷ more
 
 -- the text goes on after the register's line
 pub record GoesOnBehind (body : List ℕ) (e : Entries) : Type 0 where
@@ -136,7 +137,8 @@ pub record GoesOnBehind (body : List ℕ) (e : Entries) : Type 0 where
 -- the number of the bad line in what follows the first line; the first line of `body` has number 2
 abbrev pub IsBadBody : List ℕ → ℕ → Type 0
 IsBadBody body line =
-    ((draws : List Draw) × (passes : List Pass) × StopsBehind body draws passes × (line ≡ length draws + length passes + 2))
+    ((draws : List Draw) × (passes : List Pass) × StopsBehind body draws passes
+    × (line ≡ length draws + length passes + 2))
     ⊎ ((e : Entries) × GoesOnBehind body e × (line ≡ length e.draws + length e.passes + 3))
 
 -- the number, from 1, of the first bad line of a text
@@ -164,13 +166,15 @@ abbrev pub BeginsWithNone : {X : Type 0} → (X → Type 0) → (X → List ℕ)
 BeginsWithNone {X} HasRight line text = (x : X) (more : List ℕ) → HasRight x → text ≢ line x ++ 10 ∷ more
 
 -- the text begins with the line of x, and goes on with `rest`
-pub record IsNext {X : Type 0} (HasLine : X → Type 0) (line : X → List ℕ) (text : List ℕ) (x : X) (rest : List ℕ) : Type 0 where
+pub record IsNext {X : Type 0} (HasLine : X → Type 0) (line : X → List ℕ) (text : List ℕ)
+    (x : X) (rest : List ℕ) : Type 0 where
   pub has_line : HasLine x
   pub text_is : text ≡ line x ++ 10 ∷ rest
 
 -- the text begins with the lines of xs, and goes on with `rest`, which begins with no line of this
 -- kind
-pub record AreFirst {X : Type 0} (HasLine : X → Type 0) (line : X → List ℕ) (text : List ℕ) (xs : List X) (rest : List ℕ) : Type 0 where
+pub record AreFirst {X : Type 0} (HasLine : X → Type 0) (line : X → List ℕ) (text : List ℕ)
+    (xs : List X) (rest : List ℕ) : Type 0 where
   pub have_lines : AllByRecursion HasLine xs
   pub text_is : text ≡ text_of_lines (map line xs) ++ rest
   pub no_more : BeginsWithNone HasLine line rest

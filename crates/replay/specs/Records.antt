@@ -90,8 +90,10 @@ IsFirstFault w e (TicketTwice t) = IsLeast (IsTwice (tickets_of e.draws)) t
 IsFirstFault w e (TicketMissing t) = NoneTwice (tickets_of e.draws) × IsLeast (IsMissing (tickets_of e.draws)) t
 IsFirstFault w e (WrongQuorum t) = EachOnce (tickets_of e.draws) × IsLeast (IsWrong w e.draws) t
 IsFirstFault w e (PassTwice p) = AreSoundDraws w e.draws × IsLeast (IsTwice (numbers_of e.passes)) p
-IsFirstFault w e (PassMissing p) = AreSoundDraws w e.draws × NoneTwice (numbers_of e.passes) × IsLeast (IsMissing (numbers_of e.passes)) p
-IsFirstFault w e (WrongRegister q) = AreSoundDraws w e.draws × EachOnce (numbers_of e.passes) × (q ≡ length e.passes) × (e.register ≢ q)
+IsFirstFault w e (PassMissing p) =
+    AreSoundDraws w e.draws × NoneTwice (numbers_of e.passes) × IsLeast (IsMissing (numbers_of e.passes)) p
+IsFirstFault w e (WrongRegister q) =
+    AreSoundDraws w e.draws × EachOnce (numbers_of e.passes) × (q ≡ length e.passes) × (e.register ≢ q)
 IsFirstFault w e (BadLine line) = ⊥
 IsFirstFault w e OutOfMemory = Unit {0}
 

@@ -169,7 +169,8 @@ fn number_fault(numbers: Vec<u64>) -> Option<ReplayFault>
 
 /// Returns the fault of a register that is not the number of passes.
 fn register_fault(run: &RunRecord) -> Option<ReplayFault>
-    ensures { MatchOption result (run.now.register ≡ length run.now.passes.items) (IsRegisterFault (entries_of run.now)) }
+    ensures { MatchOption result (run.now.register ≡ length run.now.passes.items)
+        (IsRegisterFault (entries_of run.now)) }
 {
     let passes = run.passes.len() as u64;
     if run.register == passes {
@@ -189,7 +190,8 @@ fn fault_of(
 ) -> Option<ReplayFault>
     requires tickets { tickets.items ≡ tickets_of run.now.draws.items }
     requires numbers { numbers.items ≡ numbers_of run.now.passes.items }
-    ensures { MatchOption result (IsSoundRecord cycle.now (entries_of run.now)) (IsFound cycle.now (entries_of run.now)) }
+    ensures { MatchOption result (IsSoundRecord cycle.now (entries_of run.now))
+        (IsFound cycle.now (entries_of run.now)) }
 {
     if let Some(fault) = ticket_fault(tickets) {
         return Some(fault);
@@ -231,10 +233,13 @@ pub fn check_record(alloc: Global, plan: &Plan, run: &RunRecord) -> Result<Accou
     ensures fault { IfErr result (IsFirstFault plan.now (entries_of run.now)) }
 
     // After k whole cycles each quorum was used k times its weight, ..
-    ensures shares { (k : ℕ) → length run.now.draws.items ≡ k * cycle_len plan.now → IfOk result (λ account. account.quorums ≡ map (λ weight. k * weight) plan.now.quorum_weights) }
+    ensures shares { (k : ℕ) → length run.now.draws.items ≡ k * cycle_len plan.now
+        → IfOk result (λ account. account.quorums ≡ map (λ weight. k * weight) plan.now.quorum_weights) }
     // .. and the busiest voter k times the busiest count: no list of that length does better.
-    ensures even { (k : ℕ) → length run.now.draws.items ≡ k * cycle_len plan.now → IfOk result (λ account. account.busiest ≡ k * busiest_count plan.now) }
-    ensures least { (k : ℕ) → length run.now.draws.items ≡ k * cycle_len plan.now → IfOk result (λ account. IsLeastBusiest plan.now account.drawn account.busiest) }
+    ensures even { (k : ℕ) → length run.now.draws.items ≡ k * cycle_len plan.now
+        → IfOk result (λ account. account.busiest ≡ k * busiest_count plan.now) }
+    ensures least { (k : ℕ) → length run.now.draws.items ≡ k * cycle_len plan.now
+        → IfOk result (λ account. IsLeastBusiest plan.now account.drawn account.busiest) }
 {
     let cycle = match cycle_of(alloc, plan) {
         Ok(cycle) => cycle,

@@ -11,7 +11,8 @@ ghost use Rattle.replay.specs.Scripts.{IsFirstBad, IsLine, IsScript, Script, scr
 
 /// States that no line of a script, with its newline, begins a longer line of a script.
 pub fn lines_end()
-    ensures { (line other more : List ℕ) → IsLine line → IsLine other → line ++ 10 ∷ more ≡ other ++ 10 ∷ [] → more ≡ [] }
+    ensures { (line other more : List ℕ) → IsLine line → IsLine other
+        → line ++ 10 ∷ more ≡ other ++ 10 ∷ [] → more ≡ [] }
 {}
 
 /// States that a text belongs to at most one script and has at most one first bad line, and never
@@ -19,16 +20,19 @@ pub fn lines_end()
 pub fn texts_are_read_in_one_way()
     ensures script { (s t : Script) → IsScript s → IsScript t → script_text s ≡ script_text t → s ≡ t }
     ensures line { (text : List ℕ) (m n : ℕ) → IsFirstBad text m → IsFirstBad text n → m ≡ n }
-    ensures never_both { (text : List ℕ) (line : ℕ) (s : Script) → IsFirstBad text line → IsScript s → text ≢ script_text s }
+    ensures never_both { (text : List ℕ) (line : ℕ) (s : Script)
+        → IsFirstBad text line → IsScript s → text ≢ script_text s }
 {}
 
 /// States that a text belongs to at most one record and has at most one first bad line, and never
 /// both. No record's text begins a longer one.
 pub fn records_are_read_in_one_way()
     ensures record { (a b : Entries) → HasText a → HasText b → record_text a ≡ record_text b → a ≡ b }
-    ensures end { (a b : Entries) (more : List ℕ) → HasText a → HasText b → record_text a ++ more ≡ record_text b → more ≡ [] }
+    ensures end { (a b : Entries) (more : List ℕ) → HasText a → HasText b
+        → record_text a ++ more ≡ record_text b → more ≡ [] }
     ensures line { (text : List ℕ) (m n : ℕ) → record_texts.IsFirstBad text m → record_texts.IsFirstBad text n → m ≡ n }
-    ensures never_both { (text : List ℕ) (line : ℕ) (e : Entries) → record_texts.IsFirstBad text line → HasText e → text ≢ record_text e }
+    ensures never_both { (text : List ℕ) (line : ℕ) (e : Entries)
+        → record_texts.IsFirstBad text line → HasText e → text ≢ record_text e }
 {}
 
 /// States that the record of a closed cluster is sound for the plan by which its office deals. So

@@ -84,7 +84,8 @@ fn push_messages(
     world: &World,
     first: usize,
 ) -> Result<(), AllocError>
-    ensures { OnOk result (string_bytes text.new ≡ string_bytes text.old ++ sent_lines first (drop first world.now.state.sent)) }
+    ensures { OnOk result
+        (string_bytes text.new ≡ string_bytes text.old ++ sent_lines first (drop first world.now.state.sent)) }
 {
     for number in first..world.sent() {
         push_message(alloc, text, number, &world.message(number))?;
@@ -119,7 +120,8 @@ fn push_step(
     world: &mut World,
     step: Step,
 ) -> Result<(), ReplayFault>
-    ensures text { OnOk result (string_bytes text.new ≡ string_bytes text.old ++ step_output world.old.state (step_of world.old step)) }
+    ensures text { OnOk result
+        (string_bytes text.new ≡ string_bytes text.old ++ step_output world.old.state (step_of world.old step)) }
     ensures world { OnOk result (world.new.state ≡ after world.old.state (step_of world.old step)) }
     ensures plan { world.new.plan ≡ world.old.plan }
     ensures memory { IfErr result (λ fault. fault ≡ OutOfMemory) }

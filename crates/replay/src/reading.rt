@@ -106,7 +106,8 @@ fn sizes_of(word: &[u8], clients: u64, limit: u64) -> Option<(u8, u64)>
 fn read_sizes(line: &[u8]) -> Option<(u8, u64)>
     ensures sizes { IfSome result (λ x. AreSizes x.0 x.1) }
     ensures spelled { IfSome result (λ x. line.now ≡ world_line x.0 x.1) }
-    ensures read { (clients limit : ℕ) → AreSizes clients limit → line.now ≡ world_line clients limit → result ≡ Some (clients, limit) }
+    ensures read { (clients limit : ℕ) → AreSizes clients limit → line.now ≡ world_line clients limit
+        → result ≡ Some (clients, limit) }
 {
     let (word, rest) = cut(line);
     match fields::<2>(rest) {
@@ -119,7 +120,8 @@ fn read_sizes(line: &[u8]) -> Option<(u8, u64)>
 fn first_sizes(text: &[u8]) -> Option<(u8, u64, &[u8])>
     ensures sizes { IfSome result (λ x. AreSizes x.0 x.1) }
     ensures spelled { IfSome result (λ x. text.now ≡ world_line x.0 x.1 ++ 10 ∷ x.2.now) }
-    ensures read { (clients limit : ℕ) (rest : List ℕ) → AreSizes clients limit → text.now ≡ world_line clients limit ++ 10 ∷ rest
+    ensures read { (clients limit : ℕ) (rest : List ℕ) → AreSizes clients limit
+        → text.now ≡ world_line clients limit ++ 10 ∷ rest
         → MatchOption result ⊥ (λ x. (x.0 ≡ clients) × (x.1 ≡ limit) × (x.2.now ≡ rest)) }
 {
     match cut_at(text, b'\n') {

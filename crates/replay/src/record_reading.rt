@@ -36,7 +36,8 @@ enum RecordLine {
 impl RecordLine {
     /// Returns the draw, if the line is one.
     fn draw(self) -> Option<(u8, u64, usize)>
-        ensures { MatchOption result ((d : Draw) → self ≢ RecordLine.Draw d.0 d.1 d.2) (λ d. self ≡ RecordLine.Draw d.0 d.1 d.2) }
+        ensures { MatchOption result ((d : Draw) → self ≢ RecordLine.Draw d.0 d.1 d.2)
+            (λ d. self ≡ RecordLine.Draw d.0 d.1 d.2) }
     {
         match self {
             RecordLine::Draw(client, ticket, quorum) => Some((client, ticket, quorum)),
@@ -46,7 +47,8 @@ impl RecordLine {
 
     /// Returns the pass, if the line is one.
     fn pass(self) -> Option<(u8, u64)>
-        ensures { MatchOption result ((p : Pass) → self ≢ RecordLine.Pass p.0 p.1) (λ p. self ≡ RecordLine.Pass p.0 p.1) }
+        ensures { MatchOption result ((p : Pass) → self ≢ RecordLine.Pass p.0 p.1)
+            (λ p. self ≡ RecordLine.Pass p.0 p.1) }
     {
         match self {
             RecordLine::Pass(client, number) => Some((client, number)),
@@ -150,7 +152,8 @@ fn next_line(text: &[u8]) -> Option<(RecordLine, &[u8])>
 
 /// Reads the draw at the front of a text. Returns it, and what follows its line.
 fn next_draw(text: &[u8]) -> Option<((u8, u64, usize), &[u8])>
-    ensures { MatchOption result (BeginsWithNone HasDrawLine draw_line text.now) (λ x. IsNext HasDrawLine draw_line text.now x.0 x.1.now) }
+    ensures { MatchOption result (BeginsWithNone HasDrawLine draw_line text.now)
+        (λ x. IsNext HasDrawLine draw_line text.now x.0 x.1.now) }
 {
     let Some((line, rest)) = next_line(text) else {
         return None;
@@ -163,7 +166,8 @@ fn next_draw(text: &[u8]) -> Option<((u8, u64, usize), &[u8])>
 
 /// Reads the pass at the front of a text. Returns it, and what follows its line.
 fn next_pass(text: &[u8]) -> Option<((u8, u64), &[u8])>
-    ensures { MatchOption result (BeginsWithNone HasPassLine pass_line text.now) (λ x. IsNext HasPassLine pass_line text.now x.0 x.1.now) }
+    ensures { MatchOption result (BeginsWithNone HasPassLine pass_line text.now)
+        (λ x. IsNext HasPassLine pass_line text.now x.0 x.1.now) }
 {
     let Some((line, rest)) = next_line(text) else {
         return None;
@@ -176,7 +180,8 @@ fn next_pass(text: &[u8]) -> Option<((u8, u64), &[u8])>
 
 /// Reads the register at the front of a text. Returns it, and what follows its line.
 fn next_register(text: &[u8]) -> Option<(u64, &[u8])>
-    ensures { MatchOption result (BeginsWithNone HasRegisterLine register_line text.now) (λ x. IsNext HasRegisterLine register_line text.now x.0 x.1.now) }
+    ensures { MatchOption result (BeginsWithNone HasRegisterLine register_line text.now)
+        (λ x. IsNext HasRegisterLine register_line text.now x.0 x.1.now) }
 {
     let Some((line, rest)) = next_line(text) else {
         return None;
@@ -238,7 +243,8 @@ fn read_body(alloc: Global, text: &[u8]) -> Result<RunRecord, ReplayFault>
 
 /// Returns what follows the first line of a record, if the text begins with that line.
 fn behind_title(text: &[u8]) -> Option<&[u8]>
-    ensures { MatchOption result ((body : List ℕ) → text.now ≢ title_line ++ 10 ∷ body) (λ body. text.now ≡ title_line ++ 10 ∷ body.now) }
+    ensures { MatchOption result ((body : List ℕ) → text.now ≢ title_line ++ 10 ∷ body)
+        (λ body. text.now ≡ title_line ++ 10 ∷ body.now) }
 {
     match cut_at(text, b'\n') {
         Some((line, rest)) if line == TITLE => Some(rest),

@@ -21,7 +21,8 @@ impl Model for Script {
 
     ghost view = { λ s. record { clients = s.clients; limit = s.limit; steps = s.steps.items } };
 
-    ghost invariant = { λ s. scripts.IsScript (record { clients = s.clients; limit = s.limit; steps = s.steps.items }) };
+    ghost invariant = { λ s.
+        scripts.IsScript (record { clients = s.clients; limit = s.limit; steps = s.steps.items }) };
 }
 
 impl Script {

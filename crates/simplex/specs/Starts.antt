@@ -10,4 +10,5 @@ IsStartRow columns r = (length r ≡ columns) × ((j : ℕ) → j < columns → 
 
 -- `count` such rows
 abbrev pub AreStartRows : ℕ → ℕ → List (Vec ℤ Global) → Type 0
-AreStartRows count columns rows = (length rows ≡ count) × ((i : ℕ) → i < count → IsStartRow columns (row_at (lists_of rows) i))
+AreStartRows count columns rows =
+    (length rows ≡ count) × ((i : ℕ) → i < count → IsStartRow columns (row_at (lists_of rows) i))

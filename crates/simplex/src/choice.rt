@@ -59,7 +59,8 @@ fn enters(choice: &Choice, best: &Option<Choice>) -> bool {
 
 /// Returns the lowest column that improves the solution (Bland's rule).
 pub(crate) fn first_entering(method: &Method) -> Result<Option<usize>, FracFault>
-    ensures { IfOk result (λ o. IfSome o (λ j. j < length method.now.coterie.now.quorums + method.now.coterie.now.voters)) }
+    ensures { IfOk result (λ o.
+        IfSome o (λ j. j < length method.now.coterie.now.quorums + method.now.coterie.now.voters)) }
 {
     for column in 0..method.columns() {
         if method.price(column)? > 0 {
@@ -71,7 +72,8 @@ pub(crate) fn first_entering(method: &Method) -> Result<Option<usize>, FracFault
 
 /// Returns the column with the greatest price, if one improves the solution.
 fn greatest_entering(method: &Method) -> Result<Option<usize>, FracFault>
-    ensures { IfOk result (λ o. IfSome o (λ j. j < length method.now.coterie.now.quorums + method.now.coterie.now.voters)) }
+    ensures { IfOk result (λ o.
+        IfSome o (λ j. j < length method.now.coterie.now.quorums + method.now.coterie.now.voters)) }
 {
     let mut best = None;
     let mut most = 0i128;
@@ -122,10 +124,12 @@ fn column_after(method: &Method, places: usize) -> usize
 fn look_at(method: &mut Method, search: &mut Search, column: usize) -> Result<(), FracFault>
     requires column { column < length method.old.coterie.now.quorums + method.old.coterie.now.voters }
     requires looks { 0 < search.old.looks }
-    requires best { IfSome search.old.best (λ e. e.column < length method.old.coterie.now.quorums + method.old.coterie.now.voters) }
+    requires best { IfSome search.old.best (λ e.
+        e.column < length method.old.coterie.now.quorums + method.old.coterie.now.voters) }
     ensures coterie { method.new.coterie ≡ method.old.coterie }
     ensures made { method.new.made ≡ method.old.made }
-    ensures best { IfSome search.new.best (λ e. e.column < length method.old.coterie.now.quorums + method.old.coterie.now.voters) }
+    ensures best { IfSome search.new.best (λ e.
+        e.column < length method.old.coterie.now.quorums + method.old.coterie.now.voters) }
 {
     let price = method.price(column)?;
     if price <= 0 {
@@ -146,7 +150,8 @@ fn look_at(method: &mut Method, search: &mut Search, column: usize) -> Result<()
 fn least_entering(method: &mut Method) -> Result<Option<usize>, FracFault>
     ensures coterie { method.new.coterie ≡ method.old.coterie }
     ensures made { method.new.made ≡ method.old.made }
-    ensures column { IfOk result (λ o. IfSome o (λ j. j < length method.old.coterie.now.quorums + method.old.coterie.now.voters)) }
+    ensures column { IfOk result (λ o.
+        IfSome o (λ j. j < length method.old.coterie.now.quorums + method.old.coterie.now.voters)) }
 {
     let mut search = Search {
         best: None,
@@ -170,7 +175,8 @@ fn least_entering(method: &mut Method) -> Result<Option<usize>, FracFault>
 pub(crate) fn entering(method: &mut Method, rule: Rule) -> Result<Option<usize>, FracFault>
     ensures coterie { method.new.coterie ≡ method.old.coterie }
     ensures made { method.new.made ≡ method.old.made }
-    ensures column { IfOk result (λ o. IfSome o (λ j. j < length method.old.coterie.now.quorums + method.old.coterie.now.voters)) }
+    ensures column { IfOk result (λ o.
+        IfSome o (λ j. j < length method.old.coterie.now.quorums + method.old.coterie.now.voters)) }
 {
     match rule {
         Rule::Dantzig => greatest_entering(method),

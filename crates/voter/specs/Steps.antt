@@ -98,7 +98,8 @@ released_by false false v client stamp = silent (finish v client stamp)
 -- RELEASE: the client's requests up to this stamp are finished. If one of them holds the vote, the
 -- vote goes to the front of the queue. If one waits, it leaves the queue.
 unfoldable pub released : VoterState → ℕ → ℕ → Outcome
-released v client stamp = released_by (is_up_to (held_stamp v.held client) stamp) (is_up_to (get v.waiting client) stamp) v client stamp
+released v client stamp =
+    released_by (is_up_to (held_stamp v.held client) stamp) (is_up_to (get v.waiting client) stamp) v client stamp
 
 -- REQUEST
 
@@ -172,7 +173,8 @@ again v (Some g) client stamp = again_by (g.client == client) v g client stamp
 abbrev pub compared_by : Bool → Bool → VoterState → ℕ → ℕ → ℕ → Outcome
 compared_by true same v client stamp s = silent v
 compared_by false true v client stamp s = record { replies = again v v.held client stamp; state = v }
-compared_by false false v client stamp s = and_then (released v client s) (admitted (released v client s).state client stamp)
+compared_by false false v client stamp s =
+    and_then (released v client s) (admitted (released v client s).state client stamp)
 
 -- by the stamp of the client's current request, if there is one
 unfoldable pub requested_beside : VoterState → ℕ → ℕ → Option ℕ → Outcome
@@ -272,7 +274,16 @@ effect_of v m = effect_by v (step v m)
 
 -- a new voter, which has taken no message
 abbrev pub start : ℕ → ℕ → VoterState
-start id limit = record { id = id; limit = limit; held = None; inquiring = false; waiting = empty; finished = replicate max_clients 0; granted = 0; seen = 0 }
+start id limit = record {
+  id = id;
+  limit = limit;
+  held = None;
+  inquiring = false;
+  waiting = empty;
+  finished = replicate max_clients 0;
+  granted = 0;
+  seen = 0;
+}
 
 -- How the code looks ahead
 
@@ -284,7 +295,8 @@ is_later (Some s) stamp = nat_lt s stamp
 -- the message needs a new grant
 unfoldable pub needs_grant : VoterState → ℕ → VoterBody → Bool
 needs_grant v client (asks.Request stamp) =
-    nat_lt (slice_index v.finished client) stamp && is_later (standing v client) stamp && (is_none v.held || is_some (held_stamp v.held client))
+    nat_lt (slice_index v.finished client) stamp && is_later (standing v client) stamp
+    && (is_none v.held || is_some (held_stamp v.held client))
 needs_grant v client (asks.Relinquish grant) = is_grant v.held client grant
 needs_grant v client (asks.Release stamp) = is_up_to (held_stamp v.held client) stamp && is_some (front v.waiting)
 
@@ -299,7 +311,8 @@ is_older (Some s) stamp = nat_lt s stamp
 
 -- the message ends the current grant
 unfoldable pub ends_grant : VoterState → ℕ → VoterBody → Bool
-ends_grant v client (asks.Request stamp) = nat_lt (slice_index v.finished client) stamp && is_older (held_stamp v.held client) stamp
+ends_grant v client (asks.Request stamp) =
+    nat_lt (slice_index v.finished client) stamp && is_older (held_stamp v.held client) stamp
 ends_grant v client (asks.Relinquish grant) = is_grant v.held client grant
 ends_grant v client (asks.Release stamp) = is_up_to (held_stamp v.held client) stamp
 

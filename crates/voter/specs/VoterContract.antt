@@ -14,7 +14,8 @@ use Rattle.voter.specs.Steps.{Outcome}
 
 -- a LOCKED to this client carries the current grant
 abbrev pub TellsVote : Option Grant → ℕ → ClientBody → Type 0
-TellsVote held client (tells.Locked stamp grant) = held ≡ Some (record { client = client; stamp = stamp; grant = grant })
+TellsVote held client (tells.Locked stamp grant) =
+    held ≡ Some (record { client = client; stamp = stamp; grant = grant })
 TellsVote held client (tells.Fail stamp) = Unit {0}
 TellsVote held client (tells.Inquire grant) = Unit {0}
 
@@ -45,6 +46,7 @@ pub record MeetsContract (v : VoterState) (m : ToVoter) (o : Outcome) : Type 0 w
   -- a grant stays, or the message ends it
   pub kept : (g : Grant) → v.held ≡ Some g → (o.state.held ≡ Some g) ⊎ Ends m.client m.body g
   -- each request that holds the vote or waits did so before, or is the message
-  pub entries : (client stamp : ℕ) → IsEntry o.state client stamp → IsEntry v client stamp ⊎ Brings m.client m.body client stamp
+  pub entries : (client stamp : ℕ) → IsEntry o.state client stamp
+      → IsEntry v client stamp ⊎ Brings m.client m.body client stamp
   -- each LOCKED carries the vote as it is after the step
   pub told : AllTell o.state.held o.replies

@@ -22,7 +22,8 @@ pub fn voters_meet_the_contract()
 /// A message that ends the grant leaves no grant, or a new one with the next number. Any other
 /// message keeps the grant and the number of grants, or grants the free vote under the next number.
 pub fn grants_are_numbered()
-    ensures { (v : VoterState) (m : ToVoter) (o : Outcome) → IsSound v → step v m ≡ Some o → VoteMoves (effect_of v m).frees v o.state }
+    ensures { (v : VoterState) (m : ToVoter) (o : Outcome) → IsSound v → step v m ≡ Some o
+        → VoteMoves (effect_of v m).frees v o.state }
 {}
 
 /// What holds of every voter:

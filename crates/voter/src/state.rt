@@ -130,7 +130,8 @@ impl VoterState {
 
     fn fail(&self, request: Request, replies: &mut Replies)
         requires room { array_vec_len replies.old < 3 }
-        ensures replies { replies.new.items ≡ replies.old.items ++ reply self.now request.client (ClientBody.Fail request.stamp) ∷ [] }
+        ensures replies { replies.new.items
+            ≡ replies.old.items ++ reply self.now request.client (ClientBody.Fail request.stamp) ∷ [] }
         ensures len { array_vec_len replies.new ≡ array_vec_len replies.old + 1 }
     {
         let stamp = request.stamp;
@@ -156,7 +157,8 @@ impl VoterState {
         requires client { request.client < max_clients }
         requires room { array_vec_len replies.old < 2 }
         ensures state { self.new ≡ (queued self.old grant request.client request.stamp).state }
-        ensures replies { replies.new.items ≡ replies.old.items ++ (queued self.old grant request.client request.stamp).replies }
+        ensures replies { replies.new.items
+            ≡ replies.old.items ++ (queued self.old grant request.client request.stamp).replies }
     {
         let holder = Request {
             stamp: grant.stamp,
@@ -185,7 +187,8 @@ impl VoterState {
         requires room { array_vec_len replies.old < 2 }
         requires few { self.old.granted < 2 ^ 63 }
         ensures state { self.new ≡ (admitted self.old request.client request.stamp).state }
-        ensures replies { replies.new.items ≡ replies.old.items ++ (admitted self.old request.client request.stamp).replies }
+        ensures replies { replies.new.items
+            ≡ replies.old.items ++ (admitted self.old request.client request.stamp).replies }
     {
         match self.held {
             Some(grant) => self.queue_behind(grant, request, replies),
@@ -209,7 +212,8 @@ impl VoterState {
     /// Repeats the reply to a request that holds the vote or waits already.
     fn answer_again(&self, request: Request, replies: &mut Replies)
         requires room { array_vec_len replies.old < 3 }
-        ensures replies { replies.new.items ≡ replies.old.items ++ again self.now self.now.held request.client request.stamp }
+        ensures replies { replies.new.items
+            ≡ replies.old.items ++ again self.now self.now.held request.client request.stamp }
     {
         let stamp = request.stamp;
         let body = match self.held {
@@ -228,7 +232,8 @@ impl VoterState {
         requires room { replies.old.items ≡ [] }
         requires few { self.old.granted + 1 < 2 ^ 63 }
         ensures state { self.new ≡ (requested_beside self.old request.client request.stamp standing).state }
-        ensures replies { replies.new.items ≡ (requested_beside self.old request.client request.stamp standing).replies }
+        ensures replies { replies.new.items
+            ≡ (requested_beside self.old request.client request.stamp standing).replies }
     {
         match standing {
             None => self.admit(request, replies),

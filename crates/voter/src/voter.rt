@@ -69,7 +69,8 @@ impl Voter {
     pub fn take(&mut self, message: &ToVoter) -> Result<Replies, VoterFault>
         requires voter { message.now.voter ≡ self.old.id }
         requires client { message.now.client < max_clients }
-        ensures taken { IfOk result (λ replies. step self.old message.now ≡ Some (record { replies = replies.items; state = self.new })) }
+        ensures taken { IfOk result (λ replies.
+            step self.old message.now ≡ Some (record { replies = replies.items; state = self.new })) }
         ensures refused { IfErr result (λ _. (step self.old message.now ≡ None) × (self.new ≡ self.old)) }
         ensures id { self.new.id ≡ self.old.id }
     {
@@ -83,8 +84,10 @@ impl Voter {
     pub fn take_into(&mut self, message: &ToVoter, replies: &mut Replies) -> Result<(), VoterFault>
         requires voter { message.now.voter ≡ self.old.id }
         requires client { message.now.client < max_clients }
-        ensures taken { OnOk result (step self.old message.now ≡ Some (record { replies = replies.new.items; state = self.new })) }
-        ensures refused { OnErr result ((step self.old message.now ≡ None) × (self.new ≡ self.old) × (replies.new.items ≡ [])) }
+        ensures taken { OnOk result
+            (step self.old message.now ≡ Some (record { replies = replies.new.items; state = self.new })) }
+        ensures refused { OnErr result
+            ((step self.old message.now ≡ None) × (self.new ≡ self.old) × (replies.new.items ≡ [])) }
         ensures id { self.new.id ≡ self.old.id }
     {
         replies.clear();

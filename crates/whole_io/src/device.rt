@@ -49,7 +49,8 @@ pub fn read_input<R: Read>(alloc: Global, reader: &mut Watched<R>) -> Result<Vec
 pub fn write_output<W: Write>(writer: &mut Watched<W>, output: &[u8]) -> Result<(), DeviceFault>
     requires { writer.old.failed ≡ false }
     ensures ok { OnOk result (Appends (W.contents writer.old.inner) (W.contents writer.new.inner) output.now) }
-    ensures begun { OnErr result (AppendsBeginning (W.contents writer.old.inner) (W.contents writer.new.inner) output.now) }
+    ensures begun { OnErr result
+        (AppendsBeginning (W.contents writer.old.inner) (W.contents writer.new.inner) output.now) }
     ensures refused { IfErr result (λ fault. fault ≡ WriteFault) }
     ensures failed { FailsAs false writer.new.failed result }
 {

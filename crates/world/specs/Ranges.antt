@@ -24,8 +24,10 @@ TellsWithin limit (tells.Inquire grant) = IsWithin limit grant
 -- The message names a client and a voter of the world. Its stamp and its grant are from 1 to the
 -- limit, and the highest stamp that its voter saw is at most the limit.
 abbrev pub IsInRange : ℕ → ℕ → ℕ → Message → Type 0
-IsInRange voters clients limit (kinds.ToVoter m) = (m.client < clients) × (m.voter < voters) × IsWithin limit (voter_number m.body)
-IsInRange voters clients limit (kinds.ToClient m) = (m.client < clients) × (m.voter < voters) × (m.seen ≤ limit) × TellsWithin limit m.body
+IsInRange voters clients limit (kinds.ToVoter m) =
+    (m.client < clients) × (m.voter < voters) × IsWithin limit (voter_number m.body)
+IsInRange voters clients limit (kinds.ToClient m) =
+    (m.client < clients) × (m.voter < voters) × (m.seen ≤ limit) × TellsWithin limit m.body
 
 -- each of these messages is in range
 abbrev pub AreInRange : ℕ → ℕ → ℕ → List Message → Type 0

@@ -37,7 +37,8 @@ refusal_at place (Err fault) = (place, fault) ∷ []
 -- the refused steps of a run, each with its place and its fault; places count from this one on
 abbrev pub refusals_of : (ℕ → List ℕ) → ℕ → List Step → WorldState → List (ℕ × WorldFault)
 refusals_of deal place [] w = []
-refusals_of deal place (s ∷ steps) w = refusal_at place (step deal w s) ++ refusals_of deal (place + 1) steps (after w (step deal w s))
+refusals_of deal place (s ∷ steps) w =
+    refusal_at place (step deal w s) ++ refusals_of deal (place + 1) steps (after w (step deal w s))
 
 -- the new world of a plan
 abbrev pub start_by : Weighted → ℕ → ℕ → WorldState

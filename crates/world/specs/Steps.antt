@@ -129,8 +129,10 @@ step deal w (Ask c) = if_client (nat_lt c (length w.clients)) c (ask w c (deal (
 step deal w (Deliver k) = come w k (slice_get w.sent k)
 step deal w (Leave c) = if_client (nat_lt c (length w.clients)) c (act w c client.Leaves)
 step deal w (GiveUp c) = if_client (nat_lt c (length w.clients)) c (act w c client.GivesUp)
-step deal w (RemindClient c) = if_client (nat_lt c (length w.clients)) c (Ok (say w (map kinds.ToVoter (client.remind (client_at w.clients c)))))
-step deal w (RemindVoter v) = if_voter (nat_lt v (length w.voters)) v (Ok (say w (map kinds.ToClient (voter.remind (voter_at w.voters v)))))
+step deal w (RemindClient c) =
+    if_client (nat_lt c (length w.clients)) c (Ok (say w (map kinds.ToVoter (client.remind (client_at w.clients c)))))
+step deal w (RemindVoter v) =
+    if_voter (nat_lt v (length w.voters)) v (Ok (say w (map kinds.ToClient (voter.remind (voter_at w.voters v)))))
 
 -- What a step adds: messages after those sent before, and the event, if any, of one client after
 -- those seen before.

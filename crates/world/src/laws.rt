@@ -18,7 +18,9 @@ use voter::{
 
 /// Every list of steps keeps a world sound, as long as any two quorums share a voter.
 fn runs_are_sound()
-    ensures { (voters clients limit : ℕ) (quorums : List (List ℕ)) (deal : ℕ → List ℕ) (steps : List Step) → AreLimits voters clients limit → DoMeet voters quorums → DealsFrom quorums deal → IsSound voters clients limit (run_of deal steps (start voters clients limit)) }
+    ensures { (voters clients limit : ℕ) (quorums : List (List ℕ)) (deal : ℕ → List ℕ) (steps : List Step)
+        → AreLimits voters clients limit → DoMeet voters quorums → DealsFrom quorums deal
+        → IsSound voters clients limit (run_of deal steps (start voters clients limit)) }
 {
     requesters_meet_the_contract();
     requesters_stay_sound();
@@ -35,7 +37,9 @@ fn runs_are_sound()
 ///
 /// This holds as long as any two quorums share a voter, whichever quorum each ticket stands for.
 pub fn at_most_one_is_inside()
-    ensures { (voters clients limit : ℕ) (quorums : List (List ℕ)) (deal : ℕ → List ℕ) (steps : List Step) → AreLimits voters clients limit → DoMeet voters quorums → DealsFrom quorums deal → IsExclusive (run_of deal steps (start voters clients limit)).visible }
+    ensures { (voters clients limit : ℕ) (quorums : List (List ℕ)) (deal : ℕ → List ℕ) (steps : List Step)
+        → AreLimits voters clients limit → DoMeet voters quorums → DealsFrom quorums deal
+        → IsExclusive (run_of deal steps (start voters clients limit)).visible }
 {
     runs_are_sound();
 }
@@ -43,7 +47,9 @@ pub fn at_most_one_is_inside()
 /// Every message that is ever sent names a client and a voter of the world. Its stamp and its grant
 /// are from 1 to the limit, and the highest stamp that its voter saw is at most the limit.
 pub fn messages_are_in_range()
-    ensures { (voters clients limit : ℕ) (quorums : List (List ℕ)) (deal : ℕ → List ℕ) (steps : List Step) → AreLimits voters clients limit → DoMeet voters quorums → DealsFrom quorums deal → AreInRange voters clients limit (run_of deal steps (start voters clients limit)).sent }
+    ensures { (voters clients limit : ℕ) (quorums : List (List ℕ)) (deal : ℕ → List ℕ) (steps : List Step)
+        → AreLimits voters clients limit → DoMeet voters quorums → DealsFrom quorums deal
+        → AreInRange voters clients limit (run_of deal steps (start voters clients limit)).sent }
 {
     runs_are_sound();
 }

@@ -36,8 +36,10 @@ pub fn ask(
 ) -> Result<Seen, ClientFault>
     requires client { client < length clients.old }
     requires quorum { 1 ≤ length quorum.now }
-    ensures asked { IfOk result (λ seen. step (client_at clients.old client) (Asks quorum.now) ≡ Ok (record { out = out.new.items; seen = seen; state = client_at clients.new client })) }
-    ensures refused { IfErr result (λ fault. (step (client_at clients.old client) (Asks quorum.now) ≡ Err fault) × (clients.new ≡ clients.old)) }
+    ensures asked { IfOk result (λ seen. step (client_at clients.old client) (Asks quorum.now)
+        ≡ Ok (record { out = out.new.items; seen = seen; state = client_at clients.new client })) }
+    ensures refused { IfErr result (λ fault.
+        (step (client_at clients.old client) (Asks quorum.now) ≡ Err fault) × (clients.new ≡ clients.old)) }
     ensures others { clients.new ≡ slice_set clients.old client (client_at clients.new client) }
 {
     let who = &mut clients[usize::from(client)];
@@ -49,7 +51,8 @@ pub fn take(clients: &mut [Requester], message: &ToClient, out: &mut Messages) -
     requires client { message.now.client < length clients.old }
     requires id { (client_at clients.old message.now.client).id ≡ message.now.client }
     requires voter { message.now.voter < max_voters }
-    ensures taken { step (client_at clients.old message.now.client) (Takes message.now) ≡ Ok (record { out = out.new.items; seen = result; state = client_at clients.new message.now.client }) }
+    ensures taken { step (client_at clients.old message.now.client) (Takes message.now)
+        ≡ Ok (record { out = out.new.items; seen = result; state = client_at clients.new message.now.client }) }
     ensures others { clients.new ≡ slice_set clients.old message.now.client (client_at clients.new message.now.client) }
 {
     let who = &mut clients[usize::from(message.client)];
@@ -59,8 +62,10 @@ pub fn take(clients: &mut [Requester], message: &ToClient, out: &mut Messages) -
 /// Has this client leave.
 pub fn leave(clients: &mut [Requester], client: u8, out: &mut Messages) -> Result<Seen, ClientFault>
     requires client { client < length clients.old }
-    ensures left { IfOk result (λ seen. step (client_at clients.old client) Leaves ≡ Ok (record { out = out.new.items; seen = seen; state = client_at clients.new client })) }
-    ensures refused { IfErr result (λ fault. (step (client_at clients.old client) Leaves ≡ Err fault) × (clients.new ≡ clients.old)) }
+    ensures left { IfOk result (λ seen. step (client_at clients.old client) Leaves
+        ≡ Ok (record { out = out.new.items; seen = seen; state = client_at clients.new client })) }
+    ensures refused { IfErr result (λ fault.
+        (step (client_at clients.old client) Leaves ≡ Err fault) × (clients.new ≡ clients.old)) }
     ensures others { clients.new ≡ slice_set clients.old client (client_at clients.new client) }
 {
     let who = &mut clients[usize::from(client)];
@@ -74,8 +79,10 @@ pub fn give_up(
     out: &mut Messages,
 ) -> Result<Seen, ClientFault>
     requires client { client < length clients.old }
-    ensures given_up { IfOk result (λ seen. step (client_at clients.old client) GivesUp ≡ Ok (record { out = out.new.items; seen = seen; state = client_at clients.new client })) }
-    ensures refused { IfErr result (λ fault. (step (client_at clients.old client) GivesUp ≡ Err fault) × (clients.new ≡ clients.old)) }
+    ensures given_up { IfOk result (λ seen. step (client_at clients.old client) GivesUp
+        ≡ Ok (record { out = out.new.items; seen = seen; state = client_at clients.new client })) }
+    ensures refused { IfErr result (λ fault.
+        (step (client_at clients.old client) GivesUp ≡ Err fault) × (clients.new ≡ clients.old)) }
     ensures others { clients.new ≡ slice_set clients.old client (client_at clients.new client) }
 {
     let who = &mut clients[usize::from(client)];
@@ -91,8 +98,10 @@ pub fn vote(
     requires voter { message.now.voter < length voters.old }
     requires id { (voter_at voters.old message.now.voter).id ≡ message.now.voter }
     requires client { message.now.client < max_clients }
-    ensures taken { OnOk result (polls.step (voter_at voters.old message.now.voter) message.now ≡ Some (record { replies = replies.new.items; state = voter_at voters.new message.now.voter })) }
-    ensures refused { OnErr result ((polls.step (voter_at voters.old message.now.voter) message.now ≡ None) × (voters.new ≡ voters.old)) }
+    ensures taken { OnOk result (polls.step (voter_at voters.old message.now.voter) message.now
+        ≡ Some (record { replies = replies.new.items; state = voter_at voters.new message.now.voter })) }
+    ensures refused { OnErr result
+        ((polls.step (voter_at voters.old message.now.voter) message.now ≡ None) × (voters.new ≡ voters.old)) }
     ensures others { voters.new ≡ slice_set voters.old message.now.voter (voter_at voters.new message.now.voter) }
 {
     let who = &mut voters[usize::from(message.voter)];

@@ -82,7 +82,8 @@ impl State {
     }
 
     fn remind_client_fault(&self, client: u8) -> Option<WorldFault>
-        ensures { (deal : ℕ → List ℕ) → Foretells result (worlds.step deal (shown self.now) (steps.RemindClient client)) }
+        ensures { (deal : ℕ → List ℕ)
+            → Foretells result (worlds.step deal (shown self.now) (steps.RemindClient client)) }
     {
         self.client_fault(client)
     }

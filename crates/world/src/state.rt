@@ -60,7 +60,8 @@ impl State {
     /// Returns `NoSuchClient` if no client has this number, else `None`.
     pub fn client_fault(&self, client: u8) -> Option<WorldFault>
         ensures found { IfNone result (client < length self.now.clients.items) }
-        ensures missing { IfSome result (λ fault. (fault ≡ WorldFault.NoSuchClient client) × (length self.now.clients.items ≤ client)) }
+        ensures missing { IfSome result (λ fault.
+            (fault ≡ WorldFault.NoSuchClient client) × (length self.now.clients.items ≤ client)) }
     {
         if usize::from(client) < self.clients.len() {
             None
@@ -72,7 +73,8 @@ impl State {
     /// Returns `NoSuchVoter` if no voter has this number, else `None`.
     pub fn voter_fault(&self, voter: u8) -> Option<WorldFault>
         ensures found { IfNone result (voter < length self.now.voters.items) }
-        ensures missing { IfSome result (λ fault. (fault ≡ WorldFault.NoSuchVoter voter) × (length self.now.voters.items ≤ voter)) }
+        ensures missing { IfSome result (λ fault.
+            (fault ≡ WorldFault.NoSuchVoter voter) × (length self.now.voters.items ≤ voter)) }
     {
         if usize::from(voter) < self.voters.len() {
             None
@@ -103,7 +105,8 @@ impl State {
     fn ask(&mut self, client: u8, quorum: &QSet) -> Result<Stepped, WorldFault>
         requires room { HasRoom self.old }
         requires quorum { 1 ≤ length quorum.now }
-        ensures { (deal : ℕ → List ℕ) → deal (length self.old.draws.items) ≡ quorum.now → Does (worlds.step deal (shown self.old) (steps.Ask client)) (shown self.old) result (shown self.new) }
+        ensures { (deal : ℕ → List ℕ) → deal (length self.old.draws.items) ≡ quorum.now
+            → Does (worlds.step deal (shown self.old) (steps.Ask client)) (shown self.old) result (shown self.new) }
     {
         if let Some(fault) = self.client_fault(client) {
             return Err(fault);
@@ -119,7 +122,8 @@ impl State {
 
     fn leave(&mut self, client: u8) -> Result<Stepped, WorldFault>
         requires room { HasRoom self.old }
-        ensures { (deal : ℕ → List ℕ) → Does (worlds.step deal (shown self.old) (steps.Leave client)) (shown self.old) result (shown self.new) }
+        ensures { (deal : ℕ → List ℕ)
+            → Does (worlds.step deal (shown self.old) (steps.Leave client)) (shown self.old) result (shown self.new) }
     {
         if let Some(fault) = self.client_fault(client) {
             return Err(fault);
@@ -132,7 +136,8 @@ impl State {
 
     fn give_up(&mut self, client: u8) -> Result<Stepped, WorldFault>
         requires room { HasRoom self.old }
-        ensures { (deal : ℕ → List ℕ) → Does (worlds.step deal (shown self.old) (steps.GiveUp client)) (shown self.old) result (shown self.new) }
+        ensures { (deal : ℕ → List ℕ)
+            → Does (worlds.step deal (shown self.old) (steps.GiveUp client)) (shown self.old) result (shown self.new) }
     {
         if let Some(fault) = self.client_fault(client) {
             return Err(fault);
@@ -148,7 +153,8 @@ impl State {
         requires client { message.now.client < length self.old.clients.items }
         requires id { (client_at self.old.clients.items message.now.client).id ≡ message.now.client }
         requires voter { message.now.voter < max_voters }
-        ensures { Does (act (shown self.old) message.now.client (Takes message.now)) (shown self.old) (Ok result) (shown self.new) }
+        ensures { Does (act (shown self.old) message.now.client (Takes message.now))
+            (shown self.old) (Ok result) (shown self.new) }
     {
         let seen = moves::take(&mut self.clients, message, &mut self.out);
         self.tell(message.client, seen)
@@ -176,7 +182,8 @@ impl State {
     fn deliver(&mut self, number: u64) -> Result<Stepped, WorldFault>
         requires room { HasRoom self.old }
         requires numbered { IsNumbered (shown self.old) }
-        ensures { (deal : ℕ → List ℕ) → Does (worlds.step deal (shown self.old) (steps.Deliver number)) (shown self.old) result (shown self.new) }
+        ensures { (deal : ℕ → List ℕ)
+            → Does (worlds.step deal (shown self.old) (steps.Deliver number)) (shown self.old) result (shown self.new) }
     {
         match self.message(number) {
             None => Err(WorldFault::NoSuchMessage(number)),
@@ -187,7 +194,9 @@ impl State {
 
     fn remind_client(&mut self, client: u8) -> Result<Stepped, WorldFault>
         requires room { HasRoom self.old }
-        ensures { (deal : ℕ → List ℕ) → Does (worlds.step deal (shown self.old) (steps.RemindClient client)) (shown self.old) result (shown self.new) }
+        ensures { (deal : ℕ → List ℕ)
+            → Does (worlds.step deal (shown self.old) (steps.RemindClient client))
+            (shown self.old) result (shown self.new) }
     {
         if let Some(fault) = self.client_fault(client) {
             return Err(fault);
@@ -202,7 +211,9 @@ impl State {
 
     fn remind_voter(&mut self, voter: u8) -> Result<Stepped, WorldFault>
         requires room { HasRoom self.old }
-        ensures { (deal : ℕ → List ℕ) → Does (worlds.step deal (shown self.old) (steps.RemindVoter voter)) (shown self.old) result (shown self.new) }
+        ensures { (deal : ℕ → List ℕ)
+            → Does (worlds.step deal (shown self.old) (steps.RemindVoter voter))
+            (shown self.old) result (shown self.new) }
     {
         if let Some(fault) = self.voter_fault(voter) {
             return Err(fault);
@@ -219,7 +230,8 @@ impl State {
     pub fn act(&mut self, cycle: &Cycle, step: Step) -> Result<Stepped, WorldFault>
         requires room { HasRoom self.old }
         requires numbered { IsNumbered (shown self.old) }
-        ensures { Does (worlds.step (quorum_by cycle.now) (shown self.old) step) (shown self.old) result (shown self.new) }
+        ensures { Does (worlds.step (quorum_by cycle.now) (shown self.old) step)
+            (shown self.old) result (shown self.new) }
     {
         match step {
             Step::Ask(client) => {

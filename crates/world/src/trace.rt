@@ -49,7 +49,8 @@ pub fn run(
     ensures visible { IfOk result (λ trace. trace.visible.items ≡ (run_by plan clients limit steps.now).visible) }
     ensures draws { IfOk result (λ trace. trace.draws.items ≡ (run_by plan clients limit steps.now).draws) }
     ensures messages { IfOk result (λ trace. trace.messages.items ≡ (run_by plan clients limit steps.now).sent) }
-    ensures refused { IfOk result (λ trace. trace.refused.items ≡ refusals_of (quorum_by plan) 0 steps.now (start_by plan clients limit)) }
+    ensures refused { IfOk result (λ trace.
+        trace.refused.items ≡ refusals_of (quorum_by plan) 0 steps.now (start_by plan clients limit)) }
     ensures exclusive { IfOk result (λ trace. IsExclusive trace.visible.items) }
     ensures lines { IfOk result (λ trace. AllByRecursion HasLine trace.messages.items) }
     ensures tickets { IfOk result (λ trace. DrawsInOrder trace.draws.items) }
