@@ -18,8 +18,8 @@ use Rattle.board.proofs.Words.{is-apart, is-next}
 use Rattle.board.proofs.Giving.{none_held}
 
 -- all votes are free at the start
-pub opens : (sheet : Setting) → sheet.voters ≤ 64 → sheet.clients ≤ 64 → sheet.limit ≤ 2 ^ 63 → IsKept sheet (replicate (sheet.voters + 1) 0) (root_view sheet.voters sheet.clients ∷ [])
-opens sheet few_voters few_clients small =
+pub IsKept-start : (sheet : Setting) → sheet.voters ≤ 64 → sheet.clients ≤ 64 → sheet.limit ≤ 2 ^ 63 → IsKept sheet (replicate (sheet.voters + 1) 0) (root_view sheet.voters sheet.clients ∷ [])
+IsKept-start sheet few_voters few_clients small =
     let n : ℕ = sheet.voters in
     let root = root_view n sheet.clients in
     let words : List ℕ = replicate (n + 1) 0 in
@@ -49,9 +49,9 @@ opens sheet few_voters few_clients small =
     only_one F root of (suc i) z e = absurd (some-ne-none z (sym e))
 
 -- the seat that stands for all has all pass numbers, and the register is their number
-pub closes : (sheet : Setting) (id : ℕ) (u : View) (words : List ℕ) (slots : List (Unit {0})) → Final (Seen (Kept sheet) id u) words slots → u.parts ≡ sheet.voters + sheet.clients + 1
+pub passes-at_close : (sheet : Setting) (id : ℕ) (u : View) (words : List ℕ) (slots : List (Unit {0})) → Final (Seen (Kept sheet) id u) words slots → u.parts ≡ sheet.voters + sheet.clients + 1
     → (h : ℕ → ℕ) → sum_by h u.passes ≡ sum_below h (slice_index words sheet.voters)
-closes sheet id u words slots f all h =
+passes-at_close sheet id u words slots f all h =
     let s = f.0 in
     let r = f.1.0 in
     let at = f.1.1 in
@@ -67,12 +67,12 @@ at_get (y ∷ ys) zero x e = some-injective y x e
 at_get (y ∷ ys) (suc i) x e = at_get ys i x e
 
 -- the numbers of all passes are those below the register, and the register is how many they are
-pub closes_all : (sheet : Setting) (id : ℕ) (u : View) (words : List ℕ) (slots : List (Unit {0})) (register : ℕ) (kept : List (ℕ × ℕ)) → Final (Seen (Kept sheet) id u) words slots
+pub register-at_close : (sheet : Setting) (id : ℕ) (u : View) (words : List ℕ) (slots : List (Unit {0})) (register : ℕ) (kept : List (ℕ × ℕ)) → Final (Seen (Kept sheet) id u) words slots
     → u.parts ≡ sheet.voters + sheet.clients + 1 → get_elem? words sheet.voters ≡ some register → u.passes ≡ map (λ p. p.1) kept
     → (register ≡ length kept) × ((h : ℕ → ℕ) → sum_by h (map (λ p. p.1) kept) ≡ sum_below h register)
-closes_all sheet id u words slots register kept f all at is =
+register-at_close sheet id u words slots register kept f all at is =
     let reads : slice_index words sheet.voters ≡ register = at_get words sheet.voters register at in
-    let each : (h : ℕ → ℕ) → sum_by h (map (λ p. p.1) kept) ≡ sum_below h register = λ h. ap (sum_by h) (sym is) ∙ closes sheet id u words slots f all h ∙ ap (sum_below h) reads in
+    let each : (h : ℕ → ℕ) → sum_by h (map (λ p. p.1) kept) ≡ sum_below h register = λ h. ap (sum_by h) (sym is) ∙ passes-at_close sheet id u words slots f all h ∙ ap (sum_below h) reads in
     (sym (sum_below-one register) ∙ sym (each (λ _. 1)) ∙ sum_one (map (λ p. p.1) kept) ∙ length_numbers kept, each)
   where
     length_numbers : (l : List (ℕ × ℕ)) → length (map (λ (p : ℕ × ℕ). p.1) l) ≡ length l

@@ -17,7 +17,7 @@ use Rattle.board.specs.Words.{name_of, is, nobody}
 use Rattle.board.specs.Rule.{stands, holds_vote, IsVote, IsReading, IsKept, Kept}
 use Rattle.board.specs.Views.{current_name, voter_view, client_view, without_voter, without_client, with_voter, with_client, spent_view}
 use Rattle.board.proofs.Words.{is-same, is-apart}
-use Rattle.board.proofs.Votes.{S, each_set, stands_here}
+use Rattle.board.proofs.Votes.{TableState, each_set, stands_here}
 
 -- nothing is read past the end, and of nobody
 pub nobody-at : (k : ℕ) → slice_index nobody k ≡ 0
@@ -28,7 +28,7 @@ nobody-at k = in_range (dec_le 64 k)
     in_range (no near) = get_or-replicate 64 k 0 0 (omega arith)
 
 -- The rule after one view was changed and another added. Of each vote and in the other sums the two are what the one was
-split_keeps : (sheet : Setting) (s : S) → Kept sheet s → (id : ℕ) (u l n : View) → get_elem? s.views id ≡ some u
+split_keeps : (sheet : Setting) (s : TableState) → Kept sheet s → (id : ℕ) (u l n : View) → get_elem? s.views id ≡ some u
     → ((v : ℕ) → v < sheet.voters → (name : ℕ) → stands v name l + stands v name n ≡ stands v name u)
     → ((v : ℕ) → v < sheet.voters → (name : ℕ) → 64 ≤ name → holds_vote v name l + holds_vote v name n ≡ holds_vote v name u)
     → (l.parts + n.parts ≡ u.parts) → ((h : ℕ → ℕ) → sum_by h l.passes + sum_by h n.passes ≡ sum_by h u.passes)
@@ -103,7 +103,7 @@ gives_client sheet id u n few some_part s r at =
     (λ small. (small, few))
 
 -- The rule after one view took in another. Of each vote and in the other sums the one is what the two were
-join_keeps : (sheet : Setting) (s : S) → Kept sheet s → (id other : ℕ) (u w b : View) → get_elem? s.views id ≡ some u → ¬ (other ≡ id) → get_elem? s.views other ≡ some w
+join_keeps : (sheet : Setting) (s : TableState) → Kept sheet s → (id other : ℕ) (u w b : View) → get_elem? s.views id ≡ some u → ¬ (other ≡ id) → get_elem? s.views other ≡ some w
     → ((v : ℕ) → v < sheet.voters → (name : ℕ) → stands v name b ≡ stands v name u + stands v name w)
     → ((v : ℕ) → v < sheet.voters → (name : ℕ) → 64 ≤ name → holds_vote v name b ≡ holds_vote v name u + holds_vote v name w)
     → (b.parts ≡ u.parts + w.parts) → ((h : ℕ → ℕ) → sum_by h b.passes ≡ sum_by h u.passes + sum_by h w.passes)

@@ -14,7 +14,7 @@ use Rattle.board.specs.Words.{name_of, offered, taken, returned, is}
 use Rattle.board.specs.Rule.{stands, holds_vote, IsVote, IsReading, Kept}
 use Rattle.board.specs.VotesKept.{IsWordOf, OneStandsFor, Holds, KeepsVotes}
 use Rattle.board.proofs.Words.{is-same, is-one}
-use Rattle.board.proofs.Votes.{S, stands_here, holds_here}
+use Rattle.board.proofs.Votes.{TableState, stands_here, holds_here}
 use Rattle.board.proofs.Register.{one_holds}
 use Rattle.board.proofs.Giving.{one_stands}
 
@@ -77,7 +77,7 @@ sum_flat h f (x ∷ xs) = omega (arith, sum_by-append h (f x) (flat_map f xs), s
 reading_is : (sheet : Setting) (register j x : ℕ) (u : View) → IsReading sheet register u → u.reading ≡ Some (j, x) → (j < length sheet.quorums) × HoldsAll (quorum_at sheet.quorums j) u.held × (x ≡ register)
 reading_is sheet register j x u r is = subst (λ (o : Option (ℕ × ℕ)). IsReading sheet register (record u { reading = o })) is r
 
-pub keeps_votes : (sheet : Setting) (s : S) → Kept sheet s → KeepsVotes sheet s.words s.views
+pub keeps_votes : (sheet : Setting) (s : TableState) → Kept sheet s → KeepsVotes sheet s.words s.views
 keeps_votes sheet s r = record {
   one_stands = λ v inside. stands_alone v (slice_index s.words v) s.views (r.votes v inside);
   granted = λ v name i u inside at knows. let vote = r.votes v inside in word_of v (slice_index s.words v) s.views vote name (stands_here v (slice_index s.words v) s.views vote i u at name knows);

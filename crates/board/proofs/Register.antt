@@ -14,13 +14,13 @@ use Rattle.quorum_set.specs.Meetings.{Meet, AllMeet}
 use Rattle.board.specs.Quorums.{quorum_at, HoldsAll}
 use Rattle.board.specs.Words.{name_of, taken, is}
 use Rattle.board.specs.Rule.{holds_vote, IsVote, IsReading, IsKept, Kept}
-use Rattle.board.specs.Moves.{Read, Wrote, Counted}
+use Rattle.board.specs.Moves.{Mine, Read, Wrote, Counted}
 use Rattle.numbers.proofs.Members.{all_has}
 use Rattle.board.proofs.Words.{is-same}
-use Rattle.board.proofs.Votes.{S, M, each_set, vote_same, holds_here, unmoved}
+use Rattle.board.proofs.Votes.{TableState, each_set, vote_same, holds_here, IsKept-unmoved}
 
 -- a step on the register, by a seat that keeps its part and its votes
-register_step : (sheet : Setting) (s : S) → Kept sheet s → (id : ℕ) (u w : View) → get_elem? s.views id ≡ some u → (x : ℕ)
+register_step : (sheet : Setting) (s : TableState) → Kept sheet s → (id : ℕ) (u w : View) → get_elem? s.views id ≡ some u → (x : ℕ)
     → w.voters ≡ u.voters → w.held ≡ u.held → w.client ≡ u.client → w.parts ≡ u.parts
     → ((i : ℕ) (z : View) → get_elem? (set s.views id w) i ≡ some z → IsReading sheet x z)
     → ((h : ℕ → ℕ) → sum_by h w.passes + sum_below h (slice_index s.words sheet.voters) ≡ sum_by h u.passes + sum_below h x)
@@ -46,14 +46,14 @@ register_step sheet s r id u w at x voters held client parts readings passes idl
     }
 
 -- the numbers that a seat keeps are below the register
-kept_below : (sheet : Setting) (s : S) → Kept sheet s → (id : ℕ) (u : View) → get_elem? s.views id ≡ some u → All (λ x. x < slice_index s.words sheet.voters) u.passes
+kept_below : (sheet : Setting) (s : TableState) → Kept sheet s → (id : ℕ) (u : View) → get_elem? s.views id ≡ some u → All (λ x. x < slice_index s.words sheet.voters) u.passes
 kept_below sheet s r id u at =
     let n : ℕ = slice_index s.words sheet.voters in
     All-from_late n u.passes (omega (arith, sum_at (λ (z : View). sum_by (late n) z.passes) s.views id u at, r.passes (late n), sum_below-late n n (omega arith)))
 
-pub reads : (sheet : Setting) (slots id : ℕ) (me : M) (word j : ℕ) → word ≡ sheet.voters → j < length sheet.quorums → HoldsAll (quorum_at sheet.quorums j) me.0.held
+pub Read-allowed : (sheet : Setting) (slots id : ℕ) (me : Mine) (word j : ℕ) → word ≡ sheet.voters → j < length sheet.quorums → HoldsAll (quorum_at sheet.quorums j) me.0.held
     → Allows (Kept sheet) slots id me word (λ n. n) (Read j (step slots word 0 0 none) me)
-reads sheet slots id me word j is_register inside holds s r _ at _ =
+Read-allowed sheet slots id me word j is_register inside holds s r _ at _ =
     let x : ℕ = slice_index s.words word in
     let n : ℕ = sheet.voters in
     let u = me.0 in
@@ -84,25 +84,25 @@ one_holds v word views vote i j u z apart at at' mine theirs =
     omega (arith, sum_two (holds_vote v a) views i j u z apart at at', vote.held a (omega arith))
 
 -- two seats can't both hold quorums that meet
-pub alone : (sheet : Setting) (s : S) → Kept sheet s → (i j : ℕ) (u z : View) → i ≢ j → get_elem? s.views i ≡ some u → get_elem? s.views j ≡ some z
+pub HoldsAll-not_both : (sheet : Setting) (s : TableState) → Kept sheet s → (i j : ℕ) (u z : View) → i ≢ j → get_elem? s.views i ≡ some u → get_elem? s.views j ≡ some z
     → (p q : List ℕ) → Meet sheet.voters p q → HoldsAll p u.held → HoldsAll q z.held → ⊥
-alone sheet s r i j u z apart at at' p q meet holds holds' =
+HoldsAll-not_both sheet s r i j u z apart at at' p q meet holds holds' =
     let v : ℕ = meet.0 in
     let mine : slice_index u.held v ≢ 0 = all_has (λ (k : ℕ). slice_index u.held k ≢ 0) p v meet.2 holds in
     let theirs : slice_index z.held v ≢ 0 = all_has (λ (k : ℕ). slice_index z.held k ≢ 0) q v meet.3 holds' in
     one_holds v (slice_index s.words v) s.views (r.votes v meet.1) i j u z apart at at' mine theirs
 
 -- a seat whose reading counts is the only one
-other_reading : (sheet : Setting) (s : S) → Kept sheet s → AllMeet sheet.voters sheet.quorums → (id i : ℕ) (u z : View) → i ≢ id → get_elem? s.views id ≡ some u → get_elem? s.views i ≡ some z
+other_reading : (sheet : Setting) (s : TableState) → Kept sheet s → AllMeet sheet.voters sheet.quorums → (id i : ℕ) (u z : View) → i ≢ id → get_elem? s.views id ≡ some u → get_elem? s.views i ≡ some z
     → (j : ℕ) → j < length sheet.quorums → HoldsAll (quorum_at sheet.quorums j) u.held
     → (x y : ℕ) (reading : Option (ℕ × ℕ)) → IsReading sheet x (record z { reading = reading }) → IsReading sheet y (record z { reading = reading })
 other_reading sheet s r meet id i u z apart at at' j inside holds x y None h = tt
 other_reading sheet s r meet id i u z apart at at' j inside holds x y (Some t) h =
-    absurd (alone sheet s r id i u z (λ e. apart (sym e)) at at' (quorum_at sheet.quorums j) (quorum_at sheet.quorums t.0) (meet j t.0 inside h.0) holds h.1)
+    absurd (HoldsAll-not_both sheet s r id i u z (λ e. apart (sym e)) at at' (quorum_at sheet.quorums j) (quorum_at sheet.quorums t.0) (meet j t.0 inside h.0) holds h.1)
 
-pub writes : (sheet : Setting) (slots id : ℕ) (me : M) (word j x : ℕ) → word ≡ sheet.voters → AllMeet sheet.voters sheet.quorums → me.0.parts ≡ 1 → me.0.reading ≡ Some (j, x) → x ≢ sheet.limit
+pub Wrote-allowed : (sheet : Setting) (slots id : ℕ) (me : Mine) (word j x : ℕ) → word ≡ sheet.voters → AllMeet sheet.voters sheet.quorums → me.0.parts ≡ 1 → me.0.reading ≡ Some (j, x) → x ≢ sheet.limit
     → Allows (Kept sheet) slots id me word (λ _. x + 1) (λ _. Wrote (step slots word (x + 1) 0 none) me (x + 1))
-writes sheet slots id me word j x is_register meet part read below s r _ at _ =
+Wrote-allowed sheet slots id me word j x is_register meet part read below s r _ at _ =
     let n : ℕ = sheet.voters in
     let u = me.0 in
     let w : View = record u { reading = None; passes = u.passes ++ (x + 1 - 1) ∷ [] } in
@@ -122,5 +122,5 @@ writes sheet slots id me word j x is_register meet part read below s r _ at _ =
       refl,
     )
 
-pub counts : (sheet : Setting) (slots id : ℕ) (me : M) → Allows (Kept sheet) slots id me 0 (λ n. n) (Counted (step slots 0 0 0 none) me)
-counts sheet slots id me s r _ at _ = (me.0, keeps, tt, unmoved sheet s r id me.0 at 0, (refl, omega (arith, sum_at (λ (z : View). z.parts) s.views id me.0 at, r.parts, r.few)))
+pub Counted-allowed : (sheet : Setting) (slots id : ℕ) (me : Mine) → Allows (Kept sheet) slots id me 0 (λ n. n) (Counted (step slots 0 0 0 none) me)
+Counted-allowed sheet slots id me s r _ at _ = (me.0, keeps, tt, IsKept-unmoved sheet s r id me.0 at 0, (refl, omega (arith, sum_at (λ (z : View). z.parts) s.views id me.0 at, r.parts, r.few)))

@@ -2,33 +2,29 @@
 use Rattle.std.proofs.Common.{◌≡◌, ℕ, ◌+◌, ◌^◌, ◌<◌, List, [], Some, None, length, set, refl, ap, ◌∙◌, arith, length-set, get_or-set_same}
 use Rattle.std.specs.Prelude.{slice_index, Option}
 use Rattle.std.proofs.lemmas.List.{set-set, length-replicate}
-use Rattle.atomic_table.specs.Table.{Me}
-use Rattle.board.specs.declared.table.View.{View}
 use Rattle.board.specs.declared.vote.Vote.{Vote}
 use Rattle.board.specs.declared.vote.Vote.TheVariants.{Free, Offered, Held, Returned}
+use Rattle.board.specs.Moves.{Mine}
 use Rattle.board.specs.Roots.{IsCurrent}
 use Rattle.board.specs.Words.{nobody, IsSettledFrom}
 use Rattle.board.specs.Views.{voter_view, current_name}
 
-abbrev M : Type 0
-M = Me (Unit {0}) View
-
-pub voter_room : (m : M) (v : ℕ) (current : Option (ℕ × ℕ)) → m ≡ (voter_view v current, []) → v < 64 → v < length m.0.voters
+pub voter_room : (m : Mine) (v : ℕ) (current : Option (ℕ × ℕ)) → m ≡ (voter_view v current, []) → v < 64 → v < length m.0.voters
 voter_room m v current e few =
-    let long : length m.0.voters ≡ length (set nobody v (current_name current + 1)) = ap (λ (x : M). length x.0.voters) e in
+    let long : length m.0.voters ≡ length (set nobody v (current_name current + 1)) = ap (λ (x : Mine). length x.0.voters) e in
     omega (arith, length-set nobody v (current_name current + 1), length-replicate {A = ℕ} 64 0)
 
-pub voter_here : (m : M) (v : ℕ) (current : Option (ℕ × ℕ)) → m ≡ (voter_view v current, []) → v < 64 → slice_index m.0.voters v ≡ current_name current + 1
-voter_here m v current e few = ap (λ (x : M). slice_index x.0.voters v) e ∙ get_or-set_same nobody v (current_name current + 1) 0 (omega (arith, length-replicate {A = ℕ} 64 0))
+pub voter_here : (m : Mine) (v : ℕ) (current : Option (ℕ × ℕ)) → m ≡ (voter_view v current, []) → v < 64 → slice_index m.0.voters v ≡ current_name current + 1
+voter_here m v current e few = ap (λ (x : Mine). slice_index x.0.voters v) e ∙ get_or-set_same nobody v (current_name current + 1) 0 (omega (arith, length-replicate {A = ℕ} 64 0))
 
-pub voter_after : (m n : M) (v k : ℕ) (current next : Option (ℕ × ℕ)) → m ≡ (voter_view v current, []) → n ≡ (record m.0 { voters = set m.0.voters v k }, m.1) → k ≡ current_name next + 1
+pub voter_after : (m n : Mine) (v k : ℕ) (current next : Option (ℕ × ℕ)) → m ≡ (voter_view v current, []) → n ≡ (record m.0 { voters = set m.0.voters v k }, m.1) → k ≡ current_name next + 1
     → n ≡ (voter_view v next, [])
 voter_after m n v k current next e step same =
-    step ∙ ap (λ (x : M). (record x.0 { voters = set x.0.voters v k }, x.1)) e
+    step ∙ ap (λ (x : Mine). (record x.0 { voters = set x.0.voters v k }, x.1)) e
     ∙ ap (λ (l : List ℕ). (record (voter_view v next) { voters = l }, [])) (set-set nobody v (current_name current + 1) k ∙ ap (set nobody v) same)
 
 -- a grant in one of the states from which a voter settles has ended
-pub settled_after : (m n : M) (v : ℕ) (vote : Vote) → IsSettledFrom vote (λ current. (m ≡ (voter_view v (Some current), [])) × IsCurrent (Some current) (2 ^ 40))
+pub settled_after : (m n : Mine) (v : ℕ) (vote : Vote) → IsSettledFrom vote (λ current. (m ≡ (voter_view v (Some current), [])) × IsCurrent (Some current) (2 ^ 40))
     → n ≡ (record m.0 { voters = set m.0.voters v 1 }, m.1) → n ≡ (voter_view v None, [])
 settled_after m n v Free known step = absurd known
 settled_after m n v (Held client grant) known step = absurd known

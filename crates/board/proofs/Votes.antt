@@ -8,7 +8,7 @@ use mathlib.Core.Logic.{dite}
 use native.Mathlib.Decide.{ℕ_discrete}
 use lib.ListN.{get_elem?}
 use prog.Atomic.{either}
-use Rattle.atomic_table.specs.Table.{State, Me, step, keeps, Allows}
+use Rattle.atomic_table.specs.Table.{State, step, keeps, Allows}
 use Rattle.atomic_table.proofs.Lists.{at_set, set_again}
 use Rattle.numbers.specs.Sums.{sum_below}
 use Rattle.numbers.proofs.SumLemmas.{sum_set, sum_at}
@@ -22,14 +22,11 @@ use Rattle.board.specs.Roots.{IsCurrent}
 use Rattle.board.specs.Views.{voter_view}
 use Rattle.board.proofs.VoterFields.{voter_room, voter_here}
 use Rattle.board.specs.Rule.{stands, holds_vote, IsVote, IsReading, IsKept, Kept}
-use Rattle.board.specs.Moves.{Granted, Settled, Took, GaveBack}
+use Rattle.board.specs.Moves.{Mine, Granted, Settled, Took, GaveBack}
 use Rattle.board.proofs.Words.{is-same, is-apart, is-one, is-next, is-taken, offered-name, taken-name, returned-name, offered-not_taken, returned-not_taken, free-not_taken}
 
-abbrev pub S : Type 0
-S = State (Unit {0}) View
-
-abbrev pub M : Type 0
-M = Me (Unit {0}) View
+abbrev pub TableState : Type 0
+TableState = State (Unit {0}) View
 
 -- a fact about each view, after one has changed
 pub each_set : (F : View → Type 0) (views : List View) (id : ℕ) (w : View) → ((i : ℕ) (u : View) → i ≢ id → get_elem? views i ≡ some u → F u) → F w
@@ -71,7 +68,7 @@ vote_same v word views r id u w at voters held =
     (λ name large. ap (λ (k : ℕ). is word (taken name) + is k name) held)
 
 -- a step on the word of v, by a seat that keeps its part and its passes
-vote_step : (sheet : Setting) (s : S) → Kept sheet s → (id : ℕ) (u w : View) → get_elem? s.views id ≡ some u → (v x : ℕ) → v < sheet.voters
+vote_step : (sheet : Setting) (s : TableState) → Kept sheet s → (id : ℕ) (u w : View) → get_elem? s.views id ≡ some u → (v x : ℕ) → v < sheet.voters
     → ((k : ℕ) → k ≢ v → (slice_index w.voters k ≡ slice_index u.voters k) × (name_of w.client (slice_index w.held k) ≡ name_of u.client (slice_index u.held k)))
     → IsVote v x (set s.views id w) → w.client ≡ u.client → w.parts ≡ u.parts → w.passes ≡ u.passes → IsReading sheet (slice_index s.words sheet.voters) w
     → IsKept sheet (set s.words v x) (set s.views id w)
@@ -100,15 +97,15 @@ vote_step sheet s r id u w at v x inside others mine client parts passes reading
     }
 
 -- nothing changes
-pub unmoved : (sheet : Setting) (s : S) → Kept sheet s → (id : ℕ) (u : View) → get_elem? s.views id ≡ some u → (i : ℕ) → IsKept sheet (set s.words i (slice_index s.words i)) (set s.views id u)
-unmoved sheet s r id u at i = subst (λ (y : List ℕ × List View). IsKept sheet y.0 y.1) (λ j. (sym (set-get_or s.words i 0) j, sym (set_again s.views id u at) j)) r
+pub IsKept-unmoved : (sheet : Setting) (s : TableState) → Kept sheet s → (id : ℕ) (u : View) → get_elem? s.views id ≡ some u → (i : ℕ) → IsKept sheet (set s.words i (slice_index s.words i)) (set s.views id u)
+IsKept-unmoved sheet s r id u at i = subst (λ (y : List ℕ × List View). IsKept sheet y.0 y.1) (λ j. (sym (set-get_or s.words i 0) j, sym (set_again s.views id u at) j)) r
 
 free_word : (v word : ℕ) (views : List View) → IsVote v word views → word / 4 ≡ 0 → word ≡ 0
 free_word v word views r free = ⊎_elim (λ e. e) (λ (named : (64 ≤ word / 4) × (1 ≤ word % 4)). absurd (omega arith)) r.shape
 
-pub grants : (sheet : Setting) (slots id : ℕ) (me : M) (v name : ℕ) → v < sheet.voters → 64 ≤ name → v < length me.0.voters → slice_index me.0.voters v ≡ 1
+pub Granted-allowed : (sheet : Setting) (slots id : ℕ) (me : Mine) (v name : ℕ) → v < sheet.voters → 64 ≤ name → v < length me.0.voters → slice_index me.0.voters v ≡ 1
     → Allows (Kept sheet) slots id me v (λ _. offered name) (Granted (step slots v (offered name) 0 none) me)
-grants sheet slots id me v name inside large room mine s r _ at _ =
+Granted-allowed sheet slots id me v name inside large room mine s r _ at _ =
     let u = me.0 in
     let w : View = record u { voters = set u.voters v (offered name / 4 + 1) } in
     let word : ℕ = slice_index s.words v in
@@ -130,17 +127,17 @@ grants sheet slots id me v name inside large room mine s r _ at _ =
     )
 
 -- the same by the word
-pub grants_by : (sheet : Setting) (slots id : ℕ) (me : M) (v name word : ℕ) → v < sheet.voters → 64 ≤ name → v < length me.0.voters → slice_index me.0.voters v ≡ 1 → word ≡ offered name
+pub Granted-allowed_by_word : (sheet : Setting) (slots id : ℕ) (me : Mine) (v name word : ℕ) → v < sheet.voters → 64 ≤ name → v < length me.0.voters → slice_index me.0.voters v ≡ 1 → word ≡ offered name
     → Allows (Kept sheet) slots id me v (λ _. word) (Granted (step slots v word 0 none) me)
-grants_by sheet slots id me v name word inside large room mine is_word =
-    subst (λ (x : ℕ). Allows (Kept sheet) slots id me v (λ _. x) (Granted (step slots v x 0 none) me)) (sym is_word) (grants sheet slots id me v name inside large room mine)
+Granted-allowed_by_word sheet slots id me v name word inside large room mine is_word =
+    subst (λ (x : ℕ). Allows (Kept sheet) slots id me v (λ _. x) (Granted (step slots v x 0 none) me)) (sym is_word) (Granted-allowed sheet slots id me v name inside large room mine)
 
 -- a step that changes the word only where it is `old`
-module _ (sheet : Setting) (slots id : ℕ) (me : M) (v old new : ℕ) (w : View) where
-  abbrev Then : ℕ → M → Type 0
+module _ (sheet : Setting) (slots id : ℕ) (me : Mine) (v old new : ℕ) (w : View) where
+  abbrev Then : ℕ → Mine → Type 0
   Then found m = (found ≡ old → m ≡ (w, me.1)) × (found ≢ old → m ≡ me)
 
-  swapped : ((s : S) → Kept sheet s → get_elem? s.views id ≡ some me.0 → slice_index s.words v ≡ old → IsKept sheet (set s.words v new) (set s.views id w))
+  swapped : ((s : TableState) → Kept sheet s → get_elem? s.views id ≡ some me.0 → slice_index s.words v ≡ old → IsKept sheet (set s.words v new) (set s.views id w))
       → Allows (Kept sheet) slots id me v (λ n. either (eqb n old) new n) Then
   swapped hit s r _ at _ = let n : ℕ = slice_index s.words v in dite (ℕ_discrete n old)
       (λ e. (
@@ -154,21 +151,21 @@ module _ (sheet : Setting) (slots id : ℕ) (me : M) (v old new : ℕ) (w : View
         me.0,
         keeps,
         tt,
-        subst (λ b. IsKept sheet (set s.words v (either b new n)) (set s.views id me.0)) (sym (ne_eqb n old other)) (unmoved sheet s r id me.0 at v),
+        subst (λ b. IsKept sheet (set s.words v (either b new n)) (set s.views id me.0)) (sym (ne_eqb n old other)) (IsKept-unmoved sheet s r id me.0 at v),
         ((λ e. absurd (other e)), λ _. refl),
       ))
 
 -- a step that tells one thing tells what follows from it
-told : (sheet : Setting) (slots id : ℕ) (me : M) (v : ℕ) (f : ℕ → ℕ) (then more : ℕ → M → Type 0) → ((found : ℕ) (m : M) → then found m → more found m)
+Allows-weaken : (sheet : Setting) (slots id : ℕ) (me : Mine) (v : ℕ) (f : ℕ → ℕ) (then more : ℕ → Mine → Type 0) → ((found : ℕ) (m : Mine) → then found m → more found m)
     → Allows (Kept sheet) slots id me v f then → Allows (Kept sheet) slots id me v f more
-told sheet slots id me v f then more follow allowed s r long at small =
+Allows-weaken sheet slots id me v f then more follow allowed s r long at small =
     let x = allowed s r long at small in (x.0, x.1, x.2, x.3, follow _ _ x.4)
 
 -- a grant ends, where its word is offered or returned
-pub settles : (sheet : Setting) (slots id : ℕ) (me : M) (v name old : ℕ) → v < sheet.voters → 64 ≤ name → v < length me.0.voters → slice_index me.0.voters v ≡ name + 1
+pub Settled-allowed : (sheet : Setting) (slots id : ℕ) (me : Mine) (v name old : ℕ) → v < sheet.voters → 64 ≤ name → v < length me.0.voters → slice_index me.0.voters v ≡ name + 1
     → ((old ≡ offered name) ⊎ (old ≡ returned name))
     → Allows (Kept sheet) slots id me v (λ n. either (eqb n old) 0 n) (Settled (step slots v old 0 none) me)
-settles sheet slots id me v name old inside large room mine which =
+Settled-allowed sheet slots id me v name old inside large room mine which =
     let u = me.0 in
     let w : View = record u { voters = set u.voters v 1 } in
     let named : old / 4 ≡ name = ⊎_elim (λ (e : old ≡ offered name). ap (λ (y : ℕ). y / 4) e ∙ offered-name name) (λ (e : old ≡ returned name). ap (λ (y : ℕ). y / 4) e ∙ returned-name name) which in
@@ -177,7 +174,7 @@ settles sheet slots id me v name old inside large room mine which =
     let f : ℕ → ℕ = λ n. either (eqb n old) 0 n in
     let known : slice_index u.voters v ≡ old / 4 + 1 = mine ∙ ap (λ (y : ℕ). y + 1) (sym named) in
     let state : (old ≡ offered (old / 4)) ⊎ (old ≡ returned (old / 4)) = ⊎_elim (λ (e : old ≡ offered name). inl (e ∙ ap offered (sym named))) (λ (e : old ≡ returned name). inr (e ∙ ap returned (sym named))) which in
-    told sheet slots id me v f (Then sheet slots id me v old 0 w) (Settled (step slots v old 0 none) me) (λ found m h. (known, state, refl, h.0, h.1)) (swapped sheet slots id me v old 0 w
+    Allows-weaken sheet slots id me v f (Then sheet slots id me v old 0 w) (Settled (step slots v old 0 none) me) (λ found m h. (known, state, refl, h.0, h.1)) (swapped sheet slots id me v old 0 w
     (λ s r at e.
     let word : ℕ = slice_index s.words v in
     let vote = r.votes v inside in
@@ -190,18 +187,18 @@ settles sheet slots id me v name old inside large room mine which =
     vote_step sheet s r id u w at v 0 inside (λ k other. (get_or-set_other u.voters v k 1 0 other, refl)) after refl refl refl (r.readings id u at)))
 
 -- the same by the state and its word, for the seat of the voter
-pub settles_by : (sheet : Setting) (slots id : ℕ) (me : M) (v : ℕ) (vote : Vote) (old new : ℕ) → v < sheet.voters → v < 64
+pub Settled-allowed_by_vote : (sheet : Setting) (slots id : ℕ) (me : Mine) (v : ℕ) (vote : Vote) (old new : ℕ) → v < sheet.voters → v < 64
     → IsSettledFrom vote (λ current. (me ≡ (voter_view v (Some current), [])) × IsCurrent (Some current) (2 ^ 40))
     → old ≡ word_of vote → new ≡ 0
     → Allows (Kept sheet) slots id me v (λ n. either (eqb n old) new n) (Settled (step slots v old new none) me)
-settles_by sheet slots id me v Free old new inside few known is_old is_new = absurd known
-settles_by sheet slots id me v (Held client grant) old new inside few known is_old is_new = absurd known
-settles_by sheet slots id me v (Offered client grant) old new inside few known is_old is_new =
+Settled-allowed_by_vote sheet slots id me v Free old new inside few known is_old is_new = absurd known
+Settled-allowed_by_vote sheet slots id me v (Held client grant) old new inside few known is_old is_new = absurd known
+Settled-allowed_by_vote sheet slots id me v (Offered client grant) old new inside few known is_old is_new =
     subst (λ (k : ℕ). Allows (Kept sheet) slots id me v (λ n. either (eqb n old) k n) (Settled (step slots v old k none) me)) (sym is_new)
-    (settles sheet slots id me v (name_of client grant) old inside (omega arith) (voter_room me v (Some (client, grant)) known.0 few) (voter_here me v (Some (client, grant)) known.0 few) (inl is_old))
-settles_by sheet slots id me v (Returned client grant) old new inside few known is_old is_new =
+    (Settled-allowed sheet slots id me v (name_of client grant) old inside (omega arith) (voter_room me v (Some (client, grant)) known.0 few) (voter_here me v (Some (client, grant)) known.0 few) (inl is_old))
+Settled-allowed_by_vote sheet slots id me v (Returned client grant) old new inside few known is_old is_new =
     subst (λ (k : ℕ). Allows (Kept sheet) slots id me v (λ n. either (eqb n old) k n) (Settled (step slots v old k none) me)) (sym is_new)
-    (settles sheet slots id me v (name_of client grant) old inside (omega arith) (voter_room me v (Some (client, grant)) known.0 few) (voter_here me v (Some (client, grant)) known.0 few) (inr is_old))
+    (Settled-allowed sheet slots id me v (name_of client grant) old inside (omega arith) (voter_room me v (Some (client, grant)) known.0 few) (voter_here me v (Some (client, grant)) known.0 few) (inr is_old))
 
 -- a reading stays where one more vote is held
 more_held : (q held : List ℕ) (v g : ℕ) → v < length held → g ≢ 0 → HoldsAll q held → HoldsAll q (set held v g)
@@ -214,10 +211,10 @@ reading_more : (sheet : Setting) (register : ℕ) (reading : Option (ℕ × ℕ)
 reading_more sheet register None u v g room some_grant h = tt
 reading_more sheet register (Some r) u v g room some_grant h = (h.0, more_held (quorum_at sheet.quorums r.0) u.held v g room some_grant h.1, h.2)
 
-pub takes : (sheet : Setting) (slots id : ℕ) (me : M) (v grant : ℕ) → v < sheet.voters → 1 ≤ grant → me.0.client < 64 → v < length me.0.held → slice_index me.0.held v ≡ 0
+pub Took-allowed : (sheet : Setting) (slots id : ℕ) (me : Mine) (v grant : ℕ) → v < sheet.voters → 1 ≤ grant → me.0.client < 64 → v < length me.0.held → slice_index me.0.held v ≡ 0
     → Allows (Kept sheet) slots id me v (λ n. either (eqb n (offered (name_of me.0.client grant))) (taken (name_of me.0.client grant)) n)
     (Took (step slots v (offered (name_of me.0.client grant)) (taken (name_of me.0.client grant)) none) me)
-takes sheet slots id me v grant inside large client room mine =
+Took-allowed sheet slots id me v grant inside large client room mine =
     let u = me.0 in
     let name : ℕ = name_of u.client grant in
     let w : View = record u { held = set u.held v (offered name / 256) } in
@@ -225,7 +222,7 @@ takes sheet slots id me v grant inside large client room mine =
     let now : slice_index w.held v ≡ grant = get_or-set_same u.held v (offered name / 256) 0 room ∙ is_grant in
     let f : ℕ → ℕ = λ n. either (eqb n (offered name)) (taken name) n in
     let named : name ≡ name_of u.client (offered name / 256) = ap (name_of u.client) (sym is_grant) in
-    told sheet slots id me v f (Then sheet slots id me v (offered name) (taken name) w) (Took (step slots v (offered name) (taken name) none) me) (λ found m h. (ap offered named, ap taken named, h.0, h.1)) (swapped sheet slots id me v (offered name) (taken name) w
+    Allows-weaken sheet slots id me v f (Then sheet slots id me v (offered name) (taken name) w) (Took (step slots v (offered name) (taken name) none) me) (λ found m h. (ap offered named, ap taken named, h.0, h.1)) (swapped sheet slots id me v (offered name) (taken name) w
     (λ s r at e.
     let word : ℕ = slice_index s.words v in
     let vote = r.votes v inside in
@@ -240,10 +237,10 @@ takes sheet slots id me v grant inside large client room mine =
     vote_step sheet s r id u w at v (taken name) inside (λ k other. (refl, ap (name_of u.client) (get_or-set_other u.held v k (offered name / 256) 0 other))) after refl refl refl
     (reading_more sheet (slice_index s.words sheet.voters) u.reading u v (offered name / 256) room (λ z. omega arith) (r.readings id u at))))
 
-pub gives_back : (sheet : Setting) (slots id : ℕ) (me : M) (v new : ℕ) → v < sheet.voters → me.0.client < 64 → v < length me.0.held → slice_index me.0.held v ≢ 0
+pub GaveBack-allowed : (sheet : Setting) (slots id : ℕ) (me : Mine) (v new : ℕ) → v < sheet.voters → me.0.client < 64 → v < length me.0.held → slice_index me.0.held v ≢ 0
     → new ≡ returned (name_of me.0.client (slice_index me.0.held v))
     → Allows (Kept sheet) slots id me v (λ _. new) (GaveBack (step slots v new 0 none) me)
-gives_back sheet slots id me v new inside client room mine which s r _ at _ =
+GaveBack-allowed sheet slots id me v new inside client room mine which s r _ at _ =
     let u = me.0 in
     let name : ℕ = name_of u.client (slice_index u.held v) in
     let w : View = record u { held = set u.held v 0; reading = None } in
@@ -267,11 +264,11 @@ gives_back sheet slots id me v new inside client room mine which s r _ at _ =
     )
 
 -- the same by the words
-pub takes_by : (sheet : Setting) (slots id : ℕ) (me : M) (v grant old new : ℕ) → v < sheet.voters → 1 ≤ grant → me.0.client < 64 → v < length me.0.held → slice_index me.0.held v ≡ 0
+pub Took-allowed_by_words : (sheet : Setting) (slots id : ℕ) (me : Mine) (v grant old new : ℕ) → v < sheet.voters → 1 ≤ grant → me.0.client < 64 → v < length me.0.held → slice_index me.0.held v ≡ 0
     → old ≡ offered (name_of me.0.client grant) → new ≡ taken (name_of me.0.client grant)
     → Allows (Kept sheet) slots id me v (λ n. either (eqb n old) new n) (Took (step slots v old new none) me)
-takes_by sheet slots id me v grant old new inside large client room mine is_old is_new =
+Took-allowed_by_words sheet slots id me v grant old new inside large client room mine is_old is_new =
     let name : ℕ = name_of me.0.client grant in
     subst (λ (k : ℕ). Allows (Kept sheet) slots id me v (λ n. either (eqb n k) new n) (Took (step slots v k new none) me)) (sym is_old)
     (subst (λ (k : ℕ). Allows (Kept sheet) slots id me v (λ n. either (eqb n (offered name)) k n) (Took (step slots v (offered name) k none) me)) (sym is_new)
-    (takes sheet slots id me v grant inside large client room mine))
+    (Took-allowed sheet slots id me v grant inside large client room mine))

@@ -5,9 +5,9 @@ use Rattle.quorum_set.specs.Coteries.{IsCoterie}
 use Rattle.certificate.specs.Certificates.{Weighted, IsCertificate, weights_fault, cycle_len, voter_total}
 
 -- a chain of tests answers nothing only where each test fails
-passed : {F : Type 0} (b : Bool) (e : F) (rest : Option F) → cond b (Some e) rest ≡ None → (b ≡ false) × (rest ≡ None)
-passed true e rest h = cc
-passed false e rest h = (refl, h)
+cond_Some-None : {F : Type 0} (b : Bool) (e : F) (rest : Option F) → cond b (Some e) rest ≡ None → (b ≡ false) × (rest ≡ None)
+cond_Some-None true e rest h = cc
+cond_Some-None false e rest h = (refl, h)
 
 none_of_four : {F : Type 0} (a b c d : Bool) (w x y z : F) → a ≡ false → b ≡ false → c ≡ false → d ≡ false
     → cond a (Some w) (cond b (Some x) (cond c (Some y) (cond d (Some z) None))) ≡ None
@@ -15,10 +15,10 @@ none_of_four a b c d w x y z ea eb ec ed = rw (ea, eb, ec, ed) refl
 
 pub IsCertificate-weights_fault : (w : Weighted) → IsCoterie w.system → weights_fault w ≡ None → IsCertificate w
 IsCertificate-weights_fault w coterie none =
-    let one = passed _ _ _ none in
-    let two = passed _ _ _ one.1 in
-    let three = passed _ _ _ two.1 in
-    let four = passed _ _ _ three.1 in
+    let one = cond_Some-None _ _ _ none in
+    let two = cond_Some-None _ _ _ one.1 in
+    let three = cond_Some-None _ _ _ two.1 in
+    let four = cond_Some-None _ _ _ three.1 in
     let lengths = and_parts _ _ (not-false _ one.0) in
     let small = or_parts _ _ two.0 in
     let some = or_parts _ _ three.0 in

@@ -75,8 +75,8 @@ weighed-greatest s b list e =
     rw all at bounded
 
 -- N * t ≤ B * busiest and m * B = t * D give N * m ≤ busiest * D
-crossed : (n t b top m d : ℕ) → 0 < b → n * t ≤ b * top → m * b ≡ t * d → n * m ≤ top * d
-crossed n t b top m d some low equal =
+mul-le_cross : (n t b top m d : ℕ) → 0 < b → n * t ≤ b * top → m * b ≡ t * d → n * m ≤ top * d
+mul-le_cross n t b top m d some low equal =
     let scaled : n * t * d ≤ b * top * d = mul-le-mul_right d low in
     let left : n * m * b ≡ n * t * d = mul_assoc n m b ∙ ap (λ x. n * x) equal ∙ sym (mul_assoc n t d) in
     let right : b * top * d ≡ top * d * b = mul_assoc b top d ∙ mul_comm b (top * d) in
@@ -87,4 +87,4 @@ pub IsOptimal-certificate : (w : Weighted) → IsCertificate w → IsOptimal w
 IsOptimal-certificate w h list small =
     let low = least-weighed w.system w.voter_weights list h.coterie small in
     let high = weighed-greatest w.system w.voter_weights list h.voters in
-    crossed (length list) (lightest_quorum w) (voter_total w) (busiest_of w.system list) (busiest_count w) (cycle_len w) h.some_voter (omega (arith, low, high)) h.balanced
+    mul-le_cross (length list) (lightest_quorum w) (voter_total w) (busiest_of w.system list) (busiest_count w) (cycle_len w) h.some_voter (omega (arith, low, high)) h.balanced

@@ -29,8 +29,8 @@ ended_Ok true d x y e = (refl, cc)
 ended_Ok false d x y e = cc
 
 -- what is told, where nothing follows
-abbrev told : ℕ × ℕ → ℕ → List ℕ → List ℕ × List ℕ → Result Telling PlanFault
-told l n q v = cond (eqb (length v.1) 0) (Ok (record { load = l; cycle = n; quorum_weights = q; voter_weights = v.0 })) (Err (BadText 6))
+abbrev telling_unless_more : ℕ × ℕ → ℕ → List ℕ → List ℕ × List ℕ → Result Telling PlanFault
+telling_unless_more l n q v = cond (eqb (length v.1) 0) (Ok (record { load = l; cycle = n; quorum_weights = q; voter_weights = v.0 })) (Err (BadText 6))
 
 -- a line that is read, before lines that are spelled so
 line_before : {X : Type 0} (k : ℕ) (read : List ℕ → Option X) (spell : X → List ℕ) (text rest : List ℕ) (x : X) → ((line : List ℕ) (y : X) → read line ≡ Some y → line ≡ spell y)
@@ -41,7 +41,7 @@ line_before k read spell text rest x is_so e spelled rest_is =
 
 -- reading from the second line on, and so on
 abbrev from_voters : ℕ × ℕ → ℕ → List ℕ → List ℕ → Result Telling PlanFault
-from_voters l n q text = line_at 5 (read_weights (codes "voter ")) text >>= λ voters. told l n q voters
+from_voters l n q text = line_at 5 (read_weights (codes "voter ")) text >>= λ voters. telling_unless_more l n q voters
 
 abbrev from_quorums : ℕ × ℕ → ℕ → List ℕ → Result Telling PlanFault
 from_quorums l n text = line_at 4 (read_weights (codes "quorum ")) text >>= λ quorums. from_voters l n quorums.0 quorums.1
@@ -54,7 +54,7 @@ from_load text = line_at 2 read_load text >>= λ load. from_cycle load.0 load.1
 
 voters-Ok : (l : ℕ × ℕ) (n : ℕ) (q text : List ℕ) (t : Telling) → from_voters l n q text ≡ Ok t → (text ≡ text_of_lines (weights_line (codes "voter ") t.voter_weights ∷ [])) × (l ≡ t.load) × (n ≡ t.cycle) × (q ≡ t.quorum_weights)
 voters-Ok l n q text t e =
-    let line = bind_Ok (line_at 5 (read_weights (codes "voter ")) text) (told l n q) t e in
+    let line = bind_Ok (line_at 5 (read_weights (codes "voter ")) text) (telling_unless_more l n q) t e in
     let made : Telling = record { load = l; cycle = n; quorum_weights = q; voter_weights = line.0.0 } in
     let end = ended_Ok (eqb (length line.0.1) 0) (BadText 6) made t line.2 in
     let is : text ≡ weights_line (codes "voter ") line.0.0 ++ 10 ∷ [] =
@@ -127,7 +127,7 @@ telling-again t more h =
     ∙ ap (λ r. r >>= λ load. from_cycle load.0 load.1) (line_at-append 2 read_load (load_line t.load) rest2 t.load (load-again t.load h.left h.right) (Lacks-load t.load h.left h.right))
     ∙ ap (λ r. r >>= λ cycle. from_quorums t.load cycle.0 cycle.1) (line_at-append 3 read_cycle (cycle_line t.cycle) rest3 t.cycle (cycle-again t.cycle h.cycle) (Lacks-cycle t.cycle h.cycle))
     ∙ ap (λ r. r >>= λ q. from_voters t.load t.cycle q.0 q.1) (line_at-append 4 (read_weights (codes "quorum ")) quorums rest4 t.quorum_weights (weights-again (codes "quorum ") t.quorum_weights h.some_quorum h.quorums) (Lacks-weights (codes "quorum ") t.quorum_weights (search rules) h.quorums))
-    ∙ ap (λ r. r >>= λ v. told t.load t.cycle t.quorum_weights v) (line_at-append 5 (read_weights (codes "voter ")) voters more t.voter_weights (weights-again (codes "voter ") t.voter_weights h.some_voter h.voters) (Lacks-weights (codes "voter ") t.voter_weights (search rules) h.voters))
+    ∙ ap (λ r. r >>= λ v. telling_unless_more t.load t.cycle t.quorum_weights v) (line_at-append 5 (read_weights (codes "voter ")) voters more t.voter_weights (weights-again (codes "voter ") t.voter_weights h.some_voter h.voters) (Lacks-weights (codes "voter ") t.voter_weights (search rules) h.voters))
 
 -- no fault, so the value
 unless_Ok : (o : Option PlanFault) (w p : Weighted) → unless_fault o w ≡ Ok p → (o ≡ None) × (w ≡ p)
@@ -138,14 +138,14 @@ or_None : (o p : Option PlanFault) → option_or o p ≡ None → (o ≡ None) �
 or_None None p e = (refl, e)
 or_None (Some d) p e = cc
 
-passed : (b : Bool) (e : PlanFault) (rest : Option PlanFault) → cond b (Some e) rest ≡ None → (b ≡ false) × (rest ≡ None)
-passed true e rest h = cc
-passed false e rest h = (refl, h)
+cond_Some-None : (b : Bool) (e : PlanFault) (rest : Option PlanFault) → cond b (Some e) rest ≡ None → (b ≡ false) × (rest ≡ None)
+cond_Some-None true e rest h = cc
+cond_Some-None false e rest h = (refl, h)
 
 same_lines : (w : Weighted) (t : Telling) → telling_fault w t ≡ None → (load_line t.load ≡ load_line (load_of w)) × (cycle_line t.cycle ≡ cycle_line (cycle_len w))
 same_lines w t none =
-    let one = passed _ _ _ none in
-    let two = passed _ _ _ one.1 in
+    let one = cond_Some-None _ _ _ none in
+    let two = cond_Some-None _ _ _ one.1 in
     let load = and_parts _ _ (not-false _ one.0) in
     let left : t.load.0 ≡ (load_of w).0 = sym (eqb-true _ _ load.0) in
     let right : t.load.1 ≡ (load_of w).1 = sym (eqb-true _ _ load.1) in

@@ -17,14 +17,14 @@ use Rattle.cluster.specs.Drives.{EndsWork, HasMore, HasServed, IsBack, IsBackBy,
 
 -- More of a list
 
-pub more_and_more : {A : Type 0} (m n : ℕ) (xs ys zs : List A) → HasMore m xs ys → HasMore n ys zs → HasMore (m + n) xs zs
-more_and_more m n xs ys zs a b = (a.0 ++ b.0, b.1 ∙ ap (λ l. l ++ b.0) a.1 ∙ append_assoc xs a.0 b.0, length-append a.0 b.0 ∙ (λ i. a.2 i + b.2 i))
+pub HasMore-then : {A : Type 0} (m n : ℕ) (xs ys zs : List A) → HasMore m xs ys → HasMore n ys zs → HasMore (m + n) xs zs
+HasMore-then m n xs ys zs a b = (a.0 ++ b.0, b.1 ∙ ap (λ l. l ++ b.0) a.1 ∙ append_assoc xs a.0 b.0, length-append a.0 b.0 ∙ (λ i. a.2 i + b.2 i))
 
 -- One pass
 
 -- a ticket was drawn, and then nothing
-pub drew : (a b c : MemberState) (r : Receipt) → 0 < a.clerk.rest → b.requester.id ≡ a.requester.id → b.clerk ≡ with_receipt a.clerk r → b.seat ≡ a.seat → KeepsWork b c → Worked 1 0 a c
-drew a b c r some client clerk seat k = record {
+pub Worked-draw : (a b c : MemberState) (r : Receipt) → 0 < a.clerk.rest → b.requester.id ≡ a.requester.id → b.clerk ≡ with_receipt a.clerk r → b.seat ≡ a.seat → KeepsWork b c → Worked 1 0 a c
+Worked-draw a b c r some client clerk seat k = record {
   client = k.client ∙ client;
   receipts = (r ∷ [], ap (λ (x : ClerkState). x.receipts) (k.clerk ∙ clerk), refl);
   rest = omega (arith, some, ap (λ (x : ClerkState). x.rest) (k.clerk ∙ clerk));
@@ -44,12 +44,12 @@ refused_pass a b c (ends.TurnsSpent k) some w inside r = absurd r
 
 -- All passes
 
-then : (m n k l : ℕ) (a b c : MemberState) → Worked m n a b → Worked k l b c → Worked (m + k) (n + l) a c
-then m n k l a b c first second = record {
+Worked-then : (m n k l : ℕ) (a b c : MemberState) → Worked m n a b → Worked k l b c → Worked (m + k) (n + l) a c
+Worked-then m n k l a b c first second = record {
   client = second.client ∙ first.client;
-  receipts = more_and_more m k a.clerk.receipts b.clerk.receipts c.clerk.receipts first.receipts second.receipts;
+  receipts = HasMore-then m k a.clerk.receipts b.clerk.receipts c.clerk.receipts first.receipts second.receipts;
   rest = omega (arith, first.rest, second.rest);
-  passes = more_and_more n l a.seat.passes b.seat.passes c.seat.passes first.passes second.passes;
+  passes = HasMore-then n l a.seat.passes b.seat.passes c.seat.passes first.passes second.passes;
 }
 
 -- what ends the work after so many passes more
@@ -68,9 +68,9 @@ later_ends client tickets rest passed ends.NotInside more h = h
 later_ends client tickets rest passed (ends.TurnsSpent k) more h = (h.0, omega (arith, more, h.1))
 
 -- a pass that was not made
-pub stopped : (n : ℕ) (a b c d : MemberState) (fault : ClusterFault) → HasServed n a b → Stops b c fault → KeepsWork c d → Worked (n + wasted fault) n a (record d { fault = Some fault })
-stopped n a b c d fault r stops kept =
-    subst (λ k. Worked (n + wasted fault) k a (record d { fault = Some fault })) (add-zero n) (then n n (wasted fault) 0 a b (record d { fault = Some fault }) r.worked last)
+pub Worked-stopped : (n : ℕ) (a b c d : MemberState) (fault : ClusterFault) → HasServed n a b → Stops b c fault → KeepsWork c d → Worked (n + wasted fault) n a (record d { fault = Some fault })
+Worked-stopped n a b c d fault r stops kept =
+    subst (λ k. Worked (n + wasted fault) k a (record d { fault = Some fault })) (add-zero n) (Worked-then n n (wasted fault) 0 a b (record d { fault = Some fault }) r.worked last)
   where
     last : Worked (wasted fault) 0 b (record d { fault = Some fault })
     last = record {
@@ -80,12 +80,12 @@ stopped n a b c d fault r stops kept =
       passes = subst (λ l. HasMore 0 b.seat.passes l) (sym kept.passes) stops.0.passes;
     }
 
-pub ended : (passes n : ℕ) (a b c d e : MemberState) (fault : ClusterFault) → HasServed n a b → n < passes → Stops b c fault → KeepsWork c d → is_idle d.requester.phase ≡ true → e ≡ record d { fault = Some fault } → IsBack passes a e
-ended passes n a b c d e fault r less stops kept idle told =
+pub IsBack-stopped : (passes n : ℕ) (a b c d e : MemberState) (fault : ClusterFault) → HasServed n a b → n < passes → Stops b c fault → KeepsWork c d → is_idle d.requester.phase ≡ true → e ≡ record d { fault = Some fault } → IsBack passes a e
+IsBack-stopped passes n a b c d e fault r less stops kept idle told =
     subst (IsBack passes a) (sym told) (record {
       passed = n;
       fewer = less;
-      worked = stopped n a b c d fault r stops kept;
+      worked = Worked-stopped n a b c d fault r stops kept;
       idle = idle;
       ends = subst (λ k. EndsWork k a.clerk.rest n fault) (sym (kept.client ∙ stops.0.client)) (later_ends b.requester.id a.clerk.rest b.clerk.rest n fault r.worked.rest stops.1);
     })

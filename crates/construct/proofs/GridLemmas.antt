@@ -29,30 +29,30 @@ other_than n k two =
     ]
 
 -- crosses at different places: a voter of the one that is not in the other
-leaves : (r c i k x y : ℕ) → 2 ≤ r → 2 ≤ c → r * c ≤ 64 → i < r → k < c → (i ≡ x → ⊥) ⊎ (k ≡ y → ⊥)
+row_with_column-has_other : (r c i k x y : ℕ) → 2 ≤ r → 2 ≤ c → r * c ≤ 64 → i < r → k < c → (i ≡ x → ⊥) ⊎ (k ≡ y → ⊥)
     → (v : ℕ) × (has (row_with_column r c i k) v ≡ true) × (has (row_with_column r c x y) v ≡ false)
-leaves r c i k x y rows columns few row column (inl differ) =
+row_with_column-has_other r c i k x y rows columns few row column (inl differ) =
     let (b, below, off) = other_than c y columns in (
       i * c + b,
       has-cell r c i k i b few row below ∙ or_left (eqb i i) (eqb b k) (eq-eqb i i refl),
       has-cell r c x y i b few row below ∙ or_from (eqb i x) (eqb b y) (ne_eqb i x differ) (ne_eqb b y off),
     )
-leaves r c i k x y rows columns few row column (inr differ) =
+row_with_column-has_other r c i k x y rows columns few row column (inr differ) =
     let (a, below, off) = other_than r x rows in (
       a * c + k,
       has-cell r c i k a k few below column ∙ or_right (eqb a i) (eqb k k) (eq-eqb k k refl),
       has-cell r c x y a k few below column ∙ or_from (eqb a x) (eqb k y) (ne_eqb a x off) (ne_eqb k y differ),
     )
 
-flip : (i k x y : ℕ) → (i ≡ x → ⊥) ⊎ (k ≡ y → ⊥) → (x ≡ i → ⊥) ⊎ (y ≡ k → ⊥)
-flip i k x y (inl differ) = inl (λ e. differ (sym e))
-flip i k x y (inr differ) = inr (λ e. differ (sym e))
+differ-sym : (i k x y : ℕ) → (i ≡ x → ⊥) ⊎ (k ≡ y → ⊥) → (x ≡ i → ⊥) ⊎ (y ≡ k → ⊥)
+differ-sym i k x y (inl differ) = inl (λ e. differ (sym e))
+differ-sym i k x y (inr differ) = inr (λ e. differ (sym e))
 
-crossing : (r c i k x y : ℕ) → 2 ≤ r → 2 ≤ c → r * c ≤ 64 → i < r → k < c → x < r → y < c → (i ≡ x → ⊥) ⊎ (k ≡ y → ⊥)
+IsCrossing-row_with_column : (r c i k x y : ℕ) → 2 ≤ r → 2 ≤ c → r * c ≤ 64 → i < r → k < c → x < r → y < c → (i ≡ x → ⊥) ⊎ (k ≡ y → ⊥)
     → IsCrossing (row_with_column r c i k) (row_with_column r c x y)
-crossing r c i k x y rows columns few row column row2 column2 differ =
-    let (v, v_in, v_out) = leaves r c i k x y rows columns few row column differ in
-    let (w, w_in, w_out) = leaves r c x y i k rows columns few row2 column2 (flip i k x y differ) in
+IsCrossing-row_with_column r c i k x y rows columns few row column row2 column2 differ =
+    let (v, v_in, v_out) = row_with_column-has_other r c i k x y rows columns few row column differ in
+    let (w, w_in, w_out) = row_with_column-has_other r c x y i k rows columns few row2 column2 (differ-sym i k x y differ) in
     IsCrossing-from (row_with_column r c i k) (row_with_column r c x y) (i * c + y) v w
     (has-cell r c i k i y few row column2 ∙ or_left (eqb i i) (eqb y k) (eq-eqb i i refl))
     (has-cell r c x y i y few row column2 ∙ or_right (eqb i x) (eqb y y) (eq-eqb y y refl))
@@ -82,7 +82,7 @@ IsCoterie-grid r c rows columns few =
     (λ v small passes. ltb-true v (r * c) (and_parts (ltb v (r * c)) (eqb (v / c) (j / c) || eqb (v % c) (j % c)) passes).0)))
     (AllPairs-range IsCrossing quorum_at 0 (r * c) (λ j l from before lt.
     let some : 0 < c = omega arith in
-    crossing r c (j / c) (j % c) (l / c) (l % c) rows columns few (div_below j c r some (omega arith)) (mod_below j c some)
+    IsCrossing-row_with_column r c (j / c) (j % c) (l / c) (l % c) rows columns few (div_below j c r some (omega arith)) (mod_below j c some)
     (div_below l c r some (omega arith)) (mod_below l c some) (places_differ c j l before)))
 
 pub length-grid_quorums : (r c : ℕ) → length (grid_quorums r c) ≡ r * c

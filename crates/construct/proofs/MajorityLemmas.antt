@@ -36,27 +36,27 @@ IsChoice-without low n k s choice = record {
   long = choice.long;
 }
 
-pub choices : (low n k : ℕ) → All (IsChoice low n k) (sets_from low n k)
+pub IsChoice-sets_from : (low n k : ℕ) → All (IsChoice low n k) (sets_from low n k)
 unfolding sets_from
-choices low n zero = All-cons (IsChoice low n 0) [] [] (record { ascends = tt; long = refl }) (All-nil (IsChoice low n 0))
-choices low zero (suc k) = All-nil (IsChoice low 0 (suc k))
-choices low (suc n) (suc k) =
+IsChoice-sets_from low n zero = All-cons (IsChoice low n 0) [] [] (record { ascends = tt; long = refl }) (All-nil (IsChoice low n 0))
+IsChoice-sets_from low zero (suc k) = All-nil (IsChoice low 0 (suc k))
+IsChoice-sets_from low (suc n) (suc k) =
     All-append (IsChoice low (suc n) (suc k)) (map (λ s. low ∷ s) (sets_from (low + 1) n k)) (sets_from (low + 1) n (suc k))
-    (All-map (IsChoice low (suc n) (suc k)) (λ s. low ∷ s) (sets_from (low + 1) n k) (λ j d lt. IsChoice-with low n k _ (choices (low + 1) n k j d lt)))
-    (λ j d lt. IsChoice-without low n (suc k) _ (choices (low + 1) n (suc k) j d lt))
+    (All-map (IsChoice low (suc n) (suc k)) (λ s. low ∷ s) (sets_from (low + 1) n k) (λ j d lt. IsChoice-with low n k _ (IsChoice-sets_from (low + 1) n k j d lt)))
+    (λ j d lt. IsChoice-without low n (suc k) _ (IsChoice-sets_from (low + 1) n (suc k) j d lt))
 
 -- each such list is among the sets
 Contains-map : (f : List ℕ → List ℕ) (xs : List (List ℕ)) (s : List ℕ) → Contains xs s → Contains (map f xs) (f s)
 Contains-map f xs s (k, lt, at) = (k, omega (arith, length-map xs f), get_or-map f xs k s (f s) lt ∙ ap f at)
 
-pub choices-all : (low n k : ℕ) (s : List ℕ) → Ascends low (low + n) s → length s ≡ k → Contains (sets_from low n k) s
+pub Contains-sets_from : (low n k : ℕ) (s : List ℕ) → Ascends low (low + n) s → length s ≡ k → Contains (sets_from low n k) s
 unfolding sets_from
-choices-all low n zero [] h long = (0, omega arith, refl)
-choices-all low n zero (x ∷ xs) h long = absurd (omega arith)
-choices-all low zero (suc k) [] h long = absurd (omega arith)
-choices-all low zero (suc k) (x ∷ xs) h long = absurd (omega (arith, h.0, h.1))
-choices-all low (suc n) (suc k) [] h long = absurd (omega arith)
-choices-all low (suc n) (suc k) (x ∷ xs) h long =
+Contains-sets_from low n zero [] h long = (0, omega arith, refl)
+Contains-sets_from low n zero (x ∷ xs) h long = absurd (omega arith)
+Contains-sets_from low zero (suc k) [] h long = absurd (omega arith)
+Contains-sets_from low zero (suc k) (x ∷ xs) h long = absurd (omega (arith, h.0, h.1))
+Contains-sets_from low (suc n) (suc k) [] h long = absurd (omega arith)
+Contains-sets_from low (suc n) (suc k) (x ∷ xs) h long =
     let up : low + suc n ≡ low + 1 + n = omega arith in
     let with_low = map (λ s. low ∷ s) (sets_from (low + 1) n k) in
     let without = sets_from (low + 1) n (suc k) in
@@ -64,10 +64,10 @@ choices-all low (suc n) (suc k) (x ∷ xs) h long =
       | inl first ↦
           let rest : Ascends (low + 1) (low + 1 + n) xs = Ascends-lower (x + 1) (low + 1) (low + 1 + n) xs (omega arith) (rw up at h.2) in
           Contains-append_left with_low without (x ∷ xs)
-          (rw first (Contains-map (λ s. low ∷ s) (sets_from (low + 1) n k) xs (choices-all (low + 1) n k xs rest (omega arith))))
+          (rw first (Contains-map (λ s. low ∷ s) (sets_from (low + 1) n k) xs (Contains-sets_from (low + 1) n k xs rest (omega arith))))
       | inr off ↦
           Contains-append_right with_low without (x ∷ xs)
-          (choices-all (low + 1) n (suc k) (x ∷ xs) (rw up at (Ascends-after low (low + suc n) x xs off h)) long)
+          (Contains-sets_from (low + 1) n (suc k) (x ∷ xs) (rw up at (Ascends-after low (low + suc n) x xs off h)) long)
     ]
 
 pub length-sets_from : (low n k : ℕ) → length (sets_from low n k) ≡ choose n k
@@ -99,11 +99,11 @@ has_later : (x : ℕ) (xs : List ℕ) (v : ℕ) → has xs v ≡ true → has (x
 has_later x xs v there = or_right (eqb x v) (has xs v) there
 
 -- two sets with more members together than there are numbers meet
-common : (n low : ℕ) (s t : List ℕ) → Ascends low (low + n) s → Ascends low (low + n) t → n < length s + length t → (v : ℕ) × (has s v ≡ true) × (has t v ≡ true)
-common n low [] t hs ht more = absurd (omega (arith, length-Ascends low (low + n) t (omega arith) ht))
-common n low (x ∷ xs) [] hs ht more = absurd (omega (arith, length-Ascends low (low + n) (x ∷ xs) (omega arith) hs))
-common zero low (x ∷ xs) (y ∷ ys) hs ht more = absurd (omega (arith, hs.0, hs.1))
-common (suc n) low (x ∷ xs) (y ∷ ys) hs ht more =
+Ascends-common : (n low : ℕ) (s t : List ℕ) → Ascends low (low + n) s → Ascends low (low + n) t → n < length s + length t → (v : ℕ) × (has s v ≡ true) × (has t v ≡ true)
+Ascends-common n low [] t hs ht more = absurd (omega (arith, length-Ascends low (low + n) t (omega arith) ht))
+Ascends-common n low (x ∷ xs) [] hs ht more = absurd (omega (arith, length-Ascends low (low + n) (x ∷ xs) (omega arith) hs))
+Ascends-common zero low (x ∷ xs) (y ∷ ys) hs ht more = absurd (omega (arith, hs.0, hs.1))
+Ascends-common (suc n) low (x ∷ xs) (y ∷ ys) hs ht more =
     let up : low + suc n ≡ low + 1 + n = omega arith in
     let rest_s : Ascends (low + 1) (low + 1 + n) xs =
     Ascends-lower (x + 1) (low + 1) (low + 1 + n) xs (omega (arith, hs.0)) (rw up at hs.2) in
@@ -114,26 +114,26 @@ common (suc n) low (x ∷ xs) (y ∷ ys) hs ht more =
           elim (cases_eq y low) [
             | inl second ↦ (low, rw first (has-head low xs), rw second (has-head low ys))
             | inr later ↦
-                let (v, v_s, v_t) = common n (low + 1) xs (y ∷ ys) rest_s (rw up at (Ascends-after low (low + suc n) y ys later ht)) (omega arith) in
+                let (v, v_s, v_t) = Ascends-common n (low + 1) xs (y ∷ ys) rest_s (rw up at (Ascends-after low (low + suc n) y ys later ht)) (omega arith) in
                 (v, has_later x xs v v_s, v_t)
           ]
       | inr off ↦
           elim (cases_eq y low) [
             | inl second ↦
-                let (v, v_s, v_t) = common n (low + 1) (x ∷ xs) ys (rw up at (Ascends-after low (low + suc n) x xs off hs)) rest_t (omega arith) in
+                let (v, v_s, v_t) = Ascends-common n (low + 1) (x ∷ xs) ys (rw up at (Ascends-after low (low + suc n) x xs off hs)) rest_t (omega arith) in
                 (v, v_s, has_later y ys v v_t)
             | inr later ↦
-                common n (low + 1) (x ∷ xs) (y ∷ ys) (rw up at (Ascends-after low (low + suc n) x xs off hs))
+                Ascends-common n (low + 1) (x ∷ xs) (y ∷ ys) (rw up at (Ascends-after low (low + suc n) x xs off hs))
                 (rw up at (Ascends-after low (low + suc n) y ys later ht)) (omega arith)
           ]
     ]
 
 -- a set with more members has one that the other has not
-extra : (n low : ℕ) (s t : List ℕ) → Ascends low (low + n) s → Ascends low (low + n) t → length s < length t → (v : ℕ) × (has t v ≡ true) × (has s v ≡ false)
-extra n low s [] hs ht more = absurd (omega arith)
-extra n low [] (y ∷ ys) hs ht more = (y, has-head y ys, refl)
-extra zero low (x ∷ xs) (y ∷ ys) hs ht more = absurd (omega (arith, hs.0, hs.1))
-extra (suc n) low (x ∷ xs) (y ∷ ys) hs ht more =
+Ascends-longer_has_other : (n low : ℕ) (s t : List ℕ) → Ascends low (low + n) s → Ascends low (low + n) t → length s < length t → (v : ℕ) × (has t v ≡ true) × (has s v ≡ false)
+Ascends-longer_has_other n low s [] hs ht more = absurd (omega arith)
+Ascends-longer_has_other n low [] (y ∷ ys) hs ht more = (y, has-head y ys, refl)
+Ascends-longer_has_other zero low (x ∷ xs) (y ∷ ys) hs ht more = absurd (omega (arith, hs.0, hs.1))
+Ascends-longer_has_other (suc n) low (x ∷ xs) (y ∷ ys) hs ht more =
     let up : low + suc n ≡ low + 1 + n = omega arith in
     let rest_s : Ascends (low + 1) (low + 1 + n) xs =
     Ascends-lower (x + 1) (low + 1) (low + 1 + n) xs (omega (arith, hs.0)) (rw up at hs.2) in
@@ -143,12 +143,12 @@ extra (suc n) low (x ∷ xs) (y ∷ ys) hs ht more =
       | inl first ↦
           elim (cases_eq y low) [
             | inl second ↦
-                let (v, v_t, v_s) = extra n (low + 1) xs ys rest_s rest_t (omega arith) in
+                let (v, v_t, v_s) = Ascends-longer_has_other n (low + 1) xs ys rest_s rest_t (omega arith) in
                 let after = (has_from (low + 1) (low + 1 + n) ys v rest_t v_t).0 in
                 (v, has_later y ys v v_t, has-tail x xs v (λ e. omega arith) ∙ v_s)
             | inr later ↦
                 let whole : Ascends (low + 1) (low + 1 + n) (y ∷ ys) = rw up at (Ascends-after low (low + suc n) y ys later ht) in
-                let (v, v_t, v_s) = extra n (low + 1) xs (y ∷ ys) rest_s whole (omega arith) in
+                let (v, v_t, v_s) = Ascends-longer_has_other n (low + 1) xs (y ∷ ys) rest_s whole (omega arith) in
                 let after = (has_from (low + 1) (low + 1 + n) (y ∷ ys) v whole v_t).0 in
                 (v, v_t, has-tail x xs v (λ e. omega arith) ∙ v_s)
           ]
@@ -157,7 +157,7 @@ extra (suc n) low (x ∷ xs) (y ∷ ys) hs ht more =
             | inl second ↦
                 (y, has-head y ys, has-below (low + 1) (low + suc n) (x ∷ xs) y (Ascends-after low (low + suc n) x xs off hs) (omega arith))
             | inr later ↦
-                extra n (low + 1) (x ∷ xs) (y ∷ ys) (rw up at (Ascends-after low (low + suc n) x xs off hs))
+                Ascends-longer_has_other n (low + 1) (x ∷ xs) (y ∷ ys) (rw up at (Ascends-after low (low + suc n) x xs off hs))
                 (rw up at (Ascends-after low (low + suc n) y ys later ht)) (omega arith)
           ]
     ]
@@ -179,7 +179,7 @@ apart_with low n k s t a b apart =
 
 apart_without : (low n k : ℕ) (s t : List ℕ) → IsChoice (low + 1) n k s → IsChoice (low + 1) n (suc k) t → IsApart (low ∷ s) t
 apart_without low n k s t a b =
-    let (v, v_t, v_s) = extra n (low + 1) s t a.ascends b.ascends (omega (arith, a.long, b.long)) in
+    let (v, v_t, v_s) = Ascends-longer_has_other n (low + 1) s t a.ascends b.ascends (omega (arith, a.long, b.long)) in
     let above = (has_from (low + 1) (low + 1 + n) t v b.ascends v_t).0 in record {
       left = (low, has-head low s, has-below (low + 1) (low + 1 + n) t low b.ascends (omega arith));
       right = (v, v_t, has-tail low s v (λ e. omega arith) ∙ v_s);
@@ -194,11 +194,11 @@ apart_choices low (suc n) (suc k) =
     let without = sets_from (low + 1) n (suc k) in
     AllPairs-append IsApart (map (λ s. low ∷ s) with_low) without
     (AllPairs-map IsApart (λ s. low ∷ s) with_low (λ a b d before lt.
-    apart_with low n k (get_or with_low a d) (get_or with_low b d) (choices (low + 1) n k a d (omega arith)) (choices (low + 1) n k b d lt)
+    apart_with low n k (get_or with_low a d) (get_or with_low b d) (IsChoice-sets_from (low + 1) n k a d (omega arith)) (IsChoice-sets_from (low + 1) n k b d lt)
     (apart_choices (low + 1) n k a b d before lt)))
     (apart_choices (low + 1) n (suc k))
     (All-map (λ s. All (IsApart s) without) (λ s. low ∷ s) with_low (λ a d la.
-    λ b e lb. apart_without low n k (get_or with_low a d) (get_or without b e) (choices (low + 1) n k a d la) (choices (low + 1) n (suc k) b e lb)))
+    λ b e lb. apart_without low n k (get_or with_low a d) (get_or without b e) (IsChoice-sets_from (low + 1) n k a d la) (IsChoice-sets_from (low + 1) n (suc k) b e lb)))
 
 -- there are not too many
 few_majorities : (n : ℕ) → n < 15 → choose n (n / 2 + 1) ≤ 4096
@@ -234,12 +234,12 @@ pub IsCoterie-majority : (n : ℕ) → 0 < n → n ≤ 14 → IsCoterie (majorit
 IsCoterie-majority n some few =
     let k = n / 2 + 1 in
     let list = majority_quorums n in
-    let all = choices 0 n k in
+    let all = IsChoice-sets_from 0 n k in
     IsCoterie-from n list some (omega arith) (some_sets 0 n k (omega arith)) (omega (arith, length-sets_from 0 n k, few_majorities n (omega arith)))
     (λ j d lt. IsQuorum-choice n (n / 2) (get_or list j d) (omega arith) (all j d lt))
     (λ a b d before lt.
     let first = all a d (omega arith) in
     let second = all b d lt in
-    let (v, v_s, v_t) = common n 0 (get_or list a d) (get_or list b d) first.ascends second.ascends (omega (arith, first.long, second.long)) in
+    let (v, v_s, v_t) = Ascends-common n 0 (get_or list a d) (get_or list b d) first.ascends second.ascends (omega (arith, first.long, second.long)) in
     let apart = apart_choices 0 n k a b d before lt in
     IsCrossing-from (get_or list a d) (get_or list b d) v apart.left.0 apart.right.0 v_s v_t apart.left.1 apart.left.2 apart.right.1 apart.right.2)

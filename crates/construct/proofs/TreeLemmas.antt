@@ -15,8 +15,8 @@ use Rattle.construct.proofs.SetLemmas.{has-failed, has-passed}
 use Rattle.construct.proofs.Quorums.{IsQuorum, IsCrossing, IsCoterie-from, IsCrossing-from, not_empty-from, All-members, AllPairs-append}
 
 -- the nodes below both children have room where those below the node have
-rooms : (k i m : ℕ) → (i + 2) * 2 ^ suc k ≤ m → ((2 * i + 1 + 2) * 2 ^ k ≤ m) × ((2 * i + 2 + 2) * 2 ^ k ≤ m) × (2 * i + 4 ≤ m)
-rooms k i m room =
+room-of_children : (k i m : ℕ) → (i + 2) * 2 ^ suc k ≤ m → ((2 * i + 1 + 2) * 2 ^ k ≤ m) × ((2 * i + 2 + 2) * 2 ^ k ≤ m) × (2 * i + 4 ≤ m)
+room-of_children k i m room =
     let twice : 2 ^ suc k ≡ 2 ^ k * 2 = pow-suc 2 k in
     let whole : (i + 2) * (2 ^ k * 2) ≤ m = rw twice at room in
     let some = pow_pos k in
@@ -27,7 +27,7 @@ pub child_rooms : (h i m : ℕ) → (h ≡ 0 → ⊥) → (i + 2) * 2 ^ h ≤ m 
 child_rooms zero i m some room = absurd (some refl)
 child_rooms (suc k) i m some room =
     let less : k ≡ suc k - 1 = omega arith in
-    let found = rooms k i m room in
+    let found = room-of_children k i m room in
     rw (sym less) found
 
 pub quorums_under-step : (h i : ℕ) → (h ≡ 0 → ⊥) → quorums_under h i ≡ node_quorums i (quorums_under (h - 1) (2 * i + 1)) (quorums_under (h - 1) (2 * i + 2))
@@ -92,8 +92,8 @@ IsUnder-child h i c v which below =
     }
 
 -- no node is under both children
-apart : (h k i v : ℕ) → IsUnder h (2 * i + 1) v → IsUnder k (2 * i + 2) v → ⊥
-apart h k i v left right =
+IsUnder-not_both : (h k i v : ℕ) → IsUnder h (2 * i + 1) v → IsUnder k (2 * i + 2) v → ⊥
+IsUnder-not_both h k i v left right =
     let d = left.depth in
     let e = right.depth in
     elim (cases_lt e d) [
@@ -136,8 +136,8 @@ has_below q v set there =
       | inr ge ↦ absurd (true≢false (sym there ∙ has-above 0 64 q v set ge))
     ]
 
-missing : (q : List ℕ) (v : ℕ) → (has q v ≡ true → ⊥) → has q v ≡ false
-missing q v absent = false_from_ne_true (has q v) absent
+has-false : (q : List ℕ) (v : ℕ) → (has q v ≡ true → ⊥) → has q v ≡ false
+has-false q v absent = false_from_ne_true (has q v) absent
 
 with_root : (i : ℕ) (s : List ℕ) → i < 64 → has (with_node i s) i ≡ true
 with_root i s lt = has-set_where (λ v. eqb v i || has s v) i lt ∙ or_left (eqb i i) (has s i) (eq-eqb i i refl)
@@ -195,13 +195,13 @@ not_node : (h i c : ℕ) (q : List ℕ) → i < c → IsPart h c q → (v : ℕ)
 not_node h i c q lt part v there at = let low = (part.under v there).from in omega arith
 
 off_node : (h i c : ℕ) (q : List ℕ) → i < c → IsPart h c q → has q i ≡ false
-off_node h i c q lt part = missing q i (λ there. not_node h i c q lt part i there refl)
+off_node h i c q lt part = has-false q i (λ there. not_node h i c q lt part i there refl)
 
 off_right : (h i : ℕ) (p q : List ℕ) → IsPart h (2 * i + 1) p → IsPart h (2 * i + 2) q → (v : ℕ) → has p v ≡ true → has q v ≡ false
-off_right h i p q left right v there = missing q v (λ also. apart h h i v (left.under v there) (right.under v also))
+off_right h i p q left right v there = has-false q v (λ also. IsUnder-not_both h h i v (left.under v there) (right.under v also))
 
 off_left : (h i : ℕ) (p q : List ℕ) → IsPart h (2 * i + 1) p → IsPart h (2 * i + 2) q → (v : ℕ) → has q v ≡ true → has p v ≡ false
-off_left h i p q left right v there = missing p v (λ also. apart h h i v (left.under v also) (right.under v there))
+off_left h i p q left right v there = has-false p v (λ also. IsUnder-not_both h h i v (left.under v also) (right.under v there))
 
 -- two quorums of one child, each with the node
 cross_one_side : (h i c : ℕ) (p q : List ℕ) → i < c → IsPart h c p → IsPart h c q → Crosses p q → Crosses (with_node i p) (with_node i q)
@@ -372,7 +372,7 @@ IsTreeList-under zero i room = record {
   pairs = λ a b d before lt. absurd (omega arith);
 }
 IsTreeList-under (suc h) i room =
-    let (left_room, right_room, least) = rooms h i 65 room in
+    let (left_room, right_room, least) = room-of_children h i 65 room in
     let left = IsTreeList-under h (2 * i + 1) left_room in
     let right = IsTreeList-under h (2 * i + 2) right_room in
     let lt : i < 64 = omega arith in record {

@@ -20,21 +20,21 @@ use Rattle.coterie_file.specs.Named.{numbered_names}
 use Rattle.coterie_file.specs.declared.fault.FileFault.TheVariants.{BadName, RepeatedName}
 
 -- a name that has_name does not find is none of the list
-pub differs : (names : List (List ℕ)) (name : List ℕ) → has_name names name ≡ false → (k : ℕ) (d : List ℕ) → k < length names → get_or names k d ≢ name
-differs names name e k d lt same =
+pub has_name-false : (names : List (List ℕ)) (name : List ℕ) → has_name names name ≡ false → (k : ℕ) (d : List ℕ) → k < length names → get_or names k d ≢ name
+has_name-false names name e k d lt same =
     let found : has_name names name ≡ true = list_any_at (λ n. bytes_eq name n) names k d lt ((bytes_eq-Decides name (get_or names k d)).1 (sym same)) in
     false≢true (sym e ∙ found)
 
 -- one that it finds stands at a place
-pub stands : (names : List (List ℕ)) (name : List ℕ) → has_name names name ≡ true → (k : ℕ) × (k < length names) × (get_or names k [] ≡ name)
-stands names name e =
+pub has_name-true : (names : List (List ℕ)) (name : List ℕ) → has_name names name ≡ true → (k : ℕ) × (k < length names) × (get_or names k [] ≡ name)
+has_name-true names name e =
     let found = Any-from_list_any (λ n. bytes_eq name n) names e in
     (found.0, found.2, get_or_default names found.0 [] found.1 found.2 ∙ found.3 ∙ sym ((bytes_eq-Decides name found.1).0 found.4))
 
 least_here : (before : List (List ℕ)) (name : List ℕ) (names : List (List ℕ)) → AllDiffer before → has_name before name ≡ true → IsLeastRepeat (before ++ name ∷ names) (length before)
 least_here before name names differ found =
     let all = before ++ name ∷ names in
-    let at = stands before name found in
+    let at = has_name-true before name found in
     let early : (k : ℕ) → k < length before → name_at all k ≡ name_at before k = λ k lt. get_or-append before (name ∷ names) [] k lt in
     record {
       within = omega (arith, length-append before (name ∷ names));
@@ -50,17 +50,17 @@ first_repeat-means before (name ∷ names) differ =
       | true ↦ λ e. least_here before name names differ e
       | false ↦ λ e.
           let one : before ++ name ∷ names ≡ (before ++ name ∷ []) ++ names = sym (append_assoc before (name ∷ []) names) in
-          rw one (first_repeat-means (before ++ name ∷ []) names (all_pairs_push (λ m n. m ≢ n) before name differ (differs before name e)))
+          rw one (first_repeat-means (before ++ name ∷ []) names (all_pairs_push (λ m n. m ≢ n) before name differ (has_name-false before name e)))
     ] refl
 
-both : (a b : Bool) → (a && b) ≡ true → (a ≡ true) × (b ≡ true)
-both true b e = (refl, e)
-both false b e = cc
+and-true : (a b : Bool) → (a && b) ≡ true → (a ≡ true) × (b ≡ true)
+and-true true b e = (refl, e)
+and-true false b e = cc
 
 pub IsName-from_test : (name : List ℕ) → is_name name ≡ true → IsName name
 IsName-from_test name e =
-    let parts = both _ _ e in
-    let sizes = both _ _ parts.0 in
+    let parts = and-true _ _ e in
+    let sizes = and-true _ _ parts.0 in
     record {
       not_empty = ltb-true 0 (length name) sizes.0;
       short = leb-true (length name) 64 sizes.1;

@@ -18,7 +18,7 @@ use Rattle.coterie_file.specs.Named.{NamedSystem, IsNamed}
 use Rattle.coterie_file.specs.Names.{has_name, number_of, name_at, AllDiffer, first_repeat, names_fault}
 use Rattle.coterie_file.specs.Reading.{is_number, quorum_of, system_of, lists_fault, coterie_in, coterie_at, ListsCoterie, Spells}
 use Rattle.coterie_file.specs.declared.fault.FileFault.TheVariants.{UnknownName, RepeatedMember, Coterie}
-use Rattle.coterie_file.proofs.NameLaws.{stands, position-None, position-none, option_or-None, option_map-None, AllDiffer-from_no_repeat, first_repeat-none, AreNames-from_no_fault, names_fault-none}
+use Rattle.coterie_file.proofs.NameLaws.{has_name-true, position-None, position-none, option_or-None, option_map-None, AllDiffer-from_no_repeat, first_repeat-none, AreNames-from_no_fault, names_fault-none}
 use Rattle.coterie_file.proofs.ReadingLemmas.{unless-Ok}
 
 is_number-true : (o : Option ℕ) (i : ℕ) → is_number o i ≡ true → o ≡ Some i
@@ -94,7 +94,7 @@ lists_fault-means law lists e =
     record {
       names = AreNames-from_no_fault lists.names a.0;
       known = λ k d lt j x l.
-          let there = stands lists.names (get_or (get_or lists.quorums k d) j x) (AllPass-from_list_all (has_name lists.names) (get_or lists.quorums k d) (not-false _ (known k d lt)) j x l) in
+          let there = has_name-true lists.names (get_or (get_or lists.quorums k d) j x) (AllPass-from_list_all (has_name lists.names) (get_or lists.quorums k d) (not-false _ (known k d lt)) j x l) in
           (there.0, there.1, get_or_default lists.names there.0 _ [] there.1 ∙ there.2);
       once = λ k d lt. AllDiffer-from_no_repeat (get_or lists.quorums k d) (is_some-none (first_repeat [] (get_or lists.quorums k d)) (once k d lt));
       coterie = (law (length lists.names) (system_of lists).quorums (all_sets lists)).0 (option_map-None Coterie _ c.1);

@@ -13,11 +13,11 @@ use Rattle.dealer.specs.declared.tickets.Hand.{Hand}
 use Rattle.dealer.specs.declared.tickets.Sheet.{Sheet}
 use Rattle.dealer.specs.Tickets.{hand, IsDealt, Dealt, Draws, Looks, joined, nothing, Ends}
 
-abbrev S : Type 0
-S = State (Unit {0}) Hand
+abbrev TableState : Type 0
+TableState = State (Unit {0}) Hand
 
 -- what all seats drew and may still draw is the quota
-shares_sum : (quota : ℕ) (s : S) → IsDealt quota s.words s.views → sum_by (λ (u : Hand). length u.drawn + u.rest) s.views ≡ quota
+shares_sum : (quota : ℕ) (s : TableState) → IsDealt quota s.words s.views → sum_by (λ (u : Hand). length u.drawn + u.rest) s.views ≡ quota
 shares_sum quota s r =
     let ones : sum_by (λ (u : Hand). sum_by (λ _. 1) u.drawn) s.views ≡ slice_index s.words 0 = r.each_once (λ _. 1) ∙ sum_below-one (slice_index s.words 0) in
     let same : sum_by (λ (u : Hand). length u.drawn) s.views ≡ slice_index s.words 0 = subst (λ (f : Hand → ℕ). sum_by f s.views ≡ slice_index s.words 0) (λ i u. sum_one u.drawn i) ones in
@@ -25,11 +25,11 @@ shares_sum quota s r =
     let whole = r.quota_kept in
     omega arith
 
-share_within : (quota : ℕ) (s : S) → IsDealt quota s.words s.views → (id : ℕ) (v : Hand) → get_elem? s.views id ≡ some v → length v.drawn + v.rest ≤ quota
+share_within : (quota : ℕ) (s : TableState) → IsDealt quota s.words s.views → (id : ℕ) (v : Hand) → get_elem? s.views id ≡ some v → length v.drawn + v.rest ≤ quota
 share_within quota s r id v at = omega (arith, sum_at (λ (u : Hand). length u.drawn + u.rest) s.views id v at, shares_sum quota s r)
 
 -- where a seat has the whole quota, its tickets are all that were drawn
-weighs_all : (quota : ℕ) (s : S) → IsDealt quota s.words s.views → (id : ℕ) (v : Hand) → get_elem? s.views id ≡ some v → length v.drawn + v.rest ≡ quota
+weighs_all : (quota : ℕ) (s : TableState) → IsDealt quota s.words s.views → (id : ℕ) (v : Hand) → get_elem? s.views id ≡ some v → length v.drawn + v.rest ≡ quota
     → (h : ℕ → ℕ) → sum_by h v.drawn ≡ sum_below h (slice_index s.words 0)
 weighs_all quota s r id v at all h =
     sym (sum_alone (λ (u : Hand). sum_by h u.drawn) (λ (u : Hand). length u.drawn + u.rest) (λ u no_share. empty_sum u.drawn (omega arith)) s.views id v at (shares_sum quota s r ∙ sym all))
@@ -39,20 +39,20 @@ weighs_all quota s r id v at all h =
     empty_sum [] e = refl
     empty_sum (x ∷ xs) e = absurd (omega arith)
 
-count_all : (quota : ℕ) (s : S) → IsDealt quota s.words s.views → (id : ℕ) (v : Hand) → get_elem? s.views id ≡ some v → length v.drawn + v.rest ≡ quota → slice_index s.words 0 ≡ length v.drawn
+count_all : (quota : ℕ) (s : TableState) → IsDealt quota s.words s.views → (id : ℕ) (v : Hand) → get_elem? s.views id ≡ some v → length v.drawn + v.rest ≡ quota → slice_index s.words 0 ≡ length v.drawn
 count_all quota s r id v at all =
     sym (sum_below-one (slice_index s.words 0)) ∙ sym (weighs_all quota s r id v at all (λ _. 1)) ∙ sum_one v.drawn
 
 -- each ticket of a seat is below the word
-drawn_below : (quota : ℕ) (s : S) → IsDealt quota s.words s.views → (id : ℕ) (v : Hand) → get_elem? s.views id ≡ some v → All (λ t. t < slice_index s.words 0) v.drawn
+drawn_below : (quota : ℕ) (s : TableState) → IsDealt quota s.words s.views → (id : ℕ) (v : Hand) → get_elem? s.views id ≡ some v → All (λ t. t < slice_index s.words 0) v.drawn
 drawn_below quota s r id v at =
     let n : ℕ = slice_index s.words 0 in
     All-from_late n v.drawn (omega (arith, sum_at (λ (u : Hand). sum_by (late n) u.drawn) s.views id v at, r.each_once (late n), sum_below-late n n (omega arith)))
 
 -- a draw
-pub draws : (sheet : Sheet) (slots id : ℕ) (me : Me (Unit {0}) Hand) → 0 < me.0.rest
+pub Draws-allowed : (sheet : Sheet) (slots id : ℕ) (me : Me (Unit {0}) Hand) → 0 < me.0.rest
     → Allows (Dealt sheet) slots id me 0 (λ n. (n + 1) % 2 ^ 64) (Draws sheet.quota (step slots 0 1 0 none) me)
-draws sheet slots id me some_rest s r _ at _ =
+Draws-allowed sheet slots id me some_rest s r _ at _ =
     let n : ℕ = slice_index s.words 0 in
     let v = me.0 in
     let w : Hand = hand v.cycle (v.rest - 1) (v.drawn ++ n ∷ []) in
@@ -76,9 +76,9 @@ draws sheet slots id me some_rest s r _ at _ =
     )
 
 -- the word stays, and so does each view
-unmoved : (s : S) (quota : ℕ) → IsDealt quota s.words s.views → (id : ℕ) (me : Me (Unit {0}) Hand) → get_elem? s.views id ≡ some me.0
+IsDealt-unmoved : (s : TableState) (quota : ℕ) → IsDealt quota s.words s.views → (id : ℕ) (me : Me (Unit {0}) Hand) → get_elem? s.views id ≡ some me.0
     → IsDealt quota (set s.words 0 (slice_index s.words 0)) (set s.views id me.0)
-unmoved s quota r id me at =
+IsDealt-unmoved s quota r id me at =
     let same = set_again s.views id me.0 at in
     let words : slice_index (set s.words 0 (slice_index s.words 0)) 0 ≡ slice_index s.words 0 = get_or-set_same s.words 0 (slice_index s.words 0) 0 (omega (arith, r.one_word)) in
     record {
@@ -88,16 +88,16 @@ unmoved s quota r id me at =
       each_once = λ h. rw (words, same) (r.each_once h);
     }
 
-pub looks : (sheet : Sheet) (slots id : ℕ) (me : Me (Unit {0}) Hand) → Allows (Dealt sheet) slots id me 0 (λ n. n) (Looks (step slots 0 0 0 none) me)
-looks sheet slots id me s r _ at _ =
+pub Looks-allowed : (sheet : Sheet) (slots id : ℕ) (me : Me (Unit {0}) Hand) → Allows (Dealt sheet) slots id me 0 (λ n. n) (Looks (step slots 0 0 0 none) me)
+Looks-allowed sheet slots id me s r _ at _ =
     let within = sum_at (λ (u : Hand). u.rest) s.views id me.0 at in
     let whole = r.quota_kept in
     let fits = r.fits in
-    (me.0, keeps, tt, unmoved s sheet.quota r id me at, (refl, omega arith))
+    (me.0, keeps, tt, IsDealt-unmoved s sheet.quota r id me at, (refl, omega arith))
 
-pub cuts : (sheet : Sheet) (id : ℕ) (v : Hand) (amount : ℕ) → amount ≤ v.rest
+pub Dealt-splits : (sheet : Sheet) (id : ℕ) (v : Hand) (amount : ℕ) → amount ≤ v.rest
     → Splits (Dealt sheet) id v (hand v.cycle (v.rest - amount) v.drawn) (hand v.cycle amount [])
-cuts sheet id v amount enough s r at =
+Dealt-splits sheet id v amount enough s r at =
     let left : Hand = hand v.cycle (v.rest - amount) v.drawn in
     let right : Hand = hand v.cycle amount [] in
     let rests = sum_set (λ (u : Hand). u.rest) s.views id v left at in
@@ -110,8 +110,8 @@ cuts sheet id v amount enough s r at =
       each_once = λ h. omega (arith, sum_set (λ (u : Hand). sum_by h u.drawn) s.views id v left at, sum_by_push (λ (u : Hand). sum_by h u.drawn) (set s.views id left) right, r.each_once h);
     }
 
-pub merges : (sheet : Sheet) (id : ℕ) (v : Hand) (other : ℕ) (w : Hand) → Joins (Dealt sheet) id v other w (joined v w) nothing
-merges sheet id v other w s r at apart there =
+pub Dealt-joins : (sheet : Sheet) (id : ℕ) (v : Hand) (other : ℕ) (w : Hand) → Joins (Dealt sheet) id v other w (joined v w) nothing
+Dealt-joins sheet id v other w s r at apart there =
     let both = joined v w in
     let rests = sum_set (λ (u : Hand). u.rest) s.views id v both at in
     let spent = sum_set (λ (u : Hand). u.rest) (set s.views id both) other w nothing there in
@@ -124,8 +124,8 @@ merges sheet id v other w s r at apart there =
     }
 
 -- what a seat knows of a table that ended
-pub ends : (sheet : Sheet) (id : ℕ) (v : Hand) (words : List ℕ) (slots : List (Unit {0})) → Final (Seen (Dealt sheet) id v) words slots → Ends sheet v
-ends sheet id v words slots final =
+pub Ends-from_final : (sheet : Sheet) (id : ℕ) (v : Hand) (words : List ℕ) (slots : List (Unit {0})) → Final (Seen (Dealt sheet) id v) words slots → Ends sheet v
+Ends-from_final sheet id v words slots final =
     let s = final.0 in
     let r = final.1.0 in
     let at = final.1.1 in (

@@ -8,13 +8,13 @@ use Rattle.fraction.specs.Fractions.{Fits}
 use Rattle.fraction.proofs.Lowest.{product-some}
 
 -- a number as the code passes it
-pub passed : (z z' : ℤ) → Fits z → z ≡ z' → to_z w128 (of_z w128 z) ≡ z'
-passed z z' fits e = to_z-of_z w128 z (fits_signed_from_abs w128 z fits) ∙ e
+pub to_z-of_z_equal : (z z' : ℤ) → Fits z → z ≡ z' → to_z w128 (of_z w128 z) ≡ z'
+to_z-of_z_equal z z' fits e = to_z-of_z w128 z (fits_signed_from_abs w128 z fits) ∙ e
 
 -- a product that was formed, as the code passes it
 pub passed-product : (z x y x' y' : ℤ) → x' ≡ x → y' ≡ y → (z ≡ x' *ℤ y') × Fits (x' *ℤ y') → to_z w128 (of_z w128 z) ≡ x *ℤ y
 passed-product z x y x' y' ex ey formed =
-    passed z (x' *ℤ y') (subst Fits (sym formed.0) formed.1) formed.0 ∙ ap (λ t. t *ℤ y') ex ∙ ap (λ t. x *ℤ t) ey
+    to_z-of_z_equal z (x' *ℤ y') (subst Fits (sym formed.0) formed.1) formed.0 ∙ ap (λ t. t *ℤ y') ex ∙ ap (λ t. x *ℤ t) ey
 
 pub passed_product-some : (z x y x' y' : ℤ) → x' ≡ x → y' ≡ y → (z ≡ x' *ℤ y') × Fits (x' *ℤ y') → x ≢ pos 0 → y ≢ pos 0 → to_z w128 (of_z w128 z) ≢ pos 0
 passed_product-some z x y x' y' ex ey formed some_x some_y = product-some x y _ some_x some_y (passed-product z x y x' y' ex ey formed)
@@ -31,6 +31,6 @@ pub difference-unfit : (x y x' y' : ℤ) → x' ≡ x → y' ≡ y → ¬ Fits (
 difference-unfit x y x' y' ex ey unfit fits = unfit (subst (λ t. Fits (t -ℤ y')) (sym ex) (subst (λ t. Fits (x -ℤ t)) (sym ey) fits))
 
 -- an answer that is a refusal, where what is wanted of an answer does not hold
-pub refused : {X : Type 0} (r : Result X FracFault) (P : Type 0) → IsErr r → ¬ P → (IsOk r → P) × (P → IsOk r)
-refused (Ok x) P err unmet = absurd (true≢false (sym err))
-refused (Err e) P err unmet = (λ ok. absurd (true≢false (sym ok)), λ p. absurd (unmet p))
+pub IsOk-iff_unmet : {X : Type 0} (r : Result X FracFault) (P : Type 0) → IsErr r → ¬ P → (IsOk r → P) × (P → IsOk r)
+IsOk-iff_unmet (Ok x) P err unmet = absurd (true≢false (sym err))
+IsOk-iff_unmet (Err e) P err unmet = (λ ok. absurd (true≢false (sym ok)), λ p. absurd (unmet p))

@@ -15,19 +15,19 @@ use Rattle.fraction.specs.Rows.{lists_of, row_at, entry_of, combined, EachFits, 
 use Rattle.fraction.proofs.Lowest.{abs-some, positive-some}
 
 -- a list of one element
-pub single : (own : List (Vec ℤ Global)) (d : Vec ℤ Global) → length own ≡ 1 → own ≡ get_or own 0 d ∷ []
-single [] d e = absurd (omega arith)
-single (x ∷ []) d e = refl
-single (x ∷ y ∷ xs) d e = absurd (omega arith)
+pub cons-from_length_one : (own : List (Vec ℤ Global)) (d : Vec ℤ Global) → length own ≡ 1 → own ≡ get_or own 0 d ∷ []
+cons-from_length_one [] d e = absurd (omega arith)
+cons-from_length_one (x ∷ []) d e = refl
+cons-from_length_one (x ∷ y ∷ xs) d e = absurd (omega arith)
 
-pub single_set : (own : List (Vec ℤ Global)) (v : Vec ℤ Global) → length own ≡ 1 → set own 0 v ≡ v ∷ []
-single_set [] v e = absurd (omega arith)
-single_set (x ∷ []) v e = refl
-single_set (x ∷ y ∷ xs) v e = absurd (omega arith)
+pub set-from_length_one : (own : List (Vec ℤ Global)) (v : Vec ℤ Global) → length own ≡ 1 → set own 0 v ≡ v ∷ []
+set-from_length_one [] v e = absurd (omega arith)
+set-from_length_one (x ∷ []) v e = refl
+set-from_length_one (x ∷ y ∷ xs) v e = absurd (omega arith)
 
 -- the entries of rows that are parted at one of them
-pub parted : (rows above rest own below : List (Vec ℤ Global)) (first : Vec ℤ Global) → rows ≡ above ++ rest → rest ≡ own ++ below → own ≡ first ∷ [] → lists_of rows ≡ lists_of above ++ (first.items ∷ lists_of below)
-parted rows above rest own below first e f g =
+pub lists_of-parted : (rows above rest own below : List (Vec ℤ Global)) (first : Vec ℤ Global) → rows ≡ above ++ rest → rest ≡ own ++ below → own ≡ first ∷ [] → lists_of rows ≡ lists_of above ++ (first.items ∷ lists_of below)
+lists_of-parted rows above rest own below first e f g =
     ap lists_of (e ∙ ap (λ r. above ++ r) (f ∙ ap (λ o. o ++ below) g)) ∙ map-append (λ row. row.items) above (first ∷ below)
 
 pub at_row : (L A B : List (List ℤ)) (p : List ℤ) (row : ℕ) → L ≡ A ++ (p ∷ B) → length A ≡ row → row_at L row ≡ p
@@ -54,8 +54,8 @@ pub each_eliminated_as : (A A' : List (List ℤ)) (p p' : List ℤ) (s s' : ℤ)
 each_eliminated_as A A' p p' s s' col ep es is = subst (λ x. EachRow (λ old new. IsEliminated old new s x col) A A') ep (subst (λ x. EachRow (λ old new. IsEliminated old new x p' col) A A') es is)
 
 -- a row that was scaled, of equal rows and factors
-pub scaled : (new old new' old' : List ℤ) (den den' : ℤ) → new ≡ new' → old' ≡ old → den' ≡ den → ((j : ℕ) → j < length old' → entry_of new' j ≡ entry_of old' j *ℤ den') → (j : ℕ) → j < length old → entry_of new j ≡ entry_of old j *ℤ den
-scaled new old new' old' den den' en eo ed is j lt =
+pub scaled_row-equal : (new old new' old' : List ℤ) (den den' : ℤ) → new ≡ new' → old' ≡ old → den' ≡ den → ((j : ℕ) → j < length old' → entry_of new' j ≡ entry_of old' j *ℤ den') → (j : ℕ) → j < length old → entry_of new j ≡ entry_of old j *ℤ den
+scaled_row-equal new old new' old' den den' en eo ed is j lt =
     ap (λ r. entry_of r j) en ∙ is j (subst (λ r. j < length r) (sym eo) lt) ∙ ap (λ r. entry_of r j *ℤ den') eo ∙ ap (λ d. entry_of old j *ℤ d) ed
 
 -- the parts of what fits
@@ -111,8 +111,8 @@ own_is t new p row col i ep ei same is =
     at : (j : ℕ) → pivoted t row col i j ≡ entry_of p j *ℤ t.den
     at j = rw (eq-eqb i row ei, ep) refl
 
-pub unreduced : (L M A B A' B' : List (List ℤ)) (p p' : List ℤ) (den : ℤ) (row col : ℕ) → L ≡ A ++ (p ∷ B) → M ≡ A' ++ (p' ∷ B') → length A ≡ row → EachRow (λ old new. IsEliminated old new (entry_of p col) p col) A A' → EachRow (λ old new. IsEliminated old new (entry_of p col) p col) B B' → length p' ≡ length p → ((j : ℕ) → j < length p → entry_of p' j ≡ entry_of p j *ℤ den) → IsUnreduced (record { rows = L; den = den }) M row col
-unreduced L M A B A' B' p p' den row col e f n above below same own =
+pub IsUnreduced-from_rows : (L M A B A' B' : List (List ℤ)) (p p' : List ℤ) (den : ℤ) (row col : ℕ) → L ≡ A ++ (p ∷ B) → M ≡ A' ++ (p' ∷ B') → length A ≡ row → EachRow (λ old new. IsEliminated old new (entry_of p col) p col) A A' → EachRow (λ old new. IsEliminated old new (entry_of p col) p col) B B' → length p' ≡ length p → ((j : ℕ) → j < length p → entry_of p' j ≡ entry_of p j *ℤ den) → IsUnreduced (record { rows = L; den = den }) M row col
+IsUnreduced-from_rows L M A B A' B' p p' den row col e f n above below same own =
     let many = count_of L A B p e in
     let many' = count_of M A' B' p' f in
     let counts = above.0 in
@@ -161,8 +161,8 @@ positive_is (pos n) above = refl
 positive_is (negsuc n) above = absurd (omega (arith, ints))
 
 -- numbers that are divided by their greatest common divisor have none but 1
-pub lowest : (old new : List (List ℤ)) (den low : ℤ) (size g : ℕ) → size ≡ unsigned_abs den → pos 0 <ℤ den → IsDivisorOfAll size old g → EachRow (IsDivided g) old new → low ≡ pos (size / g) → IsLowest old new den low
-lowest old new den low size g e above is rows low_is =
+pub IsLowest-divided : (old new : List (List ℤ)) (den low : ℤ) (size g : ℕ) → size ≡ unsigned_abs den → pos 0 <ℤ den → IsDivisorOfAll size old g → EachRow (IsDivided g) old new → low ≡ pos (size / g) → IsLowest old new den low
+IsLowest-divided old new den low size g e above is rows low_is =
     let some = divisor-some den size g e above is.number in
     record {
       divisor = g;

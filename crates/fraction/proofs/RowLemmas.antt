@@ -10,23 +10,23 @@ use Rattle.fraction.specs.Fractions.{Fits, signed_of}
 use Rattle.fraction.proofs.Lowest.{signed_of-*ℤ}
 
 -- a number is stored at i: what held of each entry below i, and holds of the number, holds of each below i + 1
-pub stored : (P : ℕ → ℤ → Type 0) (xs : List ℤ) (i : ℕ) (v : ℤ) → i < length xs → ((k : ℕ) → k < i → P k (get_or xs k (pos 0))) → P i v → (k : ℕ) → k < i + 1 → P k (get_or (set xs i v) k (pos 0))
-stored P xs i v lt below here =
+pub set-holds_below_next : (P : ℕ → ℤ → Type 0) (xs : List ℤ) (i : ℕ) (v : ℤ) → i < length xs → ((k : ℕ) → k < i → P k (get_or xs k (pos 0))) → P i v → (k : ℕ) → k < i + 1 → P k (get_or (set xs i v) k (pos 0))
+set-holds_below_next P xs i v lt below here =
     below_more (λ k. P k (get_or (set xs i v) k (pos 0))) i
     (λ k h. let ne : k ≢ i = omega arith in subst (P k) (sym (get_or-set_other xs i k v (pos 0) ne)) (below k h))
     (subst (P i) (sym (get_or-set_same xs i v (pos 0) lt)) here)
 
 -- the entries above i are as they were
-pub kept : (old : ℕ → ℤ) (xs : List ℤ) (i : ℕ) (v : ℤ) → ((k : ℕ) → i ≤ k → get_or xs k (pos 0) ≡ old k) → (k : ℕ) → i + 1 ≤ k → get_or (set xs i v) k (pos 0) ≡ old k
-kept old xs i v left k le = let ne : k ≢ i = omega arith in get_or-set_other xs i k v (pos 0) ne ∙ left k (omega arith)
+pub set-keeps_above : (old : ℕ → ℤ) (xs : List ℤ) (i : ℕ) (v : ℤ) → ((k : ℕ) → i ≤ k → get_or xs k (pos 0) ≡ old k) → (k : ℕ) → i + 1 ≤ k → get_or (set xs i v) k (pos 0) ≡ old k
+set-keeps_above old xs i v left k le = let ne : k ≢ i = omega arith in get_or-set_other xs i k v (pos 0) ne ∙ left k (omega arith)
 
 -- a number that fits, as the code passes it
 pub as_passed : (z : ℤ) → Fits z → to_z w128 (of_z w128 z) ≡ z
 as_passed z fits = to_z-of_z w128 z (fits_signed_from_abs w128 z fits)
 
 -- a number that is one that fits, as the code passes it
-pub seen : (z z' : ℤ) → z ≡ z' → Fits z' → to_z w128 (of_z w128 z) ≡ z'
-seen z z' e fits = ap (λ t. to_z w128 (of_z w128 t)) e ∙ as_passed z' fits
+pub to_z-of_z_equal : (z z' : ℤ) → z ≡ z' → Fits z' → to_z w128 (of_z w128 z) ≡ z'
+to_z-of_z_equal z z' e fits = ap (λ t. to_z w128 (of_z w128 t)) e ∙ as_passed z' fits
 
 -- a product, as the code forms it
 pub product_is : (x y x' : ℤ) → FitsSigned w128 x → FitsSigned w128 y → x ≡ x' → Fits (x' *ℤ y) → to_z w128 (of_z w128 (to_z w128 (of_z w128 x) *ℤ to_z w128 (of_z w128 y))) ≡ x' *ℤ y

@@ -8,8 +8,8 @@ use Rattle.std.specs.Vec.{with_items}
 use Rattle.fraction.specs.Rows.{lists_of, row_at}
 
 -- the entries of a row that a loop wrote as a slice
-pub written : (v : Vec ℤ Global) (ws : List ℤ) (xs : List ℤ) → length ws ≡ length xs → xs ≡ v.items → (with_items v ws).items ≡ ws
-written v ws xs e at = with_items_is v ws (e ∙ ap length at ∙ sym v.ok.0)
+pub with_items-items : (v : Vec ℤ Global) (ws : List ℤ) (xs : List ℤ) → length ws ≡ length xs → xs ≡ v.items → (with_items v ws).items ≡ ws
+with_items-items v ws xs e at = with_items_is v ws (e ∙ ap length at ∙ sym v.ok.0)
 
 -- a row is stored at i: what held of each row below i, and holds of the row, holds of each below i + 1
 pub stored_row : (P : ℕ → List ℤ → Type 0) (rows : List (Vec ℤ Global)) (i : ℕ) (v : Vec ℤ Global) → i < length rows → ((k : ℕ) → k < i → P k (row_at (lists_of rows) k)) → P i v.items → (k : ℕ) → k < i + 1 → P k (row_at (lists_of (set rows i v)) k)

@@ -8,7 +8,7 @@ use Rattle.std.proofs.lemmas.List.Sums.{fold_more}
 use Rattle.fraction.specs.Fractions.{Fits}
 use Rattle.fraction.specs.Tables.{Table, IsTable, IsSummed, SumsFit, sum_in, row_of}
 use Rattle.fraction.specs.Rows.{row_at, entry_of, EachRow, IsSummedRow}
-use Rattle.fraction.proofs.RowLemmas.{seen}
+use Rattle.fraction.proofs.RowLemmas.{to_z-of_z_equal}
 
 -- a sum of one column more, as the code forms it
 sum_is : (r : List ℤ) (columns : List ℕ) (i : ℕ) (t x : ℤ) → i < length columns → t ≡ sum_in r (take i columns) → x ≡ entry_of r (get_or columns i 0) → FitsSigned w128 x → t +ℤ to_z w128 (of_z w128 x) ≡ sum_in r (take (i + 1) columns)
@@ -21,7 +21,7 @@ pub sum_step : (r : List ℤ) (columns : List ℕ) (i : ℕ) (t x t' : ℤ) → 
 sum_step r columns i t x t' lt et ex fits_x formed =
     let e = sum_is r columns i t x lt et ex fits_x in
     let fits = subst Fits e formed.1 in
-    (seen t' _ (formed.0 ∙ e) fits, fits)
+    (to_z-of_z_equal t' _ (formed.0 ∙ e) fits, fits)
 
 pub fits_step : (r : List ℤ) (columns : List ℕ) (i : ℕ) → ((k : ℕ) → k ≤ i → Fits (sum_in r (take k columns))) → Fits (sum_in r (take (i + 1) columns)) → (k : ℕ) → k ≤ i + 1 → Fits (sum_in r (take k columns))
 fits_step r columns i below here k le =
@@ -35,8 +35,8 @@ all_taken [] = refl
 all_taken (x ∷ xs) = ap (λ t. x ∷ t) (all_taken xs)
 
 -- rows with their sums are a table with its sums
-pub summed : (t : Table) (M : List (List ℤ)) (columns : List ℕ) (into : ℕ) → EachRow (IsSummedRow columns into) t.rows M → IsSummed t (record { rows = M; den = t.den }) columns into
-summed t M columns into is = record {
+pub IsSummed-from_rows : (t : Table) (M : List (List ℤ)) (columns : List ℕ) (into : ℕ) → EachRow (IsSummedRow columns into) t.rows M → IsSummed t (record { rows = M; den = t.den }) columns into
+IsSummed-from_rows t M columns into is = record {
   shape = record { rows = is.0; columns = λ i lt. (is.1 i lt).0 };
   den = refl;
   sums = λ i lt. (is.1 i lt).1;

@@ -71,9 +71,9 @@ starts_in Idle x q o e = (refl, unspent_if (is_spent x) x q o e)
 starts_in Asking x q o e = absurd (true≢false (ap is_fine (sym e)))
 starts_in Inside x q o e = absurd (true≢false (ap is_fine (sym e)))
 
-pub starts : (x : ClientState) (q : List ℕ) (o : Outcome) → ask x q ≡ Ok o → (is_idle x.phase ≡ true) × (is_spent x ≡ false)
+pub ask-Ok : (x : ClientState) (q : List ℕ) (o : Outcome) → ask x q ≡ Ok o → (is_idle x.phase ≡ true) × (is_spent x ≡ false)
 unfolding ask
-starts x q o e = starts_in x.phase x q o e
+ask-Ok x q o e = starts_in x.phase x q o e
 
 -- why a client does not start, and a member with a client that would start does not ask
 
@@ -143,59 +143,59 @@ is_left Nothing = false
 is_left Entered = false
 is_left Left = true
 
-gives_one : (b : Bool) (x : ClientState) (v : ℕ) → is_left (relinquish_if b x v).seen ≡ false
-gives_one false x v = refl
-gives_one true x v = refl
+relinquish_if-not_left : (b : Bool) (x : ClientState) (v : ℕ) → is_left (relinquish_if b x v).seen ≡ false
+relinquish_if-not_left false x v = refl
+relinquish_if-not_left true x v = refl
 
-gives : (x : ClientState) (v : ℕ) → is_left (relinquish x v).seen ≡ false
+relinquish-not_left : (x : ClientState) (v : ℕ) → is_left (relinquish x v).seen ≡ false
 unfolding relinquish
-gives x v = gives_one (holds x v) x v
+relinquish-not_left x v = relinquish_if-not_left (holds x v) x v
 
-gives_each : (x : ClientState) (vs : List ℕ) → is_left (relinquish_each x vs).seen ≡ false
-gives_each x [] = refl
-gives_each x (v ∷ vs) = refl
+relinquish_each-not_left : (x : ClientState) (vs : List ℕ) → is_left (relinquish_each x vs).seen ≡ false
+relinquish_each-not_left x [] = refl
+relinquish_each-not_left x (v ∷ vs) = refl
 
-enters : (b : Bool) (x : ClientState) → is_left (enter_if b x).seen ≡ false
-enters false x = refl
-enters true x = refl
+enter_if-not_left : (b : Bool) (x : ClientState) → is_left (enter_if b x).seen ≡ false
+enter_if-not_left false x = refl
+enter_if-not_left true x = refl
 
-locks : (b fresh : Bool) (x : ClientState) (v s g : ℕ) → is_left (locked_by b fresh x v s g).seen ≡ false
-locks false fresh x v s g = refl
-locks true false x v s g = refl
-locks true true x v s g = enters (is_covered (hold x v g)) (hold x v g)
+locked_by-not_left : (b fresh : Bool) (x : ClientState) (v s g : ℕ) → is_left (locked_by b fresh x v s g).seen ≡ false
+locked_by-not_left false fresh x v s g = refl
+locked_by-not_left true false x v s g = refl
+locked_by-not_left true true x v s g = enter_if-not_left (is_covered (hold x v g)) (hold x v g)
 
-locks_by : (x : ClientState) (v s g : ℕ) → is_left (locked x v s g).seen ≡ false
+locked-not_left : (x : ClientState) (v s g : ℕ) → is_left (locked x v s g).seen ≡ false
 unfolding locked
-locks_by x v s g = locks (is_current x s) (is_fresh x v g) x v s g
+locked-not_left x v s g = locked_by-not_left (is_current x s) (is_fresh x v g) x v s g
 
-fails : (b : Bool) (x : ClientState) (v : ℕ) → is_left (failed_by b x v).seen ≡ false
-fails false x v = refl
-fails true x v = gives_each (fail x v) (filter (is_inquired (fail x v)) (members x))
+failed_by-not_left : (b : Bool) (x : ClientState) (v : ℕ) → is_left (failed_by b x v).seen ≡ false
+failed_by-not_left false x v = refl
+failed_by-not_left true x v = relinquish_each-not_left (fail x v) (filter (is_inquired (fail x v)) (members x))
 
-fails_by : (x : ClientState) (v s : ℕ) → is_left (failed x v s).seen ≡ false
+failed-not_left : (x : ClientState) (v s : ℕ) → is_left (failed x v s).seen ≡ false
 unfolding failed
-fails_by x v s = fails (is_asking x.phase && s == x.stamp && is_member x v && not (holds x v)) x v
+failed-not_left x v s = failed_by-not_left (is_asking x.phase && s == x.stamp && is_member x v && not (holds x v)) x v
 
-inquires : (b hindered : Bool) (x : ClientState) (v : ℕ) → is_left (inquired_by b hindered x v).seen ≡ false
-inquires false hindered x v = refl
-inquires true false x v = refl
-inquires true true x v = gives x v
+inquired_by-not_left : (b hindered : Bool) (x : ClientState) (v : ℕ) → is_left (inquired_by b hindered x v).seen ≡ false
+inquired_by-not_left false hindered x v = refl
+inquired_by-not_left true false x v = refl
+inquired_by-not_left true true x v = relinquish-not_left x v
 
-inquires_by : (x : ClientState) (v g : ℕ) → is_left (inquired x v g).seen ≡ false
+inquired-not_left : (x : ClientState) (v g : ℕ) → is_left (inquired x v g).seen ≡ false
 unfolding inquired
-inquires_by x v g = inquires (is_asking x.phase && holds_under x v g) (is_hindered x) x v
+inquired-not_left x v g = inquired_by-not_left (is_asking x.phase && holds_under x v g) (is_hindered x) x v
 
-takes : (x : ClientState) (v : ℕ) (b : ClientBody) → is_left (take_body x v b).seen ≡ false
-takes x v (tells.Locked s g) = locks_by x v s g
-takes x v (tells.Fail s) = fails_by x v s
-takes x v (tells.Inquire g) = inquires_by x v g
+take_body-not_left : (x : ClientState) (v : ℕ) (b : ClientBody) → is_left (take_body x v b).seen ≡ false
+take_body-not_left x v (tells.Locked s g) = locked-not_left x v s g
+take_body-not_left x v (tells.Fail s) = failed-not_left x v s
+take_body-not_left x v (tells.Inquire g) = inquired-not_left x v g
 
-stays_seen : (x : ClientState) (m : ToClient) → is_left (take x m).seen ≡ false
+take-not_left : (x : ClientState) (m : ToClient) → is_left (take x m).seen ≡ false
 unfolding take
-stays_seen x m = takes (see x m.seen) m.voter m.body
+take-not_left x m = take_body-not_left (see x m.seen) m.voter m.body
 
 never_left : (x : ClientState) (m : ToClient) (o : Outcome) → take x m ≡ o → o.seen ≡ Left → ⊥
-never_left x m o e left = true≢false (sym (ap is_left left) ∙ sym (ap (λ (p : Outcome). is_left p.seen) e) ∙ stays_seen x m)
+never_left x m o e left = true≢false (sym (ap is_left left) ∙ sym (ap (λ (p : Outcome). is_left p.seen) e) ∙ take-not_left x m)
 
 -- What a client is once it took a message that names it
 pub record Took (x : ClientState) (m : ToClient) (o : Outcome) : Type 0 where
@@ -205,8 +205,8 @@ pub record Took (x : ClientState) (m : ToClient) (o : Outcome) : Type 0 where
   pub sees : Sees x.phase o.seen o.state.phase
   pub stays : o.seen ≢ Left
 
-pub took : AreClientLaws → (board : BoardState) (x : ClientState) (m : ToClient) (o : Outcome) (id : ℕ) → IsSound x → IsMail board id m → id ≡ x.id → board.voters ≤ 64 → take x m ≡ o → Took x m o
-took laws board x m o id sound mail is few e =
+pub Took-from_take : AreClientLaws → (board : BoardState) (x : ClientState) (m : ToClient) (o : Outcome) (id : ℕ) → IsSound x → IsMail board id m → id ≡ x.id → board.voters ≤ 64 → take x m ≡ o → Took x m o
+Took-from_take laws board x m o id sound mail is few e =
     let s = of_take x m o e in
     let accepts : (m.client ≡ x.id) × (m.voter < 64) = (mail.client_is ∙ is, omega (arith, mail.voter, few)) in
     let meets = laws.meets x (Takes m) o sound accepts s in
@@ -286,7 +286,7 @@ module _ (c : ClusterState) (x : ClientState) (seat : SeatState) (clerk : ClerkS
       let s = of_ask x q o e in
       let sound = laws.sound x (Asks q) o r.sound (set, some) s in
       let meets = laws.meets x (Asks q) o r.sound (set, some) s in
-      let held = r.held ∙ no_votes x.held o.state.held r.sound.places.held sound.places.held (laws.idle x r.sound (starts x q o e).0) (laws.asked x q o e) in
+      let held = r.held ∙ no_votes x.held o.state.held r.sound.places.held sound.places.held (laws.idle x r.sound (ask-Ok x q o e).0) (laws.asked x q o e) in
       next_member c x seat clerk quorum r o.state sound meets.id seat refl refl held r.within
       drawn (ap (λ (k : ClerkState). k.office) kept) (ap share_of kept ∙ share_drawn clerk receipt left) receipt.quorum (λ busy. (in_range, meets.quorum ∙ is))
 

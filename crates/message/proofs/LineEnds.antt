@@ -5,7 +5,7 @@ use Rattle.std.specs.Fmt.{decimal}
 use Rattle.std.specs.Str.Parse.{AllDigits}
 use Rattle.std.proofs.lemmas.Str.Parse.{digit_from_value}
 use Rattle.std.proofs.lemmas.Fmt.{digits_decimal}
-use Rattle.texts.proofs.Numbers.{own}
+use Rattle.texts.proofs.Numbers.{IsNumeralModel-decimal}
 use Rattle.message.specs.declared.message.Message.{Message}
 use Rattle.message.specs.declared.message.Message.TheVariants as kinds
 use Rattle.message.specs.declared.message.VoterBody.{VoterBody}
@@ -28,10 +28,10 @@ one_line_digits (d ∷ ds) h = ((λ e. let r = digit_from_value d h.0 in absurd 
 
 one_line_fields : (ns : List ℕ) → AllFit ns → IsOneLine (fields ns)
 one_line_fields [] fit = tt
-one_line_fields (n ∷ ns) fit = ((λ e. absurd (omega arith)), one_line-append (decimal n) (fields ns) (one_line_digits _ (digits_decimal own n fit.0)) (one_line_fields ns fit.1))
+one_line_fields (n ∷ ns) fit = ((λ e. absurd (omega arith)), one_line-append (decimal n) (fields ns) (one_line_digits _ (digits_decimal IsNumeralModel-decimal n fit.0)) (one_line_fields ns fit.1))
 
-fit : (n : ℕ) → n ≤ 63 → n < 2 ^ 64
-fit n small = omega arith
+fits-from_small : (n : ℕ) → n ≤ 63 → n < 2 ^ 64
+fits-from_small n small = omega arith
 
 one_line_voter_word : (b : VoterBody) → IsOneLine (voter_word b)
 one_line_voter_word (asks.Request stamp) = search rules
@@ -49,8 +49,8 @@ fit_client_numbers s (tells.Fail stamp) hs h = (h.1, (hs, tt))
 fit_client_numbers s (tells.Inquire grant) hs h = (h.1, (hs, tt))
 
 pub fit_numbers : (m : Message) → HasLine m → AllFit (numbers_of m)
-fit_numbers (kinds.ToVoter m) h = (fit m.client h.0, (fit m.voter h.1, (h.2.1, tt)))
-fit_numbers (kinds.ToClient m) h = (fit m.voter h.0, (fit m.client h.1, fit_client_numbers m.seen m.body h.2 h.3))
+fit_numbers (kinds.ToVoter m) h = (fits-from_small m.client h.0, (fits-from_small m.voter h.1, (h.2.1, tt)))
+fit_numbers (kinds.ToClient m) h = (fits-from_small m.voter h.0, (fits-from_small m.client h.1, fit_client_numbers m.seen m.body h.2 h.3))
 
 one_line_word : (m : Message) → IsOneLine (word_of m)
 one_line_word (kinds.ToVoter m) = one_line_voter_word m.body

@@ -73,10 +73,10 @@ pub record Took (board : BoardState) (v : VoterState) (log : List ToVoter) (seat
   pub carry : CarrySeen v m o
   pub sound : IsSound o.state
 
-brought : (clients client : ℕ) (b : VoterBody) (c t : ℕ) → client < clients → Brings client b c t → c < clients
-brought clients client (asks.Request s) c t lt p = subst (λ x. x < clients) (sym p.0) lt
-brought clients client (asks.Relinquish s) c t lt p = absurd p
-brought clients client (asks.Release s) c t lt p = absurd p
+Brings-client_below : (clients client : ℕ) (b : VoterBody) (c t : ℕ) → client < clients → Brings client b c t → c < clients
+Brings-client_below clients client (asks.Request s) c t lt p = subst (λ x. x < clients) (sym p.0) lt
+Brings-client_below clients client (asks.Relinquish s) c t lt p = absurd p
+Brings-client_below clients client (asks.Release s) c t lt p = absurd p
 
 -- the number of a grant that the seat has to offer
 new_number : (v w : VoterState) (seat : SeatState) → seat.current ≡ seat_grant v.held → (b : Bool) → VoteMoves b v w → (settled b seat).current ≡ None → (g : Grant) → w.held ≡ Some g → (g.grant ≡ v.granted + 1) × (w.granted ≡ v.granted + 1)
@@ -107,20 +107,20 @@ kept_count v w true (inr n) free = absurd (not_both w.held n.grant free n.held)
 kept_count v w false (inl stays) free = stays.granted
 kept_count v w false (inr n) free = absurd (not_both w.held n.1.grant free n.1.held)
 
-agrees : (v w : VoterState) (seat : SeatState) → seat.current ≡ seat_grant v.held → seat.last ≡ v.granted → (b : Bool) → VoteMoves b v w
+Agrees-offered_by : (v w : VoterState) (seat : SeatState) → seat.current ≡ seat_grant v.held → seat.last ≡ v.granted → (b : Bool) → VoteMoves b v w
     → (x : Option (ℕ × ℕ)) → (settled b seat).current ≡ x → (held : Option Grant) → w.held ≡ held → Agrees seat w (offered_by x held (settled b seat))
-agrees v w seat cur last b moves (Some x) is held holds =
+Agrees-offered_by v w seat cur last b moves (Some x) is held holds =
     let k = kept_grant v w seat cur last b moves x is in
     record { table = kept_table b seat; voter = kept_voter b seat; current = k.0; last = k.1 }
-agrees v w seat cur last b moves None is None holds =
+Agrees-offered_by v w seat cur last b moves None is None holds =
     record { table = kept_table b seat; voter = kept_voter b seat; current = is ∙ sym (ap seat_grant holds); last = kept_last b seat ∙ last ∙ sym (kept_count v w b moves holds) }
-agrees v w seat cur last b moves None is (Some g) holds =
+Agrees-offered_by v w seat cur last b moves None is (Some g) holds =
     let n = new_number v w seat cur b moves is g holds in
     record { table = kept_table b seat; voter = kept_voter b seat; current = sym (ap seat_grant holds); last = n.0 ∙ sym n.1 }
 
 module _ (board : BoardState) (v : VoterState) (log : List ToVoter) (seat : SeatState) (m : ToVoter) (o : Outcome) (t : Took board v log seat m o) where
   entries : (c s : ℕ) → IsEntry o.state c s → c < board.clients
-  entries c s e = ⊎_elim (t.node.clients c s) (brought board.clients m.client m.body c s t.meant.client) (t.meets.entries c s e)
+  entries c s e = ⊎_elim (t.node.clients c s) (Brings-client_below board.clients m.client m.body c s t.meant.client) (t.meets.entries c s e)
 
   -- what the seat may be asked to offer
   pub may_offer : (held : Option Grant) → o.state.held ≡ held → (settled (effect_of v m).frees seat).current ≡ None
@@ -146,7 +146,7 @@ module _ (board : BoardState) (v : VoterState) (log : List ToVoter) (seat : Seat
   pub stays_node : IsNode board o.state (log ++ m ∷ []) (offered o.state.held (settled (effect_of v m).frees seat))
   stays_node =
       let b = (effect_of v m).frees in
-      let a = agrees v o.state seat t.node.current t.node.last b t.moves (settled b seat).current refl o.state.held refl in record {
+      let a = Agrees-offered_by v o.state seat t.node.current t.node.last b t.moves (settled b seat).current refl o.state.held refl in record {
         follows = subst (λ (n : ℕ). run (Some (start n (2 ^ 40))) (log ++ m ∷ []) ≡ Some o.state) (sym a.voter) follows;
         known = subst (λ (n : ℕ). All (IsFor board n) (log ++ m ∷ [])) (sym a.voter) known;
         table = a.table ∙ t.node.table;

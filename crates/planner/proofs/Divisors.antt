@@ -12,20 +12,20 @@ use Rattle.planner.specs.Uniform.{ones, all_ones}
 use Rattle.planner.specs.Weights.{HaveNoCommonDivisor, IsGreatestDivisor}
 
 -- numbers that 0 divides sum to 0
-zeros : (xs : List ℕ) → All (λ x. 0 ∣ x) xs → sum xs ≡ 0
-zeros [] h = refl
-zeros (x ∷ xs) h =
+sum-zero_divides : (xs : List ℕ) → All (λ x. 0 ∣ x) xs → sum xs ≡ 0
+sum-zero_divides [] h = refl
+sum-zero_divides (x ∷ xs) h =
     let first = eq-zero_of_zero-dvd (All-head (λ x. 0 ∣ x) x xs h) in
-    let rest = zeros xs (All-tail (λ x. 0 ∣ x) x xs h) in
+    let rest = sum-zero_divides xs (All-tail (λ x. 0 ∣ x) x xs h) in
     omega (arith, first, rest, sum_by-cons (λ y. y) x xs)
 
 -- numbers whose greatest common divisor is 0 have no sum above 0
 pub no_sum : (xs : List ℕ) (g : ℕ) → IsGreatestDivisor xs g → g ≡ 0 → 0 < sum xs → HaveNoCommonDivisor xs
-no_sum xs g is none some = let flat = zeros xs (subst (λ d. All (λ x. d ∣ x) xs) none is.divides) in absurd (omega arith)
+no_sum xs g is none some = let flat = sum-zero_divides xs (subst (λ d. All (λ x. d ∣ x) xs) none is.divides) in absurd (omega arith)
 
 -- numbers that are divided by their greatest common divisor have none but 1
-pub lowest : (xs ys : List ℕ) (g : ℕ) → IsGreatestDivisor xs g → g ≢ 0 → ys ≡ map (λ x. x / g) xs → HaveNoCommonDivisor ys
-lowest xs ys g is some e = λ d all.
+pub HaveNoCommonDivisor-divided : (xs ys : List ℕ) (g : ℕ) → IsGreatestDivisor xs g → g ≢ 0 → ys ≡ map (λ x. x / g) xs → HaveNoCommonDivisor ys
+HaveNoCommonDivisor-divided xs ys g is some e = λ d all.
     let whole : g * d ∣ g * 1 = subst (λ n. g * d ∣ n) (sym (times_one g)) (is.greatest (g * d) (λ j x lt.
     let at : get_or ys j x ≡ get_or xs j x / g = ap (λ zs. get_or zs j x) e ∙ get_or-map (λ y. y / g) xs j x x lt in
     let long : length ys ≡ length xs = ap length e ∙ length-map xs (λ y. y / g) in

@@ -48,12 +48,12 @@ least_of-level f (q ∷ r ∷ qs) t some h =
     omega (arith, first, rest)
 
 -- the quorums ascend below the number of voters
-ascending : (s : QuorumSystem) → IsCoterie s → All (Ascends 0 s.voters) s.quorums
-ascending s h = λ j d lt. Ascends-high 0 64 s.voters _ (h.sets j d lt) (h.in_range j d lt)
+Ascends-quorums : (s : QuorumSystem) → IsCoterie s → All (Ascends 0 s.voters) s.quorums
+Ascends-quorums s h = λ j d lt. Ascends-high 0 64 s.voters _ (h.sets j d lt) (h.in_range j d lt)
 
 -- the members of a quorum at a place weigh its size
-sized : (s : QuorumSystem) → IsCoterie s → (j : ℕ) (d : List ℕ) → j < length s.quorums → weight_within (ones s.voters) (get_or s.quorums j d) ≡ length (get_or s.quorums j d)
-sized s h j d lt = weight_within-ones s.voters (get_or s.quorums j d) (h.in_range j d lt)
+weight_within-ones_at : (s : QuorumSystem) → IsCoterie s → (j : ℕ) (d : List ℕ) → j < length s.quorums → weight_within (ones s.voters) (get_or s.quorums j d) ≡ length (get_or s.quorums j d)
+weight_within-ones_at s h j d lt = weight_within-ones s.voters (get_or s.quorums j d) (h.in_range j d lt)
 
 sum-ones : (n : ℕ) → sum (ones n) ≡ n
 sum-ones n = sum_by-replicate (λ x. x) n 1 ∙ mul_one n
@@ -76,8 +76,8 @@ IsCertificate-uniform s h u =
     let cycle = sum-ones q in
     let total = sum-ones n in
     let most : busiest_count (all_ones s) ≡ u.degree = greatest_below-level n (λ i. weight_on i s.quorums (ones q)) u.degree some_voter (λ i lt. weight_on-ones i s.quorums ∙ u.voters i lt) in
-    let least : lightest_quorum (all_ones s) ≡ u.size = least_of-level (weight_within (ones n)) s.quorums u.size some_quorum (λ j d lt. sized s h j d lt ∙ u.quorums j d lt) in
-    let degrees = total_from-degrees n s.quorums (ascending s h) in
+    let least : lightest_quorum (all_ones s) ≡ u.size = least_of-level (weight_within (ones n)) s.quorums u.size some_quorum (λ j d lt. weight_within-ones_at s h j d lt ∙ u.quorums j d lt) in
+    let degrees = total_from-degrees n s.quorums (Ascends-quorums s h) in
     let level : total_from 0 n (degree_of s) ≡ n * u.degree = total_from-level 0 n u.degree (degree_of s) (λ i le lt. u.voters i (omega arith)) in
     let sizes = sum_by-level u.size s.quorums u.quorums in
     let twice : n * u.degree ≡ q * u.size = sym level ∙ degrees ∙ sizes in
@@ -103,10 +103,10 @@ IsUniform-certificate s h c =
     let t : ℕ = lightest_quorum (all_ones s) in
     let cycle = sum-ones q in
     let total = sum-ones n in
-    let degrees = total_from-degrees n s.quorums (ascending s h) in
+    let degrees = total_from-degrees n s.quorums (Ascends-quorums s h) in
     let balanced : m * n ≡ t * q = ap (λ x. m * x) (sym total) ∙ c.balanced ∙ ap (λ x. t * x) cycle in
     let most : (i : ℕ) → i < n → degree_of s i ≤ m = λ i lt. subst (λ x. x ≤ m) (weight_on-ones i s.quorums) (greatest_below-le n (λ i. weight_on i s.quorums (ones q)) i lt) in
-    let least : All (λ r. t ≤ length r) s.quorums = λ j d lt. subst (λ x. t ≤ x) (sized s h j d lt) (least_of-le (weight_within (ones n)) s.quorums j d lt) in
+    let least : All (λ r. t ≤ length r) s.quorums = λ j d lt. subst (λ x. t ≤ x) (weight_within-ones_at s h j d lt) (least_of-le (weight_within (ones n)) s.quorums j d lt) in
     let low = sum_by-least t s.quorums least in
     let high = total_from-most 0 n m (degree_of s) (λ i le lt. most i (omega arith)) in
     record {

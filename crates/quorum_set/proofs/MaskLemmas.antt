@@ -167,20 +167,20 @@ length-members_of m fits = ap count_ones (sym (mod-eq_of_lt fits)) ∙ sym (leng
 pub words_joined_fit : (a b : ℕ) → a < 2 ^ 64 → b < 2 ^ 64 → bit_or a b < 2 ^ 64
 words_joined_fit a b fits_a fits_b = or_lt 64 a b fits_a fits_b
 
-either : (a b : ℕ) → a < 2 → b < 2 → eqb (max a b) 1 ≡ (eqb a 1 || eqb b 1)
-either zero zero la lb = refl
-either zero (suc zero) la lb = refl
-either (suc zero) zero la lb = refl
-either (suc zero) (suc zero) la lb = refl
-either zero (suc (suc b)) la lb = absurd (omega arith)
-either (suc zero) (suc (suc b)) la lb = absurd (omega arith)
-either (suc (suc a)) b la lb = absurd (omega arith)
+eqb-max_one : (a b : ℕ) → a < 2 → b < 2 → eqb (max a b) 1 ≡ (eqb a 1 || eqb b 1)
+eqb-max_one zero zero la lb = refl
+eqb-max_one zero (suc zero) la lb = refl
+eqb-max_one (suc zero) zero la lb = refl
+eqb-max_one (suc zero) (suc zero) la lb = refl
+eqb-max_one zero (suc (suc b)) la lb = absurd (omega arith)
+eqb-max_one (suc zero) (suc (suc b)) la lb = absurd (omega arith)
+eqb-max_one (suc (suc a)) b la lb = absurd (omega arith)
 
 pub union-members_of : (a b : ℕ) → a < 2 ^ 64 → b < 2 ^ 64 → members_of (bit_or a b) ≡ union (members_of a) (members_of b)
 union-members_of a b fits_a fits_b =
     is_set_where (members_of (bit_or a b)) (λ v. has (members_of a) v || has (members_of b) v) (IsSet-members_of (bit_or a b)) (λ v lt.
     has-members_of (bit_or a b) v (words_joined_fit a b fits_a fits_b) ∙ ap (λ n. eqb n 1) (bit_at_or a b v)
-    ∙ either (bit_at a v) (bit_at b v) (bit_at-lt a v) (bit_at-lt b v)
+    ∙ eqb-max_one (bit_at a v) (bit_at b v) (bit_at-lt a v) (bit_at-lt b v)
     ∙ sym (ap₂ (λ x y. x || y) (has-members_of a v fits_a) (has-members_of b v fits_b)))
 
 -- a set with no member below k ascends from k on

@@ -18,9 +18,9 @@ has_later x v xs e = either_way (eqb x v)
     either_way false = e
 
 -- a common member, where the test says that there is one
-common : (p q : List ℕ) → meet p q ≡ true → (v : ℕ) × (has p v ≡ true) × (has q v ≡ true)
-common [] q e = absurd (true≢false (sym e))
-common (x ∷ xs) q e = here_or_later (has q x) refl (λ later. common xs q later)
+meet-common : (p q : List ℕ) → meet p q ≡ true → (v : ℕ) × (has p v ≡ true) × (has q v ≡ true)
+meet-common [] q e = absurd (true≢false (sym e))
+meet-common (x ∷ xs) q e = here_or_later (has q x) refl (λ later. meet-common xs q later)
   where
     here_or_later : (t : Bool) → has q x ≡ t → (meet xs q ≡ true → (v : ℕ) × (has xs v ≡ true) × (has q v ≡ true)) → (v : ℕ) × (has (x ∷ xs) v ≡ true) × (has q v ≡ true)
     here_or_later true is others = (x, has-head x xs, is)
@@ -29,9 +29,9 @@ common (x ∷ xs) q e = here_or_later (has q x) refl (λ later. common xs q late
         (later.0, has_later x later.0 xs later.1, later.2)
 
 -- a set with a member meets itself
-self : (p : List ℕ) → 0 < length p → (v : ℕ) × (has p v ≡ true) × (has p v ≡ true)
-self [] some_member = absurd (omega arith)
-self (x ∷ xs) some_member = (x, has-head x xs, has-head x xs)
+has-some : (p : List ℕ) → 0 < length p → (v : ℕ) × (has p v ≡ true) × (has p v ≡ true)
+has-some [] some_member = absurd (omega arith)
+has-some (x ∷ xs) some_member = (x, has-head x xs, has-head x xs)
 
 pub coterie_meets : (s : QuorumSystem) → IsCoterie s → AllMeet s.voters s.quorums
 coterie_meets s c j k lt lt' = within (shared (ℕ_discrete j k) (dec_le k j))
@@ -46,6 +46,6 @@ coterie_meets s c j k lt lt' = within (shared (ℕ_discrete j k) (dec_le k j))
     within x = (x.0, all_has (λ (i : ℕ). i < s.voters) p x.0 x.1 (c.in_range j [] lt), x.1, x.2)
 
     shared : Dec (j ≡ k) → Dec (k ≤ j) → (v : ℕ) × (has p v ≡ true) × (has q v ≡ true)
-    shared (yes same) _ = subst (λ (i : ℕ). (v : ℕ) × (has p v ≡ true) × (has (slice_index_or s.quorums i []) v ≡ true)) same (self p (c.not_empty j [] lt))
-    shared (no apart) (yes after) = let x = common q p (c.meets k j [] (omega arith) lt) in (x.0, x.2, x.1)
-    shared (no apart) (no before) = common p q (c.meets j k [] (omega arith) lt')
+    shared (yes same) _ = subst (λ (i : ℕ). (v : ℕ) × (has p v ≡ true) × (has (slice_index_or s.quorums i []) v ≡ true)) same (has-some p (c.not_empty j [] lt))
+    shared (no apart) (yes after) = let x = meet-common q p (c.meets k j [] (omega arith) lt) in (x.0, x.2, x.1)
+    shared (no apart) (no before) = meet-common p q (c.meets j k [] (omega arith) lt')

@@ -12,10 +12,10 @@ use Rattle.numbers.specs.Sets.{numbers_from, set_where, members_of}
 abbrev pub word_of : List ℕ → ℕ
 word_of s = sum_by (λ i. 2 ^ i) s
 
-both : (b : Bool) (x : ℕ) (more less last : List ℕ) → more ≡ less ++ last
+cond_cons-append : (b : Bool) (x : ℕ) (more less last : List ℕ) → more ≡ less ++ last
     → cond b (x ∷ more) more ≡ cond b (x ∷ less) less ++ last
-both true x more less last e = ap (λ t. x ∷ t) e
-both false x more less last e = e
+cond_cons-append true x more less last e = ap (λ t. x ∷ t) e
+cond_cons-append false x more less last e = e
 
 -- a range of numbers with one more at its end, which passes or not
 pub numbers_from-more : (low n : ℕ) (p : ℕ → Bool)
@@ -27,7 +27,7 @@ numbers_from-more low (suc n) p =
     ≡ numbers_from (low + 1) n p ++ cond (p (low + suc n)) ((low + suc n) ∷ []) [] =
     rw e at (numbers_from-more (low + 1) n p) in
     let next : suc n + 1 ≡ suc (n + 1) = omega arith in
-    rw next (both (p low) low (numbers_from (low + 1) (n + 1) p) (numbers_from (low + 1) n p)
+    rw next (cond_cons-append (p low) low (numbers_from (low + 1) (n + 1) p) (numbers_from (low + 1) n p)
     (cond (p (low + suc n)) ((low + suc n) ∷ []) []) rest)
 
 -- the low n + 1 bits of a word, from bit n and the low n bits

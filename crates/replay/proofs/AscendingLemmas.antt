@@ -23,11 +23,11 @@ times-above_from n p xs h = times-above n (drop p xs) (λ i lt. omega (arith, h 
 times-drop_more : (n p : ℕ) (xs : List ℕ) → p < length xs → times n (drop p xs) ≡ cond (eqb (get_or xs p 0) n) 1 0 + times n (drop (p + 1) xs)
 times-drop_more n p xs lt = sum_by-drop_more (λ k. cond (eqb k n) 1 0) xs p 0 lt
 
-here : (x n : ℕ) → x ≡ n → cond {A = ℕ} (eqb x n) 1 0 ≡ 1
-here x n e = ap (λ b. cond {A = ℕ} b 1 0) (eq-eqb x n e)
+cond_eqb-same : (x n : ℕ) → x ≡ n → cond {A = ℕ} (eqb x n) 1 0 ≡ 1
+cond_eqb-same x n e = ap (λ b. cond {A = ℕ} b 1 0) (eq-eqb x n e)
 
-elsewhere : (x n : ℕ) → (x ≡ n → ⊥) → cond {A = ℕ} (eqb x n) 1 0 ≡ 0
-elsewhere x n ne = ap (λ b. cond {A = ℕ} b 1 0) (ne_eqb x n ne)
+cond_eqb-other : (x n : ℕ) → (x ≡ n → ⊥) → cond {A = ℕ} (eqb x n) 1 0 ≡ 0
+cond_eqb-other x n ne = ap (λ b. cond {A = ℕ} b 1 0) (ne_eqb x n ne)
 
 -- What stands twice
 
@@ -41,8 +41,8 @@ twice_more xs p up so_far lt apart = record {
   left = λ n h. elim (cases_eq (get_or xs p 0) n) [
     | inl same ↦
         let none = times-above_from n (p + 1) xs (λ i le below. omega (arith, same, apart_lt, up (p + 1) i 0 le below)) in
-        absurd (omega (arith, so_far.left n h, times-drop_more n p xs (omega arith), here (get_or xs p 0) n same, none))
-    | inr other ↦ omega (arith, so_far.left n h, times-drop_more n p xs (omega arith), elsewhere (get_or xs p 0) n other)
+        absurd (omega (arith, so_far.left n h, times-drop_more n p xs (omega arith), cond_eqb-same (get_or xs p 0) n same, none))
+    | inr other ↦ omega (arith, so_far.left n h, times-drop_more n p xs (omega arith), cond_eqb-other (get_or xs p 0) n other)
   ];
   within = λ n. omega (arith, so_far.within n, times-drop_more n p xs (omega arith));
 }
@@ -57,7 +57,7 @@ twice_more xs p up so_far lt apart = record {
 pub twice_found : (xs : List ℕ) (p : ℕ) → IsNonDecreasing xs → IsLeftTwice xs p → p + 1 < length xs → get_or xs p 0 ≡ get_or xs (p + 1) 0 → IsLeast (IsTwice xs) (get_or xs p 0)
 twice_found xs p up so_far lt same =
     let x = get_or xs p 0 in (
-      omega (arith, so_far.within x, times-drop_more x p xs (omega arith), times-drop_more x (p + 1) xs lt, here x x refl, here (get_or xs (p + 1) 0) x (sym same)),
+      omega (arith, so_far.within x, times-drop_more x p xs (omega arith), times-drop_more x (p + 1) xs lt, cond_eqb-same x x refl, cond_eqb-same (get_or xs (p + 1) 0) x (sym same)),
       λ m twice. elim (cases_lt m x) [
         | inl less ↦ absurd (omega (arith, so_far.left m twice, times-above_from m p xs (λ i le below. omega (arith, less, up p i 0 le below))))
         | inr more ↦ more
@@ -81,15 +81,15 @@ counted_more xs p up single so_far lt at = record {
     | inl less ↦ so_far.seen n less
     | inr more ↦ subst (λ x. 1 ≤ times x xs) (omega arith) stands
   ];
-  left = λ n le. omega (arith, so_far.left n (omega arith), times-drop_more n p xs lt, elsewhere (get_or xs p 0) n (λ e. omega arith));
+  left = λ n le. omega (arith, so_far.left n (omega arith), times-drop_more n p xs lt, cond_eqb-other (get_or xs p 0) n (λ e. omega arith));
   low = λ i le below. elim (cases_eq (get_or xs i 0) p) [
-    | inl same ↦ absurd (single p (omega (arith, so_far.left p (omega arith), times-drop_more p p xs lt, here (get_or xs p 0) p at, again i le below same)))
+    | inl same ↦ absurd (single p (omega (arith, so_far.left p (omega arith), times-drop_more p p xs lt, cond_eqb-same (get_or xs p 0) p at, again i le below same)))
     | inr other ↦ above i other (omega (arith, up p i 0 (omega arith) below))
   ];
 }
   where
     stands : 1 ≤ times p xs
-    stands = omega (arith, so_far.left p (omega arith), times-drop_more p p xs lt, here (get_or xs p 0) p at)
+    stands = omega (arith, so_far.left p (omega arith), times-drop_more p p xs lt, cond_eqb-same (get_or xs p 0) p at)
 
     again : (i : ℕ) → p + 1 ≤ i → i < length xs → get_or xs i 0 ≡ p → 1 ≤ times p (drop (p + 1) xs)
     again i le below same =
@@ -161,7 +161,7 @@ single_from_count ns counts = λ n twice. elim (cases_lt n (length ns)) [
         let added = sum_by-cons (λ z. cond (leb size z) 1 0) x xs in
         elim (cases_eq x n) [
           | inl same ↦ let one = ap (λ b. cond {A = ℕ} b 1 0) (le-leb size x (omega arith)) in absurd (omega (arith, added, one))
-          | inr other ↦ omega (arith, times-cons n x xs, elsewhere x n other, stands_above size n xs le (omega (arith, added)))
+          | inr other ↦ omega (arith, times-cons n x xs, cond_eqb-other x n other, stands_above size n xs le (omega (arith, added)))
         ]
 
 pub none_missing : (ns : List ℕ) (n : ℕ) → EachOnce ns → ¬ (IsMissing ns n)

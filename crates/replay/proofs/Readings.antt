@@ -89,42 +89,42 @@ same_steps (s ∷ a) (t ∷ b) ha hb e =
     ap₂ (λ (x : Step) (xs : List Step). x ∷ xs) parts.0 (same_steps a b ha.1 hb.1 parts.1)
 
 -- a step's line and a rest, behind other steps' lines
-goes_on : (s : Step) (steps : List Step) (rest : List ℕ) → steps_text (s ∷ steps) ++ rest ≡ step_line s ++ 10 ∷ (steps_text steps ++ rest)
-goes_on s steps rest = append_assoc (step_line s) (10 ∷ steps_text steps) rest
+steps_text-cons : (s : Step) (steps : List Step) (rest : List ℕ) → steps_text (s ∷ steps) ++ rest ≡ step_line s ++ 10 ∷ (steps_text steps ++ rest)
+steps_text-cons s steps rest = append_assoc (step_line s) (10 ∷ steps_text steps) rest
 
-begins : (s : Step) (steps : List Step) (rest text : List ℕ) → HasStepLine s → text ≡ steps_text (s ∷ steps) ++ rest → BeginsWith IsStepLine text
-begins s steps rest text h e = (step_line s, steps_text steps ++ rest, (s, h, refl), e ∙ goes_on s steps rest)
+BeginsWith-steps_text : (s : Step) (steps : List Step) (rest text : List ℕ) → HasStepLine s → text ≡ steps_text (s ∷ steps) ++ rest → BeginsWith IsStepLine text
+BeginsWith-steps_text s steps rest text h e = (step_line s, steps_text steps ++ rest, (s, h, refl), e ∙ steps_text-cons s steps rest)
 
 -- where two lists of steps are cut off, they are equally long
 pub same_place : (a b : List Step) (rest more : List ℕ) → HaveLines a → HaveLines b → ¬ (BeginsWith IsStepLine rest) → ¬ (BeginsWith IsStepLine more) → steps_text a ++ rest ≡ steps_text b ++ more → length a ≡ length b
 same_place [] [] rest more ha hb bad worse e = refl
-same_place [] (t ∷ b) rest more ha hb bad worse e = absurd (bad (begins t b more rest hb.0 e))
-same_place (s ∷ a) [] rest more ha hb bad worse e = absurd (worse (begins s a rest more ha.0 (sym e)))
+same_place [] (t ∷ b) rest more ha hb bad worse e = absurd (bad (BeginsWith-steps_text t b more rest hb.0 e))
+same_place (s ∷ a) [] rest more ha hb bad worse e = absurd (worse (BeginsWith-steps_text s a rest more ha.0 (sym e)))
 same_place (s ∷ a) (t ∷ b) rest more ha hb bad worse e =
-    let parts = next_line s t (steps_text a ++ rest) (steps_text b ++ more) ha.0 hb.0 (sym (goes_on s a rest) ∙ e ∙ goes_on t b more) in
+    let parts = next_line s t (steps_text a ++ rest) (steps_text b ++ more) ha.0 hb.0 (sym (steps_text-cons s a rest) ∙ e ∙ steps_text-cons t b more) in
     let tail = same_place a b rest more ha.1 hb.1 bad worse parts.1 in
     omega arith
 
 -- steps' lines are not cut off
 pub never_cut : (a b : List Step) (rest : List ℕ) → HaveLines a → HaveLines b → rest ≢ [] → ¬ (BeginsWith IsStepLine rest) → steps_text a ++ rest ≢ steps_text b
 never_cut [] [] rest ha hb some bad = λ e. some e
-never_cut [] (t ∷ b) rest ha hb some bad = λ e. bad (begins t b [] rest hb.0 (e ∙ sym (append-nil (steps_text (t ∷ b)))))
-never_cut (s ∷ a) [] rest ha hb some bad = λ e. some_text (step_line s) (steps_text a ++ rest) (sym (goes_on s a rest) ∙ e)
+never_cut [] (t ∷ b) rest ha hb some bad = λ e. bad (BeginsWith-steps_text t b [] rest hb.0 (e ∙ sym (append-nil (steps_text (t ∷ b)))))
+never_cut (s ∷ a) [] rest ha hb some bad = λ e. some_text (step_line s) (steps_text a ++ rest) (sym (steps_text-cons s a rest) ∙ e)
 never_cut (s ∷ a) (t ∷ b) rest ha hb some bad = λ e.
-    let parts = next_line s t (steps_text a ++ rest) (steps_text b) ha.0 hb.0 (sym (goes_on s a rest) ∙ e) in
+    let parts = next_line s t (steps_text a ++ rest) (steps_text b) ha.0 hb.0 (sym (steps_text-cons s a rest) ∙ e) in
     never_cut a b rest ha.1 hb.1 some bad parts.1
 
 -- Texts
 
-head : (c l : ℕ) (rest : List ℕ) (d m : ℕ) (more : List ℕ) → AreSizes c l → AreSizes d m → world_line c l ++ 10 ∷ rest ≡ world_line d m ++ 10 ∷ more → (c ≡ d) × (l ≡ m) × (rest ≡ more)
-head c l rest d m more hc hd e =
+world_line-one_way : (c l : ℕ) (rest : List ℕ) (d m : ℕ) (more : List ℕ) → AreSizes c l → AreSizes d m → world_line c l ++ 10 ∷ rest ≡ world_line d m ++ 10 ∷ more → (c ≡ d) × (l ≡ m) × (rest ≡ more)
+world_line-one_way c l rest d m more hc hd e =
     let parts = same_line (world_line c l) rest (world_line d m) more (Lacks-world c l hc) (Lacks-world d m hd) e in
     let sizes = same_sizes c l d m hc hd parts.0 in
     (sizes.0, sizes.1, parts.1)
 
 pub same_script : (s t : Script) → IsScript s → IsScript t → script_text s ≡ script_text t → s ≡ t
 same_script s t hs ht e =
-    let parts = head s.clients s.limit (steps_text s.steps) t.clients t.limit (steps_text t.steps) hs.sizes ht.sizes e in
+    let parts = world_line-one_way s.clients s.limit (steps_text s.steps) t.clients t.limit (steps_text t.steps) hs.sizes ht.sizes e in
     let steps = same_steps s.steps t.steps hs.steps ht.steps parts.2 in
     rw (parts.0, parts.1, steps) refl
 
@@ -136,12 +136,12 @@ same_bad_line text m n (inl a) (inl b) = a.0 ∙ sym b.0
 same_bad_line text m n (inl a) (inr b) = absurd (a.1 (has_world text b.clients b.limit b.body b.sizes b.text_is))
 same_bad_line text m n (inr a) (inl b) = absurd (b.1 (has_world text a.clients a.limit a.body a.sizes a.text_is))
 same_bad_line text m n (inr a) (inr b) =
-    let parts = head a.clients a.limit a.body b.clients b.limit b.body a.sizes b.sizes (sym a.text_is ∙ b.text_is) in
+    let parts = world_line-one_way a.clients a.limit a.body b.clients b.limit b.body a.sizes b.sizes (sym a.text_is ∙ b.text_is) in
     let place = same_place a.steps b.steps a.ends.rest b.ends.rest a.ends.steps_have_lines b.ends.steps_have_lines a.ends.bad b.ends.bad (sym a.ends.text_is ∙ parts.2 ∙ b.ends.text_is) in
     a.line_is ∙ ap (λ k. k + 2) place ∙ sym b.line_is
 
 pub never_both : (text : List ℕ) (line : ℕ) (s : Script) → IsFirstBad text line → IsScript s → text ≢ script_text s
 never_both text line s (inl a) h = λ e. a.1 (has_world text s.clients s.limit (steps_text s.steps) h.sizes e)
 never_both text line s (inr a) h = λ e.
-    let parts = head a.clients a.limit a.body s.clients s.limit (steps_text s.steps) a.sizes h.sizes (sym a.text_is ∙ e) in
+    let parts = world_line-one_way a.clients a.limit a.body s.clients s.limit (steps_text s.steps) a.sizes h.sizes (sym a.text_is ∙ e) in
     never_cut a.steps s.steps a.ends.rest a.ends.steps_have_lines h.steps a.ends.some a.ends.bad (sym a.ends.text_is ∙ parts.2)

@@ -20,8 +20,8 @@ AreDraws body draws rest = AreFirst HasDrawLine draw_line body draws rest
 abbrev pub ArePasses : List ℕ → List Pass → List ℕ → Type 0
 ArePasses rest passes last = AreFirst HasPassLine pass_line rest passes last
 
-whole : (body rest last : List ℕ) (draws : List Draw) (passes : List Pass) → AreDraws body draws rest → ArePasses rest passes last → body ≡ draws_text draws ++ (passes_text passes ++ last)
-whole body rest last draws passes d p = d.text_is ∙ ap (λ (t : List ℕ). draws_text draws ++ t) p.text_is
+text-of_parts : (body rest last : List ℕ) (draws : List Draw) (passes : List Pass) → AreDraws body draws rest → ArePasses rest passes last → body ≡ draws_text draws ++ (passes_text passes ++ last)
+text-of_parts body rest last draws passes d p = d.text_is ∙ ap (λ (t : List ℕ). draws_text draws ++ t) p.text_is
 
 -- no line comes next
 
@@ -32,13 +32,13 @@ none_next rest last (p ∷ passes) is draw pass register (kinds.Draw client tick
 none_next rest last passes is draw pass register (kinds.Pass client number) more h may = pass (client, number) more h
 none_next rest last passes is draw pass register (kinds.Register number) more h may = register number more h
 
-pub stops : (body rest last : List ℕ) (draws : List Draw) (passes : List Pass) → AreDraws body draws rest → ArePasses rest passes last → BeginsWithNone HasRegisterLine register_line last → StopsBehind body draws passes
-stops body rest last draws passes d p r =
+pub StopsBehind-from_parts : (body rest last : List ℕ) (draws : List Draw) (passes : List Pass) → AreDraws body draws rest → ArePasses rest passes last → BeginsWithNone HasRegisterLine register_line last → StopsBehind body draws passes
+StopsBehind-from_parts body rest last draws passes d p r =
     record {
       draws_have_lines = d.have_lines;
       passes_have_lines = p.have_lines;
       rest = last;
-      body_is = whole body rest last draws passes d p;
+      body_is = text-of_parts body rest last draws passes d p;
       bad = none_next rest last passes p.text_is d.no_more p.no_more r;
     }
 
@@ -51,10 +51,10 @@ body_is : (body rest last behind : List ℕ) (e : Entries) → AreDraws body e.d
 body_is body rest last behind e d p r =
     let register = register_line e.register ++ 10 ∷ [] in
     let last_is : last ≡ register ++ behind = r.text_is ∙ sym (append_assoc (register_line e.register) (10 ∷ []) behind) in
-    whole body rest last e.draws e.passes d p
+    text-of_parts body rest last e.draws e.passes d p
     ∙ ap (λ (t : List ℕ). draws_text e.draws ++ (passes_text e.passes ++ t)) last_is
     ∙ ap (λ (t : List ℕ). draws_text e.draws ++ t) (sym (append_assoc (passes_text e.passes) register behind))
     ∙ sym (append_assoc (draws_text e.draws) (passes_text e.passes ++ register) behind)
 
-pub goes_on : (body rest last behind : List ℕ) (e : Entries) → behind ≢ [] → AreDraws body e.draws rest → ArePasses rest e.passes last → IsNext HasRegisterLine register_line last e.register behind → GoesOnBehind body e
-goes_on body rest last behind e some d p r = record { has_text = has_text body rest last behind e d p r; rest = behind; some = some; body_is = body_is body rest last behind e d p r }
+pub GoesOnBehind-from_parts : (body rest last behind : List ℕ) (e : Entries) → behind ≢ [] → AreDraws body e.draws rest → ArePasses rest e.passes last → IsNext HasRegisterLine register_line last e.register behind → GoesOnBehind body e
+GoesOnBehind-from_parts body rest last behind e some d p r = record { has_text = has_text body rest last behind e d p r; rest = behind; some = some; body_is = body_is body rest last behind e d p r }

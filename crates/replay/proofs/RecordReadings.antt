@@ -79,17 +79,17 @@ next_told l m rest more hl hm e =
 abbrev IsOneWay : {X : Type 0} → (X → Type 0) → (X → List ℕ) → Type 0
 IsOneWay {X} P f = (a b : X) (x y : List ℕ) → P a → P b → f a ++ 10 ∷ x ≡ f b ++ 10 ∷ y → (a ≡ b) × (x ≡ y)
 
-begins : {X : Type 0} (f : X → List ℕ) (a : X) (xs : List X) (rest : List ℕ) → lines_by f (a ∷ xs) ++ rest ≡ f a ++ 10 ∷ (lines_by f xs ++ rest)
-begins f a xs rest = append_assoc (f a) (10 ∷ lines_by f xs) rest
+lines_by-cons : {X : Type 0} (f : X → List ℕ) (a : X) (xs : List X) (rest : List ℕ) → lines_by f (a ∷ xs) ++ rest ≡ f a ++ 10 ∷ (lines_by f xs ++ rest)
+lines_by-cons f a xs rest = append_assoc (f a) (10 ∷ lines_by f xs) rest
 
 -- lines behind which no other such line stands are the same lines
 same_lines : {X : Type 0} (P : X → Type 0) (f : X → List ℕ) → IsOneWay P f → (xs ys : List X) (u v : List ℕ) → AllByRecursion P xs → AllByRecursion P ys → BeginsWithNone P f u → BeginsWithNone P f v
     → lines_by f xs ++ u ≡ lines_by f ys ++ v → (xs ≡ ys) × (u ≡ v)
 same_lines P f one [] [] u v ha hb nx ny e = (refl, e)
-same_lines P f one [] (b ∷ ys) u v ha hb nx ny e = absurd (nx b (lines_by f ys ++ v) hb.0 (e ∙ begins f b ys v))
-same_lines P f one (a ∷ xs) [] u v ha hb nx ny e = absurd (ny a (lines_by f xs ++ u) ha.0 (sym e ∙ begins f a xs u))
+same_lines P f one [] (b ∷ ys) u v ha hb nx ny e = absurd (nx b (lines_by f ys ++ v) hb.0 (e ∙ lines_by-cons f b ys v))
+same_lines P f one (a ∷ xs) [] u v ha hb nx ny e = absurd (ny a (lines_by f xs ++ u) ha.0 (sym e ∙ lines_by-cons f a xs u))
 same_lines {X} P f one (a ∷ xs) (b ∷ ys) u v ha hb nx ny e =
-    let first = one a b (lines_by f xs ++ u) (lines_by f ys ++ v) ha.0 hb.0 (sym (begins f a xs u) ∙ e ∙ begins f b ys v) in
+    let first = one a b (lines_by f xs ++ u) (lines_by f ys ++ v) ha.0 hb.0 (sym (lines_by-cons f a xs u) ∙ e ∙ lines_by-cons f b ys v) in
     let others = same_lines P f one xs ys u v ha.1 hb.1 nx ny first.1 in
     (ap₂ (λ (z : X) (zs : List X). z ∷ zs) first.0 others.0, others.1)
 
@@ -129,7 +129,7 @@ register_before_pass n x hn = λ p more hp e. let told = (next_told (kinds.Regis
 
 no_draw : (passes : List Pass) (last : List ℕ) → AllByRecursion HasPassLine passes → (passes ≡ [] → BeginsWithNone HasDrawLine draw_line last) → BeginsWithNone HasDrawLine draw_line (passes_text passes ++ last)
 no_draw [] last h none = none refl
-no_draw (p ∷ passes) last h none = λ d more hd e. pass_before_draw p (passes_text passes ++ last) h.0 d more hd (sym (begins pass_line p passes last) ∙ e)
+no_draw (p ∷ passes) last h none = λ d more hd e. pass_before_draw p (passes_text passes ++ last) h.0 d more hd (sym (lines_by-cons pass_line p passes last) ∙ e)
 
 -- Bodies
 

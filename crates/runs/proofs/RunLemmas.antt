@@ -106,9 +106,9 @@ each_drew c passes before after e served =
     zip_right (IsFresh c) (HasServed passes) (λ m. length m.clerk.receipts ≡ passes) (λ x y fresh s. more_than_none passes x.clerk.receipts y.clerk.receipts fresh.receipts s.worked.receipts) before after (are_fresh c before e) served
 
 -- what became of the client of this number
-became : (c : ClusterState) (R : MemberState → MemberState → Type 0) (before after : List MemberState) → before ≡ map (fresh_member c) (range_with_len 0 c.board.clients) → AllZip R before after
+AllZip-at_client : (c : ClusterState) (R : MemberState → MemberState → Type 0) (before after : List MemberState) → before ≡ map (fresh_member c) (range_with_len 0 c.board.clients) → AllZip R before after
     → (k : ℕ) → k < c.board.clients → R (fresh_member c k) (get_or after k (fresh_member c k))
-became c R before after e zip k less =
+AllZip-at_client c R before after e zip k less =
     let d = fresh_member c k in
     let there : k < length before = omega (arith, less, ap length e, length-map (range_with_len 0 c.board.clients) (fresh_member c), length-range_with_len 0 c.board.clients) in
     let first : get_or before k d ≡ d = ap (λ (l : List MemberState). get_or l k d) e ∙ get_or-map-range_with_len (fresh_member c) 0 c.board.clients k k d less (omega arith) in
@@ -118,15 +118,15 @@ became c R before after e zip k less =
 pub each_let : (c : ClusterState) (lets : ℕ → Bool) (passes : ℕ) (before after : List MemberState) → before ≡ map (fresh_member c) (range_with_len 0 c.board.clients) → AllZip (HasServed passes) before after → AllZip (WasLet lets) before after
     → 0 < passes → AreLet lets c.board.clients
 each_let c lets passes before after e served zip some k less =
-    let s = became c (HasServed passes) before after e served k less in
-    subst (λ n. lets n ≡ true) s.worked.client (became c (WasLet lets) before after e zip k less (omega (arith, some, more_than_none passes [] _ refl s.worked.passes)))
+    let s = AllZip-at_client c (HasServed passes) before after e served k less in
+    subst (λ n. lets n ≡ true) s.worked.client (AllZip-at_client c (WasLet lets) before after e zip k less (omega (arith, some, more_than_none passes [] _ refl s.worked.passes)))
 
 -- and each had two turns for each pass
 pub two_turns : (c : ClusterState) (turns passes : ℕ) (before after : List MemberState) → before ≡ map (fresh_member c) (range_with_len 0 c.board.clients) → AllZip (HasServed passes) before after → AllZip (TookTurns turns) before after
     → 1 ≤ c.board.clients → 2 * passes ≤ turns
 two_turns c turns passes before after e served zip some =
-    let s = became c (HasServed passes) before after e served 0 some in
-    omega (arith, became c (TookTurns turns) before after e zip 0 some, more_than_none passes [] _ refl s.worked.passes)
+    let s = AllZip-at_client c (HasServed passes) before after e served 0 some in
+    omega (arith, AllZip-at_client c (TookTurns turns) before after e zip 0 some, more_than_none passes [] _ refl s.worked.passes)
 
 -- no member is missing
 pub all_ready : (c : ClusterState) (passes missing : ℕ) (before after : List MemberState) → before ≡ map (fresh_member c) (range_with_len 0 c.board.clients) → AllZip (HasServed passes) before after
@@ -215,9 +215,9 @@ same_numbers passes (x ∷ xs) [] zip = absurd zip
 same_numbers passes (x ∷ xs) (y ∷ ys) zip = λ i. zip.0.worked.client i ∷ same_numbers passes xs ys zip.1 i
 
 -- the members' numbers are those below the number of clients
-numbered : (c : ClusterState) (passes : ℕ) (before after : List MemberState) → before ≡ map (fresh_member c) (range_with_len 0 c.board.clients) → AllZip (HasServed passes) before after
+ids-are_range : (c : ClusterState) (passes : ℕ) (before after : List MemberState) → before ≡ map (fresh_member c) (range_with_len 0 c.board.clients) → AllZip (HasServed passes) before after
     → map (λ m. m.requester.id) after ≡ range_with_len 0 c.board.clients
-numbered c passes before after e served = same_numbers passes before after served ∙ ap (map (λ (m : MemberState). m.requester.id)) e ∙ numbers_of_fresh c (range_with_len 0 c.board.clients)
+ids-are_range c passes before after e served = same_numbers passes before after served ∙ ap (map (λ (m : MemberState). m.requester.id)) e ∙ numbers_of_fresh c (range_with_len 0 c.board.clients)
 
 -- The record
 
@@ -236,10 +236,10 @@ run_of c passes before after r e served quorums is sound drawn register in_range
       register = register ∙ ap (λ n. n * passes) many;
       each_draw = λ k d lt. ((is.each_draw k d lt).client, omega (arith, in_range k d lt, ap length quorums));
       each_pass = is.each_pass;
-      draws_of_each = times_of_each (λ (d : Draw). d.0) draws_of c.board.clients passes after r.draws.items is.draws (numbered c passes before after e served)
+      draws_of_each = times_of_each (λ (d : Draw). d.0) draws_of c.board.clients passes after r.draws.items is.draws (ids-are_range c passes before after e served)
           (λ k m lt. length-map (get_or after k m).clerk.receipts (λ (x : Receipt). ((get_or after k m).requester.id, x.ticket, x.quorum)) ∙ each_drew c passes before after e served k m lt)
           (λ m. All-map (λ (d : Draw). d.0 ≡ m.requester.id) (λ (x : Receipt). (m.requester.id, x.ticket, x.quorum)) m.clerk.receipts (λ k x lt. refl));
-      passes_of_each = times_of_each (λ (p : Pass). p.0) passes_of c.board.clients passes after r.passes.items is.passes (numbered c passes before after e served)
+      passes_of_each = times_of_each (λ (p : Pass). p.0) passes_of c.board.clients passes after r.passes.items is.passes (ids-are_range c passes before after e served)
           (λ k m lt. length-map (get_or after k m).seat.passes (λ (x : ℕ). ((get_or after k m).requester.id, x)) ∙ each_passed c passes before after e served k m lt)
           (λ m. All-map (λ (p : Pass). p.0 ≡ m.requester.id) (λ (x : ℕ). (m.requester.id, x)) m.seat.passes (λ k x lt. refl));
     }

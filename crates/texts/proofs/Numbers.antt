@@ -13,17 +13,17 @@ use Rattle.std.proofs.lemmas.Grind.{common_steps}
 use Rattle.texts.specs.Fields.{IsBorder, HasNoSpace}
 use Rattle.std.proofs.lemmas.Fmt.{decimal-digits_value, digits_decimal, decimal_digit, first_decimal, decimal_nonempty, IsAscii-decimal}
 
-pub own : IsNumeralModel (AllDigits 10) (digits_value 10)
-own = numerals_by_value (AllDigits 10) tells_digits
+pub IsNumeralModel-decimal : IsNumeralModel (AllDigits 10) (digits_value 10)
+IsNumeralModel-decimal = numerals_by_value (AllDigits 10) tells_digits
 
 pub is_decimal : {E : Type 0} (bs : List ℕ) (n : ℕ) (r : Result ℕ E) → ParsesUnsigned 64 10 bs r → get_or bs 0 0 ≢ 43 → (get_or bs 0 0 ≡ 48 → length bs ≡ 1) → r ≡ Ok n → bs ≡ decimal n
 is_decimal bs n r h plain short e =
-    let f = rw e at (parse_plain own 64 bs r h plain) in
-    rw f.1 (sym (decimal-digits_value own bs f.0.0 f.0.1 short f.0.2))
+    let f = rw e at (parse_plain IsNumeralModel-decimal 64 bs r h plain) in
+    rw f.1 (sym (decimal-digits_value IsNumeralModel-decimal bs f.0.0 f.0.1 short f.0.2))
 
 pub first_is_digit : (n : ℕ) → n < 2 ^ 64 → get_or (decimal n) 0 0 ≢ 43
 first_is_digit n small e =
-    let d = digit_at (decimal n) 0 (digits_decimal own n small) (decimal_nonempty n small) in
+    let d = digit_at (decimal n) 0 (digits_decimal IsNumeralModel-decimal n small) (decimal_nonempty n small) in
     absurd (omega arith)
 
 pub zero_is_short : (n : ℕ) → n < 2 ^ 64 → get_or (decimal n) 0 0 ≡ 48 → length (decimal n) ≡ 1
@@ -41,7 +41,7 @@ digits_no_space [] h = tt
 digits_no_space (d ∷ ds) h = ((λ e. let r = digit_from_value d h.0 in absurd (omega arith)), digits_no_space ds h.1)
 
 pub decimal_no_space : (n : ℕ) → n < 2 ^ 64 → HasNoSpace (decimal n)
-decimal_no_space n small = digits_no_space _ (digits_decimal own n small)
+decimal_no_space n small = digits_no_space _ (digits_decimal IsNumeralModel-decimal n small)
 
 pub place_of_space : (ds rest : List ℕ) → HasNoSpace ds → IsBorder rest → position_or_len (λ b. b == 32) (ds ++ rest) ≡ length ds
 place_of_space [] [] h b = refl
@@ -51,8 +51,8 @@ place_of_space (d ∷ ds) rest h b = let e = place_of_space ds rest h.1 b in let
 abbrev pub is_space : ℕ → Bool
 is_space b = b == 32
 
-one_and : (n : ℕ) → 1 + n ≡ suc n
-one_and n = omega arith
+one-add : (n : ℕ) → 1 + n ≡ suc n
+one-add n = omega arith
 
 -- before the first space there is none
 pub no_space_before : (bytes : List ℕ) → HasNoSpace (take (position_or_len is_space bytes) bytes)
@@ -60,7 +60,7 @@ no_space_before [] = tt
 no_space_before (b ∷ bytes) =
     elim (eqb b 32) as (λ t. eqb b 32 ≡ t → HasNoSpace (take (cond (not t) (1 + position_or_len is_space bytes) 0) (b ∷ bytes))) [
       | true ↦ λ e. tt
-      | false ↦ λ e. rw (one_and (position_or_len is_space bytes)) ((let ne : b ≢ 32 = grind (arith, nat_tests) in ne), no_space_before bytes)
+      | false ↦ λ e. rw (one-add (position_or_len is_space bytes)) ((let ne : b ≢ 32 = grind (arith, nat_tests) in ne), no_space_before bytes)
     ] refl
 
 -- from there on, there is nothing or a space at the front
@@ -69,5 +69,5 @@ border_from [] = tt
 border_from (b ∷ bytes) =
     elim (eqb b 32) as (λ t. eqb b 32 ≡ t → IsBorder (drop (cond (not t) (1 + position_or_len is_space bytes) 0) (b ∷ bytes))) [
       | true ↦ λ e. (let is : b ≡ 32 = grind (arith, nat_tests) in is)
-      | false ↦ λ e. rw (one_and (position_or_len is_space bytes)) (border_from bytes)
+      | false ↦ λ e. rw (one-add (position_or_len is_space bytes)) (border_from bytes)
     ] refl

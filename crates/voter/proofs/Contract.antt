@@ -20,7 +20,7 @@ use Rattle.voter.specs.Steps.{Outcome, grant_to, grant_front, released, released
 use Rattle.voter.proofs.Front.{front_found}
 use Rattle.voter.proofs.Moves.{vote_moves, moves-admitted}
 use Rattle.voter.proofs.Soundness.{get_removed, get_inserted}
-use Rattle.voter.proofs.Effects.{taken}
+use Rattle.voter.proofs.Effects.{step-Some}
 
 -- A grant stays, or the message ends it.
 
@@ -54,13 +54,13 @@ grant_ends (Some h) c n g is e =
     let number = ap (λ (k : Grant). k.grant) (same_Some h g is) in
     (grind (arith, nat_tests), grind (arith, nat_tests))
 
-ended : (v : VoterState) (c : ℕ) (b : VoterBody) (g : Grant) → v.held ≡ Some g → ends_grant v c b ≡ true → Ends c b g
+Ends-from_ends_grant : (v : VoterState) (c : ℕ) (b : VoterBody) (g : Grant) → v.held ≡ Some g → ends_grant v c b ≡ true → Ends c b g
 unfolding ends_grant
-ended v c (asks.Request s) g is e =
+Ends-from_ends_grant v c (asks.Request s) g is e =
     let own = held_ends v.held c g is (older_some (held_stamp v.held c) s _ e) in
     (own.0, older_less (held_stamp v.held c) s g.stamp _ own.1 e)
-ended v c (asks.Relinquish n) g is e = grant_ends v.held c n g is e
-ended v c (asks.Release s) g is e =
+Ends-from_ends_grant v c (asks.Relinquish n) g is e = grant_ends v.held c n g is e
+Ends-from_ends_grant v c (asks.Release s) g is e =
     let own = held_ends v.held c g is (up_to_some (held_stamp v.held c) s e) in
     (own.0, up_to_le (held_stamp v.held c) s g.stamp own.1 e)
 
@@ -70,7 +70,7 @@ kept_by false v w E g is ends (inl k) = inl (k.held ∙ is)
 kept_by false v w E g is ends (inr k) = absurd (none-some g (sym k.0 ∙ is))
 
 pub grant_kept : (v : VoterState) (c : ℕ) (b : VoterBody) (g : Grant) → v.held ≡ Some g → ((outcome_of v c b).state.held ≡ Some g) ⊎ Ends c b g
-grant_kept v c b g is = kept_by (ends_grant v c b) v (outcome_of v c b).state (Ends c b) g is (ended v c b g is) (vote_moves v c b)
+grant_kept v c b g is = kept_by (ends_grant v c b) v (outcome_of v c b).state (Ends c b) g is (Ends-from_ends_grant v c b g is) (vote_moves v c b)
 
 -- Entries: what is so of the stamps that came is so of each that holds the vote or waits.
 
@@ -170,10 +170,10 @@ module _ (P : ℕ → ℕ → Type 0) where
 abbrev pub Came : VoterState → ℕ → VoterBody → ℕ → ℕ → Type 0
 Came v c b d t = IsEntry v d t ⊎ Brings c b d t
 
-brought : (v : VoterState) (c : ℕ) (b : VoterBody) → Tells (Came v c b) c b
-brought v c (asks.Request s) = inr (refl, refl)
-brought v c (asks.Relinquish n) = tt
-brought v c (asks.Release s) = tt
+Tells-Came : (v : VoterState) (c : ℕ) (b : VoterBody) → Tells (Came v c b) c b
+Tells-Came v c (asks.Request s) = inr (refl, refl)
+Tells-Came v c (asks.Relinquish n) = tt
+Tells-Came v c (asks.Release s) = tt
 
 came_before : (v : VoterState) (c : ℕ) (b : VoterBody) → Stamps (Came v c b) v
 came_before v c b = record { held = λ g is. inl (inl (g, is, refl, refl)); waiting = λ d t is. inl (inr is) }
@@ -183,7 +183,7 @@ entry_of P w h d t (inl e) = subst (λ n. P d n) e.3 (subst (λ n. P n e.0.stamp
 entry_of P w h d t (inr e) = h.waiting d t e
 
 pub entries_after : (v : VoterState) (c : ℕ) (b : VoterBody) (d t : ℕ) → IsEntry (outcome_of v c b).state d t → IsEntry v d t ⊎ Brings c b d t
-entries_after v c b d t e = entry_of (Came v c b) (outcome_of v c b).state (stamps_after (Came v c b) v c b (brought v c b) (came_before v c b)) d t e
+entries_after v c b d t e = entry_of (Came v c b) (outcome_of v c b).state (stamps_after (Came v c b) v c b (Tells-Came v c b) (came_before v c b)) d t e
 
 -- Each LOCKED tells the vote as it stands.
 
@@ -313,4 +313,4 @@ contract_met v m o e =
       entries = entries_after v m.client m.body;
       told = told_after v m.client m.body;
     } in
-    subst P (taken v m o e).1 met
+    subst P (step-Some v m o e).1 met

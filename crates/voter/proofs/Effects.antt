@@ -84,20 +84,20 @@ unspent_by : (b : Bool) (o p : Outcome) → unless_spent b o ≡ Some p → (b �
 unspent_by true o p e = absurd (none-some p e)
 unspent_by false o p e = (refl, same_Some o p e)
 
-pub taken : (v : VoterState) (m : ToVoter) (o : Outcome) → step v m ≡ Some o → (nat_lt v.limit (outcome_of v m.client m.body).state.granted ≡ false) × (outcome_of v m.client m.body ≡ o)
+pub step-Some : (v : VoterState) (m : ToVoter) (o : Outcome) → step v m ≡ Some o → (nat_lt v.limit (outcome_of v m.client m.body).state.granted ≡ false) × (outcome_of v m.client m.body ≡ o)
 unfolding step
-taken v m o e = unspent_by _ (outcome_of v m.client m.body) o e
+step-Some v m o e = unspent_by _ (outcome_of v m.client m.body) o e
 
 not_refused : (v : VoterState) (m : ToVoter) → nat_lt v.limit (outcome_of v m.client m.body).state.granted ≡ false → is_refused v m ≡ false
 not_refused v m within = let g = granted_after v m.client m.body in grind (arith, nat_tests)
 
 pub sound_step : (v : VoterState) (m : ToVoter) (o : Outcome) → IsSound v → step v m ≡ Some o → IsSound o.state
 sound_step v m o sound e =
-    let t = taken v m o e in
+    let t = step-Some v m o e in
     subst (λ (p : Outcome). IsSound p.state) t.1 (sound_after v m sound (not_refused v m t.0))
 
 pub moves_by_effect : (v : VoterState) (m : ToVoter) (o : Outcome) → IsSound v → step v m ≡ Some o → VoteMoves (effect_of v m).frees v o.state
 moves_by_effect v m o sound e =
-    let t = taken v m o e in
+    let t = step-Some v m o e in
     let f : (effect_of v m).frees ≡ ends_grant v m.client m.body = ap (λ (x : Effect). x.frees) (effect_taken v m sound (not_refused v m t.0)) in
     subst (λ (p : Outcome). VoteMoves (effect_of v m).frees v p.state) t.1 (subst (λ b. VoteMoves b v (outcome_of v m.client m.body).state) (sym f) (vote_moves v m.client m.body))

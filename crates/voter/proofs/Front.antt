@@ -53,10 +53,10 @@ IsApart : List (ℕ × ℕ) → Type 0
 IsApart [] = Unit {0}
 IsApart (e ∷ es) = (find nat_cmp e.0 es ≡ None) × IsApart es
 
-apart : (es : List (ℕ × ℕ)) → T (is_sorted nat_cmp es) → IsApart es
+IsApart-sorted : (es : List (ℕ × ℕ)) → T (is_sorted nat_cmp es) → IsApart es
 unfolding IsApart
-apart [] h = tt
-apart (e ∷ es) h = let parts = and_parts _ _ h in (below_missed e.0 es parts.0, apart es parts.1)
+IsApart-sorted [] h = tt
+IsApart-sorted (e ∷ es) h = let parts = and_parts _ _ h in (below_missed e.0 es parts.0, IsApart-sorted es parts.1)
 
 -- the least of entries in order is found, and nothing found precedes it
 pub record IsLeast (es : List (ℕ × ℕ)) (r : Request) : Type 0 where
@@ -70,11 +70,11 @@ IsLeastOf es (Some r) = IsLeast es r
 found_after : (c s : ℕ) (e : ℕ × ℕ) (es : List (ℕ × ℕ)) → find nat_cmp e.0 es ≡ None → find nat_cmp c es ≡ Some s → find nat_cmp c (e ∷ es) ≡ Some s
 found_after c s e es none is = let head = find_head c e es in grind (arith, nat_tests)
 
-pick : (c k s t : ℕ) (o : Option ℕ) → cond (eqb c k) (Some t) o ≡ Some s → ((c ≡ k) × (s ≡ t)) ⊎ (o ≡ Some s)
-pick c k s t o is = grind (arith, nat_tests)
+cond_eqb-Some : (c k s t : ℕ) (o : Option ℕ) → cond (eqb c k) (Some t) o ≡ Some s → ((c ≡ k) × (s ≡ t)) ⊎ (o ≡ Some s)
+cond_eqb-Some c k s t o is = grind (arith, nat_tests)
 
 found_cases : (c s : ℕ) (e : ℕ × ℕ) (es : List (ℕ × ℕ)) → find nat_cmp c (e ∷ es) ≡ Some s → ((c ≡ e.0) × (s ≡ e.1)) ⊎ (find nat_cmp c es ≡ Some s)
-found_cases c s e es is = pick c e.0 s e.1 _ (sym (find_head c e es) ∙ is)
+found_cases c s e es is = cond_eqb-Some c e.0 s e.1 _ (sym (find_head c e es) ∙ is)
 
 least_step : (e : ℕ × ℕ) (es : List (ℕ × ℕ)) (o : Option Request) → find nat_cmp e.0 es ≡ None → IsLeastOf es o → IsLeast (e ∷ es) (first_of (request e) o)
 unfolding IsLeastOf
@@ -109,7 +109,7 @@ least_of [] a = λ c. refl
 least_of (e ∷ es) a = least_step e es (least es) a.0 (least_of es a.1)
 
 pub least_is : (es : List (ℕ × ℕ)) → T (is_sorted nat_cmp es) → IsLeastOf es (least es)
-least_is es s = least_of es (apart es s)
+least_is es s = least_of es (IsApart-sorted es s)
 
 -- a request that is found, and that nothing found precedes, is the front
 same_least : (es : List (ℕ × ℕ)) (r : Request) (o : Option Request) → IsLeastOf es o → IsLeast es r → o ≡ Some r

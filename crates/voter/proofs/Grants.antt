@@ -66,8 +66,8 @@ unfolding released
 held-released v c s = held-released_by _ _ v c s
 
 -- a client whose request stands holds the vote or waits; its release, and then its new request
-counted : (n a : ℕ) (none some up : Bool) → more (cond up (not some) none) (more (up && some) n) ≡ more (none || up) n
-counted n a none some up = grind (arith, nat_tests)
+more-release_and_request : (n a : ℕ) (none some up : Bool) → more (cond up (not some) none) (more (up && some) n) ≡ more (none || up) n
+more-release_and_request n a none some up = grind (arith, nat_tests)
 
 pub up_to_own : (o w : Option ℕ) (t : ℕ) → first_some o w ≡ Some t → is_up_to o t ≡ is_some o
 up_to_own None w t e = refl
@@ -84,7 +84,7 @@ granted-compared_by false false v c s t l e stands =
     let w = (released v c t).state in
     let up = up_to_own (held_stamp v.held c) (get v.waiting c) t stands in
     let all = granted-admitted w c s ∙ ap (λ b. more b w.granted) (held-released v c t) ∙ ap (more (cond (is_up_to (held_stamp v.held c) t) (is_none (front v.waiting)) (is_none v.held))) (granted-released v c t)
-    ∙ counted v.granted 0 (is_none v.held) (is_some (front v.waiting)) (is_up_to (held_stamp v.held c) t) in
+    ∙ more-release_and_request v.granted 0 (is_none v.held) (is_some (front v.waiting)) (is_up_to (held_stamp v.held c) t) in
     grind (arith, nat_tests)
 
 granted-beside : (v : VoterState) (c s : ℕ) (o : Option ℕ) → standing v c ≡ o → (requested_beside v c s o).state.granted ≡ more (is_later o s && (is_none v.held || is_some (held_stamp v.held c))) v.granted
@@ -193,8 +193,8 @@ pub record KeepsBut (v : VoterState) (b : VoterBody) (w : VoterState) : Type 0 w
   pub limit : w.limit ≡ v.limit
   pub seen : w.seen ≡ seen_after v.seen b
 
-pub kept : (v : VoterState) (c : ℕ) (b : VoterBody) → KeepsBut v b (outcome_of v c b).state
+pub KeepsBut-outcome_of : (v : VoterState) (c : ℕ) (b : VoterBody) → KeepsBut v b (outcome_of v c b).state
 unfolding relinquished requested
-kept v c (asks.Request s) = let k = kept-requested_by _ (see v s) c s in record { id = k.id; limit = k.limit; seen = k.seen }
-kept v c (asks.Relinquish n) = let k = kept-relinquished_by _ v in record { id = k.id; limit = k.limit; seen = k.seen }
-kept v c (asks.Release s) = let k = kept-released (see v s) c s in record { id = k.id; limit = k.limit; seen = k.seen }
+KeepsBut-outcome_of v c (asks.Request s) = let k = kept-requested_by _ (see v s) c s in record { id = k.id; limit = k.limit; seen = k.seen }
+KeepsBut-outcome_of v c (asks.Relinquish n) = let k = kept-relinquished_by _ v in record { id = k.id; limit = k.limit; seen = k.seen }
+KeepsBut-outcome_of v c (asks.Release s) = let k = kept-released (see v s) c s in record { id = k.id; limit = k.limit; seen = k.seen }

@@ -14,8 +14,8 @@ use Rattle.voter.specs.VoteMoves.{VoteMoves}
 use Rattle.voter.specs.Steps.{grant_to, grant_front, released, released_by, queued, queued_by, admitted, admitted_by, queue, freed, finish, held_stamp, is_up_to, is_older, standing, first_some, requested, requested_by, requested_beside, compared_by, relinquished, relinquished_by, put_back, see, outcome_of, ends_grant}
 use Rattle.voter.proofs.Grants.{up_to_own}
 
-stays : (v w : VoterState) → w.granted ≡ v.granted → w.held ≡ v.held → VoteMoves false v w
-stays v w n h = inl (record { granted = n; held = h })
+VoteMoves-same : (v w : VoterState) → w.granted ≡ v.granted → w.held ≡ v.held → VoteMoves false v w
+VoteMoves-same v w n h = inl (record { granted = n; held = h })
 
 -- the vote is free, and goes to the front
 moves_to : (v u : VoterState) (o : Option Request) → u.granted ≡ v.granted → u.held ≡ None → VoteMoves true v (grant_to u o).state
@@ -58,15 +58,15 @@ unfolding admitted
 moves-admitted v c s = moves-admitted_by v.held v c s refl
 
 -- one step, and then one that ends no grant
-both : (e : Bool) (u v w : VoterState) → VoteMoves e u v → VoteMoves false v w → VoteMoves e u w
-both true u v w (inl h) (inl k) = inl (record { granted = k.granted ∙ h.granted; held = k.held ∙ h.held })
-both true u v w (inl h) (inr k) = inr (record { granted = k.1.granted ∙ ap (λ (n : ℕ). n + 1) h.granted; grant = k.1.grant; held = k.1.held; number = k.1.number ∙ ap (λ (n : ℕ). n + 1) h.granted })
-both true u v w (inr h) (inl k) = inr (record { granted = k.granted ∙ h.granted; grant = h.grant; held = k.held ∙ h.held; number = h.number })
-both true u v w (inr h) (inr k) = absurd (none-some h.grant (sym k.0 ∙ h.held))
-both false u v w (inl h) (inl k) = inl (record { granted = k.granted ∙ h.granted; held = k.held ∙ h.held })
-both false u v w (inl h) (inr k) = inr (sym h.held ∙ k.0, record { granted = k.1.granted ∙ ap (λ (n : ℕ). n + 1) h.granted; grant = k.1.grant; held = k.1.held; number = k.1.number ∙ ap (λ (n : ℕ). n + 1) h.granted })
-both false u v w (inr h) (inl k) = inr (h.0, record { granted = k.granted ∙ h.1.granted; grant = h.1.grant; held = k.held ∙ h.1.held; number = h.1.number })
-both false u v w (inr h) (inr k) = absurd (none-some h.1.grant (sym k.0 ∙ h.1.held))
+VoteMoves-then : (e : Bool) (u v w : VoterState) → VoteMoves e u v → VoteMoves false v w → VoteMoves e u w
+VoteMoves-then true u v w (inl h) (inl k) = inl (record { granted = k.granted ∙ h.granted; held = k.held ∙ h.held })
+VoteMoves-then true u v w (inl h) (inr k) = inr (record { granted = k.1.granted ∙ ap (λ (n : ℕ). n + 1) h.granted; grant = k.1.grant; held = k.1.held; number = k.1.number ∙ ap (λ (n : ℕ). n + 1) h.granted })
+VoteMoves-then true u v w (inr h) (inl k) = inr (record { granted = k.granted ∙ h.granted; grant = h.grant; held = k.held ∙ h.held; number = h.number })
+VoteMoves-then true u v w (inr h) (inr k) = absurd (none-some h.grant (sym k.0 ∙ h.held))
+VoteMoves-then false u v w (inl h) (inl k) = inl (record { granted = k.granted ∙ h.granted; held = k.held ∙ h.held })
+VoteMoves-then false u v w (inl h) (inr k) = inr (sym h.held ∙ k.0, record { granted = k.1.granted ∙ ap (λ (n : ℕ). n + 1) h.granted; grant = k.1.grant; held = k.1.held; number = k.1.number ∙ ap (λ (n : ℕ). n + 1) h.granted })
+VoteMoves-then false u v w (inr h) (inl k) = inr (h.0, record { granted = k.granted ∙ h.1.granted; grant = h.1.grant; held = k.held ∙ h.1.held; number = h.1.number })
+VoteMoves-then false u v w (inr h) (inr k) = absurd (none-some h.1.grant (sym k.0 ∙ h.1.held))
 
 older_own : (o w : Option ℕ) (s t : ℕ) → first_some o w ≡ Some t → is_older o s ≡ is_some o && nat_lt t s
 older_own None w s t e = refl
@@ -76,17 +76,17 @@ moves-compared_by : (less same : Bool) (v : VoterState) (c s t : ℕ) → nat_lt
 moves-compared_by true same v c s t l e stands =
     let own = older_own (held_stamp v.held c) (get v.waiting c) s t stands in
     let no : is_older (held_stamp v.held c) s ≡ false = grind (arith, nat_tests) in
-    subst (λ b. VoteMoves b v v) (sym no) (stays v v refl refl)
+    subst (λ b. VoteMoves b v v) (sym no) (VoteMoves-same v v refl refl)
 moves-compared_by false true v c s t l e stands =
     let own = older_own (held_stamp v.held c) (get v.waiting c) s t stands in
     let no : is_older (held_stamp v.held c) s ≡ false = grind (arith, nat_tests) in
-    subst (λ b. VoteMoves b v v) (sym no) (stays v v refl refl)
+    subst (λ b. VoteMoves b v v) (sym no) (VoteMoves-same v v refl refl)
 moves-compared_by false false v c s t l e stands =
     let own = older_own (held_stamp v.held c) (get v.waiting c) s t stands in
     let up = up_to_own (held_stamp v.held c) (get v.waiting c) t stands in
     let same_test : is_up_to (held_stamp v.held c) t ≡ is_older (held_stamp v.held c) s = grind (arith, nat_tests) in
     let w = (released v c t).state in
-    subst (λ b. VoteMoves b v (admitted w c s).state) same_test (both _ v w (admitted w c s).state (moves-released v c t) (moves-admitted w c s))
+    subst (λ b. VoteMoves b v (admitted w c s).state) same_test (VoteMoves-then _ v w (admitted w c s).state (moves-released v c t) (moves-admitted w c s))
 
 none_older : (o w : Option ℕ) (s : ℕ) → first_some o w ≡ None → is_older o s ≡ false
 none_older None w s e = refl
@@ -100,7 +100,7 @@ moves-beside v c s (Some t) stands = moves-compared_by _ _ v c s t refl refl sta
 moves-requested_by : (done : Bool) (v : VoterState) (c s : ℕ) → nat_le s (slice_index v.finished c) ≡ done → VoteMoves (nat_lt (slice_index v.finished c) s && is_older (held_stamp v.held c) s) v (requested_by done v c s).state
 moves-requested_by true v c s e =
     let no : (nat_lt (slice_index v.finished c) s && is_older (held_stamp v.held c) s) ≡ false = grind (arith, nat_tests) in
-    subst (λ b. VoteMoves b v v) (sym no) (stays v v refl refl)
+    subst (λ b. VoteMoves b v v) (sym no) (VoteMoves-same v v refl refl)
 moves-requested_by false v c s e =
     let same : is_older (held_stamp v.held c) s ≡ (nat_lt (slice_index v.finished c) s && is_older (held_stamp v.held c) s) = grind (arith, nat_tests) in
     subst (λ b. VoteMoves b v (requested_beside v c s (standing v c)).state) same (moves-beside v c s (standing v c) refl)
@@ -114,14 +114,14 @@ moves-relinquished_by true v = moves-put_back v.held v refl
 moves-relinquished_by false v = inl (record { granted = refl; held = refl })
 
 -- what was seen is no matter
-unseen : (e : Bool) (v : VoterState) (s : ℕ) (w : VoterState) → VoteMoves e (see v s) w → VoteMoves e v w
-unseen true v s w (inl k) = inl (record { granted = k.granted; held = k.held })
-unseen true v s w (inr k) = inr (record { granted = k.granted; grant = k.grant; held = k.held; number = k.number })
-unseen false v s w (inl k) = inl (record { granted = k.granted; held = k.held })
-unseen false v s w (inr k) = inr (k.0, record { granted = k.1.granted; grant = k.1.grant; held = k.1.held; number = k.1.number })
+VoteMoves-from_see : (e : Bool) (v : VoterState) (s : ℕ) (w : VoterState) → VoteMoves e (see v s) w → VoteMoves e v w
+VoteMoves-from_see true v s w (inl k) = inl (record { granted = k.granted; held = k.held })
+VoteMoves-from_see true v s w (inr k) = inr (record { granted = k.granted; grant = k.grant; held = k.held; number = k.number })
+VoteMoves-from_see false v s w (inl k) = inl (record { granted = k.granted; held = k.held })
+VoteMoves-from_see false v s w (inr k) = inr (k.0, record { granted = k.1.granted; grant = k.1.grant; held = k.1.held; number = k.1.number })
 
 pub vote_moves : (v : VoterState) (c : ℕ) (b : VoterBody) → VoteMoves (ends_grant v c b) v (outcome_of v c b).state
 unfolding relinquished requested ends_grant
-vote_moves v c (asks.Request s) = unseen _ v s _ (moves-requested_by _ (see v s) c s refl)
+vote_moves v c (asks.Request s) = VoteMoves-from_see _ v s _ (moves-requested_by _ (see v s) c s refl)
 vote_moves v c (asks.Relinquish n) = moves-relinquished_by _ v
-vote_moves v c (asks.Release s) = unseen _ v s _ (moves-released (see v s) c s)
+vote_moves v c (asks.Release s) = VoteMoves-from_see _ v s _ (moves-released (see v s) c s)

@@ -35,13 +35,13 @@ same_waiting w u h = same_map nat_cmp_total nat_cmp-IsAntisymmetric w u h
 
 -- ---- the front
 
-pick : (c k s t : ℕ) (o : Option ℕ) → cond (eqb c k) (Some t) o ≡ Some s → ((c ≡ k) × (s ≡ t)) ⊎ (o ≡ Some s)
-pick c k s t o is = grind (arith, nat_tests)
+cond_eqb-Some : (c k s t : ℕ) (o : Option ℕ) → cond (eqb c k) (Some t) o ≡ Some s → ((c ≡ k) × (s ≡ t)) ⊎ (o ≡ Some s)
+cond_eqb-Some c k s t o is = grind (arith, nat_tests)
 
 later_ones : (r : Request) (c s : ℕ) (rs : List Request) → AllByRecursion (Follows r) rs → stamp_in c rs ≡ Some s → precedes (record { stamp = s; client = c }) r ≡ false
 later_ones r c s [] h is = absurd (none-some s is)
 later_ones r c s (q ∷ rs) h is =
-    elim (pick c q.client s q.stamp _ is) [
+    elim (cond_eqb-Some c q.client s q.stamp _ is) [
       | inl here ↦ precedes_once r (record { stamp = s; client = c }) (rw (here.0, here.1) h.0.later)
       | inr later ↦ later_ones r c s rs h.1 later
     ]
@@ -49,7 +49,7 @@ later_ones r c s (q ∷ rs) h is =
 pub front_head : (r : Request) (rs : List Request) → IsQueue (r ∷ rs) → front (waiting_of (r ∷ rs)) ≡ Some r
 front_head r rs h = front_is (waiting_of (r ∷ rs)) r
     (get_waiting (r ∷ rs) r.client ∙ grind (arith, nat_tests))
-    (λ c s is. elim (pick c r.client s r.stamp _ (sym (get_waiting (r ∷ rs) c) ∙ is)) [
+    (λ c s is. elim (cond_eqb-Some c r.client s r.stamp _ (sym (get_waiting (r ∷ rs) c) ∙ is)) [
       | inl here ↦ rw (here.0, here.1) (precedes_not_self r)
       | inr later ↦ later_ones r c s rs h.1 later
     ])
@@ -98,13 +98,13 @@ abbrev pub placed : Request → List Request → List Request
 placed r [] = r ∷ []
 placed r (q ∷ rs) = cond (precedes q r) (q ∷ placed r rs) (r ∷ q ∷ rs)
 
-one_and : (n : ℕ) → 1 + n ≡ suc n
-one_and n = omega arith
+one-add : (n : ℕ) → 1 + n ≡ suc n
+one-add n = omega arith
 
 pub insert_placed : (r : Request) (rs : List Request) → insert rs (position_or_len (λ q. not (precedes q r)) rs) r ≡ placed r rs
 insert_placed r [] = refl
 insert_placed r (q ∷ rs) = elim (precedes q r) as (λ b. insert (q ∷ rs) (cond (not (not b)) (1 + position_or_len (λ p. not (precedes p r)) rs) 0) r ≡ cond b (q ∷ placed r rs) (r ∷ q ∷ rs)) [
-  | true ↦ ap (λ n. insert (q ∷ rs) n r) (one_and (position_or_len (λ p. not (precedes p r)) rs)) ∙ ap (λ (xs : List Request). q ∷ xs) (insert_placed r rs)
+  | true ↦ ap (λ n. insert (q ∷ rs) n r) (one-add (position_or_len (λ p. not (precedes p r)) rs)) ∙ ap (λ (xs : List Request). q ∷ xs) (insert_placed r rs)
   | false ↦ refl
 ]
 
@@ -136,8 +136,8 @@ follows_placed q r (p ∷ rs) f h = elim (precedes p r) as (λ b. AllByRecursion
 ]
 
 -- what is not before r, and is another client's, is after it
-after : (q r : Request) → r.client ≢ q.client → precedes q r ≡ false → precedes r q ≡ true
-after q r ne h = grind (arith, nat_tests)
+precedes-from_not_before : (q r : Request) → r.client ≢ q.client → precedes q r ≡ false → precedes r q ≡ true
+precedes-from_not_before q r ne h = grind (arith, nat_tests)
 
 follows_all : (q r : Request) (rs : List Request) → precedes r q ≡ true → AllByRecursion (Follows q) rs → IsNew r rs → AllByRecursion (Follows r) rs
 follows_all q r [] before h new = tt
@@ -147,7 +147,7 @@ pub queue-placed : (r : Request) (rs : List Request) → r.client < 64 → IsNew
 queue-placed r [] small new h = (small, tt, tt)
 queue-placed r (q ∷ rs) small new h = elim (precedes q r) as (λ b. precedes q r ≡ b → IsQueue (cond b (q ∷ placed r rs) (r ∷ q ∷ rs))) [
   | true ↦ λ e. (h.0, follows_placed q r rs (record { later = e; other = λ s. new.0 (sym s) }) h.1, queue-placed r rs small new.1 h.2)
-  | false ↦ λ e. (small, (record { later = after q r new.0 e; other = new.0 }, follows_all q r rs (after q r new.0 e) h.1 new.1), h)
+  | false ↦ λ e. (small, (record { later = precedes-from_not_before q r new.0 e; other = new.0 }, follows_all q r rs (precedes-from_not_before q r new.0 e) h.1 new.1), h)
 ] refl
 
 is_new_step : (k c : ℕ) → eqb k c ≡ false → c ≢ k
@@ -170,10 +170,10 @@ unfolding clients
 all_apart r [] h = tt
 all_apart r (q ∷ rs) h = (let ne = h.0.other in grind (arith, nat_tests), all_apart r rs h.1)
 
-distinct : (rs : List Request) → IsQueue rs → IsDistinct eqb (clients rs)
+IsDistinct-clients : (rs : List Request) → IsQueue rs → IsDistinct eqb (clients rs)
 unfolding clients IsDistinct
-distinct [] h = tt
-distinct (r ∷ rs) h = IsDistinct-cons eqb r.client (clients rs) (all_apart r rs h.1) (distinct rs h.2)
+IsDistinct-clients [] h = tt
+IsDistinct-clients (r ∷ rs) h = IsDistinct-cons eqb r.client (clients rs) (all_apart r rs h.1) (IsDistinct-clients rs h.2)
 
 new_apart : (r : Request) (rs : List Request) → IsNew r rs → AllByRecursion (λ c. eqb r.client c ≡ false) (clients rs)
 unfolding clients
@@ -197,7 +197,7 @@ small_with r rs small h q e = elim (eqb q r.client) as (λ b. eqb q r.client ≡
 pub room_for : (r : Request) (rs : List Request) → r.client < 64 → IsNew r rs → IsQueue rs → length rs < 64
 unfolding clients
 room_for r rs small new h =
-    let most = length-le_from_distinct_below (r.client ∷ clients rs) 64 (IsDistinct-cons eqb r.client (clients rs) (new_apart r rs new) (distinct rs h)) (small_with r rs small h) in
+    let most = length-le_from_distinct_below (r.client ∷ clients rs) 64 (IsDistinct-cons eqb r.client (clients rs) (new_apart r rs new) (IsDistinct-clients rs h)) (small_with r rs small h) in
     omega (arith, length-map rs (λ (r : Request). r.client))
 
 pub waiting_none : waiting_of [] ≡ fin.empty

@@ -19,9 +19,9 @@ use Rattle.voter.specs.Waiting.{Waiting, front}
 use Rattle.voter.specs.Replies.{AllTellPlace, locked_in, locked_count, AllCarry, seen_after, AreAnswers, CarrySeen}
 use Rattle.voter.specs.Steps.{Outcome, grant_to, grant_front, released, released_by, queued, queued_by, inquiry, fail_former, admitted, admitted_by, queue, freed, finish, held_stamp, is_up_to, standing, first_some, requested, requested_by, requested_beside, compared_by, again, again_by, relinquished, relinquished_by, put_back, see, outcome_of, step, remind, remind_of, inquiry_again, IsSound}
 use Rattle.voter.proofs.Front.{front_found}
-use Rattle.voter.proofs.Grants.{granted-compared_by, granted-admitted, kept, kept-released, up_to_own, more}
+use Rattle.voter.proofs.Grants.{granted-compared_by, granted-admitted, KeepsBut-outcome_of, kept-released, up_to_own, more}
 use Rattle.voter.proofs.Soundness.{IsOrderly, get_inserted, still_none, removed_self, holder_of, orderly_see}
-use Rattle.voter.proofs.Effects.{taken}
+use Rattle.voter.proofs.Effects.{step-Some}
 
 -- FAIL goes to a client that waits, INQUIRE to the holder.
 
@@ -377,14 +377,14 @@ answers_tell v m o sound e =
       few = brief.few;
       locked = brief.locked;
     } in
-    subst AreAnswers (taken v m o e).1 met
+    subst AreAnswers (step-Some v m o e).1 met
 
 pub answers_carry : (v : VoterState) (m : ToVoter) (o : Outcome) → step v m ≡ Some o → CarrySeen v m o
 answers_carry v m o e =
-    let k = kept v m.client m.body in
+    let k = KeepsBut-outcome_of v m.client m.body in
     let P : Outcome → Type 0 = λ p. CarrySeen v m p in
     let met : CarrySeen v m (outcome_of v m.client m.body) = record { carried = carry_after v m.client m.body; seen = k.seen; id = k.id; limit = k.limit } in
-    subst P (taken v m o e).1 met
+    subst P (step-Some v m o e).1 met
 
 -- A reminder.
 

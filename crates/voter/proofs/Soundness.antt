@@ -16,7 +16,7 @@ use Rattle.voter.specs.declared.state.VoterState.{VoterState}
 use Rattle.voter.specs.Waiting.{Waiting, front}
 use Rattle.voter.specs.Steps.{grant_to, grant_front, released, released_by, queued, queued_by, admitted, admitted_by, queue, freed, finish, held_stamp, is_up_to, standing, first_some, requested, requested_by, requested_beside, compared_by, relinquished, relinquished_by, put_back, see, outcome_of, is_refused, IsSound, start}
 use Rattle.voter.proofs.Front.{front_found, none_waits, eq_by_nat}
-use Rattle.voter.proofs.Grants.{granted_after, kept, up_to_own}
+use Rattle.voter.proofs.Grants.{granted_after, KeepsBut-outcome_of, up_to_own}
 
 -- The map.
 
@@ -171,7 +171,7 @@ orderly_after v c (asks.Release s) h = orderly-released (see v s) c s (orderly_s
 pub sound_after : (v : VoterState) (m : ToVoter) → IsSound v → is_refused v m ≡ false → IsSound (outcome_of v m.client m.body).state
 sound_after v m sound enough =
     let g = granted_after v m.client m.body in
-    let k = kept v m.client m.body in
+    let k = KeepsBut-outcome_of v m.client m.body in
     let s = sound.granted in
     let l = sound.limit in
     let o = orderly_after v m.client m.body (record { numbered = sound.numbered; apart = sound.apart; free = sound.free }) in

@@ -24,41 +24,41 @@ use Rattle.world.specs.Steps.{WorldState, Outcome, act, after_client, after_vote
 -- ---- lists that the code keeps
 
 -- a list after a write through its slice
-pub written : {X : Type 0} (v : Vec X) (os ns : List X) (n : ℕ) (x : X) → os ≡ v.items → ns ≡ set os n x → (with_items v ns).items ≡ ns
-written v os ns n x is wrote = with_items_is v ns (ap (λ (l : List _). length l) wrote ∙ length-set os n x ∙ ap (λ (l : List _). length l) is ∙ sym v.ok.0)
+pub with_items-items : {X : Type 0} (v : Vec X) (os ns : List X) (n : ℕ) (x : X) → os ≡ v.items → ns ≡ set os n x → (with_items v ns).items ≡ ns
+with_items-items v os ns n x is wrote = with_items_is v ns (ap (λ (l : List _). length l) wrote ∙ length-set os n x ∙ ap (λ (l : List _). length l) is ∙ sym v.ok.0)
 
 -- ---- a client
 
 -- what a client did, with the list of clients afterwards
-abbrev pub told : WorldState → List ClientState → ℕ → List ToVoter → Seen → WorldState
-told w cs c out seen = record w { clients = cs; sent = w.sent ++ map kinds.ToVoter out; visible = w.visible ++ events c seen }
+abbrev pub world_with_client : WorldState → List ClientState → ℕ → List ToVoter → Seen → WorldState
+world_with_client w cs c out seen = record w { clients = cs; sent = w.sent ++ map kinds.ToVoter out; visible = w.visible ++ events c seen }
 
-pub ran : (w : WorldState) (os cs ds : List ClientState) (c : ℕ) (cause : client.Cause) (out : List ToVoter) (seen : Seen) (s : Stepped) (u : WorldState)
+pub act-Ok : (w : WorldState) (os cs ds : List ClientState) (c : ℕ) (cause : client.Cause) (out : List ToVoter) (seen : Seen) (s : Stepped) (u : WorldState)
     → os ≡ w.clients → client.step (client_at os c) cause ≡ Ok (record { out = out; seen = seen; state = client_at cs c }) → cs ≡ set os c (client_at cs c) → ds ≡ cs
-    → s.sent ≡ length out → s.seen ≡ seen → u ≡ told w ds c out seen → act w c cause ≡ Ok (outcome_of s u)
-ran w os cs ds c cause out seen s u is step wrote same sent saw state =
+    → s.sent ≡ length out → s.seen ≡ seen → u ≡ world_with_client w ds c out seen → act w c cause ≡ Ok (outcome_of s u)
+act-Ok w os cs ds c cause out seen s u is step wrote same sent saw state =
     let o : client.Outcome = record { out = out; seen = seen; state = client_at cs c } in
     let now : client.step (client_at w.clients c) cause ≡ Ok o = subst (λ (l : List ClientState). client.step (client_at l c) cause ≡ Ok o) is step in
     let list : set w.clients c (client_at cs c) ≡ ds = sym (same ∙ wrote ∙ ap (λ (l : List ClientState). set l c (client_at cs c)) is) in
-    let world : told w (set w.clients c (client_at cs c)) c out seen ≡ u = ap (λ (l : List ClientState). told w l c out seen) list ∙ sym state in
+    let world : world_with_client w (set w.clients c (client_at cs c)) c out seen ≡ u = ap (λ (l : List ClientState). world_with_client w l c out seen) list ∙ sym state in
     ap (λ r. after_client w c r) now ∙ (λ i. Ok (record { sent = sym sent i; seen = sym saw i; state = world i }))
 
-pub refused : (w : WorldState) (os : List ClientState) (x : ClientState) (c : ℕ) (cause : client.Cause) (fault : ClientFault) → os ≡ w.clients → x ≡ client_at os c → client.step x cause ≡ Err fault → act w c cause ≡ Err (faults.Client fault)
-refused w os x c cause fault is who step =
+pub act-Err : (w : WorldState) (os : List ClientState) (x : ClientState) (c : ℕ) (cause : client.Cause) (fault : ClientFault) → os ≡ w.clients → x ≡ client_at os c → client.step x cause ≡ Err fault → act w c cause ≡ Err (faults.Client fault)
+act-Err w os x c cause fault is who step =
     ap (λ r. after_client w c r) (subst (λ (l : List ClientState). client.step (client_at l c) cause ≡ Err fault) is (subst (λ (y : ClientState). client.step y cause ≡ Err fault) who step))
 
-pub allowed : (w : WorldState) (os : List ClientState) (x : ClientState) (c : ℕ) (cause : client.Cause) → os ≡ w.clients → x ≡ client_at os c → (o : client.Outcome) × (client.step x cause ≡ Ok o) → (p : Outcome) × (act w c cause ≡ Ok p)
-allowed w os x c cause is who step = (
+pub act-some_Ok : (w : WorldState) (os : List ClientState) (x : ClientState) (c : ℕ) (cause : client.Cause) → os ≡ w.clients → x ≡ client_at os c → (o : client.Outcome) × (client.step x cause ≡ Ok o) → (p : Outcome) × (act w c cause ≡ Ok p)
+act-some_Ok w os x c cause is who step = (
   client_did w c step.0,
   ap (λ r. after_client w c r) (subst (λ (l : List ClientState). client.step (client_at l c) cause ≡ Ok step.0) is (subst (λ (y : ClientState). client.step y cause ≡ Ok step.0) who step.1)),
 )
 
 -- ---- a voter
 
-pub voted : (w : WorldState) (os vs ds : List VoterState) (m : ToVoter) (replies : List ToClient) (n : ℕ) (u : WorldState)
+pub vote-Ok : (w : WorldState) (os vs ds : List VoterState) (m : ToVoter) (replies : List ToClient) (n : ℕ) (u : WorldState)
     → os ≡ w.voters → voter.step (voter_at os m.voter) m ≡ Some (record { replies = replies; state = voter_at vs m.voter }) → vs ≡ set os m.voter (voter_at vs m.voter) → ds ≡ vs
     → n ≡ length replies → u ≡ record w { voters = ds; sent = w.sent ++ map kinds.ToClient replies } → vote w m ≡ Ok (outcome_of (record { sent = n; seen = Nothing }) u)
-voted w os vs ds m replies n u is step wrote same sent state =
+vote-Ok w os vs ds m replies n u is step wrote same sent state =
     let o : voter.Outcome = record { replies = replies; state = voter_at vs m.voter } in
     let now : voter.step (voter_at w.voters m.voter) m ≡ Some o = subst (λ (l : List VoterState). voter.step (voter_at l m.voter) m ≡ Some o) is step in
     let list : set w.voters m.voter (voter_at vs m.voter) ≡ ds = sym (same ∙ wrote ∙ ap (λ (l : List VoterState). set l m.voter (voter_at vs m.voter)) is) in
@@ -71,8 +71,8 @@ not_voted w os m is step = ap (λ r. after_voter w m.voter r) (subst (λ (l : Li
 
 -- ---- messages alone
 
-pub said : (w : WorldState) (more : List Message) (n : ℕ) (u : WorldState) → n ≡ length more → u ≡ record w { sent = w.sent ++ more } → say w more ≡ outcome_of (record { sent = n; seen = Nothing }) u
-said w more n u len state = λ i. record { sent = sym len i; seen = Nothing; state = sym state i }
+pub say-outcome : (w : WorldState) (more : List Message) (n : ℕ) (u : WorldState) → n ≡ length more → u ≡ record w { sent = w.sent ++ more } → say w more ≡ outcome_of (record { sent = n; seen = Nothing }) u
+say-outcome w more n u len state = λ i. record { sent = sym len i; seen = Nothing; state = sym state i }
 
 -- ---- whether a voter takes a message
 

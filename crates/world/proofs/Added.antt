@@ -16,25 +16,25 @@ abbrev AddsIf : WorldState → Result Outcome WorldFault → Type 0
 AddsIf w (Ok o) = Adds w o
 AddsIf w (Err fault) = Unit {0}
 
-acts : (w : WorldState) (c : ℕ) (r : Result client.Outcome ClientFault) → AddsIf w (after_client w c r)
-acts w c (Ok o) = record { more = map kinds.ToVoter o.out; sent = refl; count = sym (length-map o.out kinds.ToVoter); client = c; visible = refl }
-acts w c (Err fault) = tt
+AddsIf-after_client : (w : WorldState) (c : ℕ) (r : Result client.Outcome ClientFault) → AddsIf w (after_client w c r)
+AddsIf-after_client w c (Ok o) = record { more = map kinds.ToVoter o.out; sent = refl; count = sym (length-map o.out kinds.ToVoter); client = c; visible = refl }
+AddsIf-after_client w c (Err fault) = tt
 
-asks : (w : WorldState) (c : ℕ) (r : Result client.Outcome ClientFault) → AddsIf w (after_client (draw w c) c r)
-asks w c (Ok o) = record { more = map kinds.ToVoter o.out; sent = refl; count = sym (length-map o.out kinds.ToVoter); client = c; visible = refl }
-asks w c (Err fault) = tt
+AddsIf-after_draw : (w : WorldState) (c : ℕ) (r : Result client.Outcome ClientFault) → AddsIf w (after_client (draw w c) c r)
+AddsIf-after_draw w c (Ok o) = record { more = map kinds.ToVoter o.out; sent = refl; count = sym (length-map o.out kinds.ToVoter); client = c; visible = refl }
+AddsIf-after_draw w c (Err fault) = tt
 
-votes : (w : WorldState) (v : ℕ) (r : Option voter.Outcome) → AddsIf w (after_voter w v r)
-votes w v (Some o) = record { more = map kinds.ToClient o.replies; sent = refl; count = sym (length-map o.replies kinds.ToClient); client = 0; visible = sym (append-nil w.visible) }
-votes w v None = tt
+AddsIf-after_voter : (w : WorldState) (v : ℕ) (r : Option voter.Outcome) → AddsIf w (after_voter w v r)
+AddsIf-after_voter w v (Some o) = record { more = map kinds.ToClient o.replies; sent = refl; count = sym (length-map o.replies kinds.ToClient); client = 0; visible = sym (append-nil w.visible) }
+AddsIf-after_voter w v None = tt
 
-says : (w : WorldState) (more : List Message) → Adds w (say w more)
-says w more = record { more = more; sent = refl; count = refl; client = 0; visible = sym (append-nil w.visible) }
+Adds-say : (w : WorldState) (more : List Message) → Adds w (say w more)
+Adds-say w more = record { more = more; sent = refl; count = refl; client = 0; visible = sym (append-nil w.visible) }
 
-comes : (w : WorldState) (k : ℕ) (o : Option Message) → AddsIf w (come w k o)
-comes w k None = tt
-comes w k (Some (kinds.ToVoter m)) = votes w m.voter (voter.step (voter_at w.voters m.voter) m)
-comes w k (Some (kinds.ToClient m)) = acts w m.client (client.step (client_at w.clients m.client) (client.Takes m))
+AddsIf-come : (w : WorldState) (k : ℕ) (o : Option Message) → AddsIf w (come w k o)
+AddsIf-come w k None = tt
+AddsIf-come w k (Some (kinds.ToVoter m)) = AddsIf-after_voter w m.voter (voter.step (voter_at w.voters m.voter) m)
+AddsIf-come w k (Some (kinds.ToClient m)) = AddsIf-after_client w m.client (client.step (client_at w.clients m.client) (client.Takes m))
 
 if_one : (w : WorldState) (t : Bool) (c : ℕ) (next : Result Outcome WorldFault) → AddsIf w next → AddsIf w (if_client t c next)
 if_one w true c next adds = adds
@@ -46,12 +46,12 @@ if_voter_one w false v next adds = tt
 
 adds_step : (deal : ℕ → List ℕ) (w : WorldState) (s : Step) → AddsIf w (step deal w s)
 unfolding step
-adds_step deal w (Ask c) = if_one w (nat_lt c (length w.clients)) c _ (asks w c _)
-adds_step deal w (Deliver k) = comes w k (slice_get w.sent k)
-adds_step deal w (Leave c) = if_one w (nat_lt c (length w.clients)) c _ (acts w c _)
-adds_step deal w (GiveUp c) = if_one w (nat_lt c (length w.clients)) c _ (acts w c _)
-adds_step deal w (RemindClient c) = if_one w (nat_lt c (length w.clients)) c _ (says w _)
-adds_step deal w (RemindVoter v) = if_voter_one w (nat_lt v (length w.voters)) v _ (says w _)
+adds_step deal w (Ask c) = if_one w (nat_lt c (length w.clients)) c _ (AddsIf-after_draw w c _)
+adds_step deal w (Deliver k) = AddsIf-come w k (slice_get w.sent k)
+adds_step deal w (Leave c) = if_one w (nat_lt c (length w.clients)) c _ (AddsIf-after_client w c _)
+adds_step deal w (GiveUp c) = if_one w (nat_lt c (length w.clients)) c _ (AddsIf-after_client w c _)
+adds_step deal w (RemindClient c) = if_one w (nat_lt c (length w.clients)) c _ (Adds-say w _)
+adds_step deal w (RemindVoter v) = if_voter_one w (nat_lt v (length w.voters)) v _ (Adds-say w _)
 
-pub adds : (deal : ℕ → List ℕ) (w : WorldState) (s : Step) (o : Outcome) → step deal w s ≡ Ok o → Adds w o
-adds deal w s o is = subst (λ r. AddsIf w r) is (adds_step deal w s)
+pub Adds-step : (deal : ℕ → List ℕ) (w : WorldState) (s : Step) (o : Outcome) → step deal w s ≡ Ok o → Adds w o
+Adds-step deal w s o is = subst (λ r. AddsIf w r) is (adds_step deal w s)

@@ -170,16 +170,16 @@ VotesKeep Y Z Killed = (v : ℕ) (h : Grant) → (Y v).held ≡ Some h → ((Z v
 abbrev pub SparesLive : (ℕ → ClientState) → (ℕ → Grant → Type 0) → Type 0
 SparesLive X Killed = (v : ℕ) (h : Grant) → IsLive (X h.client) v h.stamp h.grant → Killed v h → ⊥
 
-pub still : (Y Z : ℕ → VoterState) (X : ℕ → ClientState) (Killed : ℕ → Grant → Type 0) → VotesKeep Y Z Killed → SparesLive X Killed
+pub Names-still : (Y Z : ℕ → VoterState) (X : ℕ → ClientState) (Killed : ℕ → Grant → Type 0) → VotesKeep Y Z Killed → SparesLive X Killed
     → (v c s g : ℕ) → IsLive (X c) v s g → Names (Y v).held c s g → Names (Z v).held c s g
-still Y Z X Killed keep spares v c s g live names = elim (keep v (record { client = c; stamp = s; grant = g }) names) [
+Names-still Y Z X Killed keep spares v c s g live names = elim (keep v (record { client = c; stamp = s; grant = g }) names) [
   | inl kept ↦ kept
   | inr killed ↦ absurd (spares v (record { client = c; stamp = s; grant = g }) live killed)
 ]
 
 tell_keeps : (X : ℕ → ClientState) (Y Z : ℕ → VoterState) (Killed : ℕ → Grant → Type 0) → VotesKeep Y Z Killed → SparesLive X Killed
     → (v c : ℕ) (b : ClientBody) → TellOk (X c) (Y v).held v c b → TellOk (X c) (Z v).held v c b
-tell_keeps X Y Z Killed keep spares v c (tells.Locked s g) ok = (ok.0, λ live. still Y Z X Killed keep spares v c s g live (ok.1 live))
+tell_keeps X Y Z Killed keep spares v c (tells.Locked s g) ok = (ok.0, λ live. Names-still Y Z X Killed keep spares v c s g live (ok.1 live))
 tell_keeps X Y Z Killed keep spares v c (tells.Fail s) ok = tt
 tell_keeps X Y Z Killed keep spares v c (tells.Inquire g) ok = tt
 

@@ -23,11 +23,11 @@ use Rattle.world.proofs.Claims.{Bounds, ClientOk, Names, WorldOk, put, put_at, p
 
 -- ---- nobody is inside together with another
 
-covers : (x : ClientState) (q : List ℕ) (v : ℕ) → list_all (holds x) q ≡ true → has q v ≡ true → holds x v ≡ true
-covers x [] v all is = absurd (false≢true is)
-covers x (u ∷ us) v all is = elim (eqb u v) as (λ b. eqb u v ≡ b → (b || has us v) ≡ true → holds x v ≡ true) [
+list_all-holds : (x : ClientState) (q : List ℕ) (v : ℕ) → list_all (holds x) q ≡ true → has q v ≡ true → holds x v ≡ true
+list_all-holds x [] v all is = absurd (false≢true is)
+list_all-holds x (u ∷ us) v all is = elim (eqb u v) as (λ b. eqb u v ≡ b → (b || has us v) ≡ true → holds x v ≡ true) [
   | true ↦ λ e _. let same : u ≡ v = grind (arith, nat_tests) in subst (λ n. holds x n ≡ true) same (grind (arith, nat_tests))
-  | false ↦ λ _ rest. covers x us v (grind (arith, nat_tests)) rest
+  | false ↦ λ _ rest. list_all-holds x us v (grind (arith, nat_tests)) rest
 ] refl is
 
 held_under : (x : ClientState) (v : ℕ) → holds x v ≡ true → holds_under x v (held_of x v) ≡ true
@@ -54,17 +54,17 @@ one_inside b meet X Y sent ok c d in_c in_d =
     let k = quorum_inside b (X d) (ok.clients d) in_d in
     let both = meet.meets j.0 k.0 j.1 k.1 in
     let v = both.0 in
-    let holds_c = covers (X c) (members (X c)) v ((ok.clients c).sound.inside in_c) (ap (λ (q : List ℕ). has q v) j.2 ∙ both.2) in
-    let holds_d = covers (X d) (members (X d)) v ((ok.clients d).sound.inside in_d) (ap (λ (q : List ℕ). has q v) k.2 ∙ both.3) in
+    let holds_c = list_all-holds (X c) (members (X c)) v ((ok.clients c).sound.inside in_c) (ap (λ (q : List ℕ). has q v) j.2 ∙ both.2) in
+    let holds_d = list_all-holds (X d) (members (X d)) v ((ok.clients d).sound.inside in_d) (ap (λ (q : List ℕ). has q v) k.2 ∙ both.3) in
     same_holder (Y v).held c d _ _ _ _ (ok.held c v _ (held_under (X c) v holds_c)) (ok.held d v _ (held_under (X d) v holds_d))
 
 -- ---- the visible list
 
 -- who is inside after these events
-abbrev pub ends : Option ℕ → List Event → Option ℕ
-ends inside [] = inside
-ends None (e ∷ es) = ends (Some e.client) es
-ends (Some c) (e ∷ es) = ends None es
+abbrev pub inside_after : Option ℕ → List Event → Option ℕ
+inside_after inside [] = inside
+inside_after None (e ∷ es) = inside_after (Some e.client) es
+inside_after (Some c) (e ∷ es) = inside_after None es
 
 abbrev Follows : Option ℕ → Event → Type 0
 Follows None e = e.entered ≡ true
@@ -74,17 +74,17 @@ abbrev next_inside : Option ℕ → Event → Option ℕ
 next_inside None e = Some e.client
 next_inside (Some c) e = None
 
-goes_push : (o : Option ℕ) (es : List Event) (e : Event) → GoesOn o es → Follows (ends o es) e → GoesOn o (es ++ e ∷ [])
-goes_push None [] e h g = (g, tt)
-goes_push (Some c) [] e h g = (g.0, g.1, tt)
-goes_push None (x ∷ es) e h g = (h.0, goes_push (Some x.client) es e h.1 g)
-goes_push (Some c) (x ∷ es) e h g = (h.0, h.1, goes_push None es e h.2 g)
+GoesOn-push : (o : Option ℕ) (es : List Event) (e : Event) → GoesOn o es → Follows (inside_after o es) e → GoesOn o (es ++ e ∷ [])
+GoesOn-push None [] e h g = (g, tt)
+GoesOn-push (Some c) [] e h g = (g.0, g.1, tt)
+GoesOn-push None (x ∷ es) e h g = (h.0, GoesOn-push (Some x.client) es e h.1 g)
+GoesOn-push (Some c) (x ∷ es) e h g = (h.0, h.1, GoesOn-push None es e h.2 g)
 
-ends_push : (o : Option ℕ) (es : List Event) (e : Event) → ends o (es ++ e ∷ []) ≡ next_inside (ends o es) e
-ends_push None [] e = refl
-ends_push (Some c) [] e = refl
-ends_push None (x ∷ es) e = ends_push (Some x.client) es e
-ends_push (Some c) (x ∷ es) e = ends_push None es e
+inside_after-push : (o : Option ℕ) (es : List Event) (e : Event) → inside_after o (es ++ e ∷ []) ≡ next_inside (inside_after o es) e
+inside_after-push None [] e = refl
+inside_after-push (Some c) [] e = refl
+inside_after-push None (x ∷ es) e = inside_after-push (Some x.client) es e
+inside_after-push (Some c) (x ∷ es) e = inside_after-push None es e
 
 append_nothing : (es : List Event) → es ++ [] ≡ es
 append_nothing [] = refl
@@ -97,7 +97,7 @@ is_inside_by (Some d) c = eqb c d
 -- the events are those of one client at a time, and who is inside is who entered last
 pub record Walked (es : List Event) (X : ℕ → ClientState) : Type 0 where
   pub list : GoesOn None es
-  pub inside : (c : ℕ) → is_inside (X c).phase ≡ is_inside_by (ends None es) c
+  pub inside : (c : ℕ) → is_inside (X c).phase ≡ is_inside_by (inside_after None es) c
 
 eq_self : (c : ℕ) → eqb c c ≡ true
 eq_self c = grind (arith, nat_tests)
@@ -105,41 +105,41 @@ eq_self c = grind (arith, nat_tests)
 both_in : (X : ℕ → ClientState) (c d : ℕ) (x : ClientState) → is_inside x.phase ≡ true → is_inside (X d).phase ≡ true → is_inside (put X c x d).phase ≡ true
 both_in X c d x in_x in_d = elim (eqb d c) as (λ b. is_inside (cond b x (X d)).phase ≡ true) [ true ↦ in_x | false ↦ in_d ]
 
-nobody : (es : List Event) (X : ℕ → ClientState) (c : ℕ) (x : ClientState) (o : Option ℕ) → ((q : ℕ) → is_inside (X q).phase ≡ is_inside_by o q)
+is_inside_by-nobody_else : (es : List Event) (X : ℕ → ClientState) (c : ℕ) (x : ClientState) (o : Option ℕ) → ((q : ℕ) → is_inside (X q).phase ≡ is_inside_by o q)
     → is_inside x.phase ≡ true → is_inside (X c).phase ≡ false → ((d : ℕ) → is_inside (put X c x c).phase ≡ true → is_inside (put X c x d).phase ≡ true → c ≡ d) → o ≡ None
-nobody es X c x None inside in_x out alone = refl
-nobody es X c x (Some d) inside in_x out alone =
+is_inside_by-nobody_else es X c x None inside in_x out alone = refl
+is_inside_by-nobody_else es X c x (Some d) inside in_x out alone =
     let in_d = inside d ∙ eq_self d in
     let same = alone d (ap (λ (y : ClientState). is_inside y.phase) (put_same X c x) ∙ in_x) (both_in X c d x in_x in_d) in
     absurd (false≢true (sym out ∙ ap (λ n. is_inside (X n).phase) same ∙ in_d))
 
-leaver : (c : ℕ) (o : Option ℕ) → is_inside_by o c ≡ true → o ≡ Some c
-leaver c None e = absurd (false≢true e)
-leaver c (Some d) e = let same : d ≡ c = grind (arith, nat_tests) in ap (λ (n : ℕ). Some n) same
+is_inside_by-true : (c : ℕ) (o : Option ℕ) → is_inside_by o c ≡ true → o ≡ Some c
+is_inside_by-true c None e = absurd (false≢true e)
+is_inside_by-true c (Some d) e = let same : d ≡ c = grind (arith, nat_tests) in ap (λ (n : ℕ). Some n) same
 
-pub walk : (es : List Event) (X : ℕ → ClientState) (c : ℕ) (x : ClientState) (seen : Seen) → Walked es X → Sees (X c).phase seen x.phase
+pub Walked-step : (es : List Event) (X : ℕ → ClientState) (c : ℕ) (x : ClientState) (seen : Seen) → Walked es X → Sees (X c).phase seen x.phase
     → ((d : ℕ) → is_inside (put X c x c).phase ≡ true → is_inside (put X c x d).phase ≡ true → c ≡ d)
     → Walked (es ++ events c seen) (put X c x)
-walk es X c x Nothing h sees alone =
+Walked-step es X c x Nothing h sees alone =
     subst (λ (l : List Event). Walked l (put X c x)) (sym (append_nothing es))
-    (record { list = h.list; inside = put_at (λ q y. is_inside y.phase ≡ is_inside_by (ends None es) q) X c x (sym sees ∙ h.inside c) h.inside })
-walk es X c x Entered h sees alone =
+    (record { list = h.list; inside = put_at (λ q y. is_inside y.phase ≡ is_inside_by (inside_after None es) q) X c x (sym sees ∙ h.inside c) h.inside })
+Walked-step es X c x Entered h sees alone =
     let e : Event = record { client = c; entered = true } in
-    let none = nobody es X c x (ends None es) h.inside sees.1 sees.0 alone in
+    let none = is_inside_by-nobody_else es X c x (inside_after None es) h.inside sees.1 sees.0 alone in
     record {
-      list = goes_push None es e h.list (subst (λ o. Follows o e) (sym none) refl);
+      list = GoesOn-push None es e h.list (subst (λ o. Follows o e) (sym none) refl);
       inside = λ q. elim (eqb q c) as (λ b. eqb q c ≡ b → is_inside (cond b x (X q)).phase ≡ b) [
         | true ↦ λ _. sees.1
         | false ↦ λ _. h.inside q ∙ ap (λ o. is_inside_by o q) none
-      ] refl ∙ ap (λ o. is_inside_by o q) (sym (ends_push None es e ∙ ap (λ o. next_inside o e) none));
+      ] refl ∙ ap (λ o. is_inside_by o q) (sym (inside_after-push None es e ∙ ap (λ o. next_inside o e) none));
     }
-walk es X c x Left h sees alone =
+Walked-step es X c x Left h sees alone =
     let e : Event = record { client = c; entered = false } in
-    let self = leaver c (ends None es) (sym (h.inside c) ∙ sees.0) in
+    let self = is_inside_by-true c (inside_after None es) (sym (h.inside c) ∙ sees.0) in
     record {
-      list = goes_push None es e h.list (subst (λ o. Follows o e) (sym self) (refl, refl));
+      list = GoesOn-push None es e h.list (subst (λ o. Follows o e) (sym self) (refl, refl));
       inside = λ q. elim (eqb q c) as (λ b. eqb q c ≡ b → is_inside (cond b x (X q)).phase ≡ false) [
         | true ↦ λ _. sees.1
         | false ↦ λ apart. h.inside q ∙ ap (λ o. is_inside_by o q) self ∙ apart
-      ] refl ∙ ap (λ o. is_inside_by o q) (sym (ends_push None es e ∙ ap (λ o. next_inside o e) self));
+      ] refl ∙ ap (λ o. is_inside_by o q) (sym (inside_after-push None es e ∙ ap (λ o. next_inside o e) self));
     }

@@ -33,29 +33,29 @@ plan_deals all_name w is = λ ticket. (quorum_of_ticket w ticket, all_name w tic
 
 -- ---- a world that is reached
 
-count : (limit n : ℕ) → limit ≤ 2 ^ 40 → IsWithin limit n → IsCount n
-count limit n most within = let least = within.0 in let far = within.1 in (least, omega arith)
+IsCount-within : (limit n : ℕ) → limit ≤ 2 ^ 40 → IsWithin limit n → IsCount n
+IsCount-within limit n most within = let least = within.0 in let far = within.1 in (least, omega arith)
 
-counts : (limit : ℕ) (body : ClientBody) → limit ≤ 2 ^ 40 → TellsWithin limit body → AreCounts body
-counts limit (tells.Locked stamp grant) most within = (count limit stamp most within.0, count limit grant most within.1)
-counts limit (tells.Fail stamp) most within = count limit stamp most within
-counts limit (tells.Inquire grant) most within = count limit grant most within
+AreCounts-within : (limit : ℕ) (body : ClientBody) → limit ≤ 2 ^ 40 → TellsWithin limit body → AreCounts body
+AreCounts-within limit (tells.Locked stamp grant) most within = (IsCount-within limit stamp most within.0, IsCount-within limit grant most within.1)
+AreCounts-within limit (tells.Fail stamp) most within = IsCount-within limit stamp most within
+AreCounts-within limit (tells.Inquire grant) most within = IsCount-within limit grant most within
 
-line : (voters clients limit : ℕ) → AreLimits voters clients limit → (m : Message) → IsInRange voters clients limit m → HasLine m
-line voters clients limit limits (kinds.ToVoter m) range =
+HasLine-in_range : (voters clients limit : ℕ) → AreLimits voters clients limit → (m : Message) → IsInRange voters clients limit m → HasLine m
+HasLine-in_range voters clients limit limits (kinds.ToVoter m) range =
     let few_clients = limits.few_clients in
     let few_voters = limits.few_voters in
     let client = range.0 in
     let voter = range.1 in
-    (omega arith, omega arith, count limit _ limits.few_stamps range.2)
-line voters clients limit limits (kinds.ToClient m) range =
+    (omega arith, omega arith, IsCount-within limit _ limits.few_stamps range.2)
+HasLine-in_range voters clients limit limits (kinds.ToClient m) range =
     let few_clients = limits.few_clients in
     let few_voters = limits.few_voters in
     let far = limits.few_stamps in
     let client = range.0 in
     let voter = range.1 in
     let seen = range.2 in
-    (omega arith, omega arith, omega arith, counts limit m.body limits.few_stamps range.3)
+    (omega arith, omega arith, omega arith, AreCounts-within limit m.body limits.few_stamps range.3)
 
 abbrev pub AllSound : Type 0
 AllSound = (voters clients limit : ℕ) (quorums : List (List ℕ)) (deal : ℕ → List ℕ) (steps : List Step) → AreLimits voters clients limit → DoMeet voters quorums → DealsFrom quorums deal
@@ -73,7 +73,7 @@ reached_sound laws w r =
     (laws.sound w.plan.system.voters r.clients r.limit w.plan.system.quorums (quorum_by w.plan) r.steps r.limits (plan_meets laws.meet w.plan r.certificate) (plan_deals laws.name w.plan r.certificate))
 
 pub reached_lines : WorldLaws → (w : Planned) → IsReached w → AllByRecursion HasLine w.state.sent
-reached_lines laws w r = all_map (IsInRange w.plan.system.voters r.clients r.limit) HasLine (line w.plan.system.voters r.clients r.limit r.limits) w.state.sent (reached_sound laws w r).in_range
+reached_lines laws w r = all_map (IsInRange w.plan.system.voters r.clients r.limit) HasLine (HasLine-in_range w.plan.system.voters r.clients r.limit r.limits) w.state.sent (reached_sound laws w r).in_range
 
 run_more : (deal : ℕ → List ℕ) (steps : List Step) (s : Step) (w : WorldState) → run_of deal (steps ++ s ∷ []) w ≡ after (run_of deal steps w) (step deal (run_of deal steps w) s)
 run_more deal [] s w = refl

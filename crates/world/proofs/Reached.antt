@@ -34,7 +34,7 @@ use Rattle.world.proofs.Known.{ClientLaws, VoterLaws}
 use Rattle.world.proofs.Claims.{Bounds, Names, AskOk, TellOk, MessageOk, ClientOk, IsClient, VoterOk, WorldOk, all_get, all_map, put}
 use Rattle.world.proofs.ClientMoves.{Came, Draws, client_moves, client_reminds}
 use Rattle.world.proofs.VoterMoves.{voter_moves, voter_reminds}
-use Rattle.world.proofs.Exclusion.{Walked, one_inside, walk}
+use Rattle.world.proofs.Exclusion.{Walked, one_inside, Walked-step}
 use Rattle.world.proofs.Places.{clients_put, voters_put}
 
 -- what a proof of runs rests on
@@ -63,7 +63,7 @@ client_step b given w ok c within cause o accepts step came draws =
     let same : client_at (slice_set w.clients c o.state) ≡ put X c o.state = clients_put w.clients c o.state within in
     let world = client_moves given.client b given.meet X Y w.sent ok.world c number cause o accepts step came draws in
     let sees = (given.client.meets (X c) cause o (ok.world.clients c).sound accepts step).seen in
-    let walked = walk w.visible X c o.state o.seen ok.walked sees (λ d in_c in_d. one_inside b given.meet (put X c o.state) Y _ world c d in_c in_d) in
+    let walked = Walked-step w.visible X c o.state o.seen ok.walked sees (λ d in_c in_d. one_inside b given.meet (put X c o.state) Y _ world c d in_c in_d) in
     record {
       clients = length-set w.clients c o.state ∙ ok.clients;
       voters = ok.voters;
@@ -72,11 +72,11 @@ client_step b given w ok c within cause o accepts step came draws =
       draws = ok.draws;
     }
 
-acts : (b : Bounds) → Given b → (w : WorldState) → RunOk b w → (c : ℕ) → c < length w.clients → (cause : client.Cause)
+RunOk-after_client : (b : Bounds) → Given b → (w : WorldState) → RunOk b w → (c : ℕ) → c < length w.clients → (cause : client.Cause)
     → Accepts (client_at w.clients c) cause → Came b (client_at w.clients c) (voter_at w.voters) c cause → Draws b cause
     → (r : Result client.Outcome ClientFault) → client.step (client_at w.clients c) cause ≡ r → RunOk b (after w (after_client w c r))
-acts b given w ok c within cause accepts came draws (Ok o) is = client_step b given w ok c within cause o accepts is came draws
-acts b given w ok c within cause accepts came draws (Err fault) is = ok
+RunOk-after_client b given w ok c within cause accepts came draws (Ok o) is = client_step b given w ok c within cause o accepts is came draws
+RunOk-after_client b given w ok c within cause accepts came draws (Err fault) is = ok
 
 -- the tickets, with the next one
 range_suc : (low n : ℕ) → range_with_len low (suc n) ≡ range_with_len low n ++ (low + n) ∷ []
@@ -84,26 +84,26 @@ range_suc low zero = ap (λ (k : ℕ). k ∷ []) (omega arith)
 range_suc low (suc n) =
     ap (λ (l : List ℕ). low ∷ l) (range_suc (low + 1) n ∙ ap (λ (k : ℕ). range_with_len (low + 1) n ++ k ∷ []) (let same : low + 1 + n ≡ low + suc n = omega arith in same))
 
-drawn : (draws : List (ℕ × ℕ)) (c : ℕ) → DrawsInOrder draws → DrawsInOrder (draws ++ (c, length draws) ∷ [])
-drawn draws c is =
+DrawsInOrder-push : (draws : List (ℕ × ℕ)) (c : ℕ) → DrawsInOrder draws → DrawsInOrder (draws ++ (c, length draws) ∷ [])
+DrawsInOrder-push draws c is =
     let n = length draws in
     let len : length (draws ++ (c, n) ∷ []) ≡ suc n = omega (arith, length-append draws ((c, n) ∷ [])) in
     map-append (λ (d : ℕ × ℕ). d.1) draws ((c, n) ∷ []) ∙ ap (λ (l : List ℕ). l ++ n ∷ []) is ∙ ap (λ k. range_with_len 0 n ++ k ∷ []) (let same : n ≡ 0 + n = omega arith in same) ∙ sym (range_suc 0 n) ∙ ap (λ k. range_with_len 0 k) (sym len)
 
-asks : (b : Bounds) → Given b → (w : WorldState) → RunOk b w → (c : ℕ) → c < length w.clients → (cause : client.Cause)
+RunOk-after_draw : (b : Bounds) → Given b → (w : WorldState) → RunOk b w → (c : ℕ) → c < length w.clients → (cause : client.Cause)
     → Accepts (client_at w.clients c) cause → Came b (client_at w.clients c) (voter_at w.voters) c cause → Draws b cause
     → (r : Result client.Outcome ClientFault) → client.step (client_at w.clients c) cause ≡ r → RunOk b (after w (after_client (draw w c) c r))
-asks b given w ok c within cause accepts came draws (Ok o) is =
+RunOk-after_draw b given w ok c within cause accepts came draws (Ok o) is =
     let k = client_step b given w ok c within cause o accepts is came draws in
-    record { clients = k.clients; voters = k.voters; world = k.world; walked = k.walked; draws = drawn w.draws c ok.draws }
-asks b given w ok c within cause accepts came draws (Err fault) is = ok
+    record { clients = k.clients; voters = k.voters; world = k.world; walked = k.walked; draws = DrawsInOrder-push w.draws c ok.draws }
+RunOk-after_draw b given w ok c within cause accepts came draws (Err fault) is = ok
 
 -- ---- a voter's step
 
-votes : (b : Bounds) → Given b → (w : WorldState) → RunOk b w → (m : ToVoter) → IsInRange b.voters b.clients b.limit (kinds.ToVoter m) → AskOk (client_at w.clients m.client) m.voter m.body
+RunOk-after_voter : (b : Bounds) → Given b → (w : WorldState) → RunOk b w → (m : ToVoter) → IsInRange b.voters b.clients b.limit (kinds.ToVoter m) → AskOk (client_at w.clients m.client) m.voter m.body
     → (r : Option voter.Outcome) → voter.step (voter_at w.voters m.voter) m ≡ r → RunOk b (after w (after_voter w m.voter r))
-votes b given w ok m range asked None is = ok
-votes b given w ok m range asked (Some o) is =
+RunOk-after_voter b given w ok m range asked None is = ok
+RunOk-after_voter b given w ok m range asked (Some o) is =
     let X = client_at w.clients in
     let Y = voter_at w.voters in
     let within : m.voter < length w.voters = subst (λ n. m.voter < n) (sym ok.voters) range.1 in
@@ -154,12 +154,12 @@ came_by b x Y sender c (tells.Inquire grant) within numbers ok v s g locks = abs
 comes_ok : (b : Bounds) → Given b → (w : WorldState) → RunOk b w → (k : ℕ) (o : Option Message)
     → ((m : Message) → o ≡ Some m → MessageOk (client_at w.clients) (voter_at w.voters) m) → ((m : Message) → o ≡ Some m → IsInRange b.voters b.clients b.limit m) → RunOk b (after w (come w k o))
 comes_ok b given w ok k None known range = ok
-comes_ok b given w ok k (Some (kinds.ToVoter m)) known range = votes b given w ok m (range (kinds.ToVoter m) refl) (known (kinds.ToVoter m) refl) _ refl
+comes_ok b given w ok k (Some (kinds.ToVoter m)) known range = RunOk-after_voter b given w ok m (range (kinds.ToVoter m) refl) (known (kinds.ToVoter m) refl) _ refl
 comes_ok b given w ok k (Some (kinds.ToClient m)) known range =
     let within = range (kinds.ToClient m) refl in
     let few = given.limits.few_voters in
     let least = within.1 in
-    acts b given w ok m.client (subst (λ n. m.client < n) (sym ok.clients) within.0) (client.Takes m)
+    RunOk-after_client b given w ok m.client (subst (λ n. m.client < n) (sym ok.clients) within.0) (client.Takes m)
     (sym (ok.world.client_ids m.client within.0).id, omega arith)
     (came_by b (client_at w.clients m.client) (voter_at w.voters) m.voter m.client m.body within.1 within.3 (known (kinds.ToClient m) refl))
     tt _ refl
@@ -167,12 +167,12 @@ comes_ok b given w ok k (Some (kinds.ToClient m)) known range =
 step_ok : (b : Bounds) → Given b → (deal : ℕ → List ℕ) → DealsFrom b.quorums deal → (w : WorldState) → RunOk b w → (s : Step) → RunOk b (after w (step deal w s))
 unfolding step
 step_ok b given deal deals w ok (Ask c) = if_one b w ok _ c _ (λ t.
-    asks b given w ok c (less_than _ _ t) (client.Asks (deal (length w.draws))) (accepts_among b given.meet (deal (length w.draws)) (deals (length w.draws))) (λ v s g never. absurd never) (deals (length w.draws)) _ refl)
+    RunOk-after_draw b given w ok c (less_than _ _ t) (client.Asks (deal (length w.draws))) (accepts_among b given.meet (deal (length w.draws)) (deals (length w.draws))) (λ v s g never. absurd never) (deals (length w.draws)) _ refl)
 step_ok b given deal deals w ok (Deliver k) = comes_ok b given w ok k (slice_get w.sent k)
     (λ m is. all_get (MessageOk (client_at w.clients) (voter_at w.voters)) w.sent k m ok.world.messages is)
     (λ m is. all_get (IsInRange b.voters b.clients b.limit) w.sent k m ok.world.ranges is)
-step_ok b given deal deals w ok (Leave c) = if_one b w ok _ c _ (λ t. acts b given w ok c (less_than _ _ t) client.Leaves tt (λ v s g never. absurd never) tt _ refl)
-step_ok b given deal deals w ok (GiveUp c) = if_one b w ok _ c _ (λ t. acts b given w ok c (less_than _ _ t) client.GivesUp tt (λ v s g never. absurd never) tt _ refl)
+step_ok b given deal deals w ok (Leave c) = if_one b w ok _ c _ (λ t. RunOk-after_client b given w ok c (less_than _ _ t) client.Leaves tt (λ v s g never. absurd never) tt _ refl)
+step_ok b given deal deals w ok (GiveUp c) = if_one b w ok _ c _ (λ t. RunOk-after_client b given w ok c (less_than _ _ t) client.GivesUp tt (λ v s g never. absurd never) tt _ refl)
 step_ok b given deal deals w ok (RemindClient c) = if_one b w ok _ c _ (λ t. record {
   clients = ok.clients;
   voters = ok.voters;
@@ -194,10 +194,10 @@ run_ok b given deal deals (s ∷ steps) w ok = run_ok b given deal deals steps (
 
 -- ---- the first world
 
-blank : (n v : ℕ) → slice_index (replicate n 0) v ≡ 0
-blank zero v = refl
-blank (suc n) zero = refl
-blank (suc n) (suc v) = blank n v
+slice_index-replicate_zero : (n v : ℕ) → slice_index (replicate n 0) v ≡ 0
+slice_index-replicate_zero zero v = refl
+slice_index-replicate_zero (suc n) zero = refl
+slice_index-replicate_zero (suc n) (suc v) = slice_index-replicate_zero n v
 
 -- a client that did nothing
 record Fresh (b : Bounds) (x : ClientState) : Type 0 where
@@ -205,11 +205,11 @@ record Fresh (b : Bounds) (x : ClientState) : Type 0 where
   idle : is_inside x.phase ≡ false
   held : (v : ℕ) → held_of x v ≡ 0
 
-fresh : (b : Bounds) → Given b → (id limit : ℕ) → id < 64 → 1 ≤ limit → limit ≤ 2 ^ 40 → Fresh b (client.start id limit)
-fresh b given id limit few least most = record {
-  ok = record { sound = given.client.first id limit few least most; last = λ v. (let none = blank 64 v in omega arith); quorum = inl refl };
+Fresh-start : (b : Bounds) → Given b → (id limit : ℕ) → id < 64 → 1 ≤ limit → limit ≤ 2 ^ 40 → Fresh b (client.start id limit)
+Fresh-start b given id limit few least most = record {
+  ok = record { sound = given.client.first id limit few least most; last = λ v. (let none = slice_index-replicate_zero 64 v in omega arith); quorum = inl refl };
   idle = refl;
-  held = λ v. blank 64 v;
+  held = λ v. slice_index-replicate_zero 64 v;
 }
 
 -- a voter that was told nothing
@@ -220,8 +220,8 @@ record Unused (b : Bounds) (y : VoterState) : Type 0 where
   limit : y.limit ≤ b.limit
   seen : y.seen ≤ b.limit
 
-unused : (b : Bounds) → Given b → (id limit : ℕ) → limit ≤ 2 ^ 40 → limit ≤ b.limit → Unused b (voter.start id limit)
-unused b given id limit most below = record {
+Unused-start : (b : Bounds) → Given b → (id limit : ℕ) → limit ≤ 2 ^ 40 → limit ≤ b.limit → Unused b (voter.start id limit)
+Unused-start b given id limit most below = record {
   sound = given.voter.first id limit most;
   held = refl;
   waiting = λ c. fin.get-empty nat_cmp c;
@@ -276,14 +276,14 @@ fresh_at : (b : Bounds) → Given b → (c : ℕ) → Fresh b (client_at (new_cl
 fresh_at b given c =
     let few = given.limits.few_clients in
     elim (below_or c b.clients) [
-      | inl within ↦ subst (λ (x : ClientState). Fresh b x) (sym (client_new b.clients b.limit c within)) (fresh b given c b.limit (omega arith) given.limits.some_stamp given.limits.few_stamps)
-      | inr beyond ↦ subst (λ (x : ClientState). Fresh b x) (sym (client_past b.clients b.limit c beyond)) (fresh b given 0 1 (omega arith) (omega arith) (omega arith))
+      | inl within ↦ subst (λ (x : ClientState). Fresh b x) (sym (client_new b.clients b.limit c within)) (Fresh-start b given c b.limit (omega arith) given.limits.some_stamp given.limits.few_stamps)
+      | inr beyond ↦ subst (λ (x : ClientState). Fresh b x) (sym (client_past b.clients b.limit c beyond)) (Fresh-start b given 0 1 (omega arith) (omega arith) (omega arith))
     ]
 
 unused_at : (b : Bounds) → Given b → (v : ℕ) → Unused b (voter_at (new_voters b.voters b.limit) v)
 unused_at b given v = elim (below_or v b.voters) [
-  | inl within ↦ subst (λ (y : VoterState). Unused b y) (sym (voter_new b.voters b.limit v within)) (unused b given v b.limit given.limits.few_stamps (omega arith))
-  | inr beyond ↦ subst (λ (y : VoterState). Unused b y) (sym (voter_past b.voters b.limit v beyond)) (unused b given 0 1 (omega arith) given.limits.some_stamp)
+  | inl within ↦ subst (λ (y : VoterState). Unused b y) (sym (voter_new b.voters b.limit v within)) (Unused-start b given v b.limit given.limits.few_stamps (omega arith))
+  | inr beyond ↦ subst (λ (y : VoterState). Unused b y) (sym (voter_past b.voters b.limit v beyond)) (Unused-start b given 0 1 (omega arith) given.limits.some_stamp)
 ]
 
 none_held : (x : ClientState) (v g : ℕ) → held_of x v ≡ 0 → holds_under x v g ≡ true → ⊥
@@ -307,9 +307,9 @@ start_ok b given = record {
   draws = refl;
 }
 
-addressed : (b : Bounds) (w : WorldState) → length w.clients ≡ b.clients → length w.voters ≡ b.voters → (m : Message) → IsInRange b.voters b.clients b.limit m → IsAddressed w m
-addressed b w clients voters (kinds.ToVoter m) range = (subst (λ n. m.client < n) (sym clients) range.0, subst (λ n. m.voter < n) (sym voters) range.1)
-addressed b w clients voters (kinds.ToClient m) range = (subst (λ n. m.client < n) (sym clients) range.0, subst (λ n. m.voter < n) (sym voters) range.1)
+IsAddressed-in_range : (b : Bounds) (w : WorldState) → length w.clients ≡ b.clients → length w.voters ≡ b.voters → (m : Message) → IsInRange b.voters b.clients b.limit m → IsAddressed w m
+IsAddressed-in_range b w clients voters (kinds.ToVoter m) range = (subst (λ n. m.client < n) (sym clients) range.0, subst (λ n. m.voter < n) (sym voters) range.1)
+IsAddressed-in_range b w clients voters (kinds.ToClient m) range = (subst (λ n. m.client < n) (sym clients) range.0, subst (λ n. m.voter < n) (sym voters) range.1)
 
 sound_by : (b : Bounds) → Given b → (w : WorldState) → RunOk b w → IsSound b.voters b.clients b.limit w
 sound_by b given w ok =
@@ -326,7 +326,7 @@ sound_by b given w ok =
         voters = λ v within. ok.world.voter_ids v (subst (λ n. v < n) ok.voters within);
         few_clients = omega arith;
         few_voters = omega arith;
-        messages = all_map (IsInRange b.voters b.clients b.limit) (IsAddressed w) (addressed b w ok.clients ok.voters) w.sent ok.world.ranges;
+        messages = all_map (IsInRange b.voters b.clients b.limit) (IsAddressed w) (IsAddressed-in_range b w ok.clients ok.voters) w.sent ok.world.ranges;
       };
     }
 

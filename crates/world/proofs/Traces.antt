@@ -19,10 +19,10 @@ refused_why : (r : Result Outcome WorldFault) (fault : WorldFault) → Refuses r
 refused_why (Ok o) fault refuses other = absurd (other refuses)
 refused_why (Err why) fault refuses other = ap (λ e. Err e) (sym refuses)
 
-one : (plan : Weighted) (clients limit : ℕ) (steps : List Step) (place : ℕ) (w u : Planned) (refused more : List (ℕ × WorldFault)) (s : Step) → Ran plan clients limit steps place w refused
+Ran-one_step : (plan : Weighted) (clients limit : ℕ) (steps : List Step) (place : ℕ) (w u : Planned) (refused more : List (ℕ × WorldFault)) (s : Step) → Ran plan clients limit steps place w refused
     → drop place steps ≡ s ∷ drop (place + 1) steps → u.plan ≡ w.plan → u.state ≡ after w.state (step (quorum_by plan) w.state s) → refusal_at place (step (quorum_by plan) w.state s) ≡ more
     → Ran plan clients limit steps (place + 1) u (refused ++ more)
-one plan clients limit steps place w u refused more s ran next same is at =
+Ran-one_step plan clients limit steps place w u refused more s ran next same is at =
     let deal = quorum_by plan in
     let left = drop (place + 1) steps in
     record {
@@ -45,12 +45,12 @@ ran_on plan clients limit steps place w u refused s told ran within same done =
     let next = drop_more steps place s within in
     let is = by_plan plan w (get_or steps place s) _ ran.by done in
     subst (λ (l : List (ℕ × WorldFault)). Ran plan clients limit steps (place + 1) u l) (append-nil refused)
-    (one plan clients limit steps place w u refused [] (get_or steps place s) ran next same (sym (ap (λ r. after w.state r) is)) (ap (λ r. refusal_at place r) is))
+    (Ran-one_step plan clients limit steps place w u refused [] (get_or steps place s) ran next same (sym (ap (λ r. after w.state r) is)) (ap (λ r. refusal_at place r) is))
 
 pub ran_past : (plan : Weighted) (clients limit : ℕ) (steps : List Step) (place : ℕ) (w u : Planned) (refused : List (ℕ × WorldFault)) (s : Step) (fault : WorldFault) → Ran plan clients limit steps place w refused
     → place < length steps → u ≡ w → Refuses (step_of w (get_or steps place s)) fault → (fault ≡ faults.OutOfMemory → ⊥) → Ran plan clients limit steps (place + 1) u (refused ++ (place, fault) ∷ [])
 ran_past plan clients limit steps place w u refused s fault ran within same refuses other =
     let next = drop_more steps place s within in
     let is = by_plan plan w (get_or steps place s) _ ran.by (refused_why _ fault refuses other) in
-    one plan clients limit steps place w u refused ((place, fault) ∷ []) (get_or steps place s) ran next (ap (λ (v : Planned). v.plan) same)
+    Ran-one_step plan clients limit steps place w u refused ((place, fault) ∷ []) (get_or steps place s) ran next (ap (λ (v : Planned). v.plan) same)
     (ap (λ (v : Planned). v.state) same ∙ sym (ap (λ r. after w.state r) is)) (ap (λ r. refusal_at place r) is)

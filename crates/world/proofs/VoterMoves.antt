@@ -24,7 +24,7 @@ use Rattle.requester.specs.Soundness as sound
 use Rattle.requester.specs.Words.{holds, holds_under, held_of}
 use Rattle.world.specs.Ranges.{AreInRange, IsInRange, IsWithin, TellsWithin}
 use Rattle.world.proofs.Known.{VoterLaws}
-use Rattle.world.proofs.Claims.{Bounds, AskOk, TellOk, MessageOk, HeldOk, ClientOk, EntryOk, VoterOk, WorldOk, VotesKeep, SparesLive, no_kill, ends_client, still, all_append, messages_keep, put, put_at, put_same}
+use Rattle.world.proofs.Claims.{Bounds, AskOk, TellOk, MessageOk, HeldOk, ClientOk, EntryOk, VoterOk, WorldOk, VotesKeep, SparesLive, no_kill, ends_client, Names-still, all_append, messages_keep, put, put_at, put_same}
 
 -- ---- what is replied
 
@@ -42,8 +42,8 @@ all_told b v seen y few (r ∷ rs) votes places carry = (
   all_told b v seen y few rs votes.1 places.1 carry.1,
 )
 
-holder : (b : Bounds) (X : ℕ → ClientState) (y : VoterState) → VoterOk b X y → (g : Grant) → y.held ≡ Some g → EntryOk b X g.client g.stamp
-holder b X y ok g is = ok.entries g.client g.stamp (inl (g, is, refl, refl))
+EntryOk-holder : (b : Bounds) (X : ℕ → ClientState) (y : VoterState) → VoterOk b X y → (g : Grant) → y.held ≡ Some g → EntryOk b X g.client g.stamp
+EntryOk-holder b X y ok g is = ok.entries g.client g.stamp (inl (g, is, refl, refl))
 
 grant_within : (b : Bounds) (X : ℕ → ClientState) (y : VoterState) → VoterOk b X y → (g : Grant) → y.held ≡ Some g → IsWithin b.limit g.grant
 grant_within b X y ok g is =
@@ -61,11 +61,11 @@ record ReplyOk (b : Bounds) (X : ℕ → ClientState) (held : Option Grant) (v c
 
 reply_ok : (b : Bounds) (X : ℕ → ClientState) (y : VoterState) → VoterOk b X y → (v c : ℕ) (body : ClientBody) → TellsVote y.held c body → TellsPlace y c body → ReplyOk b X y.held v c body
 reply_ok b X y ok v c (tells.Locked s g) vote place =
-    let e = holder b X y ok _ vote in
+    let e = EntryOk-holder b X y ok _ vote in
     record { client = e.client; numbers = (e.stamp, grant_within b X y ok _ vote); ok = (e.reached, λ _. vote) }
 reply_ok b X y ok v c (tells.Fail s) vote place = let e = ok.entries c s (inr place) in record { client = e.client; numbers = e.stamp; ok = tt }
 reply_ok b X y ok v c (tells.Inquire g) vote place =
-    let e = holder b X y ok place.0 place.1 in
+    let e = EntryOk-holder b X y ok place.0 place.1 in
     record {
       client = subst (λ n. n < b.clients) place.2 e.client;
       numbers = subst (λ n. IsWithin b.limit n) place.3 (grant_within b X y ok place.0 place.1);
@@ -89,14 +89,14 @@ replies_range b X v y within ok (r ∷ rs) told =
 
 -- ---- the voter afterwards
 
-brought : (b : Bounds) (X : ℕ → ClientState) (v c : ℕ) (body : VoterBody) → c < b.clients → IsWithin b.limit (voter_number body) → AskOk (X c) v body → (d s : ℕ) → Brings c body d s → EntryOk b X d s
-brought b X v c (asks.Request stamp) client within ok d s brings = record {
+EntryOk-brought : (b : Bounds) (X : ℕ → ClientState) (v c : ℕ) (body : VoterBody) → c < b.clients → IsWithin b.limit (voter_number body) → AskOk (X c) v body → (d s : ℕ) → Brings c body d s → EntryOk b X d s
+EntryOk-brought b X v c (asks.Request stamp) client within ok d s brings = record {
   client = subst (λ n. n < b.clients) (sym brings.0) client;
   stamp = subst (λ n. IsWithin b.limit n) (sym brings.1) within;
   reached = subst (λ n. s ≤ (X n).stamp) (sym brings.0) (subst (λ n. n ≤ (X c).stamp) (sym brings.1) ok);
 }
-brought b X v c (asks.Relinquish g) client within ok d s brings = absurd brings
-brought b X v c (asks.Release stamp) client within ok d s brings = absurd brings
+EntryOk-brought b X v c (asks.Relinquish g) client within ok d s brings = absurd brings
+EntryOk-brought b X v c (asks.Release stamp) client within ok d s brings = absurd brings
 
 seen_within : (limit seen : ℕ) (body : VoterBody) → seen ≤ limit → IsWithin limit (voter_number body) → seen_after seen body ≤ limit
 seen_within limit seen (asks.Request s) h within = let most = within.1 in omega arith
@@ -131,7 +131,7 @@ voter_after laws b X y ok m client within asked o step =
       sound = laws.stays y m o ok.sound step;
       entries = λ c s is. elim (meets.entries c s is) [
         | inl was ↦ ok.entries c s was
-        | inr brings ↦ brought b X m.voter m.client m.body client within asked c s brings
+        | inr brings ↦ EntryOk-brought b X m.voter m.client m.body client within asked c s brings
       ];
       numbered = numbered_after _ y o.state (laws.numbers y m o ok.sound step) ok.numbered;
       limit = (let same = carry.limit in let most = ok.limit in omega arith);
@@ -140,20 +140,20 @@ voter_after laws b X y ok m client within asked o step =
 
 -- ---- a vote that is held stays
 
-under : (x : ClientState) (v g : ℕ) → holds_under x v g ≡ true → (holds x v ≡ true) × (held_of x v ≡ g)
-under x v g is = (grind (arith, nat_tests), grind (arith, nat_tests))
+holds_under-parts : (x : ClientState) (v g : ℕ) → holds_under x v g ≡ true → (holds x v ≡ true) × (held_of x v ≡ g)
+holds_under-parts x v g is = (grind (arith, nat_tests), grind (arith, nat_tests))
 
 -- a vote that is held may still count
 live_held : (x : ClientState) → sound.IsSound x → (v g : ℕ) → holds_under x v g ≡ true → IsLive x v x.stamp g
 live_held x ok v g is =
-    let u = under x v g is in
+    let u = holds_under-parts x v g is in
     let well = ok.held v u.0 in
     let fresh = well.fresh in
     let same = u.1 in
     record { busy = well.busy; current = refl; fresh = omega arith }
 
 held_keeps : (b : Bounds) (X : ℕ → ClientState) (Y Z : ℕ → VoterState) (Killed : ℕ → Grant → Type 0) → VotesKeep Y Z Killed → SparesLive X Killed → ((c : ℕ) → ClientOk b (X c)) → HeldOk X Y → HeldOk X Z
-held_keeps b X Y Z Killed keep spares clients ok c v g is = still Y Z X Killed keep spares v c (X c).stamp g (live_held (X c) (clients c).sound v g is) (ok c v g is)
+held_keeps b X Y Z Killed keep spares clients ok c v g is = Names-still Y Z X Killed keep spares v c (X c).stamp g (live_held (X c) (clients c).sound v g is) (ok c v g is)
 
 -- ---- a voter takes a step
 

@@ -5,7 +5,7 @@ use Rattle.board.specs.Rule.{Kept}
 use Rattle.board.specs.Views.{voter_view}
 use Rattle.board.specs.Views.{with_voter, spent_view}
 use Rattle.board.proofs.Giving.{takes_voter}
-use Rattle.board.proofs.Register.{counts}
+use Rattle.board.proofs.Register.{Counted-allowed}
 use Rattle.board.proofs.root.join_voter_seat.Goals as goal
 
 pub join_seat-requires : goal.join_seat-requires
@@ -24,4 +24,4 @@ join_seat-requires g c =
     )
 
 pub load-requires : goal.load-requires
-load-requires g c = (c.join_seat.ensures.0 ∙ c.requires.table.0, c.requires.table.2, counts c.args.table.now.shared.key _ _ _)
+load-requires g c = (c.join_seat.ensures.0 ∙ c.requires.table.0, c.requires.table.2, Counted-allowed c.args.table.now.shared.key _ _ _)

@@ -2,7 +2,7 @@ use Rattle.std.proofs.Common.{◌≡◌, ℕ, ◌^◌, [], Some, set, sym, subst
 use Rattle.board.specs.Roots.{IsCurrent}
 use Rattle.board.specs.Views.{voter_view}
 use Rattle.board.specs.Words.{IsSettledFrom}
-use Rattle.board.proofs.Votes.{settles_by}
+use Rattle.board.proofs.Votes.{Settled-allowed_by_vote}
 use Rattle.board.proofs.Words.{when_eq}
 use Rattle.board.proofs.VoterFields.{settled_after}
 use Rattle.board.proofs.voter.frees.Goals as goal
@@ -13,7 +13,7 @@ compare_exchange-requires c =
     let known = subst (λ (v : ℕ). IsSettledFrom c.args.vote (λ current. (c.args.seat.now.me ≡ (voter_view v (Some current), [])) × IsCurrent (Some current) (2 ^ 40))) (sym at) c.requires.seat in (
       c.requires.table.0,
       omega (arith, c.requires.table.1, c.requires.voter.0),
-      settles_by c.args.table.now.shared.key _ _ _ c.from.result c.args.vote _ _ (omega (arith, c.requires.voter.0)) (omega (arith, c.requires.voter.1)) known c.word-word.ensures c.word.ensures,
+      Settled-allowed_by_vote c.args.table.now.shared.key _ _ _ c.from.result c.args.vote _ _ (omega (arith, c.requires.voter.0)) (omega (arith, c.requires.voter.1)) known c.word-word.ensures c.word.ensures,
     )
 
 pub returns-clause-seat : goal.returns-clause-seat

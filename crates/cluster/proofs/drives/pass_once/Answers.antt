@@ -2,13 +2,13 @@ use Rattle.std.proofs.Common.{ap, ◌∙◌}
 use Rattle.requester.specs.declared.state.ClientState.{ClientState}
 use Rattle.cluster.specs.Drives.{KeepsWork}
 use Rattle.members.specs.Members.{MemberState}
-use Rattle.cluster.proofs.DriveLemmas.{drew, refused_pass}
+use Rattle.cluster.proofs.DriveLemmas.{Worked-draw, refused_pass}
 use Rattle.cluster.proofs.drives.pass_once.Goals as goal
 
 pub returns-in_default-wait_at-clause-stopped : goal.returns-in_default-wait_at-clause-stopped
 returns-in_default-wait_at-clause-stopped g c =
     let told = c.in_ok-ask.ensures in
-    (drew c.args.member.now c.ask.new.self c.enter.new.member c.in_ok-ask.field-0 told.may.2 told.client told.receipt told.seat c.enter.ensures.kept, (c.client-client.ensures.value, told.may.2))
+    (Worked-draw c.args.member.now c.ask.new.self c.enter.new.member c.in_ok-ask.field-0 told.may.2 told.client told.receipt told.seat c.enter.ensures.kept, (c.client-client.ensures.value, told.may.2))
 
 pub returns-in-Err-clause-stopped : goal.returns-in-Err-clause-stopped
 returns-in-Err-clause-stopped g c =
@@ -21,5 +21,5 @@ returns-in-Err-clause-stopped g c =
       passes = ap (λ (m : MemberState). m.seat.passes) stays.kept ∙ kept.passes;
       fault = stays.fault ∙ kept.fault;
     } in
-    let drawn = drew c.args.member.now c.ask.new.self c.pass.new.self c.in_ok-ask.field-0 told.may.2 told.client told.receipt told.seat after in
+    let drawn = Worked-draw c.args.member.now c.ask.new.self c.pass.new.self c.in_ok-ask.field-0 told.may.2 told.client told.receipt told.seat after in
     refused_pass c.args.member.now c.enter.new.member c.pass.new.self c.in-Err.fault told.may.2 drawn c.in-Some.ensures.entered.1 stays.refused

@@ -1,23 +1,23 @@
 use Rattle.std.proofs.Common.{◌+◌, sym, subst, arith}
 use Rattle.members.specs.Members.{MemberState}
 use Rattle.cluster.specs.Drives.{TookTurns, WasLet, wasted}
-use Rattle.cluster.proofs.DriveLemmas.{ended, stopped, took_turns, was_let}
+use Rattle.cluster.proofs.DriveLemmas.{IsBack-stopped, Worked-stopped, took_turns, was_let}
 use Rattle.cluster.proofs.drives.serve.Goals as goal
 
 pub returns-in-Err-clause-back : goal.returns-in-Err-clause-back
 returns-in-Err-clause-back g c =
-    ended c.args.passes c.loop.counter c.args.member.now c.loop.member c.pass_once.new.member c.end.new.member c.ends_by-in-Err.new.self c.in-Err.fault
+    IsBack-stopped c.args.passes c.loop.counter c.args.member.now c.loop.member c.pass_once.new.member c.end.new.member c.ends_by-in-Err.new.self c.in-Err.fault
     c.loop.invariant.0 c.loop-test.true c.in-Err.ensures.stopped c.end.ensures.kept c.end.ensures.idle c.ends_by-in-Err.ensures
 
 pub returns-in-Err-clause-let_pass : goal.returns-in-Err-clause-let_pass
 returns-in-Err-clause-let_pass g c =
     let fault = c.in-Err.fault in
-    let worked = stopped c.loop.counter c.args.member.now c.loop.member c.pass_once.new.member c.end.new.member fault c.loop.invariant.0 c.in-Err.ensures.stopped c.end.ensures.kept in
+    let worked = Worked-stopped c.loop.counter c.args.member.now c.loop.member c.pass_once.new.member c.end.new.member fault c.loop.invariant.0 c.in-Err.ensures.stopped c.end.ensures.kept in
     let lets = g.G.Gate.lets c.args.gate.now in
     subst (λ (m : MemberState). WasLet lets c.args.member.now m) (sym c.ends_by-in-Err.ensures) (was_let lets (c.loop.counter + wasted fault) c.loop.counter c.args.member.now _ worked c.loop.invariant.2)
 
 pub returns-in-Err-clause-in_turns : goal.returns-in-Err-clause-in_turns
 returns-in-Err-clause-in_turns g c =
     let fault = c.in-Err.fault in
-    let worked = stopped c.loop.counter c.args.member.now c.loop.member c.pass_once.new.member c.end.new.member fault c.loop.invariant.0 c.in-Err.ensures.stopped c.end.ensures.kept in
+    let worked = Worked-stopped c.loop.counter c.args.member.now c.loop.member c.pass_once.new.member c.end.new.member fault c.loop.invariant.0 c.in-Err.ensures.stopped c.end.ensures.kept in
     subst (λ (m : MemberState). TookTurns c.args.turns c.args.member.now m) (sym c.ends_by-in-Err.ensures) (took_turns c.args.turns (c.loop.counter + wasted fault) c.loop.counter c.args.member.now _ worked (omega (arith, c.loop.invariant.1)))

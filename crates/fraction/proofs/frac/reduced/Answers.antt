@@ -10,8 +10,8 @@ use Rattle.fraction.proofs.Lowest.{IsDivided, divided-IsRatio, divided-IsReduced
 use Rattle.fraction.proofs.frac.reduced.Goals as goal
 
 -- what the calls answered, where the numbers are seen as the code passes them
-divided : (num den num' den' n n' d' : ℤ) (top bottom g : ℕ) → num' ≡ num → den' ≡ den → n' ≡ n → Fits den → top ≡ unsigned_abs num' → bottom ≡ unsigned_abs den' → IsGcd top bottom g → n ≡ signed_of (beq (lt_z num' (pos 0)) (lt_z den' (pos 0))) (top / g) → d' ≡ pos (bottom / g) → IsDivided num den g (record { num = n'; den = d' })
-divided num den num' den' n n' d' top bottom g num_is den_is n_is den_fits top_is bottom_is gcd signed d_is =
+IsDivided-passed : (num den num' den' n n' d' : ℤ) (top bottom g : ℕ) → num' ≡ num → den' ≡ den → n' ≡ n → Fits den → top ≡ unsigned_abs num' → bottom ≡ unsigned_abs den' → IsGcd top bottom g → n ≡ signed_of (beq (lt_z num' (pos 0)) (lt_z den' (pos 0))) (top / g) → d' ≡ pos (bottom / g) → IsDivided num den g (record { num = n'; den = d' })
+IsDivided-passed num den num' den' n n' d' top bottom g num_is den_is n_is den_fits top_is bottom_is gcd signed d_is =
     let at_top : top ≡ unsigned_abs num = top_is ∙ ap (λ z. unsigned_abs z) num_is in
     let at_bottom : bottom ≡ unsigned_abs den = bottom_is ∙ ap (λ z. unsigned_abs z) den_is in
     record {
@@ -24,8 +24,8 @@ divided num den num' den' n n' d' top bottom g num_is den_is n_is den_fits top_i
 as_passed : (z : ℤ) → Fits z → to_z w128 (of_z w128 z) ≡ z
 as_passed z fits = to_z-of_z w128 z (fits_signed_from_abs w128 z fits)
 
-below : (a b c : ℕ) → a ≤ b → b < c → a < c
-below a b c h k = omega arith
+lt-from_le : (a b c : ℕ) → a ≤ b → b < c → a < c
+lt-from_le a b c h k = omega arith
 
 is_divided : (c : goal.After-quotient-2) → IsDivided c.args.num c.args.den c.wide_gcd-common.result (record { num = to_z w128 (of_z w128 c.signed.result); den = to_z w128 c.quotient-2.result })
 is_divided c =
@@ -35,24 +35,24 @@ is_divided c =
     let bottom_fits : c.unsigned_abs-bottom.result < 2 ^ 127 = subst (λ n. n < 2 ^ 127) (sym bottom_is) c.requires.den_fits in
     let top_is : c.quotient.result ≡ c.unsigned_abs-top.result / c.wide_gcd-common.result = c.quotient.ensures in
     let rest_is : c.quotient-2.result ≡ c.unsigned_abs-bottom.result / c.wide_gcd-common.result = c.quotient-2.ensures in
-    let rest_fits : c.quotient-2.result < 2 ^ 127 = subst (λ n. n < 2 ^ 127) (sym rest_is) (below _ _ _ (div-le_self c.unsigned_abs-bottom.result c.wide_gcd-common.result) bottom_fits) in
-    divided _ _ _ _ c.signed.result _ _ c.unsigned_abs-top.result c.unsigned_abs-bottom.result _ num_is den_is
+    let rest_fits : c.quotient-2.result < 2 ^ 127 = subst (λ n. n < 2 ^ 127) (sym rest_is) (lt-from_le _ _ _ (div-le_self c.unsigned_abs-bottom.result c.wide_gcd-common.result) bottom_fits) in
+    IsDivided-passed _ _ _ _ c.signed.result _ _ c.unsigned_abs-top.result c.unsigned_abs-bottom.result _ num_is den_is
     (to_z-of_z w128 c.signed.result (record { sfits = c.signed.type_inv }))
     c.requires.den_fits c.unsigned_abs-top.ensures.value c.unsigned_abs-bottom.ensures.value c.wide_gcd-common.ensures
     (c.signed.ensures ∙ ap (λ n. signed_of (beq (lt_z (to_z w128 (of_z w128 c.args.num)) (pos 0)) (lt_z (to_z w128 (of_z w128 c.args.den)) (pos 0))) n) top_is)
     (to_z_pos w128 _ rest_fits ∙ ap (λ n. pos n) rest_is)
 
-some : (den den' : ℤ) (top bottom g : ℕ) → den' ≡ den → den ≢ pos 0 → bottom ≡ unsigned_abs den' → IsGcd top bottom g → g ≢ 0
-some den den' top bottom g den_is ne bottom_is gcd none =
+IsGcd-nonzero : (den den' : ℤ) (top bottom g : ℕ) → den' ≡ den → den ≢ pos 0 → bottom ≡ unsigned_abs den' → IsGcd top bottom g → g ≢ 0
+IsGcd-nonzero den den' top bottom g den_is ne bottom_is gcd none =
     let at_bottom : unsigned_abs den ≡ bottom = ap (λ z. unsigned_abs z) (sym den_is) ∙ sym bottom_is in
     let above : 0 < g = gcd-some top bottom g gcd (subst (λ n. 0 < n) at_bottom (abs-some den ne)) in
     omega arith
 
 pub quotient-requires : goal.quotient-requires
-quotient-requires c = some c.args.den _ _ _ _ (as_passed c.args.den c.requires.den_fits) c.requires.divisor c.unsigned_abs-bottom.ensures.value c.wide_gcd-common.ensures
+quotient-requires c = IsGcd-nonzero c.args.den _ _ _ _ (as_passed c.args.den c.requires.den_fits) c.requires.divisor c.unsigned_abs-bottom.ensures.value c.wide_gcd-common.ensures
 
 pub quotient-requires-2 : goal.quotient-requires-2
-quotient-requires-2 c = some c.args.den _ _ _ _ (as_passed c.args.den c.requires.den_fits) c.requires.divisor c.unsigned_abs-bottom.ensures.value c.wide_gcd-common.ensures
+quotient-requires-2 c = IsGcd-nonzero c.args.den _ _ _ _ (as_passed c.args.den c.requires.den_fits) c.requires.divisor c.unsigned_abs-bottom.ensures.value c.wide_gcd-common.ensures
 
 pub invariant_of-result : goal.invariant_of-result
 invariant_of-result c = divided-IsReduced _ _ _ _ (is_divided c) c.requires.divisor c.requires.num_fits c.requires.den_fits

@@ -3,7 +3,7 @@ use Rattle.std.specs.Prelude.{FitsSigned}
 use Rattle.std.specs.Int.{w128}
 use Rattle.std.proofs.lemmas.Int.{to_z-of_z}
 use Rattle.fraction.specs.Rows.{combined}
-use Rattle.fraction.proofs.RowLemmas.{stored, kept, product_is, difference_is, difference_fits}
+use Rattle.fraction.proofs.RowLemmas.{set-holds_below_next, set-keeps_above, product_is, difference_is, difference_fits}
 use Rattle.fraction.proofs.row.combine.Goals as goal
 
 pub overflow_sub-entry : goal.overflow_sub-entry
@@ -25,7 +25,7 @@ loop-j-preserved c =
     let fits = c.requires.fits j (omega arith) in
     let back = sym (ap (λ t. combined c.args.row.now t c.args.pivot_row.now (to_z w128 (of_z w128 c.args.taken)) j) (to_z-of_z w128 c.args.scale c.ranges.scale) ∙ ap (λ t. combined c.args.row.now c.args.scale c.args.pivot_row.now t j) (to_z-of_z w128 c.args.taken c.ranges.taken)) in
     record {
-      done = stored (λ k v. v ≡ combined c.args.row.now (to_z w128 (of_z w128 c.args.scale)) c.args.pivot_row.now (to_z w128 (of_z w128 c.args.taken)) k) _ _ _ lt c.loop-j.invariant.done
+      done = set-holds_below_next (λ k v. v ≡ combined c.args.row.now (to_z w128 (of_z w128 c.args.scale)) c.args.pivot_row.now (to_z w128 (of_z w128 c.args.taken)) k) _ _ _ lt c.loop-j.invariant.done
           (difference_is _ _ _ _ (product_is _ _ _ at c.ranges.scale was fits.0) (product_is _ _ _ c.ranges.taken other refl fits.1) fits.2 ∙ back);
-      left = kept _ _ _ _ c.loop-j.invariant.left;
+      left = set-keeps_above _ _ _ _ c.loop-j.invariant.left;
     }

@@ -2,14 +2,14 @@ use Rattle.std.proofs.Common.{rules, pos, get_or, refl, arith, below_more}
 use Rattle.std.specs.Prelude.{FitsSigned}
 use Rattle.std.specs.Int.{w128}
 use Rattle.std.proofs.lemmas.Int.{to_z-of_z}
-use Rattle.fraction.proofs.Passed.{passed-product, product-unfit, difference-unfit, refused}
+use Rattle.fraction.proofs.Passed.{passed-product, product-unfit, difference-unfit, IsOk-iff_unmet}
 use Rattle.fraction.proofs.RowLemmas.{fit_product, fit_difference}
 use Rattle.fraction.proofs.row.test_combine.Goals as goal
 
 pub returns-in_err-product-2-clause-fits : goal.returns-in_err-product-2-clause-fits
 returns-in_err-product-2-clause-fits c =
     let other : FitsSigned w128 (get_or c.args.pivot_row.now c.loop-j.j (pos 0)) = search rules in
-    refused _ _ c.from_residual-in_err-product-2.ensures.0
+    IsOk-iff_unmet _ _ c.from_residual-in_err-product-2.ensures.0
     (λ fits. product-unfit _ _ _ _ (to_z-of_z w128 c.args.taken c.ranges.taken) (to_z-of_z w128 _ other) c.in_err-product-2.ensures.1 (fits c.loop-j.j (omega arith)).1)
 
 pub returns-in_err-difference-clause-fits : goal.returns-in_err-difference-clause-fits
@@ -18,7 +18,7 @@ returns-in_err-difference-clause-fits c =
     let other : FitsSigned w128 (get_or c.args.pivot_row.now c.loop-j.j (pos 0)) = search rules in
     let left = passed-product _ _ _ _ _ (to_z-of_z w128 _ at) (to_z-of_z w128 _ c.ranges.scale) c.in_ok-product.ensures in
     let right = passed-product _ _ _ _ _ (to_z-of_z w128 _ c.ranges.taken) (to_z-of_z w128 _ other) c.in_ok-product-2.ensures in
-    refused _ _ c.from_residual-in_err-difference.ensures.0
+    IsOk-iff_unmet _ _ c.from_residual-in_err-difference.ensures.0
     (λ fits. difference-unfit _ _ _ _ left right c.in_err-difference.ensures.1 (fits c.loop-j.j (omega arith)).2)
 
 pub loop-j-preserved : goal.loop-j-preserved

@@ -3,7 +3,7 @@ use Rattle.std.specs.Int.{◌∣◌}
 use Rattle.std.proofs.lemmas.List.{length-map}
 use Rattle.fraction.specs.Fractions.{Fits}
 use Rattle.fraction.specs.Rows.{lists_of, row_at, entry_of, IsDivided}
-use Rattle.fraction.proofs.RowsLemmas.{was_row, stored_row, kept_row, written}
+use Rattle.fraction.proofs.RowsLemmas.{was_row, stored_row, kept_row, with_items-items}
 use Rattle.fraction.proofs.rows.divide.Goals as goal
 
 pub divide-requires-clause-fits : goal.divide-requires-clause-fits
@@ -26,7 +26,7 @@ loop-row-preserved c =
     let was = was_row c.loop-row.rows (lists_of c.args.rows.now) i _ _ (omega arith) c.deref_mut.ensures.value c.loop-row.invariant.left in
     let lt : i < length c.loop-row.rows = omega arith in
     let same : length c.divide.new.row ≡ length c.deref_mut.result.now = c.divide.auto.row in
-    let now = written (get_or c.loop-row.rows i c.row-item.result) c.divide.new.row _ same c.deref_mut.ensures.value in
+    let now = with_items-items (get_or c.loop-row.rows i c.row-item.result) c.divide.new.row _ same c.deref_mut.ensures.value in
     let old = row_at (lists_of c.args.rows.now) i in
     record {
       done = stored_row (λ k r. IsDivided c.args.divisor (row_at (lists_of c.args.rows.now) k) r) _ _ _ lt c.loop-row.invariant.done

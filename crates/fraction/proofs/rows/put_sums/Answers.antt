@@ -2,7 +2,7 @@ use Rattle.std.proofs.Common.{◌≡◌, ℕ, ◌<◌, length, get_or, sym, subs
 use Rattle.std.proofs.lemmas.List.{length-map}
 use Rattle.fraction.specs.Tables.{SumFits}
 use Rattle.fraction.specs.Rows.{lists_of, row_at, IsSummedRow}
-use Rattle.fraction.proofs.RowsLemmas.{was_row, stored_row, kept_row, written}
+use Rattle.fraction.proofs.RowsLemmas.{was_row, stored_row, kept_row, with_items-items}
 use Rattle.fraction.proofs.rows.put_sums.Goals as goal
 
 pub put_sum-requires-clause-into : goal.put_sum-requires-clause-into
@@ -25,7 +25,7 @@ loop-row-preserved c =
     let was = was_row c.loop-row.rows (lists_of c.args.rows.now) i _ _ (omega arith) c.deref_mut.ensures.value c.loop-row.invariant.left in
     let lt : i < length c.loop-row.rows = omega arith in
     let same : length c.put_sum.new.row ≡ length c.deref_mut.result.now = c.put_sum.ensures.0 in
-    let now = written (get_or c.loop-row.rows i c.row-item.result) c.put_sum.new.row _ same c.deref_mut.ensures.value in
+    let now = with_items-items (get_or c.loop-row.rows i c.row-item.result) c.put_sum.new.row _ same c.deref_mut.ensures.value in
     let old = row_at (lists_of c.args.rows.now) i in
     record {
       done = stored_row (λ k r. IsSummedRow c.args.columns.now c.args.into (row_at (lists_of c.args.rows.now) k) r) _ _ _ lt c.loop-row.invariant.done

@@ -4,7 +4,7 @@ use Rattle.std.proofs.lemmas.Int.{to_z-of_z}
 use Rattle.std.proofs.lemmas.List.{length-map}
 use Rattle.std.proofs.lemmas.Bool.{false≢true}
 use Rattle.fraction.specs.Rows.{lists_of, row_at, EliminateFits}
-use Rattle.fraction.proofs.Passed.{refused}
+use Rattle.fraction.proofs.Passed.{IsOk-iff_unmet}
 use Rattle.fraction.proofs.PivotLemmas.{eliminate_as}
 use Rattle.fraction.proofs.rows.test_others.Goals as goal
 use Rattle.fraction.proofs.rows.test_others.Goals.{then-i-row+in_ok-test_eliminate, else-i-row}
@@ -12,7 +12,7 @@ use Rattle.fraction.proofs.rows.test_others.Goals.{then-i-row+in_ok-test_elimina
 pub returns-in_err-test_eliminate-clause-fits : goal.returns-in_err-test_eliminate-clause-fits
 returns-in_err-test_eliminate-clause-fits c =
     let many = length-map c.args.rows.now (λ row. row.items) in
-    refused _ _ c.from_residual.ensures.0
+    IsOk-iff_unmet _ _ c.from_residual.ensures.0
     (λ fits. false≢true (c.in_err-test_eliminate.ensures.fits.1 (eliminate_as _ _ _ _ _ _ c.args.column (sym c.row_of.ensures) (sym c.row_of-then-i-row.ensures) (sym (to_z-of_z w128 c.args.scale c.ranges.scale)) (fits c.loop-i.i (omega arith) c.if-i-row.true))))
 
 pub loop-i-preserved : goal.loop-i-preserved

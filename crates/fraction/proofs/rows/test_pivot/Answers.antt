@@ -5,7 +5,7 @@ use Rattle.std.proofs.lemmas.List.{length-map}
 use Rattle.std.proofs.lemmas.Bool.{false≢true}
 use Rattle.fraction.specs.Fractions.{Fits}
 use Rattle.fraction.specs.Rows.{lists_of, row_at, entry_of, EachFits, OthersFit}
-use Rattle.fraction.proofs.Passed.{refused}
+use Rattle.fraction.proofs.Passed.{IsOk-iff_unmet}
 use Rattle.fraction.proofs.RowLemmas.{fit_product}
 use Rattle.fraction.proofs.PivotLemmas.{pivot_fits, others_fit}
 use Rattle.fraction.proofs.SmallLemmas.{small_pivot}
@@ -21,7 +21,7 @@ pub returns-in_err-test_scale-clause-fits : goal.returns-in_err-test_scale-claus
 returns-in_err-test_scale-clause-fits c =
     let many = length-map c.args.rows.now (λ row. row.items) in
     let inside : c.args.row < length (lists_of c.args.rows.now) = omega arith in
-    refused _ _ c.from_residual-in_err-test_scale.ensures.0
+    IsOk-iff_unmet _ _ c.from_residual-in_err-test_scale.ensures.0
     (λ fits. false≢true (c.in_err-test_scale.ensures.fits.1 (subst (λ d. EachFits c.row_of-pivot_row.result.now d) (sym (to_z-of_z w128 c.args.den c.ranges.den)) (subst (λ r. EachFits r c.args.den) (sym c.row_of-pivot_row.ensures) (λ j within. fits.pivot_row j (inside, within))))))
 
 pub returns-clause-fits : goal.returns-clause-fits

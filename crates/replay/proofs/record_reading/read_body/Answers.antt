@@ -1,6 +1,6 @@
 use Rattle.std.proofs.Common.{arith, inl, inr}
 use Rattle.texts.proofs.FieldLemmas.{some_from_test}
-use Rattle.replay.proofs.RecordBodyLemmas.{entries, goes_on, stops}
+use Rattle.replay.proofs.RecordBodyLemmas.{entries, GoesOnBehind-from_parts, StopsBehind-from_parts}
 use Rattle.replay.proofs.record_reading.read_body.Goals as goal
 
 pub returns-in_default-clause-bad : goal.returns-in_default-clause-bad
@@ -10,7 +10,7 @@ returns-in_default-clause-bad c =
     inl (
       draws,
       passes,
-      stops c.args.text.now c.in_ok-draws.rest.now c.in_ok-passes.rest.now draws passes c.in_ok-draws.ensures c.in_ok-passes.ensures c.in_default.ensures,
+      StopsBehind-from_parts c.args.text.now c.in_ok-draws.rest.now c.in_ok-passes.rest.now draws passes c.in_ok-draws.ensures c.in_ok-passes.ensures c.in_default.ensures,
       omega (arith, c.len.ensures, c.len-2.ensures),
     )
 
@@ -20,6 +20,6 @@ returns-then-not-is_empty-clause-bad c =
     let some = some_from_test c.in-Some.rest.now c.if-not-is_empty.ensures in
     inr (
       e,
-      goes_on c.args.text.now c.in_ok-draws.rest.now c.in_ok-passes.rest.now c.in-Some.rest.now e some c.in_ok-draws.ensures c.in_ok-passes.ensures c.in-Some.ensures,
+      GoesOnBehind-from_parts c.args.text.now c.in_ok-draws.rest.now c.in_ok-passes.rest.now c.in-Some.rest.now e some c.in_ok-draws.ensures c.in_ok-passes.ensures c.in-Some.ensures,
       omega (arith, c.len.ensures, c.len-2.ensures),
     )

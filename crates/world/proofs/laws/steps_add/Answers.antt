@@ -1,5 +1,5 @@
-use Rattle.world.proofs.Added.{adds}
+use Rattle.world.proofs.Added.{Adds-step}
 use Rattle.world.proofs.laws.steps_add.Goals as goal
 
 pub returns : goal.returns
-returns c = adds
+returns c = Adds-step

@@ -8,7 +8,7 @@ use Rattle.board.specs.Roots.{IsRoot}
 use Rattle.board.specs.Rule.{IsKept}
 use Rattle.board.specs.Seats.{Setting}
 use Rattle.board.specs.Views.{root_view}
-use Rattle.board.proofs.Ends.{opens}
+use Rattle.board.proofs.Ends.{IsKept-start}
 use Rattle.board.proofs.RootFields.{fresh_root, is_below}
 use Rattle.board.proofs.board.Board.new.Goals as goal
 
@@ -18,7 +18,7 @@ of_words-requires c =
     let few = c.voters-voters.ensures.coterie.few_voters in
     let is = c.as_slice.ensures.value ∙ c.in_ok-words.ensures in
     subst (λ l. IsKept setting l (root_view c.voters-voters.result c.args.clients ∷ [])) (sym is)
-    (opens setting (omega (arith, few, c.voters-voters.ensures.value)) c.requires.few_clients c.requires.limit)
+    (IsKept-start setting (omega (arith, few, c.voters-voters.ensures.value)) c.requires.few_clients c.requires.limit)
 
 pub invariant_of-board : goal.invariant_of-board
 invariant_of-board c =

@@ -6,7 +6,7 @@ use Rattle.board.specs.Seats.{Setting}
 use Rattle.board.specs.Seats.{BoardState, ClientSeatState}
 use Rattle.atomic_table.specs.Seated.{TableId}
 use Rattle.board.specs.Words.{name_of, returned}
-use Rattle.board.proofs.Votes.{gives_back}
+use Rattle.board.proofs.Votes.{GaveBack-allowed}
 use Rattle.board.proofs.client.ClientSeat.give_back.Goals as goal
 
 pub swap-requires : goal.swap-requires
@@ -27,7 +27,7 @@ swap-requires c =
     let inside : c.from-place.result + 1 < c.self.inside.seat.table_id.words = c.self.invariant.4 c.from-place.result some_grant in (
       table,
       omega (arith, c.board.invariant.1, words, inside),
-      gives_back c.board.inside.table.shared.key _ _ _ c.from-place.result _ (omega (arith, sheet, c.board.invariant.1, words, inside)) (omega (arith, c.self.invariant.1))
+      GaveBack-allowed c.board.inside.table.shared.key _ _ _ c.from-place.result _ (omega (arith, sheet, c.board.invariant.1, words, inside)) (omega (arith, c.self.invariant.1))
           (let long : length c.self.inside.seat.me.0.held ≡ length c.self.inside.held = ap length mine in omega (arith, few, words, inside, c.board.invariant.1, c.self.told))
           (λ z. some_grant (sym here ∙ z))
           (c.word-returned.ensures ∙ ap₂ (λ (n g : ℕ). returned (name_of n g)) (sym client) (sym here)),

@@ -4,7 +4,7 @@ use Rattle.board.specs.declared.table.View.{View}
 use Rattle.board.specs.Seats.{Setting}
 use Rattle.quorum_set.specs.Meetings.{AllMeet}
 use Rattle.board.specs.Seats.{BoardState, ClientSeatState}
-use Rattle.board.proofs.Register.{writes}
+use Rattle.board.proofs.Register.{Wrote-allowed}
 use Rattle.board.proofs.client.ClientSeat.write_register.Goals as goal
 
 pub store-requires : goal.store-requires
@@ -15,7 +15,7 @@ store-requires c =
     let limit = ap (λ (s : Setting). s.limit) same in (
       ap (λ (s : ClientSeatState). s.table) c.self.view_is ∙ c.requires.table ∙ sym (ap (λ (b : BoardState). b.table) c.board.view_is),
       omega (arith, c.voters-word.ensures.value, c.board.invariant.1),
-      writes c.board.inside.table.shared.key _ _ _ c.voters-word.result c.in-Some.field-0-0 c.in-Some.number (c.voters-word.ensures.value ∙ sym sheet)
+      Wrote-allowed c.board.inside.table.shared.key _ _ _ c.voters-word.result c.in-Some.field-0-0 c.in-Some.number (c.voters-word.ensures.value ∙ sym sheet)
           (subst (λ (s : Setting). AllMeet s.voters s.quorums) (sym same) c.board.invariant.9)
           (ap (λ (m : Me (Unit {0}) View). m.0.parts) knows)
           (ap (λ (m : Me (Unit {0}) View). m.0.reading) knows ∙ c.in-Some.is)

@@ -8,7 +8,7 @@ use Rattle.board.specs.Roots.{passes_of, IsRoot}
 use Rattle.board.specs.Views.{client_view, with_client, spent_view}
 use Rattle.board.proofs.Giving.{takes_client}
 use Rattle.board.proofs.RootFields.{took_client, numbers_of}
-use Rattle.board.proofs.Register.{counts}
+use Rattle.board.proofs.Register.{Counted-allowed}
 use Rattle.board.proofs.root.BoardRoot.join_client.Goals as goal
 
 pub join_seat-requires : goal.join_seat-requires
@@ -32,7 +32,7 @@ load-requires c =
     let table = sym (ap (λ (b : BoardState). b.table) c.board.view_is) in (
       c.join_seat.ensures.0 ∙ ap (λ (s : RootState). s.table) c.self.view_is ∙ c.requires.table ∙ table,
       omega (arith, c.board.invariant.1),
-      counts c.board.inside.table.shared.key _ _ _,
+      Counted-allowed c.board.inside.table.shared.key _ _ _,
     )
 
 pub overflow_add-self : goal.overflow_add-self

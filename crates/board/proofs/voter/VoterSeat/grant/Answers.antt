@@ -5,7 +5,7 @@ use Rattle.board.specs.Seats.{BoardState, VoterSeatState}
 use Rattle.board.specs.Views.{current_name}
 use Rattle.board.specs.Seats.{Setting}
 use Rattle.board.specs.Words.{name_of, name_in}
-use Rattle.board.proofs.Votes.{grants_by}
+use Rattle.board.proofs.Votes.{Granted-allowed_by_word}
 use Rattle.board.proofs.VoterFields.{voter_room, voter_here, voter_after}
 use Rattle.board.proofs.voter.VoterSeat.grant.Goals as goal
 
@@ -22,7 +22,7 @@ swap-requires c =
     let in_board : c.from.result < c.board.inside.sheet.voters = omega (arith, c.self.invariant.3, c.board.invariant.1, words) in (
       ap (λ (s : VoterSeatState). s.table) c.self.view_is ∙ c.requires.table ∙ sym (ap (λ (b : BoardState). b.table) c.board.view_is),
       omega (arith, c.board.invariant.1),
-      grants_by c.board.inside.table.shared.key _ _ _ c.from.result (name_of c.args.client c.args.grant) _ (omega arith) (omega (arith, c.requires.above))
+      Granted-allowed_by_word c.board.inside.table.shared.key _ _ _ c.from.result (name_of c.args.client c.args.grant) _ (omega arith) (omega (arith, c.requires.above))
           (subst (λ (v : ℕ). v < length c.self.inside.seat.me.0.voters) (sym at) room)
           (ap (slice_index c.self.inside.seat.me.0.voters) at ∙ here ∙ ap (λ (x : Option (ℕ × ℕ)). current_name x + 1) free)
           c.word-offered.ensures,

@@ -5,7 +5,7 @@ use Rattle.itertools.specs.Odometer.{ways}
 use Rattle.itertools.specs.Pool.{ascending_low, ascending_high, combination_left}
 use Rattle.numbers.specs.Sets.{has, IsSet, set_where}
 use Rattle.construct.specs.Majority.{sets_from}
-use Rattle.construct.proofs.MajorityLemmas.{choices, IsSet-choice, below_choice}
+use Rattle.construct.proofs.MajorityLemmas.{IsChoice-sets_from, IsSet-choice, below_choice}
 use Rattle.construct.proofs.Combinations.{ways_are_sets, members_are_places, set_where-has}
 use Rattle.construct.proofs.shapes.majority.sets_of.Goals as goal
 
@@ -17,7 +17,7 @@ loop-members-init c =
     let made_by = c.in_ok-members-items.ensures in
     let left : combination_left made ≡ sets_from 0 n k =
     made_by.left ∙ ap (λ m. ways ascending_low (ascending_high m k) k []) made_by.size ∙ ways_are_sets k n k n [] (omega arith) (omega arith) in
-    let all = choices 0 n k in
+    let all = IsChoice-sets_from 0 n k in
     rw c.into_iter-members-iterator.ensures.into_iter_gives
     (record {
       pool = made_by.pool;

@@ -4,14 +4,14 @@ use Rattle.std.proofs.lemmas.Bool.{false≢true}
 use Rattle.std.proofs.lemmas.List.{with_items_is}
 use Rattle.fraction.specs.Tables.{Table, IsTable, IsSummed}
 use Rattle.fraction.specs.Rows.{lists_of, EachRow, AllSumsFit, IsSummedRow}
-use Rattle.fraction.proofs.Passed.{refused}
-use Rattle.fraction.proofs.SumLemmas.{summed, summed_table}
+use Rattle.fraction.proofs.Passed.{IsOk-iff_unmet}
+use Rattle.fraction.proofs.SumLemmas.{IsSummed-from_rows, summed_table}
 use Rattle.fraction.proofs.shared.Shared.sum_columns.Goals as goal
 
 pub returns-in_err-test_sums-clause-fits : goal.returns-in_err-test_sums-clause-fits
 returns-in_err-test_sums-clause-fits c =
     let rows_are = sym (ap (λ (t : Table). t.rows) c.self.view_is) ∙ sym (ap lists_of c.deref.ensures.value) in
-    refused _ _ c.from_residual.ensures.0 (λ fits. false≢true (c.in_err-test_sums.ensures.fits.1 (subst (λ rs. AllSumsFit rs c.args.columns.now) rows_are fits)))
+    IsOk-iff_unmet _ _ c.from_residual.ensures.0 (λ fits. false≢true (c.in_err-test_sums.ensures.fits.1 (subst (λ rs. AllSumsFit rs c.args.columns.now) rows_are fits)))
 
 pub invariant_of-self : goal.invariant_of-self
 invariant_of-self c =
@@ -31,4 +31,4 @@ returns-clause-value c =
     let t : Table = record { rows = lists_of c.self.inside.rows.items; den = c.self.inside.den } in
     let is = subst (λ rs. EachRow (IsSummedRow c.args.columns.now c.args.into) (lists_of rs) (lists_of new)) c.deref_mut.ensures.value c.put_sums.ensures in
     subst (λ rs. IsSummed c.args.self.now (record { rows = rs; den = c.self.inside.den }) c.args.columns.now c.args.into) (sym rows_are)
-    (subst (λ (u : Table). IsSummed u (record { rows = lists_of new; den = c.self.inside.den }) c.args.columns.now c.args.into) c.self.view_is (summed t (lists_of new) c.args.columns.now c.args.into is))
+    (subst (λ (u : Table). IsSummed u (record { rows = lists_of new; den = c.self.inside.den }) c.args.columns.now c.args.into) c.self.view_is (IsSummed-from_rows t (lists_of new) c.args.columns.now c.args.into is))

@@ -3,7 +3,7 @@ use Rattle.requester.specs.Steps.{ask}
 use Rattle.requester.specs.Words.{is_idle, is_spent}
 use Rattle.dealer.specs.Offices.{RefusesTicket}
 use Rattle.members.specs.Members.{MayAsk, MemberState, RefusesStart}
-use Rattle.members.proofs.MemberLemmas.{asked_member, not_both, refuses_start, refuses_ticket, starts}
+use Rattle.members.proofs.MemberLemmas.{asked_member, not_both, refuses_start, refuses_ticket, ask-Ok}
 use Rattle.members.proofs.member.Member.ask.Goals as goal
 
 pub returns-in-Some-clause-refused : goal.returns-in-Some-clause-refused
@@ -14,7 +14,7 @@ pub returns-in-Err-clause-refused : goal.returns-in-Err-clause-refused
 returns-in-Err-clause-refused g c =
     let asked = c.in_default.ensures [] in
     refuses_ticket c.args.self.now c.in-Err.fault
-    (subst (λ (m : MemberState). (is_idle m.requester.phase ≡ true) × (is_spent m.requester ≡ false)) c.self.view_is (starts c.self.inside.requester [] asked.0 asked.1))
+    (subst (λ (m : MemberState). (is_idle m.requester.phase ≡ true) × (is_spent m.requester ≡ false)) c.self.view_is (ask-Ok c.self.inside.requester [] asked.0 asked.1))
     (subst (λ (m : MemberState). RefusesTicket m.clerk.rest c.in-Err.fault) c.self.view_is c.in-Err.ensures.err)
 
 pub unreachable-requires : goal.unreachable-requires
@@ -41,5 +41,5 @@ returns-clause-asked g c =
 
 pub returns-clause-may : goal.returns-clause-may
 returns-clause-may g c =
-    let start = starts c.self.inside.requester _ _ c.in-Ok-ask_into.ensures.asked in
+    let start = ask-Ok c.self.inside.requester _ _ c.in-Ok-ask_into.ensures.asked in
     subst MayAsk c.self.view_is (start.0, start.1, c.in-Ok.ensures.some)

@@ -1,7 +1,7 @@
 use Rattle.std.proofs.Common.{ap, sym, ◌∙◌, refl, Some, subst}
 use Rattle.voter.specs.declared.state.VoterState.{VoterState}
 use Rattle.voter.specs.Steps.{step, IsSound}
-use Rattle.voter.proofs.Grants.{kept}
+use Rattle.voter.proofs.Grants.{KeepsBut-outcome_of}
 use Rattle.voter.proofs.Effects.{step_refused, step_taken}
 use Rattle.voter.proofs.Soundness.{sound_after}
 use Rattle.voter.proofs.voter.Voter.take_into.Goals as goal
@@ -20,4 +20,4 @@ returns-clause-taken c =
 
 pub returns-clause-id : goal.returns-clause-id
 returns-clause-id c =
-    ap (λ (v : VoterState). v.id) c.act.ensures.state ∙ (kept c.self.inside.state c.args.message.now.client c.args.message.now.body).id ∙ ap (λ (v : VoterState). v.id) c.self.view_is
+    ap (λ (v : VoterState). v.id) c.act.ensures.state ∙ (KeepsBut-outcome_of c.self.inside.state c.args.message.now.client c.args.message.now.body).id ∙ ap (λ (v : VoterState). v.id) c.self.view_is

@@ -4,7 +4,7 @@ use Rattle.requester.specs.declared.state.ClientState.{ClientState}
 use Rattle.requester.specs.Steps.{GivesUp}
 use Rattle.world.specs.States.{shown}
 use Rattle.world.specs.Steps.{client_at, step}
-use Rattle.world.proofs.Acts.{ran, refused, written}
+use Rattle.world.proofs.Acts.{act-Ok, act-Err, with_items-items}
 use Rattle.world.proofs.Foretold.{a_client, no_client}
 use Rattle.world.proofs.state.State.give_up.Goals as goal
 
@@ -16,17 +16,17 @@ pub returns-in-Ok : goal.returns-in-Ok
 unfolding step
 returns-in-Ok c = λ deal.
     a_client c.args.client (length c.args.self.now.clients.items) _ c.in_default.ensures.found
-    ∙ ran (shown c.args.self.now) c.deref_mut.result.now c.give_up.new.clients (with_items c.args.self.now.clients c.give_up.new.clients).items c.args.client GivesUp
+    ∙ act-Ok (shown c.args.self.now) c.deref_mut.result.now c.give_up.new.clients (with_items c.args.self.now.clients c.give_up.new.clients).items c.args.client GivesUp
     c.give_up.new.out.items c.in-Ok.seen c.tell.result (shown c.tell.new.self) c.deref_mut.ensures.value
     c.in-Ok.ensures.given_up
-    c.in-Ok.ensures.others (written c.args.self.now.clients c.deref_mut.result.now c.give_up.new.clients c.args.client _ c.deref_mut.ensures.value c.in-Ok.ensures.others)
+    c.in-Ok.ensures.others (with_items-items c.args.self.now.clients c.deref_mut.result.now c.give_up.new.clients c.args.client _ c.deref_mut.ensures.value c.in-Ok.ensures.others)
     c.tell.ensures.sent c.tell.ensures.seen c.tell.ensures.state
 
 pub returns-in-Err : goal.returns-in-Err
 unfolding step
 returns-in-Err c = λ deal. (
   a_client c.args.client (length c.args.self.now.clients.items) _ c.in_default.ensures.found
-      ∙ refused (shown c.args.self.now) c.deref_mut.result.now (client_at c.deref_mut.result.now c.args.client) c.args.client GivesUp c.in-Err.fault c.deref_mut.ensures.value refl c.in-Err.ensures.refused.0,
+      ∙ act-Err (shown c.args.self.now) c.deref_mut.result.now (client_at c.deref_mut.result.now c.args.client) c.args.client GivesUp c.in-Err.fault c.deref_mut.ensures.value refl c.in-Err.ensures.refused.0,
   ap (λ (l : List ClientState). record (shown c.args.self.now) { clients = l })
-      (written c.args.self.now.clients c.deref_mut.result.now c.give_up.new.clients c.args.client _ c.deref_mut.ensures.value c.in-Err.ensures.others ∙ c.in-Err.ensures.refused.1 ∙ c.deref_mut.ensures.value),
+      (with_items-items c.args.self.now.clients c.deref_mut.result.now c.give_up.new.clients c.args.client _ c.deref_mut.ensures.value c.in-Err.ensures.others ∙ c.in-Err.ensures.refused.1 ∙ c.deref_mut.ensures.value),
 )

@@ -3,7 +3,7 @@ use Rattle.requester.specs.Steps as client
 use Rattle.requester.specs.Steps.{GivesUp}
 use Rattle.world.specs.States.{shown}
 use Rattle.world.specs.Steps.{step}
-use Rattle.world.proofs.Acts.{allowed, refused}
+use Rattle.world.proofs.Acts.{act-some_Ok, act-Err}
 use Rattle.world.proofs.Foretold.{a_client, no_client}
 use Rattle.world.proofs.state.State.give_up_fault.Goals as goal
 
@@ -15,10 +15,10 @@ pub returns-in-Some-give_up_fault : goal.returns-in-Some-give_up_fault
 unfolding step client.step
 returns-in-Some-give_up_fault c = λ deal.
     a_client c.args.client (length c.args.self.now.clients.items) _ c.in_default.ensures.found
-    ∙ refused (shown c.args.self.now) c.deref.result.now c.client_of.result.now c.args.client GivesUp c.in-Some-give_up_fault.fault c.deref.ensures.value c.client_of.ensures c.in-Some-give_up_fault.ensures
+    ∙ act-Err (shown c.args.self.now) c.deref.result.now c.client_of.result.now c.args.client GivesUp c.in-Some-give_up_fault.fault c.deref.ensures.value c.client_of.ensures c.in-Some-give_up_fault.ensures
 
 pub returns-in-None : goal.returns-in-None
 unfolding step client.step
 returns-in-None c = λ deal.
-    let p = allowed (shown c.args.self.now) c.deref.result.now c.client_of.result.now c.args.client GivesUp c.deref.ensures.value c.client_of.ensures c.in-None.ensures in
+    let p = act-some_Ok (shown c.args.self.now) c.deref.result.now c.client_of.result.now c.args.client GivesUp c.deref.ensures.value c.client_of.ensures c.in-None.ensures in
     (p.0, a_client c.args.client (length c.args.self.now.clients.items) _ c.in_default.ensures.found ∙ p.1)

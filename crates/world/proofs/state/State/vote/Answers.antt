@@ -8,7 +8,7 @@ use Rattle.voter.specs.declared.fault.VoterFault.TheVariants.{GrantsSpent}
 use Rattle.voter.specs.declared.state.VoterState.{VoterState}
 use Rattle.world.specs.declared.fault.WorldFault.TheVariants as faults
 use Rattle.world.specs.States.{shown}
-use Rattle.world.proofs.Acts.{not_voted, voted, written}
+use Rattle.world.proofs.Acts.{not_voted, vote-Ok, with_items-items}
 use Rattle.world.proofs.state.State.vote.Goals as goal
 
 -- there is one fault of voters
@@ -18,8 +18,8 @@ spent GrantsSpent = refl
 pub returns-in-Ok : goal.returns-in-Ok
 returns-in-Ok c =
     let voters = (with_items c.args.self.now.voters c.vote.new.voters).items in
-    voted (shown c.args.self.now) c.deref_mut.result.now c.vote.new.voters voters c.args.message.now c.vote.new.replies.items c.len.result _ c.deref_mut.ensures.value
-    c.in-Ok.ensures.taken c.in-Ok.ensures.others (written c.args.self.now.voters c.deref_mut.result.now c.vote.new.voters c.args.message.now.voter _ c.deref_mut.ensures.value c.in-Ok.ensures.others)
+    vote-Ok (shown c.args.self.now) c.deref_mut.result.now c.vote.new.voters voters c.args.message.now c.vote.new.replies.items c.len.result _ c.deref_mut.ensures.value
+    c.in-Ok.ensures.taken c.in-Ok.ensures.others (with_items-items c.args.self.now.voters c.deref_mut.result.now c.vote.new.voters c.args.message.now.voter _ c.deref_mut.ensures.value c.in-Ok.ensures.others)
     c.len.ensures.value
     (ap (λ (l : List Message). record (shown c.args.self.now) { voters = voters; sent = l })
     (c.send_to_clients.ensures ∙ ap (λ (l : List ToClient). c.args.self.now.sent.items ++ map kinds.ToClient l) c.as_slice.ensures.value))
@@ -28,5 +28,5 @@ pub returns-in-Err : goal.returns-in-Err
 returns-in-Err c = (
   not_voted (shown c.args.self.now) c.deref_mut.result.now c.args.message.now c.deref_mut.ensures.value c.in-Err.ensures.refused.0 ∙ ap (λ (fault : VoterFault). Err (faults.Voter fault)) (spent c.in-Err.fault),
   ap (λ (l : List VoterState). record (shown c.args.self.now) { voters = l })
-      (written c.args.self.now.voters c.deref_mut.result.now c.vote.new.voters c.args.message.now.voter _ c.deref_mut.ensures.value c.in-Err.ensures.others ∙ c.in-Err.ensures.refused.1 ∙ c.deref_mut.ensures.value),
+      (with_items-items c.args.self.now.voters c.deref_mut.result.now c.vote.new.voters c.args.message.now.voter _ c.deref_mut.ensures.value c.in-Err.ensures.others ∙ c.in-Err.ensures.refused.1 ∙ c.deref_mut.ensures.value),
 )
