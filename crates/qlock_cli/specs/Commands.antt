@@ -234,10 +234,10 @@ pub record IsBadScript (input : List ℕ) (line : ℕ) : Type 0 where
 
 -- `world` fails with this fault for the input: a part is missing or has a fault, or the third one
 -- is no script
-abbrev pub RefusesToRun : List ℕ → Fault → Type 0
-RefusesToRun input (faults.Replay (BadLine line)) = IsBadScript input line
-RefusesToRun input (faults.Replay fault) = ⊥
-RefusesToRun input fault = staged_in input ≡ Err fault
+abbrev pub RefusesToRunWorld : List ℕ → Fault → Type 0
+RefusesToRunWorld input (faults.Replay (BadLine line)) = IsBadScript input line
+RefusesToRunWorld input (faults.Replay fault) = ⊥
+RefusesToRunWorld input fault = staged_in input ≡ Err fault
 
 -- the third part is the text of a sound record by the plan that the parts before it describe, and
 -- the output is what the record says
@@ -262,7 +262,7 @@ IsBadRecordText plan text replay.OutOfMemory = ⊥
 IsBadRecordText plan text fault = IsUnsoundText plan text fault
 
 -- the record in the third part fails with this fault
-pub record IsBadRun (input : List ℕ) (fault : ReplayFault) : Type 0 where
+pub record HasBadRecord (input : List ℕ) (fault : ReplayFault) : Type 0 where
   pub planned : Planned
   pub text : List ℕ
   pub parts : staged_in input ≡ Ok (planned, text)
@@ -271,7 +271,7 @@ pub record IsBadRun (input : List ℕ) (fault : ReplayFault) : Type 0 where
 -- `replay` fails with this fault for the input: a part is missing or has a fault, or the record has
 -- one
 abbrev pub RefusesToReplay : List ℕ → Fault → Type 0
-RefusesToReplay input (faults.Replay fault) = IsBadRun input fault
+RefusesToReplay input (faults.Replay fault) = HasBadRecord input fault
 RefusesToReplay input fault = staged_in input ≡ Err fault
 
 -- The input describes a coterie and a plan of it. The output is the text of a record by that plan,
@@ -337,7 +337,7 @@ IsRefusal (Make shape) input fault = make_answer_of shape ≡ Err fault
 IsRefusal Plan input fault = RefusesToPlan input fault
 IsRefusal Check input fault = check_answer_of input ≡ Err fault
 IsRefusal (Deal n) input fault = deal_answer_of n input ≡ Err fault
-IsRefusal World input fault = RefusesToRun input fault
+IsRefusal World input fault = RefusesToRunWorld input fault
 IsRefusal (Run clients passes turns) input fault = IsRunRefusal clients input fault
 IsRefusal Replay input fault = RefusesToReplay input fault
 
