@@ -150,22 +150,22 @@ impl Plan {
 
     /// Returns the weight of a quorum: how often a cycle uses it. The quorum's number has to be
     /// below the number of quorums.
-    pub fn weight(&self, j: usize) -> u64
-        requires { j < length self.now.system.quorums }
-        ensures value { result ≡ slice_index self.now.quorum_weights j }
+    pub fn weight(&self, quorum: usize) -> u64
+        requires { quorum < length self.now.system.quorums }
+        ensures value { result ≡ slice_index self.now.quorum_weights quorum }
         ensures certificate { IsCertificate self.now }
     {
-        self.quorum_weights[j]
+        self.quorum_weights[quorum]
     }
 
     /// Returns the weight of a voter in the certificate. The voter's number has to be below the
     /// number of voters.
-    pub fn voter_weight(&self, i: u8) -> u64
-        requires { i < self.now.system.voters }
-        ensures value { result ≡ slice_index self.now.voter_weights i }
+    pub fn voter_weight(&self, voter: u8) -> u64
+        requires { voter < self.now.system.voters }
+        ensures value { result ≡ slice_index self.now.voter_weights voter }
         ensures certificate { IsCertificate self.now }
     {
-        self.voter_weights[usize::from(i)]
+        self.voter_weights[usize::from(voter)]
     }
 
     /// Returns the weight of each quorum.

@@ -40,8 +40,9 @@ as_construct (Err fault) = Err (Coterie fault)
 -- the cyclic coterie of the base, or the fault of the numbers, or else the fault of the shifted
 -- sets
 abbrev pub cyclic_at : ℕ → List ℕ → Result QuorumSystem ConstructFault
-cyclic_at n base =
-    sized (is_bad_base n base) (nat_lt max_voters n) (as_construct (coterie_of n (cyclic_quorums n base)))
+cyclic_at voters base =
+    sized (is_bad_base voters base) (nat_lt max_voters voters)
+    (as_construct (coterie_of voters (cyclic_quorums voters base)))
 
 -- if the fault is one of sets, two of them are disjoint, or one lies within the other
 abbrev pub IsCyclicFault : ConstructFault → Type 0

@@ -8,19 +8,22 @@ use Rattle.numbers.specs.Sets.{set_where}
 use Rattle.construct.specs.Answers.{sized}
 use Rattle.construct.specs.declared.fault.ConstructFault.{ConstructFault}
 
--- the voters of row i and those of column k, in a grid of r rows of c; voter v is in row v / c and
--- column v % c
+-- the voters of row i and those of column k, in a grid of these rows and columns; voter v is in row
+-- v / columns and column v % columns
 abbrev pub row_with_column : ℕ → ℕ → ℕ → ℕ → List ℕ
-row_with_column r c i k = set_where (λ v. nat_lt v (r * c) && ((v / c == i) || (v % c == k)))
+row_with_column rows columns i k =
+    set_where (λ v. nat_lt v (rows * columns) && ((v / columns == i) || (v % columns == k)))
 
 -- a quorum for each voter: its row with its column
 unfoldable pub grid_quorums : ℕ → ℕ → List (List ℕ)
-grid_quorums r c = map (λ j. row_with_column r c (j / c) (j % c)) (range_with_len 0 (r * c))
+grid_quorums rows columns =
+    map (λ j. row_with_column rows columns (j / columns) (j % columns)) (range_with_len 0 (rows * columns))
 
--- the grid of r rows and c columns
+-- the grid of these rows and columns
 abbrev pub grid_system : ℕ → ℕ → QuorumSystem
-grid_system r c = record { voters = r * c; quorums = grid_quorums r c }
+grid_system rows columns = record { voters = rows * columns; quorums = grid_quorums rows columns }
 
--- the grid of r rows of c voters, or the fault of its sizes
+-- the grid of these rows and columns, or the fault of its sizes
 abbrev pub grid_at : ℕ → ℕ → Result QuorumSystem ConstructFault
-grid_at r c = sized (nat_lt r 2 || nat_lt c 2) (nat_lt max_voters (r * c)) (Ok (grid_system r c))
+grid_at rows columns =
+    sized (nat_lt rows 2 || nat_lt columns 2) (nat_lt max_voters (rows * columns)) (Ok (grid_system rows columns))

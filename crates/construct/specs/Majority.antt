@@ -18,14 +18,14 @@ choose n zero = 1
 choose zero (suc k) = 0
 choose (suc n) (suc k) = choose n k + choose n (suc k)
 
--- the sets of n / 2 + 1 of the n voters, rounded down
+-- the sets of voters / 2 + 1 of the voters, rounded down
 abbrev pub majority_quorums : ℕ → List (List ℕ)
-majority_quorums n = sets_from 0 n (n / 2 + 1)
+majority_quorums voters = sets_from 0 voters (voters / 2 + 1)
 
--- the majorities of n voters
+-- the majorities of these voters
 abbrev pub majority_system : ℕ → QuorumSystem
-majority_system n = record { voters = n; quorums = majority_quorums n }
+majority_system voters = record { voters = voters; quorums = majority_quorums voters }
 
--- the majorities of n voters, or the fault of their number
+-- the majorities of these voters, or the fault of their number
 abbrev pub majority_at : ℕ → Result QuorumSystem ConstructFault
-majority_at n = sized (n == 0) (nat_lt 14 n) (Ok (majority_system n))
+majority_at voters = sized (voters == 0) (nat_lt 14 voters) (Ok (majority_system voters))

@@ -23,14 +23,14 @@ unfoldable pub quorums_under : ℕ → ℕ → List (List ℕ)
 quorums_under zero i = set_where (λ v. v == i) ∷ []
 quorums_under (suc h) i = node_quorums i (quorums_under h (2 * i + 1)) (quorums_under h (2 * i + 2))
 
--- the quorums of the tree of height h, whose root is node 0
+-- the quorums of the tree of this height, whose root is node 0
 abbrev pub tree_quorums : ℕ → List (List ℕ)
-tree_quorums h = quorums_under h 0
+tree_quorums height = quorums_under height 0
 
--- the tree of height h
+-- the tree of this height
 abbrev pub tree_system : ℕ → QuorumSystem
-tree_system h = record { voters = 2 ^ (h + 1) - 1; quorums = tree_quorums h }
+tree_system height = record { voters = 2 ^ (height + 1) - 1; quorums = tree_quorums height }
 
--- the tree of height h, or the fault of its size
+-- the tree of this height, or the fault of its size
 abbrev pub tree_at : ℕ → Result QuorumSystem ConstructFault
-tree_at h = sized false (nat_lt 3 h) (Ok (tree_system h))
+tree_at height = sized false (nat_lt 3 height) (Ok (tree_system height))

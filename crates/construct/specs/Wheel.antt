@@ -11,18 +11,18 @@ use Rattle.construct.specs.declared.fault.ConstructFault.{ConstructFault}
 abbrev pub spoke : ℕ → List ℕ
 spoke i = set_where (λ v. (v == 0) || (v == i))
 
--- the rim: voters 1 to k
+-- the rim: voters 1 to `rims`
 abbrev pub rim : ℕ → List ℕ
-rim k = set_where (λ v. nat_le 1 v && nat_le v k)
+rim rims = set_where (λ v. nat_le 1 v && nat_le v rims)
 
 -- each spoke, and then the rim
 unfoldable pub wheel_quorums : ℕ → List (List ℕ)
-wheel_quorums k = map spoke (range_with_len 1 k) ++ rim k ∷ []
+wheel_quorums rims = map spoke (range_with_len 1 rims) ++ rim rims ∷ []
 
--- the wheel with k voters on its rim
+-- the wheel with `rims` voters on its rim
 abbrev pub wheel_system : ℕ → QuorumSystem
-wheel_system k = record { voters = k + 1; quorums = wheel_quorums k }
+wheel_system rims = record { voters = rims + 1; quorums = wheel_quorums rims }
 
--- the wheel with k voters on its rim, or the fault of its size
+-- the wheel with `rims` voters on its rim, or the fault of its size
 abbrev pub wheel_at : ℕ → Result QuorumSystem ConstructFault
-wheel_at k = sized (nat_lt k 2) (nat_lt 63 k) (Ok (wheel_system k))
+wheel_at rims = sized (nat_lt rims 2) (nat_lt 63 rims) (Ok (wheel_system rims))

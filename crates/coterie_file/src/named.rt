@@ -72,12 +72,12 @@ impl Named {
     }
 
     /// Returns the name of the voter with this number, which has to be below the number of voters.
-    pub fn name(&self, i: usize) -> &str
-        requires { i < self.now.system.voters }
-        ensures value { slice_get self.now.names i ≡ Some result.now }
+    pub fn name(&self, voter: usize) -> &str
+        requires { voter < self.now.system.voters }
+        ensures value { slice_get self.now.names voter ≡ Some result.now }
         ensures named { IsNamed self.now }
     {
-        self.names[i].as_str()
+        self.names[voter].as_str()
     }
 
     /// Returns the names of the voters, by number.

@@ -50,21 +50,21 @@ impl Shared {
     }
 
     /// Returns the entry at a place: the value there, times the denominator.
-    pub fn entry(&self, row: usize, col: usize) -> i128
-        requires { IsPlace self.now row col }
-        ensures value { result ≡ entry_at self.now row col }
+    pub fn entry(&self, row: usize, column: usize) -> i128
+        requires { IsPlace self.now row column }
+        ensures value { result ≡ entry_at self.now row column }
         ensures table { IsTable self.now }
     {
-        row::entry(rows::row_of(&self.rows, row), col)
+        row::entry(rows::row_of(&self.rows, row), column)
     }
 
     /// Returns the value at a place, in lowest terms.
-    pub fn value(&self, row: usize, col: usize) -> Frac
-        requires { IsPlace self.now row col }
-        ensures value { IsRatio (entry_at self.now row col) self.now.den result }
+    pub fn value(&self, row: usize, column: usize) -> Frac
+        requires { IsPlace self.now row column }
+        ensures value { IsRatio (entry_at self.now row column) self.now.den result }
         ensures reduced { IsReduced result }
     {
-        reduced(self.entry(row, col), self.den)
+        reduced(self.entry(row, column), self.den)
     }
 
     /// Returns the sum of a row's entries in some columns. A column may be listed more than once.
@@ -91,16 +91,16 @@ impl Shared {
     ///
     /// Fails with `Overflow` if and only if one of these products or differences does not fit. The
     /// table is then as it was.
-    pub fn pivot(&mut self, row: usize, col: usize) -> Result<(), FracFault>
-        requires place { IsPlace self.old row col }
-        requires positive { pos 0 <ℤ entry_at self.old row col }
-        ensures value { OnOk result (IsPivoted self.old self.new row col) }
+    pub fn pivot(&mut self, row: usize, column: usize) -> Result<(), FracFault>
+        requires place { IsPlace self.old row column }
+        requires positive { pos 0 <ℤ entry_at self.old row column }
+        ensures value { OnOk result (IsPivoted self.old self.new row column) }
         ensures same { OnErr result (self.new ≡ self.old) }
-        ensures fits { IsOk result ↔ PivotFits self.old row col }
+        ensures fits { IsOk result ↔ PivotFits self.old row column }
         ensures overflow { IfErr result (λ e. e ≡ FracFault.Overflow) }
     {
-        rows::test_pivot(&self.rows, self.den, row, col)?;
-        self.den = rows::solve(&mut self.rows, self.den, row, col);
+        rows::test_pivot(&self.rows, self.den, row, column)?;
+        self.den = rows::solve(&mut self.rows, self.den, row, column);
         Ok(())
     }
 

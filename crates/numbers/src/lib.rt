@@ -1,5 +1,5 @@
-//! Sets, sums and counts of whole numbers, lemmas about them, and the bounds of the lock: constants,
-//! no functions.
+//! Sets, sums and counts of whole numbers, lemmas about them, and the bounds of the lock:
+//! constants, no functions.
 //!
 //! - `specs/Bounds.antt`: the bounds by name, for contracts. The constants below are the same.
 //! - `specs/Sets.antt`: sets of numbers below 64, each as the ascending list of its members.

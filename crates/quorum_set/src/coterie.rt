@@ -139,15 +139,15 @@ fn fault_of(n: usize, sets: &[QSet]) -> Option<CoterieFault>
 }
 
 impl Coterie {
-    /// Returns the coterie of n voters and these quorums, or their first fault in the order of
-    /// `CoterieFault`. Allocates nothing: a coterie keeps the list, and a fault drops it.
-    pub fn of(n: usize, sets: Vec<QSet>) -> Result<Coterie, CoterieFault>
-        ensures { result ≡ coterie_of n sets.items }
+    /// Returns the coterie of this many voters and these quorums, or their first fault in the order
+    /// of `CoterieFault`. Allocates nothing: a coterie keeps the list, and a fault drops it.
+    pub fn of(voters: usize, sets: Vec<QSet>) -> Result<Coterie, CoterieFault>
+        ensures { result ≡ coterie_of voters sets.items }
     {
-        match fault_of(n, sets.as_slice()) {
+        match fault_of(voters, sets.as_slice()) {
             Some(fault) => Err(fault),
             None => Ok(Coterie {
-                voters: n,
+                voters,
                 quorums: sets,
             }),
         }
@@ -170,14 +170,14 @@ impl Coterie {
     }
 
     /// Returns the quorum with this number, which has to be below the number of quorums.
-    pub fn quorum(&self, j: usize) -> &QSet
-        requires { j < length self.now.quorums }
-        ensures value { slice_get self.now.quorums j ≡ Some result.now }
+    pub fn quorum(&self, number: usize) -> &QSet
+        requires { number < length self.now.quorums }
+        ensures value { slice_get self.now.quorums number ≡ Some result.now }
         ensures set { IsSet result.now }
         ensures members { All (λ i. i < self.now.voters) result.now }
         ensures coterie { IsCoterie self.now }
     {
-        &self.quorums[j]
+        &self.quorums[number]
     }
 
     /// Returns an equal coterie, unless it runs out of memory.

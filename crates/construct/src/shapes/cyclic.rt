@@ -66,30 +66,31 @@ fn is_off_ring(n: u32, base: &[u32]) -> bool
     n == 0 || base.is_empty() || !are_below(n, base)
 }
 
-/// Returns the cyclic coterie of a base set of voters on a ring of n.
+/// Returns the cyclic coterie of a base set of voters on a ring of `voters` places.
 ///
-/// Quorum s, for s below n, is the base shifted by s places: { (x + s) mod n, x in base }. If the
-/// base is a perfect difference set, such as 0, 1, 3 modulo 7, the quorums are the lines of a
-/// projective plane (Maekawa, ACM TOCS 3(2), 1985).
+/// Quorum s, for s below `voters`, is the base shifted by s places: (x + s) mod voters for each x
+/// of the base. If the base is a perfect difference set, such as 0, 1, 3 modulo 7, the quorums are
+/// the lines of a projective plane (Maekawa, ACM TOCS 3(2), 1985).
 ///
 /// Fails with the first of these faults:
 ///
-/// - `BadSize` if n is 0, or the base is empty, has a member that is not below n, or has one twice;
-/// - `TooLarge` if n is above 64;
+/// - `BadSize` if there are no voters, or the base is empty, has a member that is not below
+///   `voters`, or has one twice;
+/// - `TooLarge` if there are more than 64 voters;
 /// - `Coterie(Disjoint)` for the smallest pair of disjoint quorums;
 /// - `Coterie(Contained)` for the smallest pair of quorums with one within the other.
-pub fn cyclic(alloc: Global, n: u32, base: &[u32]) -> Result<Coterie, ConstructFault>
-    ensures exact { Gives result (cyclic_at n base.now) }
-    ensures ring { is_off_ring n base.now ≡ true → result ≡ Err BadSize }
+pub fn cyclic(alloc: Global, voters: u32, base: &[u32]) -> Result<Coterie, ConstructFault>
+    ensures exact { Gives result (cyclic_at voters base.now) }
+    ensures ring { is_off_ring voters base.now ≡ true → result ≡ Err BadSize }
     ensures faults { IfErr result IsCyclicFault }
 {
-    if is_off_ring(n, base) || has_repeat(alloc, base)? {
+    if is_off_ring(voters, base) || has_repeat(alloc, base)? {
         return Err(ConstructFault::BadSize);
     }
-    if n > 64 {
+    if voters > 64 {
         return Err(ConstructFault::TooLarge);
     }
     cyclic_sets_cross_or_not();
-    let quorums = quorums_of(alloc, n, base)?;
-    Ok(Coterie::of(n as usize, quorums)?)
+    let quorums = quorums_of(alloc, voters, base)?;
+    Ok(Coterie::of(voters as usize, quorums)?)
 }

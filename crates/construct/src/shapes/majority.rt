@@ -50,22 +50,23 @@ fn sets_of(alloc: Global, n: u8, k: usize) -> Result<Vec<QSet>, AllocError>
     Ok(sets)
 }
 
-/// Returns the majorities of n voters: all sets of n / 2 + 1 voters, rounded down (Garcia-Molina
-/// and Barbara, JACM 32(4), 1985).
+/// Returns the majorities of this many voters: all sets of voters / 2 + 1 voters, rounded down
+/// (Garcia-Molina and Barbara, JACM 32(4), 1985).
 ///
-/// They are in lexicographic order of their ascending members. There are n choose n / 2 + 1 of
-/// them, at most 3003. Fails with `BadSize` if n is 0, and with `TooLarge` if n is above 14.
-pub fn majority(alloc: Global, n: u32) -> Result<Coterie, ConstructFault>
-    ensures exact { Gives result (majority_at n) }
-    ensures sizes { IfErr (majority_at n) (λ fault. result ≡ Err fault) }
+/// They are in lexicographic order of their ascending members. There are voters choose
+/// voters / 2 + 1 of them, at most 3003. Fails with `BadSize` if there are no voters, and with
+/// `TooLarge` if there are more than 14.
+pub fn majority(alloc: Global, voters: u32) -> Result<Coterie, ConstructFault>
+    ensures exact { Gives result (majority_at voters) }
+    ensures sizes { IfErr (majority_at voters) (λ fault. result ≡ Err fault) }
 {
-    if n == 0 {
+    if voters == 0 {
         return Err(ConstructFault::BadSize);
     }
-    if n > 14 {
+    if voters > 14 {
         return Err(ConstructFault::TooLarge);
     }
     majorities_are_coteries();
-    let quorums = sets_of(alloc, n as u8, n as usize / 2 + 1)?;
-    coterie_of(n as usize, quorums)
+    let quorums = sets_of(alloc, voters as u8, voters as usize / 2 + 1)?;
+    coterie_of(voters as usize, quorums)
 }

@@ -93,25 +93,25 @@ fn quorums_under(alloc: Global, h: u32, i: u32) -> Result<Vec<QSet>, AllocError>
     node_quorums(alloc, i, &left, &right)
 }
 
-/// Returns the tree of height h (Agrawal and El Abbadi, ACM TOCS 9(1), 1991).
+/// Returns the tree of this height (Agrawal and El Abbadi, ACM TOCS 9(1), 1991).
 ///
-/// It is a complete binary tree of 2^(h + 1) - 1 voters. The root is voter 0, and the children of
-/// voter i are 2 * i + 1 and 2 * i + 2. A leaf has one quorum, itself. The quorums of an inner node
-/// are, in this order:
+/// It is a complete binary tree of 2^(height + 1) - 1 voters. The root is voter 0, and the children
+/// of voter i are 2 * i + 1 and 2 * i + 2. A leaf has one quorum, itself. The quorums of an inner
+/// node are, in this order:
 ///
 /// - the node with each quorum of its left child;
 /// - the node with each quorum of its right child;
 /// - each quorum of the left child with each of the right child.
 ///
-/// Fails with `TooLarge` if h is above 3.
-pub fn tree(alloc: Global, h: u32) -> Result<Coterie, ConstructFault>
-    ensures exact { Gives result (tree_at h) }
-    ensures sizes { IfErr (tree_at h) (λ fault. result ≡ Err fault) }
+/// Fails with `TooLarge` if the height is above 3.
+pub fn tree(alloc: Global, height: u32) -> Result<Coterie, ConstructFault>
+    ensures exact { Gives result (tree_at height) }
+    ensures sizes { IfErr (tree_at height) (λ fault. result ≡ Err fault) }
 {
-    if h > 3 {
+    if height > 3 {
         return Err(ConstructFault::TooLarge);
     }
     trees_are_coteries();
-    let quorums = quorums_under(alloc, h, 0)?;
-    coterie_of((1 << (h + 1)) - 1, quorums)
+    let quorums = quorums_under(alloc, height, 0)?;
+    coterie_of((1 << (height + 1)) - 1, quorums)
 }

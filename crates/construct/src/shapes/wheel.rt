@@ -17,47 +17,47 @@ fn spoke(i: u32) -> QSet
     set_where(|v| v == 0 || u32::from(v) == i)
 }
 
-/// Returns the rim: voters 1 to k.
-fn rim(k: u32) -> QSet
-    ensures { result ≡ rim k }
+/// Returns the rim: voters 1 to `rims`.
+fn rim(rims: u32) -> QSet
+    ensures { result ≡ rim rims }
 {
-    set_where(|v| 1 <= v && u32::from(v) <= k)
+    set_where(|v| 1 <= v && u32::from(v) <= rims)
 }
 
 /// Returns the hub with each voter of the rim.
-fn spokes(alloc: Global, k: u32) -> Result<Vec<QSet>, AllocError>
-    requires { k ≤ 63 }
-    ensures { IfOk result (λ v. v.items ≡ map spoke (range_with_len 1 k)) }
+fn spokes(alloc: Global, rims: u32) -> Result<Vec<QSet>, AllocError>
+    requires { rims ≤ 63 }
+    ensures { IfOk result (λ v. v.items ≡ map spoke (range_with_len 1 rims)) }
 {
-    (1..k + 1).map(|i| spoke(i)).collect(alloc)
+    (1..rims + 1).map(|i| spoke(i)).collect(alloc)
 }
 
 /// Returns each spoke, and then the rim.
-fn quorums_of(alloc: Global, k: u32) -> Result<Vec<QSet>, AllocError>
-    requires { k ≤ 63 }
-    ensures { IfOk result (λ v. v.items ≡ wheel_quorums k) }
+fn quorums_of(alloc: Global, rims: u32) -> Result<Vec<QSet>, AllocError>
+    requires { rims ≤ 63 }
+    ensures { IfOk result (λ v. v.items ≡ wheel_quorums rims) }
 {
-    let mut quorums = spokes(alloc, k)?;
-    quorums.push(rim(k))?;
+    let mut quorums = spokes(alloc, rims)?;
+    quorums.push(rim(rims))?;
     Ok(quorums)
 }
 
-/// Returns the wheel with k voters on its rim (Naor and Wool, SIAM J. Comput. 27(2), 1998).
+/// Returns the wheel with `rims` voters on its rim (Naor and Wool, SIAM J. Comput. 27(2), 1998).
 ///
-/// Voter 0 is the hub, and voters 1 to k are the rim. Quorum i - 1 is the hub with voter i, for i
-/// from 1 to k, and the last quorum is the rim. Fails with `BadSize` if k is below 2, and with
-/// `TooLarge` if k is above 63.
-pub fn wheel(alloc: Global, k: u32) -> Result<Coterie, ConstructFault>
-    ensures exact { Gives result (wheel_at k) }
-    ensures sizes { IfErr (wheel_at k) (λ fault. result ≡ Err fault) }
+/// Voter 0 is the hub, and voters 1 to `rims` are the rim. Quorum i - 1 is the hub with voter i,
+/// for i from 1 to `rims`, and the last quorum is the rim. Fails with `BadSize` if `rims` is below
+/// 2, and with `TooLarge` if it is above 63.
+pub fn wheel(alloc: Global, rims: u32) -> Result<Coterie, ConstructFault>
+    ensures exact { Gives result (wheel_at rims) }
+    ensures sizes { IfErr (wheel_at rims) (λ fault. result ≡ Err fault) }
 {
-    if k < 2 {
+    if rims < 2 {
         return Err(ConstructFault::BadSize);
     }
-    if k > 63 {
+    if rims > 63 {
         return Err(ConstructFault::TooLarge);
     }
     wheels_are_coteries();
-    let quorums = quorums_of(alloc, k)?;
-    coterie_of(k as usize + 1, quorums)
+    let quorums = quorums_of(alloc, rims)?;
+    coterie_of(rims as usize + 1, quorums)
 }

@@ -7,8 +7,8 @@ use Rattle.construct.proofs.shapes.grid.quorums_of.Goals as goal
 pub returns : goal.returns
 unfolding grid_quorums
 returns c =
-    let rows = c.args.r in
-    let columns = c.args.c in
+    let rows = c.args.rows in
+    let columns = c.args.columns in
     items_from_collect _ c.collect.ensures.ran
     (YieldsList-from_map _ (λ j. row_with_column rows columns (j / columns) (j % columns))
     (YieldsList-at c.map.ensures.source (YieldsList-from_range 0 (rows * columns) (rows * columns) refl (omega arith)))

@@ -5,6 +5,6 @@ use Rattle.construct.proofs.shapes.grid.row_with_column.Goals as goal
 
 pub returns : goal.returns
 returns c =
-    let voters = c.args.r * c.args.c in
+    let voters = c.args.rows * c.args.columns in
     c.join.ensures.value ∙ ap₂ union c.row.ensures c.column.ensures
-    ∙ union-within (λ v. ltb v voters) (λ v. eqb (v / c.args.c) c.args.i) (λ v. eqb (v % c.args.c) c.args.k)
+    ∙ union-within (λ v. ltb v voters) (λ v. eqb (v / c.args.columns) c.args.i) (λ v. eqb (v % c.args.columns) c.args.k)

@@ -26,6 +26,6 @@ returns-clause-value c =
     ap (λ rs. record { rows = lists_of rs; den = to_z w128 (of_z w128 c.self.inside.den) }) c.deref_mut.ensures.value
     ∙ ap (λ d. record { rows = lists_of c.self.inside.rows.items; den = d }) (to_z-of_z w128 c.self.inside.den (search rules))
     ∙ c.self.view_is in
-    subst (λ rs. IsPivoted c.args.self.now (record { rows = rs; den = to_z w128 (of_z w128 c.solve-self-inside.result) }) c.args.row c.args.col) (sym rows_are)
-    (subst (λ d. IsPivoted c.args.self.now (record { rows = lists_of new; den = d }) c.args.row c.args.col) (sym den_is)
-    (subst (λ (t : Table). IsPivoted t (record { rows = lists_of new; den = c.solve-self-inside.result }) c.args.row c.args.col) old c.solve-self-inside.ensures.value))
+    subst (λ rs. IsPivoted c.args.self.now (record { rows = rs; den = to_z w128 (of_z w128 c.solve-self-inside.result) }) c.args.row c.args.column) (sym rows_are)
+    (subst (λ d. IsPivoted c.args.self.now (record { rows = lists_of new; den = d }) c.args.row c.args.column) (sym den_is)
+    (subst (λ (t : Table). IsPivoted t (record { rows = lists_of new; den = c.solve-self-inside.result }) c.args.row c.args.column) old c.solve-self-inside.ensures.value))
