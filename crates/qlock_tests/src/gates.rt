@@ -1,10 +1,12 @@
 //! Gates that hold up the clients of a run.
-use crate::commands::answer_at;
-use crate::texts::{MAJORITY, MAJORITY_PLAN};
+use program_runs::{MAJORITY, MAJORITY_PLAN, answer_at, joined};
 use qlock_cli::Gate;
+use std::alloc::{AllocError, Global};
+use std::sync::Wait;
 use std::sync::atomic::{AtomicBool, AtomicU64, Ordering};
 use std::test::Fail;
 use std::thread;
+use std::thread::Threads;
 
 /// How often a gate was called at one place for each of two clients.
 #[derive(Drop)]
@@ -103,21 +105,29 @@ impl Gate for Meeting {
     }
 }
 
+/// Returns how a run of two clients under a gate ends: whether its record ends with this line.
+fn ends_with<T: Threads + Wait + Sync, G: Gate>(
+    rt: &T,
+    alloc: Global,
+    line: &str,
+    gate: &G,
+    last: &str,
+) -> Result<bool, AllocError> {
+    let input = joined(alloc, &[MAJORITY, MAJORITY_PLAN])?;
+    let text = answer_at(rt, alloc, line, input.as_bytes(), gate)?;
+    Ok(text.as_str().ends_with(last))
+}
+
 #[test]
 fn two_clients_run_at_once(rt: HostRuntime) -> Result<(), Fail> {
-    let alloc = rt.alloc();
-    let input = format!(in alloc; "{MAJORITY}%%\n{MAJORITY_PLAN}")?;
     let gate = Meeting::new();
     let line = "run 2 1 1000000000000";
-    let text = answer_at(&rt, alloc, line, input.as_bytes(), &gate)?;
-    assert!(rt; text.as_str().ends_with("\nregister 2\n"));
-    assert!(rt; !gate.late.load(Ordering::SeqCst));
-    assert_eq!(rt; gate.before.of_each(), (1, 1));
-    assert_eq!(rt; gate.drawn.of_each(), (1, 1));
+    let ended = ends_with(&rt, rt.alloc(), line, &gate, "\nregister 2\n")?;
     // the first client asks again until the second has drawn
     let (first, second) = gate.asked.of_each();
-    assert!(rt; first > 0);
-    assert_eq!(rt; second, 1);
+    let in_time = !gate.late.load(Ordering::SeqCst);
+    let visits = (gate.before.of_each(), gate.drawn.of_each());
+    assert!(rt; ended & in_time & (visits == ((1, 1), (1, 1))) & (first > 0) & (second == 1));
     Ok(())
 }
 
@@ -145,18 +155,18 @@ impl Gate for Alternating {
 
 #[test]
 fn the_gate_is_asked_anew_before_each_pass(rt: HostRuntime) -> Result<(), Fail> {
-    let alloc = rt.alloc();
-    let input = format!(in alloc; "{MAJORITY}%%\n{MAJORITY_PLAN}")?;
     let gate = Alternating {
         before: Visits::new(),
         drawn: Visits::new(),
         asked: Visits::new(),
     };
     let line = "run 2 2 1000000000000";
-    let text = answer_at(&rt, alloc, line, input.as_bytes(), &gate)?;
-    assert!(rt; text.as_str().ends_with("\nregister 4\n"));
-    assert_eq!(rt; gate.before.of_each(), (2, 2));
-    assert_eq!(rt; gate.drawn.of_each(), (2, 2));
-    assert_eq!(rt; gate.asked.of_each(), (4, 4));
+    let ended = ends_with(&rt, rt.alloc(), line, &gate, "\nregister 4\n")?;
+    let visits = (
+        gate.before.of_each(),
+        gate.drawn.of_each(),
+        gate.asked.of_each(),
+    );
+    assert!(rt; ended & (visits == ((2, 2), (2, 2), (4, 4))));
     Ok(())
 }

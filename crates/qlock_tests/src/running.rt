@@ -1,62 +1,68 @@
 //! Runs in threads, and the replays of their records.
-use crate::commands::{answer, answer_planned, answer_staged};
-use crate::texts::{GRID, GRID_PLAN, MAJORITY, MAJORITY_PLAN};
+use program_runs::{
+    GRID, GRID_PLAN, MAJORITY, MAJORITY_PLAN, Row, answer, answer_planned, first_wrong,
+};
+use std::alloc::{AllocError, Global};
+use std::sync::Wait;
 use std::test::Fail;
+use std::thread::Threads;
+
+const RUNS: [Row; 5] = [
+    (
+        "run 2 0 5",
+        &[GRID, GRID_PLAN],
+        "quorum-record 1\nregister 0\n",
+    ),
+    ("run 2 1 0", &[GRID, GRID_PLAN], "K2 TurnsSpent 0"),
+    ("run 64 1000 0", &[GRID, GRID_PLAN], "K2 TurnsSpent 0"),
+    ("run 2 1 5", &[MAJORITY], "I1 MissingPart 2"),
+    (
+        "run 1 2 1000000000000",
+        &[MAJORITY, MAJORITY_PLAN],
+        "quorum-record 1\ndraw 0 0 0\ndraw 0 1 1\npass 0 0\npass 0 1\nregister 2\n",
+    ),
+];
 
 #[test]
-fn runs_without_passes_or_turns(rt: HostRuntime) -> Result<(), Fail> {
-    let alloc = rt.alloc();
-    let table = [
-        ("run 2 0 5", "quorum-record 1\nregister 0\n"),
-        ("run 2 1 0", "K2 TurnsSpent 0"),
-        ("run 64 1000 0", "K2 TurnsSpent 0"),
-    ];
-    for (line, want) in &table {
-        let text = answer_planned(&rt, alloc, line, GRID, GRID_PLAN)?;
-        assert_eq!(rt; text.as_str(), *want);
-    }
-    let bare = answer(&rt, alloc, "run 2 1 5", MAJORITY.as_bytes())?;
-    assert_eq!(rt; bare.as_str(), "I1 MissingPart 2");
+fn runs_write_their_records(rt: HostRuntime) -> Result<(), Fail> {
+    assert_eq!(rt; first_wrong(&rt, rt.alloc(), &RUNS)?, None);
     Ok(())
 }
 
-#[test]
-fn one_client_runs(rt: HostRuntime) -> Result<(), Fail> {
-    let text = answer_planned(
-        &rt,
-        rt.alloc(),
-        "run 1 2 1000000000000",
+/// Runs whose records differ from time to time, and what `replay` writes for them.
+const REPLAYS: [(&str, &str, &str, &str); 2] = [
+    (
+        "run 3 4 1000000000000",
         MAJORITY,
         MAJORITY_PLAN,
-    )?;
-    let wanted = "quorum-record 1\ndraw 0 0 0\ndraw 0 1 1\npass 0 0\npass 0 1\nregister 2\n";
-    assert_eq!(rt; text.as_str(), wanted);
-    Ok(())
+        "drawn 12\nvoter v0 8\nvoter v1 8\nvoter v2 8\nbusiest 8\nregister 12\n",
+    ),
+    (
+        "run 4 100 1000000000000",
+        GRID,
+        GRID_PLAN,
+        "drawn 400\nvoter v0 300\nvoter v1 300\nvoter v2 300\nvoter v3 300\nbusiest 300\nregister 400\n",
+    ),
+];
+
+/// Returns what `replay` writes for the record of a run.
+fn replayed<T: Threads + Wait + Sync>(
+    rt: &T,
+    alloc: Global,
+    line: &str,
+    coterie: &str,
+    plan: &str,
+) -> Result<String, AllocError> {
+    let record = answer_planned(rt, alloc, line, coterie, plan)?;
+    let input = format!(in alloc; "{coterie}%%\n{plan}%%\n{record}")?;
+    answer(rt, alloc, "replay", input.as_bytes())
 }
 
 #[test]
 fn records_of_runs_are_replayed(rt: HostRuntime) -> Result<(), Fail> {
-    let alloc = rt.alloc();
-    let table = [
-        (
-            "run 3 4 1000000000000",
-            MAJORITY,
-            MAJORITY_PLAN,
-            "drawn 12\nvoter v0 8\nvoter v1 8\nvoter v2 8\nbusiest 8\nregister 12\n",
-        ),
-        (
-            "run 4 100 1000000000000",
-            GRID,
-            GRID_PLAN,
-            "drawn 400\nvoter v0 300\nvoter v1 300\nvoter v2 300\nvoter v3 300\nbusiest 300\nregister 400\n",
-        ),
-    ];
-    for (line, coterie, plan, want) in &table {
-        let record = answer_planned(&rt, alloc, line, coterie, plan)?;
-        let last = record.as_str().lines().last();
-        assert_eq!(rt; last, want.lines().last());
-        let told = answer_staged(&rt, alloc, "replay", coterie, plan, &record)?;
-        assert_eq!(rt; told.as_str(), *want);
+    for (line, coterie, plan, wanted) in &REPLAYS {
+        let text = replayed(&rt, rt.alloc(), line, coterie, plan)?;
+        assert!(rt; text.as_str() == *wanted, "{line}");
     }
     Ok(())
 }

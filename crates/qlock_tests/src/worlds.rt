@@ -1,10 +1,6 @@
 //! Worlds: scripts, and all that they write.
-use crate::commands::{answer_planned, answer_staged};
-use crate::texts::{MAJORITY, MAJORITY_PLAN, ONE, ONE_PLAN, RACE, RACE_OUTPUT};
-use std::alloc::{AllocError, Global};
-use std::sync::Wait;
+use program_runs::{MAJORITY, MAJORITY_PLAN, ONE, ONE_PLAN, RACE, RACE_OUTPUT, Row, first_wrong};
 use std::test::Fail;
-use std::thread::Threads;
 
 /// A vote that arrives again, after its client gave it up.
 const LATE_VOTE: &str =
@@ -41,59 +37,53 @@ const REMINDED: &str =
 const REMINDED_OUTPUT: &str =
     "m 0 request 0 0 1\nm 1 request 0 0 1\nm 2 locked 0 0 1 1 1\nm 3 locked 0 0 1 1 1\nm 4 locked 0 0 1 1 1\nenter 0\n! C3 NotAsking\n! C1 Busy\n! U2 NoSuchClient 7\n! U3 NoSuchVoter 3\n";
 
-/// Returns what a script of the majorities writes, or the text of its fault.
-fn majority_world<T: Threads + Wait + Sync>(
-    rt: &T,
-    alloc: Global,
-    script: &str,
-) -> Result<String, AllocError> {
-    answer_staged(rt, alloc, "world", MAJORITY, MAJORITY_PLAN, script)
-}
+const PLAYED: [Row; 7] = [
+    ("world", &[MAJORITY, MAJORITY_PLAN, RACE], RACE_OUTPUT),
+    (
+        "world",
+        &[MAJORITY, MAJORITY_PLAN, LATE_VOTE],
+        LATE_VOTE_OUTPUT,
+    ),
+    ("world", &[MAJORITY, MAJORITY_PLAN, "world 1 1\n"], ""),
+    ("world", &[ONE, ONE_PLAN, LATE_RELEASE], LATE_RELEASE_OUTPUT),
+    ("world", &[ONE, ONE_PLAN, SPENT], SPENT_OUTPUT),
+    ("world", &[ONE, ONE_PLAN, OVERTAKEN], OVERTAKEN_OUTPUT),
+    ("world", &[ONE, ONE_PLAN, REMINDED], REMINDED_OUTPUT),
+];
 
 #[test]
-fn clients_of_majorities(rt: HostRuntime) -> Result<(), Fail> {
-    let alloc = rt.alloc();
-    let table = [
-        (RACE, RACE_OUTPUT),
-        (LATE_VOTE, LATE_VOTE_OUTPUT),
-        ("world 1 1\n", ""),
-    ];
-    for (script, want) in &table {
-        assert_eq!(rt; majority_world(&rt, alloc, script)?.as_str(), *want);
-    }
+fn scripts_are_played(rt: HostRuntime) -> Result<(), Fail> {
+    assert_eq!(rt; first_wrong(&rt, rt.alloc(), &PLAYED)?, None);
     Ok(())
 }
 
-#[test]
-fn clients_of_one_voter(rt: HostRuntime) -> Result<(), Fail> {
-    let alloc = rt.alloc();
-    let table = [
-        (LATE_RELEASE, LATE_RELEASE_OUTPUT),
-        (SPENT, SPENT_OUTPUT),
-        (OVERTAKEN, OVERTAKEN_OUTPUT),
-        (REMINDED, REMINDED_OUTPUT),
-    ];
-    for (script, want) in &table {
-        let text = answer_staged(&rt, alloc, "world", ONE, ONE_PLAN, script)?;
-        assert_eq!(rt; text.as_str(), *want);
-    }
-    Ok(())
-}
+const REFUSED: [Row; 6] = [
+    ("world", &[MAJORITY, MAJORITY_PLAN, ""], "A7 BadLine 1"),
+    (
+        "world",
+        &[MAJORITY, MAJORITY_PLAN, "world 65 1000\n"],
+        "A7 BadLine 1",
+    ),
+    (
+        "world",
+        &[MAJORITY, MAJORITY_PLAN, "world 0 1000\n"],
+        "A7 BadLine 1",
+    ),
+    (
+        "world",
+        &[MAJORITY, MAJORITY_PLAN, "world 1 1000\nask 256\n"],
+        "A7 BadLine 2",
+    ),
+    (
+        "world",
+        &[MAJORITY, MAJORITY_PLAN, "world 1 1000\nask 0\nask 0"],
+        "A7 BadLine 3",
+    ),
+    ("world", &[MAJORITY, MAJORITY_PLAN], "I1 MissingPart 3"),
+];
 
 #[test]
 fn scripts_are_refused_by_their_first_bad_line(rt: HostRuntime) -> Result<(), Fail> {
-    let alloc = rt.alloc();
-    let table = [
-        ("", "A7 BadLine 1"),
-        ("world 65 1000\n", "A7 BadLine 1"),
-        ("world 0 1000\n", "A7 BadLine 1"),
-        ("world 1 1000\nask 256\n", "A7 BadLine 2"),
-        ("world 1 1000\nask 0\nask 0", "A7 BadLine 3"),
-    ];
-    for (script, want) in &table {
-        assert_eq!(rt; majority_world(&rt, alloc, script)?.as_str(), *want);
-    }
-    let bare = answer_planned(&rt, alloc, "world", MAJORITY, MAJORITY_PLAN)?;
-    assert_eq!(rt; bare.as_str(), "I1 MissingPart 3");
+    assert_eq!(rt; first_wrong(&rt, rt.alloc(), &REFUSED)?, None);
     Ok(())
 }

@@ -25,8 +25,8 @@ returns-in-Some-2-clause-exact c =
     let known = unless-Ok (names_fault (map string_bytes names)) (map string_bytes names) voters c.in_ok-voters.ensures.exact in
     rw (known.0, unknown_at names quorums voters known.1 ∙ sym c.in_default.ensures, repeated_at names quorums ∙ sym c.in_ok-j.ensures ∙ c.in-Some-2.is)
 
-pub returns-then-len-gt64-clause-exact : goal.returns-then-len-gt64-clause-exact
-returns-then-len-gt64-clause-exact c =
+pub returns-then-len-gt-MAX_VOTERS-clause-exact : goal.returns-then-len-gt-MAX_VOTERS-clause-exact
+returns-then-len-gt-MAX_VOTERS-clause-exact c =
     let names = c.args.names.now in
     let lists = listed names c.args.quorums.now in
     let voters = map (λ k. k.now) c.in_ok-voters.voters.keys in

@@ -1,10 +1,9 @@
 //! Devices that fail at each read and at each write, and that move few bytes at a time.
 ghost use Rattle.qlock_cli.specs.Commands.{IsInRange};
 
-use crate::commands::{answer, command_of, serve};
-use crate::texts::{
-    GRID, GRID_PLAN, MAJORITY, MAJORITY_PLAN, RACE, RACE_OUTPUT, RECORD, RECORD_ACCOUNT, TREE_PLAN,
-    WHEEL, WHEEL_PLAN,
+use program_runs::{
+    GRID, GRID_PLAN, MAJORITY, MAJORITY_PLAN, RACE, RACE_OUTPUT, RECORD, RECORD_ACCOUNT, WHEEL,
+    WHEEL_PLAN, command_of, joined, serve,
 };
 use qlock_cli::{Command, DeviceFault, Fault, NoGate, Watched};
 use std::alloc::{AllocError, Global};
@@ -304,81 +303,117 @@ fn holds_out<T: Threads + Wait + Sync>(
     )
 }
 
+/// A row of a table: a command line, the parts of its input, and what it has to write.
+type Row<'a> = (&'a str, &'a [&'a str], Wanted<'a>);
+
+/// Returns whether each row has the right result.
+fn all_hold_out<T: Threads + Wait + Sync>(
+    rt: &T,
+    alloc: Global,
+    rows: &[Row],
+) -> Result<bool, AllocError> {
+    for row in rows {
+        let (line, parts, wanted) = *row;
+        let input = joined(alloc, parts)?;
+        if !holds_out(rt, alloc, line, input.as_str(), wanted)? {
+            return Ok(false);
+        }
+    }
+    Ok(true)
+}
+
+const MAKING_AND_PLANNING: [Row; 6] = [
+    ("make majority 3", &[], Wanted::Text(MAJORITY)),
+    ("make wheel 3", &[], Wanted::Text(WHEEL)),
+    ("make grid 2 2", &[], Wanted::Text(GRID)),
+    ("plan", &[MAJORITY], Wanted::Text(MAJORITY_PLAN)),
+    ("plan", &[WHEEL], Wanted::Text(WHEEL_PLAN)),
+    ("plan", &[GRID], Wanted::Text(GRID_PLAN)),
+];
+
 #[test]
 fn making_and_planning_hold_out(rt: HostRuntime) -> Result<(), Fail> {
-    let table = [
-        ("make majority 3", "", MAJORITY),
-        ("make wheel 3", "", WHEEL),
-        ("make grid 2 2", "", GRID),
-        ("plan", MAJORITY, MAJORITY_PLAN),
-        ("plan", WHEEL, WHEEL_PLAN),
-        ("plan", GRID, GRID_PLAN),
-    ];
-    for (line, input, want) in table {
-        assert!(rt; holds_out(&rt, rt.alloc(), line, input, Wanted::Text(want))?);
-    }
+    assert!(rt; all_hold_out(&rt, rt.alloc(), &MAKING_AND_PLANNING)?);
     Ok(())
 }
+
+const CHECKING_AND_DEALING: [Row; 5] = [
+    (
+        "check",
+        &[MAJORITY, MAJORITY_PLAN],
+        Wanted::Text("load 2/3 cycle 3\n"),
+    ),
+    (
+        "check",
+        &[WHEEL, WHEEL_PLAN],
+        Wanted::Text("load 3/5 cycle 5\n"),
+    ),
+    (
+        "check",
+        &[GRID, GRID_PLAN],
+        Wanted::Text("load 3/4 cycle 4\n"),
+    ),
+    (
+        "deal 5",
+        &[WHEEL, WHEEL_PLAN],
+        Wanted::Text(
+            "0 0\n1 1\n2 2\n3 3\n4 3\nvoter v0 3\nvoter v1 3\nvoter v2 3\nvoter v3 3\nbusiest 3\n",
+        ),
+    ),
+    (
+        "deal 2",
+        &[MAJORITY, MAJORITY_PLAN],
+        Wanted::Text("0 0\n1 1\nvoter v0 2\nvoter v1 1\nvoter v2 1\nbusiest 2\n"),
+    ),
+];
 
 #[test]
 fn checking_and_dealing_hold_out(rt: HostRuntime) -> Result<(), Fail> {
-    let alloc = rt.alloc();
-    let tree = answer(&rt, alloc, "make tree 2", b"")?;
-    let table = [
-        ("check", MAJORITY, MAJORITY_PLAN, "load 2/3 cycle 3\n"),
-        ("check", WHEEL, WHEEL_PLAN, "load 3/5 cycle 5\n"),
-        ("check", GRID, GRID_PLAN, "load 3/4 cycle 4\n"),
-        ("check", tree.as_str(), TREE_PLAN, "load 1/2 cycle 12\n"),
-        (
-            "deal 5",
-            WHEEL,
-            WHEEL_PLAN,
-            "0 0\n1 1\n2 2\n3 3\n4 3\nvoter v0 3\nvoter v1 3\nvoter v2 3\nvoter v3 3\nbusiest 3\n",
-        ),
-        (
-            "deal 2",
-            MAJORITY,
-            MAJORITY_PLAN,
-            "0 0\n1 1\nvoter v0 2\nvoter v1 1\nvoter v2 1\nbusiest 2\n",
-        ),
-    ];
-    for (line, coterie, plan, want) in table {
-        let input = format!(in alloc; "{coterie}%%\n{plan}")?;
-        assert!(rt; holds_out(&rt, alloc, line, input.as_str(), Wanted::Text(want))?);
-    }
+    assert!(rt; all_hold_out(&rt, rt.alloc(), &CHECKING_AND_DEALING)?);
     Ok(())
 }
+
+/// The record of two clients who passed four times.
+const TWO_CLIENTS: &str =
+    "quorum-record 1\ndraw 1 0 0\ndraw 0 1 1\ndraw 1 2 2\ndraw 0 3 3\npass 1 0\npass 0 1\npass 1 2\npass 0 3\nregister 4\n";
+
+const PLAYING_AND_REPLAYING: [Row; 3] = [
+    (
+        "world",
+        &[MAJORITY, MAJORITY_PLAN, RACE],
+        Wanted::Text(RACE_OUTPUT),
+    ),
+    (
+        "replay",
+        &[MAJORITY, MAJORITY_PLAN, RECORD],
+        Wanted::Text(RECORD_ACCOUNT),
+    ),
+    (
+        "replay",
+        &[GRID, GRID_PLAN, TWO_CLIENTS],
+        Wanted::Text(
+            "drawn 4\nvoter v0 3\nvoter v1 3\nvoter v2 3\nvoter v3 3\nbusiest 3\nregister 4\n",
+        ),
+    ),
+];
 
 #[test]
 fn playing_and_replaying_hold_out(rt: HostRuntime) -> Result<(), Fail> {
-    let alloc = rt.alloc();
-    let run =
-        "quorum-record 1\ndraw 1 0 0\ndraw 0 1 1\ndraw 1 2 2\ndraw 0 3 3\npass 1 0\npass 0 1\npass 1 2\npass 0 3\nregister 4\n";
-    let account =
-        "drawn 4\nvoter v0 3\nvoter v1 3\nvoter v2 3\nvoter v3 3\nbusiest 3\nregister 4\n";
-    let table = [
-        ("world", MAJORITY, MAJORITY_PLAN, RACE, RACE_OUTPUT),
-        ("replay", MAJORITY, MAJORITY_PLAN, RECORD, RECORD_ACCOUNT),
-        ("replay", GRID, GRID_PLAN, run, account),
-    ];
-    for (line, coterie, plan, text, want) in table {
-        let input = format!(in alloc; "{coterie}%%\n{plan}%%\n{text}")?;
-        assert!(rt; holds_out(&rt, alloc, line, input.as_str(), Wanted::Text(want))?);
-    }
+    assert!(rt; all_hold_out(&rt, rt.alloc(), &PLAYING_AND_REPLAYING)?);
     Ok(())
 }
 
+const RUNNING: [Row; 2] = [
+    (
+        "run 1 2 100000",
+        &[GRID, GRID_PLAN],
+        Wanted::Text("quorum-record 1\ndraw 0 0 0\ndraw 0 1 1\npass 0 0\npass 0 1\nregister 2\n"),
+    ),
+    ("run 2 2 100000", &[GRID, GRID_PLAN], Wanted::Record(4)),
+];
+
 #[test]
 fn running_holds_out(rt: HostRuntime) -> Result<(), Fail> {
-    let alloc = rt.alloc();
-    let input = format!(in alloc; "{GRID}%%\n{GRID_PLAN}")?;
-    let one = "quorum-record 1\ndraw 0 0 0\ndraw 0 1 1\npass 0 0\npass 0 1\nregister 2\n";
-    let table = [
-        ("run 1 2 100000", Wanted::Text(one)),
-        ("run 2 2 100000", Wanted::Record(4)),
-    ];
-    for (line, wanted) in table {
-        assert!(rt; holds_out(&rt, alloc, line, input.as_str(), wanted)?);
-    }
+    assert!(rt; all_hold_out(&rt, rt.alloc(), &RUNNING)?);
     Ok(())
 }

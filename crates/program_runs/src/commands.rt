@@ -1,8 +1,11 @@
-//! Runs command lines on a text as input.
+//! Runs command lines on texts as input.
 ghost use Rattle.std.specs.Prelude.{◌≡◌, false, IfOk, IfSome};
 ghost use Rattle.qlock_cli.specs.Commands.{IsInRange};
 
-use qlock_cli::{Command, Fault, Gate, NoGate, Watched, execute, execute_run, named_commands_are_in_range, read_words};
+use qlock_cli::{
+    Command, Fault, Gate, NoGate, Watched, execute, execute_run, named_commands_are_in_range,
+    read_words,
+};
 use std::alloc::{AllocError, Global};
 use std::io::{Read, Write};
 use std::sync::Wait;
@@ -102,28 +105,38 @@ pub fn answer_planned<T: Threads + Wait + Sync>(
     answer(rt, alloc, line, input.as_bytes())
 }
 
-/// Does the same for an input of three parts.
-pub fn answer_staged<T: Threads + Wait + Sync>(
-    rt: &T,
-    alloc: Global,
-    line: &str,
-    coterie: &str,
-    plan: &str,
-    text: &str,
-) -> Result<String, AllocError> {
-    let input = format!(in alloc; "{coterie}%%\n{plan}%%\n{text}")?;
-    answer(rt, alloc, line, input.as_bytes())
+/// A row of a table: a command line, the parts of its input, and what it writes or the text of its
+/// fault.
+pub type Row<'a> = (&'a str, &'a [&'a str], &'a str);
+
+/// Returns the input that has these parts.
+pub fn joined(alloc: Global, parts: &[&str]) -> Result<String, AllocError> {
+    let mut input = String::new(alloc);
+    let mut between = "";
+    for part in parts {
+        input.push_str(between)?;
+        input.push_str(part)?;
+        between = "%%\n";
+    }
+    Ok(input)
 }
 
-/// Returns the text of a plan. `lines` has what its lines say, separated by `;`: the load, the
-/// cycle, the quorums' weights and the voters' weights.
-pub fn plan_of(alloc: Global, lines: &str) -> Result<String, AllocError> {
-    let mut plan = String::from_str(alloc, "quorum-plan 1\n")?;
-    let words = ["load", "cycle", "quorum", "voter"];
-    for (word, value) in words.iter().zip(lines.split(';')) {
-        plan.push_str(&format!(in alloc; "{word} {value}\n")?)?;
+/// Returns the place of the first row whose command line writes something else, or `None` if there
+/// is none.
+pub fn first_wrong<T: Threads + Wait + Sync>(
+    rt: &T,
+    alloc: Global,
+    rows: &[Row],
+) -> Result<Option<usize>, AllocError> {
+    for (place, row) in rows.iter().enumerate() {
+        let (line, parts, wanted) = *row;
+        let input = joined(alloc, parts)?;
+        let written = answer(rt, alloc, line, input.as_bytes())?;
+        if written.as_str() != wanted {
+            return Ok(Some(place));
+        }
     }
-    Ok(plan)
+    Ok(None)
 }
 
 /// Returns the text of a coterie. Each voter is a letter, and each quorum a word of letters.

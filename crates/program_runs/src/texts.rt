@@ -26,10 +26,6 @@ pub const GRID: &str =
 
 pub const GRID_PLAN: &str = "quorum-plan 1\nload 3/4\ncycle 4\nquorum 1 1 1 1\nvoter 1 1 1 1\n";
 
-/// A plan of the tree of height 2.
-pub const TREE_PLAN: &str =
-    "quorum-plan 1\nload 1/2\ncycle 12\nquorum 1 1 1 1 1 1 2 0 0 0 2 0 0 0 2\nvoter 2 1 1 1 1 1 1\n";
-
 /// Two clients of the majorities race for the lock.
 pub const RACE: &str =
     "world 2 1000\nask 0\nask 1\ndeliver 2\ndeliver 0\ndeliver 3\ndeliver 4\ndeliver 6\ndeliver 5\nleave 1\ndeliver 7\n";

@@ -1,0 +1,13 @@
+//! Tests of the program over devices that fail, and of texts that are cut short or too long. This
+//! crate has nothing but tests.
+//!
+//! - `devices` has each read and each write fail.
+//! - `prefixes` cuts texts short.
+//!
+//! Depends on `program_runs`, which runs the commands.
+#![tactic(auto)]
+
+#[cfg(test)]
+mod devices;
+#[cfg(test)]
+mod prefixes;
