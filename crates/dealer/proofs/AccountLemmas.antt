@@ -14,7 +14,8 @@ use Rattle.certificate.specs.Loads.{weight_on}
 use Rattle.dealer.specs.declared.account.Account.{Account}
 use Rattle.dealer.specs.Cycles.{cycle_of, quorum_of_ticket}
 use Rattle.dealer.specs.Accounts.{values_below, quorums_named, account_of, IsWholeCycles}
-use Rattle.numbers.proofs.Totals.{total, total-same, total-list, total-periods, length-total, sum_by-each_once}
+use Rattle.numbers.specs.Sums.{sum_below}
+use Rattle.numbers.proofs.SumsBelow.{sum_below-same, sum_below-list, sum_below-periods, length-sum_below, sum_by-each_once}
 use Rattle.dealer.proofs.CycleLemmas.{length-cycle_of, times-cycle_of, cycle_of-lt}
 use Rattle.numbers.proofs.CountLemmas.{times-append, times-cons}
 
@@ -29,15 +30,15 @@ pub values_below_more : (n : ℕ) (f : ℕ → ℕ) (before after : List ℕ) (v
 values_below_more n f before after value made here pushed =
     pushed ∙ ap₂ (λ (xs : List ℕ) (x : ℕ). xs ++ x ∷ []) made here ∙ sym (map-range_with_len_more f 0 n n (omega arith))
 
-sum-values_below : (n : ℕ) (f : ℕ → ℕ) → sum (values_below n f) ≡ total n f
+sum-values_below : (n : ℕ) (f : ℕ → ℕ) → sum (values_below n f) ≡ sum_below f n
 sum-values_below n f =
-    sym (total-list (λ x. x) (values_below n f))
-    ∙ ap (λ m. total m (λ i. get_or (values_below n f) i 0)) (length-values_below n f)
-    ∙ total-same n (λ i. get_or (values_below n f) i 0) f (get_or-values_below n f)
+    sym (sum_below-list (λ x. x) (values_below n f))
+    ∙ ap (λ m. sum_below (λ i. get_or (values_below n f) i 0) m) (length-values_below n f)
+    ∙ sum_below-same n (λ i. get_or (values_below n f) i 0) f (get_or-values_below n f)
 
 -- no more quorums are counted than are named
 pub sum-times-le : (n : ℕ) (list : List ℕ) → sum (values_below n (λ j. times j list)) ≤ length list
-sum-times-le n list = omega (arith, sum-values_below n (λ j. times j list), length-total n list)
+sum-times-le n list = omega (arith, sum-values_below n (λ j. times j list), length-sum_below n list)
 
 -- tickets name quorums of the plan alone
 pub ticket_in_range : (w : Weighted) (ticket : ℕ) → IsCertificate w → quorum_of_ticket w ticket < length w.system.quorums
@@ -77,8 +78,8 @@ times-whole w k tickets whole j =
     let long = length-cycle_of w.quorum_weights in
     sum_by-map is_j (quorum_of_ticket w) tickets
     ∙ sum_by-each_once (k * cycle_len w) tickets whole.in_all whole.each_once (λ x. at_place (x % cycle_len w))
-    ∙ total-periods k (cycle_len w) (k * cycle_len w) at_place refl
-    ∙ ap (λ t. k * t) (ap (λ n. total n at_place) (sym long) ∙ total-list is_j cycle ∙ times-cycle_of w.quorum_weights j)
+    ∙ sum_below-periods k (cycle_len w) (k * cycle_len w) at_place refl
+    ∙ ap (λ t. k * t) (ap (λ n. sum_below at_place n) (sym long) ∙ sum_below-list is_j cycle ∙ times-cycle_of w.quorum_weights j)
 
 -- the account of k cycles has k times the weights
 pub quorums-whole : (w : Weighted) (k : ℕ) (tickets : List ℕ) → IsCertificate w → IsWholeCycles w k tickets

@@ -9,7 +9,7 @@ use Rattle.std.proofs.lemmas.List.Sorted.{sum_by-IsPermutation}
 use Rattle.std.proofs.lemmas.List.Sums.{sum_by-cons, sum_by-append}
 use Rattle.numbers.specs.Counts.{greatest_below, times}
 use Rattle.dealer.specs.Cycles.{round_of, greatest_weight, cycle_of}
-use Rattle.numbers.proofs.Totals.{sum_by-one, total-same, total-list, length-total}
+use Rattle.numbers.proofs.SumsBelow.{sum_by-one, sum_below-same, sum_below-list, length-sum_below}
 use Rattle.numbers.proofs.CountLemmas.{count_above, filter-all, filter-filter, flat_map_range_more, greatest_below-le, times-append, times-get_or, times-filter, times-filter_above}
 
 -- a round names each quorum once whose weight is at least the round's number, and no other
@@ -56,8 +56,8 @@ length-cycle_of weights =
     let n = length weights in
     let list = cycle_of weights in
     let none = count_above n list (λ j le. times-cycle_of weights j ∙ get_or_past weights j 0 le) in
-    let each = total-same n (λ j. times j list) (λ j. get_or weights j 0) (λ j lt. times-cycle_of weights j) in
-    omega (arith, length-total n list, none, each, total-list (λ x. x) weights)
+    let each = sum_below-same n (λ j. times j list) (λ j. get_or weights j 0) (λ j lt. times-cycle_of weights j) in
+    omega (arith, length-sum_below n list, none, each, sum_below-list (λ x. x) weights)
 
 -- a cycle names no quorum past the last
 pub cycle_of-lt : (weights : List ℕ) (i : ℕ) → i < sum weights → get_or (cycle_of weights) i 0 < length weights

@@ -9,7 +9,7 @@ use Rattle.std.proofs.lemmas.List.Sorted.{sum_by-IsPermutation}
 use Rattle.std.proofs.lemmas.List.Sums.{sum_by-cons, sum_by-append}
 use native.Mathlib.Numerals.{unary_clauses}
 use Rattle.numbers.specs.Counts.{greatest_below, least_of, times}
-use Rattle.numbers.proofs.Totals.{sum_by-one, total-same, total-list, length-total}
+use Rattle.numbers.proofs.SumsBelow.{sum_by-one, sum_below-same, sum_below-list, length-sum_below}
 
 pub times-cons : (j x : ℕ) (xs : List ℕ) → times j (x ∷ xs) ≡ cond (eqb x j) 1 0 + times j xs
 times-cons j x xs = sum_by-cons (λ k. cond (eqb k j) 1 0) x xs

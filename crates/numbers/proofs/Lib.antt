@@ -3,4 +3,4 @@ pub mod Members
 pub mod RangeSums
 pub mod SetLemmas
 pub mod SumLemmas
-pub mod Totals
+pub mod SumsBelow

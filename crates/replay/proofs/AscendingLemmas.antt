@@ -6,7 +6,7 @@ use Rattle.std.proofs.lemmas.List.{get_or-drop, length-drop}
 use Rattle.std.proofs.lemmas.List.Sums.{count_by-le-length, sum_by-cons, sum_by-drop_more}
 use Rattle.numbers.specs.Counts.{times}
 use Rattle.numbers.proofs.CountLemmas.{times-cons, times-get_or}
-use Rattle.numbers.proofs.Totals.{length-total, total-one, total-same}
+use Rattle.numbers.proofs.SumsBelow.{length-sum_below, sum_below-one, sum_below-same}
 use Rattle.replay.specs.Records.{EachOnce, IsLeast, IsMissing, IsTwice, NoneTwice}
 
 -- a number does not stand where all are above it
@@ -151,7 +151,7 @@ single_from_count ns counts = λ n twice. elim (cases_lt n (length ns)) [
   | inr more ↦
       let size = length ns in
       let none : sum_by (λ x. cond (leb size x) 1 0) ns ≡ 0 =
-      omega (arith, length-total size ns, total-same size (λ y. times y ns) (λ y. 1) counts, total-one size) in
+      omega (arith, length-sum_below size ns, sum_below-same size (λ y. times y ns) (λ y. 1) counts, sum_below-one size) in
       omega (arith, stands_above size n ns more none)
 ]
   where
