@@ -7,13 +7,15 @@
 --     voter B0 B1 ..       the weight of each voter
 --
 -- A number has 1 to 7 decimal digits and no leading zero.
-use Rattle.std.specs.Prelude.{◌<◌, ◌≡◌, ℕ, ◌+◌, Bool, not, ◌&&◌, ◌||◌, ◌==◌, nat_lt, if◌then◌else◌, List, [], ◌∷◌, ◌++◌, length, take, drop, map, position, slice_index, codes, Option, None, Some, Result, Ok, Err, option_map, option_and_then}
+use Rattle.std.specs.Prelude.{◌<◌, ◌≡◌, ℕ, ◌+◌, Bool, true, false, not, ◌&&◌, ◌||◌, ◌==◌, nat_lt, if◌then◌else◌, List, [], ◌∷◌, ◌++◌, length, take, drop, map, position, slice_index, codes, Option, None, Some, Result, Ok, Err, option_map, option_and_then}
 use Rattle.std.specs.Option.{option_or, ok_or}
 use Rattle.std.specs.List.{list_all, slice_split, join_with_byte}
 use Rattle.std.specs.Char.{is_ascii_digit}
 use Rattle.std.specs.Str.{bytes_eq}
 use Rattle.std.specs.Str.Parse.{digits_value}
 use Rattle.std.specs.Fmt.{decimal}
+pub use Rattle.numbers.specs.Results.{◌>>=◌}
+use Rattle.numbers.specs.Results.{RefusesUnless, GivesUnless}
 use Rattle.quorum_set.specs.Coteries.{QuorumSystem}
 use Rattle.texts.specs.Cuts.{cut_at}
 use Rattle.certificate.specs.declared.fault.PlanFault.{PlanFault}
@@ -121,11 +123,6 @@ abbrev pub line_at : {X : Type 0} → ℕ → (List ℕ → Option X) → List �
 line_at number read text =
     ok_or (option_and_then (λ cut. option_map (λ x. (x, cut.1)) (read cut.0)) (cut_at 10 text)) (BadText number)
 
-infixl 10 ◌>>=◌
-abbrev pub ◌>>=◌ : {A B : Type 0} → Result A PlanFault → (A → Result B PlanFault) → Result B PlanFault
-(Ok x) >>= f = f x
-(Err e) >>= f = Err e
-
 -- the values of a text, or its first bad line
 unfoldable pub telling_at : List ℕ → Result Telling PlanFault
 telling_at text = do
@@ -174,15 +171,18 @@ weighted_by s t = record { system = s; quorum_weights = t.quorum_weights; voter_
 unfoldable pub plan_at : QuorumSystem → List ℕ → Result Weighted PlanFault
 plan_at s text = telling_at text >>= λ t. judged (weighted_by s t) t
 
+-- the fault is out of memory
+abbrev pub is_out_of_memory : PlanFault → Bool
+is_out_of_memory OutOfMemory = true
+is_out_of_memory fault = false
+
 -- the fault is out of memory, or the wanted result is this fault
 abbrev pub Refuses : {Y : Type 0} → PlanFault → Result Y PlanFault → Type 0
-Refuses OutOfMemory wanted = Unit {0}
-Refuses e wanted = wanted ≡ Err e
+Refuses fault wanted = RefusesUnless is_out_of_memory fault wanted
 
 -- the result, mapped by `view`, is the wanted one, unless memory ran out
 abbrev pub Gives : {X Y : Type 0} → (X → Y) → Result X PlanFault → Result Y PlanFault → Type 0
-Gives view (Ok x) wanted = wanted ≡ Ok (view x)
-Gives view (Err e) wanted = Refuses e wanted
+Gives view result wanted = GivesUnless is_out_of_memory view result wanted
 
 -- the result, mapped by `view`, is the wanted one, in any case
 abbrev pub Answers : {X Y : Type 0} → (X → Y) → Result X PlanFault → Result Y PlanFault → Type 0

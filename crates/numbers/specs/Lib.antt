@@ -1,4 +1,5 @@
 pub mod Bounds
 pub mod Counts
+pub mod Results
 pub mod Sets
 pub mod Sums

@@ -5,6 +5,8 @@ use Rattle.std.specs.Fmt.{decimal}
 use Rattle.std.specs.Io.KnownBytes.{Appends, IsAtEnd, Keeps}
 use Rattle.std.specs.Str.{is_utf8}
 use Rattle.numbers.specs.Bounds.{max_clients}
+pub use Rattle.numbers.specs.Results.{◌>>=◌}
+use Rattle.numbers.specs.Results.{RefusesUnless, GivesUnless}
 use Rattle.quorum_set.specs.Coteries.{QuorumSystem}
 use Rattle.construct.specs.Cyclic.{cyclic_at}
 use Rattle.construct.specs.Grid.{grid_at}
@@ -53,25 +55,23 @@ use Rattle.command_line.specs.declared.command.Shape.TheVariants.{Cyclic, Grid, 
 
 -- Steps that may fail
 
-infixl 10 ◌>>=◌
-abbrev pub ◌>>=◌ : {A B : Type 0} → Result A Fault → (A → Result B Fault) → Result B Fault
-(Ok x) >>= f = f x
-(Err e) >>= f = Err e
-
 -- the same result, its fault under another name
 abbrev pub refused_as : {A E : Type 0} → (E → Fault) → Result A E → Result A Fault
 refused_as name (Ok x) = Ok x
 refused_as name (Err e) = Err (name e)
 
+-- the fault is out of memory
+abbrev pub is_out_of_memory : Fault → Bool
+is_out_of_memory OutOfMemory = true
+is_out_of_memory fault = false
+
 -- the fault is out of memory, or the wanted result is this fault
 abbrev pub Refuses : {Y : Type 0} → Fault → Result Y Fault → Type 0
-Refuses OutOfMemory wanted = Unit {0}
-Refuses fault wanted = wanted ≡ Err fault
+Refuses fault wanted = RefusesUnless is_out_of_memory fault wanted
 
 -- the result, mapped by `view`, is the wanted one, unless memory ran out
 abbrev pub Gives : {X Y : Type 0} → (X → Y) → Result X Fault → Result Y Fault → Type 0
-Gives view (Ok x) wanted = wanted ≡ Ok (view x)
-Gives view (Err fault) wanted = Refuses fault wanted
+Gives view result wanted = GivesUnless is_out_of_memory view result wanted
 
 -- Parts
 
