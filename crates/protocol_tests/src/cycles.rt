@@ -1,7 +1,8 @@
 //! Cycles: the quorum of each ticket, and accounts.
-use dealer::Cycle;
+use crate::long_cycles::{down_from, names};
+use dealer::{Account, Cycle};
 use small_plans::{majority_plan, plan_of};
-use std::alloc::Global;
+use std::alloc::{AllocError, Global};
 use std::test::Fail;
 
 /// Returns the cycle of the plan with these quorums and weights.
@@ -15,10 +16,18 @@ pub(crate) fn cycle_of(
     Cycle::of(alloc, plan).ok()
 }
 
+/// The hub 0 with each of three rims, and the rims.
+const SPOKES: [&[u8]; 4] = [&[0, 1], &[0, 2], &[0, 3], &[1, 2, 3]];
+
+/// Weights of the wheel's quorums that make a cycle of 5 tickets.
+pub(crate) const SHORT: [u64; 4] = [1, 1, 1, 2];
+
+/// The same weights doubled, which make a cycle of 10 tickets.
+const LONG: [u64; 4] = [2, 2, 2, 4];
+
 /// Returns the cycle of the wheel with three rims and these weights of its quorums.
 pub(crate) fn wheel_cycle(alloc: Global, quorum_weights: [u64; 4]) -> Option<Cycle> {
-    let quorums: [&[u8]; 4] = [&[0, 1], &[0, 2], &[0, 3], &[1, 2, 3]];
-    cycle_of(alloc, &quorums, &quorum_weights, &[2, 1, 1, 1])
+    cycle_of(alloc, &SPOKES, &quorum_weights, &[2, 1, 1, 1])
 }
 
 /// Returns the cycle of the majorities of three voters.
@@ -26,62 +35,73 @@ pub(crate) fn majority_cycle(alloc: Global) -> Option<Cycle> {
     Cycle::of(alloc, majority_plan(alloc)?).ok()
 }
 
-#[test]
-fn deals_round_by_round(rt: HostRuntime) -> Result<(), Fail> {
-    let alloc = rt.alloc();
-    let table = [
-        // The last ticket, 2^64 - 1, is at place 0 of the cycle of 5, and at place 5 of the cycle
-        // of 10.
-        ([1u64, 1, 1, 2], [0usize, 1, 2, 3, 3, 0, 1, 2, 3, 3], 0usize),
-        ([2, 2, 2, 4], [0, 1, 2, 3, 0, 1, 2, 3, 3, 3], 1),
-    ];
-    for (quorum_weights, want, last) in table {
-        let Some(cycle) = wheel_cycle(alloc, quorum_weights) else {
-            assert!(rt; false, "no plan");
-            return Ok(());
-        };
-        for (ticket, quorum) in want.iter().enumerate() {
-            assert_eq!(rt; cycle.quorum_at(ticket as u64), *quorum, "ticket {ticket}");
-        }
-        assert_eq!(rt; cycle.quorum_at(u64::MAX), last);
+/// Returns whether the first tickets of the wheel stand for these quorums, and the last one for
+/// `last`.
+fn deals(alloc: Global, weights: [u64; 4], quorums: &[usize], last: usize) -> bool {
+    match wheel_cycle(alloc, weights) {
+        Some(cycle) => names(&cycle, 0, quorums) & (cycle.quorum_at(u64::MAX) == last),
+        None => false,
     }
-    Ok(())
+}
+
+/// The last ticket, 2^64 - 1, is at place 0 of the cycle of 5, and at place 5 of the cycle of 10.
+#[test]
+fn deals_round_by_round(rt: HostRuntime) {
+    let short = deals(rt.alloc(), SHORT, &[0, 1, 2, 3, 3, 0, 1, 2, 3, 3], 0);
+    let long = deals(rt.alloc(), LONG, &[0, 1, 2, 3, 0, 1, 2, 3, 3, 3], 1);
+    assert!(rt; short & long);
+}
+
+/// An account: how many tickets, how many of them for each quorum and for each voter, and the
+/// busiest voter's count.
+pub(crate) type Row = (u64, &'static [u64], &'static [u64], u64);
+
+/// Accounts of the first tickets of the wheel's short cycle.
+pub(crate) const SHORT_ROWS: [Row; 4] = [
+    (0, &[0, 0, 0, 0], &[0, 0, 0, 0], 0),
+    (5, &[1, 1, 1, 2], &[3, 3, 3, 3], 3),
+    (7, &[2, 2, 1, 2], &[5, 4, 4, 3], 5),
+    (10, &[2, 2, 2, 4], &[6, 6, 6, 6], 6),
+];
+
+/// Accounts of the first tickets of the wheel's long cycle.
+const LONG_ROWS: [Row; 2] = [
+    (10, &[2, 2, 2, 4], &[6, 6, 6, 6], 6),
+    (8, &[2, 2, 2, 2], &[6, 4, 4, 4], 6),
+];
+
+/// Returns whether an account has these numbers.
+pub(crate) fn is_row(account: Account, row: &Row) -> bool {
+    let rest = (account.drawn == row.0) & (account.busiest == row.3);
+    let quorums = account.quorums.as_slice() == row.1;
+    let voters = account.voters.into_vec();
+    rest & quorums & (voters.as_slice() == row.2)
+}
+
+/// Returns whether a cycle has this account of its first tickets, which are given in descending
+/// order.
+fn has_row(alloc: Global, cycle: &Cycle, row: &Row) -> Result<bool, AllocError> {
+    let tickets = down_from(alloc, row.0)?;
+    Ok(is_row(cycle.account(alloc, &tickets)?, row))
+}
+
+/// Returns whether the wheel with these weights has each of these accounts.
+fn has_rows(alloc: Global, weights: [u64; 4], rows: &[Row]) -> Result<bool, AllocError> {
+    let Some(cycle) = wheel_cycle(alloc, weights) else {
+        return Ok(false);
+    };
+    for row in rows {
+        if !has_row(alloc, &cycle, row)? {
+            return Ok(false);
+        }
+    }
+    Ok(true)
 }
 
 #[test]
 fn accounts_for_tickets_in_any_order(rt: HostRuntime) -> Result<(), Fail> {
-    let alloc = rt.alloc();
-    let short = [1u64, 1, 1, 2];
-    let table = [
-        (short, 0u64, [0u64, 0, 0, 0], [0u64, 0, 0, 0], 0u64),
-        (short, 5, [1, 1, 1, 2], [3, 3, 3, 3], 3),
-        (short, 7, [2, 2, 1, 2], [5, 4, 4, 3], 5),
-        (short, 10, [2, 2, 2, 4], [6, 6, 6, 6], 6),
-        ([2, 2, 2, 4], 10, [2, 2, 2, 4], [6, 6, 6, 6], 6),
-        ([2, 2, 2, 4], 8, [2, 2, 2, 2], [6, 4, 4, 4], 6),
-    ];
-    for (quorum_weights, count, quorums, voters, busiest) in table {
-        let Some(cycle) = wheel_cycle(alloc, quorum_weights) else {
-            assert!(rt; false, "no plan");
-            return Ok(());
-        };
-        let mut tickets = Vec::new(alloc);
-        for ticket in (0..count).rev() {
-            tickets.push(ticket)?;
-        }
-        let account = cycle.account(alloc, &tickets)?;
-        assert_eq!(rt; account.drawn, count);
-        assert_eq!(rt;
-            account.quorums.as_slice(),
-            quorums.as_slice(),
-            "{count} tickets"
-        );
-        assert_eq!(rt;
-            account.voters.into_vec().as_slice(),
-            voters.as_slice(),
-            "{count} tickets"
-        );
-        assert_eq!(rt; account.busiest, busiest, "{count} tickets");
-    }
+    let short = has_rows(rt.alloc(), SHORT, &SHORT_ROWS)?;
+    let long = has_rows(rt.alloc(), LONG, &LONG_ROWS)?;
+    assert!(rt; short & long);
     Ok(())
 }

@@ -1,7 +1,7 @@
 //! The blocks of a cycle compared with the cycle as a list of all its places.
 use crate::cycles::cycle_of;
 use dealer::Cycle;
-use std::alloc::Global;
+use std::alloc::{AllocError, Global};
 use std::test::Fail;
 
 /// Returns the next number of a sequence without a pattern (Knuth's multiplier for 64 bits).
@@ -54,8 +54,17 @@ fn laid_out(alloc: Global, weights: &[u64]) -> Result<Vec<usize>, Fail> {
     Ok(quorums)
 }
 
+/// Returns the tickets below this number, in descending order.
+pub(crate) fn down_from(alloc: Global, count: u64) -> Result<Vec<u64>, AllocError> {
+    let mut tickets = Vec::new(alloc);
+    for ticket in (0..count).rev() {
+        tickets.push(ticket)?;
+    }
+    Ok(tickets)
+}
+
 /// Returns whether the tickets from this one on stand for these quorums.
-fn names(cycle: &Cycle, from: u64, quorums: &[usize]) -> bool {
+pub(crate) fn names(cycle: &Cycle, from: u64, quorums: &[usize]) -> bool {
     let mut ticket = from;
     for quorum in quorums {
         if cycle.quorum_at(ticket) != *quorum {
@@ -77,51 +86,55 @@ fn agrees(alloc: Global, weights: &[u64]) -> Result<bool, Fail> {
         return Ok(false);
     };
     let len = cycle.plan().cycle_len();
-    let mut tickets = Vec::new(alloc);
-    for ticket in (0..len).rev() {
-        tickets.push(ticket)?;
-    }
-    let account = cycle.account(alloc, &tickets)?;
+    let account = cycle.account(alloc, &down_from(alloc, len)?)?;
     Ok(
-        len == quorums.len() as u64
-            && account.quorums.as_slice() == weights
-            && account.busiest == len
-            && names(&cycle, 0, &quorums)
-            && names(&cycle, len, &quorums),
+        (len == quorums.len() as u64)
+            & (account.quorums.as_slice() == weights)
+            & (account.busiest == len)
+            & names(&cycle, 0, &quorums)
+            & names(&cycle, len, &quorums),
     )
+}
+
+/// Returns whether this holds for up to 63 weights below a bound.
+fn agree_below(alloc: Global, bound: u64) -> Result<bool, Fail> {
+    for count in 1..64u8 {
+        let weights = weights_below(alloc, count, bound, bound ^ u64::from(count))?;
+        if !agrees(alloc, &weights)? {
+            return Ok(false);
+        }
+    }
+    Ok(true)
 }
 
 #[test]
 fn blocks_name_what_the_rounds_list(rt: HostRuntime) -> Result<(), Fail> {
-    let alloc = rt.alloc();
     // Bound 1 makes only zeros. Bound 2 leaves one distinct positive weight, 4 a few, and 50 a
     // different one for nearly every quorum.
     for bound in [2u64, 4, 9, 50] {
-        for count in 1..64u8 {
-            let weights = weights_below(alloc, count, bound, bound ^ u64::from(count))?;
-            assert!(rt; agrees(alloc, &weights)?, "{count} weights below {bound}");
-        }
+        assert!(rt; agree_below(rt.alloc(), bound)?, "weights below {bound}");
     }
     Ok(())
 }
 
+/// Weights at the edges: one quorum, zeros, equal ones, each one different, and far apart.
+const EDGES: [&[u64]; 10] = [
+    &[1],
+    &[1000],
+    &[0, 0, 3],
+    &[3, 0, 0],
+    &[7, 7, 7, 7, 7],
+    &[1, 2, 3, 4, 5, 6, 7, 8],
+    &[8, 7, 6, 5, 4, 3, 2, 1],
+    &[0, 5, 0, 5, 0, 1],
+    &[1, 10_000],
+    &[2, 2, 1_000, 999, 1_000, 0, 1],
+];
+
 #[test]
 fn blocks_of_weights_at_the_edges(rt: HostRuntime) -> Result<(), Fail> {
-    let alloc = rt.alloc();
-    let table: [&[u64]; 10] = [
-        &[1],
-        &[1000],
-        &[0, 0, 3],
-        &[3, 0, 0],
-        &[7, 7, 7, 7, 7],
-        &[1, 2, 3, 4, 5, 6, 7, 8],
-        &[8, 7, 6, 5, 4, 3, 2, 1],
-        &[0, 5, 0, 5, 0, 1],
-        &[1, 10_000],
-        &[2, 2, 1_000, 999, 1_000, 0, 1],
-    ];
-    for (row, weights) in table.iter().enumerate() {
-        assert!(rt; agrees(alloc, weights)?, "row {row}");
+    for weights in &EDGES {
+        assert!(rt; agrees(rt.alloc(), weights)?, "{} weights", weights.len());
     }
     Ok(())
 }

@@ -1,7 +1,10 @@
 //! Messages and their lines.
-use message::{ClientBody, Message, MessageFault, ToClient, ToVoter, VoterBody, read_message, write_message};
-use texts::{cut, field, fields, number};
+use message::{
+    ClientBody, Message, MessageFault, ToClient, ToVoter, VoterBody, read_message, write_message,
+};
+use std::alloc::{AllocError, Global};
 use std::test::Fail;
+use texts::{cut, field, fields, number};
 
 fn to_voter(client: u8, voter: u8, body: VoterBody) -> Message {
     Message::ToVoter(ToVoter {
@@ -18,6 +21,15 @@ fn to_client(voter: u8, client: u8, seen: u64, body: ClientBody) -> Message {
         seen,
         body,
     })
+}
+
+/// Returns whether a message is written as this line, and read from it.
+fn has_line(alloc: Global, message: &Message, line: &str) -> Result<bool, AllocError> {
+    if !message.has_line() {
+        return Ok(false);
+    }
+    let text = write_message(alloc, message)?;
+    Ok((text.as_str() == line) & (read_message(line.as_bytes()) == Ok(*message)))
 }
 
 #[test]
@@ -54,49 +66,54 @@ fn each_message_has_its_line(rt: HostRuntime) -> Result<(), Fail> {
         ),
     ];
     for (message, line) in table {
-        assert_eq!(rt; read_message(line.as_bytes()), Ok(message));
-        assert!(rt; message.has_line());
-        if message.has_line() {
-            assert_eq!(rt; write_message(alloc, &message)?.as_str(), line);
-        }
+        assert!(rt; has_line(alloc, &message, line)?, "{line}");
     }
     Ok(())
 }
 
+/// Lines that are no message.
+const BAD: [&str; 13] = [
+    "request 64 0 1",
+    "request 0 0 01",
+    "request 0 0 0",
+    "",
+    "request 0 0 1\n",
+    "request 0 0 1 ",
+    "request  0 0 1",
+    "request 0 0 +1",
+    "request 0 0 18446744073709551616",
+    "Request 0 0 1",
+    "locked 0 0 1 0 0",
+    "locked 0 0 1 1",
+    "fail 0 64 1 0",
+];
+
 #[test]
-fn bad_lines(rt: HostRuntime) -> Result<(), Fail> {
-    let table = [
-        "request 64 0 1",
-        "request 0 0 01",
-        "request 0 0 0",
-        "",
-        "request 0 0 1\n",
-        "request 0 0 1 ",
-        "request  0 0 1",
-        "request 0 0 +1",
-        "request 0 0 18446744073709551616",
-        "Request 0 0 1",
-        "locked 0 0 1 0 0",
-        "locked 0 0 1 1",
-        "fail 0 64 1 0",
-    ];
-    for line in table {
-        assert_eq!(rt; read_message(line.as_bytes()), Err(MessageFault::BadLine));
+fn bad_lines(rt: HostRuntime) {
+    for line in &BAD {
+        assert!(rt;
+            read_message(line.as_bytes()) == Err(MessageFault::BadLine),
+            "{line}"
+        );
     }
-    assert_eq!(rt;
-        MessageFault::BadLine.to_string(rt.alloc())?.as_str(),
-        "M1 BadLine"
-    );
-    Ok(())
 }
 
 #[test]
-fn words_and_numbers(rt: HostRuntime) -> Result<(), Fail> {
-    assert_eq!(rt; number(b"0"), Some(0));
-    assert_eq!(rt; number(b"007"), None);
-    assert_eq!(rt; cut(b"draw 1 2"), (b"draw".as_slice(), b" 1 2".as_slice()));
-    assert_eq!(rt; field(b" 1 2"), Some((1, b" 2".as_slice())));
-    assert_eq!(rt; fields::<2>(b" 1 2"), Some([1, 2]));
-    assert_eq!(rt; fields::<1>(b" 1 2"), None);
+fn fault_is_written(rt: HostRuntime) -> Result<(), Fail> {
+    let text = MessageFault::BadLine.to_string(rt.alloc())?;
+    assert!(rt; text.as_str() == "M1 BadLine");
     Ok(())
+}
+
+/// Returns whether numbers and fields are read as they should.
+fn reads_numbers() -> bool {
+    let numbers = (number(b"0") == Some(0)) & number(b"007").is_none();
+    let one = field(b" 1 2") == Some((1, b" 2".as_slice()));
+    numbers & one & (fields::<2>(b" 1 2") == Some([1, 2])) & fields::<1>(b" 1 2").is_none()
+}
+
+#[test]
+fn words_and_numbers(rt: HostRuntime) {
+    let word = cut(b"draw 1 2") == (b"draw".as_slice(), b" 1 2".as_slice());
+    assert!(rt; word & reads_numbers());
 }

@@ -1,22 +1,21 @@
 //! Offices: worked examples, and two threads that draw.
-ghost use Rattle.std.specs.Prelude.{◌≡◌, ◌≤◌, ◌^◌, IfOk, IfSome};
+ghost use Rattle.std.specs.Prelude.{◌≡◌, ◌≤◌, ◌^◌, IfSome};
 
-use crate::cycles::{majority_cycle, wheel_cycle};
-use dealer::{Clerk, DealFault, Office, OfficeFault};
+use crate::cycles::{Row, SHORT, SHORT_ROWS, is_row, majority_cycle, wheel_cycle};
+use dealer::{Clerk, Cycle, DealFault, Office, OfficeFault, Receipt};
 use std::alloc::Global;
 use std::test::Fail;
 use std::thread;
 
-/// Returns an office for the majorities of three voters with this quota, and its clerk.
-fn majority_office(alloc: Global, quota: u64) -> Result<Option<(Office, Clerk)>, Fail>
+/// Returns an office for a cycle with this quota, and its clerk.
+fn office_of(alloc: Global, cycle: Option<Cycle>, quota: u64) -> Option<(Office, Clerk)>
     requires { quota ≤ 2 ^ 63 }
-    ensures { IfOk result (λ made. IfSome made (λ pair.
-        (pair.1.office ≡ pair.0.name) × (pair.1.rest ≡ quota))) }
+    ensures { IfSome result (λ pair. (pair.1.office ≡ pair.0.name) × (pair.1.rest ≡ quota)) }
 {
-    let Some(cycle) = majority_cycle(alloc) else {
-        return Ok(None);
-    };
-    Ok(Office::new(alloc, cycle, quota).ok())
+    match cycle {
+        Some(cycle) => Office::new(alloc, cycle, quota).ok(),
+        None => None,
+    }
 }
 
 /// Draws all that the clerk may draw.
@@ -32,126 +31,119 @@ fn draw_all(office: &Office, mut clerk: Clerk) -> Clerk
     clerk
 }
 
+/// Returns whether an office closes with this account, and a receipt for each ticket.
+fn closes(alloc: Global, office: Office, clerk: Clerk, row: &Row) -> bool
+    requires { clerk.office ≡ office.name }
+{
+    match office.close(alloc, clerk) {
+        Ok((account, receipts)) => (receipts.len() as u64 == row.0) & is_row(account, row),
+        Err(_) => false,
+    }
+}
+
+/// Returns why an office does not close, and how many receipts come back.
+fn refusal(alloc: Global, office: Office, clerk: Clerk) -> Option<(usize, OfficeFault)>
+    requires { clerk.office ≡ office.name }
+{
+    match office.close(alloc, clerk) {
+        Ok(_) => None,
+        Err(unclosed) => Some((unclosed.receipts.len(), unclosed.fault)),
+    }
+}
+
+/// Returns whether a clerk with one ticket draws ticket 0 for quorum 0, and no other.
+fn draws_one(office: &Office, clerk: &mut Clerk) -> bool
+    requires { clerk.old.office ≡ office.now.name }
+{
+    let first = office.draw(clerk);
+    let second = office.draw(clerk);
+    let receipt = Receipt {
+        ticket: 0,
+        quorum: 0,
+    };
+    (first == Ok(receipt)) & (second == Err(DealFault::QuotaSpent)) & (clerk.receipts().len() == 1)
+}
+
 #[test]
-fn a_clerk_with_nothing_left_is_refused(rt: HostRuntime) -> Result<(), Fail> {
-    let alloc = rt.alloc();
-    let Some((office, mut root)) = majority_office(alloc, 3)? else {
-        assert!(rt; false, "no office");
-        return Ok(());
+fn a_clerk_with_nothing_left_is_refused(rt: HostRuntime) {
+    let Some((office, mut root)) = office_of(rt.alloc(), majority_cycle(rt.alloc()), 3) else {
+        panic!(rt; "no office")
     };
     let mut clerk = root.split(&office, 1);
-    assert_eq!(rt; office.cycle().plan().cycle_len(), 3);
-    assert!(rt;
-        office
-            .draw(&mut clerk)
-            .is_ok_and(|receipt| receipt.ticket == 0 && receipt.quorum == 0)
-    );
-    assert_eq!(rt; clerk.receipts().len(), 1);
-    let refusal = office.draw(&mut clerk);
-    assert_eq!(rt; refusal, Err(DealFault::QuotaSpent));
-    assert_eq!(rt; root.rest(), 2);
-    Ok(())
+    let drew = draws_one(&office, &mut clerk);
+    assert!(rt; drew & (root.rest() == 2) & (office.cycle().plan().cycle_len() == 3));
 }
 
 #[test]
-fn a_clerk_that_is_out_has_to_join_before_the_account(rt: HostRuntime) -> Result<(), Fail> {
-    let alloc = rt.alloc();
-    for joins in [false, true] {
-        let Some((office, mut root)) = majority_office(alloc, 3)? else {
-            assert!(rt; false, "no office");
-            return Ok(());
-        };
-        let clerk = root.split(&office, 1);
-        let clerk = draw_all(&office, clerk);
-        if joins && root.join(&office, clerk).is_err() {
-            assert!(rt; false, "no memory");
-        }
-        match office.close(alloc, root) {
-            Ok((account, receipts)) => {
-                assert!(rt; joins && receipts.len() == 1 && account.drawn == 1);
-                assert_eq!(rt; account.quorums.as_slice(), [1, 0, 0].as_slice());
-                assert_eq!(rt; account.voters.as_slice(), [1, 1, 0].as_slice());
-                assert_eq!(rt; account.busiest, 1);
-            }
-            Err(unclosed) => {
-                assert!(rt; !joins && unclosed.receipts.is_empty());
-                assert_eq!(rt; unclosed.fault, OfficeFault::ClerksOut(1));
-            }
-        }
-    }
-    Ok(())
+fn a_clerk_that_is_out_has_to_join_before_the_account(rt: HostRuntime) {
+    let Some((office, mut root)) = office_of(rt.alloc(), majority_cycle(rt.alloc()), 3) else {
+        panic!(rt; "no office")
+    };
+    let clerk = draw_all(&office, root.split(&office, 1));
+    let refused = refusal(rt.alloc(), office, root);
+    drop(clerk);
+    assert_eq!(rt; refused, Some((0, OfficeFault::ClerksOut(1))));
 }
 
 #[test]
-fn a_clerk_that_is_lost_keeps_its_share(rt: HostRuntime) -> Result<(), Fail> {
-    let alloc = rt.alloc();
-    let Some((office, mut root)) = majority_office(alloc, 8)? else {
-        assert!(rt; false, "no office");
-        return Ok(());
+fn a_clerk_that_joined_is_in_the_account(rt: HostRuntime) {
+    let Some((office, mut root)) = office_of(rt.alloc(), majority_cycle(rt.alloc()), 3) else {
+        panic!(rt; "no office")
+    };
+    let clerk = draw_all(&office, root.split(&office, 1));
+    let joined = root.join(&office, clerk).is_ok();
+    let closed = closes(rt.alloc(), office, root, &(1, &[1, 0, 0], &[1, 1, 0], 1));
+    assert!(rt; joined & closed);
+}
+
+#[test]
+fn a_clerk_that_is_lost_keeps_its_share(rt: HostRuntime) {
+    let Some((office, mut root)) = office_of(rt.alloc(), majority_cycle(rt.alloc()), 8) else {
+        panic!(rt; "no office")
     };
     drop(root.split(&office, 5));
-    let Err(unclosed) = office.close(alloc, root) else {
-        assert!(rt; false, "closed");
-        return Ok(());
-    };
-    assert_eq!(rt; unclosed.fault.to_string(alloc)?.as_str(), "L2 ClerksOut 5");
-    Ok(())
+    let refused = refusal(rt.alloc(), office, root);
+    assert_eq!(rt; refused, Some((0, OfficeFault::ClerksOut(5))));
+}
+
+/// Returns whether an office of the wheel that deals as many tickets as the account has closes with
+/// this account.
+fn deals(alloc: Global, row: &Row) -> bool
+    requires { row.now.0 ≤ 2 ^ 63 }
+{
+    match office_of(alloc, wheel_cycle(alloc, SHORT), row.0) {
+        Some((office, clerk)) => {
+            let clerk = draw_all(&office, clerk);
+            closes(alloc, office, clerk, row)
+        }
+        None => false,
+    }
 }
 
 #[test]
-fn deals_in_the_plan_s_proportions(rt: HostRuntime) -> Result<(), Fail> {
-    let alloc = rt.alloc();
-    let table = [
-        (5u64, [3u64, 3, 3, 3], 3u64),
-        (10, [6, 6, 6, 6], 6),
-        (7, [5, 4, 4, 3], 5),
-        (0, [0, 0, 0, 0], 0),
-    ];
-    for (count, voters, busiest) in table {
-        let Some(cycle) = wheel_cycle(alloc, [1, 1, 1, 2]) else {
-            assert!(rt; false, "no plan");
-            return Ok(());
-        };
-        let Ok((office, clerk)) = Office::new(alloc, cycle, count) else {
-            assert!(rt; false, "no memory");
-            return Ok(());
-        };
-        let clerk = draw_all(&office, clerk);
-        let Ok((account, receipts)) = office.close(alloc, clerk) else {
-            assert!(rt; false, "not closed");
-            return Ok(());
-        };
-        assert_eq!(rt; receipts.len() as u64, count);
-        assert_eq!(rt;
-            account.voters.as_slice(),
-            voters.as_slice(),
-            "{count} draws"
-        );
-        assert_eq!(rt; account.busiest, busiest, "{count} draws");
+fn deals_in_the_plan_s_proportions(rt: HostRuntime) {
+    for row in &SHORT_ROWS {
+        assert!(rt; row.0 < 11 && deals(rt.alloc(), row), "{} draws", row.0);
     }
-    Ok(())
 }
 
 #[test]
 fn faults_are_spelled(rt: HostRuntime) -> Result<(), Fail> {
-    let alloc = rt.alloc();
-    let text = format!(in alloc; "{}, {}", DealFault::QuotaSpent, DealFault::OutOfMemory)?;
-    assert_eq!(rt; text.as_str(), "L1 QuotaSpent, O1 OutOfMemory");
-    let text = format!(in alloc;
-        "{}, {}",
-        OfficeFault::ClerksOut(1),
-        OfficeFault::OutOfMemory
-    )?;
-    assert_eq!(rt; text.as_str(), "L2 ClerksOut 1, O1 OutOfMemory");
+    let (deal, office) = (DealFault::QuotaSpent, OfficeFault::ClerksOut(1));
+    let (no_draw, no_account) = (DealFault::OutOfMemory, OfficeFault::OutOfMemory);
+    let text = format!(in rt.alloc(); "{deal}, {office}, {no_draw}, {no_account}")?;
+    assert_eq!(rt;
+        text.as_str(),
+        "L1 QuotaSpent, L2 ClerksOut 1, O1 OutOfMemory, O1 OutOfMemory"
+    );
     Ok(())
 }
 
 #[test]
-fn two_threads_draw_each_ticket_once(rt: HostRuntime) -> Result<(), Fail> {
+fn two_threads_draw_each_ticket_once(rt: HostRuntime) {
     let alloc = rt.alloc();
-    let Some((office, mut root)) = majority_office(alloc, 30_000)? else {
-        assert!(rt; false, "no office");
-        return Ok(());
+    let Some((office, mut root)) = office_of(alloc, majority_cycle(alloc), 30_000) else {
+        panic!(rt; "no office")
     };
     let clerk = root.split(&office, 15_000);
     let shared = &office;
@@ -166,12 +158,12 @@ fn two_threads_draw_each_ticket_once(rt: HostRuntime) -> Result<(), Fail> {
             ensures { result.office ≡ shared.entry.now.name }
         { draw_all(shared, root) },
     );
-    assert!(rt; one.join(&office, other).is_ok(), "no memory");
-    let Ok((account, receipts)) = office.close(alloc, one) else {
-        assert!(rt; false, "not closed");
-        return Ok(());
-    };
-    assert!(rt; account.drawn == 30_000 && receipts.len() == 30_000);
-    assert_eq!(rt; account.busiest, 20_000);
-    Ok(())
+    let joined = one.join(&office, other).is_ok();
+    let row = (
+        30_000,
+        [10_000; 3].as_slice(),
+        [20_000; 3].as_slice(),
+        20_000,
+    );
+    assert!(rt; joined & closes(alloc, office, one, &row));
 }

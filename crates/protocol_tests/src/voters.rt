@@ -80,10 +80,11 @@ fn vote_that_is_given_back(rt: HostRuntime) -> Result<(), Fail> {
         ("release 1 0 1", ""),
         ("release 0 0 1", ""),
     ];
-    match after(rt.alloc(), 2, script.as_slice())? {
-        Some(voter) => assert!(rt; voter.held().is_none()),
-        None => assert!(rt; false),
-    }
+    let free = match after(rt.alloc(), 2, script.as_slice())? {
+        Some(voter) => voter.held().is_none(),
+        None => false,
+    };
+    assert!(rt; free);
     Ok(())
 }
 
@@ -110,39 +111,46 @@ fn former_front_is_told(rt: HostRuntime) -> Result<(), Fail> {
     Ok(())
 }
 
+/// Returns whether a new voter has nothing to repeat.
+fn starts_silent() -> bool {
+    let voter = Voter::new(0, 2);
+    voter.held().is_none() & voter.remind().is_empty()
+}
+
+#[test]
+fn new_voter_has_nothing_to_repeat(rt: HostRuntime) {
+    assert!(rt; starts_silent());
+}
+
+/// Returns whether the voter gave grant 1 to client 1 under stamp 5, and frees it by this message.
+fn holds(voter: &Voter, release: Option<ToVoter>) -> bool {
+    let grant = Grant {
+        client: 1,
+        stamp: 5,
+        grant: 1,
+    };
+    let freed = Effect {
+        frees: true,
+        refused: false,
+    };
+    match release {
+        Some(release) => (voter.held() == Some(grant)) & (voter.effect(&release) == freed),
+        None => false,
+    }
+}
+
 #[test]
 fn vote_is_held_and_told_again(rt: HostRuntime) -> Result<(), Fail> {
-    let alloc = rt.alloc();
-    let mut voter = Voter::new(0, 2);
-    assert!(rt; voter.held().is_none());
-    assert_eq!(rt; voter.remind().len(), 0);
-    if let Some(message) = asked("request 1 0 5") {
-        assert!(rt; voter.take(&message).is_ok());
-    }
-    assert_eq!(rt;
-        voter.held(),
-        Some(Grant {
-            client: 1,
-            stamp: 5,
-            grant: 1
-        })
-    );
-    if let Some(message) = asked("request 0 0 4") {
-        assert!(rt; voter.take(&message).is_ok());
-    }
-    assert_eq!(rt;
-        lines(alloc, &voter.remind())?.as_str(),
-        "locked 0 1 5 1 5;inquire 0 1 1 5;"
-    );
-    if let Some(message) = asked("release 1 0 5") {
-        assert_eq!(rt;
-            voter.effect(&message),
-            Effect {
-                frees: true,
-                refused: false
-            }
-        );
-    }
+    let script = [
+        ("request 1 0 5", "locked 0 1 5 1 5;"),
+        ("request 0 0 4", "inquire 0 1 1 5;"),
+    ];
+    let Some(voter) = after(rt.alloc(), 2, script.as_slice())? else {
+        panic!(rt; "other replies")
+    };
+    let held = holds(&voter, asked("release 1 0 5"));
+    let again = lines(rt.alloc(), &voter.remind())?;
+    assert!(rt; held & (again.as_str() == "locked 0 1 5 1 5;inquire 0 1 1 5;"));
     Ok(())
 }
 

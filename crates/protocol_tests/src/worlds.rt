@@ -2,23 +2,30 @@
 ghost use Rattle.std.specs.Prelude.{◌≤◌, ◌^◌};
 
 use certificate::Plan;
-use message::write_message;
+use message::{Message, write_message};
 use requester::Seen;
 use small_plans::{lone_plan, majority_plan};
 use std::alloc::{AllocError, Global};
 use std::test::Fail;
 use world::{Step, Stepped, Trace, World, run};
 
-/// Returns what a run did: the lines of its messages, who entered and left, who drew which ticket,
-/// and what was refused.
-fn story(alloc: Global, trace: &Trace) -> Result<String, AllocError> {
-    let mut text = String::new(alloc);
-    for message in trace.messages.as_slice() {
+/// Writes the lines of the messages.
+fn write_messages(
+    alloc: Global,
+    text: &mut String,
+    messages: &[Message],
+) -> Result<(), AllocError> {
+    for message in messages {
         if message.has_line() {
             text.push_str(write_message(alloc, message)?.as_str())?;
             text.push('\n')?;
         }
     }
+    Ok(())
+}
+
+/// Writes who entered and left, who drew which ticket, and what was refused.
+fn write_rest(text: &mut String, trace: &Trace) -> Result<(), AllocError> {
     for event in trace.visible.as_slice() {
         let word = if event.entered { "enter" } else { "leave" };
         write!(text, "{word} {}\n", event.client)?;
@@ -29,6 +36,14 @@ fn story(alloc: Global, trace: &Trace) -> Result<String, AllocError> {
     for (place, fault) in trace.refused.as_slice() {
         write!(text, "{place}: {fault}\n")?;
     }
+    Ok(())
+}
+
+/// Returns what a run did: the lines of its messages, and the rest.
+fn story(alloc: Global, trace: &Trace) -> Result<String, AllocError> {
+    let mut text = String::new(alloc);
+    write_messages(alloc, &mut text, trace.messages.as_slice())?;
+    write_rest(&mut text, trace)?;
     Ok(text)
 }
 
@@ -188,25 +203,24 @@ draw 0 0
     Ok(())
 }
 
+/// Returns whether client 0 of a new world asks one voter, and nothing else is seen.
+fn asks_one(alloc: Global, plan: Plan) -> Result<bool, AllocError> {
+    let mut world = World::new(alloc, plan, 1, 1000)?;
+    let asked = Stepped {
+        sent: 1,
+        seen: Seen::Nothing,
+    };
+    let stepped = world
+        .step(Step::Ask(0))
+        .is_ok_and(|stepped| stepped == asked);
+    Ok(stepped & (world.sent() == 1) & world.visible().is_empty())
+}
+
 #[test]
 fn steps_of_a_world(rt: HostRuntime) -> Result<(), Fail> {
-    let alloc = rt.alloc();
-    let Some(plan) = lone_plan(alloc) else {
-        assert!(rt; false, "no plan");
-        return Ok(());
+    let Some(plan) = lone_plan(rt.alloc()) else {
+        panic!(rt; "no plan")
     };
-    let mut world = World::new(alloc, plan, 1, 1000)?;
-    let Ok(asked) = world.step(Step::Ask(0)) else {
-        assert!(rt; false, "refused");
-        return Ok(());
-    };
-    assert!(rt;
-        asked
-            == Stepped {
-                sent: 1,
-                seen: Seen::Nothing
-            }
-    );
-    assert!(rt; world.sent() == 1 && world.visible().is_empty());
+    assert!(rt; asks_one(rt.alloc(), plan)?);
     Ok(())
 }

@@ -1,5 +1,5 @@
 use Rattle.std.proofs.Common.{◌≡◌}
 use Rattle.protocol_tests.proofs.requesters.plays_into.Given as goal
 
-abbrev pub invariant-loop-line : goal.invariant-loop-line
-invariant-loop-line l = l.client.id ≡ 0
+abbrev pub invariant-loop-step : goal.invariant-loop-step
+invariant-loop-step l = l.client.id ≡ 0
