@@ -2,6 +2,7 @@
 -- steps.
 use Rattle.std.specs.Prelude.{ℕ, ◌≡◌, ◌≢◌, ◌<◌, ◌≤◌, true, false, List, length, ◌⊎◌}
 use Rattle.std.specs.List.{AllByRecursion}
+use Rattle.numbers.specs.Bounds.{max_voters}
 use Rattle.numbers.specs.Sets.{IsSet}
 use Rattle.message.specs.declared.message.ToVoter.{ToVoter}
 use Rattle.message.specs.declared.message.VoterBody.{VoterBody}
@@ -19,7 +20,7 @@ use Rattle.requester.specs.Steps.{Outcome, Cause, Asks, Takes, Leaves, GivesUp}
 -- below 64
 abbrev pub Accepts : ClientState → Cause → Type 0
 Accepts x (Asks quorum) = IsSet quorum × (1 ≤ length quorum)
-Accepts x (Takes m) = (m.client ≡ x.id) × (m.voter < 64)
+Accepts x (Takes m) = (m.client ≡ x.id) × (m.voter < max_voters)
 Accepts x Leaves = Unit {0}
 Accepts x GivesUp = Unit {0}
 
@@ -137,9 +138,9 @@ IsReached cause y voter = (is_member y voter ≡ true) ⊎ ((stamp : ℕ) × IsL
 -- each of these messages goes to such a voter, which is below 64, and is in range
 abbrev pub AllInRange : Cause → ClientState → List ToVoter → Type 0
 AllInRange cause y out =
-    AllByRecursion (λ m. IsReached cause y m.voter × (m.voter < 64) × SaysInRange y.limit m.body) out
+    AllByRecursion (λ m. IsReached cause y m.voter × (m.voter < max_voters) × SaysInRange y.limit m.body) out
 
 -- each of these reminders goes to a member, which is below 64, and is in range
 abbrev pub RemindersInRange : ClientState → List ToVoter → Type 0
 RemindersInRange x out =
-    AllByRecursion (λ m. (is_member x m.voter ≡ true) × (m.voter < 64) × SaysInRange x.limit m.body) out
+    AllByRecursion (λ m. (is_member x m.voter ≡ true) × (m.voter < max_voters) × SaysInRange x.limit m.body) out

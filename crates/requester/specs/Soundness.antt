@@ -1,5 +1,6 @@
 -- What holds of every client.
 use Rattle.std.specs.Prelude.{ℕ, ◌≡◌, ◌<◌, ◌≤◌, ◌^◌, true, false, length}
+use Rattle.numbers.specs.Bounds.{max_clients, max_voters, max_stamp}
 use Rattle.numbers.specs.Sets.{IsSet}
 use Rattle.requester.specs.declared.state.ClientState.{ClientState}
 use Rattle.requester.specs.Words.{is_idle, is_inside, members, is_member, held_of, holds, is_covered, last_of, is_relinquished, is_inquired}
@@ -13,14 +14,14 @@ pub record IsHeldWell (x : ClientState) (voter : ℕ) : Type 0 where
 
 -- each of the two maps has an entry for each of 64 voters
 pub record HasPlaces (x : ClientState) : Type 0 where
-  pub held : length x.held ≡ 64
-  pub last : length x.last ≡ 64
+  pub held : length x.held ≡ max_voters
+  pub last : length x.last ≡ max_voters
 
 -- what holds of a client after any steps
 pub record IsSound (x : ClientState) : Type 0 where
-  pub id : x.id < 64
+  pub id : x.id < max_clients
   pub some : 1 ≤ x.limit
-  pub limit : x.limit ≤ 2 ^ 40
+  pub limit : x.limit ≤ max_stamp
   pub places : HasPlaces x
   -- a request has a stamp from 1 to the limit, and the clock is not behind it
   pub stamp : x.stamp ≤ x.limit

@@ -3,6 +3,7 @@
 -- or late).
 use Rattle.std.specs.Prelude.{ℕ, ◌≡◌, ◌+◌, ◌==◌, nat_lt, Bool, true, false, ◌&&◌, not, List, [], ◌∷◌, ◌++◌, map, filter, max, replicate, slice_set, Option, Some, None, Result, Ok, Err}
 use Rattle.std.specs.List.{flat_map}
+use Rattle.numbers.specs.Bounds.{max_voters}
 use Rattle.message.specs.declared.message.ToVoter.{ToVoter}
 use Rattle.message.specs.declared.message.ToClient.{ToClient}
 use Rattle.message.specs.declared.message.VoterBody.{VoterBody}
@@ -39,7 +40,7 @@ tell_members x body = map (λ v. tell x v body) (members x)
 -- no vote is held, and no voter is marked
 abbrev pub cleared : ClientState → ClientState
 cleared x = record x {
-  held = replicate 64 0;
+  held = replicate max_voters 0;
   failed = [];
   relinquished = [];
   inquired = [];
@@ -304,8 +305,8 @@ start id limit = record {
   phase = Idle;
   stamp = 0;
   quorum = record { items = [] };
-  held = replicate 64 0;
-  last = replicate 64 0;
+  held = replicate max_voters 0;
+  last = replicate max_voters 0;
   failed = [];
   relinquished = [];
   inquired = [];

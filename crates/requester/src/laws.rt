@@ -1,5 +1,6 @@
 //! Laws: what is proved about the definitions.
 ghost use Rattle.std.specs.Prelude.{◌≡◌, ◌<◌, ◌≤◌, ◌^◌, ℕ, Err, Ok, List, true, false};
+ghost use Rattle.numbers.specs.Bounds.{max_clients, max_stamp};
 ghost use Rattle.message.specs.declared.message.ToClient.{ToClient};
 ghost use Rattle.requester.specs.declared.state.ClientState.{ClientState};
 ghost use Rattle.requester.specs.Held.{HoldsBesides, HoldsNothing, IsKeptOrGiven};
@@ -29,7 +30,7 @@ pub fn requesters_meet_the_contract()
 /// - a client that is inside holds the vote of each member;
 /// - stamps are from 1 to the limit.
 pub fn requesters_stay_sound()
-    ensures first { (id limit : ℕ) → id < 64 → 1 ≤ limit → limit ≤ 2 ^ 40 → IsSound (start id limit) }
+    ensures first { (id limit : ℕ) → id < max_clients → 1 ≤ limit → limit ≤ max_stamp → IsSound (start id limit) }
     ensures steps { (x : ClientState) (cause : Cause) (o : Outcome) → IsSound x → Accepts x cause
         → step x cause ≡ Ok o → IsSound o.state }
 {}

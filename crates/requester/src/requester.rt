@@ -1,4 +1,5 @@
 ghost use Rattle.std.specs.Prelude.{◌≡◌, ◌<◌, ◌≤◌, ◌^◌, ℕ, List, [], IfErr, IfOk, Err, Ok, length};
+ghost use Rattle.numbers.specs.Bounds.{max_clients, max_voters, max_stamp};
 ghost use Rattle.requester.specs.Soundness.{IsSound};
 ghost use Rattle.requester.specs.Words.{grant_of, is_spent};
 ghost use Rattle.requester.specs.Steps.{Foretells, ask, give_up, leave, remind, start, take, would_hold};
@@ -7,6 +8,7 @@ use crate::fault::ClientFault;
 use crate::state::{ClientState, Messages, Phase, Reminders, Reply, Seen};
 use arrayvec::ArrayVec;
 use message::ToClient;
+use numbers::MAX_VOTERS;
 use quorum_set::QSet;
 use std::marker::Model;
 
@@ -36,9 +38,9 @@ impl Requester {
     /// Returns a new client with this number, 0 to 63. Its stamps go from 1 to the limit, which is
     /// 1 to 2^40.
     pub fn new(id: u8, limit: u64) -> Self
-        requires id { id < 64 }
+        requires id { id < max_clients }
         requires least { 1 ≤ limit }
-        requires most { limit ≤ 2 ^ 40 }
+        requires most { limit ≤ max_stamp }
         ensures { result ≡ start id limit }
     {
         Requester {
@@ -49,8 +51,8 @@ impl Requester {
                 phase: Phase::Idle,
                 stamp: 0,
                 quorum: ArrayVec::new(),
-                held: [0; 64],
-                last: [0; 64],
+                held: [0; MAX_VOTERS],
+                last: [0; MAX_VOTERS],
                 failed: QSet::empty(),
                 relinquished: QSet::empty(),
                 inquired: QSet::empty(),
@@ -167,7 +169,7 @@ impl Requester {
     /// whether the client entered.
     pub fn take(&mut self, message: &ToClient) -> Reply
         requires client { message.now.client ≡ self.old.id }
-        requires voter { message.now.voter < 64 }
+        requires voter { message.now.voter < max_voters }
         ensures taken { take self.old message.now
             ≡ record { out = result.out.items; seen = result.seen; state = self.new } }
         ensures id { self.new.id ≡ self.old.id }
@@ -181,7 +183,7 @@ impl Requester {
     /// Does what [`Requester::take`] does, with the messages in `out` in place of what was there.
     pub fn take_into(&mut self, message: &ToClient, out: &mut Messages) -> Seen
         requires client { message.now.client ≡ self.old.id }
-        requires voter { message.now.voter < 64 }
+        requires voter { message.now.voter < max_voters }
         ensures taken { take self.old message.now ≡ record { out = out.new.items; seen = result; state = self.new } }
         ensures id { self.new.id ≡ self.old.id }
         ensures limit { self.new.limit ≡ self.old.limit }

@@ -1,6 +1,7 @@
 //! What a client knows, and its steps.
 ghost use Rattle.std.specs.Prelude.{◌≡◌, ◌<◌, ◌≤◌, ◌+◌, ◌^◌, ◌++◌, [], ℕ, List, eqb, Err, IfErr, IfNone, IfOk, Ok};
 ghost use Rattle.std.specs.List.{AllByRecursion, IsDistinct};
+ghost use Rattle.numbers.specs.Bounds.{max_voters};
 ghost use Rattle.arrayvec.specs.ArrayVec.{array_vec_len};
 ghost use Rattle.numbers.specs.Sets.{IsSet};
 ghost use Rattle.requester.specs.Words.{held_of, holds, holds_under, is_covered, is_current, is_hindered, is_member, last_of};
@@ -9,6 +10,7 @@ ghost use Rattle.requester.specs.Steps.{Foretells, ask, cleared, failed, give_up
 use crate::fault::ClientFault;
 use arrayvec::ArrayVec;
 use message::{ClientBody, ToClient, ToVoter, VoterBody};
+use numbers::MAX_VOTERS;
 use quorum_set::QSet;
 
 /// What a client is doing.
@@ -34,10 +36,10 @@ pub enum Seen {
 }
 
 /// The voters of a quorum, in ascending order.
-pub type Members = ArrayVec<u8, 64>;
+pub type Members = ArrayVec<u8, MAX_VOTERS>;
 
 /// The messages of a step.
-pub type Messages = ArrayVec<ToVoter, 64>;
+pub type Messages = ArrayVec<ToVoter, MAX_VOTERS>;
 
 /// The messages of a reminder.
 pub type Reminders = ArrayVec<ToVoter, 128>;
@@ -67,9 +69,9 @@ pub struct ClientState {
     /// The quorum of the current or last request, empty at first.
     pub quorum: Members,
     /// The grant under which the voter's vote is held, 0 if it is not.
-    pub held: [u64; 64],
+    pub held: [u64; MAX_VOTERS],
     /// The last grant that was given back to the voter, over all requests, 0 at first.
-    pub last: [u64; 64],
+    pub last: [u64; MAX_VOTERS],
     /// The voters that sent FAIL for the current request.
     pub failed: QSet,
     /// The voters whose votes were given back for the current request.
@@ -90,7 +92,7 @@ impl ClientState {
     }
 
     fn tell_members(&self, body: VoterBody, out: &mut Messages)
-        requires few { array_vec_len self.now.quorum ≤ 64 }
+        requires few { array_vec_len self.now.quorum ≤ max_voters }
         requires room { out.old.items ≡ [] }
         ensures { out.new.items ≡ tell_members self.now body }
     {
@@ -175,7 +177,7 @@ impl ClientState {
     fn clear(&mut self)
         ensures { self.new ≡ cleared self.old }
     {
-        self.held = [0; 64];
+        self.held = [0; MAX_VOTERS];
         self.failed = QSet::empty();
         self.relinquished = QSet::empty();
         self.inquired = QSet::empty();
@@ -220,8 +222,8 @@ impl ClientState {
     /// Gives back a vote, if it is held.
     #[tactic(auto, unfolding(crate::specs::Steps::relinquish))]
     fn relinquish(&mut self, voter: u8, out: &mut Messages)
-        requires voter { voter < 64 }
-        requires room { array_vec_len out.old < 64 }
+        requires voter { voter < max_voters }
+        requires room { array_vec_len out.old < max_voters }
         ensures state { self.new ≡ (relinquish self.old voter).state }
         ensures out { out.new.items ≡ out.old.items ++ (relinquish self.old voter).out }
         ensures len { array_vec_len out.new ≤ array_vec_len out.old + 1 }
@@ -239,8 +241,8 @@ impl ClientState {
 
     /// Gives back a vote, if its voter is marked as inquired.
     fn relinquish_marked(&mut self, voter: u8, out: &mut Messages)
-        requires voter { voter < 64 }
-        requires room { array_vec_len out.old < 64 }
+        requires voter { voter < max_voters }
+        requires room { array_vec_len out.old < max_voters }
         ensures state { self.new ≡ (relinquish_marked self.old voter).state }
         ensures out { out.new.items ≡ out.old.items ++ (relinquish_marked self.old voter).out }
         ensures len { array_vec_len out.new ≤ array_vec_len out.old + 1 }
@@ -252,10 +254,10 @@ impl ClientState {
 
     /// Gives back the vote of each member that is marked as inquired.
     fn relinquish_inquired(&mut self, out: &mut Messages)
-        requires voters { AllByRecursion (λ v. v < 64) self.old.quorum.items }
+        requires voters { AllByRecursion (λ v. v < max_voters) self.old.quorum.items }
         requires apart { IsDistinct eqb self.old.quorum.items }
         requires room { out.old.items ≡ [] }
-        requires few { array_vec_len self.old.quorum ≤ 64 }
+        requires few { array_vec_len self.old.quorum ≤ max_voters }
         ensures state { self.new ≡ (relinquish_inquired self.old self.old.quorum.items).state }
         ensures out { out.new.items ≡ (relinquish_inquired self.old self.old.quorum.items).out }
     {
@@ -266,7 +268,7 @@ impl ClientState {
     }
 
     fn hold(&mut self, voter: u8, grant: u64)
-        requires { voter < 64 }
+        requires { voter < max_voters }
         ensures { self.new ≡ hold self.old voter grant }
     {
         self.held[voter as usize] = grant;
@@ -277,7 +279,7 @@ impl ClientState {
 
     #[tactic(auto, unfolding(crate::specs::Steps::locked))]
     fn locked(&mut self, voter: u8, stamp: u64, grant: u64, out: &mut Messages) -> Seen
-        requires voter { voter < 64 }
+        requires voter { voter < max_voters }
         requires room { out.old.items ≡ [] }
         ensures state { self.new ≡ (locked self.old voter stamp grant).state }
         ensures out { out.new.items ≡ (locked self.old voter stamp grant).out }
@@ -299,11 +301,11 @@ impl ClientState {
 
     #[tactic(auto, unfolding(crate::specs::Steps::failed))]
     fn failed(&mut self, voter: u8, stamp: u64, out: &mut Messages)
-        requires voter { voter < 64 }
-        requires voters { AllByRecursion (λ v. v < 64) self.old.quorum.items }
+        requires voter { voter < max_voters }
+        requires voters { AllByRecursion (λ v. v < max_voters) self.old.quorum.items }
         requires apart { IsDistinct eqb self.old.quorum.items }
         requires room { out.old.items ≡ [] }
-        requires few { array_vec_len self.old.quorum ≤ 64 }
+        requires few { array_vec_len self.old.quorum ≤ max_voters }
         ensures state { self.new ≡ (failed self.old voter stamp).state }
         ensures out { out.new.items ≡ (failed self.old voter stamp).out }
     {
@@ -319,7 +321,7 @@ impl ClientState {
 
     #[tactic(auto, unfolding(crate::specs::Steps::inquired))]
     fn inquired(&mut self, voter: u8, grant: u64, out: &mut Messages)
-        requires voter { voter < 64 }
+        requires voter { voter < max_voters }
         requires room { out.old.items ≡ [] }
         ensures state { self.new ≡ (inquired self.old voter grant).state }
         ensures out { out.new.items ≡ (inquired self.old voter grant).out }
@@ -334,11 +336,11 @@ impl ClientState {
     }
 
     fn take_body(&mut self, voter: u8, body: ClientBody, out: &mut Messages) -> Seen
-        requires voter { voter < 64 }
-        requires voters { AllByRecursion (λ v. v < 64) self.old.quorum.items }
+        requires voter { voter < max_voters }
+        requires voters { AllByRecursion (λ v. v < max_voters) self.old.quorum.items }
         requires apart { IsDistinct eqb self.old.quorum.items }
         requires room { out.old.items ≡ [] }
-        requires few { array_vec_len self.old.quorum ≤ 64 }
+        requires few { array_vec_len self.old.quorum ≤ max_voters }
         ensures state { self.new ≡ (take_body self.old voter body).state }
         ensures out { out.new.items ≡ (take_body self.old voter body).out }
         ensures seen { result ≡ (take_body self.old voter body).seen }
@@ -359,11 +361,11 @@ impl ClientState {
     /// Takes a message.
     #[tactic(auto, unfolding(crate::specs::Steps::take))]
     pub fn take(&mut self, message: &ToClient, out: &mut Messages) -> Seen
-        requires voter { message.now.voter < 64 }
-        requires voters { AllByRecursion (λ v. v < 64) self.old.quorum.items }
+        requires voter { message.now.voter < max_voters }
+        requires voters { AllByRecursion (λ v. v < max_voters) self.old.quorum.items }
         requires apart { IsDistinct eqb self.old.quorum.items }
         requires room { out.old.items ≡ [] }
-        requires few { array_vec_len self.old.quorum ≤ 64 }
+        requires few { array_vec_len self.old.quorum ≤ max_voters }
         ensures { take self.old message.now ≡ record { out = out.new.items; seen = result; state = self.new } }
     {
         self.clock = self.clock.max(message.seen);
@@ -385,7 +387,7 @@ impl ClientState {
 
     /// Ends the request: sends RELEASE to each member.
     fn release(&mut self, out: &mut Messages)
-        requires few { array_vec_len self.old.quorum ≤ 64 }
+        requires few { array_vec_len self.old.quorum ≤ max_voters }
         requires room { out.old.items ≡ [] }
         ensures state { self.new ≡ record (cleared self.old) { phase = Phase.Idle } }
         ensures out { out.new.items ≡ tell_members self.old (VoterBody.Release self.old.stamp) }
@@ -409,7 +411,7 @@ impl ClientState {
     /// Leaves, if the client is inside.
     #[tactic(auto, unfolding(crate::specs::Steps::leave))]
     pub fn leave(&mut self, out: &mut Messages) -> Result<Seen, ClientFault>
-        requires few { array_vec_len self.old.quorum ≤ 64 }
+        requires few { array_vec_len self.old.quorum ≤ max_voters }
         requires room { out.old.items ≡ [] }
         ensures left { IfOk result (λ seen. leave self.old
             ≡ Ok (record { out = out.new.items; seen = seen; state = self.new })) }
@@ -437,7 +439,7 @@ impl ClientState {
     /// Gives up the request, if the client is asking.
     #[tactic(auto, unfolding(crate::specs::Steps::give_up))]
     pub fn give_up(&mut self, out: &mut Messages) -> Result<Seen, ClientFault>
-        requires few { array_vec_len self.old.quorum ≤ 64 }
+        requires few { array_vec_len self.old.quorum ≤ max_voters }
         requires room { out.old.items ≡ [] }
         ensures given_up { IfOk result (λ seen. give_up self.old
             ≡ Ok (record { out = out.new.items; seen = seen; state = self.new })) }
@@ -452,7 +454,7 @@ impl ClientState {
     }
 
     fn remind_member(&self, voter: u8, out: &mut Reminders)
-        requires voter { voter < 64 }
+        requires voter { voter < max_voters }
         requires room { array_vec_len out.old + 2 ≤ 128 }
         ensures out { out.new.items ≡ out.old.items ++ remind_member self.now voter }
         ensures len { array_vec_len out.new ≤ array_vec_len out.old + 2 }
@@ -470,8 +472,8 @@ impl ClientState {
     /// Returns what to send to the members again while asking.
     #[tactic(auto, unfolding(crate::specs::Steps::remind))]
     pub fn remind(&self) -> Reminders
-        requires voters { AllByRecursion (λ v. v < 64) self.now.quorum.items }
-        requires few { array_vec_len self.now.quorum ≤ 64 }
+        requires voters { AllByRecursion (λ v. v < max_voters) self.now.quorum.items }
+        requires few { array_vec_len self.now.quorum ≤ max_voters }
         ensures { result.items ≡ remind self.now }
     {
         let mut out = ArrayVec::new();
