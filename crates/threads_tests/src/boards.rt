@@ -1,13 +1,15 @@
 //! Votes and the register, on one thread and on two.
-ghost use Rattle.std.specs.Prelude.{◌≡◌, ◌≢◌, ◌<◌, ◌∷◌, [], length, Some, IsSome, IfOk, MatchResult, slice_index};
+ghost use Rattle.std.specs.Prelude.{◌≡◌, ◌≢◌, ◌<◌, ◌≤◌, ◌^◌, ◌∷◌, [], length, Some, None, IsSome, IfOk, IfSome, MatchBool, MatchResult, slice_index};
 ghost use Rattle.board.specs.Quorums.{quorum_at, HoldsAll};
-ghost use Rattle.board.specs.Seats.{BoardState, ClientSeatState, VoterSeatState};
+ghost use Rattle.board.specs.Seats.{BoardState, ClientSeatState, RootState, VoterSeatState};
+ghost use Rattle.board.specs.Words.{nobody};
 
-use board::{Board, BoardFault, ClientSeat, VoterSeat};
+use board::{Board, BoardFault, BoardRoot, ClientSeat, Total, VoterSeat};
 use quorum_set::{Coterie, QSet};
 use std::alloc::Global;
 use std::test::Fail;
 use std::thread;
+use std::thread::Threads;
 
 /// Returns the set of voter 0 alone.
 fn zero() -> QSet
@@ -26,141 +28,288 @@ fn one(alloc: Global) -> Result<Coterie, Fail>
     Ok(Coterie::of(1, sets)?)
 }
 
+/// Returns a board of one voter, for this many clients and with this limit, and its root.
+fn board_of(alloc: Global, clients: u8, limit: u64) -> Result<(Board, BoardRoot), Fail>
+    requires clients { (1 ≤ clients) × (clients ≤ 64) }
+    requires limit { (1 ≤ limit) × (limit ≤ 100) }
+    ensures board { IfOk result (λ p. (p.0.voters ≡ 1) × (p.0.quorums ≡ (0 ∷ []) ∷ []) × (p.0.clients ≡ clients)) }
+    ensures root { IfOk result (λ p. p.1.table ≡ p.0.table) }
+{
+    Ok(Board::new(alloc, &one(alloc)?, clients, limit)?)
+}
+
+/// Returns the seat of voter 0, if the root has it.
+fn voter_of(root: &mut BoardRoot, board: &Board) -> Option<VoterSeat>
+    requires table { root.old.table ≡ board.now.table }
+    ensures table { root.new.table ≡ root.old.table }
+    ensures seat { IfSome result (λ s. s ≡ record { table = board.now.table; voter = 0; current = None; last = 0 }) }
+{
+    if !root.has_voter(0) {
+        return None;
+    }
+    Some(root.voter(board, 0))
+}
+
+/// Returns the seat of a client, if the root has it.
+fn client_of(root: &mut BoardRoot, board: &Board, client: u8) -> Option<ClientSeat>
+    requires table { root.old.table ≡ board.now.table }
+    ensures table { root.new.table ≡ root.old.table }
+    ensures seat { IfSome result (λ s. s ≡ record { table = board.now.table; client = client; held = nobody; reading = None; passes = [] }) }
+{
+    if !root.has_client(client) {
+        return None;
+    }
+    Some(root.client(board, client))
+}
+
+/// A board of one voter, its root, and the seats of the voter and of client 0.
+pub(crate) type Seated = (Board, BoardRoot, VoterSeat, ClientSeat);
+
+/// Returns such a board, for this many clients and with this limit.
+pub(crate) fn seated(alloc: Global, clients: u8, limit: u64) -> Result<Option<Seated>, Fail>
+    requires clients { (1 ≤ clients) × (clients ≤ 64) }
+    requires limit { (1 ≤ limit) × (limit ≤ 100) }
+    ensures board { IfOk result (λ r. IfSome r (λ p. (p.0.voters ≡ 1) × (p.0.quorums ≡ (0 ∷ []) ∷ []) × (p.0.clients ≡ clients))) }
+    ensures root { IfOk result (λ r. IfSome r (λ p. p.1.table ≡ p.0.table)) }
+    ensures voter { IfOk result (λ r. IfSome r (λ p. p.2 ≡ record { table = p.0.table; voter = 0; current = None; last = 0 })) }
+    ensures client { IfOk result (λ r. IfSome r (λ p. p.3 ≡ record { table = p.0.table; client = 0; held = nobody; reading = None; passes = [] })) }
+{
+    let (board, mut root) = board_of(alloc, clients, limit)?;
+    match (voter_of(&mut root, &board), client_of(&mut root, &board, 0)) {
+        (Some(voter), Some(client)) => Ok(Some((board, root, voter, client))),
+        _ => Ok(None),
+    }
+}
+
+/// Offers the vote to client 0, which takes it. Returns whether it did.
+fn enters(board: &Board, voter: &mut VoterSeat, client: &mut ClientSeat) -> bool
+    requires sizes { (board.now.voters ≡ 1) × (1 ≤ board.now.clients) }
+    requires voter { voter.old ≡ record { table = board.now.table; voter = 0; current = None; last = 0 } }
+    requires client { client.old ≡ record { table = board.now.table; client = 0; held = nobody; reading = None; passes = [] } }
+    ensures voter { voter.new ≡ record { table = board.now.table; voter = 0; current = Some (0, 1); last = 1 } }
+    ensures table { client.new.table ≡ board.now.table }
+    ensures held { MatchBool result (slice_index client.new.held 0 ≡ 1) (slice_index client.new.held 0 ≡ 0) }
+{
+    voter.grant(board, 0, 1);
+    client.take(board, 0, 1)
+}
+
+/// Returns such a board whose client 0 is inside: it took the vote under grant 1.
+fn inside(alloc: Global, clients: u8, limit: u64) -> Result<Option<Seated>, Fail>
+    requires clients { (1 ≤ clients) × (clients ≤ 64) }
+    requires limit { (1 ≤ limit) × (limit ≤ 100) }
+    ensures board { IfOk result (λ r. IfSome r (λ p. (p.0.voters ≡ 1) × (p.0.quorums ≡ (0 ∷ []) ∷ []) × (p.0.clients ≡ clients))) }
+    ensures root { IfOk result (λ r. IfSome r (λ p. p.1.table ≡ p.0.table)) }
+    ensures voter { IfOk result (λ r. IfSome r (λ p. p.2 ≡ record { table = p.0.table; voter = 0; current = Some (0, 1); last = 1 })) }
+    ensures client { IfOk result (λ r. IfSome r (λ p. (p.3.table ≡ p.0.table) × (slice_index p.3.held 0 ≡ 1))) }
+{
+    let Some((board, root, mut voter, mut client)) = seated(alloc, clients, limit)? else {
+        return Ok(None);
+    };
+    if !enters(&board, &mut voter, &mut client) {
+        return Ok(None);
+    }
+    Ok(Some((board, root, voter, client)))
+}
+
+/// Returns whether client 0 can take the vote once it is offered, and not before, and keeps it.
+fn takes_what_is_offered(board: &Board, voter: &mut VoterSeat, client: &mut ClientSeat) -> bool
+    requires sizes { (board.now.voters ≡ 1) × (1 ≤ board.now.clients) }
+    requires voter { voter.old ≡ record { table = board.now.table; voter = 0; current = None; last = 0 } }
+    requires client { client.old ≡ record { table = board.now.table; client = 0; held = nobody; reading = None; passes = [] } }
+{
+    if client.take(board, 0, 1) {
+        return false;
+    }
+    let free = client.held(0).is_none();
+    let took = enters(board, voter, client);
+    let held = (client.held(0) == Some(1)) & client.held(64).is_none();
+    free & took & held & !voter.settle(board) & (voter.current() == Some((0, 1)))
+}
+
 #[test]
 fn vote_is_taken_once_it_is_offered(rt: HostRuntime) -> Result<(), Fail> {
-    let (board, mut root) = Board::new(rt.alloc(), &one(rt.alloc())?, 1, 1)?;
-    let mut voter = root.voter(&board, 0);
-    let mut client = root.client(&board, 0);
-    assert!(rt; !client.take(&board, 0, 1) && client.held(0).is_none());
-    voter.grant(&board, 0, 1);
-    let took = client.take(&board, 0, 1);
-    assert!(rt; took && client.held(0) == Some(1) && client.held(64).is_none());
-    assert!(rt; !voter.settle(&board) && voter.current() == Some((0, 1)));
+    let took = match seated(rt.alloc(), 1, 1)? {
+        Some((board, _root, mut voter, mut client)) => {
+            takes_what_is_offered(&board, &mut voter, &mut client)
+        }
+        None => false,
+    };
+    assert!(rt; took);
     Ok(())
+}
+
+/// Returns whether client 0 can't take a vote that is offered to client 1, and the offer ends.
+fn settles_an_offer(board: &Board, voter: &mut VoterSeat, client: &mut ClientSeat) -> bool
+    requires sizes { (board.now.voters ≡ 1) × (2 ≤ board.now.clients) }
+    requires voter { voter.old ≡ record { table = board.now.table; voter = 0; current = None; last = 0 } }
+    requires client { client.old ≡ record { table = board.now.table; client = 0; held = nobody; reading = None; passes = [] } }
+{
+    voter.grant(board, 1, 5);
+    let took = client.take(board, 0, 5);
+    !took & voter.settle(board) & voter.current().is_none()
 }
 
 #[test]
 fn offered_vote_is_settled(rt: HostRuntime) -> Result<(), Fail> {
-    let (board, mut root) = Board::new(rt.alloc(), &one(rt.alloc())?, 2, 9)?;
-    let mut voter = root.voter(&board, 0);
-    let mut client = root.client(&board, 1);
-    voter.grant(&board, 0, 5);
-    let other = client.take(&board, 0, 5);
-    assert!(rt; !other && voter.settle(&board) && voter.current().is_none());
+    let settled = match seated(rt.alloc(), 2, 9)? {
+        Some((board, _root, mut voter, mut client)) => {
+            settles_an_offer(&board, &mut voter, &mut client)
+        }
+        None => false,
+    };
+    assert!(rt; settled);
     Ok(())
+}
+
+/// Returns whether the root gives the seats of voter 0 and of client 0 once, and no other.
+fn gives_once(board: &Board, root: &mut BoardRoot) -> bool
+    requires table { root.old.table ≡ board.now.table }
+{
+    let others = root.has_voter(1) | root.has_client(1) | root.has_client(64);
+    let voter = match voter_of(root, board) {
+        Some(seat) => seat.voter() == 0,
+        None => false,
+    };
+    let client = match client_of(root, board, 0) {
+        Some(seat) => seat.client() == 0,
+        None => false,
+    };
+    let again = root.has_voter(0) | root.has_client(0);
+    voter & client & !others & !again
 }
 
 #[test]
 fn seats_are_given_once(rt: HostRuntime) -> Result<(), Fail> {
-    let (board, mut root) = Board::new(rt.alloc(), &one(rt.alloc())?, 1, 1)?;
-    assert!(rt;
-        root.has_voter(0) && !root.has_voter(1) && root.has_client(0) && !root.has_client(1)
-    );
-    let client = root.client(&board, 0);
-    let voter = root.voter(&board, 0);
-    assert!(rt; client.client() == 0 && voter.voter() == 0);
-    assert!(rt; !root.has_voter(0) && !root.has_client(0) && !root.has_client(64));
+    let (board, mut root) = board_of(rt.alloc(), 1, 1)?;
+    assert!(rt; gives_once(&board, &mut root));
     Ok(())
+}
+
+/// Closes a board after client 0 has joined, and returns the fault.
+fn closed_without_voter(board: Board, mut root: BoardRoot, client: ClientSeat) -> Option<BoardFault>
+    requires root { root.table ≡ board.table }
+    requires client { client.table ≡ board.table }
+{
+    let joined = root.join_client(&board, client).is_ok();
+    if !joined | root.has_client(0) {
+        return None;
+    }
+    board.close(root).err()
 }
 
 #[test]
 fn seat_that_is_out_is_told(rt: HostRuntime) -> Result<(), Fail> {
-    let (board, mut root) = Board::new(rt.alloc(), &one(rt.alloc())?, 1, 1)?;
-    let client = root.client(&board, 0);
-    let _voter = root.voter(&board, 0);
-    assert!(rt; root.join_client(&board, client).is_ok() && !root.has_client(0));
-    let Err(fault) = board.close(root) else {
-        panic!(rt; "closed")
+    let fault = match seated(rt.alloc(), 1, 1)? {
+        Some((board, root, _voter, client)) => closed_without_voter(board, root, client),
+        None => None,
     };
-    assert_eq!(rt; fault.to_string(rt.alloc())?.as_str(), "B1 SeatsOut 1");
+    assert!(rt; fault == Some(BoardFault::SeatsOut(1)));
     Ok(())
 }
 
 #[test]
 fn seats_that_are_lost_are_told(rt: HostRuntime) -> Result<(), Fail> {
-    let (board, mut root) = Board::new(rt.alloc(), &one(rt.alloc())?, 1, 1)?;
-    drop(root.voter(&board, 0));
-    drop(root.client(&board, 0));
-    let Err(fault) = board.close(root) else {
-        panic!(rt; "closed")
+    let fault = match seated(rt.alloc(), 1, 1)? {
+        Some((board, root, voter, client)) => {
+            drop(voter);
+            drop(client);
+            board.close(root).err()
+        }
+        None => None,
     };
-    assert_eq!(rt; fault.to_string(rt.alloc())?.as_str(), "B1 SeatsOut 2");
+    assert!(rt; fault == Some(BoardFault::SeatsOut(2)));
     Ok(())
+}
+
+/// Returns whether the seats of a client that holds the vote, and of its voter, can't join.
+fn stay_out(board: &Board, root: &mut BoardRoot, voter: VoterSeat, client: ClientSeat) -> bool
+    requires root { root.old.table ≡ board.now.table }
+    requires voter { voter.table ≡ board.now.table }
+    requires client { client.table ≡ board.now.table }
+{
+    let client_out = match root.join_client(board, client) {
+        Ok(()) => false,
+        Err((_client, fault)) => fault == BoardFault::VoteOut(0),
+    };
+    let voter_out = match root.join_voter(board, voter) {
+        Ok(()) => false,
+        Err((voter, fault)) => {
+            (fault == BoardFault::VoteOut(0)) & (voter.current() == Some((0, 1)))
+        }
+    };
+    client_out & voter_out
 }
 
 #[test]
 fn vote_that_is_held_keeps_the_seat_out(rt: HostRuntime) -> Result<(), Fail> {
-    let (board, mut root) = Board::new(rt.alloc(), &one(rt.alloc())?, 1, 1)?;
-    let mut voter = root.voter(&board, 0);
-    let mut client = root.client(&board, 0);
-    voter.grant(&board, 0, 1);
-    let took = client.take(&board, 0, 1);
-    let Err((_client, fault)) = root.join_client(&board, client) else {
-        panic!(rt; "joined")
+    let out = match inside(rt.alloc(), 1, 1)? {
+        Some((board, mut root, voter, client)) => stay_out(&board, &mut root, voter, client),
+        None => false,
     };
-    assert_eq!(rt; fault.to_string(rt.alloc())?.as_str(), "B2 VoteOut 0");
-    let Err((voter, fault)) = root.join_voter(&board, voter) else {
-        panic!(rt; "joined")
-    };
-    assert!(rt; took && fault == BoardFault::VoteOut(0) && voter.current() == Some((0, 1)));
+    assert!(rt; out);
     Ok(())
+}
+
+/// What a client that is inside does with the register: the number that it reads, what it is then
+/// reading, and the number that it writes or the fault.
+type Pass = (u64, Option<(usize, u64)>, Result<u64, BoardFault>);
+
+/// Has the client, which is inside by quorum 0, pass once.
+fn pass(board: &Board, client: &mut ClientSeat) -> Pass
+    requires table { client.old.table ≡ board.now.table }
+    requires quorums { board.now.quorums ≡ (0 ∷ []) ∷ [] }
+    requires held { slice_index client.old.held 0 ≡ 1 }
+    ensures table { client.new.table ≡ client.old.table }
+    ensures held { client.new.held ≡ client.old.held }
+{
+    let number = client.read_register(board, 0);
+    let reading = client.reading();
+    (number, reading, client.write_register(board))
+}
+
+/// Returns whether the client can pass once, up to the limit 1, and not again.
+fn passes_once(board: &Board, client: &mut ClientSeat) -> bool
+    requires table { client.old.table ≡ board.now.table }
+    requires quorums { board.now.quorums ≡ (0 ∷ []) ∷ [] }
+    requires held { slice_index client.old.held 0 ≡ 1 }
+{
+    let first = pass(board, client);
+    let passed = (client.passes() == [0].as_slice()) & client.reading().is_none();
+    let second = pass(board, client);
+    (first == (0, Some((0, 0)), Ok(0)))
+        & passed
+        & (second == (1, Some((0, 1)), Err(BoardFault::RegisterFull)))
+        & (client.reading() == Some((0, 1)))
 }
 
 #[test]
 fn client_inside_passes_up_to_the_limit(rt: HostRuntime) -> Result<(), Fail> {
-    let (board, mut root) = Board::new(rt.alloc(), &one(rt.alloc())?, 1, 1)?;
-    let mut voter = root.voter(&board, 0);
-    let mut client = root.client(&board, 0);
-    voter.grant(&board, 0, 1);
-    if !client.take(&board, 0, 1) {
-        panic!(rt; "the vote was not taken");
-    }
-    assert!(rt; client.read_register(&board, 0) == 0 && client.reading() == Some((0, 0)));
-    let passed = client.write_register(&board);
-    assert!(rt; passed == Ok(0) && client.passes() == [0].as_slice() && client.reading().is_none());
-    let again = client.read_register(&board, 0);
-    let Err(fault) = client.write_register(&board) else {
-        panic!(rt; "passed")
+    let once = match inside(rt.alloc(), 1, 1)? {
+        Some((board, _root, _voter, mut client)) => passes_once(&board, &mut client),
+        None => false,
     };
-    assert!(rt; again == 1 && client.reading() == Some((0, 1)));
-    assert_eq!(rt; fault.to_string(rt.alloc())?.as_str(), "B3 RegisterFull");
+    assert!(rt; once);
     Ok(())
 }
 
 #[test]
-fn passes_come_back(rt: HostRuntime) -> Result<(), Fail> {
-    let (board, mut root) = Board::new(rt.alloc(), &one(rt.alloc())?, 1, 1)?;
-    let mut voter = root.voter(&board, 0);
-    let mut client = root.client(&board, 0);
-    voter.grant(&board, 0, 1);
-    if !client.take(&board, 0, 1) {
-        panic!(rt; "the vote was not taken");
-    }
-    let _number = client.read_register(&board, 0);
-    let passed = client.write_register(&board);
-    client.give_back(&board, 0);
-    assert!(rt; passed.is_ok() && voter.settle(&board));
-    let voter_back = root.join_voter(&board, voter).is_ok();
-    let client_back = root.join_client(&board, client).is_ok();
-    assert!(rt; voter_back && client_back);
-    let Ok(total) = board.close(root) else {
-        panic!(rt; "not closed")
-    };
-    assert!(rt; total.register == 1 && total.passes.as_slice() == [(0, 0)].as_slice());
+fn faults_are_written(rt: HostRuntime) -> Result<(), Fail> {
+    let (seats, vote) = (BoardFault::SeatsOut(1), BoardFault::VoteOut(0));
+    let (full, memory) = (BoardFault::RegisterFull, BoardFault::OutOfMemory);
+    let text = format!(in rt.alloc(); "{seats}, {vote}, {full}, {memory}")?;
+    assert!(rt; text.as_str() == "B1 SeatsOut 1, B2 VoteOut 0, B3 RegisterFull, O1 OutOfMemory");
     Ok(())
 }
 
 /// Has the client, which is inside by quorum 0, pass and give back the vote of voter 0.
 fn pass_once(board: &Board, mut client: ClientSeat) -> ClientSeat
     requires table { client.table ≡ board.now.table }
-    requires voter { 0 < board.now.voters }
-    requires quorum { 0 < length board.now.quorums }
-    requires inside { HoldsAll (quorum_at board.now.quorums 0) client.held }
-    requires held { slice_index client.held 0 ≢ 0 }
+    requires quorums { board.now.quorums ≡ (0 ∷ []) ∷ [] }
+    requires held { slice_index client.held 0 ≡ 1 }
     ensures { result.table ≡ client.table }
 {
-    let _number = client.read_register(board, 0);
-    let _passed = client.write_register(board);
+    let _ = pass(board, &mut client);
     client.give_back(board, 0);
     client
 }
@@ -182,33 +331,83 @@ fn offer_next(board: &Board, mut voter: VoterSeat) -> Result<VoterSeat, VoterSea
     Err(voter)
 }
 
-#[test]
-fn two_threads_pass_a_vote_on(rt: HostRuntime) -> Result<(), Fail> {
-    let (board, mut root) = Board::new(rt.alloc(), &one(rt.alloc())?, 2, 9)?;
-    let mut voter = root.voter(&board, 0);
-    let mut first = root.client(&board, 0);
-    let mut second = root.client(&board, 1);
-    voter.grant(&board, 0, 1);
-    if !first.take(&board, 0, 1) {
-        panic!(rt; "the vote was not taken");
+/// Has a client pass and everything come back, and returns what the board closes with.
+fn come_back(
+    board: Board,
+    mut root: BoardRoot,
+    mut voter: VoterSeat,
+    client: ClientSeat,
+) -> Option<Total>
+    requires root { root.table ≡ board.table }
+    requires voter { (voter.table ≡ board.table) × IsSome voter.current }
+    requires quorums { board.quorums ≡ (0 ∷ []) ∷ [] }
+    requires client { (client.table ≡ board.table) × (slice_index client.held 0 ≡ 1) }
+{
+    let client = pass_once(&board, client);
+    let settled = voter.settle(&board);
+    let voter_back = root.join_voter(&board, voter).is_ok();
+    let client_back = root.join_client(&board, client).is_ok();
+    if !(settled & voter_back & client_back) {
+        return None;
     }
-    let shared = &board;
+    board.close(root).ok()
+}
+
+#[test]
+fn passes_come_back(rt: HostRuntime) -> Result<(), Fail> {
+    let total = match inside(rt.alloc(), 1, 1)? {
+        Some((board, root, voter, client)) => come_back(board, root, voter, client),
+        None => None,
+    };
+    let one = match total {
+        Some(total) => { (total.register == 1) & (total.passes.as_slice() == [(0, 0)].as_slice()) }
+        None => false,
+    };
+    assert!(rt; one);
+    Ok(())
+}
+
+/// Has client 0 pass and the voter offer the vote to client 1, in two threads. Returns whether
+/// client 1 can then take it.
+fn pass_on<R: Threads>(
+    rt: &R,
+    board: &Board,
+    voter: VoterSeat,
+    first: ClientSeat,
+    mut second: ClientSeat,
+) -> bool
+    requires sizes { (board.now.voters ≡ 1) × (1 < board.now.clients) × (board.now.quorums ≡ (0 ∷ []) ∷ []) }
+    requires voter { voter ≡ record { table = board.now.table; voter = 0; current = Some (0, 1); last = 1 } }
+    requires first { (first.table ≡ board.now.table) × (slice_index first.held 0 ≡ 1) }
+    requires second { second ≡ record { table = board.now.table; client = 1; held = nobody; reading = None; passes = [] } }
+{
     let (first, offered) = thread::join(
-        &rt,
+        rt,
         move ||
-            requires { (first.table ≡ shared.now.table) × (0 < shared.now.voters) × (0 < length shared.now.quorums) × HoldsAll (quorum_at shared.now.quorums 0) first.held × (slice_index first.held 0 ≢ 0) }
-            ensures { result.table ≡ shared.entry.now.table }
-        { pass_once(shared, first) },
+            requires { (first.table ≡ board.now.table) × (board.now.quorums ≡ (0 ∷ []) ∷ []) × (slice_index first.held 0 ≡ 1) }
+            ensures { result.table ≡ board.entry.now.table }
+        { pass_once(board, first) },
         move ||
-            requires { (voter.table ≡ shared.now.table) × (1 < shared.now.clients) × IsSome voter.current × (voter.last < 2) }
-            ensures { MatchResult result (λ v. v.table ≡ shared.entry.now.table) (λ v. (v.table ≡ shared.entry.now.table) × IsSome v.current × (v.last < 2)) }
-        { offer_next(shared, voter) },
+            requires { (voter.table ≡ board.now.table) × (1 < board.now.clients) × IsSome voter.current × (voter.last < 2) }
+            ensures { MatchResult result (λ v. v.table ≡ board.entry.now.table) (λ v. (v.table ≡ board.entry.now.table) × IsSome v.current × (v.last < 2)) }
+        { offer_next(board, voter) },
     );
     let done = match offered {
         Ok(_) => true,
-        Err(voter) => offer_next(&board, voter).is_ok(),
+        Err(voter) => offer_next(board, voter).is_ok(),
     };
-    let took = second.take(&board, 0, 2);
-    assert!(rt; done && took && first.passes() == [0].as_slice());
+    done & second.take(board, 0, 2) & (first.passes() == [0].as_slice())
+}
+
+#[test]
+fn two_threads_pass_a_vote_on(rt: HostRuntime) -> Result<(), Fail> {
+    let passed = match inside(rt.alloc(), 2, 9)? {
+        Some((board, mut root, voter, first)) => match client_of(&mut root, &board, 1) {
+            Some(second) => pass_on(&rt, &board, voter, first, second),
+            None => false,
+        },
+        None => false,
+    };
+    assert!(rt; passed);
     Ok(())
 }

@@ -1,14 +1,33 @@
 //! Clusters to be driven, and the results of drives.
-ghost use Rattle.std.specs.Prelude.{◌≡◌, ◌*◌, ◌≤◌, ◌^◌};
+ghost use Rattle.std.specs.Prelude.{◌≡◌, ◌*◌, ◌≤◌, ◌^◌, nat_lt};
 ghost use Rattle.members.specs.Clusters.{ClusterState};
 
 use certificate::Plan;
 use cluster::{Blank, ClusterFault, ClusterName, Gate, Member, drive};
 use requester::Phase;
 use std::alloc::{AllocError, Global};
+use std::marker::Brand;
 use std::sync::Wait;
-use std::test::Fail;
 use std::thread::Threads;
+
+/// A number of turns that no test uses up.
+pub(crate) const MANY: u64 = 1_000_000_000_000;
+
+/// A gate that never lets client 0 pass.
+#[derive(Drop)]
+pub(crate) struct Shut;
+
+impl Gate for Shut {
+    ghost lets = { λ _ client. nat_lt 0 client };
+
+    fn before(&self, _client: u8) {}
+
+    fn drawn(&self, _client: u8) {}
+
+    fn may_pass(&self, client: u8) -> bool {
+        client != 0
+    }
+}
 
 /// Returns a cluster of a plan, with this number of clients and this quota of tickets for each.
 pub(crate) fn blank_of(alloc: Global, plan: Option<Plan>, clients: u8, quota: u64) -> Option<Blank>
@@ -16,7 +35,10 @@ pub(crate) fn blank_of(alloc: Global, plan: Option<Plan>, clients: u8, quota: u6
     requires most { clients ≤ 64 }
     requires quota { quota ≤ 1000 }
 {
-    Blank::new(alloc, plan?, clients, quota).ok()
+    match plan {
+        Some(plan) => Blank::new(alloc, plan, clients, quota).ok(),
+        None => None,
+    }
 }
 
 /// The result of a drive: how many members came back idle, how many tickets they drew and passes
@@ -29,8 +51,20 @@ pub(crate) struct Outcome {
     pub(crate) fault: Option<ClusterFault>,
 }
 
+/// Returns an outcome with what one more member has done.
+fn with_member<N: ClusterName>(outcome: Outcome, member: &Member<N>) -> Outcome {
+    Outcome {
+        idle: outcome
+            .idle
+            .saturating_add(usize::from(member.phase() == Phase::Idle)),
+        draws: outcome.draws.saturating_add(member.receipts().len()),
+        passes: outcome.passes.saturating_add(member.passes().len()),
+        fault: outcome.fault,
+    }
+}
+
 /// Returns what these members have done.
-fn shown<N: ClusterName>(members: &[Member<N>], fault: Option<ClusterFault>) -> Outcome {
+pub(crate) fn shown<N: ClusterName>(members: &[Member<N>], fault: Option<ClusterFault>) -> Outcome {
     let mut outcome = Outcome {
         idle: 0,
         draws: 0,
@@ -38,17 +72,13 @@ fn shown<N: ClusterName>(members: &[Member<N>], fault: Option<ClusterFault>) -> 
         fault,
     };
     for member in members {
-        if member.phase() == Phase::Idle {
-            outcome.idle = outcome.idle.saturating_add(1);
-        }
-        outcome.draws = outcome.draws.saturating_add(member.receipts().len());
-        outcome.passes = outcome.passes.saturating_add(member.passes().len());
+        outcome = with_member(outcome, member);
     }
     outcome
 }
 
 /// Drives all members of a cluster once, and returns the result.
-pub(crate) fn driven<N: ClusterName + Send + Sync, R: Threads + Wait + Sync, G: Gate>(
+fn driven_by_name<N: ClusterName + Send + Sync, R: Threads + Wait + Sync, G: Gate>(
     rt: &R,
     alloc: Global,
     blank: Blank,
@@ -63,4 +93,20 @@ pub(crate) fn driven<N: ClusterName + Send + Sync, R: Threads + Wait + Sync, G: 
         Ok(members) => Ok(shown(members.as_slice(), None)),
         Err(driven) => Ok(shown(driven.members.as_slice(), Some(driven.fault))),
     }
+}
+
+/// Drives all members of a cluster once, if there is one, and returns the result.
+pub(crate) fn driven<R: Threads + Wait + Sync, G: Gate>(
+    rt: &R,
+    alloc: Global,
+    blank: Option<Blank>,
+    passes: u64,
+    turns: u64,
+    gate: &G,
+) -> Result<Option<Outcome>, AllocError> {
+    let Some(blank) = blank else {
+        return Ok(None);
+    };
+    let outcome = driven_by_name::<Brand, _, _>(rt, alloc, blank, passes, turns, gate)?;
+    Ok(Some(outcome))
 }

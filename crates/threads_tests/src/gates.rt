@@ -1,24 +1,18 @@
 //! Turns and gates: when a gate is asked, and how many turns a member takes.
-ghost use Rattle.std.specs.Prelude.{◌≡◌};
-
-use crate::clusters::{Outcome, blank_of, driven};
+use crate::clusters::{MANY, Outcome, blank_of, driven};
 use cluster::{ClusterFault, Gate};
 use small_plans::majority_plan;
-use std::alloc::Global;
-use std::marker::Brand;
+use std::alloc::{AllocError, Global};
 use std::sync::Wait;
 use std::sync::atomic::{AtomicU64, Ordering};
 use std::test::Fail;
 use std::thread::Threads;
 
-/// The number of clients whose calls a gate counts.
-const CLIENTS: u8 = 3;
-
 /// How often a gate was called for a client: before the client asks, once it has asked, and whether
 /// it may pass.
 type Calls = (u64, u64, u64);
 
-/// A gate that counts its calls for each client. It lets a client pass from its question with a
+/// A gate that counts its calls for each of three clients. It lets a client pass from its question with a
 /// given number on.
 #[derive(Drop)]
 struct Counting {
@@ -43,9 +37,10 @@ fn count(calls: &[AtomicU64; 3], client: u8) -> u64 {
 
 /// Returns how many calls were counted for a client.
 fn counted(calls: &[AtomicU64; 3], client: u8) -> u64 {
-    calls
-        .get(usize::from(client))
-        .map_or(0, |calls| calls.load(Ordering::SeqCst))
+    match calls.get(usize::from(client)) {
+        Some(calls) => calls.load(Ordering::SeqCst),
+        None => 0,
+    }
 }
 
 impl Counting {
@@ -83,22 +78,39 @@ impl Gate for Counting {
     }
 }
 
-/// The number of a question at which no gate arrives, so that it stays shut.
-const NEVER: u64 = 1_000_000_000_000;
+/// What a drive came to, and the calls for client 0.
+type Driven = (Option<Outcome>, Calls);
 
-/// Returns what one client on majorities of three voters does in `turns` turns.
+/// Returns what one client on majorities of three voters does in `turns` turns at a gate that opens
+/// at this question.
 fn alone<R: Threads + Wait + Sync>(
     rt: &R,
     alloc: Global,
+    question: u64,
     passes: u64,
     turns: u64,
-    gate: &Counting,
-) -> Result<Option<Outcome>, Fail> {
-    let Some(blank) = blank_of(alloc, majority_plan(alloc), 1, 10) else {
-        return Ok(None);
+) -> Result<Driven, AllocError> {
+    let gate = Counting::opens_at(question);
+    let blank = blank_of(alloc, majority_plan(alloc), 1, 10);
+    let outcome = driven(rt, alloc, blank, passes, turns, &gate)?;
+    Ok((outcome, gate.calls(0)))
+}
+
+/// Returns what is wanted of one client: it ends idle with this many passes, `spent` says whether
+/// its turns are, and these are its calls.
+fn wanted(passes: usize, spent: bool, calls: Calls) -> Driven {
+    let fault = if spent {
+        Some(ClusterFault::TurnsSpent(0))
+    } else {
+        None
     };
-    let outcome = driven::<Brand, _, _>(rt, alloc, blank, passes, turns, gate)?;
-    Ok(Some(outcome))
+    let outcome = Outcome {
+        idle: 1,
+        draws: calls.1 as usize,
+        passes,
+        fault,
+    };
+    (Some(outcome), calls)
 }
 
 /// Two pumps bring two votes, and the second one lets the client enter. So each turn beyond two is
@@ -106,71 +118,64 @@ fn alone<R: Threads + Wait + Sync>(
 #[test]
 fn each_pump_and_each_question_is_a_turn(rt: HostRuntime) -> Result<(), Fail> {
     for (turns, questions) in [(0, 0), (1, 0), (2, 0), (3, 1), (10, 8)] {
-        let gate = Counting::opens_at(NEVER);
-        let outcome = alone(&rt, rt.alloc(), 1, turns, &gate)?;
-        let wanted = Outcome {
-            idle: 1,
-            draws: 1,
-            passes: 0,
-            fault: Some(ClusterFault::TurnsSpent(0)),
-        };
-        assert_eq!(rt; outcome, Some(wanted), "{turns} turns");
-        assert_eq!(rt; gate.calls(0), (1, 1, questions), "{turns} turns");
+        let driven = alone(&rt, rt.alloc(), MANY, 1, turns)?;
+        assert!(rt;
+            driven == wanted(0, true, (1, 1, questions)),
+            "{turns} turns"
+        );
     }
     Ok(())
 }
+
+/// The turns of a client that has to pass twice; and its passes, whether its turns are spent, and
+/// its calls.
+const TWICE: [(u64, usize, bool, Calls); 4] = [
+    (6, 2, false, (2, 2, 2)),
+    (5, 1, true, (2, 2, 1)),
+    (3, 1, true, (2, 2, 1)),
+    (2, 0, true, (1, 1, 0)),
+];
 
 /// Each pass takes three turns: two pumps and a question. With one turn less, the work ends at the
 /// last question.
 #[test]
 fn a_gate_is_asked_anew_before_each_pass(rt: HostRuntime) -> Result<(), Fail> {
-    let spent = Some(ClusterFault::TurnsSpent(0));
-    for (turns, passes, calls, fault) in [
-        (6, 2, (2, 2, 2), None),
-        (5, 1, (2, 2, 1), spent),
-        (3, 1, (2, 2, 1), spent),
-        (2, 0, (1, 1, 0), spent),
-    ] {
-        let gate = Counting::opens_at(1);
-        let outcome = alone(&rt, rt.alloc(), 2, turns, &gate)?;
-        assert_eq!(rt;
-            outcome.map(|o| (o.passes, o.fault)),
-            Some((passes, fault)),
-            "{turns} turns"
-        );
-        assert_eq!(rt; gate.calls(0), calls, "{turns} turns");
+    for (turns, passes, spent, calls) in TWICE {
+        let driven = alone(&rt, rt.alloc(), 1, 2, turns)?;
+        assert!(rt; driven == wanted(passes, spent, calls), "{turns} turns");
     }
     Ok(())
 }
 
 #[test]
 fn a_second_question_takes_one_turn_more(rt: HostRuntime) -> Result<(), Fail> {
-    let spent = Some(ClusterFault::TurnsSpent(0));
-    for (turns, passes, questions, fault) in [(3, 0, 1, spent), (4, 1, 2, None)] {
-        let gate = Counting::opens_at(2);
-        let outcome = alone(&rt, rt.alloc(), 1, turns, &gate)?;
-        assert_eq!(rt;
-            outcome.map(|o| (o.passes, o.fault)),
-            Some((passes, fault)),
+    for (turns, passes, spent, questions) in [(3, 0, true, 1), (4, 1, false, 2)] {
+        let driven = alone(&rt, rt.alloc(), 2, 1, turns)?;
+        assert!(rt;
+            driven == wanted(passes, spent, (1, 1, questions)),
             "{turns} turns"
         );
-        assert_eq!(rt; gate.calls(0), (1, 1, questions), "{turns} turns");
     }
     Ok(())
+}
+
+/// Returns whether a gate was called so for each client.
+fn called_alike(gate: &Counting, calls: Calls) -> bool {
+    (gate.calls(0) == calls) & (gate.calls(1) == calls) & (gate.calls(2) == calls)
 }
 
 #[test]
 fn a_gate_is_asked_for_each_client(rt: HostRuntime) -> Result<(), Fail> {
     let alloc = rt.alloc();
-    let Some(blank) = blank_of(alloc, majority_plan(alloc), CLIENTS, 5) else {
-        assert!(rt; false, "no cluster");
-        return Ok(());
-    };
     let gate = Counting::opens_at(1);
-    let outcome = driven::<Brand, _, _>(&rt, alloc, blank, 5, 1_000_000_000_000, &gate)?;
-    assert_eq!(rt; (outcome.passes, outcome.fault), (15, None));
-    for client in 0..CLIENTS {
-        assert_eq!(rt; gate.calls(client), (5, 5, 5), "client {client}");
-    }
+    let blank = blank_of(alloc, majority_plan(alloc), 3, 5);
+    let outcome = driven(&rt, alloc, blank, 5, MANY, &gate)?;
+    let wanted = Outcome {
+        idle: 3,
+        draws: 15,
+        passes: 15,
+        fault: None,
+    };
+    assert!(rt; (outcome == Some(wanted)) & called_alike(&gate, (5, 5, 5)));
     Ok(())
 }

@@ -3,56 +3,87 @@ ghost use Rattle.std.specs.Prelude.{◌≡◌, ◌<◌, ◌≤◌, None};
 ghost use Rattle.board.specs.Seats.{BoardState, ClientSeatState, VoterSeatState};
 ghost use Rattle.node.specs.Names.{ClusterState};
 
+use crate::boards::seated;
 use board::{Board, ClientSeat, VoterSeat};
 use message::{ClientBody, ToClient, ToVoter, VoterBody};
-use node::{ClusterName, Mailbox, Node, give_back};
-use quorum_set::{Coterie, QSet};
+use node::{ClusterName, Mailbox, Node};
 use std::alloc::{AllocError, Global};
 use std::marker::Brand;
 use std::test::Fail;
 
-/// Returns whether the mailbox of client 1 is a queue, and refuses what it can't take. Its cluster
-/// has three voters.
+/// A FAIL of voter 2 to client 1.
+const FAIL: ToClient = ToClient {
+    voter: 2,
+    client: 1,
+    seen: 1,
+    body: ClientBody::Fail { stamp: 1 },
+};
+
+/// A LOCKED of voter 0 to client 1, under this grant.
+const LOCKED: ToClient = ToClient {
+    voter: 0,
+    client: 1,
+    seen: 2,
+    body: ClientBody::Locked { stamp: 2, grant: 1 },
+};
+
+/// Messages, and whether the mailbox of client 1 takes them: not those to another client, of no
+/// voter, or without a grant.
+const MAIL: [(ToClient, bool); 5] = [
+    (FAIL, true),
+    (LOCKED, true),
+    (
+        ToClient {
+            voter: 2,
+            client: 0,
+            seen: 1,
+            body: ClientBody::Fail { stamp: 1 },
+        },
+        false,
+    ),
+    (
+        ToClient {
+            voter: 3,
+            client: 1,
+            seen: 1,
+            body: ClientBody::Fail { stamp: 1 },
+        },
+        false,
+    ),
+    (
+        ToClient {
+            voter: 2,
+            client: 1,
+            seen: 1,
+            body: ClientBody::Locked { stamp: 2, grant: 0 },
+        },
+        false,
+    ),
+];
+
+/// Returns whether the mailbox of client 1 takes exactly the mail that it should. Its cluster has
+/// three voters.
+fn takes_mail<N: ClusterName>(mailbox: &mut Mailbox<N>, voters: usize) -> Result<bool, AllocError>
+    requires { voters ≡ N.cluster.board.voters }
+{
+    for (message, belongs) in &MAIL {
+        if mailbox.put(*message, voters)? != *belongs {
+            return Ok(false);
+        }
+    }
+    Ok(true)
+}
+
+/// Returns whether the mailbox of client 1 is a queue, and refuses what it can't take.
 fn queues<N: ClusterName>(alloc: Global, voters: usize) -> Result<bool, AllocError>
     requires { voters ≡ N.cluster.board.voters }
 {
     let mut mailbox: Mailbox<N> = Mailbox::new(alloc, 1);
-    let fail = ToClient {
-        voter: 2,
-        client: 1,
-        seen: 1,
-        body: ClientBody::Fail { stamp: 1 },
-    };
-    let locked = ToClient {
-        voter: 0,
-        client: 1,
-        seen: 2,
-        body: ClientBody::Locked { stamp: 2, grant: 1 },
-    };
-    let first = mailbox.put(fail, voters)?;
-    let second = mailbox.put(locked, voters)?;
-    let other_client = mailbox.put(ToClient { client: 0, ..fail }, voters)?;
-    let no_voter = mailbox.put(ToClient { voter: 3, ..fail }, voters)?;
-    let no_grant = ClientBody::Locked { stamp: 2, grant: 0 };
-    let without = mailbox.put(
-        ToClient {
-            body: no_grant,
-            ..fail
-        },
-        voters,
-    )?;
-    let stand = first && second && !other_client && !no_voter && !without;
-    let for_another = mailbox.take(0);
-    let comes = mailbox.take(1);
-    let follows = mailbox.take(1);
-    let end = mailbox.take(1);
-    Ok(
-        stand
-            && for_another.is_none()
-            && comes == Some(fail)
-            && follows == Some(locked)
-            && end.is_none(),
-    )
+    let took = takes_mail(&mut mailbox, voters)?;
+    let for_another = mailbox.take(0).is_none();
+    let comes = mailbox.take(1) == Some(FAIL);
+    let follows = mailbox.take(1) == Some(LOCKED);
+    Ok(took & for_another & comes & follows & mailbox.take(1).is_none())
 }
 
 #[test]
@@ -61,27 +92,71 @@ fn mailbox_is_a_queue(rt: HostRuntime) -> Result<(), Fail> {
     Ok(())
 }
 
-/// Returns the coterie of one voter.
-fn one(alloc: Global) -> Result<Coterie, Fail> {
-    let mut set = QSet::empty();
-    set.insert(0);
-    let sets = vec![in alloc; set]?;
-    Ok(Coterie::of(1, sets)?)
-}
-
-/// Returns a message of client 0 to voter 0.
-fn says(body: VoterBody) -> ToVoter
-    ensures { result ≡ record { client = 0; voter = 0; body = body } }
+/// Returns whether a node takes this message of client 0 to voter 0.
+fn hears<N: ClusterName>(
+    board: &Board,
+    node: &mut Node<N>,
+    body: VoterBody,
+) -> Result<bool, AllocError>
+    requires board { board.now ≡ N.cluster.board }
+    requires client { 0 < board.now.clients }
+    requires voter { node.old.number ≡ 0 }
+    ensures voter { node.new.number ≡ 0 }
 {
-    ToVoter {
+    let message = ToVoter {
         client: 0,
         voter: 0,
         body,
-    }
+    };
+    Ok(node.take(board, &message)?.is_some())
 }
 
-/// Returns whether a node grants, drops what would free a vote that is taken, and frees the vote
-/// once it is given back. If its last grant was not taken, it has to leave a seat without a grant.
+/// Returns whether a node grants its vote to the first request of client 0, which takes it.
+fn enters<N: ClusterName>(
+    board: &Board,
+    node: &mut Node<N>,
+    client: &mut ClientSeat,
+) -> Result<bool, AllocError>
+    requires board { board.now ≡ N.cluster.board }
+    requires sizes { (0 < board.now.clients) × (0 < board.now.voters) }
+    requires voter { node.old.number ≡ 0 }
+    requires client { client.old.table ≡ board.now.table }
+    ensures voter { node.new.number ≡ 0 }
+    ensures table { client.new.table ≡ client.old.table }
+{
+    let granted = hears(board, node, VoterBody::Request { stamp: 1 })?;
+    if client.held(0).is_some() {
+        return Ok(false);
+    }
+    Ok(client.take(board, 0, 1) & granted)
+}
+
+/// Returns whether a node drops what would free a vote that is taken, and reminds of it; and frees
+/// the vote once it is given back, and then grants it again.
+fn frees<N: ClusterName>(
+    board: &Board,
+    node: &mut Node<N>,
+    client: &mut ClientSeat,
+) -> Result<bool, AllocError>
+    requires board { board.now ≡ N.cluster.board }
+    requires client { (0 < board.now.clients) × (client.old.table ≡ board.now.table) }
+    requires voter { node.old.number ≡ 0 }
+    ensures voter { node.new.number ≡ 0 }
+{
+    let early = hears(board, node, VoterBody::Release { stamp: 1 })?;
+    let reminded = node.remind().len() == 1;
+    if client.held(0).is_none() {
+        return Ok(false);
+    }
+    client.give_back(board, 0);
+    let freed = hears(board, node, VoterBody::Release { stamp: 1 })?;
+    let silent = node.remind().is_empty();
+    let again = hears(board, node, VoterBody::Request { stamp: 2 })?;
+    Ok(!early & reminded & freed & silent & again)
+}
+
+/// Returns whether a node grants its vote and frees it, and whether it leaves a seat without a
+/// grant if the last one was not taken.
 fn settles<N: ClusterName>(
     alloc: Global,
     board: &Board,
@@ -95,29 +170,9 @@ fn settles<N: ClusterName>(
     requires client { client.old.table ≡ board.now.table }
 {
     let mut node: Node<N> = Node::new(alloc, seat);
-    let granted = node.take(board, &says(VoterBody::Request { stamp: 1 }))?;
-    if client.held(0).is_some() || !client.take(board, 0, 1) {
-        return Ok(false);
-    }
-    let dropped = node.take(board, &says(VoterBody::Release { stamp: 1 }))?;
-    let reminded = node.remind().len();
-    if client.held(0).is_none() {
-        return Ok(false);
-    }
-    client.give_back(board, 0);
-    let freed = node.take(board, &says(VoterBody::Release { stamp: 1 }))?;
-    let silent = node.remind().len();
-    let again = node.take(board, &says(VoterBody::Request { stamp: 2 }))?;
-    let seat = node.into_seat(board);
-    Ok(
-        granted.is_some()
-            && dropped.is_none()
-            && reminded == 1
-            && freed.is_some()
-            && silent == 0
-            && again.is_some()
-            && seat.current().is_none(),
-    )
+    let entered = enters(board, &mut node, client)?;
+    let freed = frees(board, &mut node, client)?;
+    Ok(entered & freed & node.into_seat(board).current().is_none())
 }
 
 /// Returns whether a node whose vote is taken leaves its seat with the grant.
@@ -134,34 +189,30 @@ fn keeps<N: ClusterName>(
     requires client { client.old.table ≡ board.now.table }
 {
     let mut node: Node<N> = Node::new(alloc, seat);
-    let granted = node.take(board, &says(VoterBody::Request { stamp: 1 }))?;
-    if client.held(0).is_some() || !client.take(board, 0, 1) {
-        return Ok(false);
-    }
-    let seat = node.into_seat(board);
-    Ok(granted.is_some() && seat.current() == Some((0, 1)))
+    let entered = enters(board, &mut node, client)?;
+    Ok(entered & (node.into_seat(board).current() == Some((0, 1))))
 }
 
 #[test]
 fn node_takes_and_settles(rt: HostRuntime) -> Result<(), Fail> {
-    let (board, mut root) = Board::new(rt.alloc(), &one(rt.alloc())?, 1, 1)?;
-    if board.voters() == 0 || !root.has_voter(0) || !root.has_client(0) {
-        panic!(rt; "no seats")
-    }
-    let seat = root.voter(&board, 0);
-    let mut client = root.client(&board, 0);
-    assert!(rt; settles::<Brand>(rt.alloc(), &board, seat, &mut client)?);
+    let settled = match seated(rt.alloc(), 1, 1)? {
+        Some((board, _root, seat, mut client)) => {
+            settles::<Brand>(rt.alloc(), &board, seat, &mut client)?
+        }
+        None => false,
+    };
+    assert!(rt; settled);
     Ok(())
 }
 
 #[test]
 fn node_keeps_a_grant_that_is_taken(rt: HostRuntime) -> Result<(), Fail> {
-    let (board, mut root) = Board::new(rt.alloc(), &one(rt.alloc())?, 1, 1)?;
-    if board.voters() == 0 || !root.has_voter(0) || !root.has_client(0) {
-        panic!(rt; "no seats")
-    }
-    let seat = root.voter(&board, 0);
-    let mut client = root.client(&board, 0);
-    assert!(rt; keeps::<Brand>(rt.alloc(), &board, seat, &mut client)?);
+    let kept = match seated(rt.alloc(), 1, 1)? {
+        Some((board, _root, seat, mut client)) => {
+            keeps::<Brand>(rt.alloc(), &board, seat, &mut client)?
+        }
+        None => false,
+    };
+    assert!(rt; kept);
     Ok(())
 }

@@ -1,8 +1,9 @@
 //! Records that are checked.
+use certificate::Plan;
 use cluster::RunRecord;
 use replay::{ReplayFault, check_record};
 use small_plans::majority_plan;
-use std::alloc::Global;
+use std::alloc::{AllocError, Global};
 use std::test::Fail;
 
 /// Returns a record of three draws and two passes. The first two draws are right, and the first
@@ -12,7 +13,7 @@ fn record_of(
     third: (u8, u64, usize),
     second: (u8, u64),
     register: u64,
-) -> Result<RunRecord, Fail> {
+) -> Result<RunRecord, AllocError> {
     let draws = [(0u8, 0u64, 0usize), (1, 2, 2), third]
         .as_slice()
         .to_vec(alloc)?;
@@ -25,49 +26,59 @@ fn record_of(
     })
 }
 
+/// Returns the fault of such a record.
+fn fault_of(
+    alloc: Global,
+    plan: &Plan,
+    third: (u8, u64, usize),
+    second: (u8, u64),
+    register: u64,
+) -> Result<Option<ReplayFault>, AllocError> {
+    let record = record_of(alloc, third, second, register)?;
+    Ok(check_record(alloc, plan, &record).err())
+}
+
+/// Third draws, second passes and registers, and the faults of their records.
+const FAULTS: [((u8, u64, usize), (u8, u64), u64, ReplayFault); 7] = [
+    ((0, 0, 0), (1, 1), 2, ReplayFault::TicketTwice(0)),
+    ((0, 3, 0), (1, 1), 2, ReplayFault::TicketMissing(1)),
+    ((0, 1, 2), (1, 1), 2, ReplayFault::WrongQuorum(1)),
+    ((0, 1, 4000), (1, 1), 2, ReplayFault::WrongQuorum(1)),
+    ((0, 1, 1), (1, 0), 2, ReplayFault::PassTwice(0)),
+    ((0, 1, 1), (1, 2), 2, ReplayFault::PassMissing(1)),
+    ((0, 1, 1), (1, 1), 3, ReplayFault::WrongRegister(2)),
+];
+
 #[test]
 fn names_each_fault_once(rt: HostRuntime) -> Result<(), Fail> {
-    let alloc = rt.alloc();
-    let Some(plan) = majority_plan(alloc) else {
-        assert!(rt; false, "no plan");
-        return Ok(());
+    let Some(plan) = majority_plan(rt.alloc()) else {
+        panic!(rt; "no plan")
     };
-    let right = (0u8, 1u64, 1usize);
-    let table = [
-        (
-            (0u8, 0u64, 0usize),
-            (1u8, 1u64),
-            2u64,
-            ReplayFault::TicketTwice(0),
-        ),
-        ((0, 3, 0), (1, 1), 2, ReplayFault::TicketMissing(1)),
-        ((0, 1, 2), (1, 1), 2, ReplayFault::WrongQuorum(1)),
-        ((0, 1, 4000), (1, 1), 2, ReplayFault::WrongQuorum(1)),
-        (right, (1, 0), 2, ReplayFault::PassTwice(0)),
-        (right, (1, 2), 2, ReplayFault::PassMissing(1)),
-        (right, (1, 1), 3, ReplayFault::WrongRegister(2)),
-    ];
-    for (third, second, register, fault) in table {
-        let record = record_of(alloc, third, second, register)?;
-        assert_eq!(rt; check_record(alloc, &plan, &record).err(), Some(fault));
+    for (third, second, register, want) in FAULTS {
+        let fault = fault_of(rt.alloc(), &plan, third, second, register)?;
+        assert_eq!(rt; fault, Some(want));
     }
     Ok(())
 }
 
+/// Returns whether a record has three draws, two of them for each voter.
+fn has_three_draws(alloc: Global, plan: &Plan, record: &RunRecord) -> bool {
+    match check_record(alloc, plan, record) {
+        Ok(account) => {
+            (account.drawn == 3)
+                & (account.voters.as_slice() == [2, 2, 2].as_slice())
+                & (account.busiest == 2)
+        }
+        Err(_) => false,
+    }
+}
+
 #[test]
 fn accounts_for_a_sound_record(rt: HostRuntime) -> Result<(), Fail> {
-    let alloc = rt.alloc();
-    let Some(plan) = majority_plan(alloc) else {
-        assert!(rt; false, "no plan");
-        return Ok(());
+    let Some(plan) = majority_plan(rt.alloc()) else {
+        panic!(rt; "no plan")
     };
-    let record = record_of(alloc, (0, 1, 1), (1, 1), 2)?;
-    let Ok(account) = check_record(alloc, &plan, &record) else {
-        assert!(rt; false, "a sound record was refused");
-        return Ok(());
-    };
-    assert_eq!(rt; account.drawn, 3);
-    assert_eq!(rt; account.voters.as_slice(), [2u64, 2, 2].as_slice());
-    assert_eq!(rt; account.busiest, 2);
+    let record = record_of(rt.alloc(), (0, 1, 1), (1, 1), 2)?;
+    assert!(rt; has_three_draws(rt.alloc(), &plan, &record));
     Ok(())
 }

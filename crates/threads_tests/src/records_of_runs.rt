@@ -1,10 +1,10 @@
 //! The record of a closed cluster is accepted, even if a client had no turns left.
-ghost use Rattle.std.specs.Prelude.{◌≡◌, nat_lt};
+ghost use Rattle.std.specs.Prelude.{◌≡◌};
 ghost use Rattle.members.specs.Clusters.{ClusterState};
 
-use cluster::{Blank, ClusterFault, ClusterName, Gate, RunRecord, drive};
+use crate::clusters::{Outcome, Shut, blank_of, shown};
+use cluster::{Blank, ClusterFault, ClusterName, RunRecord, drive};
 use replay::check_record;
-use requester::Phase;
 use small_plans::majority_plan;
 use std::alloc::{AllocError, Global};
 use std::marker::Brand;
@@ -32,95 +32,81 @@ fn recorded<N: ClusterName>(
     Ok(cluster.close(alloc, members).ok())
 }
 
-#[test]
-fn the_record_of_a_cluster_is_accepted(rt: HostRuntime) -> Result<(), Fail> {
-    let alloc = rt.alloc();
-    let (Some(plan), Some(copy)) = (majority_plan(alloc), majority_plan(alloc)) else {
-        assert!(rt; false, "no plan");
-        return Ok(());
+/// Returns how many tickets were drawn, and the busiest voter's count, if the record of a run on
+/// majorities is accepted.
+fn accounted(alloc: Global, record: &RunRecord) -> Option<(u64, u64)> {
+    let Some(plan) = majority_plan(alloc) else {
+        return None;
     };
-    let Ok(blank) = Blank::new(alloc, copy, 3, 1) else {
-        assert!(rt; false, "no memory");
-        return Ok(());
-    };
-    let Some(record) = recorded::<Brand>(&rt, alloc, blank)? else {
-        assert!(rt; false, "not closed");
-        return Ok(());
-    };
-    let Ok(account) = check_record(alloc, &plan, &record) else {
-        assert!(rt; false, "the record was refused");
-        return Ok(());
-    };
-    assert_eq!(rt; record.register, 3);
-    assert_eq!(rt; account.drawn, 3);
-    assert_eq!(rt; account.busiest, 2);
-    Ok(())
-}
-
-/// A gate that never lets client 0 pass.
-#[derive(Drop)]
-struct Shut;
-
-impl Gate for Shut {
-    ghost lets = { λ _ client. nat_lt 0 client };
-
-    fn before(&self, _client: u8) {}
-
-    fn drawn(&self, _client: u8) {}
-
-    fn may_pass(&self, client: u8) -> bool {
-        client != 0
+    match check_record(alloc, &plan, record) {
+        Ok(account) => Some((account.drawn, account.busiest)),
+        Err(_) => None,
     }
 }
 
+#[test]
+fn the_record_of_a_cluster_is_accepted(rt: HostRuntime) -> Result<(), Fail> {
+    let alloc = rt.alloc();
+    let Some(blank) = blank_of(alloc, majority_plan(alloc), 3, 1) else {
+        panic!(rt; "no cluster")
+    };
+    let accepted = match recorded::<Brand>(&rt, alloc, blank)? {
+        Some(record) => (accounted(alloc, &record) == Some((3, 2))) & (record.register == 3),
+        None => false,
+    };
+    assert!(rt; accepted);
+    Ok(())
+}
+
 /// Drives one pass of each client at a gate that is shut for client 0, and then closes the cluster.
-/// Returns the fault of the drive, how many members came back idle, and the record.
+/// Returns what the members have done, and the record.
 fn shut_out<N: ClusterName + Send + Sync, R: Threads + Wait + Sync>(
     rt: &R,
     alloc: Global,
     blank: Blank,
-) -> Result<Option<(ClusterFault, usize, RunRecord)>, AllocError>
+) -> Result<Option<(Outcome, RunRecord)>, AllocError>
     requires name { blank ≡ N.cluster }
 {
     let (cluster, members) = blank.open::<N>(alloc)?;
     let Err(driven) = drive(rt, &cluster, members, 1, 100_000, &Shut) else {
         return Ok(None);
     };
-    let mut idle: usize = 0;
-    for member in &driven.members {
-        if member.phase() == Phase::Idle {
-            idle = idle.saturating_add(1);
-        }
-    }
+    let outcome = shown(driven.members.as_slice(), Some(driven.fault));
     match cluster.close(alloc, driven.members) {
-        Ok(record) => Ok(Some((driven.fault, idle, record))),
+        Ok(record) => Ok(Some((outcome, record))),
         Err(_) => Ok(None),
     }
+}
+
+/// Returns whether each pass of the record is client 1's, and the register counts them.
+fn has_passes_of_one(record: &RunRecord) -> bool {
+    for (client, _number) in record.passes.as_slice() {
+        if *client != 1 {
+            return false;
+        }
+    }
+    record.register == record.passes.len() as u64
+}
+
+/// Returns whether two members drew a ticket each, client 0 spent its turns, and the record is
+/// sound.
+fn is_shut_out(alloc: Global, outcome: &Outcome, record: &RunRecord) -> bool {
+    let spent = outcome.fault == Some(ClusterFault::TurnsSpent(0));
+    let drawn = (outcome.idle, outcome.draws, record.draws.len()) == (2, 2, 2);
+    let accepted = accounted(alloc, record).is_some_and(|account| account.0 == 2);
+    spent & drawn & accepted & has_passes_of_one(record)
 }
 
 #[test]
 fn a_client_without_turns_leaves_a_sound_record(rt: HostRuntime) -> Result<(), Fail> {
     let alloc = rt.alloc();
-    let (Some(plan), Some(copy)) = (majority_plan(alloc), majority_plan(alloc)) else {
-        assert!(rt; false, "no plan");
-        return Ok(());
+    let Some(blank) = blank_of(alloc, majority_plan(alloc), 2, 1) else {
+        panic!(rt; "no cluster")
     };
-    let Ok(blank) = Blank::new(alloc, copy, 2, 1) else {
-        assert!(rt; false, "no memory");
-        return Ok(());
+    let sound = match shut_out::<Brand, _>(&rt, alloc, blank)? {
+        Some((outcome, record)) => is_shut_out(alloc, &outcome, &record),
+        None => false,
     };
-    let Some((fault, idle, record)) = shut_out::<Brand, _>(&rt, alloc, blank)? else {
-        assert!(rt; false, "not shut out, or not closed");
-        return Ok(());
-    };
-    assert_eq!(rt; fault, ClusterFault::TurnsSpent(0));
-    assert_eq!(rt; (idle, record.draws.len()), (2, 2));
-    assert_eq!(rt; record.register, record.passes.len() as u64);
-    assert!(rt; record.passes.iter().all(|pass| pass.0 == 1));
-    let Ok(account) = check_record(alloc, &plan, &record) else {
-        assert!(rt; false, "the record was refused");
-        return Ok(());
-    };
-    assert_eq!(rt; account.drawn, 2);
+    assert!(rt; sound);
     Ok(())
 }

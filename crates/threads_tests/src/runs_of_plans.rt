@@ -1,37 +1,41 @@
 //! Runs: four clients, and one that has no turns.
-use cluster::{ClusterFault, NoGate};
+use cluster::{ClusterFault, NoGate, RunRecord};
 use runs::{RunFault, record_of_run};
 use small_plans::grid_plan;
-use std::alloc::Global;
 use std::test::Fail;
 
-#[test]
-fn four_clients_make_four_hundred_passes(rt: HostRuntime) -> Result<(), Fail> {
-    let alloc = rt.alloc();
-    let Some(plan) = grid_plan(alloc) else {
-        assert!(rt; false, "no plan");
-        return Ok(());
-    };
-    match record_of_run(&rt, alloc, plan, 4, 100, 1_000_000_000_000, &NoGate) {
-        Ok(run) => assert_eq!(rt;
-            (run.draws.len(), run.passes.len(), run.register),
-            (400, 400, 400)
-        ),
-        Err(fault) => assert_eq!(rt; fault, RunFault::OutOfMemory, "ended"),
+/// Returns how many draws and passes a run has, and the register, or the fault.
+fn counts(run: Result<RunRecord, RunFault>) -> Result<(usize, usize, u64), RunFault> {
+    match run {
+        Ok(run) => Ok((run.draws.len(), run.passes.len(), run.register)),
+        Err(fault) => Err(fault),
     }
-    Ok(())
 }
 
 #[test]
-fn turns_are_spent(rt: HostRuntime) -> Result<(), Fail> {
-    let alloc = rt.alloc();
-    let Some(plan) = grid_plan(alloc) else {
-        assert!(rt; false, "no plan");
-        return Ok(());
+fn four_clients_make_four_hundred_passes(rt: HostRuntime) {
+    let Some(plan) = grid_plan(rt.alloc()) else {
+        panic!(rt; "no plan")
     };
-    let fault = record_of_run(&rt, alloc, plan, 3, 1, 0, &NoGate).err();
-    assert_eq!(rt; fault, Some(RunFault::Cluster(ClusterFault::TurnsSpent(0))));
-    let text = RunFault::Cluster(ClusterFault::TurnsSpent(0)).to_string(alloc)?;
-    assert_eq!(rt; text.as_str(), "K2 TurnsSpent 0");
+    let run = record_of_run(&rt, rt.alloc(), plan, 4, 100, 1_000_000_000_000, &NoGate);
+    assert!(rt; counts(run) == Ok((400, 400, 400)));
+}
+
+/// The fault of a run whose client 0 has no turns.
+const SPENT: RunFault = RunFault::Cluster(ClusterFault::TurnsSpent(0));
+
+#[test]
+fn turns_are_spent(rt: HostRuntime) {
+    let Some(plan) = grid_plan(rt.alloc()) else {
+        panic!(rt; "no plan")
+    };
+    let run = record_of_run(&rt, rt.alloc(), plan, 3, 1, 0, &NoGate);
+    assert!(rt; counts(run) == Err(SPENT));
+}
+
+#[test]
+fn fault_is_written(rt: HostRuntime) -> Result<(), Fail> {
+    let text = SPENT.to_string(rt.alloc())?;
+    assert!(rt; text.as_str() == "K2 TurnsSpent 0");
     Ok(())
 }

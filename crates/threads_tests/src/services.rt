@@ -6,43 +6,112 @@ ghost use Rattle.node.specs.Names.{ClusterState};
 
 use board::{Board, ClientSeat, VoterSeat};
 use message::{ClientBody, ToClient, ToVoter, VoterBody};
-use node::{ClusterName, Node, give_back};
+use node::{ClusterName, Node};
 use quorum_set::{Coterie, QSet};
 use std::alloc::{AllocError, Global};
 use std::marker::Brand;
 use std::test::Fail;
 
-/// Returns whether a node sends exactly these replies to a message. `None` means that it has to
-/// drop the message.
+/// What a client sends, and what a node has to do with it.
+#[derive(Clone, Copy)]
+struct Turn {
+    /// Whether the early client sends the message, or else the late one.
+    early: bool,
+    /// Whether the sender gives the vote back before.
+    gives: bool,
+    /// The message.
+    says: VoterBody,
+    /// The only reply and whether it goes to the early client, or no reply.
+    told: Option<(bool, ClientBody)>,
+    /// Whether the node has to drop the message.
+    drops: bool,
+}
+
+/// A node grants its vote to the late client, takes it back for the early one, whose request comes
+/// first, and grants it again. It drops a message that would free the vote while it is taken.
+const TURNS: [Turn; 7] = [
+    Turn {
+        early: false,
+        gives: false,
+        says: VoterBody::Request { stamp: 2 },
+        told: Some((false, ClientBody::Locked { stamp: 2, grant: 1 })),
+        drops: false,
+    },
+    Turn {
+        early: true,
+        gives: false,
+        says: VoterBody::Request { stamp: 1 },
+        told: Some((false, ClientBody::Inquire { grant: 1 })),
+        drops: false,
+    },
+    Turn {
+        early: false,
+        gives: false,
+        says: VoterBody::Relinquish { grant: 1 },
+        told: None,
+        drops: true,
+    },
+    Turn {
+        early: false,
+        gives: true,
+        says: VoterBody::Relinquish { grant: 1 },
+        told: Some((true, ClientBody::Locked { stamp: 1, grant: 2 })),
+        drops: false,
+    },
+    Turn {
+        early: true,
+        gives: false,
+        says: VoterBody::Release { stamp: 1 },
+        told: None,
+        drops: true,
+    },
+    Turn {
+        early: true,
+        gives: true,
+        says: VoterBody::Release { stamp: 1 },
+        told: Some((false, ClientBody::Locked { stamp: 2, grant: 3 })),
+        drops: false,
+    },
+    Turn {
+        early: false,
+        gives: true,
+        says: VoterBody::Release { stamp: 2 },
+        told: None,
+        drops: false,
+    },
+];
+
+/// Returns whether a node sends exactly these replies to a message: this one, or none. If it has to
+/// drop the message, returns whether it does.
 fn replies<N: ClusterName>(
     board: &Board,
     node: &mut Node<N>,
-    client: u8,
-    body: VoterBody,
-    wanted: Option<&[ToClient]>,
+    message: &ToVoter,
+    wanted: Option<ToClient>,
+    drops: bool,
 ) -> Result<bool, AllocError>
     requires board { board.now ≡ N.cluster.board }
+    ensures number { node.new.number ≡ node.old.number }
 {
-    if client >= board.clients() {
+    if message.client >= board.clients() || message.voter != node.number() {
         return Ok(false);
     }
-    let message = ToVoter {
-        client,
-        voter: node.number(),
-        body,
-    };
-    match (node.take(board, &message)?, wanted) {
-        (Some(told), Some(wanted)) => Ok(told.as_slice() == wanted),
-        (None, None) => Ok(true),
-        _ => Ok(false),
+    match (node.take(board, message)?, wanted) {
+        (Some(told), Some(wanted)) => Ok(told.as_slice() == [wanted].as_slice()),
+        (Some(told), None) => Ok(told.is_empty() & !drops),
+        (None, _) => Ok(drops),
     }
 }
 
-/// Returns whether a client can take a voter's vote by this grant.
-fn takes(board: &Board, seat: &mut ClientSeat, voter: u8, grant: u64) -> bool
+/// Returns whether a client can take a voter's vote by this message. A message that brings no vote
+/// is right.
+fn takes(board: &Board, seat: &mut ClientSeat, voter: u8, body: ClientBody) -> bool
     requires table { seat.old.table ≡ board.now.table }
     ensures table { seat.new.table ≡ seat.old.table }
 {
+    let ClientBody::Locked { stamp: _, grant } = body else {
+        return true;
+    };
     usize::from(voter) < board.voters()
         && seat.held(voter).is_none()
         && 1 <= grant
@@ -62,60 +131,103 @@ fn gives(board: &Board, seat: &mut ClientSeat, voter: u8) -> bool
     true
 }
 
-/// Returns whether a node serves two clients as it has to.
-///
-/// It grants its vote to the late one, takes it back for the early one, whose request comes first,
-/// and grants it again. It drops a message that would free the vote while it is taken.
+/// The two seats of a turn's clients.
+#[derive(Drop)]
+struct Clients {
+    late: ClientSeat,
+    early: ClientSeat,
+}
+
+/// Returns whether the sender gives back its vote, if it has to before this turn.
+fn gives_before(board: &Board, clients: &mut Clients, voter: u8, turn: &Turn) -> bool
+    requires late { clients.old.late.table ≡ board.now.table }
+    requires early { clients.old.early.table ≡ board.now.table }
+    ensures late { clients.new.late.table ≡ clients.old.late.table }
+    ensures early { clients.new.early.table ≡ clients.old.early.table }
+{
+    match (turn.gives, turn.early) {
+        (false, _) => true,
+        (true, true) => gives(board, &mut clients.early, voter),
+        (true, false) => gives(board, &mut clients.late, voter),
+    }
+}
+
+/// Returns whether the vote that this turn brings, if it does, can be taken.
+fn takes_after(board: &Board, clients: &mut Clients, voter: u8, turn: &Turn) -> bool
+    requires late { clients.old.late.table ≡ board.now.table }
+    requires early { clients.old.early.table ≡ board.now.table }
+    ensures late { clients.new.late.table ≡ clients.old.late.table }
+    ensures early { clients.new.early.table ≡ clients.old.early.table }
+{
+    match turn.told {
+        None => true,
+        Some((true, body)) => takes(board, &mut clients.early, voter, body),
+        Some((false, body)) => takes(board, &mut clients.late, voter, body),
+    }
+}
+
+/// Returns the message of a turn.
+fn message_of(voter: u8, late: u8, early: u8, turn: &Turn) -> ToVoter {
+    ToVoter {
+        client: if turn.early { early } else { late },
+        voter,
+        body: turn.says,
+    }
+}
+
+/// Returns the reply of a turn.
+fn wanted_of(voter: u8, late: u8, early: u8, turn: &Turn) -> Option<ToClient> {
+    let (to_early, body) = turn.told?;
+    Some(ToClient {
+        voter,
+        client: if to_early { early } else { late },
+        seen: 2,
+        body,
+    })
+}
+
+/// Returns whether a turn is as it has to be.
+fn plays<N: ClusterName>(
+    board: &Board,
+    node: &mut Node<N>,
+    clients: &mut Clients,
+    turn: &Turn,
+) -> Result<bool, AllocError>
+    requires board { board.now ≡ N.cluster.board }
+    requires late { clients.old.late.table ≡ board.now.table }
+    requires early { clients.old.early.table ≡ board.now.table }
+    ensures late { clients.new.late.table ≡ clients.old.late.table }
+    ensures early { clients.new.early.table ≡ clients.old.early.table }
+{
+    let voter = node.number();
+    let (late, early) = (clients.late.client(), clients.early.client());
+    let gave = gives_before(board, clients, voter, turn);
+    let message = message_of(voter, late, early, turn);
+    let wanted = wanted_of(voter, late, early, turn);
+    let replied = replies(board, node, &message, wanted, turn.drops)?;
+    Ok(gave & replied & takes_after(board, clients, voter, turn))
+}
+
+/// Returns whether a node serves two clients as it has to, and its vote is free at the end.
 fn serves<N: ClusterName>(
     alloc: Global,
     board: &Board,
     seat: VoterSeat,
-    late: &mut ClientSeat,
-    early: &mut ClientSeat,
+    clients: &mut Clients,
 ) -> Result<bool, AllocError>
     requires board { board.now ≡ N.cluster.board }
     requires clients { board.now.clients ≤ 64 }
     requires voter { (seat.voter < board.now.voters) × (seat.voter < 64) }
     requires fresh { (seat.table ≡ board.now.table) × (seat.current ≡ None) × (seat.last ≡ 0) }
-    requires late { late.old.table ≡ board.now.table }
-    requires early { early.old.table ≡ board.now.table }
+    requires late { clients.old.late.table ≡ board.now.table }
+    requires early { clients.old.early.table ≡ board.now.table }
 {
-    let voter = seat.voter();
-    let (second, first) = (late.client(), early.client());
-    let told = |client: u8, body: ClientBody| ToClient {
-        voter,
-        client,
-        seen: 2,
-        body,
-    };
-    let (request, release) = (
-        VoterBody::Request { stamp: 2 },
-        VoterBody::Release { stamp: 2 },
-    );
-    let (before, over) = (
-        VoterBody::Request { stamp: 1 },
-        VoterBody::Release { stamp: 1 },
-    );
-    let back = VoterBody::Relinquish { grant: 1 };
-    let locked = told(second, ClientBody::Locked { stamp: 2, grant: 1 });
-    let inquire = told(second, ClientBody::Inquire { grant: 1 });
-    let moved = told(first, ClientBody::Locked { stamp: 1, grant: 2 });
-    let again = told(second, ClientBody::Locked { stamp: 2, grant: 3 });
     let mut node: Node<N> = Node::new(alloc, seat);
-    let granted = replies(board, &mut node, second, request, Some(&[locked]))?
-        && takes(board, late, voter, 1);
-    let inquired = replies(board, &mut node, first, before, Some(&[inquire]))?
-        && replies(board, &mut node, second, back, None)?;
-    let relinquished = gives(board, late, voter)
-        && replies(board, &mut node, second, back, Some(&[moved]))?
-        && takes(board, early, voter, 2);
-    let kept = replies(board, &mut node, first, over, None)?;
-    let released = gives(board, early, voter)
-        && replies(board, &mut node, first, over, Some(&[again]))?
-        && takes(board, late, voter, 3);
-    let over = gives(board, late, voter) && replies(board, &mut node, second, release, Some(&[]))?;
-    let free = node.into_seat(board).current().is_none();
-    Ok(granted && inquired && relinquished && kept && released && over && free)
+    let mut served = true;
+    for turn in &TURNS {
+        served = plays(board, &mut node, clients, turn)? & served;
+    }
+    Ok(served & node.into_seat(board).current().is_none())
 }
 
 /// Returns the coterie of one quorum of 64 voters.
@@ -128,24 +240,31 @@ fn all_voters(alloc: Global) -> Result<Coterie, Fail> {
     Ok(Coterie::of(64, sets)?)
 }
 
+/// Returns whether this voter serves this client and the next one, on a board of their own.
+fn pair_is_served(alloc: Global, coterie: &Coterie, voter: u8, client: u8) -> Result<bool, Fail>
+    requires client { client < 64 }
+{
+    let (board, mut root) = Board::new(alloc, coterie, 64, 1)?;
+    if !root.has_voter(voter) || !root.has_client(client) {
+        return Ok(false);
+    }
+    let seat = root.voter(&board, voter);
+    let late = root.client(&board, client);
+    let other = (client + 1) % 64;
+    if !root.has_client(other) {
+        return Ok(false);
+    }
+    let early = root.client(&board, other);
+    let mut clients = Clients { late, early };
+    Ok(serves::<Brand>(alloc, &board, seat, &mut clients)?)
+}
+
 #[test]
 fn every_voter_serves_every_client(rt: HostRuntime) -> Result<(), Fail> {
-    let alloc = rt.alloc();
-    let coterie = all_voters(alloc)?;
+    let coterie = all_voters(rt.alloc())?;
     for voter in 0..64u8 {
         for client in 0..64u8 {
-            let other = (client + 1) % 64;
-            let (board, mut root) = Board::new(alloc, &coterie, 64, 1)?;
-            if !root.has_voter(voter) || !root.has_client(client) {
-                panic!(rt; "no seats")
-            }
-            let seat = root.voter(&board, voter);
-            let mut late = root.client(&board, client);
-            if !root.has_client(other) {
-                panic!(rt; "no seat")
-            }
-            let mut early = root.client(&board, other);
-            let served = serves::<Brand>(alloc, &board, seat, &mut late, &mut early)?;
+            let served = pair_is_served(rt.alloc(), &coterie, voter, client)?;
             assert!(rt; served, "voter {voter}, client {client}");
         }
     }
