@@ -23,6 +23,20 @@ fn to_client(voter: u8, client: u8, seen: u64, body: ClientBody) -> Message {
     })
 }
 
+/// Adds the line of a message, if it has one, and then `end`.
+pub(crate) fn add_line(
+    alloc: Global,
+    text: &mut String,
+    message: &Message,
+    end: char,
+) -> Result<(), AllocError> {
+    if message.has_line() {
+        text.push_str(write_message(alloc, message)?.as_str())?;
+        text.push(end)?;
+    }
+    Ok(())
+}
+
 /// Returns whether a message is written as this line, and read from it.
 fn has_line(alloc: Global, message: &Message, line: &str) -> Result<bool, AllocError> {
     if !message.has_line() {

@@ -4,8 +4,9 @@
 //! voters 0 and 1, and `held` shows the grant of the vote of voter 0.
 ghost use Rattle.std.specs.Prelude.{◌≡◌, ◌<◌, ◌≤◌, ◌^◌, IfSome};
 
+use crate::messages::add_line;
 use arrayvec::ArrayVec;
-use message::{Message, ToClient, ToVoter, read_message, write_message};
+use message::{Message, ToClient, ToVoter, read_message};
 use quorum_set::QSet;
 use requester::{ClientFault, Messages, Phase, Reply, Requester, Seen};
 use small_plans::set_of;
@@ -27,12 +28,7 @@ fn told(line: &str) -> Option<ToClient>
 fn lines(alloc: Global, messages: &[ToVoter]) -> Result<String, AllocError> {
     let mut text = String::new(alloc);
     for m in messages {
-        let message = Message::ToVoter(*m);
-        if message.has_line() {
-            let line = write_message(alloc, &message)?;
-            text.push_str(line.as_str())?;
-            text.push(';')?;
-        }
+        add_line(alloc, &mut text, &Message::ToVoter(*m), ';')?;
     }
     Ok(text)
 }

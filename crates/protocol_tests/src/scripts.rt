@@ -1,6 +1,6 @@
 //! Scripts and what they write.
 use certificate::Plan;
-use replay::{read_script, run_script};
+use replay::{Script, read_script, run_script};
 use small_plans::{lone_plan, majority_plan};
 use std::alloc::{AllocError, Global};
 use std::test::Fail;
@@ -139,12 +139,16 @@ const STEPS: [Step; 6] = [
     Step::RemindVoter(4),
 ];
 
+/// Returns whether this is what the script says.
+fn is_each_step(script: &Script) -> bool {
+    let world = (script.clients(), script.limit()) == (3, 9);
+    world & (script.steps() == STEPS.as_slice())
+}
+
 #[test]
 fn a_script_is_read(rt: HostRuntime) {
     let read = match read_script(rt.alloc(), EACH_STEP) {
-        Ok(script) => {
-            (script.clients() == 3) & (script.limit() == 9) & (script.steps() == STEPS.as_slice())
-        }
+        Ok(script) => is_each_step(&script),
         Err(_) => false,
     };
     assert!(rt; read);

@@ -1,8 +1,9 @@
 //! Worked examples of the voter.
 ghost use Rattle.std.specs.Prelude.{◌≡◌, ◌<◌, ◌≤◌, ◌^◌, IfSome};
 
+use crate::messages::add_line;
 use arrayvec::ArrayVec;
-use message::{Message, ToVoter, read_message, write_message};
+use message::{Message, ToVoter, read_message};
 use std::alloc::{AllocError, Global};
 use std::test::Fail;
 use voter::{Effect, Grant, Replies, Voter, VoterFault};
@@ -22,12 +23,7 @@ fn asked(line: &str) -> Option<ToVoter>
 fn lines(alloc: Global, replies: &Replies) -> Result<String, AllocError> {
     let mut text = String::new(alloc);
     for reply in replies.as_slice() {
-        let message = Message::ToClient(*reply);
-        if message.has_line() {
-            let line = write_message(alloc, &message)?;
-            text.push_str(line.as_str())?;
-            text.push(';')?;
-        }
+        add_line(alloc, &mut text, &Message::ToClient(*reply), ';')?;
     }
     Ok(text)
 }

@@ -1,28 +1,13 @@
 //! Runs of the automata together.
 ghost use Rattle.std.specs.Prelude.{◌≤◌, ◌^◌};
 
+use crate::messages::add_line;
 use certificate::Plan;
-use message::{Message, write_message};
 use requester::Seen;
 use small_plans::{lone_plan, majority_plan};
 use std::alloc::{AllocError, Global};
 use std::test::Fail;
 use world::{Step, Stepped, Trace, World, run};
-
-/// Writes the lines of the messages.
-fn write_messages(
-    alloc: Global,
-    text: &mut String,
-    messages: &[Message],
-) -> Result<(), AllocError> {
-    for message in messages {
-        if message.has_line() {
-            text.push_str(write_message(alloc, message)?.as_str())?;
-            text.push('\n')?;
-        }
-    }
-    Ok(())
-}
 
 /// Writes who entered and left, who drew which ticket, and what was refused.
 fn write_rest(text: &mut String, trace: &Trace) -> Result<(), AllocError> {
@@ -42,7 +27,9 @@ fn write_rest(text: &mut String, trace: &Trace) -> Result<(), AllocError> {
 /// Returns what a run did: the lines of its messages, and the rest.
 fn story(alloc: Global, trace: &Trace) -> Result<String, AllocError> {
     let mut text = String::new(alloc);
-    write_messages(alloc, &mut text, trace.messages.as_slice())?;
+    for message in trace.messages.as_slice() {
+        add_line(alloc, &mut text, message, '\n')?;
+    }
     write_rest(&mut text, trace)?;
     Ok(text)
 }
