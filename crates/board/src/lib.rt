@@ -33,7 +33,8 @@
 //! [`BoardRoot`] gives each seat once and takes it back. A seat that is dropped stays out, and so
 //! do the votes that it holds.
 //!
-//! This crate depends on `quorum_set` and `atomic_table`. A cluster of nodes depends on it.
+//! This crate depends on `quorum_set`, `numbers` and `atomic_table`. A cluster of nodes depends on
+//! it.
 //!
 //! ```
 //! let (board, mut root) = Board::new(alloc, &coterie, 1, 1000)?; // one voter, one quorum {0}, one client

@@ -10,7 +10,7 @@
 //! - [`Usage::Arguments`] is returned only for words without such a fault that name no command.
 //! - Otherwise memory ran out.
 //!
-//! This crate depends on `clap`. It does not serve the command; the program does.
+//! This crate depends on `clap` and `numbers`. It does not serve the command; `qlock_cli` does.
 //!
 //! ```
 //! let command = read_words(alloc, words)?; // of `qlock deal 5`: Command::Deal(5)

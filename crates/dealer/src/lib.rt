@@ -55,8 +55,8 @@
 //! Not proved: in which order threads draw, and that there is memory for a receipt. If there is
 //! none, no ticket is taken.
 //!
-//! Depends on `certificate`, whose [`Plan`](certificate::Plan) it takes. Everything that draws
-//! quorums depends on this crate.
+//! Depends on `certificate`, whose [`Plan`](certificate::Plan) it takes, on `quorum_set` and
+//! `numbers`, and on `atomic_table`. Everything that draws quorums depends on this crate.
 #![tactic(auto)]
 
 mod account;

@@ -71,8 +71,9 @@
 //! - that a cluster that could not be closed goes on as it was: that is tested.
 //!
 //! This crate depends on `node`, which has the nodes and the mailboxes, and takes votes and gives
-//! them back. It also depends on `board`, `dealer`, `voter`, `requester`, `message`, `certificate`
-//! and `quorum_set`. The crate `cluster` re-exports all that is here, and drives the members.
+//! them back. It also depends on `board`, `dealer`, `voter`, `requester`, `message`, `certificate`,
+//! `quorum_set` and `numbers`. The crate `cluster` re-exports all that is here, and drives the
+//! members.
 #![tactic(auto)]
 
 mod blank;

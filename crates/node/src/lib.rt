@@ -31,7 +31,7 @@
 //! can't take a vote, or about when [`Node::into_seat`] or [`Node::take`] finds that a vote was
 //! taken.
 //!
-//! This crate depends on `board`, `dealer`, `voter`, `requester` and `message`.
+//! This crate depends on `board`, `dealer`, `voter`, `requester`, `message` and `numbers`.
 #![tactic(auto)]
 
 mod mailbox;

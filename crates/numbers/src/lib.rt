@@ -5,8 +5,10 @@
 //! - `specs/Sets.antt`: sets of numbers below 64, each as the ascending list of its members.
 //! - `specs/Sums.antt`: sums over the numbers below a bound, and lists of all of them.
 //! - `specs/Counts.antt`: how often a number is in a list, and the greatest value of a function.
+//! - `specs/Results.antt`: results of calls that may run out of memory.
 //!
-//! This is the one crate whose lemmas other crates use (`proofs/`): they are its public matter.
+//! The lemmas in `proofs/` are public: other crates use them. This crate depends on no other.
+//! Nearly all crates whose contracts speak of sets, sums or bounds depend on it.
 #![tactic(auto)]
 
 /// The most voters of a coterie. Voters are numbered from 0.

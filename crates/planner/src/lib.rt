@@ -6,7 +6,7 @@
 //! `certificate::check`, so a plan that is returned is optimal however it was found. Whether a plan
 //! is found for a coterie that is not uniform is left to the method.
 //!
-//! This crate depends on `certificate` and `simplex`.
+//! This crate depends on `certificate`, `simplex`, `quorum_set` and `numbers`.
 //!
 //! ```text
 //! // A hub 0 with three rims: {0, 1}, {0, 2}, {0, 3} and {1, 2, 3}.

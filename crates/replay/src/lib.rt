@@ -60,7 +60,8 @@
 //! - `certificate` for the plan;
 //! - `dealer` for the account of tickets;
 //! - `cluster` for the record of a run;
-//! - `message` for the lines.
+//! - `message` and `texts` for the lines;
+//! - `numbers` for counts and bounds.
 //!
 //! ```text
 //! // One voter, one client.

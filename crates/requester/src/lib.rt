@@ -47,8 +47,8 @@
 //!
 //! The laws on this page are what proofs about many voters and clients may use.
 //!
-//! Depends on `message` and `quorum_set`. A world of voters and clients, and threads that run one,
-//! depend on this crate.
+//! Depends on `message`, `quorum_set` and `numbers`. A world of voters and clients, and threads
+//! that run one, depend on this crate.
 //!
 //! ```
 //! let mut quorum = QSet::empty();

@@ -11,7 +11,7 @@
 //!
 //! Nothing is claimed about the numbers except how many there are. Whether they are a certificate
 //! is decided by `certificate::check`, so nobody has to trust the method. This crate depends on
-//! `quorum_set` and `fraction`.
+//! `quorum_set`, `fraction` and `numbers`.
 //!
 //! ```text
 //! // Any two of three voters.

@@ -38,8 +38,8 @@
 //!
 //! The laws on this page are what proofs about many voters and clients may use.
 //!
-//! Depends on `message`. A world of voters and clients, and threads that run one, depend on this
-//! crate.
+//! Depends on `message` and `numbers`. A world of voters and clients, and threads that run one,
+//! depend on this crate.
 //!
 //! ```
 //! let mut voter = Voter::new(0, 1000);

@@ -23,7 +23,8 @@
 //!
 //! It is not promised that anybody enters.
 //!
-//! Depends on `dealer`, whose cycle gives the quorums, and on `voter` and `requester`.
+//! Depends on `dealer`, whose cycle gives the quorums, and on `voter` and `requester`. It also
+//! depends on `message`, `certificate`, `quorum_set` and `numbers`.
 //!
 //! ```
 //! // Two of three voters, two clients, stamps up to 1000:
