@@ -1,19 +1,19 @@
 //! Runs the commands of the program on texts. Only tests use this crate.
 //!
 //! - `commands` runs a command line, and compares what it writes with the rows of a table.
-//! - `texts` has coteries, plans, scripts and records that the tests share.
+//! - `samples` has coteries, plans, scripts and records that the tests share.
 //!
 //! Depends on `qlock_cli`. `qlock_tests` and `device_tests` depend on it.
 #![tactic(auto)]
 
 mod commands;
-mod texts;
+mod samples;
 
 pub use commands::{
     Row, answer, answer_at, answer_planned, command_of, coterie_of_letters, first_wrong, joined,
     serve,
 };
-pub use texts::{
+pub use samples::{
     GRID, GRID_PLAN, LONGER_PLAN, MAJORITY, MAJORITY_PLAN, ONE, ONE_PLAN, RACE, RACE_OUTPUT,
     RECORD, RECORD_ACCOUNT, WHEEL, WHEEL_PLAN,
 };

@@ -12,8 +12,8 @@ ghost use Rattle.qlock_cli.specs.Faults.{IsBeforeScript, IsOfFile};
 
 use crate::dealing::dealt;
 use crate::fault::Fault;
+use crate::lines::{load_line_of, push_account, push_receipts, record_lines_of};
 use crate::parts::split_part;
-use crate::texts::{load_line_of, push_account, push_receipts, record_lines_of};
 use certificate::{Plan, read_plan, write_plan};
 use cluster::RunRecord;
 use command_line::{Command, Shape};

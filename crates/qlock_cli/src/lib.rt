@@ -6,7 +6,7 @@
 //! and the writer are [`Watched`], so a caller sees which of them failed.
 //!
 //! The module `parts` splits the input, `answer` makes the output, `dealing` draws its tickets, and
-//! `texts` makes its lines.
+//! `lines` makes its lines.
 //!
 //! # What is proved
 //!
@@ -30,10 +30,10 @@ mod answer;
 mod dealing;
 mod fault;
 mod laws;
+mod lines;
 mod parts;
 mod running;
 mod serving;
-mod texts;
 
 pub use cluster::{Gate, NoGate};
 pub use command_line::{Command, Shape, Usage, read_words};

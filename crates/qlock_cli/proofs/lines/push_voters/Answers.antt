@@ -4,7 +4,7 @@ use Rattle.std.proofs.lemmas.Option.{get_or_from_slice_get}
 use Rattle.coterie_file.specs.Names.{name_at}
 use Rattle.qlock_cli.specs.Commands.{voter_line}
 use Rattle.qlock_cli.proofs.TextLemmas.{lines_more}
-use Rattle.qlock_cli.proofs.texts.push_voters.Goals as goal
+use Rattle.qlock_cli.proofs.lines.push_voters.Goals as goal
 
 pub loop-i-preserved : goal.loop-i-preserved
 loop-i-preserved c =

@@ -1,7 +1,7 @@
 use Rattle.std.proofs.Common.{◌≡◌, ◌++◌, string_bytes, take}
 use Rattle.std.specs.List.{flat_map}
 use Rattle.qlock_cli.specs.Commands.{receipt_line}
-use Rattle.qlock_cli.proofs.texts.push_receipts.Given as goal
+use Rattle.qlock_cli.proofs.lines.push_receipts.Given as goal
 
 -- the lines of the receipts so far stand behind what there was
 abbrev pub invariant-loop-receipt : goal.invariant-loop-receipt
