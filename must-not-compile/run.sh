@@ -15,7 +15,8 @@ here=$(CDPATH= cd -- "$(dirname -- "$0")" && pwd)
 root=$(dirname -- "$here")
 work=$(mktemp -d)
 trap 'rm -rf "$work"' EXIT
-below='divisor quorum_set certificate dealer board'
+# the crates that it depends on, in the order of crates.txt; those without a folder are the kit's
+below=$(cut -d: -f1 "$root/crates.txt" | grep -xF -e "$("$root/crates/below.sh" dealer; "$root/crates/below.sh" board)")
 cases=0
 wrong=0
 

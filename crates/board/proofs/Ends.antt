@@ -7,8 +7,8 @@ use Rattle.std.proofs.lemmas.List.{length-replicate, get_or-replicate, get_or_pa
 use mathlib.Core.Option.{some, some-injective, some-ne-none}
 use lib.ListN.{get_elem?}
 use Rattle.atomic_table.specs.Table.{Final, Seen}
-use Rattle.numbers.specs.Sums.{sum_below}
-use Rattle.numbers.proofs.SumLemmas.{sum_at, sum_alone_at, sum_below-one, sum_one}
+use Rattle.numbers.specs.Sums.{sum_below, AreAllBelow}
+use Rattle.numbers.proofs.SumLemmas.{sum_at, sum_alone_at, AreAllBelow-from_sums}
 use Rattle.board.specs.declared.table.View.{View}
 use Rattle.board.specs.Seats.{Setting}
 use Rattle.board.specs.Words.{taken, is}
@@ -69,11 +69,12 @@ at_get (y ∷ ys) (suc i) x e = at_get ys i x e
 -- the numbers of all passes are those below the register, and the register is how many they are
 pub register-at_close : (sheet : Setting) (id : ℕ) (u : View) (words : List ℕ) (slots : List (Unit {0})) (register : ℕ) (kept : List (ℕ × ℕ)) → Final (Seen (Kept sheet) id u) words slots
     → u.parts ≡ sheet.voters + sheet.clients + 1 → get_elem? words sheet.voters ≡ some register → u.passes ≡ map (λ p. p.1) kept
-    → (register ≡ length kept) × ((h : ℕ → ℕ) → sum_by h (map (λ p. p.1) kept) ≡ sum_below h register)
+    → (register ≡ length kept) × AreAllBelow (map (λ p. p.1) kept) register
 register-at_close sheet id u words slots register kept f all at is =
     let reads : slice_index words sheet.voters ≡ register = at_get words sheet.voters register at in
     let each : (h : ℕ → ℕ) → sum_by h (map (λ p. p.1) kept) ≡ sum_below h register = λ h. ap (sum_by h) (sym is) ∙ passes-at_close sheet id u words slots f all h ∙ ap (sum_below h) reads in
-    (sym (sum_below-one register) ∙ sym (each (λ _. 1)) ∙ sum_one (map (λ p. p.1) kept) ∙ length_numbers kept, each)
+    let all = AreAllBelow-from_sums (map (λ p. p.1) kept) register each in
+    (sym all.in_all ∙ length_numbers kept, all)
   where
     length_numbers : (l : List (ℕ × ℕ)) → length (map (λ (p : ℕ × ℕ). p.1) l) ≡ length l
     length_numbers [] = refl

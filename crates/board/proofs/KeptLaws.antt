@@ -17,6 +17,7 @@ use Rattle.board.proofs.Words.{is-same, is-one}
 use Rattle.board.proofs.Votes.{TableState, stands_here, holds_here}
 use Rattle.board.proofs.Register.{one_holds}
 use Rattle.board.proofs.Giving.{one_stands}
+use Rattle.numbers.proofs.SumLemmas.{AreAllBelow-from_sums}
 
 -- where a sum is not 0, one of the list counts
 counts_some : {A : Type 0} (f : A → ℕ) (l : List A) → 1 ≤ sum_by f l → (i : ℕ) × (u : A) × (get_elem? l i ≡ some u) × (1 ≤ f u)
@@ -85,5 +86,5 @@ keeps_votes sheet s r = record {
   one_holds = λ v i k u w inside at at' holds holds'. dite (ℕ_discrete i k) (λ same. same)
       (λ apart. absurd (one_holds v (slice_index s.words v) s.views (r.votes v inside) i k u w apart at at' holds holds'));
   readings = λ i j x u at is. reading_is sheet (slice_index s.words sheet.voters) j x u (r.readings i u at) is;
-  passes = λ h. sum_flat h (λ (u : View). u.passes) s.views ∙ r.passes h;
+  passes = AreAllBelow-from_sums _ _ (λ h. sum_flat h (λ (u : View). u.passes) s.views ∙ r.passes h);
 }

@@ -5,5 +5,6 @@ pub mod Views
 pub mod Rule
 pub mod Moves
 pub mod Roots
+pub mod Invariants
 pub mod Faults
 pub mod VotesKept

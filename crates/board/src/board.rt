@@ -23,9 +23,7 @@ pub struct Board {
 }
 
 impl Model for Board {
-    ghost use Rattle.std.specs.Prelude.{◌≡◌, ◌+◌, ◌≤◌};
-    ghost use Rattle.numbers.specs.Bounds.{max_voters, max_clients, max_tickets};
-    ghost use Rattle.quorum_set.specs.Meetings.{AllMeet};
+    ghost use Rattle.board.specs.Invariants.{IsBoard};
     ghost use Rattle.board.specs.Seats.{BoardState};
 
     ghost Value = { BoardState };
@@ -38,12 +36,7 @@ impl Model for Board {
       limit = b.sheet.limit;
     } };
 
-    ghost invariant = { λ b. (b.table.shared.key ≡ b.sheet)
-        × (b.table.shared.table_id.words ≡ b.sheet.voters + 1) × (b.table.shared.table_id.slots ≡ 0)
-        × (1 ≤ b.sheet.limit) × (b.sheet.limit ≤ max_tickets)
-        × (1 ≤ b.sheet.clients) × (b.sheet.clients ≤ max_clients)
-        × (1 ≤ b.sheet.voters) × (b.sheet.voters ≤ max_voters)
-        × AllMeet b.sheet.voters b.sheet.quorums };
+    ghost invariant = { λ b. IsBoard b.table.shared.key b.table.shared.table_id b.sheet };
 }
 
 impl Board {

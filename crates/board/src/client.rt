@@ -29,12 +29,8 @@ pub struct ClientSeat {
 }
 
 impl Model for ClientSeat {
-    ghost use Rattle.std.specs.Prelude.{◌≡◌, ◌<◌, ◌≤◌, [], IfSome};
-    ghost use Rattle.std.specs.List.{All};
-    ghost use Rattle.numbers.specs.Bounds.{max_clients, max_stamp, max_tickets};
+    ghost use Rattle.board.specs.Invariants.{IsClientSeat};
     ghost use Rattle.board.specs.Seats.{ClientSeatState};
-    ghost use Rattle.board.specs.Roots.{AreOnBoard};
-    ghost use Rattle.board.specs.Views.{client_view};
 
     ghost Value = { ClientSeatState };
 
@@ -46,10 +42,7 @@ impl Model for ClientSeat {
       passes = s.passes.items;
     } };
 
-    ghost invariant = { λ s. (s.seat.me ≡ (client_view s.client s.held s.reading s.passes.items, []))
-        × (s.client < max_clients)
-        × All (λ g. g ≤ max_stamp) s.held × IfSome s.reading (λ r. r.1 ≤ max_tickets)
-        × AreOnBoard s.seat.table_id.words s.held };
+    ghost invariant = { λ s. IsClientSeat s.seat.me s.seat.table_id s.client s.held s.reading s.passes.items };
 }
 
 impl ClientSeat {

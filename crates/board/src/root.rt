@@ -33,8 +33,7 @@ pub struct BoardRoot {
 }
 
 impl Model for BoardRoot {
-    ghost use Rattle.std.specs.Prelude.{◌≡◌, []};
-    ghost use Rattle.board.specs.Roots.{IsRoot, AreWithin};
+    ghost use Rattle.board.specs.Invariants.{IsRootSeat};
     ghost use Rattle.board.specs.Seats.{RootState};
 
     ghost Value = { RootState };
@@ -47,9 +46,7 @@ impl Model for BoardRoot {
       passes = r.passes.items;
     } };
 
-    ghost invariant = { λ r. (r.seat.me.1 ≡ [])
-        × IsRoot r.seat.me.0 r.seats r.voters r.clients r.passes.items
-        × AreWithin r.seat.table_id.words r.voters };
+    ghost invariant = { λ r. IsRootSeat r.seat.me r.seat.table_id r.seats r.voters r.clients r.passes.items };
 }
 
 impl BoardRoot {

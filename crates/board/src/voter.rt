@@ -23,18 +23,14 @@ pub struct VoterSeat {
 }
 
 impl Model for VoterSeat {
-    ghost use Rattle.std.specs.Prelude.{◌≡◌, ◌+◌, ◌<◌, []};
-    ghost use Rattle.numbers.specs.Bounds.{max_voters};
-    ghost use Rattle.board.specs.Roots.{IsCurrent};
+    ghost use Rattle.board.specs.Invariants.{IsVoterSeat};
     ghost use Rattle.board.specs.Seats.{VoterSeatState};
-    ghost use Rattle.board.specs.Views.{voter_view};
 
     ghost Value = { VoterSeatState };
 
     ghost view = { λ s. record { table = s.seat.table_id; voter = s.voter; current = s.current; last = s.last } };
 
-    ghost invariant = { λ s. (s.seat.me ≡ (voter_view s.voter s.current, [])) × (s.voter < max_voters)
-        × IsCurrent s.current s.last × (s.voter + 1 < s.seat.table_id.words) };
+    ghost invariant = { λ s. IsVoterSeat s.seat.me s.seat.table_id s.voter s.current s.last };
 }
 
 impl VoterSeat {

@@ -1,12 +1,9 @@
 -- Lemmas on loads and weights.
 use native.Mathlib.Numerals.{unary_clauses}
-use Rattle.std.proofs.Common.{◌≡◌, ℕ, ◌+◌, ◌<◌, ◌≤◌, true, false, cond, List, [], ◌∷◌, length, get_or, take, drop, zero, suc, max, min, sum, sym, refl, ap, ◌∙◌, inl, inr, arith}
+use Rattle.std.proofs.Common.{◌≡◌, ℕ, ◌+◌, ◌<◌, ◌≤◌, true, false, cond, List, [], ◌∷◌, length, get_or, drop, zero, suc, sum, refl, ap, ◌∙◌, arith}
 use Rattle.std.proofs.lemmas.List.Sums.{sum_by-cons}
-use Rattle.std.proofs.lemmas.Bool.{cases_eq}
 use Rattle.numbers.specs.Sets.{has}
-use Rattle.numbers.specs.Counts.{greatest_below}
 use Rattle.certificate.specs.Loads.{weight_on}
-use Rattle.numbers.specs.Counts.{least_of}
 
 pub load_on_more : (i : ℕ) (qs : List (List ℕ)) (ws : List ℕ) (j : ℕ) → j < length qs → j < length ws → weight_on i (drop j qs) (drop j ws) ≡ cond (has (get_or qs j []) i) (get_or ws j 0) 0 + weight_on i (drop (j + 1) qs) (drop (j + 1) ws)
 load_on_more i [] ws j lq lw = absurd (omega arith)

@@ -15,7 +15,8 @@ use Rattle.certificate.specs.declared.fault.PlanFault.TheVariants.{BadText}
 use Rattle.divisor.specs.Gcd.{gcd_of}
 use Rattle.certificate.specs.Loads.{weight_on}
 use Rattle.certificate.specs.Certificates.{Weighted, IsCertificate, cycle_len, busiest_count, load_of, weights_fault}
-use Rattle.certificate.specs.PlanTexts.{IsShort, Telling, telling_of, title_line, load_line, cycle_line, weights_line, lines_of, text_of_lines, plan_text, read_title, read_load, read_cycle, read_weights, line_at, ◌>>=◌, telling_at, telling_fault, unless_fault, judged, weighted_by, plan_at, MemoryAside}
+use Rattle.texts.specs.Lines.{text_of_lines}
+use Rattle.certificate.specs.PlanTexts.{IsShort, Telling, telling_of, title_line, load_line, cycle_line, weights_line, lines_of, plan_text, read_title, read_load, read_cycle, read_weights, line_at, ◌>>=◌, telling_at, telling_fault, unless_fault, judged, weighted_by, plan_at, MemoryAside}
 use Rattle.certificate.proofs.FaultLaws.{weights_fault-IsCertificate}
 use Rattle.certificate.proofs.LoadLemmas.{weight_on-le}
 use Rattle.certificate.proofs.Spellings.{title-Some, title-again, load-Some, load-again, cycle-Some, cycle-again, weights-Some, weights-again, Lacks-load, Lacks-cycle, Lacks-weights, line_at-Ok, line_at-append}

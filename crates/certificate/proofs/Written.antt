@@ -3,7 +3,8 @@ use Rattle.std.proofs.Common.{◌≡◌, ℕ, ◌+◌, ◌<◌, ◌≤◌, List,
 use Rattle.std.specs.Prelude.{codes, IfOk, IfSome, Some, String, string_bytes}
 use Rattle.std.specs.Fmt.{decimal}
 use Rattle.std.proofs.lemmas.List.{take_more, length-take}
-use Rattle.certificate.specs.PlanTexts.{spaced, title_line, load_line, cycle_line, text_of_lines}
+use Rattle.texts.specs.Lines.{text_of_lines}
+use Rattle.certificate.specs.PlanTexts.{spaced, title_line, load_line, cycle_line}
 use Rattle.certificate.proofs.Spellings.{spaced-push}
 
 pub spaced_first : (new text before ns : List ℕ) (k : ℕ) → k ≤ 0 → k < length ns → new ≡ text ++ decimal (get_or ns k 0) → text ≡ before → before ≡ spaced (take k ns) → new ≡ spaced (take (k + 1) ns)

@@ -1,5 +1,5 @@
 -- Sums of weights: of the quorums with a voter, and of a quorum's members.
-use Rattle.std.specs.Prelude.{ℕ, ◌+◌, List, [], ◌∷◌, min, sum_by, slice_index, if◌then◌else◌}
+use Rattle.std.specs.Prelude.{ℕ, ◌+◌, List, [], ◌∷◌, sum_by, slice_index, if◌then◌else◌}
 use Rattle.numbers.specs.Sets.{has}
 
 -- the sum of the weights of the quorums with this voter

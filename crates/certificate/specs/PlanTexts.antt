@@ -7,7 +7,7 @@
 --     voter B0 B1 ..       the weight of each voter
 --
 -- A number has 1 to 7 decimal digits and no leading zero.
-use Rattle.std.specs.Prelude.{◌<◌, ◌≡◌, ℕ, ◌+◌, Bool, true, false, not, ◌&&◌, ◌||◌, ◌==◌, nat_lt, if◌then◌else◌, List, [], ◌∷◌, ◌++◌, length, take, drop, map, position, slice_index, codes, Option, None, Some, Result, Ok, Err, option_map, option_and_then}
+use Rattle.std.specs.Prelude.{◌<◌, ◌≡◌, ℕ, Bool, true, false, not, ◌&&◌, ◌||◌, ◌==◌, nat_lt, if◌then◌else◌, List, [], ◌∷◌, ◌++◌, length, take, drop, map, slice_index, codes, Option, None, Some, Result, Ok, Err, option_map, option_and_then}
 use Rattle.std.specs.Option.{option_or, ok_or}
 use Rattle.std.specs.List.{list_all, slice_split, join_with_byte}
 use Rattle.std.specs.Char.{is_ascii_digit}
@@ -18,6 +18,7 @@ pub use Rattle.numbers.specs.Results.{◌>>=◌}
 use Rattle.numbers.specs.Results.{RefusesUnless, GivesUnless}
 use Rattle.quorum_set.specs.Coteries.{QuorumSystem}
 use Rattle.texts.specs.Cuts.{cut_at}
+use Rattle.texts.specs.Lines.{text_of_lines}
 use Rattle.certificate.specs.declared.fault.PlanFault.{PlanFault}
 use Rattle.certificate.specs.declared.fault.PlanFault.TheVariants.{BadText, WrongLoad, WrongCycle, OutOfMemory}
 use Rattle.certificate.specs.Certificates.{Weighted, cycle_len, load_of, weights_fault}
@@ -65,11 +66,6 @@ abbrev pub lines_of : Telling → List (List ℕ)
 lines_of t =
     title_line ∷ load_line t.load ∷ cycle_line t.cycle
     ∷ weights_line (codes "quorum ") t.quorum_weights ∷ weights_line (codes "voter ") t.voter_weights ∷ []
-
--- the lines, each with a newline at its end
-abbrev pub text_of_lines : List (List ℕ) → List ℕ
-text_of_lines [] = []
-text_of_lines (line ∷ lines) = line ++ 10 ∷ text_of_lines lines
 
 -- the one text of a plan
 abbrev pub plan_text : Weighted → List ℕ

@@ -1,15 +1,11 @@
 -- What stands in a cycle, and how often.
-use Rattle.std.proofs.Common.{◌≡◌, ℕ, ◌+◌, ◌-◌, ◌<◌, ◌≤◌, Bool, true, false, cond, eqb, leb, List, [], ◌∷◌, ◌++◌, length, get_or, zero, suc, min, sum, sum_by, filter, sym, refl, ap, ◌∙◌, inl, inr, arith}
+use Rattle.std.proofs.Common.{◌≡◌, ℕ, ◌+◌, ◌-◌, ◌<◌, ◌≤◌, cond, leb, List, ◌++◌, length, get_or, zero, suc, min, sum, filter, sym, refl, ap, ◌∙◌, inl, inr, arith}
 use Rattle.std.specs.List.{flat_map, range_with_len}
-use Rattle.std.proofs.lemmas.Bool.{cases_Bool, cases_eq, cases_lt, eq-eqb, ne_eqb, le-leb, lt-leb, leb-true, false_from_ne_true, both_ways}
-use Rattle.std.proofs.lemmas.List.{get_or_past, append-nil, append_assoc}
-use Rattle.std.specs.List.Sorted.{IsPermutation}
-use Rattle.std.proofs.lemmas.List.FromFn.{length-range_with_len}
-use Rattle.std.proofs.lemmas.List.Sorted.{sum_by-IsPermutation}
-use Rattle.std.proofs.lemmas.List.Sums.{sum_by-cons, sum_by-append}
-use Rattle.numbers.specs.Counts.{greatest_below, times}
+use Rattle.std.proofs.lemmas.Bool.{cases_lt, le-leb, lt-leb, leb-true}
+use Rattle.std.proofs.lemmas.List.{get_or_past}
+use Rattle.numbers.specs.Counts.{times}
 use Rattle.dealer.specs.Cycles.{round_of, greatest_weight, cycle_of}
-use Rattle.numbers.proofs.SumsBelow.{sum_by-one, sum_below-same, sum_below-list, length-sum_below}
+use Rattle.numbers.proofs.SumsBelow.{sum_below-same, sum_below-list, length-sum_below}
 use Rattle.numbers.proofs.CountLemmas.{count_above, filter-all, filter-filter, flat_map_range_more, greatest_below-le, times-append, times-get_or, times-filter, times-filter_above}
 
 -- a round names each quorum once whose weight is at least the round's number, and no other

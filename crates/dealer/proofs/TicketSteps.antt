@@ -8,7 +8,8 @@ use lib.ListN.{get_elem?}
 use Rattle.atomic_table.specs.Table.{State, Me, step, keeps, Allows, Splits, Joins, Final, Seen}
 use Rattle.atomic_table.proofs.Lists.{set_again}
 use Rattle.numbers.specs.Sums.{sum_below}
-use Rattle.numbers.proofs.SumLemmas.{late, sum_set, sum_at, sum_alone, sum_plus, sum_one, sum_below-next, sum_below-one, sum_below-late, All-from_late}
+use Rattle.numbers.proofs.SumLemmas.{AreAllBelow-from_sums, late, sum_set, sum_at, sum_alone, sum_plus, sum_one, sum_below-next, sum_below-late, All-from_late}
+use Rattle.numbers.proofs.SumsBelow.{sum_below-one}
 use Rattle.dealer.specs.declared.tickets.Hand.{Hand}
 use Rattle.dealer.specs.declared.tickets.Sheet.{Sheet}
 use Rattle.dealer.specs.Tickets.{hand, IsDealt, Dealt, Draws, Looks, joined, nothing, Ends}
@@ -131,5 +132,6 @@ Ends-from_final sheet id v words slots final =
     let at = final.1.1 in (
       r.fits,
       share_within sheet.quota s r id v at,
-      λ all h. weighs_all sheet.quota s r id v at all h ∙ ap (sum_below h) (count_all sheet.quota s r id v at all),
+      λ all. AreAllBelow-from_sums v.drawn (length v.drawn)
+          (λ h. weighs_all sheet.quota s r id v at all h ∙ ap (sum_below h) (count_all sheet.quota s r id v at all)),
     )

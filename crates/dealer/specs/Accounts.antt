@@ -3,6 +3,7 @@ use Rattle.std.specs.Prelude.{◌≡◌, ℕ, ◌*◌, ◌<◌, ◌≤◌, List,
 use Rattle.std.specs.List.{All, range_with_len}
 use Rattle.quorum_set.specs.Counts.{count_of, busiest_of}
 use Rattle.numbers.specs.Counts.{times}
+use Rattle.numbers.specs.Sums.{AreAllBelow}
 use Rattle.certificate.specs.Certificates.{Weighted, cycle_len}
 use Rattle.dealer.specs.Cycles.{quorum_of_ticket}
 use Rattle.dealer.specs.declared.account.Account.{Account}
@@ -29,9 +30,8 @@ account_of w tickets =
 
 -- the tickets fill k cycles: they are the numbers below k times the cycle's length, each once, in
 -- any order
-pub record IsWholeCycles (w : Weighted) (k : ℕ) (tickets : List ℕ) : Type 0 where
-  pub in_all : length tickets ≡ k * cycle_len w
-  pub each_once : (ticket : ℕ) → ticket < k * cycle_len w → times ticket tickets ≡ 1
+abbrev pub IsWholeCycles : Weighted → ℕ → List ℕ → Type 0
+IsWholeCycles w k tickets = AreAllBelow tickets (k * cycle_len w)
 
 -- no list of n quorums uses its busiest voter less often than this
 abbrev pub IsLeastBusiest : Weighted → ℕ → ℕ → Type 0

@@ -3,3 +3,4 @@ pub mod Blocks
 pub mod Accounts
 pub mod Offices
 pub mod Tickets
+pub mod Invariants

@@ -24,8 +24,8 @@ pub struct Clerk {
 }
 
 impl Model for Clerk {
-    ghost use Rattle.std.specs.Prelude.{◌≡◌, [], map};
-    ghost use Rattle.dealer.specs.Offices.{ClerkState, receipt_of};
+    ghost use Rattle.dealer.specs.Invariants.{IsClerk};
+    ghost use Rattle.dealer.specs.Offices.{ClerkState};
 
     ghost Value = { ClerkState };
 
@@ -35,9 +35,7 @@ impl Model for Clerk {
       receipts = c.receipts.items;
     } };
 
-    ghost invariant = { λ c. (c.seat.me.0.rest ≡ c.rest)
-        × (c.receipts.items ≡ map (receipt_of c.seat.me.0.cycle) c.seat.me.0.drawn)
-        × (c.seat.me.1 ≡ []) };
+    ghost invariant = { λ c. IsClerk c.seat.me c.rest c.receipts.items };
 }
 
 impl Clerk {

@@ -3,14 +3,12 @@ ghost use Rattle.std.specs.Prelude.{◌≡◌, ◌*◌, ◌<◌, ℕ, List, IsPe
 ghost use Rattle.std.specs.List.{range_with_len};
 ghost use Rattle.quorum_set.specs.Counts.{count_of, busiest_of};
 ghost use Rattle.numbers.specs.Counts.{times};
-ghost use Rattle.numbers.specs.Sums.{AreAllBelow};
 ghost use Rattle.certificate.specs.Certificates.{Weighted, IsCertificate, busiest_count, cycle_len};
 ghost use Rattle.certificate.specs.Loads.{weight_on};
 ghost use Rattle.dealer.specs.Cycles.{cycle_of, quorum_of_ticket, GoesByTurns};
 ghost use Rattle.dealer.specs.Accounts.{account_of, quorums_named, IsWholeCycles};
 
 use certificate::whole_cycles_are_even;
-use quorum_set::all_below_stand_once;
 
 /// A cycle is as long as the weights add up to, and contains each quorum as often as its weight
 /// says. It goes by turns. First comes each quorum once, in the order of their numbers. Then each
@@ -31,14 +29,6 @@ pub fn tickets_fill_cycles_in_any_order()
     ensures { (w : Weighted) (k : ℕ) (tickets : List ℕ) →
         IsPermutation (range_with_len 0 (k * cycle_len w)) tickets → IsWholeCycles w k tickets }
 {}
-
-/// The same holds of tickets that are known by sums, as those of an office are.
-pub fn tickets_below_fill_cycles()
-    ensures { (w : Weighted) (k : ℕ) (tickets : List ℕ) →
-        AreAllBelow tickets (k * cycle_len w) → IsWholeCycles w k tickets }
-{
-    all_below_stand_once();
-}
 
 /// Tickets use a voter as often as they use the quorums with this voter, taken together.
 pub fn voters_are_counted_by_quorum()

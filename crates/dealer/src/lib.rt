@@ -76,8 +76,8 @@ pub use counts::Counts;
 pub use cycle::Cycle;
 pub use fault::{DealFault, OfficeFault, Unclosed};
 pub use laws::{
-    cycles_follow_weights, tickets_below_fill_cycles, tickets_fill_cycles_in_any_order,
-    tickets_name_quorums, voters_are_counted_by_quorum, whole_cycles_follow_weights,
+    cycles_follow_weights, tickets_fill_cycles_in_any_order, tickets_name_quorums,
+    voters_are_counted_by_quorum, whole_cycles_follow_weights,
 };
 pub use office::Office;
 pub use receipt::Receipt;

@@ -2,7 +2,6 @@
 ghost use Rattle.std.specs.Prelude.{◌≡◌, ℕ, ◌+◌, ◌-◌, ◌*◌, ◌<◌, ◌≤◌, [], ◌∷◌, ◌++◌, length, map, IfOk, IfErr};
 ghost use Rattle.std.specs.List.{All};
 ghost use Rattle.numbers.specs.Bounds.{max_tickets};
-ghost use Rattle.numbers.specs.Counts.{times};
 ghost use Rattle.numbers.specs.Sums.{AreAllBelow};
 ghost use Rattle.certificate.specs.Certificates.{busiest_count, cycle_len};
 ghost use Rattle.dealer.specs.Accounts.{account_of, IsWholeCycles, IsLeastBusiest};
@@ -12,10 +11,8 @@ use crate::account::Account;
 use crate::clerk::Clerk;
 use crate::cycle::Cycle;
 use crate::fault::{DealFault, OfficeFault, Unclosed};
-use crate::laws::tickets_below_fill_cycles;
 use crate::receipt::Receipt;
 use crate::tickets::{Sheet, TicketTable, end, take_ticket};
-use quorum_set::all_below_stand_once;
 use std::alloc::{AllocError, Global};
 use std::marker::{Brand, Model};
 
@@ -30,7 +27,7 @@ pub struct Office {
 }
 
 impl Model for Office {
-    ghost use Rattle.std.specs.Prelude.{◌≡◌, ◌≤◌};
+    ghost use Rattle.dealer.specs.Invariants.{IsOffice};
     ghost use Rattle.dealer.specs.Offices.{OfficeState};
 
     ghost Value = { OfficeState };
@@ -40,8 +37,7 @@ impl Model for Office {
       quota = o.sheet.quota;
     } };
 
-    ghost invariant = { λ o. (o.table.shared.key ≡ o.sheet)
-        × (o.table.shared.table_id.words ≡ 1) × (o.table.shared.table_id.slots ≡ 0) };
+    ghost invariant = { λ o. IsOffice o.table.shared.key o.table.shared.table_id o.sheet };
 }
 
 /// Returns the tickets of these receipts.
@@ -62,7 +58,6 @@ fn account_of_all(alloc: Global, cycle: &Cycle, receipts: &[Receipt]) -> Result<
     ensures least { (k : ℕ) → length receipts.now ≡ k * cycle_len cycle.now →
         IfOk result (λ account. IsLeastBusiest cycle.now account.drawn account.busiest) }
 {
-    tickets_below_fill_cycles();
     let tickets = ticket_numbers(alloc, receipts)?;
     cycle.account(alloc, &tickets)
 }
@@ -163,8 +158,6 @@ impl Office {
         // ticket's place.
         ensures tickets { IfOk result (λ _.
             AreAllBelow (tickets_of clerk.receipts) (length clerk.receipts)) }
-        ensures each_once { IfOk result (λ _. (ticket : ℕ) → ticket < length clerk.receipts →
-            times ticket (tickets_of clerk.receipts) ≡ 1) }
         ensures quorums { IfOk result (λ _. AreByCycle self.name.cycle clerk.receipts) }
         ensures account { IfOk result (λ closed.
             closed.0 ≡ account_of self.name.cycle (tickets_of clerk.receipts)) }
@@ -184,7 +177,6 @@ impl Office {
             RefusesAccount self.quota (share_of clerk) unclosed.fault) }
         ensures returned { IfErr result (λ unclosed. unclosed.receipts.items ≡ clerk.receipts) }
     {
-        all_below_stand_once();
         let Office { table, sheet } = self;
         let Clerk {
             seat,

@@ -8,6 +8,7 @@ use Rattle.std.proofs.lemmas.List.Sorted.{IsPermutation-map, length_permutation,
 use Rattle.std.proofs.lemmas.List.Sums.{sum_by-cons}
 use Rattle.numbers.specs.Sums.{sum_below, AreAllBelow}
 use Rattle.members.specs.Records.{AreInOrder}
+use Rattle.numbers.proofs.SumLemmas.{AreAllBelow-from_sums, sum_by-AreAllBelow}
 
 -- 1 where the number is n
 abbrev is : ℕ → ℕ → ℕ
@@ -72,12 +73,13 @@ counts_from a (x ∷ xs) up all =
     ]
 
 pub counts_up : (xs : List ℕ) (n : ℕ) → IsNonDecreasing xs → AreAllBelow xs n → length xs ≡ n → AreInOrder xs
-counts_up xs n up all long = counts_from 0 xs up (λ h. all h ∙ below_range h n ∙ ap (λ m. sum_by h (range_with_len 0 m)) (sym long))
+counts_up xs n up all long = counts_from 0 xs up (λ h. sum_by-AreAllBelow xs n all h ∙ below_range h n ∙ ap (λ m. sum_by h (range_with_len 0 m)) (sym long))
 
 -- the same of what is ordered by a number
 pub counts_up_by : {X : Type 0} (f : X → ℕ) (d : X) (xs ys : List X) (n : ℕ) → IsPermutation xs ys → IsNonDecreasingBy f ys → AreAllBelow (map f xs) n → length xs ≡ n → AreInOrder (map f ys)
 counts_up_by f d xs ys n same up all long =
-    counts_up (map f ys) n ascending (λ h. sum_by-IsPermutation h _ _ (IsPermutation-map f xs ys same) ∙ all h) (length-map ys f ∙ length_permutation xs ys same ∙ long)
+    counts_up (map f ys) n ascending
+    (AreAllBelow-from_sums (map f ys) n (λ h. sum_by-IsPermutation h _ _ (IsPermutation-map f xs ys same) ∙ sum_by-AreAllBelow (map f xs) n all h)) (length-map ys f ∙ length_permutation xs ys same ∙ long)
   where
     ascending : IsNonDecreasing (map f ys)
     ascending i j e le lt =

@@ -9,6 +9,7 @@ use mathlib.Core.Option.{some, some-injective, some-ne-none}
 use lib.ListN.{get_elem?}
 use Rattle.numbers.specs.Counts.{times}
 use Rattle.numbers.specs.Sums.{sum_below, AreAllBelow}
+use Rattle.numbers.proofs.SumsBelow.{sum_below-one, sum_by-each_once}
 
 module _ {A : Type 0} (f : A → ℕ) where
   -- one value changes
@@ -80,10 +81,6 @@ zero_at h (x ∷ xs) (suc k) d e lt = zero_at h xs k d (omega (arith, sum_by-con
 pub sum_below-next : (h : ℕ → ℕ) (n : ℕ) → sum_below h (n + 1) ≡ sum_below h n + h n
 sum_below-next h n = ap (sum_below h) (add-one n)
 
-pub sum_below-one : (n : ℕ) → sum_below (λ _. 1) n ≡ n
-sum_below-one zero = refl
-sum_below-one (suc n) = omega (arith, sum_below-one n)
-
 -- a number at or above n weighs 1, and one below nothing
 abbrev pub late : ℕ → ℕ → ℕ
 late n t = cond (ltb t n) 0 1
@@ -101,13 +98,13 @@ sum_below-late n (suc m) h =
 pub All-from_late : (n : ℕ) (list : List ℕ) → sum_by (late n) list ≡ 0 → All (λ t. t < n) list
 All-from_late n list none = λ k d lt. below_from_late n (get_or list k d) (zero_at (late n) list k d none lt)
 
--- a list of all numbers below n is of length n
-pub length-AreAllBelow : (list : List ℕ) (n : ℕ) → AreAllBelow list n → length list ≡ n
-length-AreAllBelow list n all = sym (sum_one list) ∙ all (λ _. 1) ∙ sum_below-one n
+-- the sum of a list of all numbers below n, for every weighting
+pub sum_by-AreAllBelow : (list : List ℕ) (n : ℕ) → AreAllBelow list n → (h : ℕ → ℕ) → sum_by h list ≡ sum_below h n
+sum_by-AreAllBelow list n all h = sum_by-each_once n list all.in_all all.each_once h
 
 -- its numbers are below n
 pub below_AreAllBelow : (list : List ℕ) (n : ℕ) → AreAllBelow list n → All (λ i. i < n) list
-below_AreAllBelow list n all = All-from_late n list (all (late n) ∙ sum_below-late n n (omega arith))
+below_AreAllBelow list n all = All-from_late n list (sum_by-AreAllBelow list n all (late n) ∙ sum_below-late n n (omega arith))
 
 -- the weight 1 at one number and 0 elsewhere
 sum_below-off : (i n : ℕ) → n ≤ i → sum_below (λ k. cond (eqb k i) 1 0) n ≡ 0
@@ -128,6 +125,9 @@ sum_below-at i (suc n) lt =
           omega (arith, sum_below-at i n (omega arith), here)
     ]
 
--- each number below n stands once
-pub times-AreAllBelow : (list : List ℕ) (n i : ℕ) → AreAllBelow list n → i < n → times i list ≡ 1
-times-AreAllBelow list n i all lt = all (λ k. cond (eqb k i) 1 0) ∙ sum_below-at i n lt
+-- a list that has the sum of the numbers below n, for every weighting, is a list of all of them
+pub AreAllBelow-from_sums : (list : List ℕ) (n : ℕ) → ((h : ℕ → ℕ) → sum_by h list ≡ sum_below h n) → AreAllBelow list n
+AreAllBelow-from_sums list n all = record {
+  in_all = sym (sum_one list) ∙ all (λ _. 1) ∙ sum_below-one n;
+  each_once = λ i lt. all (λ k. cond (eqb k i) 1 0) ∙ sum_below-at i n lt;
+}

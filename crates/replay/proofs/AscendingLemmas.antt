@@ -122,10 +122,13 @@ missing_found xs p up so_far lt other =
     ]
 
 pub missing_none : (xs : List ℕ) (p : ℕ) → NoneTwice xs → IsCounted xs p → length xs ≤ p → EachOnce xs
-missing_none xs p single so_far le = λ n lt. elim (cases_lt (times n xs) 2) [
-  | inl less ↦ omega (arith, so_far.seen n (omega arith))
-  | inr more ↦ absurd (single n more)
-]
+missing_none xs p single so_far le = record {
+  in_all = refl;
+  each_once = λ n lt. elim (cases_lt (times n xs) 2) [
+    | inl less ↦ omega (arith, so_far.seen n (omega arith))
+    | inr more ↦ absurd (single n more)
+  ];
+}
 
 -- The same of numbers in another order
 
@@ -140,18 +143,18 @@ missing_same xs ys n same long least =
     ((omega (arith, least.0.0), omega (arith, same n, least.0.1)), λ m missing. least.1 m (omega (arith, missing.0), omega (arith, same m, missing.1)))
 
 pub count_same : (xs ys : List ℕ) → ((m : ℕ) → times m xs ≡ times m ys) → length xs ≡ length ys → EachOnce xs → EachOnce ys
-count_same xs ys same long counts = λ n lt. omega (arith, same n, counts n (omega arith))
+count_same xs ys same long counts = record { in_all = refl; each_once = λ n lt. omega (arith, same n, counts.each_once n (omega arith)) }
 
 -- Numbers that count up
 
 -- whatever stands among them stands once
 pub single_from_count : (ns : List ℕ) → EachOnce ns → NoneTwice ns
 single_from_count ns counts = λ n twice. elim (cases_lt n (length ns)) [
-  | inl less ↦ omega (arith, counts n less)
+  | inl less ↦ omega (arith, counts.each_once n less)
   | inr more ↦
       let size = length ns in
       let none : sum_by (λ x. cond (leb size x) 1 0) ns ≡ 0 =
-      omega (arith, length-sum_below size ns, sum_below-same size (λ y. times y ns) (λ y. 1) counts, sum_below-one size) in
+      omega (arith, length-sum_below size ns, sum_below-same size (λ y. times y ns) (λ y. 1) counts.each_once, sum_below-one size) in
       omega (arith, stands_above size n ns more none)
 ]
   where
@@ -165,4 +168,4 @@ single_from_count ns counts = λ n twice. elim (cases_lt n (length ns)) [
         ]
 
 pub none_missing : (ns : List ℕ) (n : ℕ) → EachOnce ns → ¬ (IsMissing ns n)
-none_missing ns n counts missing = omega (arith, counts n missing.0, missing.1)
+none_missing ns n counts missing = omega (arith, counts.each_once n missing.0, missing.1)

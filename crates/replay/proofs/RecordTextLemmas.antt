@@ -1,7 +1,7 @@
 -- Texts of records, line by line.
 use Rattle.std.proofs.Common.{◌≡◌, ℕ, ◌+◌, ◌<◌, List, [], ◌∷◌, ◌++◌, length, drop, get_or, map, sym, ap, ◌∙◌, append_assoc}
 use Rattle.std.proofs.lemmas.List.{drop_more}
-use Rattle.certificate.specs.PlanTexts.{text_of_lines}
+use Rattle.texts.specs.Lines.{text_of_lines}
 
 abbrev pub lines_by : {X : Type 0} → (X → List ℕ) → List X → List ℕ
 lines_by f xs = text_of_lines (map f xs)

@@ -58,7 +58,7 @@ sound_has_no_fault w e OutOfMemory sound h = refl
 pub whole_cycles : (v w : Weighted) (draws : List Draw) (tickets : List ℕ) (k : ℕ) → v ≡ w → tickets ≡ tickets_of draws → EachOnce (tickets_of draws) → length draws ≡ k * cycle_len w → IsWholeCycles v k tickets
 whole_cycles v w draws tickets k same are counts long =
     let all : length (tickets_of draws) ≡ k * cycle_len w = length-map draws (λ d. d.1) ∙ long in
-    let whole : IsWholeCycles w k (tickets_of draws) = record { in_all = all; each_once = λ t lt. counts t (omega (arith, all)) } in
+    let whole : IsWholeCycles w k (tickets_of draws) = record { in_all = all; each_once = λ t lt. counts.each_once t (omega (arith, all)) } in
     subst (λ (x : Weighted). IsWholeCycles x k tickets) (sym same) (subst (λ (ts : List ℕ). IsWholeCycles w k ts) (sym are) whole)
 
 -- a fault that was found is the first one

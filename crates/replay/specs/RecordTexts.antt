@@ -9,7 +9,7 @@
 -- without a leading zero. One space is between two words.
 use Rattle.std.specs.Prelude.{ℕ, ◌≡◌, ◌≢◌, ◌<◌, ◌≤◌, ◌+◌, ◌^◌, ◌⊎◌, List, [], ◌∷◌, ◌++◌, length, map, codes}
 use Rattle.std.specs.List.{AllByRecursion}
-use Rattle.certificate.specs.PlanTexts.{text_of_lines}
+use Rattle.texts.specs.Lines.{text_of_lines}
 use Rattle.texts.specs.Fields.{fields}
 use Rattle.replay.specs.declared.record_reading.RecordLine.{RecordLine}
 use Rattle.replay.specs.declared.record_reading.RecordLine.TheVariants as kinds

@@ -5,6 +5,7 @@
 use Rattle.std.specs.Prelude.{ℕ, ◌≡◌, ◌≢◌, ◌<◌, ◌≤◌, List, length, map}
 use Rattle.std.specs.List.{All, Contains}
 use Rattle.numbers.specs.Counts.{times}
+use Rattle.numbers.specs.Sums.{AreAllBelow}
 use Rattle.certificate.specs.Certificates.{Weighted}
 use Rattle.dealer.specs.Cycles.{quorum_of_ticket}
 use Rattle.members.specs.declared.record.RunRecord.{RunRecord}
@@ -36,7 +37,7 @@ numbers_of passes = map (λ p. p.1) passes
 
 -- n numbers are 0 to n - 1, each once, in any order
 abbrev pub EachOnce : List ℕ → Type 0
-EachOnce ns = (n : ℕ) → n < length ns → times n ns ≡ 1
+EachOnce ns = AreAllBelow ns (length ns)
 
 -- the draw names the quorum at its ticket's place of the cycle
 abbrev pub IsRight : Weighted → Draw → Type 0

@@ -13,7 +13,7 @@
 use Rattle.std.specs.Prelude.{ℕ, ◌≡◌, ◌≢◌, ◌<◌, ◌≤◌, ◌+◌, ◌^◌, ◌⊎◌, List, [], ◌∷◌, ◌++◌, length, map, codes}
 use Rattle.std.specs.List.{AllByRecursion}
 use Rattle.numbers.specs.Bounds.{max_clients, max_stamp}
-use Rattle.certificate.specs.PlanTexts.{text_of_lines}
+use Rattle.texts.specs.Lines.{text_of_lines}
 use Rattle.texts.specs.Fields.{fields}
 use Rattle.world.specs.declared.step.Step.{Step}
 use Rattle.world.specs.declared.step.Step.TheVariants.{Ask, Deliver, Leave, GiveUp, RemindClient, RemindVoter}

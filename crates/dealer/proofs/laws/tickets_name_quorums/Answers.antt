@@ -1,4 +1,4 @@
-use Rattle.std.proofs.Common.{ℕ, ◌%◌, arith}
+use Rattle.std.proofs.Common.{◌%◌, arith}
 use Rattle.std.proofs.Math.Nat.{mod-lt}
 use Rattle.certificate.specs.Certificates.{cycle_len}
 use Rattle.dealer.proofs.CycleLemmas.{cycle_of-lt}

@@ -1,7 +1,7 @@
 use Rattle.std.proofs.Common.{ℕ, List, subst}
 use Rattle.std.specs.List.{All}
 use Rattle.members.specs.Records.{Draw}
-use Rattle.replay.specs.Records.{EachOnce, IsLeast, IsNumberFault, IsRight, IsTicketFault, IsWrong, entries_of, numbers_of, tickets_of}
+use Rattle.replay.specs.Records.{EachOnce, IsLeast, IsNumberFault, IsRight, IsTicketFault, IsWrong, entries_of}
 use Rattle.replay.proofs.SoundLemmas.{first_of_numbers, first_of_tickets, register_at_end}
 use Rattle.replay.proofs.check.fault_of.Goals as goal
 

@@ -25,18 +25,19 @@ invariant_of-board c =
     let made = c.in_ok-table.ensures in
     let voters = c.voters-voters.ensures.value in
     let is_coterie = c.voters-voters.ensures.coterie in
-    let long : length c.as_slice.result.now ≡ c.voters-voters.result + 1 = ap length (c.as_slice.ensures.value ∙ c.in_ok-words.ensures) ∙ length-replicate (c.voters-voters.result + 1) 0 in (
-      made.5,
-      made.0 ∙ long,
-      made.1,
-      c.requires.some_number,
-      c.requires.limit,
-      c.requires.some_client,
-      c.requires.few_clients,
-      omega (arith, voters, is_coterie.some_voter),
-      omega (arith, voters, is_coterie.few_voters),
-      subst (λ (x : ℕ × List (List ℕ)). AllMeet x.0 x.1) (λ i. (sym voters i, sym c.in_ok-quorums_of.ensures i)) (c.coteries_meet.ensures c.args.coterie.now is_coterie),
-    )
+    let long : length c.as_slice.result.now ≡ c.voters-voters.result + 1 = ap length (c.as_slice.ensures.value ∙ c.in_ok-words.ensures) ∙ length-replicate (c.voters-voters.result + 1) 0 in
+    record {
+      same_sheet = made.5;
+      words = made.0 ∙ long;
+      no_slots = made.1;
+      some_limit = c.requires.some_number;
+      limit = c.requires.limit;
+      some_client = c.requires.some_client;
+      few_clients = c.requires.few_clients;
+      some_voter = omega (arith, voters, is_coterie.some_voter);
+      few_voters = omega (arith, voters, is_coterie.few_voters);
+      meet = subst (λ (x : ℕ × List (List ℕ)). AllMeet x.0 x.1) (λ i. (sym voters i, sym c.in_ok-quorums_of.ensures i)) (c.coteries_meet.ensures c.args.coterie.now is_coterie);
+    }
 
 pub invariant_of-root : goal.invariant_of-root
 invariant_of-root c =
@@ -45,12 +46,13 @@ invariant_of-root c =
     let clients : c.from.result ≡ c.args.clients = c.from.ensures in
     let view = root_view c.voters-voters.result c.args.clients in
     let long : length c.as_slice.result.now ≡ c.voters-voters.result + 1 = ap length (c.as_slice.ensures.value ∙ c.in_ok-words.ensures) ∙ length-replicate (c.voters-voters.result + 1) 0 in
-    let on_below : (v : ℕ) → get_or c.first.result v false ≡ true → v < c.voters-voters.result = λ v on. is_below v c.voters-voters.result (sym (c.first.ensures.first v) ∙ on) in (
-      ap (λ (m : Me (Unit {0}) View). m.1) made.4,
-      subst (λ (x : View × List (ℕ × ℕ)). IsRoot x.0 (c.voters-voters.result + c.from.result) c.first.result c.first-2.result x.1) (λ i. (sym (ap (λ (m : Me (Unit {0}) View). m.0) made.4) i, sym c.new.ensures.items i))
+    let on_below : (v : ℕ) → get_or c.first.result v false ≡ true → v < c.voters-voters.result = λ v on. is_below v c.voters-voters.result (sym (c.first.ensures.first v) ∙ on) in
+    record {
+      no_slots = ap (λ (m : Me (Unit {0}) View). m.1) made.4;
+      root = subst (λ (x : View × List (ℕ × ℕ)). IsRoot x.0 (c.voters-voters.result + c.from.result) c.first.result c.first-2.result x.1) (λ i. (sym (ap (λ (m : Me (Unit {0}) View). m.0) made.4) i, sym c.new.ensures.items i))
           (fresh_root c.voters-voters.result c.args.clients (c.voters-voters.result + c.from.result) c.first.result c.first-2.result
           (omega arith)
           (omega (arith, c.first.ensures.sum, c.first-2.ensures.sum, c.from-2.ensures))
-          (λ v on. omega (arith, on_below v on, c.voters-voters.ensures.value))),
-      λ v on. omega (arith, on_below v on, made.0, ap (λ (z : TableId). z.words) made.2),
-    )
+          (λ v on. omega (arith, on_below v on, c.voters-voters.ensures.value)));
+      on_table = λ v on. omega (arith, on_below v on, made.0, ap (λ (z : TableId). z.words) made.2);
+    }

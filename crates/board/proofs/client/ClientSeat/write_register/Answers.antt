@@ -9,14 +9,14 @@ use Rattle.board.proofs.client.ClientSeat.write_register.Goals as goal
 
 pub store-requires : goal.store-requires
 store-requires c =
-    let same = c.board.invariant.0 in
-    let knows = c.self.invariant.0 in
+    let same = c.board.invariant.same_sheet in
+    let knows = c.self.invariant.view in
     let sheet = ap (λ (s : Setting). s.voters) same in
     let limit = ap (λ (s : Setting). s.limit) same in (
       ap (λ (s : ClientSeatState). s.table) c.self.view_is ∙ c.requires.table ∙ sym (ap (λ (b : BoardState). b.table) c.board.view_is),
-      omega (arith, c.voters-word.ensures.value, c.board.invariant.1),
+      omega (arith, c.voters-word.ensures.value, c.board.invariant.words),
       Wrote-allowed c.board.inside.table.shared.key _ _ _ c.voters-word.result c.in-Some.field-0-0 c.in-Some.number (c.voters-word.ensures.value ∙ sym sheet)
-          (subst (λ (s : Setting). AllMeet s.voters s.quorums) (sym same) c.board.invariant.9)
+          (subst (λ (s : Setting). AllMeet s.voters s.quorums) (sym same) c.board.invariant.meet)
           (ap (λ (m : Me (Unit {0}) View). m.0.parts) knows)
           (ap (λ (m : Me (Unit {0}) View). m.0.reading) knows ∙ c.in-Some.is)
           (λ e. c.if-number-limit.false (e ∙ limit ∙ sym c.limit-limit.ensures.value)),

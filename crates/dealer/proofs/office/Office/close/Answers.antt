@@ -1,31 +1,40 @@
-use Rattle.std.proofs.Common.{◌≡◌, ◌+◌, ◌*◌, length, ap, sym, ◌∙◌, subst, arith}
+use Rattle.std.proofs.Common.{◌≡◌, List, ◌+◌, ◌*◌, length, ap, sym, ◌∙◌, subst, arith}
 use Rattle.numbers.specs.Sums.{AreAllBelow}
 use Rattle.certificate.specs.Certificates.{cycle_len}
 use Rattle.dealer.specs.Accounts.{IsLeastBusiest}
 use Rattle.dealer.specs.Offices.{OfficeName, OfficeState, ClerkState, tickets_of}
+use Rattle.dealer.specs.declared.receipt.Receipt.{Receipt}
 use Rattle.dealer.specs.declared.tickets.Sheet.{Sheet}
-use Rattle.dealer.proofs.ReceiptLemmas.{AreByCycle-map, tickets_of-receipts, length-receipts}
+use Rattle.dealer.proofs.ReceiptLemmas.{AreAllBelow-receipts, AreByCycle-map, length-receipts}
 use Rattle.dealer.proofs.office.Office.close.Goals as goal
 
-pub returns-in-Ok-clause-each_once : goal.returns-in-Ok-clause-each_once
-returns-in-Ok-clause-each_once c = λ ticket lt.
+pub account_of_all-requires : goal.account_of_all-requires
+account_of_all-requires c =
     let hand = c.clerk.inside.seat.me.0 in
     let receipts = ap (λ (v : ClerkState). v.receipts) c.clerk.view_is in
-    let are = sym receipts ∙ c.clerk.invariant.1 in
-    let drawn = tickets_of-receipts hand.cycle hand.drawn c.args.clerk.receipts are in
-    let many : length c.args.clerk.receipts ≡ length hand.drawn = ap length are ∙ length-receipts hand.cycle hand.drawn in
-    let is = ap (λ (s : Sheet). s.quota) c.self.invariant.0 in
+    let are = sym receipts ∙ c.clerk.invariant.receipts in
+    let is = ap (λ (s : Sheet). s.quota) c.self.invariant.same_sheet in
     let whole : length hand.drawn + hand.rest ≡ c.self.inside.table.shared.key.quota =
-    omega (arith, many, ap length receipts, c.len.ensures, c.clerk.invariant.0, is, c.end.ensures.1, c.if-out-gt0.false) in
-    let all : AreAllBelow (tickets_of c.args.clerk.receipts) (length c.args.clerk.receipts) = rw (drawn, many) (c.end.ensures.2 whole) in
-    c.all_below_stand_once.ensures.once (tickets_of c.args.clerk.receipts) (length c.args.clerk.receipts) ticket all lt
+    omega (arith, ap length are ∙ length-receipts hand.cycle hand.drawn, ap length receipts, c.len.ensures, c.clerk.invariant.rest, is, c.end.ensures.1, c.if-out-gt0.false) in
+    subst (λ (l : List Receipt). AreAllBelow (tickets_of l) (length l)) (sym (c.deref.ensures.value ∙ receipts))
+    (AreAllBelow-receipts hand.cycle hand.drawn c.args.clerk.receipts are (c.end.ensures.2 whole))
+
+pub returns-in-Ok-clause-tickets : goal.returns-in-Ok-clause-tickets
+returns-in-Ok-clause-tickets c =
+    let hand = c.clerk.inside.seat.me.0 in
+    let receipts = ap (λ (v : ClerkState). v.receipts) c.clerk.view_is in
+    let are = sym receipts ∙ c.clerk.invariant.receipts in
+    let is = ap (λ (s : Sheet). s.quota) c.self.invariant.same_sheet in
+    let whole : length hand.drawn + hand.rest ≡ c.self.inside.table.shared.key.quota =
+    omega (arith, ap length are ∙ length-receipts hand.cycle hand.drawn, ap length receipts, c.len.ensures, c.clerk.invariant.rest, is, c.end.ensures.1, c.if-out-gt0.false) in
+    AreAllBelow-receipts hand.cycle hand.drawn c.args.clerk.receipts are (c.end.ensures.2 whole)
 
 pub returns-in-Ok-clause-quorums : goal.returns-in-Ok-clause-quorums
 returns-in-Ok-clause-quorums c =
     let hand = c.clerk.inside.seat.me.0 in
     let receipts = ap (λ (v : ClerkState). v.receipts) c.clerk.view_is in
     let cycle = ap (λ (v : ClerkState). v.office.cycle) c.clerk.view_is ∙ ap (λ (n : OfficeName). n.cycle) c.requires in
-    rw (← cycle, sym receipts ∙ c.clerk.invariant.1) (AreByCycle-map hand.cycle hand.drawn)
+    rw (← cycle, sym receipts ∙ c.clerk.invariant.receipts) (AreByCycle-map hand.cycle hand.drawn)
 
 pub returns-in-Ok-clause-least : goal.returns-in-Ok-clause-least
 returns-in-Ok-clause-least c = λ k long.
