@@ -24,3 +24,7 @@ max_stamp = 2 ^ 40
 -- the most tickets; as each pass has a ticket, also the highest number of a register
 abbrev pub max_tickets : ℕ
 max_tickets = 2 ^ 63
+
+-- the greatest capacity of a voter; the least is 1
+abbrev pub max_capacity : ℕ
+max_capacity = 1000

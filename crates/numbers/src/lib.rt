@@ -28,3 +28,6 @@ pub const MAX_STAMP: u64 = 1 << 40;
 
 /// The most tickets. As each pass has a ticket, it is also the highest number of a register.
 pub const MAX_TICKETS: u64 = 1 << 63;
+
+/// The greatest capacity of a voter. The least is 1.
+pub const MAX_CAPACITY: u64 = 1000;
