@@ -1,15 +1,14 @@
 -- Numbers as texts: each is what `decimal` writes, and what `decimal` writes is one.
-use Rattle.std.proofs.Common.{◌≡◌, ℕ, ◌+◌, ◌*◌, ◌<◌, ◌≤◌, true, cond, not, ◌&&◌, ◌||◌, eqb, List, [], ◌∷◌, ◌-◌, length, get_or, take, None, Some, sym, refl, ap, ◌∙◌, inl, inr, arith}
+use Rattle.std.proofs.Common.{◌≡◌, ◌≢◌, ℕ, ◌<◌, ◌≤◌, ◌^◌, true, cond, not, ◌&&◌, ◌||◌, eqb, List, [], ◌∷◌, length, get_or, Option, None, Some, sym, refl, ap, ◌∙◌, inl, inr, arith}
 use Rattle.std.specs.List.{list_all}
-use Rattle.std.specs.Char.{is_ascii_digit, digit_value}
+use Rattle.std.specs.Char.{is_ascii_digit}
 use Rattle.std.specs.Str.{all_ascii_digits}
 use Rattle.std.specs.Str.Parse.{digits_value}
 use Rattle.std.specs.Fmt.{decimal}
-use Rattle.std.proofs.lemmas.Bool.{and_parts, and_from, or_cases, or_left, or_right, not-true, not_from_false, ltb-true, le-ltb, lt-ltb, eqb-true, eq-eqb, ne_eqb, eqb-false, cases_eq}
+use Rattle.std.proofs.lemmas.Bool.{and_parts, and_from, or_cases, or_left, or_right, not-true, not_from_false, ltb-true, lt-ltb, eqb-true, eq-eqb, ne_eqb, eqb-false, cases_eq}
 use Rattle.std.proofs.lemmas.Option.{cond_some}
-use Rattle.std.proofs.lemmas.Int.Digits.{digits_value_more}
-use Rattle.std.proofs.lemmas.Str.Parse.{digit_at, digits_value-take-le, digits_value_short}
-use Rattle.std.proofs.lemmas.Fmt.{decimal-digits_value, digits_value-decimal, digits_decimal, decimal_nonempty, decimal_digit, first_decimal, length-decimal-le}
+use Rattle.std.proofs.lemmas.Str.Parse.{digits_value_short}
+use Rattle.std.proofs.lemmas.Fmt.{decimal-digits_value, digits_value-decimal, digits_decimal, decimal_injective, decimal_nonempty, decimal_digit, first_decimal, length-decimal-le}
 use Rattle.certificate.specs.PlanTexts.{is_number, number_of}
 use Rattle.texts.proofs.CutLemmas.{ascii_numerals}
 
@@ -18,13 +17,13 @@ all_digits [] = refl
 all_digits (b ∷ bs) = ap (λ t. is_ascii_digit b && t) (all_digits bs)
 
 -- what the test of a number says
-pub record IsNumber (bs : List ℕ) : Type 0 where
+record IsNumber (bs : List ℕ) : Type 0 where
   pub some : 0 < length bs
   pub short : length bs ≤ 7
   pub plain : get_or bs 0 0 ≡ 48 → length bs ≡ 1
   pub digits : all_ascii_digits bs ≡ true
 
-pub is_number-IsNumber : (bs : List ℕ) → is_number bs ≡ true → IsNumber bs
+is_number-IsNumber : (bs : List ℕ) → is_number bs ≡ true → IsNumber bs
 is_number-IsNumber bs e =
     let one = and_parts _ _ e in
     let two = and_parts _ _ one.1 in
@@ -46,7 +45,7 @@ IsNumber-is_number bs h =
     ] in
     and_from _ _ (lt-ltb 0 (length bs) h.some) (and_from _ _ (lt-ltb (length bs) 8 (omega (arith, h.short))) (and_from _ _ plain (all_digits bs ∙ h.digits)))
 
-pub small_value : (bs : List ℕ) → IsNumber bs → digits_value 10 bs < 10000000
+small_value : (bs : List ℕ) → IsNumber bs → digits_value 10 bs < 10000000
 small_value bs h = digits_value_short ascii_numerals bs 7 h.digits h.short
 
 pub number_of-Some : (bs : List ℕ) (n : ℕ) → number_of bs ≡ Some n → bs ≡ decimal n
@@ -75,18 +74,6 @@ number_of-decimal n small =
     ap (λ b. cond b (Some (digits_value 10 (decimal n))) None) (IsNumber-is_number (decimal n) (IsNumber-decimal n small))
     ∙ ap Some (digits_value-decimal ascii_numerals n (omega arith))
 
-plain_digit : (c : ℕ) → 48 ≤ c → c < 58 → digit_value c ≡ c - 48
-plain_digit c low high = rw (le-ltb c 48 low, lt-ltb c 58 high) refl
-
--- one more digit is read
-pub next_value : (bs : List ℕ) (i : ℕ) → IsNumber bs → i < length bs → digits_value 10 (take i bs) * 10 + (get_or bs i 0 - 48) ≡ digits_value 10 (take (i + 1) bs)
-next_value bs i h lt =
-    let range = digit_at bs i (ascii_numerals.to bs h.digits) lt in
-    ap (λ d. digits_value 10 (take i bs) * 10 + d) (sym (plain_digit (get_or bs i 0) (omega (arith, range)) (omega (arith, range)))) ∙ sym (digits_value_more 10 bs i lt)
-
-pub next_small : (bs : List ℕ) (i : ℕ) → IsNumber bs → digits_value 10 (take (i + 1) bs) < 10000000
-next_small bs i h = omega (arith, digits_value-take-le 10 bs (i + 1) (omega arith), small_value bs h)
-
 pub number_of-small : (bs : List ℕ) (n : ℕ) → number_of bs ≡ Some n → n < 10000000
 number_of-small bs n e =
     let parts = cond_some (is_number bs) (digits_value 10 bs) n e in
@@ -94,3 +81,18 @@ number_of-small bs n e =
 
 pub number_of-spelled : (bs : List ℕ) (n : ℕ) → bs ≡ decimal n → n < 10000000 → number_of bs ≡ Some n
 number_of-spelled bs n e small = ap number_of e ∙ number_of-decimal n small
+
+None-from_no_value : {X : Type 0} (o : Option X) → ((x : X) → o ≢ Some x) → o ≡ None
+None-from_no_value None none = refl
+None-from_no_value (Some x) none = absurd (none x refl)
+
+-- bytes that spell a longer number are no number
+pub number_of-long : (bs : List ℕ) (n : ℕ) → bs ≡ decimal n → n < 2 ^ 64 → 10000000 ≤ n → number_of bs ≡ None
+number_of-long bs n e fits long =
+    None-from_no_value (number_of bs) (λ m some. let small = number_of-small bs m some in
+    absurd (omega (arith, decimal_injective m n (omega arith) fits (sym (number_of-Some bs m some) ∙ e))))
+
+-- bytes that spell no number below 2^64 are no number
+pub number_of-none : (bs : List ℕ) → ((n : ℕ) → n < 2 ^ 64 → bs ≢ decimal n) → number_of bs ≡ None
+number_of-none bs none =
+    None-from_no_value (number_of bs) (λ m some. let small = number_of-small bs m some in none m (omega arith) (number_of-Some bs m some))

@@ -1,15 +1,17 @@
 //! Reading the text of a plan.
 ghost use Rattle.std.specs.Prelude.{◌≡◌, ◌==◌, IfOk, option_map};
-ghost use Rattle.std.specs.List.{slice_split, list_all};
-ghost use Rattle.std.specs.Char.{is_ascii_digit};
+ghost use Rattle.std.specs.List.{slice_split};
 ghost use Rattle.certificate.specs.Certificates.{Weighted, IsCertificate, IsOptimal};
-ghost use Rattle.certificate.specs.PlanTexts.{plan_text, is_number, number_of, numbers_of, behind, read_title, read_pair, read_load, read_cycle, read_weights, line_at, telling_at, head_at, head_fault, plan_at, Answers, Gives, MemoryAside, RefusesAs};
+ghost use Rattle.certificate.specs.PlanTexts.{plan_text, number_of, numbers_of, behind, read_title, read_pair, read_load, read_cycle, read_weights, line_at, telling_at, head_at, head_fault, plan_at, Answers, Gives, MemoryAside, RefusesAs};
 
 use crate::fault::PlanFault;
 use crate::plan::{Plan, check};
 use quorum_set::Coterie;
 use std::alloc::{AllocError, Global};
 use texts::cut_at;
+
+/// The smallest number that has more digits than a plan's number may have.
+const NUMBER_END: u64 = 10_000_000;
 
 /// The values in the lines of a text, before they are checked.
 #[derive(Drop)]
@@ -20,33 +22,14 @@ struct LinesTold {
     voter_weights: Vec<u64>,
 }
 
-fn are_digits(bytes: &[u8]) -> bool
-    ensures { result ≡ list_all is_ascii_digit bytes.now }
-{
-    bytes.iter().all(|b| b.is_ascii_digit())
-}
-
-fn is_number(bytes: &[u8]) -> bool
-    ensures { result ≡ is_number bytes.now }
-{
-    !bytes.is_empty()
-        && bytes.len() < 8
-        && (bytes.len() == 1 || bytes[0] != b'0')
-        && are_digits(bytes)
-}
-
-/// Returns the number that the bytes are, or `None` if they are not a number.
+/// Returns the number that the bytes are, or `None` if they are not a number of 1 to 7 digits.
 fn number(bytes: &[u8]) -> Option<u64>
     ensures { result ≡ number_of bytes.now }
 {
-    if !is_number(bytes) {
-        return None;
+    match texts::number(bytes) {
+        Some(value) if value < NUMBER_END => Some(value),
+        _ => None,
     }
-    let mut value = 0;
-    for digit in bytes {
-        value = value * 10 + u64::from(*digit - b'0');
-    }
-    Some(value)
 }
 
 /// Returns the numbers between the spaces, or `None` if a word is no number.

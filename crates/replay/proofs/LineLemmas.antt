@@ -1,5 +1,5 @@
 -- Lines of a script: they have no newline, and their words have no space.
-use Rattle.std.proofs.Common.{◌≡◌, ℕ, ◌<◌, ◌^◌, List, [], ◌∷◌, ◌++◌, get_or, Option, Some, None, length, IfSome, ap, ap₂, ◌∙◌, refl, arith, rules}
+use Rattle.std.proofs.Common.{◌≡◌, ℕ, ◌<◌, ◌^◌, List, [], ◌∷◌, ◌++◌, get_or, Option, Some, None, length, IfSome, MatchOption, ap, ap₂, ◌∙◌, refl, arith, rules}
 use Rattle.std.specs.Str.Parse.{AllDigits}
 use Rattle.std.proofs.lemmas.Bool.{ne_eqb}
 use Rattle.std.proofs.lemmas.Str.Parse.{digit_from_value}
@@ -11,6 +11,7 @@ use Rattle.texts.specs.Fields.{AllFit, HasNoSpace, fields}
 use Rattle.texts.proofs.Numbers.{IsNumeralModel-decimal}
 use Rattle.world.specs.declared.step.Step.{Step}
 use Rattle.world.specs.declared.step.Step.TheVariants.{Ask, Deliver, Leave, GiveUp, RemindClient, RemindVoter}
+use Rattle.replay.specs.declared.reading.Sizes.{Sizes}
 use Rattle.replay.specs.Scripts.{AreSizes, HasStepLine, step_line, step_number, step_word, world_line}
 
 -- digits are 48 to 57
@@ -78,12 +79,18 @@ pub two_fields : (ns : List ℕ) (m n : ℕ) → Some ns ≡ Some (m ∷ n ∷ [
 two_fields ns m n e = let same : ns ≡ m ∷ n ∷ [] = cc in (ap (λ l. get_or l 0 0) same, ap (λ l. get_or l 1 0) same)
 
 -- sizes whose word and numbers are a line's are spelled by it
-pub sizes_spelled : (line word rest ns : List ℕ) (found : Option (ℕ × ℕ)) → line ≡ word ++ rest → rest ≡ fields ns → length ns ≡ 2 → IfSome found (λ _. word ≡ 119 ∷ 111 ∷ 114 ∷ 108 ∷ 100 ∷ [])
-    → IfSome found (λ x. (x.0 ≡ get_or ns 0 0) × (x.1 ≡ get_or ns 1 0)) → IfSome found (λ x. line ≡ world_line x.0 x.1)
+pub sizes_spelled : (line word rest ns : List ℕ) (found : Option Sizes) → line ≡ word ++ rest → rest ≡ fields ns → length ns ≡ 2 → IfSome found (λ _. word ≡ 119 ∷ 111 ∷ 114 ∷ 108 ∷ 100 ∷ [])
+    → IfSome found (λ s. (s.clients ≡ get_or ns 0 0) × (s.limit ≡ get_or ns 1 0)) → IfSome found (λ s. line ≡ world_line s.clients s.limit)
 sizes_spelled line word rest ns None whole told two is same = tt
 sizes_spelled line word rest (m ∷ n ∷ []) (Some x) whole told two is same =
-    let parts : rest ≡ fields (x.0 ∷ x.1 ∷ []) = rw (same.0, same.1) told in
+    let parts : rest ≡ fields (x.clients ∷ x.limit ∷ []) = rw (same.0, same.1) told in
     whole ∙ ap₂ (λ (w r : List ℕ). w ++ r) is parts
 sizes_spelled line word rest [] (Some x) whole told two is same = absurd (omega arith)
 sizes_spelled line word rest (m ∷ []) (Some x) whole told two is same = absurd (omega arith)
 sizes_spelled line word rest (m ∷ n ∷ o ∷ more) (Some x) whole told two is same = absurd (omega arith)
+
+-- sizes that were found are those that the line names
+pub sizes_read : (ns : List ℕ) (clients limit : ℕ) (found : Option Sizes) → (get_or ns 0 0 ≡ clients) × (get_or ns 1 0 ≡ limit)
+    → MatchOption found ⊥ (λ s. (s.clients ≡ get_or ns 0 0) × (s.limit ≡ get_or ns 1 0)) → MatchOption found ⊥ (λ s. (s.clients ≡ clients) × (s.limit ≡ limit))
+sizes_read ns clients limit None both some = some
+sizes_read ns clients limit (Some s) both some = (some.0 ∙ both.0, some.1 ∙ both.1)

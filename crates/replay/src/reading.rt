@@ -85,29 +85,40 @@ fn read_steps(alloc: Global, text: &[u8]) -> Result<Vec<Step>, ReplayFault>
     Ok(steps)
 }
 
+/// How large a world is, as the first line of a script says.
+#[derive(Clone, Copy)]
+struct Sizes {
+    clients: u8,
+    limit: u64,
+}
+
 /// Returns the sizes that a word and two numbers give.
-fn sizes_of(word: &[u8], clients: u64, limit: u64) -> Option<(u8, u64)>
-    ensures sizes { IfSome result (λ x. AreSizes x.0 x.1) }
-    ensures word { IfSome result (λ x. word.now ≡ codes "world") }
-    ensures same { IfSome result (λ x. (x.0 ≡ clients) × (x.1 ≡ limit)) }
-    ensures read { AreSizes clients limit → word.now ≡ codes "world" → result ≡ Some (clients, limit) }
+fn sizes_of(word: &[u8], clients: u64, limit: u64) -> Option<Sizes>
+    ensures sizes { IfSome result (λ s. AreSizes s.clients s.limit) }
+    ensures word { IfSome result (λ s. word.now ≡ codes "world") }
+    ensures same { IfSome result (λ s. (s.clients ≡ clients) × (s.limit ≡ limit)) }
+    ensures read { AreSizes clients limit → word.now ≡ codes "world"
+        → MatchOption result ⊥ (λ s. (s.clients ≡ clients) × (s.limit ≡ limit)) }
 {
     if word == b"world".as_slice()
         && (1..=MOST_CLIENTS).contains(&clients)
         && (1..=MAX_STAMP).contains(&limit)
     {
-        Some((clients as u8, limit))
+        Some(Sizes {
+            clients: clients as u8,
+            limit,
+        })
     } else {
         None
     }
 }
 
 /// Reads the sizes of a world from their line, without its newline.
-fn read_sizes(line: &[u8]) -> Option<(u8, u64)>
-    ensures sizes { IfSome result (λ x. AreSizes x.0 x.1) }
-    ensures spelled { IfSome result (λ x. line.now ≡ world_line x.0 x.1) }
+fn read_sizes(line: &[u8]) -> Option<Sizes>
+    ensures sizes { IfSome result (λ s. AreSizes s.clients s.limit) }
+    ensures spelled { IfSome result (λ s. line.now ≡ world_line s.clients s.limit) }
     ensures read { (clients limit : ℕ) → AreSizes clients limit → line.now ≡ world_line clients limit
-        → result ≡ Some (clients, limit) }
+        → MatchOption result ⊥ (λ s. (s.clients ≡ clients) × (s.limit ≡ limit)) }
 {
     let (word, rest) = cut(line);
     match fields::<2>(rest) {
@@ -117,16 +128,16 @@ fn read_sizes(line: &[u8]) -> Option<(u8, u64)>
 }
 
 /// Reads the sizes at the front of a text. Returns them, and what follows their line.
-fn first_sizes(text: &[u8]) -> Option<(u8, u64, &[u8])>
-    ensures sizes { IfSome result (λ x. AreSizes x.0 x.1) }
-    ensures spelled { IfSome result (λ x. text.now ≡ world_line x.0 x.1 ++ 10 ∷ x.2.now) }
+fn first_sizes(text: &[u8]) -> Option<(Sizes, &[u8])>
+    ensures sizes { IfSome result (λ x. AreSizes x.0.clients x.0.limit) }
+    ensures spelled { IfSome result (λ x. text.now ≡ world_line x.0.clients x.0.limit ++ 10 ∷ x.1.now) }
     ensures read { (clients limit : ℕ) (rest : List ℕ) → AreSizes clients limit
         → text.now ≡ world_line clients limit ++ 10 ∷ rest
-        → MatchOption result ⊥ (λ x. (x.0 ≡ clients) × (x.1 ≡ limit) × (x.2.now ≡ rest)) }
+        → MatchOption result ⊥ (λ x. (x.0.clients ≡ clients) × (x.0.limit ≡ limit) × (x.1.now ≡ rest)) }
 {
     match cut_at(text, b'\n') {
         Some((line, rest)) => match read_sizes(line) {
-            Some((clients, limit)) => Some((clients, limit, rest)),
+            Some(sizes) => Some((sizes, rest)),
             None => None,
         },
         None => None,
@@ -148,11 +159,11 @@ pub fn read_script(alloc: Global, text: &[u8]) -> Result<Script, ReplayFault>
     // The first line is read before any memory is allocated.
     ensures first { ¬ (BeginsWith IsWorldLine text.now) → IfErr result (λ fault. fault ≡ BadLine 1) }
 {
-    let Some((clients, limit, rest)) = first_sizes(text) else {
+    let Some((sizes, rest)) = first_sizes(text) else {
         return Err(ReplayFault::BadLine(1));
     };
     match read_steps(alloc, rest) {
-        Ok(steps) => Ok(Script::of(clients, limit, steps)),
+        Ok(steps) => Ok(Script::of(sizes.clients, sizes.limit, steps)),
         Err(fault) => Err(fault),
     }
 }

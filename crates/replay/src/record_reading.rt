@@ -25,10 +25,14 @@ const HIGHEST_QUORUM: u64 = MAX_QUORUMS as u64 - 1;
 /// What a line after the first says.
 #[derive(Clone, Copy)]
 enum RecordLine {
-    /// A client, the ticket that it drew, and the quorum that it received.
-    Draw(u8, u64, usize),
-    /// A client, and the number by which it passed.
-    Pass(u8, u64),
+    /// A client drew a ticket, and received a quorum.
+    Draw {
+        client: u8,
+        ticket: u64,
+        quorum: usize,
+    },
+    /// A client passed by a number.
+    Pass { client: u8, number: u64 },
     /// The register.
     Register(u64),
 }
@@ -40,8 +44,12 @@ impl RecordLine {
             (λ d. self ≡ RecordLine.Draw d.0 d.1 d.2) }
     {
         match self {
-            RecordLine::Draw(client, ticket, quorum) => Some((client, ticket, quorum)),
-            RecordLine::Pass(..) | RecordLine::Register(_) => None,
+            RecordLine::Draw {
+                client,
+                ticket,
+                quorum,
+            } => Some((client, ticket, quorum)),
+            RecordLine::Pass { .. } | RecordLine::Register(_) => None,
         }
     }
 
@@ -51,8 +59,8 @@ impl RecordLine {
             (λ p. self ≡ RecordLine.Pass p.0 p.1) }
     {
         match self {
-            RecordLine::Pass(client, number) => Some((client, number)),
-            RecordLine::Draw(..) | RecordLine::Register(_) => None,
+            RecordLine::Pass { client, number } => Some((client, number)),
+            RecordLine::Draw { .. } | RecordLine::Register(_) => None,
         }
     }
 
@@ -62,7 +70,7 @@ impl RecordLine {
     {
         match self {
             RecordLine::Register(number) => Some(number),
-            RecordLine::Draw(..) | RecordLine::Pass(..) => None,
+            RecordLine::Draw { .. } | RecordLine::Pass { .. } => None,
         }
     }
 }
@@ -72,7 +80,11 @@ fn draw_of(word: &[u8], client: u64, ticket: u64, quorum: u64) -> Option<RecordL
     ensures read { (l : RecordLine) → IsLineOf l word.now (client ∷ ticket ∷ quorum ∷ []) → result ≡ Some l }
 {
     if word == b"draw".as_slice() && client <= HIGHEST_CLIENT && quorum <= HIGHEST_QUORUM {
-        Some(RecordLine::Draw(client as u8, ticket, quorum as usize))
+        Some(RecordLine::Draw {
+            client: client as u8,
+            ticket,
+            quorum: quorum as usize,
+        })
     } else {
         None
     }
@@ -83,7 +95,10 @@ fn pass_of(word: &[u8], client: u64, number: u64) -> Option<RecordLine>
     ensures read { (l : RecordLine) → IsLineOf l word.now (client ∷ number ∷ []) → result ≡ Some l }
 {
     if word == b"pass".as_slice() && client <= HIGHEST_CLIENT {
-        Some(RecordLine::Pass(client as u8, number))
+        Some(RecordLine::Pass {
+            client: client as u8,
+            number,
+        })
     } else {
         None
     }

@@ -1,18 +1,12 @@
-use Rattle.std.proofs.Common.{arith}
-use Rattle.certificate.proofs.Numbers.{next_value, next_small}
+use Rattle.std.proofs.Common.{sym, arith}
+use Rattle.certificate.proofs.Numbers.{number_of-long, number_of-none, number_of-spelled}
 use Rattle.certificate.proofs.reading.number.Goals as goal
 
-pub overflow_mul-value : goal.overflow_mul-value
-overflow_mul-value c =
-    let bs = c.args.bytes.now in
-    omega (arith, next_value bs c.loop-digit.digit-index c.loop-digit.invariant.0 (omega arith), next_small bs c.loop-digit.digit-index c.loop-digit.invariant.0)
+pub returns-in-Some : goal.returns-in-Some
+returns-in-Some c = sym (number_of-spelled c.args.bytes.now c.in-Some.value c.in-Some.ensures.spelled c.if-value-lt-NUMBER_END.true)
 
-pub overflow_add-value : goal.overflow_add-value
-overflow_add-value c =
-    let bs = c.args.bytes.now in
-    omega (arith, c.from.ensures, next_value bs c.loop-digit.digit-index c.loop-digit.invariant.0 (omega arith), next_small bs c.loop-digit.digit-index c.loop-digit.invariant.0)
+pub returns-in_default : goal.returns-in_default
+returns-in_default c = sym (number_of-long c.args.bytes.now c.in-Some.value c.in-Some.ensures.spelled (omega arith) (omega (arith, c.if-value-lt-NUMBER_END.false)))
 
-pub loop-digit-preserved : goal.loop-digit-preserved
-loop-digit-preserved c =
-    let bs = c.args.bytes.now in
-    (c.loop-digit.invariant.0, omega (arith, c.from.ensures, c.loop-digit.invariant.1, next_value bs c.loop-digit.digit-index c.loop-digit.invariant.0 (omega arith)))
+pub returns-in_default-2 : goal.returns-in_default-2
+returns-in_default-2 c = sym (number_of-none c.args.bytes.now (λ n fits e. let some = c.in_default.ensures.read n fits e in cc))

@@ -13,15 +13,14 @@ pub returns-in-Some-read_sizes-clause-read : goal.returns-in-Some-read_sizes-cla
 returns-in-Some-read_sizes-clause-read c clients limit rest h e =
     let line = world_line clients limit in
     let parts = same_pair c.in-Some.line.now line c.in-Some.rest.now rest (c.in-Some.ensures ∙ cut_line c.args.text.now line rest (Lacks-world clients limit h) e) in
-    let same = same_pair c.in-Some-read_sizes.clients clients c.in-Some-read_sizes.limit limit (c.in-Some-read_sizes.ensures.read clients limit h parts.0) in
+    let same = c.in-Some-read_sizes.ensures.read clients limit h parts.0 in
     (same.0, same.1, parts.1)
 
 pub returns-in-None-read_sizes-clause-read : goal.returns-in-None-read_sizes-clause-read
 returns-in-None-read_sizes-clause-read c clients limit rest h e =
     let line = world_line clients limit in
     let parts = same_pair c.in-Some.line.now line c.in-Some.rest.now rest (c.in-Some.ensures ∙ cut_line c.args.text.now line rest (Lacks-world clients limit h) e) in
-    let same = c.in-None-read_sizes.ensures.read clients limit h parts.0 in
-    cc
+    absurd (c.in-None-read_sizes.ensures.read clients limit h parts.0)
 
 pub returns-in-None-clause-read : goal.returns-in-None-clause-read
 returns-in-None-clause-read c clients limit rest h e =

@@ -1,7 +1,7 @@
-use Rattle.std.proofs.Common.{ℕ, [], ◌∷◌, Some, get_or, ap₂, ◌∙◌, refl, arith}
+use Rattle.std.proofs.Common.{[], ◌∷◌, get_or, refl, arith}
 use Rattle.replay.specs.Scripts.{AreSizes}
 use Rattle.texts.specs.Fields.{fields}
-use Rattle.replay.proofs.LineLemmas.{fit_sizes, no_space_world, sizes_spelled, two_fields}
+use Rattle.replay.proofs.LineLemmas.{fit_sizes, no_space_world, sizes_read, sizes_spelled, two_fields}
 use Rattle.replay.proofs.reading.read_sizes.Goals as goal
 
 pub returns-in-Some-clause-read : goal.returns-in-Some-clause-read
@@ -10,7 +10,7 @@ returns-in-Some-clause-read c clients limit h e =
     let found = c.in-Some.ensures.read (clients ∷ limit ∷ []) refl (fit_sizes clients limit h) parts.1 in
     let both = two_fields c.in-Some.numbers clients limit found in
     let sizes : AreSizes (get_or c.in-Some.numbers 0 0) (get_or c.in-Some.numbers 1 0) = rw (both.0, both.1) h in
-    c.sizes_of.ensures.read sizes parts.0 ∙ ap₂ (λ (x y : ℕ). Some (x, y)) both.0 both.1
+    sizes_read c.in-Some.numbers clients limit c.sizes_of.result both (c.sizes_of.ensures.read sizes parts.0)
 
 pub returns-in-None-clause-read : goal.returns-in-None-clause-read
 returns-in-None-clause-read c clients limit h e =
