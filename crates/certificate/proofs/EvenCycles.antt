@@ -1,28 +1,28 @@
 -- Lists in which each quorum stands as often as its weight says.
-use native.Mathlib.Numerals.{unary_clauses}
-use Rattle.std.proofs.Common.{◌≡◌, ℕ, ◌+◌, ◌*◌, ◌≤◌, Bool, true, false, cond, List, [], ◌∷◌, length, get_or, zero, suc, max, sym, refl, ap, ◌∙◌, inl, inr, arith}
+use Rattle.std.proofs.Common.{◌≡◌, ℕ, ◌*◌, ◌≤◌, Bool, true, false, cond, List, [], ◌∷◌, length, get_or, zero, suc, max, refl, ap, inl, inr, arith}
 use Rattle.std.proofs.lemmas.Bool.{cases_lt}
 use Rattle.std.proofs.lemmas.List.{get_or_past}
 use Rattle.std.proofs.Math.Nat.{mul-le-mul_left}
 use Rattle.numbers.specs.Sets.{has}
 use Rattle.quorum_set.specs.Counts.{count_of, busiest_of}
 use Rattle.numbers.specs.Counts.{greatest_below, times}
+use Rattle.numbers.specs.Sums.{sum_below}
 use Rattle.certificate.specs.Loads.{weight_on}
 use Rattle.certificate.specs.Certificates.{Weighted, busiest_count}
-use Rattle.numbers.proofs.RangeSums.{total_from, total_from-same, total_from-shift, total_from-times, count_by-total}
+use Rattle.numbers.proofs.CountLemmas.{count_above}
+use Rattle.numbers.proofs.SumsBelow.{none_above, sum_below-head, sum_below-same, sum_below-times, sum_by-sum_below}
 
 -- the weight on the quorums with a voter, summed quorum by quorum
-weight_on-total : (i : ℕ) (qs : List (List ℕ)) (ws : List ℕ) → length ws ≡ length qs → weight_on i qs ws ≡ total_from 0 (length qs) (λ j. cond (has (get_or qs j []) i) (get_or ws j 0) 0)
-weight_on-total i [] ws e = refl
-weight_on-total i (q ∷ qs) [] e = absurd (omega arith)
-weight_on-total i (q ∷ qs) (x ∷ ws) e =
-    let all : ℕ → ℕ = λ j. cond (has (get_or (q ∷ qs) j []) i) (get_or (x ∷ ws) j 0) 0 in
-    let shifted = total_from-shift 0 (length qs) all in
-    let same = total_from-same 0 (length qs) (λ j. all (j + 1)) (λ j. cond (has (get_or qs j []) i) (get_or ws j 0) 0) (λ j le lt. simp unary_clauses) in
-    omega (arith, shifted, same, weight_on-total i qs ws (omega arith))
+weight_on-sum_below : (i : ℕ) (qs : List (List ℕ)) (ws : List ℕ) → length ws ≡ length qs
+    → weight_on i qs ws ≡ sum_below (λ j. cond (has (get_or qs j []) i) (get_or ws j 0) 0) (length qs)
+weight_on-sum_below i [] ws e = refl
+weight_on-sum_below i (q ∷ qs) [] e = absurd (omega arith)
+weight_on-sum_below i (q ∷ qs) (x ∷ ws) e =
+    let head = sum_below-head (length qs) (λ j. cond (has (get_or (q ∷ qs) j []) i) (get_or (x ∷ ws) j 0) 0) in
+    omega (arith, head, weight_on-sum_below i qs ws (omega arith))
 
-cond-times : (b : Bool) (k x y : ℕ) → x ≡ k * y → cond b x 0 ≡ k * cond b y 0
-cond-times true k x y e = e
+cond-times : (b : Bool) (k x y : ℕ) → x ≡ k * y → cond b 1 0 * x ≡ k * cond b y 0
+cond-times true k x y e = omega (arith, e)
 cond-times false k x y e = omega arith
 
 pub count_of-even : (w : Weighted) (k : ℕ) (list : List ℕ) → length w.quorum_weights ≡ length w.system.quorums → ((j : ℕ) → times j list ≡ k * get_or w.quorum_weights j 0)
@@ -30,11 +30,19 @@ pub count_of-even : (w : Weighted) (k : ℕ) (list : List ℕ) → length w.quor
 count_of-even w k list e stands i =
     let qs = w.system.quorums in
     let ws = w.quorum_weights in
-    count_by-total (λ j. has (get_or qs j []) i) (length qs) (λ j past. ap (λ q. has q i) (get_or_past qs j [] past)) list
-    ∙ total_from-same 0 (length qs) (λ j. cond (has (get_or qs j []) i) (times j list) 0) (λ j. k * cond (has (get_or qs j []) i) (get_or ws j 0) 0)
-    (λ j le lt. cond-times (has (get_or qs j []) i) k (times j list) (get_or ws j 0) (stands j))
-    ∙ total_from-times 0 (length qs) k (λ j. cond (has (get_or qs j []) i) (get_or ws j 0) 0)
-    ∙ ap (λ t. k * t) (sym (weight_on-total i qs ws e))
+    let n = length qs in
+    let on : ℕ → Bool = λ j. has (get_or qs j []) i in
+    let none = count_above n list (λ j past. omega (arith, stands j, ap (λ t. k * t) (get_or_past ws j 0 (omega (arith, e))))) in
+    let even = sum_below-same n (λ j. cond (on j) 1 0 * times j list) (λ j. k * cond (on j) (get_or ws j 0) 0)
+    (λ j lt. cond-times (on j) k (times j list) (get_or ws j 0) (stands j)) in
+    omega (
+      arith,
+      sum_by-sum_below n (λ j. cond (on j) 1 0) list,
+      none_above n (λ j. cond (on j) 1 0) list none,
+      even,
+      sum_below-times n k (λ j. cond (on j) (get_or ws j 0) 0),
+      ap (λ t. k * t) (weight_on-sum_below i qs ws e),
+    )
 
 max-times : (k a b : ℕ) → max (k * a) (k * b) ≡ k * max a b
 max-times k a b =

@@ -8,8 +8,8 @@ use lib.ListN.{get_elem?}
 use Rattle.atomic_table.specs.Table.{State, Me, step, keeps, Allows, Splits, Joins, Final, Seen}
 use Rattle.atomic_table.proofs.Lists.{set_again}
 use Rattle.numbers.specs.Sums.{sum_below}
-use Rattle.numbers.proofs.SumLemmas.{AreAllBelow-from_sums, late, sum_set, sum_at, sum_alone, sum_plus, sum_one, sum_below-next, sum_below-late, All-from_late}
-use Rattle.numbers.proofs.SumsBelow.{sum_below-one}
+use Rattle.numbers.proofs.SumLemmas.{AreAllBelow-from_sums, late, sum_set, sum_at, sum_alone, sum_plus, sum_below-next, sum_below-late, All-from_late}
+use Rattle.numbers.proofs.SumsBelow.{sum_below-one, sum_by-one}
 use Rattle.dealer.specs.declared.tickets.Hand.{Hand}
 use Rattle.dealer.specs.declared.tickets.Sheet.{Sheet}
 use Rattle.dealer.specs.Tickets.{hand, IsDealt, Dealt, Draws, Looks, joined, nothing, Ends}
@@ -21,7 +21,7 @@ TableState = State (Unit {0}) Hand
 shares_sum : (quota : ℕ) (s : TableState) → IsDealt quota s.words s.views → sum_by (λ (u : Hand). length u.drawn + u.rest) s.views ≡ quota
 shares_sum quota s r =
     let ones : sum_by (λ (u : Hand). sum_by (λ _. 1) u.drawn) s.views ≡ slice_index s.words 0 = r.each_once (λ _. 1) ∙ sum_below-one (slice_index s.words 0) in
-    let same : sum_by (λ (u : Hand). length u.drawn) s.views ≡ slice_index s.words 0 = subst (λ (f : Hand → ℕ). sum_by f s.views ≡ slice_index s.words 0) (λ i u. sum_one u.drawn i) ones in
+    let same : sum_by (λ (u : Hand). length u.drawn) s.views ≡ slice_index s.words 0 = subst (λ (f : Hand → ℕ). sum_by f s.views ≡ slice_index s.words 0) (λ i u. sum_by-one u.drawn i) ones in
     let both = sum_plus (λ (u : Hand). length u.drawn) (λ (u : Hand). u.rest) s.views in
     let whole = r.quota_kept in
     omega arith
@@ -42,7 +42,7 @@ weighs_all quota s r id v at all h =
 
 count_all : (quota : ℕ) (s : TableState) → IsDealt quota s.words s.views → (id : ℕ) (v : Hand) → get_elem? s.views id ≡ some v → length v.drawn + v.rest ≡ quota → slice_index s.words 0 ≡ length v.drawn
 count_all quota s r id v at all =
-    sym (sum_below-one (slice_index s.words 0)) ∙ sym (weighs_all quota s r id v at all (λ _. 1)) ∙ sum_one v.drawn
+    sym (sum_below-one (slice_index s.words 0)) ∙ sym (weighs_all quota s r id v at all (λ _. 1)) ∙ sum_by-one v.drawn
 
 -- each ticket of a seat is below the word
 drawn_below : (quota : ℕ) (s : TableState) → IsDealt quota s.words s.views → (id : ℕ) (v : Hand) → get_elem? s.views id ≡ some v → All (λ t. t < slice_index s.words 0) v.drawn

@@ -1,15 +1,15 @@
 -- How often a number is in a list, and greatest values.
-use Rattle.std.proofs.Common.{◌≡◌, ℕ, ◌+◌, ◌-◌, ◌<◌, ◌≤◌, Bool, true, false, cond, eqb, leb, List, [], ◌∷◌, ◌++◌, length, get_or, zero, suc, take, max, min, sum, sum_by, filter, sym, refl, ap, ◌∙◌, inl, inr, arith}
+use Rattle.std.proofs.Common.{◌≡◌, ℕ, ◌+◌, ◌<◌, ◌≤◌, Bool, true, false, cond, eqb, leb, List, [], ◌∷◌, ◌++◌, length, get_or, zero, suc, take, min, sum_by, filter, sym, refl, ap, ◌∙◌, inl, inr, arith}
 use Rattle.std.specs.List.{flat_map, range_with_len}
-use Rattle.std.proofs.lemmas.Bool.{cases_Bool, cases_eq, cases_lt, eq-eqb, ne_eqb, le-leb, lt-leb, leb-true, false_from_ne_true, both_ways}
-use Rattle.std.proofs.lemmas.List.{get_or_past, append-nil, append_assoc}
+use Rattle.std.proofs.lemmas.Bool.{cases_Bool, cases_eq, cases_lt, eq-eqb, ne_eqb, lt-leb, false_from_ne_true, both_ways}
+use Rattle.std.proofs.lemmas.List.{append-nil, append_assoc}
 use Rattle.std.specs.List.Sorted.{IsPermutation}
 use Rattle.std.proofs.lemmas.List.FromFn.{length-range_with_len}
 use Rattle.std.proofs.lemmas.List.Sorted.{sum_by-IsPermutation}
 use Rattle.std.proofs.lemmas.List.Sums.{sum_by-cons, sum_by-append}
 use native.Mathlib.Numerals.{unary_clauses}
 use Rattle.numbers.specs.Counts.{greatest_below, least_of, times}
-use Rattle.numbers.proofs.SumsBelow.{sum_by-one, sum_below-same, sum_below-list, length-sum_below}
+use Rattle.numbers.proofs.SumsBelow.{sum_by-one}
 
 pub times-cons : (j x : ℕ) (xs : List ℕ) → times j (x ∷ xs) ≡ cond (eqb x j) 1 0 + times j xs
 times-cons j x xs = sum_by-cons (λ k. cond (eqb k j) 1 0) x xs

@@ -3,11 +3,19 @@ use Rattle.std.proofs.Common.{◌≡◌, ℕ, ◌+◌, ◌<◌, ◌≤◌, Bool,
 use Rattle.std.proofs.lemmas.Bool.{false≢true, true≢false, eq-eqb, ne_eqb, cases_order, cases_eq}
 use Rattle.std.proofs.lemmas.List.Folds.{list_any-append, list_any_at}
 use Rattle.std.proofs.lemmas.Bool.{cases_lt}
+use Rattle.std.specs.List.{All}
+use Rattle.std.proofs.lemmas.List.Elements.{All-head, All-tail}
 use Rattle.numbers.specs.Sets.{has, Ascends, IsSet, numbers_from, set_where}
 
 pub Ascends-lower : (a b high : ℕ) (s : List ℕ) → b ≤ a → Ascends a high s → Ascends b high s
 Ascends-lower a b high [] le h = tt
 Ascends-lower a b high (x ∷ xs) le h = (omega arith, h.1, h.2)
+
+pub Ascends-all_below : (low high n : ℕ) (s : List ℕ) → Ascends low high s → All (λ i. i < n) s → Ascends low n s
+Ascends-all_below low high n [] h small = tt
+Ascends-all_below low high n (x ∷ xs) h small =
+    let rest = Ascends-all_below (x + 1) high n xs h.2 (All-tail (λ i. i < n) x xs small) in
+    (h.0, All-head (λ i. i < n) x xs small, rest)
 
 -- nothing below the least number is a member
 pub has-below : (low high : ℕ) (s : List ℕ) (i : ℕ) → Ascends low high s → i < low → has s i ≡ false

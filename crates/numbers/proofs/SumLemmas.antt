@@ -1,15 +1,14 @@
 -- Sums of a function over a list, where one value of the list changes, and sums over the numbers below one.
-use Rattle.std.proofs.Common.{◌≡◌, ◌≢◌, ℕ, zero, suc, ◌+◌, ◌<◌, ◌≤◌, List, [], ◌∷◌, length, get_or, set, sym, refl, ap, ◌∙◌, arith, add-one, cond, ltb, eqb, inl, inr}
+use Rattle.std.proofs.Common.{◌≡◌, ◌≢◌, ℕ, zero, suc, ◌+◌, ◌*◌, ◌<◌, ◌≤◌, List, [], ◌∷◌, length, get_or, set, sym, refl, ap, ◌∙◌, arith, add-one, cond, ltb, eqb, inl, inr}
 use Rattle.std.specs.Prelude.{All}
 use Rattle.std.specs.List.{sum_by}
-use Rattle.std.proofs.lemmas.Bool.{cases_eq, eq-eqb, ne_eqb}
+use Rattle.std.proofs.lemmas.Bool.{cases_eq, eq-eqb, ne_eqb, lt-leb}
 use Rattle.std.proofs.lemmas.Bool.Decides.{nat_tests}
 use Rattle.std.proofs.lemmas.List.Sums.{sum_by-cons}
 use mathlib.Core.Option.{some, some-injective, some-ne-none}
 use lib.ListN.{get_elem?}
-use Rattle.numbers.specs.Counts.{times}
 use Rattle.numbers.specs.Sums.{sum_below, AreAllBelow}
-use Rattle.numbers.proofs.SumsBelow.{sum_below-one, sum_by-each_once}
+use Rattle.numbers.proofs.SumsBelow.{sum_below-one, sum_below-same, sum_below-at, sum_by-one, sum_by-each_once}
 
 module _ {A : Type 0} (f : A → ℕ) where
   -- one value changes
@@ -66,11 +65,6 @@ pub sum_plus : {A : Type 0} (f g : A → ℕ) (l : List A) → sum_by (λ x. f x
 sum_plus f g [] = refl
 sum_plus f g (x ∷ xs) = omega (arith, sum_plus f g xs, sum_by-cons f x xs, sum_by-cons g x xs, sum_by-cons (λ y. f y + g y) x xs)
 
--- where each value weighs 1, the sum is the length
-pub sum_one : {A : Type 0} (l : List A) → sum_by (λ _. 1) l ≡ length l
-sum_one [] = refl
-sum_one {A} (x ∷ xs) = omega (arith, sum_one xs, sum_by-cons (λ (_ : A). 1) x xs)
-
 -- where a sum is 0, so is each part
 pub zero_at : (h : ℕ → ℕ) (xs : List ℕ) (k d : ℕ) → sum_by h xs ≡ 0 → k < length xs → h (get_or xs k d) ≡ 0
 zero_at h [] k d e lt = absurd (omega arith)
@@ -106,28 +100,17 @@ sum_by-AreAllBelow list n all h = sum_by-each_once n list all.in_all all.each_on
 pub below_AreAllBelow : (list : List ℕ) (n : ℕ) → AreAllBelow list n → All (λ i. i < n) list
 below_AreAllBelow list n all = All-from_late n list (sum_by-AreAllBelow list n all (late n) ∙ sum_below-late n n (omega arith))
 
--- the weight 1 at one number and 0 elsewhere
-sum_below-off : (i n : ℕ) → n ≤ i → sum_below (λ k. cond (eqb k i) 1 0) n ≡ 0
-sum_below-off i zero le = refl
-sum_below-off i (suc n) le =
-    let here = ap (λ b. cond {A = ℕ} b 1 0) (ne_eqb n i (λ same. omega arith)) in
-    omega (arith, sum_below-off i n (omega arith), here)
-
-sum_below-at : (i n : ℕ) → i < n → sum_below (λ k. cond (eqb k i) 1 0) n ≡ 1
-sum_below-at i zero lt = absurd (omega arith)
-sum_below-at i (suc n) lt =
-    elim (cases_eq n i) as (λ _. sum_below (λ k. cond (eqb k i) 1 0) (suc n) ≡ 1) [
-      | inl last ↦
-          let here = ap (λ b. cond {A = ℕ} b 1 0) (eq-eqb n i last) in
-          omega (arith, sum_below-off i n (omega arith), here)
-      | inr earlier ↦
-          let here = ap (λ b. cond {A = ℕ} b 1 0) (ne_eqb n i earlier) in
-          omega (arith, sum_below-at i n (omega arith), here)
-    ]
-
 -- a list that has the sum of the numbers below n, for every weighting, is a list of all of them
 pub AreAllBelow-from_sums : (list : List ℕ) (n : ℕ) → ((h : ℕ → ℕ) → sum_by h list ≡ sum_below h n) → AreAllBelow list n
 AreAllBelow-from_sums list n all = record {
-  in_all = sym (sum_one list) ∙ all (λ _. 1) ∙ sum_below-one n;
-  each_once = λ i lt. all (λ k. cond (eqb k i) 1 0) ∙ sum_below-at i n lt;
+  in_all = sym (sum_by-one list) ∙ all (λ _. 1) ∙ sum_below-one n;
+  each_once = λ i lt. all (λ k. cond (eqb k i) 1 0) ∙ once i lt;
 }
+  where
+    once : (i : ℕ) → i < n → sum_below (λ k. cond (eqb k i) 1 0) n ≡ 1
+    once i lt =
+        let turned = sum_below-same n (λ k. cond (eqb k i) 1 0) (λ k. 1 * cond (eqb i k) 1 0) (λ k below. elim (cases_eq k i) [
+          | inl at ↦ omega (arith, ap (λ b. cond {A = ℕ} b 1 0) (eq-eqb k i at), ap (λ b. cond {A = ℕ} b 1 0) (eq-eqb i k (sym at)))
+          | inr off ↦ omega (arith, ap (λ b. cond {A = ℕ} b 1 0) (ne_eqb k i off), ap (λ b. cond {A = ℕ} b 1 0) (ne_eqb i k (λ at. off (sym at))))
+        ]) in
+        omega (arith, turned, sum_below-at n i (λ _. 1), ap (λ b. cond {A = ℕ} b 1 0) (lt-leb n i lt))

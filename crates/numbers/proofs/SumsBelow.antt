@@ -1,10 +1,12 @@
 -- Sums over the numbers below a bound, and over lists of numbers.
-use Rattle.std.proofs.Common.{◌≡◌, ℕ, ◌+◌, ◌*◌, ◌%◌, ◌<◌, cond, eqb, leb, List, [], ◌∷◌, length, get_or, zero, suc, sum_by, refl, ap, inl, inr, arith}
+use Rattle.std.proofs.Common.{◌≡◌, ℕ, ◌+◌, ◌*◌, ◌%◌, ◌<◌, Bool, cond, eqb, leb, List, [], ◌∷◌, length, get_or, zero, suc, sum_by, sym, refl, ap, ◌∙◌, inl, inr, arith}
 use Rattle.std.proofs.lemmas.Bool.{cases_eq, cases_lt, eq-eqb, ne_eqb, le-leb, lt-leb}
 use Rattle.std.proofs.lemmas.List.Sums.{sum_by-cons}
 use Rattle.std.proofs.lemmas.Nat.{mod-mul-add}
 use Rattle.numbers.specs.Counts.{times}
+use Rattle.numbers.specs.Sets.{has, Ascends}
 use Rattle.numbers.specs.Sums.{sum_below}
+use Rattle.numbers.proofs.SetLemmas.{has-below, has-head, has-tail}
 
 pub sum_below-same : (n : ℕ) (f g : ℕ → ℕ) → ((i : ℕ) → i < n → f i ≡ g i) → sum_below f n ≡ sum_below g n
 sum_below-same zero f g same = refl
@@ -22,16 +24,20 @@ pub sum_below-add : (n : ℕ) (f g : ℕ → ℕ) → sum_below (λ i. f i + g i
 sum_below-add zero f g = refl
 sum_below-add (suc n) f g = omega (arith, sum_below-add n f g)
 
+pub sum_below-times : (n k : ℕ) (f : ℕ → ℕ) → sum_below (λ i. k * f i) n ≡ k * sum_below f n
+sum_below-times zero k f = omega arith
+sum_below-times (suc n) k f = omega (arith, sum_below-times n k f)
+
 -- the first term apart
-sum_below_front : (n : ℕ) (f : ℕ → ℕ) → sum_below f (suc n) ≡ f 0 + sum_below (λ i. f (suc i)) n
-sum_below_front zero f = omega arith
-sum_below_front (suc n) f = omega (arith, sum_below_front n f)
+pub sum_below-head : (n : ℕ) (f : ℕ → ℕ) → sum_below f (suc n) ≡ f 0 + sum_below (λ i. f (suc i)) n
+sum_below-head zero f = omega arith
+sum_below-head (suc n) f = omega (arith, sum_below-head n f)
 
 -- a sum over a list is one over its places
 pub sum_below-list : (h : ℕ → ℕ) (list : List ℕ) → sum_below (λ i. h (get_or list i 0)) (length list) ≡ sum_by h list
 sum_below-list h [] = refl
 sum_below-list h (x ∷ xs) =
-    omega (arith, sum_below_front (length xs) (λ i. h (get_or (x ∷ xs) i 0)), sum_below-list h xs, sum_by-cons h x xs)
+    omega (arith, sum_below-head (length xs) (λ i. h (get_or (x ∷ xs) i 0)), sum_below-list h xs, sum_by-cons h x xs)
 
 -- a sum over c numbers, in two parts
 sum_below-parts : (a b c : ℕ) (f : ℕ → ℕ) → c ≡ a + b → sum_below f c ≡ sum_below f a + sum_below (λ i. f (a + i)) b
@@ -52,7 +58,7 @@ sum_below-periods (suc k) d n f e =
     omega (arith, parts, last, sum_below-periods k d (k * d) f refl)
 
 -- f at x alone, summed over the numbers below n
-sum_below-at : (n x : ℕ) (f : ℕ → ℕ) → sum_below (λ y. f y * cond (eqb x y) 1 0) n + cond (leb n x) (f x) 0 ≡ f x
+pub sum_below-at : (n x : ℕ) (f : ℕ → ℕ) → sum_below (λ y. f y * cond (eqb x y) 1 0) n + cond (leb n x) (f x) 0 ≡ f x
 sum_below-at zero x f = omega (arith, ap (λ b. cond b (f x) 0) (le-leb 0 x (omega arith)))
 sum_below-at (suc n) x f =
     elim (cases_eq x n) as (λ _. sum_below (λ y. f y * cond (eqb x y) 1 0) (suc n) + cond (leb (suc n) x) (f x) 0 ≡ f x) [
@@ -75,6 +81,22 @@ sum_below-at (suc n) x f =
           ]
     ]
 
+-- f at the members of a set, summed over all numbers below n
+pub sum_below-members : (low n : ℕ) (f : ℕ → ℕ) (q : List ℕ) → Ascends low n q → sum_below (λ i. cond (has q i) (f i) 0) n ≡ sum_by f q
+sum_below-members low n f [] h = sum_below-zero n
+sum_below-members low n f (x ∷ xs) h =
+    let split = sum_below-same n (λ i. cond (has (x ∷ xs) i) (f i) 0) (λ i. f i * cond (eqb x i) 1 0 + cond (has xs i) (f i) 0)
+    (λ i lt. elim (cases_eq x i) [
+      | inl at ↦
+          let here = ap (λ (b : Bool). cond b (f i) 0) (ap (has (x ∷ xs)) (sym at) ∙ has-head x xs) in
+          let later = ap (λ b. cond b (f i) 0) (has-below (x + 1) n xs i h.2 (omega arith)) in
+          omega (arith, here, later, ap (λ b. f i * cond b 1 0) (eq-eqb x i at))
+      | inr off ↦ omega (arith, ap (λ b. cond b (f i) 0) (has-tail x xs i off), ap (λ b. f i * cond b 1 0) (ne_eqb x i off))
+    ]) in
+    let added = sum_below-add n (λ i. f i * cond (eqb x i) 1 0) (λ i. cond (has xs i) (f i) 0) in
+    let inside = ap (λ b. cond b (f x) 0) (lt-leb n x h.1) in
+    omega (arith, split, added, sum_below-at n x f, inside, sum_below-members (x + 1) n f xs h.2, sum_by-cons f x xs)
+
 -- a sum over a list, number by number: those below n as often as they stand there, and the rest
 pub sum_by-sum_below : (n : ℕ) (f : ℕ → ℕ) (list : List ℕ) → sum_by f list ≡ sum_below (λ y. f y * times y list) n + sum_by (λ x. cond (leb n x) (f x) 0) list
 sum_by-sum_below n f [] = omega (arith, sum_below-same n (λ y. f y * 0) (λ y. 0) (λ y lt. omega arith), sum_below-zero n)
@@ -95,9 +117,9 @@ sum_by-sum_below n f (x ∷ xs) =
     times_step : (a e t more : ℕ) → more ≡ e + t → a * more ≡ a * e + a * t
     times_step a e t more same = rw same (omega arith)
 
-pub sum_by-one : (list : List ℕ) → sum_by (λ x. 1) list ≡ length list
+pub sum_by-one : {A : Type 0} (list : List A) → sum_by (λ _. 1) list ≡ length list
 sum_by-one [] = refl
-sum_by-one (x ∷ xs) = omega (arith, sum_by-cons (λ x. 1) x xs, sum_by-one xs)
+sum_by-one {A} (x ∷ xs) = omega (arith, sum_by-cons (λ (_ : A). 1) x xs, sum_by-one xs)
 
 -- where no number from n on stands in a list, nothing is summed over those
 pub none_above : (n : ℕ) (f : ℕ → ℕ) (list : List ℕ) → sum_by (λ x. cond (leb n x) 1 0) list ≡ 0 → sum_by (λ x. cond (leb n x) (f x) 0) list ≡ 0

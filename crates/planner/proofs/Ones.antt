@@ -11,9 +11,10 @@ use Rattle.certificate.specs.Loads.{weight_on, weight_within}
 use Rattle.numbers.specs.Counts.{least_of}
 use Rattle.certificate.specs.Certificates.{IsCertificate, busiest_count, lightest_quorum}
 use Rattle.numbers.proofs.CountLemmas.{least_of-le, greatest_below-le}
-use Rattle.numbers.proofs.RangeSums.{total_from}
+use Rattle.numbers.specs.Sums.{sum_below}
+use Rattle.numbers.proofs.SetLemmas.{Ascends-all_below}
 use Rattle.planner.specs.Uniform.{IsUniform, ones, all_ones, degree_of}
-use Rattle.planner.proofs.Degrees.{Ascends-high, total_from-degrees, total_from-level, level_from_most, sum_by-level, level_from_least, total_from-most, sum_by-least}
+use Rattle.planner.proofs.Degrees.{sum_below-degrees, sum_below-level, level_from_most, sum_by-level, level_from_least, sum_below-most, sum_by-least}
 
 -- the weight on a voter's quorums is the voter's degree
 weight_on-ones : (i : ℕ) (qs : List (List ℕ)) → weight_on i qs (ones (length qs)) ≡ count_by (λ q. has q i) qs
@@ -49,7 +50,7 @@ least_of-level f (q ∷ r ∷ qs) t some h =
 
 -- the quorums ascend below the number of voters
 Ascends-quorums : (s : QuorumSystem) → IsCoterie s → All (Ascends 0 s.voters) s.quorums
-Ascends-quorums s h = λ j d lt. Ascends-high 0 64 s.voters _ (h.sets j d lt) (h.in_range j d lt)
+Ascends-quorums s h = λ j d lt. Ascends-all_below 0 64 s.voters _ (h.sets j d lt) (h.in_range j d lt)
 
 -- the members of a quorum at a place weigh its size
 weight_within-ones_at : (s : QuorumSystem) → IsCoterie s → (j : ℕ) (d : List ℕ) → j < length s.quorums → weight_within (ones s.voters) (get_or s.quorums j d) ≡ length (get_or s.quorums j d)
@@ -77,8 +78,8 @@ IsCertificate-uniform s h u =
     let total = sum-ones n in
     let most : busiest_count (all_ones s) ≡ u.degree = greatest_below-level n (λ i. weight_on i s.quorums (ones q)) u.degree some_voter (λ i lt. weight_on-ones i s.quorums ∙ u.voters i lt) in
     let least : lightest_quorum (all_ones s) ≡ u.size = least_of-level (weight_within (ones n)) s.quorums u.size some_quorum (λ j d lt. weight_within-ones_at s h j d lt ∙ u.quorums j d lt) in
-    let degrees = total_from-degrees n s.quorums (Ascends-quorums s h) in
-    let level : total_from 0 n (degree_of s) ≡ n * u.degree = total_from-level 0 n u.degree (degree_of s) (λ i le lt. u.voters i (omega arith)) in
+    let degrees = sum_below-degrees n s.quorums (Ascends-quorums s h) in
+    let level : sum_below (degree_of s) n ≡ n * u.degree = sum_below-level n u.degree (degree_of s) u.voters in
     let sizes = sum_by-level u.size s.quorums u.quorums in
     let twice : n * u.degree ≡ q * u.size = sym level ∙ degrees ∙ sizes in
     record {
@@ -103,17 +104,17 @@ IsUniform-certificate s h c =
     let t : ℕ = lightest_quorum (all_ones s) in
     let cycle = sum-ones q in
     let total = sum-ones n in
-    let degrees = total_from-degrees n s.quorums (Ascends-quorums s h) in
+    let degrees = sum_below-degrees n s.quorums (Ascends-quorums s h) in
     let balanced : m * n ≡ t * q = ap (λ x. m * x) (sym total) ∙ c.balanced ∙ ap (λ x. t * x) cycle in
     let most : (i : ℕ) → i < n → degree_of s i ≤ m = λ i lt. subst (λ x. x ≤ m) (weight_on-ones i s.quorums) (greatest_below-le n (λ i. weight_on i s.quorums (ones q)) i lt) in
     let least : All (λ r. t ≤ length r) s.quorums = λ j d lt. subst (λ x. t ≤ x) (weight_within-ones_at s h j d lt) (least_of-le (weight_within (ones n)) s.quorums j d lt) in
     let low = sum_by-least t s.quorums least in
-    let high = total_from-most 0 n m (degree_of s) (λ i le lt. most i (omega arith)) in
+    let high = sum_below-most n m (degree_of s) most in
     record {
       size = t;
       degree = m;
       quorums = level_from_least t s.quorums least (omega (arith, degrees, high, balanced));
-      voters = λ i lt. level_from_most 0 n m (degree_of s) (λ i le lt. most i (omega arith)) (omega (arith, degrees, low, balanced)) i (omega arith) (omega arith);
+      voters = level_from_most n m (degree_of s) most (omega (arith, degrees, low, balanced));
     }
 
 pub ones_certify : (s : QuorumSystem) → IsCoterie s → IsCertificate (all_ones s) ↔ IsUniform s
