@@ -20,9 +20,16 @@ Ascends-below : (low high more : ℕ) (s : List ℕ) → high ≤ more → Ascen
 Ascends-below low high more [] le h = tt
 Ascends-below low high more (x ∷ xs) le h = (h.0, omega (arith, h.1), Ascends-below (x + 1) high more xs le h.2)
 
--- a list that does not begin with its least number begins later
-Ascends-after : (low high x : ℕ) (xs : List ℕ) → (x ≡ low → ⊥) → Ascends low high (x ∷ xs) → Ascends (low + 1) high (x ∷ xs)
-Ascends-after low high x xs off h = (omega (arith, h.0), h.1, h.2)
+-- what follows the first number is above the least one, and so is a list that does not begin with it
+Ascends-tail : (low n x : ℕ) (xs : List ℕ) → Ascends low (low + suc n) (x ∷ xs) → Ascends (low + 1) (low + 1 + n) xs
+Ascends-tail low n x xs h =
+    let up : low + suc n ≡ low + 1 + n = omega arith in
+    Ascends-lower (x + 1) (low + 1) (low + 1 + n) xs (omega (arith, h.0)) (rw up at h.2)
+
+Ascends-after : (low n x : ℕ) (xs : List ℕ) → (x ≡ low → ⊥) → Ascends low (low + suc n) (x ∷ xs) → Ascends (low + 1) (low + 1 + n) (x ∷ xs)
+Ascends-after low n x xs off h =
+    let up : low + suc n ≡ low + 1 + n = omega arith in
+    (omega (arith, h.0), omega (arith, h.1), rw up at h.2)
 
 IsChoice-with : (low n k : ℕ) (s : List ℕ) → IsChoice (low + 1) n k s → IsChoice low (suc n) (suc k) (low ∷ s)
 IsChoice-with low n k s choice = record {
@@ -57,17 +64,15 @@ Contains-sets_from low zero (suc k) [] h long = absurd (omega arith)
 Contains-sets_from low zero (suc k) (x ∷ xs) h long = absurd (omega (arith, h.0, h.1))
 Contains-sets_from low (suc n) (suc k) [] h long = absurd (omega arith)
 Contains-sets_from low (suc n) (suc k) (x ∷ xs) h long =
-    let up : low + suc n ≡ low + 1 + n = omega arith in
     let with_low = map (λ s. low ∷ s) (sets_from (low + 1) n k) in
     let without = sets_from (low + 1) n (suc k) in
     elim (cases_eq x low) as (λ _. Contains (with_low ++ without) (x ∷ xs)) [
       | inl first ↦
-          let rest : Ascends (low + 1) (low + 1 + n) xs = Ascends-lower (x + 1) (low + 1) (low + 1 + n) xs (omega arith) (rw up at h.2) in
           Contains-append_left with_low without (x ∷ xs)
-          (rw first (Contains-map (λ s. low ∷ s) (sets_from (low + 1) n k) xs (Contains-sets_from (low + 1) n k xs rest (omega arith))))
+          (rw first (Contains-map (λ s. low ∷ s) (sets_from (low + 1) n k) xs (Contains-sets_from (low + 1) n k xs (Ascends-tail low n x xs h) (omega arith))))
       | inr off ↦
           Contains-append_right with_low without (x ∷ xs)
-          (Contains-sets_from (low + 1) n (suc k) (x ∷ xs) (rw up at (Ascends-after low (low + suc n) x xs off h)) long)
+          (Contains-sets_from (low + 1) n (suc k) (x ∷ xs) (Ascends-after low n x xs off h) long)
     ]
 
 pub length-sets_from : (low n k : ℕ) → length (sets_from low n k) ≡ choose n k
@@ -104,27 +109,24 @@ Ascends-common n low [] t hs ht more = absurd (omega (arith, length-Ascends low 
 Ascends-common n low (x ∷ xs) [] hs ht more = absurd (omega (arith, length-Ascends low (low + n) (x ∷ xs) (omega arith) hs))
 Ascends-common zero low (x ∷ xs) (y ∷ ys) hs ht more = absurd (omega (arith, hs.0, hs.1))
 Ascends-common (suc n) low (x ∷ xs) (y ∷ ys) hs ht more =
-    let up : low + suc n ≡ low + 1 + n = omega arith in
-    let rest_s : Ascends (low + 1) (low + 1 + n) xs =
-    Ascends-lower (x + 1) (low + 1) (low + 1 + n) xs (omega (arith, hs.0)) (rw up at hs.2) in
-    let rest_t : Ascends (low + 1) (low + 1 + n) ys =
-    Ascends-lower (y + 1) (low + 1) (low + 1 + n) ys (omega (arith, ht.0)) (rw up at ht.2) in
+    let rest_s = Ascends-tail low n x xs hs in
+    let rest_t = Ascends-tail low n y ys ht in
     elim (cases_eq x low) [
       | inl first ↦
           elim (cases_eq y low) [
             | inl second ↦ (low, rw first (has-head low xs), rw second (has-head low ys))
             | inr later ↦
-                let (v, v_s, v_t) = Ascends-common n (low + 1) xs (y ∷ ys) rest_s (rw up at (Ascends-after low (low + suc n) y ys later ht)) (omega arith) in
+                let (v, v_s, v_t) = Ascends-common n (low + 1) xs (y ∷ ys) rest_s (Ascends-after low n y ys later ht) (omega arith) in
                 (v, has_later x xs v v_s, v_t)
           ]
       | inr off ↦
           elim (cases_eq y low) [
             | inl second ↦
-                let (v, v_s, v_t) = Ascends-common n (low + 1) (x ∷ xs) ys (rw up at (Ascends-after low (low + suc n) x xs off hs)) rest_t (omega arith) in
+                let (v, v_s, v_t) = Ascends-common n (low + 1) (x ∷ xs) ys (Ascends-after low n x xs off hs) rest_t (omega arith) in
                 (v, v_s, has_later y ys v v_t)
             | inr later ↦
-                Ascends-common n (low + 1) (x ∷ xs) (y ∷ ys) (rw up at (Ascends-after low (low + suc n) x xs off hs))
-                (rw up at (Ascends-after low (low + suc n) y ys later ht)) (omega arith)
+                Ascends-common n (low + 1) (x ∷ xs) (y ∷ ys) (Ascends-after low n x xs off hs)
+                (Ascends-after low n y ys later ht) (omega arith)
           ]
     ]
 
@@ -134,11 +136,8 @@ Ascends-longer_has_other n low s [] hs ht more = absurd (omega arith)
 Ascends-longer_has_other n low [] (y ∷ ys) hs ht more = (y, has-head y ys, refl)
 Ascends-longer_has_other zero low (x ∷ xs) (y ∷ ys) hs ht more = absurd (omega (arith, hs.0, hs.1))
 Ascends-longer_has_other (suc n) low (x ∷ xs) (y ∷ ys) hs ht more =
-    let up : low + suc n ≡ low + 1 + n = omega arith in
-    let rest_s : Ascends (low + 1) (low + 1 + n) xs =
-    Ascends-lower (x + 1) (low + 1) (low + 1 + n) xs (omega (arith, hs.0)) (rw up at hs.2) in
-    let rest_t : Ascends (low + 1) (low + 1 + n) ys =
-    Ascends-lower (y + 1) (low + 1) (low + 1 + n) ys (omega (arith, ht.0)) (rw up at ht.2) in
+    let rest_s = Ascends-tail low n x xs hs in
+    let rest_t = Ascends-tail low n y ys ht in
     elim (cases_eq x low) [
       | inl first ↦
           elim (cases_eq y low) [
@@ -147,7 +146,7 @@ Ascends-longer_has_other (suc n) low (x ∷ xs) (y ∷ ys) hs ht more =
                 let after = (has_from (low + 1) (low + 1 + n) ys v rest_t v_t).0 in
                 (v, has_later y ys v v_t, has-tail x xs v (λ e. omega arith) ∙ v_s)
             | inr later ↦
-                let whole : Ascends (low + 1) (low + 1 + n) (y ∷ ys) = rw up at (Ascends-after low (low + suc n) y ys later ht) in
+                let whole = Ascends-after low n y ys later ht in
                 let (v, v_t, v_s) = Ascends-longer_has_other n (low + 1) xs (y ∷ ys) rest_s whole (omega arith) in
                 let after = (has_from (low + 1) (low + 1 + n) (y ∷ ys) v whole v_t).0 in
                 (v, v_t, has-tail x xs v (λ e. omega arith) ∙ v_s)
@@ -155,10 +154,10 @@ Ascends-longer_has_other (suc n) low (x ∷ xs) (y ∷ ys) hs ht more =
       | inr off ↦
           elim (cases_eq y low) [
             | inl second ↦
-                (y, has-head y ys, has-below (low + 1) (low + suc n) (x ∷ xs) y (Ascends-after low (low + suc n) x xs off hs) (omega arith))
+                (y, has-head y ys, has-below (low + 1) (low + 1 + n) (x ∷ xs) y (Ascends-after low n x xs off hs) (omega arith))
             | inr later ↦
-                Ascends-longer_has_other n (low + 1) (x ∷ xs) (y ∷ ys) (rw up at (Ascends-after low (low + suc n) x xs off hs))
-                (rw up at (Ascends-after low (low + suc n) y ys later ht)) (omega arith)
+                Ascends-longer_has_other n (low + 1) (x ∷ xs) (y ∷ ys) (Ascends-after low n x xs off hs)
+                (Ascends-after low n y ys later ht) (omega arith)
           ]
     ]
 

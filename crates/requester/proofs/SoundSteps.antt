@@ -219,27 +219,34 @@ is_asking-from_failed x v t e = grind (arith, nat_tests)
 holds_under-holds : (x : ClientState) (v g : ℕ) → holds_under x v g ≡ true → holds x v ≡ true
 holds_under-holds x v g e = (both_true-from_and (holds x v) (held_of x v == g) e).0
 
-sound-inquire : (x : ClientState) (v : ℕ) → IsSound x → holds x v ≡ true → IsSound (inquire x v)
-sound-inquire x v s h =
+-- the clock is raised, and votes are marked as asked for, all of which are held
+sound-raised : (x : ClientState) (now : ℕ) (marked : List ℕ) → IsSound x → x.clock ≤ now → ((v : ℕ) → has marked v ≡ true → holds x v ≡ true)
+    → IsSound (record x { clock = now; inquired = marked })
+sound-raised x now marked s later all_held =
     let p = s.places in
+    let before = s.clock in
     record {
       id = s.id;
       some = s.some;
       limit = s.limit;
       places = record { held = p.held; last = p.last };
       stamp = s.stamp;
-      clock = s.clock;
+      clock = omega arith;
       stamped = s.stamped;
       quorum = s.quorum;
       asked = s.asked;
       held = λ u e. let w = s.held u e in record { busy = w.busy; member = w.member; fresh = w.fresh };
       inside = s.inside;
-      inquired = λ u e. elim (has-with_voter x.inquired v u e) [
-        | inl same ↦ ap (holds x) same ∙ h
-        | inr was ↦ s.inquired u was
-      ];
+      inquired = all_held;
       relinquished = s.relinquished;
     }
+
+sound-inquire : (x : ClientState) (v : ℕ) → IsSound x → holds x v ≡ true → IsSound (inquire x v)
+sound-inquire x v s h =
+    sound-raised x x.clock (inquire x v).inquired s (omega arith) (λ u e. elim (has-with_voter x.inquired v u e) [
+      | inl same ↦ ap (holds x) same ∙ h
+      | inr was ↦ s.inquired u was
+    ])
 
 sound-inquired_by : (b hindered : Bool) (x : ClientState) (v g : ℕ) → IsSound x → (is_asking x.phase && holds_under x v g) ≡ b → IsSound (inquired_by b hindered x v).state
 sound-inquired_by false hindered x v g s e = s
@@ -255,24 +262,7 @@ sound-body x v (tells.Fail t) s = sound-failed_by _ x v s (is_asking-from_failed
 sound-body x v (tells.Inquire g) s = sound-inquired_by _ _ x v g s refl
 
 pub sound-see : (x : ClientState) (t : ℕ) → IsSound x → IsSound (see x t)
-sound-see x t s =
-    let clock = s.clock in
-    let p = s.places in
-    record {
-      id = s.id;
-      some = s.some;
-      limit = s.limit;
-      places = record { held = p.held; last = p.last };
-      stamp = s.stamp;
-      clock = omega arith;
-      stamped = s.stamped;
-      quorum = s.quorum;
-      asked = s.asked;
-      held = λ u e. let w = s.held u e in record { busy = w.busy; member = w.member; fresh = w.fresh };
-      inside = s.inside;
-      inquired = s.inquired;
-      relinquished = s.relinquished;
-    }
+sound-see x t s = sound-raised x (see x t).clock x.inquired s (omega arith) s.inquired
 
 pub sound-take : (x : ClientState) (m : ToClient) → IsSound x → IsSound (take x m).state
 unfolding take

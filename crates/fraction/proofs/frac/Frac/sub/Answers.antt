@@ -1,30 +1,25 @@
-use Rattle.std.proofs.Common.{ap, refl}
-use Rattle.fraction.specs.Fractions.{Fraction}
+use Rattle.std.proofs.Common.{refl}
 use Rattle.fraction.proofs.Lowest.{positive-some}
-use Rattle.fraction.proofs.Passed.{to_z-of_z_equal, passed-product, passed_product-some, product-unfit, difference-unfit, IsOk-iff_unmet}
+use Rattle.fraction.proofs.Passed.{to_z-of_z_equal, passed-num, passed-den, passed-product, passed_product-some, product-unfit, difference-unfit, IsOk-iff_unmet}
 use Rattle.fraction.proofs.frac.Frac.sub.Goals as goal
 
 pub returns-in_err-product-2-clause-fits : goal.returns-in_err-product-2-clause-fits
 returns-in_err-product-2-clause-fits c =
-    let seen_c = to_z-of_z_equal c.other.inside.num _ c.other.invariant.num_fits (ap (λ (f : Fraction). f.num) c.other.view_is) in
-    let seen_b = to_z-of_z_equal c.self.inside.den _ c.self.invariant.den_fits (ap (λ (f : Fraction). f.den) c.self.view_is) in
-    IsOk-iff_unmet _ _ c.from_residual-in_err-product-2.ensures.0 (λ fits. product-unfit _ _ _ _ seen_c seen_b c.in_err-product-2.ensures.1 fits.1)
+    let num = passed-num _ _ _ c.other.invariant c.other.view_is in
+    let den = passed-den _ _ _ c.self.invariant c.self.view_is in
+    IsOk-iff_unmet _ _ c.from_residual-in_err-product-2.ensures.0 (λ fits. product-unfit _ _ _ _ num den c.in_err-product-2.ensures.1 fits.1)
 
 pub returns-in_err-num-clause-fits : goal.returns-in_err-num-clause-fits
 returns-in_err-num-clause-fits c =
-    let seen_a = to_z-of_z_equal c.self.inside.num _ c.self.invariant.num_fits (ap (λ (f : Fraction). f.num) c.self.view_is) in
-    let seen_b = to_z-of_z_equal c.self.inside.den _ c.self.invariant.den_fits (ap (λ (f : Fraction). f.den) c.self.view_is) in
-    let seen_c = to_z-of_z_equal c.other.inside.num _ c.other.invariant.num_fits (ap (λ (f : Fraction). f.num) c.other.view_is) in
-    let seen_d = to_z-of_z_equal c.other.inside.den _ c.other.invariant.den_fits (ap (λ (f : Fraction). f.den) c.other.view_is) in
-    let left = passed-product _ _ _ _ _ seen_a seen_d c.in_ok-product.ensures in
-    let right = passed-product _ _ _ _ _ seen_c seen_b c.in_ok-product-2.ensures in
+    let left = passed-product _ _ _ _ _ (passed-num _ _ _ c.self.invariant c.self.view_is) (passed-den _ _ _ c.other.invariant c.other.view_is) c.in_ok-product.ensures in
+    let right = passed-product _ _ _ _ _ (passed-num _ _ _ c.other.invariant c.other.view_is) (passed-den _ _ _ c.self.invariant c.self.view_is) c.in_ok-product-2.ensures in
     IsOk-iff_unmet _ _ c.from_residual-in_err-num.ensures.0 (λ fits. difference-unfit _ _ _ _ left right c.in_err-num.ensures.1 fits.3)
 
 pub returns-in_err-product-3-clause-fits : goal.returns-in_err-product-3-clause-fits
 returns-in_err-product-3-clause-fits c =
-    let seen_b = to_z-of_z_equal c.self.inside.den _ c.self.invariant.den_fits (ap (λ (f : Fraction). f.den) c.self.view_is) in
-    let seen_d = to_z-of_z_equal c.other.inside.den _ c.other.invariant.den_fits (ap (λ (f : Fraction). f.den) c.other.view_is) in
-    IsOk-iff_unmet _ _ c.from_residual-in_err-product-3.ensures.0 (λ fits. product-unfit _ _ _ _ seen_b seen_d c.in_err-product-3.ensures.1 fits.2)
+    let own = passed-den _ _ _ c.self.invariant c.self.view_is in
+    let other = passed-den _ _ _ c.other.invariant c.other.view_is in
+    IsOk-iff_unmet _ _ c.from_residual-in_err-product-3.ensures.0 (λ fits. product-unfit _ _ _ _ own other c.in_err-product-3.ensures.1 fits.2)
 
 pub reduced-requires-clause-divisor : goal.reduced-requires-clause-divisor
 reduced-requires-clause-divisor c =

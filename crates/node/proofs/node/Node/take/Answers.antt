@@ -5,6 +5,8 @@ use Rattle.voter.specs.Steps.{Outcome, effect_of}
 use Rattle.board.specs.Seats.{BoardState, VoterSeatState as SeatState}
 use Rattle.node.specs.Nodes.{NodeState, IsFor, IsNode, offered, settled}
 use Rattle.node.proofs.NodeLemmas.{Took, frees_held, not_refused, may_offer, stays_node}
+use Rattle.node.proofs.node.Node.take.Given.{Over}
+use Rattle.node.proofs.node.Node.take.Goals.{After-held}
 use Rattle.node.proofs.node.Node.take.Goals as goal
 
 pub settle-requires-clause-current : goal.settle-requires-clause-current
@@ -15,15 +17,15 @@ pub unreachable-requires : goal.unreachable-requires
 unreachable-requires g c =
     not_refused c.self.inside.voter c.args.message.now (ap (λ (x : Effect). x.refused) (sym c.effect-effect.ensures) ∙ c.if-effect.false) c.in_default.ensures.refused.0
 
-pub offer-requires-clause-next : goal.offer-requires-clause-next
-offer-requires-clause-next g c =
+-- what the voter's step is known for, and the seat after the settling
+took : (g : Over) (c : After-held g) → Took g.N.ClusterName.cluster.board c.self.inside.voter c.self.inside.log.items c.self.inside.seat c.args.message.now (record { replies = c.in-Ok.replies.items; state = c.take.new.self })
+took g c =
     let v = c.self.inside.voter in
     let m = c.args.message.now in
-    let seat = c.self.inside.seat in
     let o : Outcome = record { replies = c.in-Ok.replies.items; state = c.take.new.self } in
     let s = c.in-Ok.ensures.taken in
     let sound = c.self.invariant.sound in
-    let t : Took g.N.ClusterName.cluster.board v c.self.inside.log.items seat m o = record {
+    record {
       node = c.self.invariant;
       meant = subst (λ (n : NodeState). IsFor g.N.ClusterName.cluster.board n.number m) (sym c.self.view_is) c.requires.message;
       took = s;
@@ -31,34 +33,25 @@ offer-requires-clause-next g c =
       meets = c.voters_meet_the_contract.ensures.steps v m o s;
       carry = c.replies_carry_what_was_seen.ensures.steps v m o s;
       sound = c.voters_stay_sound.ensures.steps v m o sound s;
-    } in
-    let frees : settled c.effect-effect.result.frees seat ≡ settled (effect_of v m).frees seat = ap (λ (x : Effect). settled x.frees seat) c.effect-effect.ensures in
-    let is : c.settle.new.seat ≡ settled (effect_of v m).frees seat = c.if-not-settle.ensures.settled ∙ frees in
-    subst (λ (p : BoardState × SeatState). p.1.current ≡ None → IfSome c.held.result (λ h. (h.client < p.0.clients) × (p.1.last < h.grant) × (h.grant ≤ 2 ^ 40))) (λ i. (sym c.requires.board i, sym is i))
-    (may_offer g.N.ClusterName.cluster.board v c.self.inside.log.items seat m o t c.held.result (sym c.held.ensures))
+    }
+
+seat_settled : (g : Over) (c : After-held g) → c.settle.new.seat ≡ settled (effect_of c.self.inside.voter c.args.message.now).frees c.self.inside.seat
+seat_settled g c = c.if-not-settle.ensures.settled ∙ ap (λ (x : Effect). settled x.frees c.self.inside.seat) c.effect-effect.ensures
+
+pub offer-requires-clause-next : goal.offer-requires-clause-next
+offer-requires-clause-next g c =
+    let at = (goal.at.offer-requires-clause-next g c).After-held in
+    subst (λ (p : BoardState × SeatState). p.1.current ≡ None → IfSome c.held.result (λ h. (h.client < p.0.clients) × (p.1.last < h.grant) × (h.grant ≤ 2 ^ 40))) (λ i. (sym c.requires.board i, sym (seat_settled g at) i))
+    (may_offer g.N.ClusterName.cluster.board c.self.inside.voter c.self.inside.log.items c.self.inside.seat c.args.message.now _ (took g at) c.held.result (sym c.held.ensures))
 
 pub invariant_of-self-2 : goal.invariant_of-self-2
 invariant_of-self-2 g c =
-    let v = c.self.inside.voter in
+    let at = (goal.at.invariant_of-self-2 g c).After-held in
     let m = c.args.message.now in
-    let seat = c.self.inside.seat in
     let log = c.self.inside.log.items in
     let board = g.N.ClusterName.cluster.board in
-    let o : Outcome = record { replies = c.in-Ok.replies.items; state = c.take.new.self } in
-    let s = c.in-Ok.ensures.taken in
-    let sound = c.self.invariant.sound in
-    let t : Took board v log seat m o = record {
-      node = c.self.invariant;
-      meant = subst (λ (n : NodeState). IsFor g.N.ClusterName.cluster.board n.number m) (sym c.self.view_is) c.requires.message;
-      took = s;
-      moves = c.grants_are_numbered.ensures v m o sound s;
-      meets = c.voters_meet_the_contract.ensures.steps v m o s;
-      carry = c.replies_carry_what_was_seen.ensures.steps v m o s;
-      sound = c.voters_stay_sound.ensures.steps v m o sound s;
-    } in
-    let frees : settled c.effect-effect.result.frees seat ≡ settled (effect_of v m).frees seat = ap (λ (x : Effect). settled x.frees seat) c.effect-effect.ensures in
-    let is : c.settle.new.seat ≡ settled (effect_of v m).frees seat = c.if-not-settle.ensures.settled ∙ frees in
-    let after : c.offer.new.seat ≡ offered c.take.new.self.held (settled (effect_of v m).frees seat) = c.offer.ensures ∙ (λ i. offered (c.held.ensures i) (is i)) in
+    let after : c.offer.new.seat ≡ offered c.take.new.self.held (settled (effect_of c.self.inside.voter m).frees c.self.inside.seat) =
+    c.offer.ensures ∙ (λ i. offered (c.held.ensures i) (seat_settled g at i)) in
     let pushed : c.push_reserved.new.self.items ≡ log ++ m ∷ [] = c.push_reserved.ensures.items ∙ ap (λ (l : List ToVoter). l ++ m ∷ []) c.in_ok-reserve.ensures.items in
     subst (λ (p : List ToVoter × SeatState). IsNode board c.take.new.self p.0 p.1) (λ i. (sym pushed i, sym after i))
-    (stays_node board v log seat m o t)
+    (stays_node board c.self.inside.voter log c.self.inside.seat m _ (took g at))
