@@ -1,7 +1,6 @@
 //! Tests of running threads and of their records through public calls. This crate has nothing but
 //! tests.
 //!
-//! - `boards` has votes and the register; `nodes` and `services` have nodes and mailboxes.
 //! - `clusters` makes clusters for `drives` and `gates`.
 //! - `record_texts` reads records, `record_checks` checks them, and `records_of_runs` and
 //!   `runs_of_plans` make them.
@@ -11,15 +10,11 @@
 #![tactic(auto)]
 
 #[cfg(test)]
-mod boards;
-#[cfg(test)]
 mod clusters;
 #[cfg(test)]
 mod drives;
 #[cfg(test)]
 mod gates;
-#[cfg(test)]
-mod nodes;
 #[cfg(test)]
 mod record_checks;
 #[cfg(test)]
@@ -28,5 +23,3 @@ mod record_texts;
 mod records_of_runs;
 #[cfg(test)]
 mod runs_of_plans;
-#[cfg(test)]
-mod services;

@@ -1,5 +1,5 @@
 use Rattle.std.proofs.Common.{◌≡◌}
-use Rattle.threads_tests.proofs.boards.offer_next.Given as goal
+use Rattle.boards_tests.proofs.boards.offer_next.Given as goal
 
 abbrev pub invariant-loop : goal.invariant-loop
 invariant-loop l = l.voter ≡ l.initial.voter
