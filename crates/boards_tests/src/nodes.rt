@@ -155,14 +155,17 @@ fn frees<N: ClusterName>(
     Ok(!early & reminded & freed & silent & again)
 }
 
-/// Returns whether a node grants its vote and frees it, and whether it leaves a seat without a
-/// grant if the last one was not taken.
-fn settles<N: ClusterName>(
+/// Whether a node did what it has to do, and the grant that it leaves with its seat.
+type Left = (bool, Option<(u8, u64)>);
+
+/// Returns what a node leaves after client 0 took its vote, and, if `gives` says so, gave it back.
+fn left_of<N: ClusterName>(
     alloc: Global,
     board: &Board,
     seat: VoterSeat,
     client: &mut ClientSeat,
-) -> Result<bool, AllocError>
+    gives: bool,
+) -> Result<Left, AllocError>
     requires board { board.now ≡ N.cluster.board }
     requires clients { (0 < board.now.clients) × (board.now.clients ≤ 64) }
     requires voters { 0 < board.now.voters }
@@ -171,48 +174,27 @@ fn settles<N: ClusterName>(
 {
     let mut node: Node<N> = Node::new(alloc, seat);
     let entered = enters(board, &mut node, client)?;
-    let freed = frees(board, &mut node, client)?;
-    Ok(entered & freed & node.into_seat(board).current().is_none())
+    let freed = !gives || frees(board, &mut node, client)?;
+    Ok((entered & freed, node.into_seat(board).current()))
 }
 
-/// Returns whether a node whose vote is taken leaves its seat with the grant.
-fn keeps<N: ClusterName>(
-    alloc: Global,
-    board: &Board,
-    seat: VoterSeat,
-    client: &mut ClientSeat,
-) -> Result<bool, AllocError>
-    requires board { board.now ≡ N.cluster.board }
-    requires clients { (0 < board.now.clients) × (board.now.clients ≤ 64) }
-    requires voters { 0 < board.now.voters }
-    requires seat { seat ≡ record { table = board.now.table; voter = 0; current = None; last = 0 } }
-    requires client { client.old.table ≡ board.now.table }
-{
-    let mut node: Node<N> = Node::new(alloc, seat);
-    let entered = enters(board, &mut node, client)?;
-    Ok(entered & (node.into_seat(board).current() == Some((0, 1))))
+/// Returns the same of a node on a board of its own.
+fn left(alloc: Global, gives: bool) -> Result<Option<Left>, Fail> {
+    let Some((board, _root, seat, mut client)) = seated(alloc, 1, 1)? else {
+        return Ok(None);
+    };
+    let left = left_of::<Brand>(alloc, &board, seat, &mut client, gives)?;
+    Ok(Some(left))
 }
 
 #[test]
 fn node_takes_and_settles(rt: HostRuntime) -> Result<(), Fail> {
-    let settled = match seated(rt.alloc(), 1, 1)? {
-        Some((board, _root, seat, mut client)) => {
-            settles::<Brand>(rt.alloc(), &board, seat, &mut client)?
-        }
-        None => false,
-    };
-    assert!(rt; settled);
+    assert!(rt; left(rt.alloc(), true)? == Some((true, None)));
     Ok(())
 }
 
 #[test]
 fn node_keeps_a_grant_that_is_taken(rt: HostRuntime) -> Result<(), Fail> {
-    let kept = match seated(rt.alloc(), 1, 1)? {
-        Some((board, _root, seat, mut client)) => {
-            keeps::<Brand>(rt.alloc(), &board, seat, &mut client)?
-        }
-        None => false,
-    };
-    assert!(rt; kept);
+    assert!(rt; left(rt.alloc(), false)? == Some((true, Some((0, 1)))));
     Ok(())
 }
