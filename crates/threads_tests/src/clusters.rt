@@ -51,6 +51,16 @@ pub(crate) struct Outcome {
     pub(crate) fault: Option<ClusterFault>,
 }
 
+/// Returns the outcome of members that come back idle, have a ticket for each pass, and no fault.
+pub(crate) fn done(idle: usize, passes: usize) -> Outcome {
+    Outcome {
+        idle,
+        draws: passes,
+        passes,
+        fault: None,
+    }
+}
+
 /// Returns an outcome with what one more member has done.
 fn with_member<N: ClusterName>(outcome: Outcome, member: &Member<N>) -> Outcome {
     Outcome {
@@ -95,16 +105,24 @@ fn driven_by_name<N: ClusterName + Send + Sync, R: Threads + Wait + Sync, G: Gat
     }
 }
 
-/// Drives all members of a cluster once, if there is one, and returns the result.
+/// How many clients a cluster has, how many tickets each may draw, and how many passes each has to
+/// make in how many turns.
+pub(crate) type Size = (u8, u64, u64, u64);
+
+/// Drives all members of a cluster of a plan once, and returns the result; `None` if there is no
+/// cluster.
 pub(crate) fn driven<R: Threads + Wait + Sync, G: Gate>(
     rt: &R,
     alloc: Global,
-    blank: Option<Blank>,
-    passes: u64,
-    turns: u64,
+    plan: Option<Plan>,
+    size: Size,
     gate: &G,
-) -> Result<Option<Outcome>, AllocError> {
-    let Some(blank) = blank else {
+) -> Result<Option<Outcome>, AllocError>
+    requires clients { (1 ≤ size.0) × (size.0 ≤ 64) }
+    requires quota { size.1 ≤ 1000 }
+{
+    let (clients, quota, passes, turns) = size;
+    let Some(blank) = blank_of(alloc, plan, clients, quota) else {
         return Ok(None);
     };
     let outcome = driven_by_name::<Brand, _, _>(rt, alloc, blank, passes, turns, gate)?;

@@ -2,94 +2,23 @@
 ghost use Rattle.std.specs.Prelude.{◌≡◌};
 ghost use Rattle.members.specs.Clusters.{ClusterState};
 
-use crate::clusters::{MANY, Outcome, blank_of, driven};
-use cluster::{Blank, Cluster, ClusterFault, ClusterName, Gate, Member, NoGate, drive};
+use crate::clusters::{MANY, Outcome, blank_of, done, driven};
+use cluster::{Blank, Cluster, ClusterFault, ClusterName, Member, NoGate, drive};
 use dealer::DealFault;
+use meeting::Meeting;
 use small_plans::{grid_plan, majority_plan};
 use std::alloc::{AllocError, Global};
 use std::marker::Brand;
 use std::sync::Wait;
-use std::sync::atomic::{AtomicBool, Ordering};
 use std::test::Fail;
-use std::thread;
 use std::thread::Threads;
-
-/// A gate that keeps client 0 inside until client 1, which came meanwhile, has asked.
-#[derive(Drop)]
-struct Meeting {
-    inside: AtomicBool,
-    came: AtomicBool,
-    drew: AtomicBool,
-    late: AtomicBool,
-}
-
-impl Meeting {
-    fn new() -> Meeting {
-        Meeting {
-            inside: AtomicBool::new(false),
-            came: AtomicBool::new(false),
-            drew: AtomicBool::new(false),
-            late: AtomicBool::new(false),
-        }
-    }
-
-    /// Waits until a call was made. If it never is, the meeting is late.
-    fn wait_for(&self, call: &AtomicBool) {
-        for _ in 0..1_000_000_000u64 {
-            if call.load(Ordering::SeqCst) {
-                return;
-            }
-            thread::yield_now();
-        }
-        self.late.store(true, Ordering::SeqCst);
-    }
-
-    /// Returns whether each of the calls came in time.
-    fn took_place(&self) -> bool {
-        self.inside.load(Ordering::SeqCst)
-            && self.came.load(Ordering::SeqCst)
-            && self.drew.load(Ordering::SeqCst)
-            && !self.late.load(Ordering::SeqCst)
-    }
-}
-
-impl Gate for Meeting {
-    fn before(&self, client: u8) {
-        if client == 1 {
-            self.came.store(true, Ordering::SeqCst);
-            self.wait_for(&self.inside);
-        }
-    }
-
-    fn drawn(&self, client: u8) {
-        if client == 1 {
-            self.drew.store(true, Ordering::SeqCst);
-        }
-    }
-
-    fn may_pass(&self, client: u8) -> bool {
-        if client != 0 {
-            return true;
-        }
-        self.inside.store(true, Ordering::SeqCst);
-        self.wait_for(&self.came);
-        self.drew.load(Ordering::SeqCst)
-    }
-}
 
 #[test]
 fn two_members_run_at_once(rt: HostRuntime) -> Result<(), Fail> {
     let alloc = rt.alloc();
     let gate = Meeting::new();
-    let blank = blank_of(alloc, majority_plan(alloc), 2, 1);
-    let outcome = driven(&rt, alloc, blank, 1, MANY, &gate)?;
-    let wanted = Outcome {
-        idle: 2,
-        draws: 2,
-        passes: 2,
-        fault: None,
-    };
-    assert!(rt; (outcome == Some(wanted)) & gate.took_place());
+    let outcome = driven(&rt, alloc, majority_plan(alloc), (2, 1, 1, MANY), &gate)?;
+    assert!(rt; (outcome == Some(done(2, 2))) & gate.took_place());
     Ok(())
 }
 
@@ -115,13 +44,12 @@ const ROWS: [Row; 4] = [
 fn members_come_as_far_as_they_may(rt: HostRuntime) -> Result<(), Fail> {
     let alloc = rt.alloc();
     for (passes, turns, draws, passed, fault) in ROWS {
-        let blank = blank_of(alloc, majority_plan(alloc), 2, 3);
-        let outcome = driven(&rt, alloc, blank, passes, turns, &NoGate)?;
+        let size = (2, 3, passes, turns);
+        let outcome = driven(&rt, alloc, majority_plan(alloc), size, &NoGate)?;
         let wanted = Outcome {
-            idle: 2,
             draws,
-            passes: passed,
             fault,
+            ..done(2, passed)
         };
         assert_eq!(rt; outcome, Some(wanted), "{passes} passes");
     }
@@ -131,15 +59,8 @@ fn members_come_as_far_as_they_may(rt: HostRuntime) -> Result<(), Fail> {
 #[test]
 fn four_members_make_four_hundred_passes(rt: HostRuntime) -> Result<(), Fail> {
     let alloc = rt.alloc();
-    let blank = blank_of(alloc, grid_plan(alloc), 4, 100);
-    let outcome = driven(&rt, alloc, blank, 100, MANY, &NoGate)?;
-    let wanted = Outcome {
-        idle: 4,
-        draws: 400,
-        passes: 400,
-        fault: None,
-    };
-    assert_eq!(rt; outcome, Some(wanted));
+    let outcome = driven(&rt, alloc, grid_plan(alloc), (4, 100, 100, MANY), &NoGate)?;
+    assert_eq!(rt; outcome, Some(done(4, 400)));
     Ok(())
 }
 

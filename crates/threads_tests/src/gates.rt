@@ -1,5 +1,5 @@
 //! Turns and gates: when a gate is asked, and how many turns a member takes.
-use crate::clusters::{MANY, Outcome, blank_of, driven};
+use crate::clusters::{MANY, Outcome, done, driven};
 use cluster::{ClusterFault, Gate};
 use small_plans::majority_plan;
 use std::alloc::{AllocError, Global};
@@ -91,8 +91,13 @@ fn alone<R: Threads + Wait + Sync>(
     turns: u64,
 ) -> Result<Driven, AllocError> {
     let gate = Counting::opens_at(question);
-    let blank = blank_of(alloc, majority_plan(alloc), 1, 10);
-    let outcome = driven(rt, alloc, blank, passes, turns, &gate)?;
+    let outcome = driven(
+        rt,
+        alloc,
+        majority_plan(alloc),
+        (1, 10, passes, turns),
+        &gate,
+    )?;
     Ok((outcome, gate.calls(0)))
 }
 
@@ -105,10 +110,9 @@ fn wanted(passes: usize, spent: bool, calls: Calls) -> Driven {
         None
     };
     let outcome = Outcome {
-        idle: 1,
         draws: calls.1 as usize,
-        passes,
         fault,
+        ..done(1, passes)
     };
     (Some(outcome), calls)
 }
@@ -168,14 +172,7 @@ fn called_alike(gate: &Counting, calls: Calls) -> bool {
 fn a_gate_is_asked_for_each_client(rt: HostRuntime) -> Result<(), Fail> {
     let alloc = rt.alloc();
     let gate = Counting::opens_at(1);
-    let blank = blank_of(alloc, majority_plan(alloc), 3, 5);
-    let outcome = driven(&rt, alloc, blank, 5, MANY, &gate)?;
-    let wanted = Outcome {
-        idle: 3,
-        draws: 15,
-        passes: 15,
-        fault: None,
-    };
-    assert!(rt; (outcome == Some(wanted)) & called_alike(&gate, (5, 5, 5)));
+    let outcome = driven(&rt, alloc, majority_plan(alloc), (3, 5, 5, MANY), &gate)?;
+    assert!(rt; (outcome == Some(done(3, 15))) & called_alike(&gate, (5, 5, 5)));
     Ok(())
 }
