@@ -3,7 +3,7 @@
 //! - `sets` has sets and coteries; `set_lists` compares them with the same calls on plain lists.
 //! - `coterie_texts` reads and writes coteries, and `shapes` constructs them.
 //! - `divisors` and `fractions` compute.
-//! - `certificates` checks weights and reads plans.
+//! - `certificates` checks weights and reads plans, and `plans` finds them.
 //!
 //! The tests are not in the crates that they test, so these are proved once, and not again together
 //! with their tests.
@@ -17,6 +17,8 @@ mod coterie_texts;
 mod divisors;
 #[cfg(test)]
 mod fractions;
+#[cfg(test)]
+mod plans;
 #[cfg(test)]
 mod set_lists;
 #[cfg(test)]
