@@ -1,16 +1,15 @@
 //! Devices that fail at each read and at each write, and that move few bytes at a time.
 ghost use Rattle.qlock_cli.specs.Commands.{IsInRange};
 
-use program_runs::{
-    GRID, GRID_PLAN, MAJORITY, MAJORITY_PLAN, RACE, RACE_OUTPUT, RECORD, RECORD_ACCOUNT, WHEEL,
-    WHEEL_PLAN, command_of, joined, serve,
+use crate::tables::{
+    CHECKING_AND_DEALING, MAKING_AND_PLANNING, PLAYING_AND_REPLAYING, RUNNING, Row, Wanted,
 };
+use program_runs::{command_of, joined, serve};
 use qlock_cli::{Command, DeviceFault, Fault, NoGate, Watched};
 use std::alloc::{AllocError, Global};
 use std::io;
 use std::io::{Read, Write};
 use std::sync::Wait;
-use std::test::Fail;
 use std::thread::Threads;
 
 /// More reads or writes than any of these commands makes.
@@ -93,63 +92,6 @@ fn spent_its_turns(outcome: &Outcome) -> bool {
     )
 }
 
-/// Runs a command once over devices.
-fn served<T: Threads + Wait + Sync>(
-    rt: &T,
-    alloc: Global,
-    command: &Command,
-    input: &[u8],
-    reads: Device,
-    writes: Device,
-) -> Outcome
-    requires { IsInRange command.now }
-{
-    let mut reader = Watched::of(Source {
-        bytes: input,
-        device: reads,
-    });
-    let mut sink = Sink {
-        bytes: Vec::new(alloc),
-        device: writes,
-    };
-    let mut writer = Watched::of(&mut sink);
-    let result = serve(rt, alloc, command, &mut reader, &mut writer, &NoGate);
-    let write_failed = writer.failed();
-    Outcome {
-        fault: result.err(),
-        written: sink.bytes,
-        read_failed: reader.failed(),
-        write_failed,
-    }
-}
-
-/// Runs a command, and again if the clients of a run had too few turns.
-fn outcome_of<T: Threads + Wait + Sync>(
-    rt: &T,
-    alloc: Global,
-    command: &Command,
-    input: &[u8],
-    reads: Device,
-    writes: Device,
-) -> Outcome
-    requires { IsInRange command.now }
-{
-    for _ in 0..TRIES {
-        let outcome = served(rt, alloc, command, input, reads, writes);
-        if !spent_its_turns(&outcome) {
-            return outcome;
-        }
-    }
-    served(rt, alloc, command, input, reads, writes)
-}
-
-/// What a command has to write: this text, or the record of a run with this number of passes.
-#[derive(Clone, Copy, Debug)]
-enum Wanted<'a> {
-    Text(&'a str),
-    Record(usize),
-}
-
 /// Returns whether the bytes are a beginning of the other bytes.
 fn begins(written: &[u8], all: &[u8]) -> bool {
     all.starts_with(written)
@@ -217,40 +159,6 @@ fn has_failed(outcome: &Outcome, side: Side, moved: usize, wanted: Wanted) -> bo
     }
 }
 
-/// Has each call of a device fail in turn, until a run of the command meets no call that fails.
-/// Returns how many failed, or `None` if one of the results was wrong.
-fn calls_that_fail<T: Threads + Wait + Sync>(
-    rt: &T,
-    alloc: Global,
-    command: &Command,
-    input: &[u8],
-    side: Side,
-    piece: usize,
-    wanted: Wanted,
-) -> Option<usize>
-    requires { IsInRange command.now }
-{
-    let sound = Device {
-        piece,
-        calls_left: MANY,
-    };
-    for calls_left in 0..MANY {
-        let failing = Device { piece, calls_left };
-        let (reads, writes) = match side {
-            Side::Reading => (failing, sound),
-            Side::Writing => (sound, failing),
-        };
-        let outcome = outcome_of(rt, alloc, command, input, reads, writes);
-        if outcome.fault.is_none() {
-            return is_done(&outcome, wanted).then_some(calls_left);
-        }
-        if !has_failed(&outcome, side, piece.saturating_mul(calls_left), wanted) {
-            return None;
-        }
-    }
-    None
-}
-
 /// Returns how many calls move this number of bytes, each at most a piece.
 fn calls_for(bytes: usize, piece: usize) -> usize {
     match piece {
@@ -259,29 +167,103 @@ fn calls_for(bytes: usize, piece: usize) -> usize {
     }
 }
 
-/// Returns whether a command has the right result over devices that move pieces of this size,
-/// whichever call fails. A command that reads its input reads once more, at its end.
-fn holds_out_by<T: Threads + Wait + Sync>(
-    rt: &T,
+/// What is tried over devices: a command and its input, and what it has to write.
+#[derive(Clone, Copy)]
+struct Trial<'a, T> {
+    rt: &'a T,
     alloc: Global,
-    command: &Command,
-    input: &[u8],
-    piece: usize,
-    wanted: Wanted,
-) -> bool
-    requires { IsInRange command.now }
-{
-    let all_read = match command {
-        Command::Make(_) => 0,
-        _ => calls_for(input.len(), piece).saturating_add(1),
-    };
-    let reads = calls_that_fail(rt, alloc, command, input, Side::Reading, piece, wanted);
-    let writes = calls_that_fail(rt, alloc, command, input, Side::Writing, piece, wanted);
-    let all_written = match wanted {
-        Wanted::Text(text) => writes == Some(calls_for(text.len(), piece)),
-        Wanted::Record(_) => writes.is_some(),
-    };
-    reads == Some(all_read) && all_written
+    command: &'a Command,
+    input: &'a [u8],
+    wanted: Wanted<'a>,
+}
+
+impl<'a, T: Threads + Wait + Sync> Trial<'a, T> {
+    /// Runs the command once over devices.
+    fn served(&self, reads: Device, writes: Device) -> Outcome
+        requires { IsInRange self.now.command.now }
+    {
+        let mut reader = Watched::of(Source {
+            bytes: self.input,
+            device: reads,
+        });
+        let mut sink = Sink {
+            bytes: Vec::new(self.alloc),
+            device: writes,
+        };
+        let mut writer = Watched::of(&mut sink);
+        let result = serve(
+            self.rt,
+            self.alloc,
+            self.command,
+            &mut reader,
+            &mut writer,
+            &NoGate,
+        );
+        let write_failed = writer.failed();
+        Outcome {
+            fault: result.err(),
+            written: sink.bytes,
+            read_failed: reader.failed(),
+            write_failed,
+        }
+    }
+
+    /// Runs the command, and again if the clients of a run had too few turns.
+    fn outcome(&self, reads: Device, writes: Device) -> Outcome
+        requires { IsInRange self.now.command.now }
+    {
+        for _ in 0..TRIES {
+            let outcome = self.served(reads, writes);
+            if !spent_its_turns(&outcome) {
+                return outcome;
+            }
+        }
+        self.served(reads, writes)
+    }
+
+    /// Has each call of a device fail in turn, until a run of the command meets no call that fails.
+    /// Returns how many failed, or `None` if one of the results was wrong.
+    fn calls_that_fail(&self, side: Side, piece: usize) -> Option<usize>
+        requires { IsInRange self.now.command.now }
+    {
+        let sound = Device {
+            piece,
+            calls_left: MANY,
+        };
+        for calls_left in 0..MANY {
+            let failing = Device { piece, calls_left };
+            let outcome = match side {
+                Side::Reading => self.outcome(failing, sound),
+                Side::Writing => self.outcome(sound, failing),
+            };
+            if outcome.fault.is_none() {
+                return is_done(&outcome, self.wanted).then_some(calls_left);
+            }
+            let moved = piece.saturating_mul(calls_left);
+            if !has_failed(&outcome, side, moved, self.wanted) {
+                return None;
+            }
+        }
+        None
+    }
+
+    /// Returns whether the command has the right result over devices that move pieces of this size,
+    /// whichever call fails. A command that reads its input reads once more, at its end.
+    fn holds_out(&self, piece: usize) -> bool
+        requires { IsInRange self.now.command.now }
+    {
+        let all_read = match self.command {
+            Command::Make(_) => 0,
+            _ => calls_for(self.input.len(), piece).saturating_add(1),
+        };
+        let reads = self.calls_that_fail(Side::Reading, piece);
+        let writes = self.calls_that_fail(Side::Writing, piece);
+        let all_written = match self.wanted {
+            Wanted::Text(text) => writes == Some(calls_for(text.len(), piece)),
+            Wanted::Record(_) => writes.is_some(),
+        };
+        reads == Some(all_read) && all_written
+    }
 }
 
 /// Returns whether a command line has the right result over devices that move single bytes, and
@@ -296,15 +278,15 @@ fn holds_out<T: Threads + Wait + Sync>(
     let Some(command) = command_of(alloc, line)? else {
         return Ok(false);
     };
-    let text = input.as_bytes();
-    Ok(
-        holds_out_by(rt, alloc, &command, text, 1, wanted)
-            && holds_out_by(rt, alloc, &command, text, 23, wanted),
-    )
+    let trial = Trial {
+        rt,
+        alloc,
+        command: &command,
+        input: input.as_bytes(),
+        wanted,
+    };
+    Ok(trial.holds_out(1) && trial.holds_out(23))
 }
-
-/// A row of a table: a command line, the parts of its input, and what it has to write.
-type Row<'a> = (&'a str, &'a [&'a str], Wanted<'a>);
 
 /// Returns whether each row has the right result.
 fn all_hold_out<T: Threads + Wait + Sync>(
@@ -322,98 +304,22 @@ fn all_hold_out<T: Threads + Wait + Sync>(
     Ok(true)
 }
 
-const MAKING_AND_PLANNING: [Row; 6] = [
-    ("make majority 3", &[], Wanted::Text(MAJORITY)),
-    ("make wheel 3", &[], Wanted::Text(WHEEL)),
-    ("make grid 2 2", &[], Wanted::Text(GRID)),
-    ("plan", &[MAJORITY], Wanted::Text(MAJORITY_PLAN)),
-    ("plan", &[WHEEL], Wanted::Text(WHEEL_PLAN)),
-    ("plan", &[GRID], Wanted::Text(GRID_PLAN)),
-];
-
 #[test]
-fn making_and_planning_hold_out(rt: HostRuntime) -> Result<(), Fail> {
-    assert!(rt; all_hold_out(&rt, rt.alloc(), &MAKING_AND_PLANNING)?);
-    Ok(())
+fn making_and_planning_hold_out(rt: HostRuntime) {
+    assert!(rt; all_hold_out(&rt, rt.alloc(), &MAKING_AND_PLANNING) == Ok(true));
 }
 
-const CHECKING_AND_DEALING: [Row; 5] = [
-    (
-        "check",
-        &[MAJORITY, MAJORITY_PLAN],
-        Wanted::Text("load 2/3 cycle 3\n"),
-    ),
-    (
-        "check",
-        &[WHEEL, WHEEL_PLAN],
-        Wanted::Text("load 3/5 cycle 5\n"),
-    ),
-    (
-        "check",
-        &[GRID, GRID_PLAN],
-        Wanted::Text("load 3/4 cycle 4\n"),
-    ),
-    (
-        "deal 5",
-        &[WHEEL, WHEEL_PLAN],
-        Wanted::Text(
-            "0 0\n1 1\n2 2\n3 3\n4 3\nvoter v0 3\nvoter v1 3\nvoter v2 3\nvoter v3 3\nbusiest 3\n",
-        ),
-    ),
-    (
-        "deal 2",
-        &[MAJORITY, MAJORITY_PLAN],
-        Wanted::Text("0 0\n1 1\nvoter v0 2\nvoter v1 1\nvoter v2 1\nbusiest 2\n"),
-    ),
-];
-
 #[test]
-fn checking_and_dealing_hold_out(rt: HostRuntime) -> Result<(), Fail> {
-    assert!(rt; all_hold_out(&rt, rt.alloc(), &CHECKING_AND_DEALING)?);
-    Ok(())
+fn checking_and_dealing_hold_out(rt: HostRuntime) {
+    assert!(rt; all_hold_out(&rt, rt.alloc(), &CHECKING_AND_DEALING) == Ok(true));
 }
 
-/// The record of two clients who passed four times.
-const TWO_CLIENTS: &str =
-    "quorum-record 1\ndraw 1 0 0\ndraw 0 1 1\ndraw 1 2 2\ndraw 0 3 3\npass 1 0\npass 0 1\npass 1 2\npass 0 3\nregister 4\n";
-
-const PLAYING_AND_REPLAYING: [Row; 3] = [
-    (
-        "world",
-        &[MAJORITY, MAJORITY_PLAN, RACE],
-        Wanted::Text(RACE_OUTPUT),
-    ),
-    (
-        "replay",
-        &[MAJORITY, MAJORITY_PLAN, RECORD],
-        Wanted::Text(RECORD_ACCOUNT),
-    ),
-    (
-        "replay",
-        &[GRID, GRID_PLAN, TWO_CLIENTS],
-        Wanted::Text(
-            "drawn 4\nvoter v0 3\nvoter v1 3\nvoter v2 3\nvoter v3 3\nbusiest 3\nregister 4\n",
-        ),
-    ),
-];
-
 #[test]
-fn playing_and_replaying_hold_out(rt: HostRuntime) -> Result<(), Fail> {
-    assert!(rt; all_hold_out(&rt, rt.alloc(), &PLAYING_AND_REPLAYING)?);
-    Ok(())
+fn playing_and_replaying_hold_out(rt: HostRuntime) {
+    assert!(rt; all_hold_out(&rt, rt.alloc(), &PLAYING_AND_REPLAYING) == Ok(true));
 }
 
-const RUNNING: [Row; 2] = [
-    (
-        "run 1 2 100000",
-        &[GRID, GRID_PLAN],
-        Wanted::Text("quorum-record 1\ndraw 0 0 0\ndraw 0 1 1\npass 0 0\npass 0 1\nregister 2\n"),
-    ),
-    ("run 2 2 100000", &[GRID, GRID_PLAN], Wanted::Record(4)),
-];
-
 #[test]
-fn running_holds_out(rt: HostRuntime) -> Result<(), Fail> {
-    assert!(rt; all_hold_out(&rt, rt.alloc(), &RUNNING)?);
-    Ok(())
+fn running_holds_out(rt: HostRuntime) {
+    assert!(rt; all_hold_out(&rt, rt.alloc(), &RUNNING) == Ok(true));
 }

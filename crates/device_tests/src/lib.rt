@@ -1,7 +1,7 @@
 //! Tests of the program over devices that fail, and of texts that are cut short or too long. This
 //! crate has nothing but tests.
 //!
-//! - `devices` has each read and each write fail.
+//! - `devices` has each read and each write fail, for the commands of `tables`.
 //! - `prefixes` cuts texts short.
 //!
 //! Depends on `program_runs`, which runs the commands.
@@ -11,3 +11,5 @@
 mod devices;
 #[cfg(test)]
 mod prefixes;
+#[cfg(test)]
+mod tables;
