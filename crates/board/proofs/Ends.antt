@@ -8,7 +8,7 @@ use mathlib.Core.Option.{some, some-injective, some-ne-none}
 use lib.ListN.{get_elem?}
 use Rattle.atomic_table.specs.Table.{Final, Seen}
 use Rattle.numbers.specs.Sums.{sum_below, AreAllBelow}
-use Rattle.numbers.proofs.SumLemmas.{sum_at, sum_alone_at, AreAllBelow-from_sums}
+use Rattle.numbers.proofs.SumLemmas.{elem-le-sum_by, sum_by-alone_at, AreAllBelow-from_sums}
 use Rattle.board.specs.declared.table.View.{View}
 use Rattle.board.specs.Seats.{Setting}
 use Rattle.board.specs.Words.{taken, is}
@@ -55,23 +55,23 @@ passes-at_close sheet id u words slots f all h =
     let s = f.0 in
     let r = f.1.0 in
     let at = f.1.1 in
-    sym (sum_alone_at (λ (z : View). sum_by h z.passes) (λ (z : View). z.parts) s.views (λ i z e none. ap (sum_by h) (r.idle i z e none)) id u at (r.parts ∙ sym all))
+    sym (sum_by-alone_at (λ (z : View). sum_by h z.passes) (λ (z : View). z.parts) s.views (λ i z e none. ap (sum_by h) (r.idle i z e none)) id u at (r.parts ∙ sym all))
     ∙ r.passes h ∙ ap (λ (l : List ℕ). sum_below h (slice_index l sheet.voters)) f.2
 
 pub closed_parts : (sheet : Setting) (id : ℕ) (u : View) (words : List ℕ) (slots : List (Unit {0})) → Final (Seen (Kept sheet) id u) words slots → (u.parts ≤ sheet.voters + sheet.clients + 1) × (length words ≡ sheet.voters + 1)
-closed_parts sheet id u words slots f = (omega (arith, sum_at (λ (z : View). z.parts) f.0.views id u f.1.1, f.1.0.parts), ap length (sym f.2) ∙ f.1.0.long)
+closed_parts sheet id u words slots f = (omega (arith, elem-le-sum_by (λ (z : View). z.parts) f.0.views id u f.1.1, f.1.0.parts), ap length (sym f.2) ∙ f.1.0.long)
 
-pub at_get : (l : List ℕ) (i x : ℕ) → get_elem? l i ≡ some x → get_or l i 0 ≡ x
-at_get [] i x e = absurd (some-ne-none x (sym e))
-at_get (y ∷ ys) zero x e = some-injective y x e
-at_get (y ∷ ys) (suc i) x e = at_get ys i x e
+pub get_or-get_elem : (l : List ℕ) (i x : ℕ) → get_elem? l i ≡ some x → get_or l i 0 ≡ x
+get_or-get_elem [] i x e = absurd (some-ne-none x (sym e))
+get_or-get_elem (y ∷ ys) zero x e = some-injective y x e
+get_or-get_elem (y ∷ ys) (suc i) x e = get_or-get_elem ys i x e
 
 -- the numbers of all passes are those below the register, and the register is how many they are
 pub register-at_close : (sheet : Setting) (id : ℕ) (u : View) (words : List ℕ) (slots : List (Unit {0})) (register : ℕ) (kept : List (ℕ × ℕ)) → Final (Seen (Kept sheet) id u) words slots
     → u.parts ≡ sheet.voters + sheet.clients + 1 → get_elem? words sheet.voters ≡ some register → u.passes ≡ map (λ p. p.1) kept
     → (register ≡ length kept) × AreAllBelow (map (λ p. p.1) kept) register
 register-at_close sheet id u words slots register kept f all at is =
-    let reads : slice_index words sheet.voters ≡ register = at_get words sheet.voters register at in
+    let reads : slice_index words sheet.voters ≡ register = get_or-get_elem words sheet.voters register at in
     let each : (h : ℕ → ℕ) → sum_by h (map (λ p. p.1) kept) ≡ sum_below h register = λ h. ap (sum_by h) (sym is) ∙ passes-at_close sheet id u words slots f all h ∙ ap (sum_below h) reads in
     let all = AreAllBelow-from_sums (map (λ p. p.1) kept) register each in
     (sym all.in_all ∙ length_numbers kept, all)

@@ -10,14 +10,14 @@ use native.Mathlib.Decide.{ℕ_discrete, dec_le}
 use lib.ListN.{get_elem?}
 use Rattle.atomic_table.specs.Table.{Splits, Joins}
 use Rattle.atomic_table.proofs.Lists.{at_snoc, set_else}
-use Rattle.numbers.proofs.SumLemmas.{sum_set, sum_two}
+use Rattle.numbers.proofs.SumLemmas.{sum_by-set_elem, two-le-sum_by}
 use Rattle.board.specs.declared.table.View.{View}
 use Rattle.board.specs.Seats.{Setting}
 use Rattle.board.specs.Words.{name_of, is, nobody}
 use Rattle.board.specs.Rule.{stands, holds_vote, IsVote, IsReading, IsKept, Kept}
 use Rattle.board.specs.Views.{current_name, voter_view, client_view, without_voter, without_client, with_voter, with_client, spent_view}
 use Rattle.board.proofs.Words.{is-same, is-apart}
-use Rattle.board.proofs.Votes.{TableState, each_set, stands_here}
+use Rattle.board.proofs.Votes.{TableState, each-set_view, IsVote-stands}
 
 -- nothing is read past the end, and of nobody
 pub nobody-at : (k : ℕ) → slice_index nobody k ≡ 0
@@ -42,17 +42,17 @@ split_keeps sheet s r id u l n at voters held parts passes reading idle client =
     let both = reading x (r.readings id u at) in
     let none_kept = idle (r.idle id u at) in
     let all : (F : View → Type 0) → F l → F n → ((i : ℕ) (z : View) → get_elem? s.views i ≡ some z → F z) → (i : ℕ) (z : View) → get_elem? (set s.views id l ++ n ∷ []) i ≡ some z → F z =
-    λ F of_l of_n old i z e. ⊎_elim (λ was. each_set F s.views id l (λ j y _ d. old j y d) of_l i z was) (λ (d : n ≡ z). subst F d of_n) (at_snoc (set s.views id l) n z i e) in
+    λ F of_l of_n old i z e. ⊎_elim (λ was. each-set_view F s.views id l (λ j y _ d. old j y d) of_l i z was) (λ (d : n ≡ z). subst F d of_n) (at_snoc (set s.views id l) n z i e) in
     record {
       long = r.long;
       votes = λ v inside. let vote = r.votes v inside in record {
         shape = vote.shape;
-        current = λ name. omega (arith, sum_by_push (stands v name) (set s.views id l) n, sum_set (stands v name) s.views id u l at, vote.current name, voters v inside name);
-        held = λ name large. omega (arith, sum_by_push (holds_vote v name) (set s.views id l) n, sum_set (holds_vote v name) s.views id u l at, vote.held name large, held v inside name large);
+        current = λ name. omega (arith, sum_by_push (stands v name) (set s.views id l) n, sum_by-set_elem (stands v name) s.views id u l at, vote.current name, voters v inside name);
+        held = λ name large. omega (arith, sum_by_push (holds_vote v name) (set s.views id l) n, sum_by-set_elem (holds_vote v name) s.views id u l at, vote.held name large, held v inside name large);
       };
       readings = all (IsReading sheet x) both.0 both.1 r.readings;
-      passes = λ h. omega (arith, sum_by_push (λ (z : View). sum_by h z.passes) (set s.views id l) n, sum_set (λ (z : View). sum_by h z.passes) s.views id u l at, r.passes h, passes h);
-      parts = omega (arith, sum_by_push (λ (z : View). z.parts) (set s.views id l) n, sum_set (λ (z : View). z.parts) s.views id u l at, r.parts);
+      passes = λ h. omega (arith, sum_by_push (λ (z : View). sum_by h z.passes) (set s.views id l) n, sum_by-set_elem (λ (z : View). sum_by h z.passes) s.views id u l at, r.passes h, passes h);
+      parts = omega (arith, sum_by_push (λ (z : View). z.parts) (set s.views id l) n, sum_by-set_elem (λ (z : View). z.parts) s.views id u l at, r.parts);
       idle = all (λ z. z.parts ≡ 0 → z.passes ≡ []) none_kept.0 none_kept.1 r.idle;
       client = all (λ z. z.client < 64) clients.0 clients.1 r.client;
       limit = r.limit;
@@ -68,9 +68,9 @@ far_stands n v current far name = is-apart (slice_index (set nobody n (current_n
 pub none_held : (v name : ℕ) (u : View) → u.client < 64 → slice_index u.held v ≡ 0 → 64 ≤ name → holds_vote v name u ≡ 0
 none_held v name u few free large = is-apart (name_of u.client (slice_index u.held v)) name (λ e. omega arith)
 
-pub gives_voter : (sheet : Setting) (id : ℕ) (u : View) (n : ℕ) → n < 64 → length u.voters ≡ 64 → slice_index u.voters n ≡ 1 → 1 < u.parts
+pub Splits-without_voter : (sheet : Setting) (id : ℕ) (u : View) (n : ℕ) → n < 64 → length u.voters ≡ 64 → slice_index u.voters n ≡ 1 → 1 < u.parts
     → Splits (Kept sheet) id u (without_voter n u) (voter_view n None)
-gives_voter sheet id u n few wide one some_part s r at =
+Splits-without_voter sheet id u n few wide one some_part s r at =
     let l = without_voter n u in
     let m = voter_view n None in
     split_keeps sheet s r id u l m at
@@ -90,8 +90,8 @@ gives_voter sheet id u n few wide one some_part s r at =
     (λ idle. ((λ none. absurd (omega arith)), λ _. refl))
     (λ small. (small, omega arith))
 
-pub gives_client : (sheet : Setting) (id : ℕ) (u : View) (n : ℕ) → n < 64 → 1 < u.parts → Splits (Kept sheet) id u (without_client u) (client_view n nobody None [])
-gives_client sheet id u n few some_part s r at =
+pub Splits-without_client : (sheet : Setting) (id : ℕ) (u : View) (n : ℕ) → n < 64 → 1 < u.parts → Splits (Kept sheet) id u (without_client u) (client_view n nobody None [])
+Splits-without_client sheet id u n few some_part s r at =
     let m = client_view n nobody None [] in
     split_keeps sheet s r id u (without_client u) m at
     (λ v inside name. let z : is (slice_index nobody v) (name + 1) ≡ 0 = is-apart (slice_index nobody v) (name + 1) (λ d. let e = nobody-at v in omega arith) in omega arith)
@@ -115,18 +115,18 @@ join_keeps sheet s r id other u w b at apart there voters held parts passes read
     let x : ℕ = slice_index s.words sheet.voters in
     let there' : get_elem? (set s.views id b) other ≡ some w = set_else s.views id other b apart ∙ there in
     let all : (F : View → Type 0) → F b → F spent_view → ((i : ℕ) (z : View) → get_elem? s.views i ≡ some z → F z) → (i : ℕ) (z : View) → get_elem? (set (set s.views id b) other spent_view) i ≡ some z → F z =
-    λ F of_b of_spent old. each_set F (set s.views id b) other spent_view (λ j y _ d. each_set F s.views id b (λ k q _ f. old k q f) of_b j y d) of_spent in
+    λ F of_b of_spent old. each-set_view F (set s.views id b) other spent_view (λ j y _ d. each-set_view F s.views id b (λ k q _ f. old k q f) of_b j y d) of_spent in
     let spent_stands : (v name : ℕ) → stands v name spent_view ≡ 0 = λ v name. is-apart (slice_index nobody v) (name + 1) (λ d. let e = nobody-at v in omega arith) in
     record {
       long = r.long;
       votes = λ v inside. let vote = r.votes v inside in record {
         shape = vote.shape;
-        current = λ name. omega (arith, sum_set (stands v name) (set s.views id b) other w spent_view there', sum_set (stands v name) s.views id u b at, vote.current name, voters v inside name, spent_stands v name);
-        held = λ name large. omega (arith, sum_set (holds_vote v name) (set s.views id b) other w spent_view there', sum_set (holds_vote v name) s.views id u b at, vote.held name large, held v inside name large, none_held v name spent_view (omega arith) (get_or_past [] v 0 (omega arith)) large);
+        current = λ name. omega (arith, sum_by-set_elem (stands v name) (set s.views id b) other w spent_view there', sum_by-set_elem (stands v name) s.views id u b at, vote.current name, voters v inside name, spent_stands v name);
+        held = λ name large. omega (arith, sum_by-set_elem (holds_vote v name) (set s.views id b) other w spent_view there', sum_by-set_elem (holds_vote v name) s.views id u b at, vote.held name large, held v inside name large, none_held v name spent_view (omega arith) (get_or_past [] v 0 (omega arith)) large);
       };
       readings = all (IsReading sheet x) (reading x (r.readings id u at)) tt r.readings;
-      passes = λ h. omega (arith, sum_set (λ (z : View). sum_by h z.passes) (set s.views id b) other w spent_view there', sum_set (λ (z : View). sum_by h z.passes) s.views id u b at, r.passes h, passes h);
-      parts = omega (arith, sum_set (λ (z : View). z.parts) (set s.views id b) other w spent_view there', sum_set (λ (z : View). z.parts) s.views id u b at, r.parts);
+      passes = λ h. omega (arith, sum_by-set_elem (λ (z : View). sum_by h z.passes) (set s.views id b) other w spent_view there', sum_by-set_elem (λ (z : View). sum_by h z.passes) s.views id u b at, r.passes h, passes h);
+      parts = omega (arith, sum_by-set_elem (λ (z : View). z.parts) (set s.views id b) other w spent_view there', sum_by-set_elem (λ (z : View). z.parts) s.views id u b at, r.parts);
       idle = all (λ z. z.parts ≡ 0 → z.passes ≡ []) idle (λ _. refl) r.idle;
       client = all (λ z. z.client < 64) (omega (arith, r.client id u at, client)) (omega arith) r.client;
       limit = r.limit;
@@ -139,25 +139,25 @@ was_there : (views : List View) (id other : ℕ) (b w : View) → ¬ (other ≡ 
 was_there views id other b w apart e = sym (set_else views id other b apart) ∙ e
 
 -- two seats don't both stand for one voter
-pub one_stands : (v word : ℕ) (views : List View) → IsVote v word views → (i j : ℕ) (u w : View) → i ≢ j → get_elem? views i ≡ some u → get_elem? views j ≡ some w → (a b : ℕ) → slice_index u.voters v ≡ a + 1 → slice_index w.voters v ≡ b + 1 → ⊥
-one_stands v word views r i j u w apart at at' a b of_u of_w =
-    let x = stands_here v word views r i u at a of_u in
-    let y = stands_here v word views r j w at' b of_w in
+pub IsVote-one_stands : (v word : ℕ) (views : List View) → IsVote v word views → (i j : ℕ) (u w : View) → i ≢ j → get_elem? views i ≡ some u → get_elem? views j ≡ some w → (a b : ℕ) → slice_index u.voters v ≡ a + 1 → slice_index w.voters v ≡ b + 1 → ⊥
+IsVote-one_stands v word views r i j u w apart at at' a b of_u of_w =
+    let x = IsVote-stands v word views r i u at a of_u in
+    let y = IsVote-stands v word views r j w at' b of_w in
     let one : stands v a u ≡ 1 = is-same (slice_index u.voters v) (a + 1) of_u in
     let two : stands v a w ≡ 1 = is-same (slice_index w.voters v) (a + 1) (omega arith) in
     let most : is (word / 4) a ≡ 1 = is-same (word / 4) a x in
-    omega (arith, sum_two (stands v a) views i j u w apart at at', r.current a)
+    omega (arith, two-le-sum_by (stands v a) views i j u w apart at at', r.current a)
 
-pub takes_voter : (sheet : Setting) (id : ℕ) (u : View) (other n : ℕ) → n < sheet.voters → n < 64 → length u.voters ≡ 64
+pub Joins-with_voter : (sheet : Setting) (id : ℕ) (u : View) (other n : ℕ) → n < sheet.voters → n < 64 → length u.voters ≡ 64
     → Joins (Kept sheet) id u other (voter_view n None) (with_voter n u (voter_view n None)) spent_view
-takes_voter sheet id u other n inside few wide s r at apart changed =
+Joins-with_voter sheet id u other n inside few wide s r at apart changed =
     let w = voter_view n None in
     let b = with_voter n u w in
     let there = was_there s.views id other b w apart changed in
     let word : ℕ = slice_index s.words n in
     let mine : slice_index w.voters n ≡ 1 = get_or-set_same nobody n 1 0 (omega (arith, length-replicate {A = ℕ} 64 0)) in
     let none : slice_index u.voters n ≡ 0 = dite (ℕ_discrete (slice_index u.voters n) 0) (λ e. e)
-    (λ some_name. absurd (one_stands n word s.views (r.votes n inside) id other u w (λ e. apart (sym e)) at there (slice_index u.voters n - 1) 0 (omega arith) mine)) in
+    (λ some_name. absurd (IsVote-one_stands n word s.views (r.votes n inside) id other u w (λ e. apart (sym e)) at there (slice_index u.voters n - 1) 0 (omega arith) mine)) in
     join_keeps sheet s r id other u w b at apart there
     (λ v in_range name. dite (ℕ_discrete v n)
     (λ e. let a : slice_index b.voters v ≡ 1 = ap (slice_index b.voters) e ∙ get_or-set_same u.voters n 1 0 (omega arith) in
@@ -174,9 +174,9 @@ takes_voter sheet id u other n inside few wide s r at apart changed =
     (λ none. absurd (omega arith))
     refl
 
-pub takes_client : (sheet : Setting) (id : ℕ) (u : View) (other n : ℕ) (held : List ℕ) (reading : Option (ℕ × ℕ)) (passes : List ℕ) → n < 64 → ((v : ℕ) → slice_index held v ≡ 0) → 0 < u.parts
+pub Joins-with_client : (sheet : Setting) (id : ℕ) (u : View) (other n : ℕ) (held : List ℕ) (reading : Option (ℕ × ℕ)) (passes : List ℕ) → n < 64 → ((v : ℕ) → slice_index held v ≡ 0) → 0 < u.parts
     → Joins (Kept sheet) id u other (client_view n held reading passes) (with_client u (client_view n held reading passes)) spent_view
-takes_client sheet id u other n held reading passes few free some_part s r at apart changed =
+Joins-with_client sheet id u other n held reading passes few free some_part s r at apart changed =
     let w = client_view n held reading passes in
     let b = with_client u w in
     let there = was_there s.views id other b w apart changed in

@@ -14,9 +14,9 @@ use Rattle.board.specs.Words.{name_of, offered, taken, returned, is}
 use Rattle.board.specs.Rule.{stands, holds_vote, IsVote, IsReading, Kept}
 use Rattle.board.specs.VotesKept.{IsWordOf, OneStandsFor, Holds, KeepsVotes}
 use Rattle.board.proofs.Words.{is-same, is-one}
-use Rattle.board.proofs.Votes.{TableState, stands_here, holds_here}
-use Rattle.board.proofs.Register.{one_holds}
-use Rattle.board.proofs.Giving.{one_stands}
+use Rattle.board.proofs.Votes.{TableState, IsVote-stands, IsVote-holds}
+use Rattle.board.proofs.Register.{IsVote-one_holds}
+use Rattle.board.proofs.Giving.{IsVote-one_stands}
 use Rattle.numbers.proofs.SumLemmas.{AreAllBelow-from_sums}
 
 -- where a sum is not 0, one of the list counts
@@ -40,7 +40,7 @@ stands_alone v word views r =
       found.2,
       (λ none. omega arith),
       λ k w at other. dite (ℕ_discrete k found.0) (λ same. same)
-          (λ apart. absurd (one_stands v word views r k found.0 w found.1 apart at found.2 (slice_index w.voters v - 1) name (omega arith) here)),
+          (λ apart. absurd (IsVote-one_stands v word views r k found.0 w found.1 apart at found.2 (slice_index w.voters v - 1) name (omega arith) here)),
     )
 
 -- what the word says, by the name that it has
@@ -60,7 +60,7 @@ word_of v word views r (suc n) named = ⊎_elim (λ (e : word ≡ 0). absurd (om
 holds_as_said : (v c g word : ℕ) (views : List View) → IsVote v word views → ((i : ℕ) (u : View) → get_elem? views i ≡ some u → u.client < 64) → c < 64 → 1 ≤ g → Holds views c v g ↔ (word ≡ taken (name_of c g))
 holds_as_said v c g word views r clients few some_grant = (
   λ (x : Holds views c v g).
-      let here = holds_here v word views r x.0 x.1 x.2 (λ e. let g_is = x.4 in omega arith) in
+      let here = IsVote-holds v word views r x.0 x.1 x.2 (λ e. let g_is = x.4 in omega arith) in
       here ∙ (λ i. taken (name_of (x.3 i) (x.4 i))),
   λ said.
       let name : ℕ = name_of c g in
@@ -78,13 +78,13 @@ sum_flat h f (x ∷ xs) = omega (arith, sum_by-append h (f x) (flat_map f xs), s
 reading_is : (sheet : Setting) (register j x : ℕ) (u : View) → IsReading sheet register u → u.reading ≡ Some (j, x) → (j < length sheet.quorums) × HoldsAll (quorum_at sheet.quorums j) u.held × (x ≡ register)
 reading_is sheet register j x u r is = subst (λ (o : Option (ℕ × ℕ)). IsReading sheet register (record u { reading = o })) is r
 
-pub keeps_votes : (sheet : Setting) (s : TableState) → Kept sheet s → KeepsVotes sheet s.words s.views
-keeps_votes sheet s r = record {
+pub KeepsVotes-Kept : (sheet : Setting) (s : TableState) → Kept sheet s → KeepsVotes sheet s.words s.views
+KeepsVotes-Kept sheet s r = record {
   one_stands = λ v inside. stands_alone v (slice_index s.words v) s.views (r.votes v inside);
-  granted = λ v name i u inside at knows. let vote = r.votes v inside in word_of v (slice_index s.words v) s.views vote name (stands_here v (slice_index s.words v) s.views vote i u at name knows);
+  granted = λ v name i u inside at knows. let vote = r.votes v inside in word_of v (slice_index s.words v) s.views vote name (IsVote-stands v (slice_index s.words v) s.views vote i u at name knows);
   held = λ v c g inside few some_grant. holds_as_said v c g (slice_index s.words v) s.views (r.votes v inside) r.client few some_grant;
   one_holds = λ v i k u w inside at at' holds holds'. dite (ℕ_discrete i k) (λ same. same)
-      (λ apart. absurd (one_holds v (slice_index s.words v) s.views (r.votes v inside) i k u w apart at at' holds holds'));
+      (λ apart. absurd (IsVote-one_holds v (slice_index s.words v) s.views (r.votes v inside) i k u w apart at at' holds holds'));
   readings = λ i j x u at is. reading_is sheet (slice_index s.words sheet.voters) j x u (r.readings i u at) is;
   passes = AreAllBelow-from_sums _ _ (λ h. sum_flat h (λ (u : View). u.passes) s.views ∙ r.passes h);
 }

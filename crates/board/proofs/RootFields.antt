@@ -21,8 +21,8 @@ some_voter u count fv fc kept v r free = omega (arith, r.parts, r.enough, flags_
 pub some_client : (u : View) (count : ℕ) (fv fc : List Bool) (kept : List (ℕ × ℕ)) (v : ℕ) → IsRoot u count fv fc kept → get_or fc v false ≡ true → 1 < u.parts
 some_client u count fv fc kept v r free = omega (arith, r.parts, r.enough, flags_set fc v free)
 
-pub took_client : (u : View) (count : ℕ) (fv fc : List Bool) (kept : List (ℕ × ℕ)) (w : View) (more : List (ℕ × ℕ)) → IsRoot u count fv fc kept → w.parts ≡ 1 → w.passes ≡ map (λ p. p.1) more → IsRoot (with_client u w) (count + 1) fv fc (kept ++ more)
-took_client u count fv fc kept w more r one passes = record {
+pub IsRoot-with_client : (u : View) (count : ℕ) (fv fc : List Bool) (kept : List (ℕ × ℕ)) (w : View) (more : List (ℕ × ℕ)) → IsRoot u count fv fc kept → w.parts ≡ 1 → w.passes ≡ map (λ p. p.1) more → IsRoot (with_client u w) (count + 1) fv fc (kept ++ more)
+IsRoot-with_client u count fv fc kept w more r one passes = record {
   parts = (λ i. r.parts i + one i);
   enough = omega (arith, r.enough);
   client = r.client;
@@ -34,22 +34,22 @@ took_client u count fv fc kept w more r one passes = record {
 }
 
 -- one flag more
-pub flag_more : (l : List Bool) (v : ℕ) → v < length l → get_or l v false ≡ false → sum_by weight (set l v true) ≡ sum_by weight l + 1
-flag_more [] v lt e = absurd (omega arith)
-flag_more (x ∷ xs) zero lt e = let one : weight x ≡ 0 = ap weight e in omega (arith, sum_by-cons weight x xs, sum_by-cons weight true xs)
-flag_more (x ∷ xs) (suc v) lt e = omega (arith, flag_more xs v (omega arith) e, sum_by-cons weight x xs, sum_by-cons weight x (set xs v true))
+pub sum_by-set_flag : (l : List Bool) (v : ℕ) → v < length l → get_or l v false ≡ false → sum_by weight (set l v true) ≡ sum_by weight l + 1
+sum_by-set_flag [] v lt e = absurd (omega arith)
+sum_by-set_flag (x ∷ xs) zero lt e = let one : weight x ≡ 0 = ap weight e in omega (arith, sum_by-cons weight x xs, sum_by-cons weight true xs)
+sum_by-set_flag (x ∷ xs) (suc v) lt e = omega (arith, sum_by-set_flag xs v (omega arith) e, sum_by-cons weight x xs, sum_by-cons weight x (set xs v true))
 
 pub flags-none : (n : ℕ) → sum_by weight (replicate n false) ≡ 0
 flags-none zero = refl
 flags-none (suc n) = omega (arith, flags-none n, sum_by-cons weight false (replicate n false))
 
-pub flag_off : (n k : ℕ) → get_or (replicate n false) k false ≡ false
-flag_off zero k = refl
-flag_off (suc n) zero = refl
-flag_off (suc n) (suc k) = flag_off n k
+pub get_or-replicate_false : (n k : ℕ) → get_or (replicate n false) k false ≡ false
+get_or-replicate_false zero k = refl
+get_or-replicate_false (suc n) zero = refl
+get_or-replicate_false (suc n) (suc k) = get_or-replicate_false n k
 
-pub fresh_root : (voters clients count : ℕ) (fv fc : List Bool) → count ≡ voters + clients → sum_by weight fv + sum_by weight fc ≤ count → ((v : ℕ) → get_or fv v false ≡ true → v < 64) → IsRoot (root_view voters clients) count fv fc []
-fresh_root voters clients count fv fc all enough only = record {
+pub IsRoot-fresh : (voters clients count : ℕ) (fv fc : List Bool) → count ≡ voters + clients → sum_by weight fv + sum_by weight fc ≤ count → ((v : ℕ) → get_or fv v false ≡ true → v < 64) → IsRoot (root_view voters clients) count fv fc []
+IsRoot-fresh voters clients count fv fc all enough only = record {
   parts = ap (λ (n : ℕ). n + 1) (sym all);
   enough = enough;
   client = refl;
@@ -65,17 +65,17 @@ numbers_of client [] = refl
 numbers_of client (x ∷ xs) = ap (λ (l : List ℕ). x ∷ l) (numbers_of client xs)
 
 -- the test of being below, at the next number
-pub none_below : (k : ℕ) → false ≡ nat_lt k 0
-none_below k = grind (arith, nat_tests)
+pub nat_lt-zero : (k : ℕ) → false ≡ nat_lt k 0
+nat_lt-zero k = grind (arith, nat_tests)
 
-pub not_below : (i : ℕ) → nat_lt i i ≡ false
-not_below i = grind (arith, nat_tests)
+pub nat_lt-self : (i : ℕ) → nat_lt i i ≡ false
+nat_lt-self i = grind (arith, nat_tests)
 
-pub next_below : (i : ℕ) → true ≡ nat_lt i (i + 1)
-next_below i = grind (arith, nat_tests)
+pub nat_lt-next : (i : ℕ) → true ≡ nat_lt i (i + 1)
+nat_lt-next i = grind (arith, nat_tests)
 
-pub same_below : (k i : ℕ) → k ≢ i → nat_lt k i ≡ nat_lt k (i + 1)
-same_below k i far = grind (arith, nat_tests)
+pub nat_lt-other : (k i : ℕ) → k ≢ i → nat_lt k i ≡ nat_lt k (i + 1)
+nat_lt-other k i far = grind (arith, nat_tests)
 
-pub is_below : (k n : ℕ) → nat_lt k n ≡ true → k < n
-is_below k n e = grind (arith, nat_tests)
+pub lt-from_nat_lt : (k n : ℕ) → nat_lt k n ≡ true → k < n
+lt-from_nat_lt k n e = grind (arith, nat_tests)

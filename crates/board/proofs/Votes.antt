@@ -11,7 +11,7 @@ use prog.Atomic.{either}
 use Rattle.atomic_table.specs.Table.{State, step, keeps, Allows}
 use Rattle.atomic_table.proofs.Lists.{at_set, set_again}
 use Rattle.numbers.specs.Sums.{sum_below}
-use Rattle.numbers.proofs.SumLemmas.{sum_set, sum_at}
+use Rattle.numbers.proofs.SumLemmas.{sum_by-set_elem, elem-le-sum_by}
 use Rattle.board.specs.declared.table.View.{View}
 use Rattle.board.specs.Seats.{Setting}
 use Rattle.board.specs.Quorums.{quorum_at, HoldsAll}
@@ -20,7 +20,7 @@ use Rattle.board.specs.declared.vote.Vote.TheVariants.{Free, Offered, Held, Retu
 use Rattle.board.specs.Words.{name_of, offered, taken, returned, word_of, IsSettledFrom, is}
 use Rattle.board.specs.Roots.{IsCurrent}
 use Rattle.board.specs.Views.{voter_view}
-use Rattle.board.proofs.VoterFields.{voter_room, voter_here}
+use Rattle.board.proofs.VoterFields.{length-voter_view, slice_index-voter_view}
 use Rattle.board.specs.Rule.{stands, holds_vote, IsVote, IsReading, IsKept, Kept}
 use Rattle.board.specs.Moves.{Mine, Granted, Settled, Took, GaveBack}
 use Rattle.board.proofs.Words.{is-same, is-apart, is-one, is-next, is-taken, offered-name, taken-name, returned-name, offered-not_taken, returned-not_taken, free-not_taken}
@@ -29,22 +29,22 @@ abbrev pub TableState : Type 0
 TableState = State (Unit {0}) View
 
 -- a fact about each view, after one has changed
-pub each_set : (F : View → Type 0) (views : List View) (id : ℕ) (w : View) → ((i : ℕ) (u : View) → i ≢ id → get_elem? views i ≡ some u → F u) → F w
+pub each-set_view : (F : View → Type 0) (views : List View) (id : ℕ) (w : View) → ((i : ℕ) (u : View) → i ≢ id → get_elem? views i ≡ some u → F u) → F w
     → (i : ℕ) (u : View) → get_elem? (set views id w) i ≡ some u → F u
-each_set F views id w others mine i u e = ⊎_elim (λ (x : (i ≡ id) × (w ≡ u)). subst F x.1 mine) (λ (x : (i ≢ id) × (get_elem? views i ≡ some u)). others i u x.0 x.1) (at_set views id i w u e)
+each-set_view F views id w others mine i u e = ⊎_elim (λ (x : (i ≡ id) × (w ≡ u)). subst F x.1 mine) (λ (x : (i ≢ id) × (get_elem? views i ≡ some u)). others i u x.0 x.1) (at_set views id i w u e)
 
 -- what the word says where a seat stands for its voter
-pub stands_here : (v word : ℕ) (views : List View) → IsVote v word views → (id : ℕ) (u : View) → get_elem? views id ≡ some u → (name : ℕ) → slice_index u.voters v ≡ name + 1 → word / 4 ≡ name
-stands_here v word views r id u at name here =
+pub IsVote-stands : (v word : ℕ) (views : List View) → IsVote v word views → (id : ℕ) (u : View) → get_elem? views id ≡ some u → (name : ℕ) → slice_index u.voters v ≡ name + 1 → word / 4 ≡ name
+IsVote-stands v word views r id u at name here =
     let one = is-same (slice_index u.voters v) (name + 1) here in
-    is-one (word / 4) name (omega (arith, sum_at (stands v name) views id u at, r.current name))
+    is-one (word / 4) name (omega (arith, elem-le-sum_by (stands v name) views id u at, r.current name))
 
 -- what the word says where a seat holds its vote
-pub holds_here : (v word : ℕ) (views : List View) → IsVote v word views → (id : ℕ) (u : View) → get_elem? views id ≡ some u → slice_index u.held v ≢ 0 → word ≡ taken (name_of u.client (slice_index u.held v))
-holds_here v word views r id u at here =
+pub IsVote-holds : (v word : ℕ) (views : List View) → IsVote v word views → (id : ℕ) (u : View) → get_elem? views id ≡ some u → slice_index u.held v ≢ 0 → word ≡ taken (name_of u.client (slice_index u.held v))
+IsVote-holds v word views r id u at here =
     let name : ℕ = name_of u.client (slice_index u.held v) in
     let one = is-same name name refl in
-    is-one word (taken name) (omega (arith, sum_at (holds_vote v name) views id u at, r.held name (omega arith)))
+    is-one word (taken name) (omega (arith, elem-le-sum_by (holds_vote v name) views id u at, r.held name (omega arith)))
 
 -- one word with its name's state changes with one view
 vote_after : (v word x : ℕ) (views : List View) → IsVote v word views → (id : ℕ) (u w : View) → get_elem? views id ≡ some u
@@ -54,15 +54,15 @@ vote_after : (v word x : ℕ) (views : List View) → IsVote v word views → (i
     → IsVote v x (set views id w)
 vote_after v word x views r id u w at shape current held = record {
   shape = shape;
-  current = λ name. omega (arith, sum_set (stands v name) views id u w at, r.current name, current name);
-  held = λ name large. omega (arith, sum_set (holds_vote v name) views id u w at, r.held name large, held name large);
+  current = λ name. omega (arith, sum_by-set_elem (stands v name) views id u w at, r.current name, current name);
+  held = λ name large. omega (arith, sum_by-set_elem (holds_vote v name) views id u w at, r.held name large, held name large);
 }
 
 -- a word that stays, where the seat is to it as before
-pub vote_same : (v word : ℕ) (views : List View) → IsVote v word views → (id : ℕ) (u w : View) → get_elem? views id ≡ some u
+pub IsVote-same : (v word : ℕ) (views : List View) → IsVote v word views → (id : ℕ) (u w : View) → get_elem? views id ≡ some u
     → slice_index w.voters v ≡ slice_index u.voters v → name_of w.client (slice_index w.held v) ≡ name_of u.client (slice_index u.held v)
     → IsVote v word (set views id w)
-vote_same v word views r id u w at voters held =
+IsVote-same v word views r id u w at voters held =
     vote_after v word word views r id u w at r.shape
     (λ name. ap (λ (k : ℕ). is (word / 4) name + is k (name + 1)) voters)
     (λ name large. ap (λ (k : ℕ). is word (taken name) + is k name) held)
@@ -81,16 +81,16 @@ vote_step sheet s r id u w at v x inside others mine client parts passes reading
           (λ e. subst (λ (j : ℕ). IsVote j (slice_index (set s.words v x) j) (set s.views id w)) (sym e)
           (subst (λ (y : ℕ). IsVote v y (set s.views id w)) (sym (get_or-set_same s.words v x 0 (omega (arith, r.long)))) mine))
           (λ other. subst (λ (y : ℕ). IsVote k y (set s.views id w)) (sym (get_or-set_other s.words v k x 0 other))
-          (vote_same k (slice_index s.words k) s.views (r.votes k in_range) id u w at (others k other).0 (others k other).1));
+          (IsVote-same k (slice_index s.words k) s.views (r.votes k in_range) id u w at (others k other).0 (others k other).1));
       readings = subst (λ (y : ℕ). (i : ℕ) (z : View) → get_elem? (set s.views id w) i ≡ some z → IsReading sheet y z) (sym register)
-          (each_set (IsReading sheet (slice_index s.words n)) s.views id w (λ i z _ e. r.readings i z e) reading);
+          (each-set_view (IsReading sheet (slice_index s.words n)) s.views id w (λ i z _ e. r.readings i z e) reading);
       passes = λ h.
           let same : sum_by h w.passes ≡ sum_by h u.passes = ap (sum_by h) passes in
-          let whole : sum_by (λ (z : View). sum_by h z.passes) (set s.views id w) ≡ sum_below h (slice_index s.words n) = omega (arith, sum_set (λ (z : View). sum_by h z.passes) s.views id u w at, r.passes h) in
+          let whole : sum_by (λ (z : View). sum_by h z.passes) (set s.views id w) ≡ sum_below h (slice_index s.words n) = omega (arith, sum_by-set_elem (λ (z : View). sum_by h z.passes) s.views id u w at, r.passes h) in
           whole ∙ ap (sum_below h) (sym register);
-      parts = omega (arith, sum_set (λ (z : View). z.parts) s.views id u w at, r.parts);
-      idle = each_set (λ z. z.parts ≡ 0 → z.passes ≡ []) s.views id w (λ i z _ e. r.idle i z e) (λ alone. passes ∙ r.idle id u at (sym parts ∙ alone));
-      client = each_set (λ z. z.client < 64) s.views id w (λ i z _ e. r.client i z e) (omega (arith, r.client id u at, client));
+      parts = omega (arith, sum_by-set_elem (λ (z : View). z.parts) s.views id u w at, r.parts);
+      idle = each-set_view (λ z. z.parts ≡ 0 → z.passes ≡ []) s.views id w (λ i z _ e. r.idle i z e) (λ alone. passes ∙ r.idle id u at (sym parts ∙ alone));
+      client = each-set_view (λ z. z.client < 64) s.views id w (λ i z _ e. r.client i z e) (omega (arith, r.client id u at, client));
       limit = subst (λ (y : ℕ). y ≤ sheet.limit) (sym register) r.limit;
       small = r.small;
       few = r.few;
@@ -110,7 +110,7 @@ Granted-allowed sheet slots id me v name inside large room mine s r _ at _ =
     let w : View = record u { voters = set u.voters v (offered name / 4 + 1) } in
     let word : ℕ = slice_index s.words v in
     let vote = r.votes v inside in
-    let free : word ≡ 0 = free_word v word s.views vote (stands_here v word s.views vote id u at 0 mine) in
+    let free : word ≡ 0 = free_word v word s.views vote (IsVote-stands v word s.views vote id u at 0 mine) in
     let now : slice_index w.voters v ≡ name + 1 = get_or-set_same u.voters v (offered name / 4 + 1) 0 room ∙ ap (λ (k : ℕ). k + 1) (offered-name name) in
     let after : IsVote v (offered name) (set s.views id w) = vote_after v word (offered name) s.views vote id u w at (inr (omega arith, omega arith))
     (λ k. let a : is (slice_index w.voters v) (k + 1) ≡ is name k = ap (λ (y : ℕ). is y (k + 1)) now ∙ is-next name k in
@@ -195,10 +195,10 @@ Settled-allowed_by_vote sheet slots id me v Free old new inside few known is_old
 Settled-allowed_by_vote sheet slots id me v (Held client grant) old new inside few known is_old is_new = absurd known
 Settled-allowed_by_vote sheet slots id me v (Offered client grant) old new inside few known is_old is_new =
     subst (λ (k : ℕ). Allows (Kept sheet) slots id me v (λ n. either (eqb n old) k n) (Settled (step slots v old k none) me)) (sym is_new)
-    (Settled-allowed sheet slots id me v (name_of client grant) old inside (omega arith) (voter_room me v (Some (client, grant)) known.0 few) (voter_here me v (Some (client, grant)) known.0 few) (inl is_old))
+    (Settled-allowed sheet slots id me v (name_of client grant) old inside (omega arith) (length-voter_view me v (Some (client, grant)) known.0 few) (slice_index-voter_view me v (Some (client, grant)) known.0 few) (inl is_old))
 Settled-allowed_by_vote sheet slots id me v (Returned client grant) old new inside few known is_old is_new =
     subst (λ (k : ℕ). Allows (Kept sheet) slots id me v (λ n. either (eqb n old) k n) (Settled (step slots v old k none) me)) (sym is_new)
-    (Settled-allowed sheet slots id me v (name_of client grant) old inside (omega arith) (voter_room me v (Some (client, grant)) known.0 few) (voter_here me v (Some (client, grant)) known.0 few) (inr is_old))
+    (Settled-allowed sheet slots id me v (name_of client grant) old inside (omega arith) (length-voter_view me v (Some (client, grant)) known.0 few) (slice_index-voter_view me v (Some (client, grant)) known.0 few) (inr is_old))
 
 -- a reading stays where one more vote is held
 more_held : (q held : List ℕ) (v g : ℕ) → v < length held → g ≢ 0 → HoldsAll q held → HoldsAll q (set held v g)
@@ -246,7 +246,7 @@ GaveBack-allowed sheet slots id me v new inside client room mine which s r _ at 
     let w : View = record u { held = set u.held v 0; reading = None } in
     let word : ℕ = slice_index s.words v in
     let vote = r.votes v inside in
-    let e : word ≡ taken name = holds_here v word s.views vote id u at mine in
+    let e : word ≡ taken name = IsVote-holds v word s.views vote id u at mine in
     let now : slice_index w.held v ≡ 0 = get_or-set_same u.held v 0 0 room in
     let after : IsVote v new (set s.views id w) = vote_after v word new s.views vote id u w at (inr (omega arith, omega arith))
     (λ k. let c : is (word / 4) k ≡ is name k = ap (λ (y : ℕ). is y k) (ap (λ (y : ℕ). y / 4) e ∙ taken-name name) in

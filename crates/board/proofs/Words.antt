@@ -43,5 +43,5 @@ pub free-not_taken : (b : ℕ) → is 0 (taken b) ≡ 0
 free-not_taken b = is-apart 0 (taken b) (λ e. omega arith)
 
 -- a test on two numbers, taken apart
-pub when_eq : (a b : ℕ) (P Q : Type 0) → (a ≡ b → P) → (a ≢ b → Q) → MatchBool (nat_eq a b) P Q
-when_eq a b P Q hit miss = dite (ℕ_discrete a b) (λ e. subst (λ t. MatchBool t P Q) (sym (eq-eqb a b e)) (hit e)) (λ n. subst (λ t. MatchBool t P Q) (sym (ne_eqb a b n)) (miss n))
+pub MatchBool-nat_eq : (a b : ℕ) (P Q : Type 0) → (a ≡ b → P) → (a ≢ b → Q) → MatchBool (nat_eq a b) P Q
+MatchBool-nat_eq a b P Q hit miss = dite (ℕ_discrete a b) (λ e. subst (λ t. MatchBool t P Q) (sym (eq-eqb a b e)) (hit e)) (λ n. subst (λ t. MatchBool t P Q) (sym (ne_eqb a b n)) (miss n))

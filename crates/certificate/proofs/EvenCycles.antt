@@ -9,8 +9,8 @@ use Rattle.numbers.specs.Counts.{greatest_below, times}
 use Rattle.numbers.specs.Sums.{sum_below}
 use Rattle.certificate.specs.Loads.{weight_on}
 use Rattle.certificate.specs.Certificates.{Weighted, busiest_count}
-use Rattle.numbers.proofs.CountLemmas.{count_above}
-use Rattle.numbers.proofs.SumsBelow.{none_above, sum_below-head, sum_below-same, sum_below-times, sum_by-sum_below}
+use Rattle.numbers.proofs.CountLemmas.{sum_by-none_above}
+use Rattle.numbers.proofs.SumsBelow.{sum_by-zero_above, sum_below-head, sum_below-same, sum_below-times, sum_by-sum_below}
 
 -- the weight on the quorums with a voter, summed quorum by quorum
 weight_on-sum_below : (i : ℕ) (qs : List (List ℕ)) (ws : List ℕ) → length ws ≡ length qs
@@ -32,13 +32,13 @@ count_of-even w k list e stands i =
     let ws = w.quorum_weights in
     let n = length qs in
     let on : ℕ → Bool = λ j. has (get_or qs j []) i in
-    let none = count_above n list (λ j past. omega (arith, stands j, ap (λ t. k * t) (get_or_past ws j 0 (omega (arith, e))))) in
+    let none = sum_by-none_above n list (λ j past. omega (arith, stands j, ap (λ t. k * t) (get_or_past ws j 0 (omega (arith, e))))) in
     let even = sum_below-same n (λ j. cond (on j) 1 0 * times j list) (λ j. k * cond (on j) (get_or ws j 0) 0)
     (λ j lt. cond-times (on j) k (times j list) (get_or ws j 0) (stands j)) in
     omega (
       arith,
       sum_by-sum_below n (λ j. cond (on j) 1 0) list,
-      none_above n (λ j. cond (on j) 1 0) list none,
+      sum_by-zero_above n (λ j. cond (on j) 1 0) list none,
       even,
       sum_below-times n k (λ j. cond (on j) (get_or ws j 0) 0),
       ap (λ t. k * t) (weight_on-sum_below i qs ws e),

@@ -213,10 +213,10 @@ plan_text-end v w more hv hw e =
     nil_from_length more (eqb-true _ _ (ended_Ok (eqb (length more) 0) (BadText 6) (telling_of v) (telling_of w) one).0)
 
 -- what a call answered
-pub is_spelled : (s : QuorumSystem) (text : List ℕ) (r : Result Weighted PlanFault) → MemoryAside r (plan_at s text) → IfOk r (λ p. (p.system ≡ s) × (text ≡ plan_text p))
-is_spelled s text (Ok p) h = plan_at-Ok s text p h
-is_spelled s text (Err e) h = tt
+pub plan_at-sound : (s : QuorumSystem) (text : List ℕ) (r : Result Weighted PlanFault) → MemoryAside r (plan_at s text) → IfOk r (λ p. (p.system ≡ s) × (text ≡ plan_text p))
+plan_at-sound s text (Ok p) h = plan_at-Ok s text p h
+plan_at-sound s text (Err e) h = tt
 
-pub is_read : (s : QuorumSystem) (text : List ℕ) (r : Result Weighted PlanFault) (w : Weighted) → MemoryAside r (plan_at s text) → w.system ≡ s → IsCertificate w → text ≡ plan_text w → MemoryAside r (Ok w)
-is_read s text r w h same certificate e =
+pub plan_at-complete : (s : QuorumSystem) (text : List ℕ) (r : Result Weighted PlanFault) (w : Weighted) → MemoryAside r (plan_at s text) → w.system ≡ s → IsCertificate w → text ≡ plan_text w → MemoryAside r (Ok w)
+plan_at-complete s text r w h same certificate e =
     subst (λ wanted. MemoryAside r wanted) (ap (λ t. plan_at s t) e ∙ ap (λ s. plan_at s (plan_text w)) (sym same) ∙ plan_at-plan_text w certificate) h

@@ -4,7 +4,7 @@ use Rattle.std.specs.List.{slice_split}
 use Rattle.std.specs.Option.{option_map, option_and_then}
 use Rattle.certificate.specs.PlanTexts.{number_of, numbers_of}
 use Rattle.texts.specs.Cuts.{cut_at}
-use Rattle.texts.proofs.CutLemmas.{words_cut, words_end}
+use Rattle.texts.proofs.CutLemmas.{slice_split-cut_at, slice_split-no_cut}
 
 -- with the numbers before
 abbrev pub behind_found : List ℕ → List ℕ → Option (List ℕ)
@@ -25,17 +25,17 @@ pub behind_found-next_word : (found rest word after : List ℕ) (n : ℕ) (all :
 behind_found-next_word found rest word after n all cut is so_far =
     sym (option_map-append_cons found n (numbers_of (slice_split (λ b. eqb b 32) after)))
     ∙ sym (first_word found word (slice_split (λ b. eqb b 32) after) (Some n) is)
-    ∙ sym (at_words found rest (word ∷ slice_split (λ b. eqb b 32) after) (words_cut rest (word, after) cut)) ∙ so_far
+    ∙ sym (at_words found rest (word ∷ slice_split (λ b. eqb b 32) after) (slice_split-cut_at rest (word, after) cut)) ∙ so_far
 
 pub behind_found-bad_word : (found rest word after : List ℕ) (all : Option (List ℕ)) → cut_at 32 rest ≡ Some (word, after) → number_of word ≡ None → behind_found found rest ≡ all → None ≡ all
 behind_found-bad_word found rest word after all cut is so_far =
     sym (first_word found word (slice_split (λ b. eqb b 32) after) None is)
-    ∙ sym (at_words found rest (word ∷ slice_split (λ b. eqb b 32) after) (words_cut rest (word, after) cut)) ∙ so_far
+    ∙ sym (at_words found rest (word ∷ slice_split (λ b. eqb b 32) after) (slice_split-cut_at rest (word, after) cut)) ∙ so_far
 
 pub behind_found-last_word : (found rest : List ℕ) (n : ℕ) (all : Option (List ℕ)) → cut_at 32 rest ≡ None → number_of rest ≡ Some n → behind_found found rest ≡ all → Some (found ++ n ∷ []) ≡ all
 behind_found-last_word found rest n all cut is so_far =
-    sym (first_word found rest [] (Some n) is) ∙ sym (at_words found rest (rest ∷ []) (words_end rest cut)) ∙ so_far
+    sym (first_word found rest [] (Some n) is) ∙ sym (at_words found rest (rest ∷ []) (slice_split-no_cut rest cut)) ∙ so_far
 
 pub behind_found-bad_last_word : (found rest : List ℕ) (all : Option (List ℕ)) → cut_at 32 rest ≡ None → number_of rest ≡ None → behind_found found rest ≡ all → None ≡ all
 behind_found-bad_last_word found rest all cut is so_far =
-    sym (first_word found rest [] None is) ∙ sym (at_words found rest (rest ∷ []) (words_end rest cut)) ∙ so_far
+    sym (first_word found rest [] None is) ∙ sym (at_words found rest (rest ∷ []) (slice_split-no_cut rest cut)) ∙ so_far

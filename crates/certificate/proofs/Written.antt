@@ -7,15 +7,15 @@ use Rattle.texts.specs.Lines.{text_of_lines}
 use Rattle.certificate.specs.PlanTexts.{spaced, title_line, load_line, cycle_line}
 use Rattle.certificate.proofs.Spellings.{spaced-push}
 
-pub spaced_first : (new text before ns : List ℕ) (k : ℕ) → k ≤ 0 → k < length ns → new ≡ text ++ decimal (get_or ns k 0) → text ≡ before → before ≡ spaced (take k ns) → new ≡ spaced (take (k + 1) ns)
-spaced_first new text before ns k low lt written same is =
+pub spaced-first : (new text before ns : List ℕ) (k : ℕ) → k ≤ 0 → k < length ns → new ≡ text ++ decimal (get_or ns k 0) → text ≡ before → before ≡ spaced (take k ns) → new ≡ spaced (take (k + 1) ns)
+spaced-first new text before ns k low lt written same is =
     let none : k ≡ 0 = omega arith in
     let nothing : spaced (take k ns) ≡ [] = rw none refl in
     let one : spaced (take k ns ++ get_or ns k 0 ∷ []) ≡ decimal (get_or ns k 0) = rw none refl in
     written ∙ ap (λ t. t ++ decimal (get_or ns k 0)) (same ∙ is ∙ nothing) ∙ sym one ∙ ap spaced (sym (take_more ns k 0 lt))
 
-pub spaced_next : (new text pushed before ns : List ℕ) (k : ℕ) → 0 < k → k < length ns → new ≡ text ++ decimal (get_or ns k 0) → text ≡ pushed → pushed ≡ before ++ 32 ∷ [] → before ≡ spaced (take k ns) → new ≡ spaced (take (k + 1) ns)
-spaced_next new text pushed before ns k some lt written same push is =
+pub spaced-next : (new text pushed before ns : List ℕ) (k : ℕ) → 0 < k → k < length ns → new ≡ text ++ decimal (get_or ns k 0) → text ≡ pushed → pushed ≡ before ++ 32 ∷ [] → before ≡ spaced (take k ns) → new ≡ spaced (take (k + 1) ns)
+spaced-next new text pushed before ns k some lt written same push is =
     written ∙ ap (λ t. t ++ decimal (get_or ns k 0)) (same ∙ push ∙ ap (λ t. t ++ 32 ∷ []) is)
     ∙ append_assoc (spaced (take k ns)) (32 ∷ []) (decimal (get_or ns k 0))
     ∙ sym (spaced-push (take k ns) (get_or ns k 0) (omega (arith, length-take k ns)))
@@ -26,8 +26,8 @@ abbrev pub written_text : ℕ → ℕ → ℕ → List ℕ → List ℕ → List
 written_text p q d quorums voters =
     codes "quorum-plan 1\nload " ++ (decimal p ++ (codes "/" ++ (decimal q ++ (codes "\ncycle " ++ (decimal d ++ (codes "\nquorum " ++ (quorums ++ (codes "\nvoter " ++ (voters ++ codes "\n")))))))))
 
-pub written_lines : (p q d : ℕ) (quorums voters : List ℕ) → written_text p q d quorums voters ≡ text_of_lines (title_line ∷ load_line (p, q) ∷ cycle_line d ∷ (codes "quorum " ++ quorums) ∷ (codes "voter " ++ voters) ∷ [])
-written_lines p q d quorums voters = simp append_assoc
+pub written_text-lines : (p q d : ℕ) (quorums voters : List ℕ) → written_text p q d quorums voters ≡ text_of_lines (title_line ∷ load_line (p, q) ∷ cycle_line d ∷ (codes "quorum " ++ quorums) ∷ (codes "voter " ++ voters) ∷ [])
+written_text-lines p q d quorums voters = simp append_assoc
 
 pub is_text : {A E : Type 0} (r : Result (String A) E) (got wanted : List ℕ) → IfOk r (λ s. IfSome (Some got) (λ bs. string_bytes s ≡ bs)) → got ≡ wanted → IfOk r (λ s. string_bytes s ≡ wanted)
 is_text (Ok s) got wanted h e = h ∙ e

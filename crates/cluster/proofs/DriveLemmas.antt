@@ -32,15 +32,15 @@ Worked-draw a b c r some client clerk seat k = record {
 }
 
 -- who drew and is inside is refused a pass only by what ends its work
-pub refused_pass : (a b c : MemberState) (fault : ClusterFault) → 0 < a.clerk.rest → Worked 1 0 a c → is_inside b.requester.phase ≡ true → RefusesPass b fault → Stops a c fault
-refused_pass a b c (ends.Board RegisterFull) some w inside r = (w, some)
-refused_pass a b c (ends.Board OutOfMemory) some w inside r = (w, some)
-refused_pass a b c (ends.Board (SeatsOut k)) some w inside r = absurd r
-refused_pass a b c (ends.Board (VoteOut v)) some w inside r = absurd r
-refused_pass a b c (ends.Client e) some w inside r = absurd r
-refused_pass a b c (ends.Deal e) some w inside r = absurd r
-refused_pass a b c ends.NotInside some w inside r = absurd (true≢false (sym inside ∙ r))
-refused_pass a b c (ends.TurnsSpent k) some w inside r = absurd r
+pub Stops-refused_pass : (a b c : MemberState) (fault : ClusterFault) → 0 < a.clerk.rest → Worked 1 0 a c → is_inside b.requester.phase ≡ true → RefusesPass b fault → Stops a c fault
+Stops-refused_pass a b c (ends.Board RegisterFull) some w inside r = (w, some)
+Stops-refused_pass a b c (ends.Board OutOfMemory) some w inside r = (w, some)
+Stops-refused_pass a b c (ends.Board (SeatsOut k)) some w inside r = absurd r
+Stops-refused_pass a b c (ends.Board (VoteOut v)) some w inside r = absurd r
+Stops-refused_pass a b c (ends.Client e) some w inside r = absurd r
+Stops-refused_pass a b c (ends.Deal e) some w inside r = absurd r
+Stops-refused_pass a b c ends.NotInside some w inside r = absurd (true≢false (sym inside ∙ r))
+Stops-refused_pass a b c (ends.TurnsSpent k) some w inside r = absurd r
 
 -- All passes
 
@@ -91,40 +91,40 @@ IsBack-stopped passes n a b c d e fault r less stops kept idle told =
     })
 
 -- who was let pass each time
-pub was_let : (lets : ℕ → Bool) (drawn n : ℕ) (a b : MemberState) → Worked drawn n a b → (0 < n → lets a.requester.id ≡ true) → WasLet lets a b
-was_let lets drawn n a b worked h longer =
+pub WasLet-Worked : (lets : ℕ → Bool) (drawn n : ℕ) (a b : MemberState) → Worked drawn n a b → (0 < n → lets a.requester.id ≡ true) → WasLet lets a b
+WasLet-Worked lets drawn n a b worked h longer =
     let more = worked.passes in
     subst (λ k. lets k ≡ true) (sym worked.client) (h (omega (arith, longer, ap length more.1, length-append a.seat.passes more.0, more.2)))
 
 -- who had two turns for each pass
-pub took_turns : (turns drawn n : ℕ) (a b : MemberState) → Worked drawn n a b → 2 * n ≤ turns → TookTurns turns a b
-took_turns turns drawn n a b worked h =
+pub TookTurns-Worked : (turns drawn n : ℕ) (a b : MemberState) → Worked drawn n a b → 2 * n ≤ turns → TookTurns turns a b
+TookTurns-Worked turns drawn n a b worked h =
     let more = worked.passes in
     omega (arith, h, ap length more.1, length-append a.seat.passes more.0, more.2)
 
 -- All members
 
-pub zip_from : {X : Type 0} (R : X → X → Type 0) (xs ys : List X) → length ys ≡ length xs → ((i : ℕ) (d : X) → i < length xs → R (slice_index_or xs i d) (slice_index_or ys i d)) → AllZip R xs ys
-zip_from R [] [] e each = tt
-zip_from R [] (y ∷ ys) e each = absurd (omega (arith, e))
-zip_from R (x ∷ xs) [] e each = absurd (omega (arith, e))
-zip_from R (x ∷ xs) (y ∷ ys) e each = (each 0 x (omega arith), zip_from R xs ys (omega (arith, e)) (λ i d below. each (suc i) d (omega (arith, below))))
+pub AllZip-from : {X : Type 0} (R : X → X → Type 0) (xs ys : List X) → length ys ≡ length xs → ((i : ℕ) (d : X) → i < length xs → R (slice_index_or xs i d) (slice_index_or ys i d)) → AllZip R xs ys
+AllZip-from R [] [] e each = tt
+AllZip-from R [] (y ∷ ys) e each = absurd (omega (arith, e))
+AllZip-from R (x ∷ xs) [] e each = absurd (omega (arith, e))
+AllZip-from R (x ∷ xs) (y ∷ ys) e each = (each 0 x (omega arith), AllZip-from R xs ys (omega (arith, e)) (λ i d below. each (suc i) d (omega (arith, below))))
 
 -- members without a fault did all their work
-pub all_served : (passes : ℕ) (xs ys : List MemberState) → AllZip (IsBack passes) xs ys → All (λ m. m.fault ≡ None) ys → AllZip (HasServed passes) xs ys
-all_served passes [] [] back done = tt
-all_served passes [] (y ∷ ys) back done = absurd back
-all_served passes (x ∷ xs) [] back done = absurd back
-all_served passes (x ∷ xs) (y ∷ ys) back done =
-    (subst (λ f. IsBackBy passes f x y) (done 0 y (omega arith)) back.0, all_served passes xs ys back.1 (λ k d below. done (suc k) d (omega (arith, below))))
+pub AllZip-HasServed : (passes : ℕ) (xs ys : List MemberState) → AllZip (IsBack passes) xs ys → All (λ m. m.fault ≡ None) ys → AllZip (HasServed passes) xs ys
+AllZip-HasServed passes [] [] back done = tt
+AllZip-HasServed passes [] (y ∷ ys) back done = absurd back
+AllZip-HasServed passes (x ∷ xs) [] back done = absurd back
+AllZip-HasServed passes (x ∷ xs) (y ∷ ys) back done =
+    (subst (λ f. IsBackBy passes f x y) (done 0 y (omega arith)) back.0, AllZip-HasServed passes xs ys back.1 (λ k d below. done (suc k) d (omega (arith, below))))
 
 back_idle : (passes : ℕ) (fault : Option ClusterFault) (x y : MemberState) → IsBackBy passes fault x y → is_idle y.requester.phase ≡ true
 back_idle passes None x y back = back.idle
 back_idle passes (Some fault) x y back = back.idle
 
-pub all_idle : (passes : ℕ) (xs ys : List MemberState) → AllZip (IsBack passes) xs ys → AreIdle ys
-all_idle passes [] [] back k d below = absurd (omega (arith, below))
-all_idle passes [] (y ∷ ys) back k d below = absurd back
-all_idle passes (x ∷ xs) [] back k d below = absurd back
-all_idle passes (x ∷ xs) (y ∷ ys) back zero d below = back_idle passes y.fault x y back.0
-all_idle passes (x ∷ xs) (y ∷ ys) back (suc k) d below = all_idle passes xs ys back.1 k d (omega (arith, below))
+pub AreIdle-IsBack : (passes : ℕ) (xs ys : List MemberState) → AllZip (IsBack passes) xs ys → AreIdle ys
+AreIdle-IsBack passes [] [] back k d below = absurd (omega (arith, below))
+AreIdle-IsBack passes [] (y ∷ ys) back k d below = absurd back
+AreIdle-IsBack passes (x ∷ xs) [] back k d below = absurd back
+AreIdle-IsBack passes (x ∷ xs) (y ∷ ys) back zero d below = back_idle passes y.fault x y back.0
+AreIdle-IsBack passes (x ∷ xs) (y ∷ ys) back (suc k) d below = AreIdle-IsBack passes xs ys back.1 k d (omega (arith, below))

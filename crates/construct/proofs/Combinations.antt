@@ -43,10 +43,10 @@ rows_are_sets (suc c) m n k a (suc r) p rows left room =
     ap₂ (λ xs ys. map (λ ds. a ∷ ds) xs ++ ys) (rows a r left) (rows_are_sets c m n k (a + 1) r p rows (omega arith) (inl more))
 
 -- the ways to go on from p are the sets of m of the r numbers that are left
-pub ways_are_sets : (m n k r : ℕ) (p : List ℕ) → ascending_low p + r ≡ n → length p + m ≡ k → ways ascending_low (ascending_high n k) m p ≡ sets_from (ascending_low p) r m
+pub ways-sets_from : (m n k r : ℕ) (p : List ℕ) → ascending_low p + r ≡ n → length p + m ≡ k → ways ascending_low (ascending_high n k) m p ≡ sets_from (ascending_low p) r m
 unfolding sets_from
-ways_are_sets zero n k r p left long = refl
-ways_are_sets (suc m) n k r p left long =
+ways-sets_from zero n k r p left long = refl
+ways-sets_from (suc m) n k r p left long =
     let a = ascending_low p in
     let c = ascending_high n k p - a in
     let room : (r ≡ c + m) ⊎ ((c ≡ 0) × (r ≤ m)) = elim (cases_lt r m) [
@@ -54,7 +54,7 @@ ways_are_sets (suc m) n k r p left long =
       | inr many ↦ inl (omega arith)
     ] in
     rows_are_sets c m n k a r p (λ d s e.
-    ways_are_sets m n k s (p ++ d ∷ []) (omega (arith, low-push p d)) (omega (arith, length-append p (d ∷ [])))
+    ways-sets_from m n k s (p ++ d ∷ []) (omega (arith, low-push p d)) (omega (arith, length-append p (d ∷ [])))
     ∙ ap (λ x. sets_from x s m) (low-push p d)) left room
 
 -- clones of the numbers at the chosen places are the places

@@ -73,9 +73,9 @@ sets_fault n sets some few full short all =
     (ap (option_map EmptyQuorum) (none_empty n sets _ all refl)) (ap (option_map (λ p. VoterOutOfRange p.0 p.1)) (none_outside n 0 sets all)) in
     rw e (last_faults (first_pair are_disjoint 0 sets) (first_pair is_one_within 0 sets) (record { voters = n; quorums = sets }))
 
-pub cyclic_fault : (n : ℕ) (base : List ℕ) → n ≤ 64 → is_bad_base n base ≡ false → IfErr (as_construct (coterie_of n (cyclic_quorums n base))) IsCyclicFault
+pub IsCyclicFault-coterie_of : (n : ℕ) (base : List ℕ) → n ≤ 64 → is_bad_base n base ≡ false → IfErr (as_construct (coterie_of n (cyclic_quorums n base))) IsCyclicFault
 unfolding cyclic_quorums
-cyclic_fault n base few good =
+IsCyclicFault-coterie_of n base few good =
     let listed = (or_parts ((eqb n 0 || eqb (length base) 0) || not (list_all (λ x. ltb x n) base)) (has_repeat base) good).0 in
     let (some_voter, some_member) = or_parts (eqb n 0) (eqb (length base) 0) (or_parts (eqb n 0 || eqb (length base) 0) (not (list_all (λ x. ltb x n) base)) listed).0 in
     let full = eqb-false (length base) 0 some_member in
@@ -125,8 +125,8 @@ pub has_repeat-take : (n : ℕ) (xs : List ℕ) → has_repeat (take n xs) ≡ t
 has_repeat-take n xs e = sym (ap has_repeat (take-append-drop n xs)) ∙ has_repeat-longer (take n xs) (drop n xs) e
 
 -- what has been seen, with one more number
-pub seen_more : (xs : List ℕ) (x q : ℕ) (b : Bool) → b ≡ has xs q → cond (eqb x q) true b ≡ has (xs ++ x ∷ []) q
-seen_more xs x q b e = or_turned (eqb x q) b ∙ ap (λ t. t || (eqb x q || false)) e ∙ sym (has-append xs (x ∷ []) q)
+pub has-append_one : (xs : List ℕ) (x q : ℕ) (b : Bool) → b ≡ has xs q → cond (eqb x q) true b ≡ has (xs ++ x ∷ []) q
+has-append_one xs x q b e = or_turned (eqb x q) b ∙ ap (λ t. t || (eqb x q || false)) e ∙ sym (has-append xs (x ∷ []) q)
   where
     or_turned : (a b : Bool) → cond a true b ≡ (b || (a || false))
     or_turned true true = refl

@@ -219,14 +219,14 @@ some_sets low (suc n) (suc k) le =
 pub IsSet-choice : (n k : ℕ) (s : List ℕ) → n ≤ 64 → IsChoice 0 n k s → IsSet s
 IsSet-choice n k s few choice = Ascends-below 0 (0 + n) 64 s (omega arith) choice.ascends
 
-pub below_choice : (n k : ℕ) (s : List ℕ) → IsChoice 0 n k s → All (λ i. i < n) s
-below_choice n k s choice = All-members (λ i. i < n) s (λ v there. omega (arith, (has_from 0 (0 + n) s v choice.ascends there).1))
+pub All-IsChoice : (n k : ℕ) (s : List ℕ) → IsChoice 0 n k s → All (λ i. i < n) s
+All-IsChoice n k s choice = All-members (λ i. i < n) s (λ v there. omega (arith, (has_from 0 (0 + n) s v choice.ascends there).1))
 
 IsQuorum-choice : (n k : ℕ) (s : List ℕ) → n ≤ 64 → IsChoice 0 n (k + 1) s → IsQuorum n s
 IsQuorum-choice n k s few choice = record {
   set = IsSet-choice n (k + 1) s few choice;
   not_empty = omega (arith, choice.long);
-  in_range = below_choice n (k + 1) s choice;
+  in_range = All-IsChoice n (k + 1) s choice;
 }
 
 pub IsCoterie-majority : (n : ℕ) → 0 < n → n ≤ 14 → IsCoterie (majority_system n)

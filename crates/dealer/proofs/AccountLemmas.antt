@@ -26,8 +26,8 @@ pub get_or-values_below : (n : ℕ) (f : ℕ → ℕ) (i : ℕ) → i < n → ge
 get_or-values_below n f i lt = get_or-map-range_with_len f 0 n i i 0 lt (omega arith)
 
 -- one value more
-pub values_below_more : (n : ℕ) (f : ℕ → ℕ) (before after : List ℕ) (value : ℕ) → before ≡ values_below n f → value ≡ f n → after ≡ before ++ value ∷ [] → after ≡ values_below (n + 1) f
-values_below_more n f before after value made here pushed =
+pub values_below-more : (n : ℕ) (f : ℕ → ℕ) (before after : List ℕ) (value : ℕ) → before ≡ values_below n f → value ≡ f n → after ≡ before ++ value ∷ [] → after ≡ values_below (n + 1) f
+values_below-more n f before after value made here pushed =
     pushed ∙ ap₂ (λ (xs : List ℕ) (x : ℕ). xs ++ x ∷ []) made here ∙ sym (map-range_with_len_more f 0 n n (omega arith))
 
 sum-values_below : (n : ℕ) (f : ℕ → ℕ) → sum (values_below n f) ≡ sum_below f n
@@ -105,28 +105,28 @@ values_below-same n f g same =
     fill_by_all g (values_below n f) n 0 (length-values_below n f) (λ i lt. get_or-values_below n f i lt ∙ same i)
 
 -- the voters' counts, summed from those of the quorums
-pub voters_from_quorums : (w : Weighted) (tickets : List ℕ) (s : QuorumSystem) (counts voters : List ℕ)
+pub voters-from_quorums : (w : Weighted) (tickets : List ℕ) (s : QuorumSystem) (counts voters : List ℕ)
     → ((i : ℕ) → count_of w.system i (quorums_named w tickets) ≡ weight_on i w.system.quorums (account_of w tickets).quorums)
     → s ≡ w.system → counts ≡ (account_of w tickets).quorums → voters ≡ values_below s.voters (λ i. weight_on i s.quorums counts)
     → voters ≡ (account_of w tickets).voters
-voters_from_quorums w tickets s counts voters by_quorum same counted summed =
+voters-from_quorums w tickets s counts voters by_quorum same counted summed =
     summed
     ∙ ap₂ (λ (t : QuorumSystem) (list : List ℕ). values_below t.voters (λ i. weight_on i t.quorums list)) same counted
     ∙ sym (values_below-same w.system.voters (λ i. count_of w.system i (quorums_named w tickets)) (λ i. weight_on i w.system.quorums (account_of w tickets).quorums) by_quorum)
 
 -- an account by its parts
-pub account_of_parts : (w : Weighted) (tickets quorums voters : List ℕ) (busiest : ℕ)
+pub account_of-parts : (w : Weighted) (tickets quorums voters : List ℕ) (busiest : ℕ)
     → quorums ≡ (account_of w tickets).quorums → voters ≡ (account_of w tickets).voters → busiest ≡ (account_of w tickets).busiest
     → ◌≡◌ {A = Account} (record { drawn = length tickets; quorums = quorums; voters = voters; busiest = busiest }) (account_of w tickets)
-account_of_parts w tickets quorums voters busiest in_quorums in_voters most =
+account_of-parts w tickets quorums voters busiest in_quorums in_voters most =
     let made : List ℕ → List ℕ → ℕ → Account = λ q v b. record { drawn = length tickets; quorums = q; voters = v; busiest = b } in
     let whole = account_of w tickets in
     ap (λ q. made q voters busiest) in_quorums ∙ ap (λ v. made whole.quorums v busiest) in_voters ∙ ap (made whole.quorums whole.voters) most
 
 -- k cycles are dealt as evenly as any quorums in equal number
-pub least_busiest : (w : Weighted) (k : ℕ) (list : List ℕ) → IsCertificate w → IsOptimal w → length list ≡ k * cycle_len w → All (λ j. j < length w.system.quorums) list
+pub busiest_of-least : (w : Weighted) (k : ℕ) (list : List ℕ) → IsCertificate w → IsOptimal w → length list ≡ k * cycle_len w → All (λ j. j < length w.system.quorums) list
     → k * busiest_count w ≤ busiest_of w.system list
-least_busiest w k list is optimal long within =
+busiest_of-least w k list is optimal long within =
     scaled k (cycle_len w) (length list) (busiest_count w) (busiest_of w.system list) is.some_quorum long (optimal list within)
   where
     scaled : (k d n m top : ℕ) → 0 < d → n ≡ k * d → n * m ≤ top * d → k * m ≤ top
@@ -135,10 +135,10 @@ least_busiest w k list is optimal long within =
         le_of_mul-le-mul_right {k = d} (omega (arith, same, le)) some
 
 -- the counts of one ticket more
-pub counts_more : (w : Weighted) (tickets counts : List ℕ) (i j value : ℕ) → i < length tickets → ((k : ℕ) → get_or counts k 0 ≡ times k (quorums_named w (take i tickets)))
+pub times-more_counts : (w : Weighted) (tickets counts : List ℕ) (i j value : ℕ) → i < length tickets → ((k : ℕ) → get_or counts k 0 ≡ times k (quorums_named w (take i tickets)))
     → j ≡ quorum_of_ticket w (get_or tickets i 0) → j < length counts → value ≡ get_or counts j 0
     → (k : ℕ) → get_or (set counts j (value + 1)) k 0 ≡ times k (quorums_named w (take (i + 1) tickets))
-counts_more w tickets counts i j value lt counted names inside was k =
+times-more_counts w tickets counts i j value lt counted names inside was k =
     let more = ap (λ ts. times k (quorums_named w ts)) (take_more tickets i 0 lt)
     ∙ ap (times k) (map-append (quorum_of_ticket w) (take i tickets) (get_or tickets i 0 ∷ []))
     ∙ times-append k (quorums_named w (take i tickets)) (quorum_of_ticket w (get_or tickets i 0) ∷ [])

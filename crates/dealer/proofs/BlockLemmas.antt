@@ -10,11 +10,11 @@ use Rattle.std.proofs.lemmas.List.FromFn.{get_or-range_with_len, length-range_wi
 use Rattle.dealer.specs.Cycles.{round_of, greatest_weight, cycle_of}
 use Rattle.dealer.specs.Blocks.{places_of, rounds_before, IsBlock, AreBlocksUpTo, AreBlocksOf, AreInOrder, IsPlaceIn}
 use Rattle.dealer.specs.declared.rounds.Block.{Block}
-use Rattle.dealer.proofs.CycleLemmas.{rounds-more, cycle_of_rounds, length-cycle_of}
+use Rattle.dealer.proofs.CycleLemmas.{rounds-more, cycle_of-rounds, length-cycle_of}
 
 -- one round more fills as many places as it lists quorums
-pub places_more : (weights : List ℕ) (r : ℕ) → places_of weights (r + 1) ≡ places_of weights r + length (round_of weights (r + 1))
-places_more weights r =
+pub places_of-more : (weights : List ℕ) (r : ℕ) → places_of weights (r + 1) ≡ places_of weights r + length (round_of weights (r + 1))
+places_of-more weights r =
     ap length (rounds-more weights r (r + 1) refl)
     ∙ length-append (flat_map (round_of weights) (range_with_len 1 r)) (round_of weights (r + 1))
 
@@ -30,7 +30,7 @@ places_same weights before least count (suc k) same le =
     omega (
       arith,
       ap (places_of weights) at,
-      places_more weights (before + k),
+      places_of-more weights (before + k),
       same (before + k + 1) (omega arith) (omega arith),
       places_same weights before least count k same (omega arith),
     )
@@ -42,20 +42,20 @@ places_add weights r zero =
     omega (arith, ap (places_of weights) at)
 places_add weights r (suc k) =
     let at : r + suc k ≡ r + k + 1 = omega arith in
-    omega (arith, ap (places_of weights) at, places_more weights (r + k), places_add weights r k)
+    omega (arith, ap (places_of weights) at, places_of-more weights (r + k), places_add weights r k)
 
-pub places_rise : (weights : List ℕ) (r s : ℕ) → r ≤ s → places_of weights r ≤ places_of weights s
-places_rise weights r s le =
+pub places_of-rise : (weights : List ℕ) (r s : ℕ) → r ≤ s → places_of weights r ≤ places_of weights s
+places_of-rise weights r s le =
     let at : r + (s - r) ≡ s = omega arith in
     omega (arith, ap (places_of weights) at, places_add weights r (s - r))
 
 -- all rounds fill all places
-pub places_all : (weights : List ℕ) → places_of weights (greatest_weight weights) ≡ sum weights
-places_all weights = ap length (cycle_of_rounds weights) ∙ length-cycle_of weights
+pub places_of-all : (weights : List ℕ) → places_of weights (greatest_weight weights) ≡ sum weights
+places_of-all weights = ap length (cycle_of-rounds weights) ∙ length-cycle_of weights
 
 -- the rounds of a block fill its count of places each
-pub places_of_block : (weights : List ℕ) (before k : ℕ) (b : Block) → IsBlock weights before b → before + k ≤ b.least → places_of weights (before + k) ≡ b.first + k * b.count
-places_of_block weights before k b is le =
+pub places_of-block : (weights : List ℕ) (before k : ℕ) (b : Block) → IsBlock weights before b → before + k ≤ b.least → places_of weights (before + k) ≡ b.first + k * b.count
+places_of-block weights before k b is le =
     omega (
       arith,
       places_same weights before b.least b.count k (λ r lo hi. ap length (is.same r lo hi) ∙ sym is.count) le,
@@ -75,7 +75,7 @@ round_at weights r i place lt at inside =
     let all = range_with_len 1 g in
     let number : get_or all r 0 ≡ r + 1 = omega (arith, get_or-range_with_len 1 g r 0 lt) in
     let stands = get_or-flat_map (round_of weights) all r i 0 0 (omega (arith, length-range_with_len 1 g)) (omega (arith, ap (λ s. length (round_of weights s)) number)) in
-    ap₂ (λ list p. get_or list p 0) (sym (cycle_of_rounds weights)) (at ∙ ap (λ rounds. length (flat_map (round_of weights) rounds) + i) (sym (take_range 1 g r (omega arith))))
+    ap₂ (λ list p. get_or list p 0) (sym (cycle_of-rounds weights)) (at ∙ ap (λ rounds. length (flat_map (round_of weights) rounds) + i) (sym (take_range 1 g r (omega arith))))
     ∙ stands
     ∙ ap (λ s. get_or (round_of weights s) i 0) number
 
@@ -91,16 +91,16 @@ in_block weights before place b is most begun ended =
     let many = b.least - before in
     let split : k * b.count + i ≡ rest = omega (arith, div-add-mod rest b.count) in
     let last : before + many ≡ b.least = omega arith in
-    let end : places_of weights b.least ≡ b.first + many * b.count = sym (ap (places_of weights) last) ∙ places_of_block weights before many b is (omega arith) in
+    let end : places_of weights b.least ≡ b.first + many * b.count = sym (ap (places_of weights) last) ∙ places_of-block weights before many b is (omega arith) in
     let within : k < many = (div-lt_iff_lt-mul {x = rest} {y = many} some).1 (omega (arith, end)) in
     let round : round_of weights (before + k + 1) ≡ round_of weights b.least = is.same (before + k + 1) (omega arith) (omega arith) in
     let inside : i < b.count = omega arith in
-    round_at weights (before + k) i place (omega arith) (omega (arith, places_of_block weights before k b is (omega arith), split)) (omega (arith, ap length round, is.count, inside))
+    round_at weights (before + k) i place (omega arith) (omega (arith, places_of-block weights before k b is (omega arith), split)) (omega (arith, ap length round, is.count, inside))
     ∙ ap (λ list. get_or list i 0) round
 
 -- the rounds before the next block are those up to the last of a block
-pub rounds_next : (blocks : List Block) (i : ℕ) (d : Block) → i < length blocks → rounds_before blocks (i + 1) ≡ (get_or blocks i d).least
-rounds_next blocks i d lt =
+pub rounds_before-next : (blocks : List Block) (i : ℕ) (d : Block) → i < length blocks → rounds_before blocks (i + 1) ≡ (get_or blocks i d).least
+rounds_before-next blocks i d lt =
     let next : i + 1 ≡ suc i = omega arith in
     ap (rounds_before blocks) next ∙ get_or-map (λ (b : Block). b.least) blocks i d 0 lt
 
@@ -118,7 +118,7 @@ rounds_add weights last blocks i (suc k) are le =
     omega (
       arith,
       ap (rounds_before blocks) at,
-      rounds_next blocks (i + k) some_block (omega arith),
+      rounds_before-next blocks (i + k) some_block (omega arith),
       is.some_round,
       rounds_add weights last blocks i k are (omega arith),
     )
@@ -136,7 +136,7 @@ blocks_some weights blocks are some =
       | inr none ↦
           let empty : length blocks ≡ 0 = omega arith in
           let end : greatest_weight weights ≡ 0 = sym are.whole ∙ ap (rounds_before blocks) empty in
-          absurd (omega (arith, places_all weights, ap (places_of weights) end))
+          absurd (omega (arith, places_of-all weights, ap (places_of weights) end))
     ]
 
 -- blocks are in order
@@ -151,7 +151,7 @@ AreInOrder-blocks weights blocks are some = record {
         arith,
         at_i.first,
         at_j.first,
-        places_rise weights (rounds_before blocks i) (rounds_before blocks j) (rounds_rise weights (greatest_weight weights) blocks i j are le (omega arith)),
+        places_of-rise weights (rounds_before blocks i) (rounds_before blocks j) (rounds_rise weights (greatest_weight weights) blocks i j are le (omega arith)),
       );
   counts = λ i d lt. (are.each i d lt).some_quorum;
 }
@@ -163,7 +163,7 @@ named_in_block weights blocks place found d are lt is =
     let i = found.0 in
     let b = get_or blocks i d in
     let block = are.each i d is.in_range in
-    let next = rounds_next blocks i d is.in_range in
+    let next = rounds_before-next blocks i d is.in_range in
     let most = rounds_rise weights (greatest_weight weights) blocks (i + 1) (length blocks) are (omega (arith, is.in_range)) (omega arith) in
     let ended : place < places_of weights b.least =
     elim (cases_lt (i + 1) (length blocks)) [
@@ -173,7 +173,7 @@ named_in_block weights blocks place found d are lt is =
       | inr end ↦
           let last : i + 1 ≡ length blocks = omega (arith, is.in_range) in
           let all : b.least ≡ greatest_weight weights = sym next ∙ ap (rounds_before blocks) last ∙ are.whole in
-          omega (arith, ap (places_of weights) all, places_all weights)
+          omega (arith, ap (places_of weights) all, places_of-all weights)
     ] in
     in_block weights (rounds_before blocks i) place b block (omega (arith, most, next, are.whole)) (is.begun d) ended
     ∙ ap (λ k. get_or (round_of weights b.least) k 0) (sym (is.within d))
@@ -185,8 +185,8 @@ same_before blocks b i le =
     ∙ get_or_append_left (0 ∷ map (λ (c : Block). c.least) blocks) (b.least ∷ []) 0 i (omega (arith, length-map blocks (λ (c : Block). c.least)))
 
 -- one block more
-pub blocks_more : (weights : List ℕ) (before : ℕ) (blocks : List Block) (b : Block) → AreBlocksUpTo weights before blocks → IsBlock weights before b → AreBlocksUpTo weights b.least (blocks ++ b ∷ [])
-blocks_more weights before blocks b are is =
+pub AreBlocksUpTo-more : (weights : List ℕ) (before : ℕ) (blocks : List Block) (b : Block) → AreBlocksUpTo weights before blocks → IsBlock weights before b → AreBlocksUpTo weights b.least (blocks ++ b ∷ [])
+AreBlocksUpTo-more weights before blocks b are is =
     let all = blocks ++ b ∷ [] in
     let long : length all ≡ length blocks + 1 = length-append blocks (b ∷ []) in
     record {
@@ -203,6 +203,6 @@ blocks_more weights before blocks b are is =
           ];
       whole =
           ap (rounds_before all) long
-          ∙ rounds_next all (length blocks) some_block (omega (arith, long))
+          ∙ rounds_before-next all (length blocks) some_block (omega (arith, long))
           ∙ ap (λ (c : Block). c.least) (get_or-append_seam blocks b [] some_block);
     }

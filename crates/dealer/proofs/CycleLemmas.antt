@@ -6,7 +6,7 @@ use Rattle.std.proofs.lemmas.List.{get_or_past}
 use Rattle.numbers.specs.Counts.{times}
 use Rattle.dealer.specs.Cycles.{round_of, greatest_weight, cycle_of}
 use Rattle.numbers.proofs.SumsBelow.{sum_below-same, sum_below-list, length-sum_below}
-use Rattle.numbers.proofs.CountLemmas.{count_above, filter-all, filter-filter, flat_map_range_more, greatest_below-le, times-append, times-get_or, times-filter, times-filter_above}
+use Rattle.numbers.proofs.CountLemmas.{sum_by-none_above, filter-all, filter-filter, flat_map-range_more, greatest_below-le, times-append, times-get_or, times-filter, times-filter_above}
 
 -- a round names each quorum once whose weight is at least the round's number, and no other
 pub times-round_of : (weights : List ℕ) (r j : ℕ) → 0 < r → times j (round_of weights r) ≡ cond (leb r (get_or weights j 0)) 1 0
@@ -51,7 +51,7 @@ pub length-cycle_of : (weights : List ℕ) → length (cycle_of weights) ≡ sum
 length-cycle_of weights =
     let n = length weights in
     let list = cycle_of weights in
-    let none = count_above n list (λ j le. times-cycle_of weights j ∙ get_or_past weights j 0 le) in
+    let none = sum_by-none_above n list (λ j le. times-cycle_of weights j ∙ get_or_past weights j 0 le) in
     let each = sum_below-same n (λ j. times j list) (λ j. get_or weights j 0) (λ j lt. times-cycle_of weights j) in
     omega (arith, length-sum_below n list, none, each, sum_below-list (λ x. x) weights)
 
@@ -80,8 +80,8 @@ round_of-more weights r =
 pub rounds-more : (weights : List ℕ) (r more : ℕ) → more ≡ r + 1 → flat_map (round_of weights) (range_with_len 1 more) ≡ flat_map (round_of weights) (range_with_len 1 r) ++ round_of weights more
 rounds-more weights r more e =
     let next : more ≡ suc r = omega arith in
-    ap (λ n. flat_map (round_of weights) (range_with_len 1 n)) next ∙ flat_map_range_more (round_of weights) 1 r more (omega arith)
+    ap (λ n. flat_map (round_of weights) (range_with_len 1 n)) next ∙ flat_map-range_more (round_of weights) 1 r more (omega arith)
 
-pub cycle_of_rounds : (weights : List ℕ) → flat_map (round_of weights) (range_with_len 1 (greatest_weight weights)) ≡ cycle_of weights
+pub cycle_of-rounds : (weights : List ℕ) → flat_map (round_of weights) (range_with_len 1 (greatest_weight weights)) ≡ cycle_of weights
 unfolding cycle_of
-cycle_of_rounds weights = refl
+cycle_of-rounds weights = refl

@@ -9,7 +9,7 @@ use Rattle.std.proofs.lemmas.List.Kept.{AllPairs-from_increasing, IsStrictlyIncr
 use Rattle.std.proofs.lemmas.List.Sums.{sum_by-take-le}
 use Rattle.numbers.specs.Counts.{times}
 use Rattle.dealer.specs.Cycles.{round_of, greatest_weight, cycle_of, turn_at, GoesByTurns}
-use Rattle.dealer.proofs.CycleLemmas.{times-round_of, times-rounds, rounds-more, cycle_of_rounds}
+use Rattle.dealer.proofs.CycleLemmas.{times-round_of, times-rounds, rounds-more, cycle_of-rounds}
 use Rattle.numbers.proofs.CountLemmas.{times-append, times-get_or}
 
 -- what stands in a round has a weight of at least the round's number
@@ -138,4 +138,4 @@ IsUpTo-rounds weights (suc r) =
 -- a cycle goes by turns
 pub GoesByTurns-cycle_of : (weights : List ℕ) → GoesByTurns (cycle_of weights)
 GoesByTurns-cycle_of weights =
-    subst (λ (list : List ℕ). GoesByTurns list) (cycle_of_rounds weights) (IsUpTo-rounds weights (greatest_weight weights)).by_turns
+    subst (λ (list : List ℕ). GoesByTurns list) (cycle_of-rounds weights) (IsUpTo-rounds weights (greatest_weight weights)).by_turns

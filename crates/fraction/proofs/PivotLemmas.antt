@@ -30,28 +30,28 @@ pub lists_of-parted : (rows above rest own below : List (Vec ℤ Global)) (first
 lists_of-parted rows above rest own below first e f g =
     ap lists_of (e ∙ ap (λ r. above ++ r) (f ∙ ap (λ o. o ++ below) g)) ∙ map-append (λ row. row.items) above (first ∷ below)
 
-pub at_row : (L A B : List (List ℤ)) (p : List ℤ) (row : ℕ) → L ≡ A ++ (p ∷ B) → length A ≡ row → row_at L row ≡ p
-at_row L A B p row e n = ap (λ l. row_at l row) e ∙ ap (λ i. row_at (A ++ (p ∷ B)) i) (sym n) ∙ get_or-append_seam A p B []
+pub row_at-row : (L A B : List (List ℤ)) (p : List ℤ) (row : ℕ) → L ≡ A ++ (p ∷ B) → length A ≡ row → row_at L row ≡ p
+row_at-row L A B p row e n = ap (λ l. row_at l row) e ∙ ap (λ i. row_at (A ++ (p ∷ B)) i) (sym n) ∙ get_or-append_seam A p B []
 
-pub at_above : (L A B : List (List ℤ)) (p : List ℤ) (i : ℕ) → L ≡ A ++ (p ∷ B) → i < length A → row_at L i ≡ row_at A i
-at_above L A B p i e lt = ap (λ l. row_at l i) e ∙ get_or_append_left A (p ∷ B) [] i lt
+pub row_at-above : (L A B : List (List ℤ)) (p : List ℤ) (i : ℕ) → L ≡ A ++ (p ∷ B) → i < length A → row_at L i ≡ row_at A i
+row_at-above L A B p i e lt = ap (λ l. row_at l i) e ∙ get_or_append_left A (p ∷ B) [] i lt
 
-pub at_below : (L A B : List (List ℤ)) (p : List ℤ) (k : ℕ) → L ≡ A ++ (p ∷ B) → row_at L (length A + suc k) ≡ row_at B k
-at_below L A B p k e = ap (λ l. row_at l (length A + suc k)) e ∙ get_or-append-add A (p ∷ B) (suc k) []
+pub row_at-below : (L A B : List (List ℤ)) (p : List ℤ) (k : ℕ) → L ≡ A ++ (p ∷ B) → row_at L (length A + suc k) ≡ row_at B k
+row_at-below L A B p k e = ap (λ l. row_at l (length A + suc k)) e ∙ get_or-append-add A (p ∷ B) (suc k) []
 
 count_of : (L A B : List (List ℤ)) (p : List ℤ) → L ≡ A ++ (p ∷ B) → length L ≡ length A + suc (length B)
 count_of L A B p e = ap length e ∙ length-append A (p ∷ B)
 
 -- the same fact of equal rows and scales
-pub eliminate_as : (r r' p p' : List ℤ) (s s' : ℤ) (col : ℕ) → r ≡ r' → p ≡ p' → s ≡ s' → EliminateFits r s p col → EliminateFits r' s' p' col
-eliminate_as r r' p p' s s' col er ep es fits =
+pub EliminateFits-as : (r r' p p' : List ℤ) (s s' : ℤ) (col : ℕ) → r ≡ r' → p ≡ p' → s ≡ s' → EliminateFits r s p col → EliminateFits r' s' p' col
+EliminateFits-as r r' p p' s s' col er ep es fits =
     subst (λ x. EliminateFits x s' p' col) er (subst (λ x. EliminateFits r s' x col) ep (subst (λ x. EliminateFits r x p col) es fits))
 
-pub all_eliminate_as : (A : List (List ℤ)) (p p' : List ℤ) (s s' : ℤ) (col : ℕ) → p' ≡ p → s' ≡ s → AllEliminateFit A s p col → AllEliminateFit A s' p' col
-all_eliminate_as A p p' s s' col ep es fits = subst (λ x. AllEliminateFit A x p' col) (sym es) (subst (λ x. AllEliminateFit A s x col) (sym ep) fits)
+pub AllEliminateFit-as : (A : List (List ℤ)) (p p' : List ℤ) (s s' : ℤ) (col : ℕ) → p' ≡ p → s' ≡ s → AllEliminateFit A s p col → AllEliminateFit A s' p' col
+AllEliminateFit-as A p p' s s' col ep es fits = subst (λ x. AllEliminateFit A x p' col) (sym es) (subst (λ x. AllEliminateFit A s x col) (sym ep) fits)
 
-pub each_eliminated_as : (A A' : List (List ℤ)) (p p' : List ℤ) (s s' : ℤ) (col : ℕ) → p' ≡ p → s' ≡ s → EachRow (λ old new. IsEliminated old new s' p' col) A A' → EachRow (λ old new. IsEliminated old new s p col) A A'
-each_eliminated_as A A' p p' s s' col ep es is = subst (λ x. EachRow (λ old new. IsEliminated old new s x col) A A') ep (subst (λ x. EachRow (λ old new. IsEliminated old new x p' col) A A') es is)
+pub EachRow-IsEliminated_as : (A A' : List (List ℤ)) (p p' : List ℤ) (s s' : ℤ) (col : ℕ) → p' ≡ p → s' ≡ s → EachRow (λ old new. IsEliminated old new s' p' col) A A' → EachRow (λ old new. IsEliminated old new s p col) A A'
+EachRow-IsEliminated_as A A' p p' s s' col ep es is = subst (λ x. EachRow (λ old new. IsEliminated old new s x col) A A') ep (subst (λ x. EachRow (λ old new. IsEliminated old new x p' col) A A') es is)
 
 -- a row that was scaled, of equal rows and factors
 pub scaled_row-equal : (new old new' old' : List ℤ) (den den' : ℤ) → new ≡ new' → old' ≡ old → den' ≡ den → ((j : ℕ) → j < length old' → entry_of new' j ≡ entry_of old' j *ℤ den') → (j : ℕ) → j < length old → entry_of new j ≡ entry_of old j *ℤ den
@@ -59,40 +59,40 @@ scaled_row-equal new old new' old' den den' en eo ed is j lt =
     ap (λ r. entry_of r j) en ∙ is j (subst (λ r. j < length r) (sym eo) lt) ∙ ap (λ r. entry_of r j *ℤ den') eo ∙ ap (λ d. entry_of old j *ℤ d) ed
 
 -- the parts of what fits
-pub pivot_fits : (L : List (List ℤ)) (den : ℤ) (row col : ℕ) → Fits (den *ℤ entry_of (row_at L row) col) → EachFits (row_at L row) den → OthersFit L (entry_of (row_at L row) col) row col → PivotFits (record { rows = L; den = den }) row col
-pivot_fits L den row col at own others = record { den = at; pivot_row = λ j place. own j place.1; others = λ i j ne place. others i place.0 ne j place.1 }
+pub PivotFits-from_parts : (L : List (List ℤ)) (den : ℤ) (row col : ℕ) → Fits (den *ℤ entry_of (row_at L row) col) → EachFits (row_at L row) den → OthersFit L (entry_of (row_at L row) col) row col → PivotFits (record { rows = L; den = den }) row col
+PivotFits-from_parts L den row col at own others = record { den = at; pivot_row = λ j place. own j place.1; others = λ i j ne place. others i place.0 ne j place.1 }
 
-pub others_fit : (L : List (List ℤ)) (den : ℤ) (row col : ℕ) → PivotFits (record { rows = L; den = den }) row col → OthersFit L (entry_of (row_at L row) col) row col
-others_fit L den row col fits = λ i lt ne j within. fits.others i j ne (lt, within)
+pub OthersFit-PivotFits : (L : List (List ℤ)) (den : ℤ) (row col : ℕ) → PivotFits (record { rows = L; den = den }) row col → OthersFit L (entry_of (row_at L row) col) row col
+OthersFit-PivotFits L den row col fits = λ i lt ne j within. fits.others i j ne (lt, within)
 
 -- what the pivot forms of another row fits
 row_fits : (L : List (List ℤ)) (r p : List ℤ) (den : ℤ) (row col i : ℕ) → row_at L row ≡ p → row_at L i ≡ r → i < length L → i ≢ row → PivotFits (record { rows = L; den = den }) row col → EliminateFits r (entry_of p col) p col
 row_fits L r p den row col i ep er lt ne fits =
     subst (λ r. EliminateFits r (entry_of p col) p col) er (subst (λ q. EliminateFits (row_at L i) (entry_of q col) q col) ep (λ j within. fits.others i j ne (lt, within)))
 
-pub above_fits : (L A B : List (List ℤ)) (p : List ℤ) (den : ℤ) (row col : ℕ) → L ≡ A ++ (p ∷ B) → length A ≡ row → IsLevelWith L row → col < length (row_at L row) → PivotFits (record { rows = L; den = den }) row col → AllEliminateFit A (entry_of p col) p col
-above_fits L A B p den row col e n level within fits = λ i lt.
+pub AllEliminateFit-above : (L A B : List (List ℤ)) (p : List ℤ) (den : ℤ) (row col : ℕ) → L ≡ A ++ (p ∷ B) → length A ≡ row → IsLevelWith L row → col < length (row_at L row) → PivotFits (record { rows = L; den = den }) row col → AllEliminateFit A (entry_of p col) p col
+AllEliminateFit-above L A B p den row col e n level within fits = λ i lt.
     let many = count_of L A B p e in
-    let own = at_row L A B p row e n in
-    let this = at_above L A B p i e lt in
+    let own = row_at-row L A B p row e n in
+    let this = row_at-above L A B p i e lt in
     let inside : i < length L = omega arith in
     let ne : i ≢ row = omega arith in
     (ap length (sym this) ∙ level i inside ∙ ap length own, subst (λ r. col < length r) own within, row_fits L (row_at A i) p den row col i own this inside ne fits)
 
-pub below_fits : (L A B : List (List ℤ)) (p : List ℤ) (den : ℤ) (row col : ℕ) → L ≡ A ++ (p ∷ B) → length A ≡ row → IsLevelWith L row → col < length (row_at L row) → PivotFits (record { rows = L; den = den }) row col → AllEliminateFit B (entry_of p col) p col
-below_fits L A B p den row col e n level within fits = λ k lt.
+pub AllEliminateFit-below : (L A B : List (List ℤ)) (p : List ℤ) (den : ℤ) (row col : ℕ) → L ≡ A ++ (p ∷ B) → length A ≡ row → IsLevelWith L row → col < length (row_at L row) → PivotFits (record { rows = L; den = den }) row col → AllEliminateFit B (entry_of p col) p col
+AllEliminateFit-below L A B p den row col e n level within fits = λ k lt.
     let many = count_of L A B p e in
-    let own = at_row L A B p row e n in
-    let this = at_below L A B p k e in
+    let own = row_at-row L A B p row e n in
+    let this = row_at-below L A B p k e in
     let inside : length A + suc k < length L = omega arith in
     let ne : length A + suc k ≢ row = omega arith in
     (ap length (sym this) ∙ level (length A + suc k) inside ∙ ap length own, subst (λ r. col < length r) own within, row_fits L (row_at B k) p den row col (length A + suc k) own this inside ne fits)
 
-pub own_fits : (L A B : List (List ℤ)) (p : List ℤ) (den : ℤ) (row col : ℕ) → L ≡ A ++ (p ∷ B) → length A ≡ row → PivotFits (record { rows = L; den = den }) row col → EachFits p den
-own_fits L A B p den row col e n fits =
+pub EachFits-pivot_row : (L A B : List (List ℤ)) (p : List ℤ) (den : ℤ) (row col : ℕ) → L ≡ A ++ (p ∷ B) → length A ≡ row → PivotFits (record { rows = L; den = den }) row col → EachFits p den
+EachFits-pivot_row L A B p den row col e n fits =
     let many = count_of L A B p e in
     let inside : row < length L = omega arith in
-    subst (λ r. EachFits r den) (at_row L A B p row e n) (λ j within. fits.pivot_row j (inside, within))
+    subst (λ r. EachFits r den) (row_at-row L A B p row e n) (λ j within. fits.pivot_row j (inside, within))
 
 -- a row that lost the pivot's row has the numbers of the pivot
 other_is : (t : Table) (old new p : List ℤ) (row col i : ℕ) → row_of t row ≡ p → row_of t i ≡ old → i ≢ row → IsEliminated old new (entry_of p col) p col → (length new ≡ length (row_of t i)) × ((j : ℕ) → j < length (row_of t i) → entry_of new j ≡ pivoted t row col i j)
@@ -121,18 +121,18 @@ IsUnreduced-from_rows L M A B A' B' p p' den row col e f n above below same own 
       count = omega arith;
       entries = λ i lt. elim (cases_lt i (length A)) [
         | inl before ↦
-            subst (λ r. Right i r) (sym (at_above M A' B' p' i f (omega arith)))
-            (other_is t (row_at A i) (row_at A' i) p row col i (at_row L A B p row e n) (at_above L A B p i e before) (omega arith) (above.1 i before))
+            subst (λ r. Right i r) (sym (row_at-above M A' B' p' i f (omega arith)))
+            (other_is t (row_at A i) (row_at A' i) p row col i (row_at-row L A B p row e n) (row_at-above L A B p i e before) (omega arith) (above.1 i before))
         | inr after ↦ elim (cases_eq i (length A)) [
           | inl at ↦
-              subst (λ r. Right i r) (sym (at_row M A' B' p' i f (counts ∙ sym at)))
-              (own_is t p' p row col i (at_row L A B p row e n) (at ∙ n) same own)
+              subst (λ r. Right i r) (sym (row_at-row M A' B' p' i f (counts ∙ sym at)))
+              (own_is t p' p row col i (row_at-row L A B p row e n) (at ∙ n) same own)
           | inr off ↦
               let k : ℕ = i - suc (length A) in
               let place : i ≡ length A + suc k = omega arith in
               let place' : i ≡ length A' + suc k = omega arith in
-              subst (λ r. Right i r) (sym (ap (row_at M) place' ∙ at_below M A' B' p' k f))
-              (other_is t (row_at B k) (row_at B' k) p row col i (at_row L A B p row e n) (ap (row_at L) place ∙ at_below L A B p k e) (omega arith) (below.1 k (omega arith)))
+              subst (λ r. Right i r) (sym (ap (row_at M) place' ∙ row_at-below M A' B' p' k f))
+              (other_is t (row_at B k) (row_at B' k) p row col i (row_at-row L A B p row e n) (ap (row_at L) place ∙ row_at-below L A B p k e) (omega arith) (below.1 k (omega arith)))
         ]
       ];
     }

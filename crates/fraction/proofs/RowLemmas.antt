@@ -21,37 +21,37 @@ pub set-keeps_above : (old : ℕ → ℤ) (xs : List ℤ) (i : ℕ) (v : ℤ) �
 set-keeps_above old xs i v left k le = let ne : k ≢ i = omega arith in get_or-set_other xs i k v (pos 0) ne ∙ left k (omega arith)
 
 -- a number that fits, as the code passes it
-pub as_passed : (z : ℤ) → Fits z → to_z w128 (of_z w128 z) ≡ z
-as_passed z fits = to_z-of_z w128 z (fits_signed_from_abs w128 z fits)
+pub to_z-of_z_fits : (z : ℤ) → Fits z → to_z w128 (of_z w128 z) ≡ z
+to_z-of_z_fits z fits = to_z-of_z w128 z (fits_signed_from_abs w128 z fits)
 
 -- a number that is one that fits, as the code passes it
 pub to_z-of_z_equal : (z z' : ℤ) → z ≡ z' → Fits z' → to_z w128 (of_z w128 z) ≡ z'
-to_z-of_z_equal z z' e fits = ap (λ t. to_z w128 (of_z w128 t)) e ∙ as_passed z' fits
+to_z-of_z_equal z z' e fits = ap (λ t. to_z w128 (of_z w128 t)) e ∙ to_z-of_z_fits z' fits
 
 -- a product, as the code forms it
-pub product_is : (x y x' : ℤ) → FitsSigned w128 x → FitsSigned w128 y → x ≡ x' → Fits (x' *ℤ y) → to_z w128 (of_z w128 (to_z w128 (of_z w128 x) *ℤ to_z w128 (of_z w128 y))) ≡ x' *ℤ y
-product_is x y x' fits_x fits_y e fits =
+pub to_z-of_z_product : (x y x' : ℤ) → FitsSigned w128 x → FitsSigned w128 y → x ≡ x' → Fits (x' *ℤ y) → to_z w128 (of_z w128 (to_z w128 (of_z w128 x) *ℤ to_z w128 (of_z w128 y))) ≡ x' *ℤ y
+to_z-of_z_product x y x' fits_x fits_y e fits =
     ap (λ t. to_z w128 (of_z w128 (t *ℤ to_z w128 (of_z w128 y)))) (to_z-of_z w128 x fits_x ∙ e)
     ∙ ap (λ t. to_z w128 (of_z w128 (x' *ℤ t))) (to_z-of_z w128 y fits_y)
-    ∙ as_passed (x' *ℤ y) fits
+    ∙ to_z-of_z_fits (x' *ℤ y) fits
 
-pub product_fits : (x y x' : ℤ) → FitsSigned w128 x → FitsSigned w128 y → x ≡ x' → Fits (x' *ℤ y) → FitsSigned w128 (to_z w128 (of_z w128 x) *ℤ to_z w128 (of_z w128 y))
-product_fits x y x' fits_x fits_y e fits =
+pub FitsSigned-product : (x y x' : ℤ) → FitsSigned w128 x → FitsSigned w128 y → x ≡ x' → Fits (x' *ℤ y) → FitsSigned w128 (to_z w128 (of_z w128 x) *ℤ to_z w128 (of_z w128 y))
+FitsSigned-product x y x' fits_x fits_y e fits =
     subst (FitsSigned w128) (sym (ap (λ t. t *ℤ to_z w128 (of_z w128 y)) (to_z-of_z w128 x fits_x ∙ e) ∙ ap (λ t. x' *ℤ t) (to_z-of_z w128 y fits_y))) (fits_signed_from_abs w128 (x' *ℤ y) fits)
 
 -- a difference, as the code forms it
-pub difference_is : (a b a' b' : ℤ) → a ≡ a' → b ≡ b' → Fits (a' -ℤ b') → to_z w128 (of_z w128 (a -ℤ b)) ≡ a' -ℤ b'
-difference_is a b a' b' ea eb fits = ap (λ t. to_z w128 (of_z w128 (t -ℤ b))) ea ∙ ap (λ t. to_z w128 (of_z w128 (a' -ℤ t))) eb ∙ as_passed (a' -ℤ b') fits
+pub to_z-of_z_difference : (a b a' b' : ℤ) → a ≡ a' → b ≡ b' → Fits (a' -ℤ b') → to_z w128 (of_z w128 (a -ℤ b)) ≡ a' -ℤ b'
+to_z-of_z_difference a b a' b' ea eb fits = ap (λ t. to_z w128 (of_z w128 (t -ℤ b))) ea ∙ ap (λ t. to_z w128 (of_z w128 (a' -ℤ t))) eb ∙ to_z-of_z_fits (a' -ℤ b') fits
 
-pub difference_fits : (a b a' b' : ℤ) → a ≡ a' → b ≡ b' → Fits (a' -ℤ b') → FitsSigned w128 (a -ℤ b)
-difference_fits a b a' b' ea eb fits = subst (FitsSigned w128) (sym (ap (λ t. t -ℤ b) ea ∙ ap (λ t. a' -ℤ t) eb)) (fits_signed_from_abs w128 (a' -ℤ b') fits)
+pub FitsSigned-difference : (a b a' b' : ℤ) → a ≡ a' → b ≡ b' → Fits (a' -ℤ b') → FitsSigned w128 (a -ℤ b)
+FitsSigned-difference a b a' b' ea eb fits = subst (FitsSigned w128) (sym (ap (λ t. t -ℤ b) ea ∙ ap (λ t. a' -ℤ t) eb)) (fits_signed_from_abs w128 (a' -ℤ b') fits)
 
 -- what fits as the code passes it fits
-pub fit_product : (x y x' y' : ℤ) → x' ≡ x → y' ≡ y → Fits (x' *ℤ y') → Fits (x *ℤ y)
-fit_product x y x' y' ex ey fits = subst (λ t. Fits (t *ℤ y)) ex (subst (λ t. Fits (x' *ℤ t)) ey fits)
+pub Fits-product : (x y x' y' : ℤ) → x' ≡ x → y' ≡ y → Fits (x' *ℤ y') → Fits (x *ℤ y)
+Fits-product x y x' y' ex ey fits = subst (λ t. Fits (t *ℤ y)) ex (subst (λ t. Fits (x' *ℤ t)) ey fits)
 
-pub fit_difference : (x y x' y' : ℤ) → x' ≡ x → y' ≡ y → Fits (x' -ℤ y') → Fits (x -ℤ y)
-fit_difference x y x' y' ex ey fits = subst (λ t. Fits (t -ℤ y)) ex (subst (λ t. Fits (x' -ℤ t)) ey fits)
+pub Fits-difference : (x y x' y' : ℤ) → x' ≡ x → y' ≡ y → Fits (x' -ℤ y') → Fits (x -ℤ y)
+Fits-difference x y x' y' ex ey fits = subst (λ t. Fits (t -ℤ y)) ex (subst (λ t. Fits (x' -ℤ t)) ey fits)
 
 -- a number is its absolute value with its sign
 sign_of : (z : ℤ) → signed_of (le_z (pos 0) z) (unsigned_abs z) ≡ z

@@ -19,18 +19,18 @@ smaller_fits z w g e some fits =
     below a b c h e fits = omega arith
 
 -- the product of positive numbers is positive
-pub product_positive : (a b : ℤ) → pos 0 <ℤ a → pos 0 <ℤ b → pos 0 <ℤ (a *ℤ b)
-product_positive (pos zero) b above_a above_b = absurd (omega (arith, ints))
-product_positive (pos (suc m)) (pos zero) above_a above_b = absurd (omega (arith, ints))
-product_positive (pos (suc m)) (pos (suc n)) above_a above_b = at (suc m * suc n) (some m n)
+pub positive-product : (a b : ℤ) → pos 0 <ℤ a → pos 0 <ℤ b → pos 0 <ℤ (a *ℤ b)
+positive-product (pos zero) b above_a above_b = absurd (omega (arith, ints))
+positive-product (pos (suc m)) (pos zero) above_a above_b = absurd (omega (arith, ints))
+positive-product (pos (suc m)) (pos (suc n)) above_a above_b = at (suc m * suc n) (some m n)
   where
     some : (m n : ℕ) → 0 < suc m * suc n
     some m n = omega arith
 
     at : (k : ℕ) → 0 < k → pos 0 <ℤ pos k
     at k h = omega (arith, ints)
-product_positive (pos (suc m)) (negsuc n) above_a above_b = absurd (omega (arith, ints))
-product_positive (negsuc m) b above_a above_b = absurd (omega (arith, ints))
+positive-product (pos (suc m)) (negsuc n) above_a above_b = absurd (omega (arith, ints))
+positive-product (negsuc m) b above_a above_b = absurd (omega (arith, ints))
 
 -- a number is positive where a positive multiple of it is
 quotient_positive : (z w : ℤ) (g : ℕ) → z *ℤ pos g ≡ w → pos 0 <ℤ w → pos 0 <ℤ z
@@ -66,8 +66,8 @@ pivoted_fits t row col i j fits place =
     other ne = rw (ne_eqb i row ne) ((fits.others i j ne place).2)
 
 -- the numbers of a pivot, and these in lowest terms
-pub is_pivoted : (t : Table) (M N : List (List ℤ)) (low : ℤ) (row col : ℕ) → IsUnreduced t M row col → IsLowest M N (t.den *ℤ entry_at t row col) low → IsPivoted t (record { rows = N; den = low }) row col
-is_pivoted t M N low row col made lowest =
+pub IsPivoted-from_unreduced : (t : Table) (M N : List (List ℤ)) (low : ℤ) (row col : ℕ) → IsUnreduced t M row col → IsLowest M N (t.den *ℤ entry_at t row col) low → IsPivoted t (record { rows = N; den = low }) row col
+IsPivoted-from_unreduced t M N low row col made lowest =
     let count = made.count in
     let counts = lowest.rows.0 in
     record {
@@ -91,21 +91,21 @@ is_pivoted t M N low row col made lowest =
     in_t i lt e = omega arith
 
 -- a table that is pivoted is a table
-pub pivoted_table : (t u : Table) (row col : ℕ) → IsTable t → PivotFits t row col → pos 0 <ℤ entry_at t row col → IsPivoted t u row col → IsTable u
-pivoted_table t u row col table fits positive is =
+pub IsTable-pivoted : (t u : Table) (row col : ℕ) → IsTable t → PivotFits t row col → pos 0 <ℤ entry_at t row col → IsPivoted t u row col → IsTable u
+IsTable-pivoted t u row col table fits positive is =
     let rows = is.shape.rows in
     record {
       level = λ i k li lk. is.shape.columns i (omega arith) ∙ table.level i k (omega arith) (omega arith) ∙ sym (is.shape.columns k (omega arith));
       entries_fit = λ i j place.
           let old : IsPlace t i j = (omega arith, subst (λ n. j < n) (is.shape.columns i (omega arith)) place.1) in
           smaller_fits _ _ is.divisor (is.entries i j old) is.positive (pivoted_fits t row col i j fits old);
-      positive = quotient_positive u.den _ is.divisor is.den (product_positive t.den _ table.positive positive);
+      positive = quotient_positive u.den _ is.divisor is.den (positive-product t.den _ table.positive positive);
       den_fits = smaller_fits u.den _ is.divisor is.den is.positive fits.den;
     }
 
 -- the numbers of a pivot fit
-pub unreduced_fits : (t : Table) (M : List (List ℤ)) (row col : ℕ) → PivotFits t row col → IsUnreduced t M row col → (i j : ℕ) → i < length M → j < length (row_at M i) → Fits (entry_of (row_at M i) j)
-unreduced_fits t M row col fits made i j lt within =
+pub Fits-unreduced : (t : Table) (M : List (List ℤ)) (row col : ℕ) → PivotFits t row col → IsUnreduced t M row col → (i j : ℕ) → i < length M → j < length (row_at M i) → Fits (entry_of (row_at M i) j)
+Fits-unreduced t M row col fits made i j lt within =
     let count = made.count in
     let old : i < length t.rows = omega arith in
     let here : j < length (row_of t i) = subst (λ n. j < n) (made.entries i old).0 within in

@@ -17,14 +17,14 @@ sum_is r columns i t x lt et ex fits_x =
     ∙ ap (λ a. sum_in r (take i columns) +ℤ a) (to_z-of_z w128 x fits_x ∙ ex)
     ∙ sym (fold_more (λ s j. s +ℤ get_or r j (pos 0)) (pos 0) columns i 0 lt)
 
-pub sum_step : (r : List ℤ) (columns : List ℕ) (i : ℕ) (t x t' : ℤ) → i < length columns → t ≡ sum_in r (take i columns) → x ≡ entry_of r (get_or columns i 0) → FitsSigned w128 x → (t' ≡ t +ℤ to_z w128 (of_z w128 x)) × Fits (t +ℤ to_z w128 (of_z w128 x)) → (to_z w128 (of_z w128 t') ≡ sum_in r (take (i + 1) columns)) × Fits (sum_in r (take (i + 1) columns))
-sum_step r columns i t x t' lt et ex fits_x formed =
+pub sum_in-step : (r : List ℤ) (columns : List ℕ) (i : ℕ) (t x t' : ℤ) → i < length columns → t ≡ sum_in r (take i columns) → x ≡ entry_of r (get_or columns i 0) → FitsSigned w128 x → (t' ≡ t +ℤ to_z w128 (of_z w128 x)) × Fits (t +ℤ to_z w128 (of_z w128 x)) → (to_z w128 (of_z w128 t') ≡ sum_in r (take (i + 1) columns)) × Fits (sum_in r (take (i + 1) columns))
+sum_in-step r columns i t x t' lt et ex fits_x formed =
     let e = sum_is r columns i t x lt et ex fits_x in
     let fits = subst Fits e formed.1 in
     (to_z-of_z_equal t' _ (formed.0 ∙ e) fits, fits)
 
-pub fits_step : (r : List ℤ) (columns : List ℕ) (i : ℕ) → ((k : ℕ) → k ≤ i → Fits (sum_in r (take k columns))) → Fits (sum_in r (take (i + 1) columns)) → (k : ℕ) → k ≤ i + 1 → Fits (sum_in r (take k columns))
-fits_step r columns i below here k le =
+pub Fits-sum_in_step : (r : List ℤ) (columns : List ℕ) (i : ℕ) → ((k : ℕ) → k ≤ i → Fits (sum_in r (take k columns))) → Fits (sum_in r (take (i + 1) columns)) → (k : ℕ) → k ≤ i + 1 → Fits (sum_in r (take k columns))
+Fits-sum_in_step r columns i below here k le =
     elim (cases_eq k (i + 1)) [
       | inl at ↦ subst (λ n. Fits (sum_in r (take n columns))) (sym at) here
       | inr off ↦ below k (omega arith)
@@ -43,8 +43,8 @@ IsSummed-from_rows t M columns into is = record {
   others = λ i j lt ne. (is.1 i lt).2 j ne;
 }
 
-pub summed_table : (t : Table) (M : List (List ℤ)) (columns : List ℕ) (into : ℕ) → IsTable t → SumsFit t columns → EachRow (IsSummedRow columns into) t.rows M → IsTable (record { rows = M; den = t.den })
-summed_table t M columns into table fits is =
+pub IsTable-summed : (t : Table) (M : List (List ℤ)) (columns : List ℕ) (into : ℕ) → IsTable t → SumsFit t columns → EachRow (IsSummedRow columns into) t.rows M → IsTable (record { rows = M; den = t.den })
+IsTable-summed t M columns into table fits is =
     let count = is.0 in
     record {
       level = λ i k li lk. (is.1 i (omega arith)).0 ∙ table.level i k (omega arith) (omega arith) ∙ sym (is.1 k (omega arith)).0;

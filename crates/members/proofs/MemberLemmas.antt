@@ -59,8 +59,8 @@ abbrev is_fine : {A : Type 0} → Result A ClientFault → Bool
 is_fine (Ok o) = true
 is_fine (Err e) = false
 
-pub not_both : {A : Type 0} (r : Result A ClientFault) (o : A) (e : ClientFault) → r ≡ Ok o → r ≡ Err e → ⊥
-not_both r o e ok err = true≢false (ap is_fine (sym ok ∙ err))
+pub Ok-not_Err : {A : Type 0} (r : Result A ClientFault) (o : A) (e : ClientFault) → r ≡ Ok o → r ≡ Err e → ⊥
+Ok-not_Err r o e ok err = true≢false (ap is_fine (sym ok ∙ err))
 
 unspent_if : (b : Bool) (x : ClientState) (q : List ℕ) (o : Outcome) → ask_unless b x q ≡ Ok o → b ≡ false
 unspent_if false x q o e = refl
@@ -90,13 +90,13 @@ refuses_in Idle x q e is err = spent_if (is_spent x) x q e refl (ap is_idle is) 
 refuses_in Asking x q e is err = subst (RefusesStart x) (ap (fault_or e) err) (ap is_idle is)
 refuses_in Inside x q e is err = subst (RefusesStart x) (ap (fault_or e) err) (ap is_idle is)
 
-pub refuses_start : (x : ClientState) (q : List ℕ) (e : ClientFault) → ask x q ≡ Err e → RefusesStart x e
+pub RefusesStart-ask : (x : ClientState) (q : List ℕ) (e : ClientFault) → ask x q ≡ Err e → RefusesStart x e
 unfolding ask
-refuses_start x q e err = refuses_in x.phase x q e refl err
+RefusesStart-ask x q e err = refuses_in x.phase x q e refl err
 
-pub refuses_ticket : (m : MemberState) (e : DealFault) → (is_idle m.requester.phase ≡ true) × (is_spent m.requester ≡ false) → RefusesTicket m.clerk.rest e → RefusesAsk m (refuses.Deal e)
-refuses_ticket m QuotaSpent start err = (start.0, start.1, err)
-refuses_ticket m NoRoom start err = (start.0, start.1, err)
+pub RefusesAsk-ticket : (m : MemberState) (e : DealFault) → (is_idle m.requester.phase ≡ true) × (is_spent m.requester ≡ false) → RefusesTicket m.clerk.rest e → RefusesAsk m (refuses.Deal e)
+RefusesAsk-ticket m QuotaSpent start err = (start.0, start.1, err)
+RefusesAsk-ticket m NoRoom start err = (start.0, start.1, err)
 
 -- who leaves was inside, and who gives up asked
 
@@ -105,9 +105,9 @@ leaves_in Idle x o e = absurd (true≢false (ap is_fine (sym e)))
 leaves_in Asking x o e = absurd (true≢false (ap is_fine (sym e)))
 leaves_in Inside x o e = refl
 
-pub left_inside : (x : ClientState) (o : Outcome) → leave x ≡ Ok o → is_inside x.phase ≡ true
+pub is_inside-leave : (x : ClientState) (o : Outcome) → leave x ≡ Ok o → is_inside x.phase ≡ true
 unfolding leave
-left_inside x o e = leaves_in x.phase x o e
+is_inside-leave x o e = leaves_in x.phase x o e
 
 stays_in : (p : Phase) (x : ClientState) (f : ClientFault) → leave_in p x ≡ Err f → is_inside p ≡ false
 stays_in Idle x f e = refl
@@ -123,18 +123,18 @@ gives_up_in Idle x o e = absurd (true≢false (ap is_fine (sym e)))
 gives_up_in Asking x o e = refl
 gives_up_in Inside x o e = absurd (true≢false (ap is_fine (sym e)))
 
-pub gave_up_asking : (x : ClientState) (o : Outcome) → give_up x ≡ Ok o → is_asking x.phase ≡ true
+pub is_asking-give_up : (x : ClientState) (o : Outcome) → give_up x ≡ Ok o → is_asking x.phase ≡ true
 unfolding give_up
-gave_up_asking x o e = gives_up_in x.phase x o e
+is_asking-give_up x o e = gives_up_in x.phase x o e
 
 keeps_on_in : (p : Phase) (x : ClientState) (f : ClientFault) → give_up_in p x ≡ Err f → is_asking p ≡ false
 keeps_on_in Idle x f e = refl
 keeps_on_in Asking x f e = absurd (true≢false (ap is_fine e))
 keeps_on_in Inside x f e = refl
 
-pub not_given_up : (x : ClientState) (f : ClientFault) → give_up x ≡ Err f → is_asking x.phase ≡ false
+pub is_asking-refused_give_up : (x : ClientState) (f : ClientFault) → give_up x ≡ Err f → is_asking x.phase ≡ false
 unfolding give_up
-not_given_up x f e = keeps_on_in x.phase x f e
+is_asking-refused_give_up x f e = keeps_on_in x.phase x f e
 
 -- A message never makes a client leave
 
@@ -219,14 +219,14 @@ pub record Ended (x : ClientState) (o : Outcome) : Type 0 where
   pub idle : is_idle o.state.phase ≡ true
   pub nothing : HoldsNothing o.state
 
-pub ended_by_leaving : AreClientLaws → (x : ClientState) (o : Outcome) → IsSound x → leave x ≡ Ok o → Ended x o
-ended_by_leaving laws x o sound e =
+pub Ended-leave : AreClientLaws → (x : ClientState) (o : Outcome) → IsSound x → leave x ≡ Ok o → Ended x o
+Ended-leave laws x o sound e =
     let s = of_leave x o e in
     let meets = laws.meets x Leaves o sound tt s in
     record { sound = laws.sound x Leaves o sound tt s; id = meets.id; idle = meets.quorum.1; nothing = laws.left x o e }
 
-pub ended_by_giving_up : AreClientLaws → (x : ClientState) (o : Outcome) → IsSound x → give_up x ≡ Ok o → Ended x o
-ended_by_giving_up laws x o sound e =
+pub Ended-give_up : AreClientLaws → (x : ClientState) (o : Outcome) → IsSound x → give_up x ≡ Ok o → Ended x o
+Ended-give_up laws x o sound e =
     let s = of_give_up x o e in
     let meets = laws.meets x GivesUp o sound tt s in
     record { sound = laws.sound x GivesUp o sound tt s; id = meets.id; idle = meets.quorum.1; nothing = laws.given_up x o e }
@@ -237,16 +237,16 @@ ended_by_giving_up laws x o sound e =
 no_votes : (xs ys : List ℕ) → length xs ≡ 64 → length ys ≡ 64 → ((v : ℕ) → slice_index xs v ≡ 0) → ((v : ℕ) → slice_index ys v ≡ 0) → xs ≡ ys
 no_votes xs ys wide same_width empty none_held = same_number_lists xs ys (wide ∙ sym same_width) (λ k lt. empty k ∙ sym (none_held k))
 
-pub holds_none : (voters : ℕ) (held : List ℕ) → held ≡ nobody → HoldsWithin voters held
-holds_none voters held e = λ v some. absurd (some (ap (λ l. slice_index l v) e ∙ empty 64 v))
+pub HoldsWithin-nobody : (voters : ℕ) (held : List ℕ) → held ≡ nobody → HoldsWithin voters held
+HoldsWithin-nobody voters held e = λ v some. absurd (some (ap (λ l. slice_index l v) e ∙ empty 64 v))
   where
     empty : (n v : ℕ) → slice_index (replicate n 0) v ≡ 0
     empty zero v = refl
     empty (suc n) zero = refl
     empty (suc n) (suc v) = empty n v
 
-pub holds_fewer : (y : ClientState) (seat : List ℕ) → HoldsNothing y → HoldsFewer y.held seat
-holds_fewer y seat nothing = λ v. inr (nothing v)
+pub HoldsFewer-HoldsNothing : (y : ClientState) (seat : List ℕ) → HoldsNothing y → HoldsFewer y.held seat
+HoldsFewer-HoldsNothing y seat nothing = λ v. inr (nothing v)
 
 -- a clerk that draws keeps its share
 share_drawn : (k : ClerkState) (r : Receipt) → 0 < k.rest → share_of (with_receipt k r) ≡ share_of k
@@ -274,15 +274,15 @@ next_member c x seat clerk quorum r y sound id after table client held within dr
 
 module _ (c : ClusterState) (x : ClientState) (seat : SeatState) (clerk : ClerkState) (quorum : ℕ) (r : IsMember c x seat clerk quorum) where
   -- its seat and a sound client have a place for each voter
-  pub both_places : (y : ClientState) → IsSound y → (length seat.held ≡ 64) × (length y.held ≡ 64)
-  both_places y sound = (ap length r.held ∙ r.sound.places.held, sound.places.held)
+  pub length-both_held : (y : ClientState) → IsSound y → (length seat.held ≡ 64) × (length y.held ≡ 64)
+  length-both_held y sound = (ap length r.held ∙ r.sound.places.held, sound.places.held)
 
   -- it asked the quorum of this number, and its clerk keeps the receipt
-  pub asked_member : AreClientLaws → (q : List ℕ) (o : Outcome) → ask x q ≡ Ok o → IsSet q → 1 ≤ length q
+  pub IsMember-asked : AreClientLaws → (q : List ℕ) (o : Outcome) → ask x q ≡ Ok o → IsSet q → 1 ≤ length q
       → (drawn : ClerkState) (receipt : Receipt) → drawn ≡ with_receipt clerk receipt → 0 < clerk.rest
       → receipt.quorum < length c.board.quorums → q ≡ quorum_at c.board.quorums receipt.quorum
       → IsMember c o.state seat drawn receipt.quorum
-  asked_member laws q o e set some drawn receipt kept left in_range is =
+  IsMember-asked laws q o e set some drawn receipt kept left in_range is =
       let s = of_ask x q o e in
       let sound = laws.sound x (Asks q) o r.sound (set, some) s in
       let meets = laws.meets x (Asks q) o r.sound (set, some) s in
@@ -291,18 +291,18 @@ module _ (c : ClusterState) (x : ClientState) (seat : SeatState) (clerk : ClerkS
       drawn (ap (λ (k : ClerkState). k.office) kept) (ap share_of kept ∙ share_drawn clerk receipt left) receipt.quorum (λ busy. (in_range, meets.quorum ∙ is))
 
   -- its client took a message
-  pub took_member : (m : ToClient) (o : Outcome) → Took x m o
+  pub IsMember-took : (m : ToClient) (o : Outcome) → Took x m o
       → (after : SeatState) → after.table ≡ seat.table → after.client ≡ seat.client → after.held ≡ o.state.held → HoldsWithin c.board.voters after.held
       → IsMember c o.state after clerk quorum
-  took_member m o t after table client held within =
+  IsMember-took m o t after table client held within =
       next_member c x seat clerk quorum r o.state t.sound t.id after table client held within clerk refl refl quorum
       (λ busy. let asks = r.asks (sym t.quorum.1 ∙ busy) in (asks.0, t.quorum.0 ∙ asks.1))
 
   -- its client ended its request
-  pub ended_member : (o : Outcome) → Ended x o
+  pub IsMember-ended : (o : Outcome) → Ended x o
       → (after : SeatState) → after.table ≡ seat.table → after.client ≡ seat.client → after.held ≡ o.state.held → HoldsWithin c.board.voters after.held
       → IsMember c o.state after clerk quorum
-  ended_member o e after table client held within =
+  IsMember-ended o e after table client held within =
       next_member c x seat clerk quorum r o.state e.sound e.id after table client held within clerk refl refl quorum
       (λ busy. absurd (true≢false (sym e.idle ∙ busy)))
 
@@ -313,8 +313,8 @@ fault_in (Err (refuses.Board e)) = e
 fault_in (Err e) = OutOfMemory
 fault_in (Ok x) = OutOfMemory
 
-pub board_fault : (r : Result ℕ ClusterFault) (a b : BoardFault) → r ≡ Err (refuses.Board a) → r ≡ Err (refuses.Board b) → a ≡ b
-board_fault r a b first second = ap fault_in (sym first ∙ second)
+pub Board-injective : (r : Result ℕ ClusterFault) (a b : BoardFault) → r ≡ Err (refuses.Board a) → r ≡ Err (refuses.Board b) → a ≡ b
+Board-injective r a b first second = ap fault_in (sym first ∙ second)
 
 abbrev is_answer : Result ℕ ClusterFault → Bool
 is_answer (Ok x) = true

@@ -18,7 +18,7 @@ use Rattle.members.specs.declared.record.RunRecord.{RunRecord}
 use Rattle.members.specs.Clusters.{ClusterState, IsCluster}
 use Rattle.members.specs.Members.{MemberState}
 use Rattle.members.specs.Records.{Draw, Pass, IsDraw, IsRecordOf, all_draws, all_passes, all_receipts, draws_of, passes_of}
-use Rattle.members.proofs.CountLemmas.{counts_up_by}
+use Rattle.members.proofs.CountLemmas.{AreInOrder-from_AreAllBelow_by}
 
 -- the tickets of draws are those of the receipts
 
@@ -35,29 +35,29 @@ tickets_of-all_draws (m ∷ ms) =
 
 -- One more member
 
-pub more_passes : (before now after : List Pass) (members : List MemberState) (m : MemberState)
+pub all_passes-more : (before now after : List Pass) (members : List MemberState) (m : MemberState)
     → now ≡ before ++ all_passes members → after ≡ now ++ passes_of m → after ≡ before ++ all_passes (members ++ m ∷ [])
-more_passes before now after members m so_far added = added ∙ ap (λ l. l ++ passes_of m) so_far ∙ flat_map_more passes_of before members m
+all_passes-more before now after members m so_far added = added ∙ ap (λ l. l ++ passes_of m) so_far ∙ flat_map_more passes_of before members m
 
-pub more_receipts : (before now after : List Receipt) (members : List MemberState) (m : MemberState)
+pub all_receipts-more : (before now after : List Receipt) (members : List MemberState) (m : MemberState)
     → now ≡ before ++ all_receipts members → after ≡ now ++ m.clerk.receipts → after ≡ before ++ all_receipts (members ++ m ∷ [])
-more_receipts before now after members m so_far added = added ∙ ap (λ l. l ++ m.clerk.receipts) so_far ∙ flat_map_more (λ (n : MemberState). n.clerk.receipts) before members m
+all_receipts-more before now after members m so_far added = added ∙ ap (λ l. l ++ m.clerk.receipts) so_far ∙ flat_map_more (λ (n : MemberState). n.clerk.receipts) before members m
 
-pub more_each : (P : Pass → Type 0) (members : List MemberState) (m : MemberState) → All P (all_passes members) → All P (passes_of m) → All P (all_passes (members ++ m ∷ []))
-more_each P members m all one = subst (All P) (flat_map_more passes_of [] members m) (All-append P (all_passes members) (passes_of m) all one)
+pub All-all_passes_more : (P : Pass → Type 0) (members : List MemberState) (m : MemberState) → All P (all_passes members) → All P (passes_of m) → All P (all_passes (members ++ m ∷ []))
+All-all_passes_more P members m all one = subst (All P) (flat_map_more passes_of [] members m) (All-append P (all_passes members) (passes_of m) all one)
 
-pub more_share : (start now after n m quota : ℕ) → now ≡ start + n * quota → after ≡ now + quota → m ≡ n + 1 → after ≡ start + m * quota
-more_share start now after n m quota so_far added one =
+pub share-more : (start now after n m quota : ℕ) → now ≡ start + n * quota → after ≡ now + quota → m ≡ n + 1 → after ≡ start + m * quota
+share-more start now after n m quota so_far added one =
     let more : m * quota ≡ n * quota + 1 * quota = ap (λ (k : ℕ). k * quota) one ∙ add-mul n 1 quota in
     omega (arith, so_far, added, more)
 
 -- What stands in the draws and in the passes of one member
 
-pub each_draw : (c : ClusterState) (m : MemberState) → m.requester.id < c.board.clients → AreByCycle c.office.cycle m.clerk.receipts → All (IsDraw c) (draws_of m)
-each_draw c m inside named = All-map (IsDraw c) (λ (r : Receipt). (m.requester.id, r.ticket, r.quorum)) m.clerk.receipts (λ k r lt. record { client = inside; quorum = named k r lt })
+pub All-IsDraw : (c : ClusterState) (m : MemberState) → m.requester.id < c.board.clients → AreByCycle c.office.cycle m.clerk.receipts → All (IsDraw c) (draws_of m)
+All-IsDraw c m inside named = All-map (IsDraw c) (λ (r : Receipt). (m.requester.id, r.ticket, r.quorum)) m.clerk.receipts (λ k r lt. record { client = inside; quorum = named k r lt })
 
-pub each_pass : (clients : ℕ) (m : MemberState) → m.requester.id < clients → All (λ p. p.0 < clients) (passes_of m)
-each_pass clients m inside = All-map (λ (p : Pass). p.0 < clients) (λ (x : ℕ). (m.requester.id, x)) m.seat.passes (λ k x lt. inside)
+pub All-passes_of : (clients : ℕ) (m : MemberState) → m.requester.id < clients → All (λ p. p.0 < clients) (passes_of m)
+All-passes_of clients m inside = All-map (λ (p : Pass). p.0 < clients) (λ (x : ℕ). (m.requester.id, x)) m.seat.passes (λ k x lt. inside)
 
 -- The record of what members drew and passed
 
@@ -70,11 +70,11 @@ pub record_of : (c : ClusterState) (members : List MemberState) (r : RunRecord)
     → IsRecordOf c members r
 record_of c members r draws by_ticket each_draw tickets passes by_number each_pass numbers register lost = record {
   draws = draws;
-  tickets = counts_up_by (λ (d : Draw). d.1) (0, 0, 0) (all_draws members) r.draws.items (length (all_receipts members)) draws by_ticket
+  tickets = AreInOrder-from_AreAllBelow_by (λ (d : Draw). d.1) (0, 0, 0) (all_draws members) r.draws.items (length (all_receipts members)) draws by_ticket
       (subst (λ ns. AreAllBelow ns (length (all_receipts members))) (sym named) tickets) many;
   each_draw = All-permutation (IsDraw c) _ _ draws each_draw;
   passes = passes;
-  numbers = counts_up_by (λ (p : Pass). p.1) (0, 0) (all_passes members) r.passes.items r.register passes by_number numbers (sym register);
+  numbers = AreInOrder-from_AreAllBelow_by (λ (p : Pass). p.1) (0, 0) (all_passes members) r.passes.items r.register passes by_number numbers (sym register);
   each_pass = All-permutation (λ (p : Pass). p.0 < c.board.clients) _ _ passes each_pass;
   register = register ∙ sym (length_permutation _ _ passes);
   lost = lost;
@@ -88,21 +88,21 @@ record_of c members r draws by_ticket each_draw tickets passes by_number each_pa
 
 -- How many they are
 
-pub count_draws : (c : ClusterState) (members : List MemberState) (r : RunRecord) → IsRecordOf c members r → length r.draws.items ≡ sum_by (λ m. length m.clerk.receipts) members
-count_draws c members r is =
+pub length-draws : (c : ClusterState) (members : List MemberState) (r : RunRecord) → IsRecordOf c members r → length r.draws.items ≡ sum_by (λ m. length m.clerk.receipts) members
+length-draws c members r is =
     length_permutation _ _ is.draws ∙ length-flat_map draws_of members
     ∙ (λ i. sum_by (λ (m : MemberState). length-map {B = Draw} m.clerk.receipts (λ (x : Receipt). (m.requester.id, x.ticket, x.quorum)) i) members)
 
-pub count_passes : (c : ClusterState) (members : List MemberState) (r : RunRecord) → IsRecordOf c members r → r.register ≡ sum_by (λ m. length m.seat.passes) members
-count_passes c members r is =
+pub register-sum_by : (c : ClusterState) (members : List MemberState) (r : RunRecord) → IsRecordOf c members r → r.register ≡ sum_by (λ m. length m.seat.passes) members
+register-sum_by c members r is =
     is.register ∙ length_permutation _ _ is.passes ∙ length-flat_map passes_of members
     ∙ (λ i. sum_by (λ (m : MemberState). length-map {B = Pass} m.seat.passes (λ (x : ℕ). (m.requester.id, x)) i) members)
 
-pub count_evenly : (n : ℕ) (members : List MemberState) → All (λ m. length m.seat.passes ≡ n) members → sum_by (λ m. length m.seat.passes) members ≡ length members * n
-count_evenly n [] all = sym (zero-mul n)
-count_evenly n (m ∷ ms) all =
+pub sum_by-evenly : (n : ℕ) (members : List MemberState) → All (λ m. length m.seat.passes ≡ n) members → sum_by (λ m. length m.seat.passes) members ≡ length members * n
+sum_by-evenly n [] all = sym (zero-mul n)
+sum_by-evenly n (m ∷ ms) all =
     let first : length m.seat.passes ≡ n = all 0 m (omega arith) in
-    let rest = count_evenly n ms (λ k d lt. all (suc k) d (omega arith)) in
+    let rest = sum_by-evenly n ms (λ k d lt. all (suc k) d (omega arith)) in
     let more : (1 + length ms) * n ≡ 1 * n + length ms * n = add-mul 1 (length ms) n in
     let one : suc (length ms) * n ≡ (1 + length ms) * n = ap (λ (k : ℕ). k * n) (omega arith) in
     omega (arith, first, rest, more, one, sum_by-cons (λ (x : MemberState). length x.seat.passes) m ms)

@@ -48,19 +48,19 @@ fit_client_numbers s (tells.Locked stamp grant) hs h = (h.0.1, (h.1.1, (hs, tt))
 fit_client_numbers s (tells.Fail stamp) hs h = (h.1, (hs, tt))
 fit_client_numbers s (tells.Inquire grant) hs h = (h.1, (hs, tt))
 
-pub fit_numbers : (m : Message) → HasLine m → AllFit (numbers_of m)
-fit_numbers (kinds.ToVoter m) h = (fits-from_small m.client h.0, (fits-from_small m.voter h.1, (h.2.1, tt)))
-fit_numbers (kinds.ToClient m) h = (fits-from_small m.voter h.0, (fits-from_small m.client h.1, fit_client_numbers m.seen m.body h.2 h.3))
+pub AllFit-numbers_of : (m : Message) → HasLine m → AllFit (numbers_of m)
+AllFit-numbers_of (kinds.ToVoter m) h = (fits-from_small m.client h.0, (fits-from_small m.voter h.1, (h.2.1, tt)))
+AllFit-numbers_of (kinds.ToClient m) h = (fits-from_small m.voter h.0, (fits-from_small m.client h.1, fit_client_numbers m.seen m.body h.2 h.3))
 
 one_line_word : (m : Message) → IsOneLine (word_of m)
 one_line_word (kinds.ToVoter m) = one_line_voter_word m.body
 one_line_word (kinds.ToClient m) = one_line_client_word m.body
 
-pub one_line_message : (m : Message) → HasLine m → IsOneLine (message_line m)
-one_line_message m h = one_line-append (word_of m) (fields (numbers_of m)) (one_line_word m) (one_line_fields (numbers_of m) (fit_numbers m h))
+pub IsOneLine-message_line : (m : Message) → HasLine m → IsOneLine (message_line m)
+IsOneLine-message_line m h = one_line-append (word_of m) (fields (numbers_of m)) (one_line_word m) (one_line_fields (numbers_of m) (AllFit-numbers_of m h))
 
-pub first_newline : (xs ys more : List ℕ) → IsOneLine xs → IsOneLine ys → xs ++ 10 ∷ more ≡ ys ++ 10 ∷ [] → more ≡ []
-first_newline [] [] more h k e = cc
-first_newline [] (y ∷ ys) more h k e = absurd (k.0 cc)
-first_newline (x ∷ xs) [] more h k e = absurd (h.0 cc)
-first_newline (x ∷ xs) (y ∷ ys) more h k e = first_newline xs ys more h.1 k.1 cc
+pub IsOneLine-first_newline : (xs ys more : List ℕ) → IsOneLine xs → IsOneLine ys → xs ++ 10 ∷ more ≡ ys ++ 10 ∷ [] → more ≡ []
+IsOneLine-first_newline [] [] more h k e = cc
+IsOneLine-first_newline [] (y ∷ ys) more h k e = absurd (k.0 cc)
+IsOneLine-first_newline (x ∷ xs) [] more h k e = absurd (h.0 cc)
+IsOneLine-first_newline (x ∷ xs) (y ∷ ys) more h k e = IsOneLine-first_newline xs ys more h.1 k.1 cc

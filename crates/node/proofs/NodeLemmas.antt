@@ -29,9 +29,9 @@ frees_some : (v : VoterState) (s : Option Outcome) → (effect_by v s).frees ≡
 frees_some v None e = absurd (true≢false (sym e))
 frees_some v (Some o) e = ended_some v.held o.state.held e
 
-pub frees_held : (v : VoterState) (m : ToVoter) → (effect_of v m).frees ≡ true → is_some (seat_grant v.held) ≡ true
+pub held-from_frees : (v : VoterState) (m : ToVoter) → (effect_of v m).frees ≡ true → is_some (seat_grant v.held) ≡ true
 unfolding effect_of
-frees_held v m e = frees_some v (step v m) e
+held-from_frees v m e = frees_some v (step v m) e
 
 pub not_refused : (v : VoterState) (m : ToVoter) → (effect_of v m).refused ≡ false → step v m ≡ None → ⊥
 unfolding effect_of
@@ -143,8 +143,8 @@ module _ (board : BoardState) (v : VoterState) (log : List ToVoter) (seat : Seat
   known : All (IsFor board seat.voter) (log ++ m ∷ [])
   known = All-push (IsFor board seat.voter) log m t.node.known t.meant
 
-  pub stays_node : IsNode board o.state (log ++ m ∷ []) (offered o.state.held (settled (effect_of v m).frees seat))
-  stays_node =
+  pub IsNode-offered : IsNode board o.state (log ++ m ∷ []) (offered o.state.held (settled (effect_of v m).frees seat))
+  IsNode-offered =
       let b = (effect_of v m).frees in
       let a = Agrees-offered_by v o.state seat t.node.current t.node.last b t.moves (settled b seat).current refl o.state.held refl in record {
         follows = subst (λ (n : ℕ). run (Some (start n (2 ^ 40))) (log ++ m ∷ []) ≡ Some o.state) (sym a.voter) follows;

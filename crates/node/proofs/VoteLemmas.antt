@@ -22,8 +22,8 @@ pub record Compared (voters count : ℕ) (held seat : List ℕ) : Type 0 where
   pub done : (v : ℕ) → v < count → slice_index seat v ≡ slice_index held v
   pub fewer : HoldsFewer held seat
 
-pub compared_more : (voters i : ℕ) (held seat after : List ℕ) → Compared voters i held seat → slice_index after i ≡ slice_index held i → ((v : ℕ) → v ≢ i → slice_index after v ≡ slice_index seat v) → length after ≡ length seat → Compared voters (i + 1) held after
-compared_more voters i held seat after r kept others len = record {
+pub Compared-more : (voters i : ℕ) (held seat after : List ℕ) → Compared voters i held seat → slice_index after i ≡ slice_index held i → ((v : ℕ) → v ≢ i → slice_index after v ≡ slice_index seat v) → length after ≡ length seat → Compared voters (i + 1) held after
+Compared-more voters i held seat after r kept others len = record {
   len = len ∙ r.len;
   within = λ v some. dite (ℕ_discrete v i)
       (λ e. r.within v (λ free. some (ap (slice_index after) e ∙ kept ∙ sym (ap (slice_index held) e) ∙ ⊎_elim (λ (same : slice_index held v ≡ slice_index seat v). same ∙ free) (λ (gone : slice_index held v ≡ 0). gone) (r.fewer v))))
@@ -39,8 +39,8 @@ compared_more voters i held seat after r kept others len = record {
     below : (v i : ℕ) → v < i + 1 → v ≢ i → v < i
     below v i lt ne = omega (arith, lt, ne)
 
-pub compared_all : (voters : ℕ) (held seat : List ℕ) → length held ≡ 64 → Compared voters 64 held seat → seat ≡ held
-compared_all voters held seat len r = same_number_lists seat held (r.len ∙ sym len) (λ k lt. r.done k (subst (λ n. k < n) r.len lt))
+pub Compared-all : (voters : ℕ) (held seat : List ℕ) → length held ≡ 64 → Compared voters 64 held seat → seat ≡ held
+Compared-all voters held seat len r = same_number_lists seat held (r.len ∙ sym len) (λ k lt. r.done k (subst (λ n. k < n) r.len lt))
 
 -- A LOCKED that counts
 
@@ -70,15 +70,15 @@ unfolding would_hold
 free_before x m e = would_free x m.voter m.body e
 
 -- the seat then holds what the client will hold
-pub both_hold : (x y : ClientState) (voter : ℕ) (b : ClientBody) (seat after : List ℕ) → seat ≡ x.held → HoldsBesides x voter b y → HoldsLocked seat voter b after → HoldsFewer y.held after
-both_hold x y voter (tells.Locked stamp grant) seat after same besides locked =
+pub HoldsFewer-locked : (x y : ClientState) (voter : ℕ) (b : ClientBody) (seat after : List ℕ) → seat ≡ x.held → HoldsBesides x voter b y → HoldsLocked seat voter b after → HoldsFewer y.held after
+HoldsFewer-locked x y voter (tells.Locked stamp grant) seat after same besides locked =
     λ v. inl (ap (λ l. slice_index l v) (besides ∙ ap (λ l. slice_set l voter grant) (sym same) ∙ sym locked))
-both_hold x y voter (tells.Fail stamp) seat after same besides locked = absurd locked
-both_hold x y voter (tells.Inquire grant) seat after same besides locked = absurd locked
+HoldsFewer-locked x y voter (tells.Fail stamp) seat after same besides locked = absurd locked
+HoldsFewer-locked x y voter (tells.Inquire grant) seat after same besides locked = absurd locked
 
-pub within_locked : (voters voter : ℕ) (b : ClientBody) (seat after : List ℕ) → voter < voters → HoldsWithin voters seat → HoldsLocked seat voter b after → HoldsWithin voters after
-within_locked voters voter (tells.Locked stamp grant) seat after lt within locked = λ v some. dite (ℕ_discrete v voter)
+pub HoldsWithin-locked : (voters voter : ℕ) (b : ClientBody) (seat after : List ℕ) → voter < voters → HoldsWithin voters seat → HoldsLocked seat voter b after → HoldsWithin voters after
+HoldsWithin-locked voters voter (tells.Locked stamp grant) seat after lt within locked = λ v some. dite (ℕ_discrete v voter)
     (λ e. subst (λ n. n < voters) (sym e) lt)
     (λ ne. within v (λ free. some (ap (λ l. slice_index l v) locked ∙ get_or-set_other seat voter v grant 0 ne ∙ free)))
-within_locked voters voter (tells.Fail stamp) seat after lt within locked = absurd locked
-within_locked voters voter (tells.Inquire grant) seat after lt within locked = absurd locked
+HoldsWithin-locked voters voter (tells.Fail stamp) seat after lt within locked = absurd locked
+HoldsWithin-locked voters voter (tells.Inquire grant) seat after lt within locked = absurd locked

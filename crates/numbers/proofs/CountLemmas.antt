@@ -75,10 +75,10 @@ greatest_below-bound (suc n) f m most =
     omega (arith, greatest_below-bound n f m (λ i lt. most i (omega arith)), most n (omega arith))
 
 -- a list in which no number from n on stands
-pub count_above : (n : ℕ) (list : List ℕ) → ((j : ℕ) → n ≤ j → times j list ≡ 0) → sum_by (λ x. cond (leb n x) 1 0) list ≡ 0
-count_above n [] none = refl
-count_above n (x ∷ xs) none =
-    let rest = count_above n xs (λ j le. omega (arith, times-cons j x xs, none j le)) in
+pub sum_by-none_above : (n : ℕ) (list : List ℕ) → ((j : ℕ) → n ≤ j → times j list ≡ 0) → sum_by (λ x. cond (leb n x) 1 0) list ≡ 0
+sum_by-none_above n [] none = refl
+sum_by-none_above n (x ∷ xs) none =
+    let rest = sum_by-none_above n xs (λ j le. omega (arith, times-cons j x xs, none j le)) in
     let count = sum_by-cons (λ z. cond (leb n z) 1 0) x xs in
     elim (cases_lt x n) as (λ _. sum_by (λ z. cond (leb n z) 1 0) (x ∷ xs) ≡ 0) [
       | inl below ↦ let here = ap (λ b. cond {A = ℕ} b 1 0) (lt-leb n x below) in omega (arith, count, here, rest)
@@ -113,10 +113,10 @@ filter-filter p q (x ∷ xs) implies =
           ∙ rest ∙ sym (ap (λ b. cond b (x ∷ filter q xs) (filter q xs)) off)
     ]
 
-pub flat_map_range_more : (f : ℕ → List ℕ) (a n j : ℕ) → a + n ≡ j → flat_map f (range_with_len a (suc n)) ≡ flat_map f (range_with_len a n) ++ f j
-flat_map_range_more f a zero j e = let at : a ≡ j = omega arith in append-nil (f a) ∙ ap f at
-flat_map_range_more f a (suc n) j e =
-    ap (λ xs. f a ++ xs) (flat_map_range_more f (a + 1) n j (omega arith))
+pub flat_map-range_more : (f : ℕ → List ℕ) (a n j : ℕ) → a + n ≡ j → flat_map f (range_with_len a (suc n)) ≡ flat_map f (range_with_len a n) ++ f j
+flat_map-range_more f a zero j e = let at : a ≡ j = omega arith in append-nil (f a) ∙ ap f at
+flat_map-range_more f a (suc n) j e =
+    ap (λ xs. f a ++ xs) (flat_map-range_more f (a + 1) n j (omega arith))
     ∙ sym (append_assoc (f a) (flat_map f (range_with_len (a + 1) n)) (f j))
 
 -- a number stands once among those below a bound above it
@@ -144,13 +144,13 @@ length-permuted n list permuted =
 min_assoc : (a b c : ℕ) → min (min a b) c ≡ min a (min b c)
 min_assoc a b c = omega arith
 
-pub least_of_more : (f : List ℕ → ℕ) (qs : List (List ℕ)) (j : ℕ) (d : List ℕ) → 0 < j → j < length qs → least_of f (take (j + 1) qs) ≡ min (least_of f (take j qs)) (f (get_or qs j d))
-least_of_more f [] j d some lt = absurd (omega arith)
-least_of_more f (q ∷ []) j d some lt = absurd (omega arith)
-least_of_more f (q ∷ r ∷ qs) zero d some lt = absurd (omega arith)
-least_of_more f (q ∷ r ∷ qs) (suc zero) d some lt = refl
-least_of_more f (q ∷ r ∷ qs) (suc (suc j)) d some lt =
-    let rest = simp unary_clauses at (least_of_more f (r ∷ qs) (suc j) d (omega arith) (omega arith)) in
+pub least_of-more : (f : List ℕ → ℕ) (qs : List (List ℕ)) (j : ℕ) (d : List ℕ) → 0 < j → j < length qs → least_of f (take (j + 1) qs) ≡ min (least_of f (take j qs)) (f (get_or qs j d))
+least_of-more f [] j d some lt = absurd (omega arith)
+least_of-more f (q ∷ []) j d some lt = absurd (omega arith)
+least_of-more f (q ∷ r ∷ qs) zero d some lt = absurd (omega arith)
+least_of-more f (q ∷ r ∷ qs) (suc zero) d some lt = refl
+least_of-more f (q ∷ r ∷ qs) (suc (suc j)) d some lt =
+    let rest = simp unary_clauses at (least_of-more f (r ∷ qs) (suc j) d (omega arith) (omega arith)) in
     simp unary_clauses (ap (min (f q)) rest ∙ sym (min_assoc (f q) (least_of f (r ∷ take j qs)) (f (get_or qs j d))))
 
 pub least_of-le : (f : List ℕ → ℕ) (qs : List (List ℕ)) (j : ℕ) (d : List ℕ) → j < length qs → least_of f qs ≤ f (get_or qs j d)

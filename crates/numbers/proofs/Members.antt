@@ -7,8 +7,8 @@ use native.Mathlib.Decide.{ℕ_discrete}
 use Rattle.numbers.specs.Sets.{has}
 
 -- what holds of all members holds of each
-pub all_has : (P : ℕ → Type 0) (q : List ℕ) (v : ℕ) → has q v ≡ true → All P q → P v
-all_has P [] v e h = absurd (true≢false (sym e))
-all_has P (x ∷ xs) v e h = dite (ℕ_discrete x v)
+pub All-has : (P : ℕ → Type 0) (q : List ℕ) (v : ℕ) → has q v ≡ true → All P q → P v
+All-has P [] v e h = absurd (true≢false (sym e))
+All-has P (x ∷ xs) v e h = dite (ℕ_discrete x v)
     (λ here. subst P here (h 0 0 (omega arith)))
-    (λ far. all_has P xs v (sym (ap (λ (t : Bool). t || has xs v) (ne_eqb x v far)) ∙ e) (λ k d lt. h (suc k) d (omega arith)))
+    (λ far. All-has P xs v (sym (ap (λ (t : Bool). t || has xs v) (ne_eqb x v far)) ∙ e) (λ k d lt. h (suc k) d (omega arith)))

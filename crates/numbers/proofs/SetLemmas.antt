@@ -38,14 +38,14 @@ pub has-tail : (x : ℕ) (xs : List ℕ) (i : ℕ) → (x ≡ i → ⊥) → has
 has-tail x xs i differ = ap (λ b. b || has xs i) (ne_eqb x i differ)
 
 -- two sets with the same members are one
-pub same_sets : (low high : ℕ) (s t : List ℕ) → Ascends low high s → Ascends low high t → ((i : ℕ) → has s i ≡ has t i) → s ≡ t
-same_sets low high [] [] hs ht e = refl
-same_sets low high [] (y ∷ ys) hs ht e = absurd (false≢true (e y ∙ has-head y ys))
-same_sets low high (x ∷ xs) [] hs ht e = absurd (true≢false (sym (has-head x xs) ∙ e x))
-same_sets low high (x ∷ xs) (y ∷ ys) hs ht e =
+pub Ascends-unique : (low high : ℕ) (s t : List ℕ) → Ascends low high s → Ascends low high t → ((i : ℕ) → has s i ≡ has t i) → s ≡ t
+Ascends-unique low high [] [] hs ht e = refl
+Ascends-unique low high [] (y ∷ ys) hs ht e = absurd (false≢true (e y ∙ has-head y ys))
+Ascends-unique low high (x ∷ xs) [] hs ht e = absurd (true≢false (sym (has-head x xs) ∙ e x))
+Ascends-unique low high (x ∷ xs) (y ∷ ys) hs ht e =
     elim (cases_order x y) as (λ _. x ∷ xs ≡ y ∷ ys) [
       | inl same ↦
-          let rest : xs ≡ ys = same_sets (x + 1) high xs ys hs.2 (Ascends-lower (y + 1) (x + 1) high ys (omega arith) ht.2)
+          let rest : xs ≡ ys = Ascends-unique (x + 1) high xs ys hs.2 (Ascends-lower (y + 1) (x + 1) high ys (omega arith) ht.2)
           (λ i. elim (cases_eq x i) as (λ _. has xs i ≡ has ys i) [
             | inl at ↦ has-below (x + 1) high xs i hs.2 (omega arith) ∙ sym (has-below (y + 1) high ys i ht.2 (omega arith))
             | inr off ↦ sym (has-tail x xs i off) ∙ e i ∙ has-tail y ys i (λ at. off (same ∙ at))
@@ -96,7 +96,7 @@ has-set_where p i lt = has-numbers_from 0 64 p i (omega arith) lt
 -- a set is the set of the numbers that pass p, where it has exactly those
 pub is_set_where : (s : List ℕ) (p : ℕ → Bool) → IsSet s → ((i : ℕ) → i < 64 → has s i ≡ p i) → s ≡ set_where p
 is_set_where s p h e =
-    same_sets 0 64 s (set_where p) h (IsSet-set_where p) (λ i.
+    Ascends-unique 0 64 s (set_where p) h (IsSet-set_where p) (λ i.
     elim (cases_lt i 64) as (λ _. has s i ≡ has (set_where p) i) [
       | inl lt ↦ e i lt ∙ sym (has-set_where p i lt)
       | inr ge ↦ has-above 0 64 s i h ge ∙ sym (has-above 0 64 (set_where p) i (IsSet-set_where p) ge)

@@ -122,15 +122,15 @@ sum_by-one [] = refl
 sum_by-one {A} (x ∷ xs) = omega (arith, sum_by-cons (λ (_ : A). 1) x xs, sum_by-one xs)
 
 -- where no number from n on stands in a list, nothing is summed over those
-pub none_above : (n : ℕ) (f : ℕ → ℕ) (list : List ℕ) → sum_by (λ x. cond (leb n x) 1 0) list ≡ 0 → sum_by (λ x. cond (leb n x) (f x) 0) list ≡ 0
-none_above n f [] none = refl
-none_above n f (x ∷ xs) none =
+pub sum_by-zero_above : (n : ℕ) (f : ℕ → ℕ) (list : List ℕ) → sum_by (λ x. cond (leb n x) 1 0) list ≡ 0 → sum_by (λ x. cond (leb n x) (f x) 0) list ≡ 0
+sum_by-zero_above n f [] none = refl
+sum_by-zero_above n f (x ∷ xs) none =
     let count = sum_by-cons (λ z. cond (leb n z) 1 0) x xs in
     let added = sum_by-cons (λ z. cond (leb n z) (f z) 0) x xs in
     elim (cases_lt x n) as (λ _. sum_by (λ z. cond (leb n z) (f z) 0) (x ∷ xs) ≡ 0) [
       | inl below ↦
           let here = ap (λ b. cond b (f x) 0) (lt-leb n x below) in
-          omega (arith, added, here, none_above n f xs (omega (arith, count)))
+          omega (arith, added, here, sum_by-zero_above n f xs (omega (arith, count)))
       | inr above ↦
           let here = ap (λ b. cond {A = ℕ} b 1 0) (le-leb n x above) in
           absurd (omega (arith, count, here))
@@ -152,7 +152,7 @@ sum_by-each_once n list long once f =
     let none : sum_by (λ x. cond (leb n x) 1 0) list ≡ 0 =
     omega (arith, length-sum_below n list, sum_below-same n (λ y. times y list) (λ y. 1) once, sum_below-one n) in
     let each = sum_below-same n (λ y. f y * times y list) f (λ y lt. times_one (f y) (times y list) (once y lt)) in
-    omega (arith, sum_by-sum_below n f list, none_above n f list none, each)
+    omega (arith, sum_by-sum_below n f list, sum_by-zero_above n f list none, each)
   where
     times_one : (a t : ℕ) → t ≡ 1 → a * t ≡ a
     times_one a t e = rw e (omega arith)

@@ -28,14 +28,14 @@ sum_below-most zero m f most = omega arith
 sum_below-most (suc n) m f most = omega (arith, most n (omega arith), sum_below-most n m f (λ i lt. most i (omega arith)))
 
 -- where none of n values is above m and they sum to n times m, each is m
-pub level_from_most : (n m : ℕ) (f : ℕ → ℕ) → ((i : ℕ) → i < n → f i ≤ m) → n * m ≤ sum_below f n → (i : ℕ) → i < n → f i ≡ m
-level_from_most zero m f most full i lt = absurd (omega arith)
-level_from_most (suc n) m f most full i lt =
+pub sum_below-level_from_most : (n m : ℕ) (f : ℕ → ℕ) → ((i : ℕ) → i < n → f i ≤ m) → n * m ≤ sum_below f n → (i : ℕ) → i < n → f i ≡ m
+sum_below-level_from_most zero m f most full i lt = absurd (omega arith)
+sum_below-level_from_most (suc n) m f most full i lt =
     let last = most n (omega arith) in
     let rest = sum_below-most n m f (λ i lt. most i (omega arith)) in
     elim (cases_eq i n) [
       | inl at ↦ let same = ap f at in omega (arith, same, last, rest, full)
-      | inr off ↦ level_from_most n m f (λ i lt. most i (omega arith)) (omega (arith, last, full)) i (omega arith)
+      | inr off ↦ sum_below-level_from_most n m f (λ i lt. most i (omega arith)) (omega (arith, last, full)) i (omega arith)
     ]
 
 pub sum_by-level : (t : ℕ) (qs : List (List ℕ)) → All (λ q. length q ≡ t) qs → sum_by length qs ≡ length qs * t
@@ -49,12 +49,12 @@ sum_by-least t (q ∷ qs) h =
     omega (arith, sum_by-cons length q qs, All-head (λ q. t ≤ length q) q qs h, sum_by-least t qs (All-tail (λ q. t ≤ length q) q qs h))
 
 -- where no size is below t and the sizes sum to t times their number, each is t
-pub level_from_least : (t : ℕ) (qs : List (List ℕ)) → All (λ q. t ≤ length q) qs → sum_by length qs ≤ length qs * t → All (λ q. length q ≡ t) qs
-level_from_least t [] h full = λ j d lt. absurd (omega arith)
-level_from_least t (q ∷ qs) h full =
+pub sum_by-level_from_least : (t : ℕ) (qs : List (List ℕ)) → All (λ q. t ≤ length q) qs → sum_by length qs ≤ length qs * t → All (λ q. length q ≡ t) qs
+sum_by-level_from_least t [] h full = λ j d lt. absurd (omega arith)
+sum_by-level_from_least t (q ∷ qs) h full =
     let first = All-head (λ q. t ≤ length q) q qs h in
     let rest = All-tail (λ q. t ≤ length q) q qs h in
     let sums = sum_by-cons length q qs in
     let at_least = sum_by-least t qs rest in
     let this : length q ≡ t = omega (arith, first, sums, at_least, full) in
-    All-cons (λ q. length q ≡ t) q qs this (level_from_least t qs rest (omega (arith, first, sums, full)))
+    All-cons (λ q. length q ≡ t) q qs this (sum_by-level_from_least t qs rest (omega (arith, first, sums, full)))

@@ -20,8 +20,8 @@ sum-zero_divides (x ∷ xs) h =
     omega (arith, first, rest, sum_by-cons (λ y. y) x xs)
 
 -- numbers whose greatest common divisor is 0 have no sum above 0
-pub no_sum : (xs : List ℕ) (g : ℕ) → IsGreatestDivisor xs g → g ≡ 0 → 0 < sum xs → HaveNoCommonDivisor xs
-no_sum xs g is none some = let flat = sum-zero_divides xs (subst (λ d. All (λ x. d ∣ x) xs) none is.divides) in absurd (omega arith)
+pub HaveNoCommonDivisor-sum : (xs : List ℕ) (g : ℕ) → IsGreatestDivisor xs g → g ≡ 0 → 0 < sum xs → HaveNoCommonDivisor xs
+HaveNoCommonDivisor-sum xs g is none some = let flat = sum-zero_divides xs (subst (λ d. All (λ x. d ∣ x) xs) none is.divides) in absurd (omega arith)
 
 -- numbers that are divided by their greatest common divisor have none but 1
 pub HaveNoCommonDivisor-divided : (xs ys : List ℕ) (g : ℕ) → IsGreatestDivisor xs g → g ≢ 0 → ys ≡ map (λ x. x / g) xs → HaveNoCommonDivisor ys
@@ -37,20 +37,20 @@ HaveNoCommonDivisor-divided xs ys g is some e = λ d all.
     times_one g = omega arith
 
 -- the number 1, at least once, has no divisor but 1
-pub ones_lowest : (n : ℕ) → 0 < n → HaveNoCommonDivisor (ones n)
-ones_lowest zero some = absurd (omega arith)
-ones_lowest (suc n) some = λ d all. eq-one_of_dvd-one (all 0 0 (omega arith))
+pub HaveNoCommonDivisor-ones : (n : ℕ) → 0 < n → HaveNoCommonDivisor (ones n)
+HaveNoCommonDivisor-ones zero some = absurd (omega arith)
+HaveNoCommonDivisor-ones (suc n) some = λ d all. eq-one_of_dvd-one (all 0 0 (omega arith))
 
 -- a plan of all weights 1
-pub ones_plan : (s : QuorumSystem) (p : Weighted) → p ≡ all_ones s → IsCertificate p → HaveNoCommonDivisor p.quorum_weights × HaveNoCommonDivisor p.voter_weights
-ones_plan s p e is =
+pub HaveNoCommonDivisor-all_ones : (s : QuorumSystem) (p : Weighted) → p ≡ all_ones s → IsCertificate p → HaveNoCommonDivisor p.quorum_weights × HaveNoCommonDivisor p.voter_weights
+HaveNoCommonDivisor-all_ones s p e is =
     let quorums = subst (λ (w : Weighted). 0 < length w.system.quorums) e is.coterie.some_quorum in
     let voters = subst (λ (w : Weighted). 0 < w.system.voters) e is.coterie.some_voter in
-    (subst HaveNoCommonDivisor (sym (ap (λ (w : Weighted). w.quorum_weights) e)) (ones_lowest (length s.quorums) quorums), subst HaveNoCommonDivisor (sym (ap (λ (w : Weighted). w.voter_weights) e)) (ones_lowest s.voters voters))
+    (subst HaveNoCommonDivisor (sym (ap (λ (w : Weighted). w.quorum_weights) e)) (HaveNoCommonDivisor-ones (length s.quorums) quorums), subst HaveNoCommonDivisor (sym (ap (λ (w : Weighted). w.voter_weights) e)) (HaveNoCommonDivisor-ones s.voters voters))
 
 -- a plan of weights that were divided
-pub divided_plan : (p w : Weighted) (qs vs : List ℕ) → p ≡ w → w.quorum_weights ≡ qs → w.voter_weights ≡ vs → IsCertificate p → (0 < sum qs → HaveNoCommonDivisor qs) → (0 < sum vs → HaveNoCommonDivisor vs) → HaveNoCommonDivisor p.quorum_weights × HaveNoCommonDivisor p.voter_weights
-divided_plan p w qs vs e eq ev is low_q low_v =
+pub HaveNoCommonDivisor-divided_plan : (p w : Weighted) (qs vs : List ℕ) → p ≡ w → w.quorum_weights ≡ qs → w.voter_weights ≡ vs → IsCertificate p → (0 < sum qs → HaveNoCommonDivisor qs) → (0 < sum vs → HaveNoCommonDivisor vs) → HaveNoCommonDivisor p.quorum_weights × HaveNoCommonDivisor p.voter_weights
+HaveNoCommonDivisor-divided_plan p w qs vs e eq ev is low_q low_v =
     let at_q = ap (λ (x : Weighted). x.quorum_weights) e ∙ eq in
     let at_v = ap (λ (x : Weighted). x.voter_weights) e ∙ ev in
     (subst HaveNoCommonDivisor (sym at_q) (low_q (subst (λ x. 0 < sum x) at_q is.some_quorum)), subst HaveNoCommonDivisor (sym at_v) (low_v (subst (λ x. 0 < sum x) at_v is.some_voter)))

@@ -14,7 +14,7 @@ use Rattle.numbers.proofs.CountLemmas.{least_of-le, greatest_below-le}
 use Rattle.numbers.specs.Sums.{sum_below}
 use Rattle.numbers.proofs.SetLemmas.{Ascends-all_below}
 use Rattle.planner.specs.Uniform.{IsUniform, ones, all_ones, degree_of}
-use Rattle.planner.proofs.Degrees.{sum_below-degrees, sum_below-level, level_from_most, sum_by-level, level_from_least, sum_below-most, sum_by-least}
+use Rattle.planner.proofs.Degrees.{sum_below-degrees, sum_below-level, sum_below-level_from_most, sum_by-level, sum_by-level_from_least, sum_below-most, sum_by-least}
 
 -- the weight on a voter's quorums is the voter's degree
 weight_on-ones : (i : ℕ) (qs : List (List ℕ)) → weight_on i qs (ones (length qs)) ≡ count_by (λ q. has q i) qs
@@ -113,9 +113,9 @@ IsUniform-certificate s h c =
     record {
       size = t;
       degree = m;
-      quorums = level_from_least t s.quorums least (omega (arith, degrees, high, balanced));
-      voters = level_from_most n m (degree_of s) most (omega (arith, degrees, low, balanced));
+      quorums = sum_by-level_from_least t s.quorums least (omega (arith, degrees, high, balanced));
+      voters = sum_below-level_from_most n m (degree_of s) most (omega (arith, degrees, low, balanced));
     }
 
-pub ones_certify : (s : QuorumSystem) → IsCoterie s → IsCertificate (all_ones s) ↔ IsUniform s
-ones_certify s h = (IsUniform-certificate s h, IsCertificate-uniform s h)
+pub IsCertificate-all_ones : (s : QuorumSystem) → IsCoterie s → IsCertificate (all_ones s) ↔ IsUniform s
+IsCertificate-all_ones s h = (IsUniform-certificate s h, IsCertificate-uniform s h)

@@ -34,23 +34,23 @@ is_no_text bytes true e none = absurd (none (IsUtf8-from_is_utf8 bytes e))
 is_no_text bytes false e none = refl
 
 -- bytes that are no text are no coterie
-pub part_refused : (bytes : List ℕ) → (IsUtf8 bytes → ⊥) → coterie_part bytes ≡ Err (File file.NotToml)
+pub coterie_part-refused : (bytes : List ℕ) → (IsUtf8 bytes → ⊥) → coterie_part bytes ≡ Err (File file.NotToml)
 unfolding coterie_part
-part_refused bytes none = ap (λ b. cond b (refused_as File (coterie_at bytes)) (Err (File file.NotToml))) (is_no_text bytes (is_utf8 bytes) refl none)
+coterie_part-refused bytes none = ap (λ b. cond b (refused_as File (coterie_at bytes)) (Err (File file.NotToml))) (is_no_text bytes (is_utf8 bytes) refl none)
 
 -- and of a text they are what it spells
-pub part_read : (bytes text : List ℕ) → text ≡ bytes → IsUtf8 bytes → coterie_part bytes ≡ refused_as File (coterie_at text)
+pub coterie_part-read : (bytes text : List ℕ) → text ≡ bytes → IsUtf8 bytes → coterie_part bytes ≡ refused_as File (coterie_at text)
 unfolding coterie_part
-part_read bytes text same is_text = ap (λ b. cond b (refused_as File (coterie_at bytes)) (Err (File file.NotToml))) (is_utf8-from_IsUtf8 bytes is_text) ∙ ap (λ t. refused_as File (coterie_at t)) (sym same)
+coterie_part-read bytes text same is_text = ap (λ b. cond b (refused_as File (coterie_at bytes)) (Err (File file.NotToml))) (is_utf8-from_IsUtf8 bytes is_text) ∙ ap (λ t. refused_as File (coterie_at t)) (sym same)
 
 -- a refusal of the file is one of the command
-pub file_refused : {Y : Type 0} (fault : FileFault) (wanted : Result Y FileFault) → file_answers.Refuses fault wanted → Refuses (file_refusal fault) (refused_as File wanted)
-file_refused file.OutOfMemory wanted e = tt
-file_refused fault wanted e = ap (refused_as File) e
+pub Refuses-file : {Y : Type 0} (fault : FileFault) (wanted : Result Y FileFault) → file_answers.Refuses fault wanted → Refuses (file_refusal fault) (refused_as File wanted)
+Refuses-file file.OutOfMemory wanted e = tt
+Refuses-file fault wanted e = ap (refused_as File) e
 
-pub plan_refused : {Y : Type 0} (fault : PlanFault) (wanted : Result Y PlanFault) → plan_texts.Refuses fault wanted → Refuses (plan_refusal fault) (refused_as Plan wanted)
-plan_refused plan.OutOfMemory wanted e = tt
-plan_refused fault wanted e = ap (refused_as Plan) e
+pub Refuses-plan : {Y : Type 0} (fault : PlanFault) (wanted : Result Y PlanFault) → plan_texts.Refuses fault wanted → Refuses (plan_refusal fault) (refused_as Plan wanted)
+Refuses-plan plan.OutOfMemory wanted e = tt
+Refuses-plan fault wanted e = ap (refused_as Plan) e
 
 -- a refusal of the planner is one of the command `plan`
 pub unplanned_refused : (input : List ℕ) (named : NamedSystem) (fault : PlannerFault) → coterie_part input ≡ Ok named → IsWarranted named.system fault → CanCome fault

@@ -10,13 +10,13 @@ use Rattle.dealer.specs.declared.receipt.Receipt.{Receipt}
 use Rattle.qlock_cli.specs.Dealing.{after_draws}
 
 -- it keeps the office's whole quota
-pub share_after : (office : OfficeName) (quota n : ℕ) → n ≤ quota → share_of (after_draws office quota n) ≡ quota
-share_after office quota n le = omega (arith, length-map-range_with_len (receipt_of office.cycle) 0 n)
+pub share_of-after_draws : (office : OfficeName) (quota n : ℕ) → n ≤ quota → share_of (after_draws office quota n) ≡ quota
+share_of-after_draws office quota n le = omega (arith, length-map-range_with_len (receipt_of office.cycle) 0 n)
 
 -- one ticket more
-pub after_more : (office : OfficeName) (quota n : ℕ) (before after : ClerkState) → before ≡ after_draws office quota n
+pub after_draws-more : (office : OfficeName) (quota n : ℕ) (before after : ClerkState) → before ≡ after_draws office quota n
     → after ≡ record before { rest = before.rest - 1; receipts = before.receipts ++ receipt_of office.cycle (length before.receipts) ∷ [] } → after ≡ after_draws office quota (n + 1)
-after_more office quota n before after was drawn =
+after_draws-more office quota n before after was drawn =
     let receipt = receipt_of office.cycle in
     let so_far = map receipt (range_with_len 0 n) in
     let rest : quota - n - 1 ≡ quota - (n + 1) = omega arith in
@@ -35,12 +35,12 @@ tickets_of_receipts w [] = refl
 tickets_of_receipts w (t ∷ ts) = ap (λ (l : List ℕ). t ∷ l) (tickets_of_receipts w ts)
 
 -- what the office is closed with
-pub account_dealt : (office : OfficeName) (plan : Weighted) (n : ℕ) (clerk : ClerkState) (account : Account) → office.cycle ≡ plan → clerk ≡ after_draws office n n
+pub account_of-dealt : (office : OfficeName) (plan : Weighted) (n : ℕ) (clerk : ClerkState) (account : Account) → office.cycle ≡ plan → clerk ≡ after_draws office n n
     → account ≡ account_of office.cycle (tickets_of clerk.receipts) → account ≡ account_of plan (range_with_len 0 n)
-account_dealt office plan n clerk account same drawn is =
+account_of-dealt office plan n clerk account same drawn is =
     is ∙ ap₂ (λ (w : Weighted) (ts : List ℕ). account_of w ts) same (ap (λ (k : ClerkState). tickets_of k.receipts) drawn ∙ tickets_of_receipts office.cycle (range_with_len 0 n))
 
-pub receipts_dealt : (office : OfficeName) (plan : Weighted) (n : ℕ) (clerk : ClerkState) (receipts : List Receipt) → office.cycle ≡ plan → clerk ≡ after_draws office n n
+pub receipts-dealt : (office : OfficeName) (plan : Weighted) (n : ℕ) (clerk : ClerkState) (receipts : List Receipt) → office.cycle ≡ plan → clerk ≡ after_draws office n n
     → receipts ≡ clerk.receipts → receipts ≡ map (receipt_of plan) (range_with_len 0 n)
-receipts_dealt office plan n clerk receipts same drawn is =
+receipts-dealt office plan n clerk receipts same drawn is =
     is ∙ ap (λ (k : ClerkState). k.receipts) drawn ∙ ap (λ (w : Weighted). map (receipt_of w) (range_with_len 0 n)) same

@@ -10,7 +10,7 @@ use Rattle.std.proofs.lemmas.List.Folds.{list_any_at, Any-from_list_any}
 use Rattle.std.proofs.lemmas.List.Sums.{AllPass-from_list_all, list_all-from_AllPass}
 use Rattle.numbers.specs.Sets.{has, meet, within, union, IsSet, Ascends, set_where, members_of}
 use Rattle.quorum_set.specs.Words.{below, last_of, below-more, low_more}
-use Rattle.numbers.proofs.SetLemmas.{has-set_where, has-above, has-tail, has-head, same_sets, length-Ascends, IsSet-set_where, is_set_where}
+use Rattle.numbers.proofs.SetLemmas.{has-set_where, has-above, has-tail, has-head, Ascends-unique, length-Ascends, IsSet-set_where, is_set_where}
 
 -- a word shows a set
 pub IsSet-members_of : (m : ℕ) → IsSet (members_of m)
@@ -257,7 +257,7 @@ module _ (m : ℕ) (some : 0 < m) (fits : m < 2 ^ 64) where
   -- the lowest 1 is the first member, and the others are those of m & (m - 1)
   pub members_of-lowest : members_of m ≡ place ∷ members_of rest
   members_of-lowest =
-      same_sets 0 64 (members_of m) (place ∷ members_of rest) (IsSet-members_of m)
+      Ascends-unique 0 64 (members_of m) (place ∷ members_of rest) (IsSet-members_of m)
       (omega arith, lowest.0, subst (λ n. Ascends n 64 (members_of rest)) (sym (add-one place)) (Ascends-from 0 (suc place) 64 (members_of rest) (IsSet-members_of rest) none_before)) (λ i.
       has-members_of m i fits ∙ elim (cases_eq place i) as (λ _. eqb (bit_at m i) 1 ≡ has (place ∷ members_of rest) i) [
         | inl at ↦ eq-eqb (bit_at m i) 1 (ap (bit_at m) (sym at) ∙ lowest.1) ∙ sym (ap (has (place ∷ members_of rest)) (sym at) ∙ has-head place (members_of rest))
@@ -265,16 +265,16 @@ module _ (m : ℕ) (some : 0 < m) (fits : m < 2 ^ 64) where
       ])
 
 -- taking the members out of a word, the lowest first: while any is left there is room for it
-pub room_for : (taken s : List ℕ) (m : ℕ) → 0 < m → m < 2 ^ 64 → IsSet s → taken ++ members_of m ≡ s → length taken < 64
-room_for taken s m some fits set together =
+pub length-taken : (taken s : List ℕ) (m : ℕ) → 0 < m → m < 2 ^ 64 → IsSet s → taken ++ members_of m ≡ s → length taken < 64
+length-taken taken s m some fits set together =
     omega (arith, length-Ascends 0 64 s (omega arith) set, ap length together, length-append taken (members_of m), ap length (members_of-lowest m some fits))
 
-pub taken_more : (taken s : List ℕ) (m : ℕ) → 0 < m → m < 2 ^ 64 → taken ++ members_of m ≡ s → (taken ++ trailing_zeros w64 m ∷ []) ++ members_of (bit_and m (m - 1)) ≡ s
-taken_more taken s m some fits together =
+pub members_of-taken_more : (taken s : List ℕ) (m : ℕ) → 0 < m → m < 2 ^ 64 → taken ++ members_of m ≡ s → (taken ++ trailing_zeros w64 m ∷ []) ++ members_of (bit_and m (m - 1)) ≡ s
+members_of-taken_more taken s m some fits together =
     append_assoc taken (trailing_zeros w64 m ∷ []) (members_of (bit_and m (m - 1))) ∙ ap (λ t. taken ++ t) (sym (members_of-lowest m some fits)) ∙ together
 
-pub taken_all : (taken s : List ℕ) (m : ℕ) → m ≡ 0 → taken ++ members_of m ≡ s → taken ≡ s
-taken_all taken s m none together = sym (append-nil taken) ∙ ap (λ t. taken ++ t) (sym (ap members_of none ∙ members_of-zero)) ∙ together
+pub members_of-taken_all : (taken s : List ℕ) (m : ℕ) → m ≡ 0 → taken ++ members_of m ≡ s → taken ≡ s
+members_of-taken_all taken s m none together = sym (append-nil taken) ∙ ap (λ t. taken ++ t) (sym (ap members_of none ∙ members_of-zero)) ∙ together
 
 -- what each call of a set does, by the words behind the sets
 pub empty_word : members_of 0 ≡ []

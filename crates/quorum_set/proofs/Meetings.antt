@@ -6,7 +6,7 @@ use mathlib.Core.Logic.{dite}
 use native.Mathlib.Decide.{ℕ_discrete, dec_le}
 use Rattle.numbers.specs.Sets.{has, meet}
 use Rattle.quorum_set.specs.Coteries.{QuorumSystem, IsCoterie}
-use Rattle.numbers.proofs.Members.{all_has}
+use Rattle.numbers.proofs.Members.{All-has}
 use Rattle.numbers.proofs.SetLemmas.{has-head}
 use Rattle.quorum_set.specs.Meetings.{Meet, AllMeet}
 
@@ -33,8 +33,8 @@ has-some : (p : List ℕ) → 0 < length p → (v : ℕ) × (has p v ≡ true) �
 has-some [] some_member = absurd (omega arith)
 has-some (x ∷ xs) some_member = (x, has-head x xs, has-head x xs)
 
-pub coterie_meets : (s : QuorumSystem) → IsCoterie s → AllMeet s.voters s.quorums
-coterie_meets s c j k lt lt' = within (shared (ℕ_discrete j k) (dec_le k j))
+pub AllMeet-coterie : (s : QuorumSystem) → IsCoterie s → AllMeet s.voters s.quorums
+AllMeet-coterie s c j k lt lt' = within (shared (ℕ_discrete j k) (dec_le k j))
   where
     p : List ℕ
     p = slice_index_or s.quorums j []
@@ -43,7 +43,7 @@ coterie_meets s c j k lt lt' = within (shared (ℕ_discrete j k) (dec_le k j))
     q = slice_index_or s.quorums k []
 
     within : ((v : ℕ) × (has p v ≡ true) × (has q v ≡ true)) → Meet s.voters p q
-    within x = (x.0, all_has (λ (i : ℕ). i < s.voters) p x.0 x.1 (c.in_range j [] lt), x.1, x.2)
+    within x = (x.0, All-has (λ (i : ℕ). i < s.voters) p x.0 x.1 (c.in_range j [] lt), x.1, x.2)
 
     shared : Dec (j ≡ k) → Dec (k ≤ j) → (v : ℕ) × (has p v ≡ true) × (has q v ≡ true)
     shared (yes same) _ = subst (λ (i : ℕ). (v : ℕ) × (has p v ≡ true) × (has (slice_index_or s.quorums i []) v ≡ true)) same (has-some p (c.not_empty j [] lt))

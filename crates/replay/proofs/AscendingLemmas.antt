@@ -36,8 +36,8 @@ pub record IsLeftTwice (xs : List ℕ) (p : ℕ) : Type 0 where
   pub left : (n : ℕ) → 2 ≤ times n xs → 2 ≤ times n (drop p xs)
   pub within : (n : ℕ) → times n (drop p xs) ≤ times n xs
 
-pub twice_more : (xs : List ℕ) (p : ℕ) → IsNonDecreasing xs → IsLeftTwice xs p → p + 1 < length xs → (get_or xs p 0 ≡ get_or xs (p + 1) 0 → ⊥) → IsLeftTwice xs (p + 1)
-twice_more xs p up so_far lt apart = record {
+pub IsLeftTwice-more : (xs : List ℕ) (p : ℕ) → IsNonDecreasing xs → IsLeftTwice xs p → p + 1 < length xs → (get_or xs p 0 ≡ get_or xs (p + 1) 0 → ⊥) → IsLeftTwice xs (p + 1)
+IsLeftTwice-more xs p up so_far lt apart = record {
   left = λ n h. elim (cases_eq (get_or xs p 0) n) [
     | inl same ↦
         let none = times-above_from n (p + 1) xs (λ i le below. omega (arith, same, apart_lt, up (p + 1) i 0 le below)) in
@@ -54,8 +54,8 @@ twice_more xs p up so_far lt apart = record {
           | inr more ↦ absurd (apart (omega arith))
         ]
 
-pub twice_found : (xs : List ℕ) (p : ℕ) → IsNonDecreasing xs → IsLeftTwice xs p → p + 1 < length xs → get_or xs p 0 ≡ get_or xs (p + 1) 0 → IsLeast (IsTwice xs) (get_or xs p 0)
-twice_found xs p up so_far lt same =
+pub IsTwice-found : (xs : List ℕ) (p : ℕ) → IsNonDecreasing xs → IsLeftTwice xs p → p + 1 < length xs → get_or xs p 0 ≡ get_or xs (p + 1) 0 → IsLeast (IsTwice xs) (get_or xs p 0)
+IsTwice-found xs p up so_far lt same =
     let x = get_or xs p 0 in (
       omega (arith, so_far.within x, times-drop_more x p xs (omega arith), times-drop_more x (p + 1) xs lt, cond_eqb-same x x refl, cond_eqb-same (get_or xs (p + 1) 0) x (sym same)),
       λ m twice. elim (cases_lt m x) [
@@ -64,8 +64,8 @@ twice_found xs p up so_far lt same =
       ],
     )
 
-pub twice_none : (xs : List ℕ) (p : ℕ) → IsLeftTwice xs p → length xs ≤ p + 1 → NoneTwice xs
-twice_none xs p so_far le = λ n twice. omega (arith, so_far.left n twice, count_by-le-length (λ k. eqb k n) (drop p xs), length-drop p xs)
+pub NoneTwice-end : (xs : List ℕ) (p : ℕ) → IsLeftTwice xs p → length xs ≤ p + 1 → NoneTwice xs
+NoneTwice-end xs p so_far le = λ n twice. omega (arith, so_far.left n twice, count_by-le-length (λ k. eqb k n) (drop p xs), length-drop p xs)
 
 -- What is missing
 
@@ -75,8 +75,8 @@ pub record IsCounted (xs : List ℕ) (p : ℕ) : Type 0 where
   pub left : (n : ℕ) → p ≤ n → times n xs ≡ times n (drop p xs)
   pub low : (i : ℕ) → p ≤ i → i < length xs → p ≤ get_or xs i 0
 
-pub counted_more : (xs : List ℕ) (p : ℕ) → IsNonDecreasing xs → NoneTwice xs → IsCounted xs p → p < length xs → get_or xs p 0 ≡ p → IsCounted xs (p + 1)
-counted_more xs p up single so_far lt at = record {
+pub IsCounted-more : (xs : List ℕ) (p : ℕ) → IsNonDecreasing xs → NoneTwice xs → IsCounted xs p → p < length xs → get_or xs p 0 ≡ p → IsCounted xs (p + 1)
+IsCounted-more xs p up single so_far lt at = record {
   seen = λ n below. elim (cases_lt n p) [
     | inl less ↦ so_far.seen n less
     | inr more ↦ subst (λ x. 1 ≤ times x xs) (omega arith) stands
@@ -104,8 +104,8 @@ counted_more xs p up single so_far lt at = record {
       | inr more ↦ absurd (other (omega arith))
     ]
 
-pub missing_found : (xs : List ℕ) (p : ℕ) → IsNonDecreasing xs → IsCounted xs p → p < length xs → (get_or xs p 0 ≡ p → ⊥) → IsLeast (IsMissing xs) p
-missing_found xs p up so_far lt other =
+pub IsMissing-found : (xs : List ℕ) (p : ℕ) → IsNonDecreasing xs → IsCounted xs p → p < length xs → (get_or xs p 0 ≡ p → ⊥) → IsLeast (IsMissing xs) p
+IsMissing-found xs p up so_far lt other =
     let low = so_far.low p (omega arith) lt in
     let none = times-above_from p p xs (λ i le below. omega (arith, above low, up p i 0 le below)) in (
       (lt, so_far.left p (omega arith) ∙ none),
@@ -121,8 +121,8 @@ missing_found xs p up so_far lt other =
       | inr more ↦ absurd (other (omega arith))
     ]
 
-pub missing_none : (xs : List ℕ) (p : ℕ) → NoneTwice xs → IsCounted xs p → length xs ≤ p → EachOnce xs
-missing_none xs p single so_far le = record {
+pub EachOnce-end : (xs : List ℕ) (p : ℕ) → NoneTwice xs → IsCounted xs p → length xs ≤ p → EachOnce xs
+EachOnce-end xs p single so_far le = record {
   in_all = refl;
   each_once = λ n lt. elim (cases_lt (times n xs) 2) [
     | inl less ↦ omega (arith, so_far.seen n (omega arith))
@@ -132,24 +132,24 @@ missing_none xs p single so_far le = record {
 
 -- The same of numbers in another order
 
-pub twice_same : (xs ys : List ℕ) (n : ℕ) → ((m : ℕ) → times m xs ≡ times m ys) → IsLeast (IsTwice xs) n → IsLeast (IsTwice ys) n
-twice_same xs ys n same least = (omega (arith, same n, least.0), λ m twice. least.1 m (omega (arith, same m, twice)))
+pub IsTwice-same : (xs ys : List ℕ) (n : ℕ) → ((m : ℕ) → times m xs ≡ times m ys) → IsLeast (IsTwice xs) n → IsLeast (IsTwice ys) n
+IsTwice-same xs ys n same least = (omega (arith, same n, least.0), λ m twice. least.1 m (omega (arith, same m, twice)))
 
-pub none_twice_same : (xs ys : List ℕ) → ((m : ℕ) → times m xs ≡ times m ys) → NoneTwice xs → NoneTwice ys
-none_twice_same xs ys same none = λ n twice. none n (omega (arith, same n, twice))
+pub NoneTwice-same : (xs ys : List ℕ) → ((m : ℕ) → times m xs ≡ times m ys) → NoneTwice xs → NoneTwice ys
+NoneTwice-same xs ys same none = λ n twice. none n (omega (arith, same n, twice))
 
-pub missing_same : (xs ys : List ℕ) (n : ℕ) → ((m : ℕ) → times m xs ≡ times m ys) → length xs ≡ length ys → IsLeast (IsMissing xs) n → IsLeast (IsMissing ys) n
-missing_same xs ys n same long least =
+pub IsMissing-same : (xs ys : List ℕ) (n : ℕ) → ((m : ℕ) → times m xs ≡ times m ys) → length xs ≡ length ys → IsLeast (IsMissing xs) n → IsLeast (IsMissing ys) n
+IsMissing-same xs ys n same long least =
     ((omega (arith, least.0.0), omega (arith, same n, least.0.1)), λ m missing. least.1 m (omega (arith, missing.0), omega (arith, same m, missing.1)))
 
-pub count_same : (xs ys : List ℕ) → ((m : ℕ) → times m xs ≡ times m ys) → length xs ≡ length ys → EachOnce xs → EachOnce ys
-count_same xs ys same long counts = record { in_all = refl; each_once = λ n lt. omega (arith, same n, counts.each_once n (omega arith)) }
+pub EachOnce-same : (xs ys : List ℕ) → ((m : ℕ) → times m xs ≡ times m ys) → length xs ≡ length ys → EachOnce xs → EachOnce ys
+EachOnce-same xs ys same long counts = record { in_all = refl; each_once = λ n lt. omega (arith, same n, counts.each_once n (omega arith)) }
 
 -- Numbers that count up
 
 -- whatever stands among them stands once
-pub single_from_count : (ns : List ℕ) → EachOnce ns → NoneTwice ns
-single_from_count ns counts = λ n twice. elim (cases_lt n (length ns)) [
+pub NoneTwice-EachOnce : (ns : List ℕ) → EachOnce ns → NoneTwice ns
+NoneTwice-EachOnce ns counts = λ n twice. elim (cases_lt n (length ns)) [
   | inl less ↦ omega (arith, counts.each_once n less)
   | inr more ↦
       let size = length ns in
@@ -167,5 +167,5 @@ single_from_count ns counts = λ n twice. elim (cases_lt n (length ns)) [
           | inr other ↦ omega (arith, times-cons n x xs, cond_eqb-other x n other, stands_above size n xs le (omega (arith, added)))
         ]
 
-pub none_missing : (ns : List ℕ) (n : ℕ) → EachOnce ns → ¬ (IsMissing ns n)
-none_missing ns n counts missing = omega (arith, counts.each_once n missing.0, missing.1)
+pub IsMissing-EachOnce : (ns : List ℕ) (n : ℕ) → EachOnce ns → ¬ (IsMissing ns n)
+IsMissing-EachOnce ns n counts missing = omega (arith, counts.each_once n missing.0, missing.1)

@@ -17,19 +17,19 @@ abbrev pub SoFar : Weighted → List Draw → ℕ → Option ℕ → Type 0
 SoFar w draws i None = All (IsRight w) (take i draws)
 SoFar w draws i (Some t) = IsWrong w draws t × All (IsNoLower w t) (take i draws)
 
-pub right_more : (w : Weighted) (draws : List Draw) (i : ℕ) (d : Draw) (found : Option ℕ) → i < length draws → SoFar w draws i found → IsRight w (get_or draws i d) → SoFar w draws (i + 1) found
-right_more w draws i d None lt so_far right = All-more (IsRight w) draws i d lt so_far right
-right_more w draws i d (Some t) lt so_far right = (so_far.0, All-more (IsNoLower w t) draws i d lt so_far.1 (inl right))
+pub SoFar-right : (w : Weighted) (draws : List Draw) (i : ℕ) (d : Draw) (found : Option ℕ) → i < length draws → SoFar w draws i found → IsRight w (get_or draws i d) → SoFar w draws (i + 1) found
+SoFar-right w draws i d None lt so_far right = All-more (IsRight w) draws i d lt so_far right
+SoFar-right w draws i d (Some t) lt so_far right = (so_far.0, All-more (IsNoLower w t) draws i d lt so_far.1 (inl right))
 
-pub wrong_more : (w : Weighted) (draws : List Draw) (i : ℕ) (d : Draw) (found : Option ℕ) (least : ℕ) → i < length draws → SoFar w draws i found → ¬ (IsRight w (get_or draws i d))
+pub SoFar-wrong : (w : Weighted) (draws : List Draw) (i : ℕ) (d : Draw) (found : Option ℕ) (least : ℕ) → i < length draws → SoFar w draws i found → ¬ (IsRight w (get_or draws i d))
     → (found ≡ None → least ≡ (get_or draws i d).1) → IfSome found (λ t. least ≡ min t (get_or draws i d).1) → SoFar w draws (i + 1) (Some least)
-wrong_more w draws i d None least lt so_far wrong first lesser =
+SoFar-wrong w draws i d None least lt so_far wrong first lesser =
     let ticket = (get_or draws i d).1 in
     let is = first refl in (
       (get_or draws i d, Contains-get_or draws i d lt, sym is, wrong),
       All-more (IsNoLower w least) draws i d lt (All-weaker (IsRight w) (IsNoLower w least) (λ x h. inl h) (take i draws) so_far) (inr (omega arith)),
     )
-wrong_more w draws i d (Some t) least lt so_far wrong first lesser =
+SoFar-wrong w draws i d (Some t) least lt so_far wrong first lesser =
     let ticket = (get_or draws i d).1 in
     elim (cases_lt ticket t) [
       | inl less ↦
@@ -62,6 +62,6 @@ least_is_wrong w draws i t le so_far =
     )
 
 -- the least wrong ticket of all
-pub wrong_end : (w : Weighted) (draws : List Draw) (i : ℕ) (found : Option ℕ) → length draws ≤ i → SoFar w draws i found → MatchOption found (All (IsRight w) draws) (IsLeast (IsWrong w draws))
-wrong_end w draws i None le so_far = all_right w draws i le so_far
-wrong_end w draws i (Some t) le so_far = least_is_wrong w draws i t le so_far
+pub SoFar-end : (w : Weighted) (draws : List Draw) (i : ℕ) (found : Option ℕ) → length draws ≤ i → SoFar w draws i found → MatchOption found (All (IsRight w) draws) (IsLeast (IsWrong w draws))
+SoFar-end w draws i None le so_far = all_right w draws i le so_far
+SoFar-end w draws i (Some t) le so_far = least_is_wrong w draws i t le so_far

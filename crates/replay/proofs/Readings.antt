@@ -122,8 +122,8 @@ world_line-one_way c l rest d m more hc hd e =
     let sizes = same_sizes c l d m hc hd parts.0 in
     (sizes.0, sizes.1, parts.1)
 
-pub same_script : (s t : Script) → IsScript s → IsScript t → script_text s ≡ script_text t → s ≡ t
-same_script s t hs ht e =
+pub script_text-unique : (s t : Script) → IsScript s → IsScript t → script_text s ≡ script_text t → s ≡ t
+script_text-unique s t hs ht e =
     let parts = world_line-one_way s.clients s.limit (steps_text s.steps) t.clients t.limit (steps_text t.steps) hs.sizes ht.sizes e in
     let steps = same_steps s.steps t.steps hs.steps ht.steps parts.2 in
     rw (parts.0, parts.1, steps) refl
@@ -131,11 +131,11 @@ same_script s t hs ht e =
 has_world : (text : List ℕ) (c l : ℕ) (rest : List ℕ) → AreSizes c l → text ≡ world_line c l ++ 10 ∷ rest → BeginsWith IsWorldLine text
 has_world text c l rest h e = (world_line c l, rest, (c, l, h, refl), e)
 
-pub same_bad_line : (text : List ℕ) (m n : ℕ) → IsFirstBad text m → IsFirstBad text n → m ≡ n
-same_bad_line text m n (inl a) (inl b) = a.0 ∙ sym b.0
-same_bad_line text m n (inl a) (inr b) = absurd (a.1 (has_world text b.clients b.limit b.body b.sizes b.text_is))
-same_bad_line text m n (inr a) (inl b) = absurd (b.1 (has_world text a.clients a.limit a.body a.sizes a.text_is))
-same_bad_line text m n (inr a) (inr b) =
+pub IsFirstBad-unique : (text : List ℕ) (m n : ℕ) → IsFirstBad text m → IsFirstBad text n → m ≡ n
+IsFirstBad-unique text m n (inl a) (inl b) = a.0 ∙ sym b.0
+IsFirstBad-unique text m n (inl a) (inr b) = absurd (a.1 (has_world text b.clients b.limit b.body b.sizes b.text_is))
+IsFirstBad-unique text m n (inr a) (inl b) = absurd (b.1 (has_world text a.clients a.limit a.body a.sizes a.text_is))
+IsFirstBad-unique text m n (inr a) (inr b) =
     let parts = world_line-one_way a.clients a.limit a.body b.clients b.limit b.body a.sizes b.sizes (sym a.text_is ∙ b.text_is) in
     let place = same_place a.steps b.steps a.ends.rest b.ends.rest a.ends.steps_have_lines b.ends.steps_have_lines a.ends.bad b.ends.bad (sym a.ends.text_is ∙ parts.2 ∙ b.ends.text_is) in
     a.line_is ∙ ap (λ k. k + 2) place ∙ sym b.line_is

@@ -10,9 +10,9 @@ use Rattle.replay.specs.RecordTexts.{AreFirst, BeginsWithNone, GoesOnBehind, Has
 abbrev pub entries : List Draw → List Pass → ℕ → Entries
 entries draws passes register = record { draws = draws; passes = passes; register = register }
 
-pub have_lines_push : {X : Type 0} (P : X → Type 0) (xs : List X) (x : X) → AllByRecursion P xs → P x → AllByRecursion P (xs ++ x ∷ [])
-have_lines_push P [] x h k = (k, tt)
-have_lines_push P (y ∷ ys) x h k = (h.0, have_lines_push P ys x h.1 k)
+pub AllByRecursion-push : {X : Type 0} (P : X → Type 0) (xs : List X) (x : X) → AllByRecursion P xs → P x → AllByRecursion P (xs ++ x ∷ [])
+AllByRecursion-push P [] x h k = (k, tt)
+AllByRecursion-push P (y ∷ ys) x h k = (h.0, AllByRecursion-push P ys x h.1 k)
 
 abbrev pub AreDraws : List ℕ → List Draw → List ℕ → Type 0
 AreDraws body draws rest = AreFirst HasDrawLine draw_line body draws rest

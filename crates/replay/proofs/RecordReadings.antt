@@ -18,7 +18,7 @@ use Rattle.replay.specs.Records.{Entries, entries_of}
 use Rattle.replay.specs.RecordTexts.{BeginsWithNone, HasDrawLine, HasLine, HasPassLine, HasText, IsBadBody, IsBadRest, IsFirstBad, MayFollow, StopsBehind, body_text, draw_line, draws_text, pass_line, passes_text, record_line, record_text, register_line, title_line}
 use Rattle.replay.proofs.LineLemmas.{Lacks-decimal, same_pair}
 use Rattle.replay.proofs.Readings.{same_line}
-use Rattle.replay.proofs.RecordLineLemmas.{Lacks-record_line, fit_line}
+use Rattle.replay.proofs.RecordLineLemmas.{Lacks-record_line, AllFit-line_numbers}
 use Rattle.replay.proofs.RecordTextLemmas.{lines_by}
 
 -- Lines
@@ -56,11 +56,11 @@ first_byte text = get_or text 0 0
 same_told : (l m : RecordLine) → HasLine l → HasLine m → record_line l ≡ record_line m → l ≡ m
 unfolding draw_by pass_by register_by first_byte
 same_told (kinds.Draw a b c) (kinds.Draw d f g) hl hm e =
-    ap draw_by (same_numbers (a ∷ b ∷ c ∷ []) (d ∷ f ∷ g ∷ []) refl (fit_line (kinds.Draw a b c) hl) (fit_line (kinds.Draw d f g) hm) (ap (drop 4) e))
+    ap draw_by (same_numbers (a ∷ b ∷ c ∷ []) (d ∷ f ∷ g ∷ []) refl (AllFit-line_numbers (kinds.Draw a b c) hl) (AllFit-line_numbers (kinds.Draw d f g) hm) (ap (drop 4) e))
 same_told (kinds.Pass a b) (kinds.Pass d f) hl hm e =
-    ap pass_by (same_numbers (a ∷ b ∷ []) (d ∷ f ∷ []) refl (fit_line (kinds.Pass a b) hl) (fit_line (kinds.Pass d f) hm) (ap (drop 4) e))
+    ap pass_by (same_numbers (a ∷ b ∷ []) (d ∷ f ∷ []) refl (AllFit-line_numbers (kinds.Pass a b) hl) (AllFit-line_numbers (kinds.Pass d f) hm) (ap (drop 4) e))
 same_told (kinds.Register a) (kinds.Register d) hl hm e =
-    ap register_by (same_numbers (a ∷ []) (d ∷ []) refl (fit_line (kinds.Register a) hl) (fit_line (kinds.Register d) hm) (ap (drop 8) e))
+    ap register_by (same_numbers (a ∷ []) (d ∷ []) refl (AllFit-line_numbers (kinds.Register a) hl) (AllFit-line_numbers (kinds.Register d) hm) (ap (drop 8) e))
 same_told (kinds.Draw a b c) (kinds.Pass d f) hl hm e = let first : ◌≡◌ {A = ℕ} 100 112 = ap first_byte e in absurd (omega arith)
 same_told (kinds.Draw a b c) (kinds.Register d) hl hm e = let first : ◌≡◌ {A = ℕ} 100 114 = ap first_byte e in absurd (omega arith)
 same_told (kinds.Pass a b) (kinds.Draw d f g) hl hm e = let first : ◌≡◌ {A = ℕ} 112 100 = ap first_byte e in absurd (omega arith)
@@ -218,16 +218,16 @@ same_behind : (x y : List ℕ) → title_line ++ 10 ∷ x ≡ title_line ++ 10 �
 same_behind x y e = ap (drop 16) e
 
 -- a record's text begins no longer one, and is no other one's
-pub same_record : (a b : Entries) (more : List ℕ) → HasText a → HasText b → record_text a ++ more ≡ record_text b → (a ≡ b) × (more ≡ [])
-same_record a b more ha hb e =
+pub record_text-unique : (a b : Entries) (more : List ℕ) → HasText a → HasText b → record_text a ++ more ≡ record_text b → (a ≡ b) × (more ≡ [])
+record_text-unique a b more ha hb e =
     let bodies = same_behind (body_text a ++ more) (body_text b) (sym (append_assoc title_line (10 ∷ body_text a) more) ∙ e) in
     same_body (body_text a ++ more) a b more [] ha hb refl (bodies ∙ sym (append-nil (body_text b)))
 
-pub same_bad_line : (text : List ℕ) (m n : ℕ) → IsFirstBad text m → IsFirstBad text n → m ≡ n
-same_bad_line text m n (inl a) (inl b) = a.0 ∙ sym b.0
-same_bad_line text m n (inl a) (inr b) = absurd (a.1 b.0 b.1)
-same_bad_line text m n (inr a) (inl b) = absurd (b.1 a.0 a.1)
-same_bad_line text m n (inr a) (inr b) =
+pub IsFirstBad-unique : (text : List ℕ) (m n : ℕ) → IsFirstBad text m → IsFirstBad text n → m ≡ n
+IsFirstBad-unique text m n (inl a) (inl b) = a.0 ∙ sym b.0
+IsFirstBad-unique text m n (inl a) (inr b) = absurd (a.1 b.0 b.1)
+IsFirstBad-unique text m n (inr a) (inl b) = absurd (b.1 a.0 a.1)
+IsFirstBad-unique text m n (inr a) (inr b) =
     let bodies = same_behind b.0 a.0 (sym b.1 ∙ a.1) in
     same_bad_body a.0 m n a.2 (rw (sym bodies) b.2)
 

@@ -7,9 +7,9 @@ abbrev pub lines_by : {X : Type 0} → (X → List ℕ) → List X → List ℕ
 lines_by f xs = text_of_lines (map f xs)
 
 -- the line of one more element
-pub lines_more : {X : Type 0} (f : X → List ℕ) (xs : List X) (i : ℕ) (d : X) (written more whole : List ℕ) → i < length xs → more ≡ written ++ (f (get_or xs i d) ++ 10 ∷ []) → written ++ lines_by f (drop i xs) ≡ whole
+pub lines_by-more : {X : Type 0} (f : X → List ℕ) (xs : List X) (i : ℕ) (d : X) (written more whole : List ℕ) → i < length xs → more ≡ written ++ (f (get_or xs i d) ++ 10 ∷ []) → written ++ lines_by f (drop i xs) ≡ whole
     → more ++ lines_by f (drop (i + 1) xs) ≡ whole
-lines_more f xs i d written more whole lt pushed left =
+lines_by-more f xs i d written more whole lt pushed left =
     let x = get_or xs i d in
     let rest = lines_by f (drop (i + 1) xs) in
     ap (λ (t : List ℕ). t ++ rest) pushed
@@ -18,13 +18,13 @@ lines_more f xs i d written more whole lt pushed left =
     ∙ left
 
 -- the line of one more element at the end
-pub lines_push : {X : Type 0} (f : X → List ℕ) (xs : List X) (x : X) (rest : List ℕ) → lines_by f (xs ++ x ∷ []) ++ rest ≡ lines_by f xs ++ (f x ++ 10 ∷ rest)
-lines_push f [] x rest = append_assoc (f x) (10 ∷ []) rest
-lines_push f (y ∷ ys) x rest =
+pub lines_by-push : {X : Type 0} (f : X → List ℕ) (xs : List X) (x : X) (rest : List ℕ) → lines_by f (xs ++ x ∷ []) ++ rest ≡ lines_by f xs ++ (f x ++ 10 ∷ rest)
+lines_by-push f [] x rest = append_assoc (f x) (10 ∷ []) rest
+lines_by-push f (y ∷ ys) x rest =
     append_assoc (f y) (10 ∷ lines_by f (ys ++ x ∷ [])) rest
-    ∙ ap (λ (t : List ℕ). f y ++ 10 ∷ t) (lines_push f ys x rest)
+    ∙ ap (λ (t : List ℕ). f y ++ 10 ∷ t) (lines_by-push f ys x rest)
     ∙ sym (append_assoc (f y) (10 ∷ lines_by f ys) (f x ++ 10 ∷ rest))
 
 -- one more line of the first list, where the second is empty
-pub first_push : {X : Type 0} (f : X → List ℕ) (xs : List X) (x : X) (body rest after : List ℕ) → body ≡ lines_by f xs ++ rest → rest ≡ f x ++ 10 ∷ after → body ≡ lines_by f (xs ++ x ∷ []) ++ after
-first_push f xs x body rest after whole next = whole ∙ ap (λ (t : List ℕ). lines_by f xs ++ t) next ∙ sym (lines_push f xs x after)
+pub lines_by-push_first : {X : Type 0} (f : X → List ℕ) (xs : List X) (x : X) (body rest after : List ℕ) → body ≡ lines_by f xs ++ rest → rest ≡ f x ++ 10 ∷ after → body ≡ lines_by f (xs ++ x ∷ []) ++ after
+lines_by-push_first f xs x body rest after whole next = whole ∙ ap (λ (t : List ℕ). lines_by f xs ++ t) next ∙ sym (lines_by-push f xs x after)

@@ -17,8 +17,8 @@ once_each ns up = record {
   each_once = λ n lt. times-permuted (length ns) n ns (subst (IsPermutation (range_with_len 0 (length ns))) (sym up) (IsPermutation-refl _)) lt;
 }
 
-pub sound_run : (c : ClusterState) (members : List MemberState) (r : RunRecord) → IsRecordOf c members r → IsSoundRecord c.office.cycle (entries_of r)
-sound_run c members r is = record {
+pub IsSoundRecord-run : (c : ClusterState) (members : List MemberState) (r : RunRecord) → IsRecordOf c members r → IsSoundRecord c.office.cycle (entries_of r)
+IsSoundRecord-run c members r is = record {
   tickets = once_each _ is.tickets;
   quorums = λ k d lt. (is.each_draw k d lt).quorum;
   numbers = once_each _ is.numbers;

@@ -9,71 +9,71 @@ use Rattle.replay.specs.declared.fault.ReplayFault.{ReplayFault}
 use Rattle.replay.specs.declared.fault.ReplayFault.TheVariants.{TicketTwice, TicketMissing, WrongQuorum, PassTwice, PassMissing, WrongRegister, BadLine, OutOfMemory}
 use Rattle.members.specs.Records.{Draw}
 use Rattle.replay.specs.Records.{EachOnce, Entries, IsFirstFault, IsFound, IsNumberFault, IsRegisterFault, IsRight, IsSoundRecord, IsTicketFault, numbers_of, tickets_of}
-use Rattle.replay.proofs.AscendingLemmas.{none_missing, single_from_count}
+use Rattle.replay.proofs.AscendingLemmas.{IsMissing-EachOnce, NoneTwice-EachOnce}
 
 -- the faults of the parts, in their order
 
-pub first_of_tickets : (w : Weighted) (e : Entries) (fault : ReplayFault) → IsTicketFault (tickets_of e.draws) fault → IsFound w e fault
-first_of_tickets w e OutOfMemory h = h
-first_of_tickets w e (TicketTwice t) h = h
-first_of_tickets w e (TicketMissing t) h = h
-first_of_tickets w e (WrongQuorum t) h = absurd h
-first_of_tickets w e (PassTwice p) h = absurd h
-first_of_tickets w e (PassMissing p) h = absurd h
-first_of_tickets w e (WrongRegister q) h = absurd h
-first_of_tickets w e (BadLine line) h = h
+pub IsFound-tickets : (w : Weighted) (e : Entries) (fault : ReplayFault) → IsTicketFault (tickets_of e.draws) fault → IsFound w e fault
+IsFound-tickets w e OutOfMemory h = h
+IsFound-tickets w e (TicketTwice t) h = h
+IsFound-tickets w e (TicketMissing t) h = h
+IsFound-tickets w e (WrongQuorum t) h = absurd h
+IsFound-tickets w e (PassTwice p) h = absurd h
+IsFound-tickets w e (PassMissing p) h = absurd h
+IsFound-tickets w e (WrongRegister q) h = absurd h
+IsFound-tickets w e (BadLine line) h = h
 
-pub first_of_numbers : (w : Weighted) (e : Entries) (fault : ReplayFault) → EachOnce (tickets_of e.draws) → All (IsRight w) e.draws → IsNumberFault (numbers_of e.passes) fault → IsFound w e fault
-first_of_numbers w e OutOfMemory counts right h = h
-first_of_numbers w e (PassTwice p) counts right h = ((counts, right), h)
-first_of_numbers w e (PassMissing p) counts right h = ((counts, right), h.0, h.1)
-first_of_numbers w e (TicketTwice t) counts right h = absurd h
-first_of_numbers w e (TicketMissing t) counts right h = absurd h
-first_of_numbers w e (WrongQuorum t) counts right h = absurd h
-first_of_numbers w e (WrongRegister q) counts right h = absurd h
-first_of_numbers w e (BadLine line) counts right h = h
+pub IsFound-numbers : (w : Weighted) (e : Entries) (fault : ReplayFault) → EachOnce (tickets_of e.draws) → All (IsRight w) e.draws → IsNumberFault (numbers_of e.passes) fault → IsFound w e fault
+IsFound-numbers w e OutOfMemory counts right h = h
+IsFound-numbers w e (PassTwice p) counts right h = ((counts, right), h)
+IsFound-numbers w e (PassMissing p) counts right h = ((counts, right), h.0, h.1)
+IsFound-numbers w e (TicketTwice t) counts right h = absurd h
+IsFound-numbers w e (TicketMissing t) counts right h = absurd h
+IsFound-numbers w e (WrongQuorum t) counts right h = absurd h
+IsFound-numbers w e (WrongRegister q) counts right h = absurd h
+IsFound-numbers w e (BadLine line) counts right h = h
 
-pub first_of_register : (w : Weighted) (e : Entries) (fault : ReplayFault) → EachOnce (tickets_of e.draws) → All (IsRight w) e.draws → EachOnce (numbers_of e.passes) → IsRegisterFault e fault → IsFound w e fault
-first_of_register w e (WrongRegister q) counts right up h = ((counts, right), up, h.0, h.1)
-first_of_register w e (PassTwice p) counts right up h = absurd h
-first_of_register w e (PassMissing p) counts right up h = absurd h
-first_of_register w e (TicketTwice t) counts right up h = absurd h
-first_of_register w e (TicketMissing t) counts right up h = absurd h
-first_of_register w e (WrongQuorum t) counts right up h = absurd h
-first_of_register w e (BadLine line) counts right up h = h
-first_of_register w e OutOfMemory counts right up h = h
+pub IsFound-register : (w : Weighted) (e : Entries) (fault : ReplayFault) → EachOnce (tickets_of e.draws) → All (IsRight w) e.draws → EachOnce (numbers_of e.passes) → IsRegisterFault e fault → IsFound w e fault
+IsFound-register w e (WrongRegister q) counts right up h = ((counts, right), up, h.0, h.1)
+IsFound-register w e (PassTwice p) counts right up h = absurd h
+IsFound-register w e (PassMissing p) counts right up h = absurd h
+IsFound-register w e (TicketTwice t) counts right up h = absurd h
+IsFound-register w e (TicketMissing t) counts right up h = absurd h
+IsFound-register w e (WrongQuorum t) counts right up h = absurd h
+IsFound-register w e (BadLine line) counts right up h = h
+IsFound-register w e OutOfMemory counts right up h = h
 
 -- only want of memory stops a sound record
-pub sound_has_no_fault : (w : Weighted) (e : Entries) (fault : ReplayFault) → IsSoundRecord w e → IsFirstFault w e fault → fault ≡ OutOfMemory
-sound_has_no_fault w e (TicketTwice t) sound h = absurd (single_from_count (tickets_of e.draws) sound.tickets t h.0)
-sound_has_no_fault w e (TicketMissing t) sound h = absurd (none_missing (tickets_of e.draws) t sound.tickets h.1.0)
-sound_has_no_fault w e (WrongQuorum t) sound h = let wrong = h.1.0 in absurd (wrong.3 (All-contains (IsRight w) e.draws wrong.0 sound.quorums wrong.1))
-sound_has_no_fault w e (PassTwice p) sound h = absurd (single_from_count (numbers_of e.passes) sound.numbers p h.1.0)
-sound_has_no_fault w e (PassMissing p) sound h = absurd (none_missing (numbers_of e.passes) p sound.numbers h.2.0)
-sound_has_no_fault w e (WrongRegister q) sound h = absurd (h.3 (sound.register ∙ sym h.2))
-sound_has_no_fault w e (BadLine line) sound h = absurd h
-sound_has_no_fault w e OutOfMemory sound h = refl
+pub IsSoundRecord-no_fault : (w : Weighted) (e : Entries) (fault : ReplayFault) → IsSoundRecord w e → IsFirstFault w e fault → fault ≡ OutOfMemory
+IsSoundRecord-no_fault w e (TicketTwice t) sound h = absurd (NoneTwice-EachOnce (tickets_of e.draws) sound.tickets t h.0)
+IsSoundRecord-no_fault w e (TicketMissing t) sound h = absurd (IsMissing-EachOnce (tickets_of e.draws) t sound.tickets h.1.0)
+IsSoundRecord-no_fault w e (WrongQuorum t) sound h = let wrong = h.1.0 in absurd (wrong.3 (All-contains (IsRight w) e.draws wrong.0 sound.quorums wrong.1))
+IsSoundRecord-no_fault w e (PassTwice p) sound h = absurd (NoneTwice-EachOnce (numbers_of e.passes) sound.numbers p h.1.0)
+IsSoundRecord-no_fault w e (PassMissing p) sound h = absurd (IsMissing-EachOnce (numbers_of e.passes) p sound.numbers h.2.0)
+IsSoundRecord-no_fault w e (WrongRegister q) sound h = absurd (h.3 (sound.register ∙ sym h.2))
+IsSoundRecord-no_fault w e (BadLine line) sound h = absurd h
+IsSoundRecord-no_fault w e OutOfMemory sound h = refl
 
 -- the tickets of a sound record fill cycles, where they are as many
-pub whole_cycles : (v w : Weighted) (draws : List Draw) (tickets : List ℕ) (k : ℕ) → v ≡ w → tickets ≡ tickets_of draws → EachOnce (tickets_of draws) → length draws ≡ k * cycle_len w → IsWholeCycles v k tickets
-whole_cycles v w draws tickets k same are counts long =
+pub IsWholeCycles-tickets : (v w : Weighted) (draws : List Draw) (tickets : List ℕ) (k : ℕ) → v ≡ w → tickets ≡ tickets_of draws → EachOnce (tickets_of draws) → length draws ≡ k * cycle_len w → IsWholeCycles v k tickets
+IsWholeCycles-tickets v w draws tickets k same are counts long =
     let all : length (tickets_of draws) ≡ k * cycle_len w = length-map draws (λ d. d.1) ∙ long in
     let whole : IsWholeCycles w k (tickets_of draws) = record { in_all = all; each_once = λ t lt. counts.each_once t (omega (arith, all)) } in
     subst (λ (x : Weighted). IsWholeCycles x k tickets) (sym same) (subst (λ (ts : List ℕ). IsWholeCycles w k ts) (sym are) whole)
 
 -- a fault that was found is the first one
-pub first_from_found : (w : Weighted) (e : Entries) (fault : ReplayFault) → IsFound w e fault → IsFirstFault w e fault
-first_from_found w e OutOfMemory h = tt
-first_from_found w e (TicketTwice t) h = h
-first_from_found w e (TicketMissing t) h = h
-first_from_found w e (WrongQuorum t) h = h
-first_from_found w e (PassTwice p) h = h
-first_from_found w e (PassMissing p) h = h
-first_from_found w e (WrongRegister q) h = h
-first_from_found w e (BadLine line) h = h
+pub IsFirstFault-IsFound : (w : Weighted) (e : Entries) (fault : ReplayFault) → IsFound w e fault → IsFirstFault w e fault
+IsFirstFault-IsFound w e OutOfMemory h = tt
+IsFirstFault-IsFound w e (TicketTwice t) h = h
+IsFirstFault-IsFound w e (TicketMissing t) h = h
+IsFirstFault-IsFound w e (WrongQuorum t) h = h
+IsFirstFault-IsFound w e (PassTwice p) h = h
+IsFirstFault-IsFound w e (PassMissing p) h = h
+IsFirstFault-IsFound w e (WrongRegister q) h = h
+IsFirstFault-IsFound w e (BadLine line) h = h
 
 -- the register is looked at last
 pub register_at_end : (w : Weighted) (e : Entries) (found : Option ReplayFault) → EachOnce (tickets_of e.draws) → All (IsRight w) e.draws → EachOnce (numbers_of e.passes)
     → MatchOption found (e.register ≡ length e.passes) (IsRegisterFault e) → MatchOption found (IsSoundRecord w e) (IsFound w e)
 register_at_end w e None counts right up is = record { tickets = counts; quorums = right; numbers = up; register = is }
-register_at_end w e (Some fault) counts right up is = first_of_register w e fault counts right up is
+register_at_end w e (Some fault) counts right up is = IsFound-register w e fault counts right up is

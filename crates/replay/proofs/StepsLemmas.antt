@@ -13,16 +13,16 @@ pub record GoesOn (found : List Step) (rest : List ℕ) (steps more : List Step)
   pub rest_is : rest ≡ steps_text more
 
 -- one more step
-pub steps_text_push : (found : List Step) (s : Step) (rest : List ℕ) → steps_text (found ++ s ∷ []) ++ rest ≡ steps_text found ++ (step_line s ++ 10 ∷ rest)
-steps_text_push [] s rest = append_assoc (step_line s) (10 ∷ []) rest
-steps_text_push (f ∷ found) s rest =
+pub steps_text-push : (found : List Step) (s : Step) (rest : List ℕ) → steps_text (found ++ s ∷ []) ++ rest ≡ steps_text found ++ (step_line s ++ 10 ∷ rest)
+steps_text-push [] s rest = append_assoc (step_line s) (10 ∷ []) rest
+steps_text-push (f ∷ found) s rest =
     append_assoc (step_line f) (10 ∷ steps_text (found ++ s ∷ [])) rest
-    ∙ ap (λ (t : List ℕ). step_line f ++ 10 ∷ t) (steps_text_push found s rest)
+    ∙ ap (λ (t : List ℕ). step_line f ++ 10 ∷ t) (steps_text-push found s rest)
     ∙ sym (append_assoc (step_line f) (10 ∷ steps_text found) (step_line s ++ 10 ∷ rest))
 
-pub HaveLines_push : (found : List Step) (s : Step) → HaveLines found → HasStepLine s → HaveLines (found ++ s ∷ [])
-HaveLines_push [] s h k = (k, tt)
-HaveLines_push (f ∷ found) s h k = (h.0, HaveLines_push found s h.1 k)
+pub HaveLines-push : (found : List Step) (s : Step) → HaveLines found → HasStepLine s → HaveLines (found ++ s ∷ [])
+HaveLines-push [] s h k = (k, tt)
+HaveLines-push (f ∷ found) s h k = (h.0, HaveLines-push found s h.1 k)
 
 -- the next step, and what is then left
 pub record IsNext (found : List Step) (rest : List ℕ) (steps : List Step) (s : Step) (more : List Step) : Type 0 where

@@ -94,15 +94,15 @@ as_many : (c : ClusterState) (before after : List MemberState) (R : MemberState 
 as_many c before after R e zip = AllZip-long R before after zip ∙ ap length e ∙ length-map (range_with_len 0 c.board.clients) (fresh_member c) ∙ length-range_with_len 0 c.board.clients
 
 -- each made so many passes
-pub each_passed : (c : ClusterState) (passes : ℕ) (before after : List MemberState) → before ≡ map (fresh_member c) (range_with_len 0 c.board.clients) → AllZip (HasServed passes) before after
+pub All-passed : (c : ClusterState) (passes : ℕ) (before after : List MemberState) → before ≡ map (fresh_member c) (range_with_len 0 c.board.clients) → AllZip (HasServed passes) before after
     → All (λ m. length m.seat.passes ≡ passes) after
-each_passed c passes before after e served =
+All-passed c passes before after e served =
     zip_right (IsFresh c) (HasServed passes) (λ m. length m.seat.passes ≡ passes) (λ x y fresh s. more_than_none passes x.seat.passes y.seat.passes fresh.passes s.worked.passes) before after (are_fresh c before e) served
 
 -- each drew so many tickets
-pub each_drew : (c : ClusterState) (passes : ℕ) (before after : List MemberState) → before ≡ map (fresh_member c) (range_with_len 0 c.board.clients) → AllZip (HasServed passes) before after
+pub All-drew : (c : ClusterState) (passes : ℕ) (before after : List MemberState) → before ≡ map (fresh_member c) (range_with_len 0 c.board.clients) → AllZip (HasServed passes) before after
     → All (λ m. length m.clerk.receipts ≡ passes) after
-each_drew c passes before after e served =
+All-drew c passes before after e served =
     zip_right (IsFresh c) (HasServed passes) (λ m. length m.clerk.receipts ≡ passes) (λ x y fresh s. more_than_none passes x.clerk.receipts y.clerk.receipts fresh.receipts s.worked.receipts) before after (are_fresh c before e) served
 
 -- what became of the client of this number
@@ -115,16 +115,16 @@ AllZip-at_client c R before after e zip k less =
     subst (λ (x : MemberState). R x (get_or after k d)) first (AllZip-get_or R before after k d d zip there)
 
 -- each passed, so each was let pass
-pub each_let : (c : ClusterState) (lets : ℕ → Bool) (passes : ℕ) (before after : List MemberState) → before ≡ map (fresh_member c) (range_with_len 0 c.board.clients) → AllZip (HasServed passes) before after → AllZip (WasLet lets) before after
+pub AreLet-served : (c : ClusterState) (lets : ℕ → Bool) (passes : ℕ) (before after : List MemberState) → before ≡ map (fresh_member c) (range_with_len 0 c.board.clients) → AllZip (HasServed passes) before after → AllZip (WasLet lets) before after
     → 0 < passes → AreLet lets c.board.clients
-each_let c lets passes before after e served zip some k less =
+AreLet-served c lets passes before after e served zip some k less =
     let s = AllZip-at_client c (HasServed passes) before after e served k less in
     subst (λ n. lets n ≡ true) s.worked.client (AllZip-at_client c (WasLet lets) before after e zip k less (omega (arith, some, more_than_none passes [] _ refl s.worked.passes)))
 
 -- and each had two turns for each pass
-pub two_turns : (c : ClusterState) (turns passes : ℕ) (before after : List MemberState) → before ≡ map (fresh_member c) (range_with_len 0 c.board.clients) → AllZip (HasServed passes) before after → AllZip (TookTurns turns) before after
+pub turns-served : (c : ClusterState) (turns passes : ℕ) (before after : List MemberState) → before ≡ map (fresh_member c) (range_with_len 0 c.board.clients) → AllZip (HasServed passes) before after → AllZip (TookTurns turns) before after
     → 1 ≤ c.board.clients → 2 * passes ≤ turns
-two_turns c turns passes before after e served zip some =
+turns-served c turns passes before after e served zip some =
     let s = AllZip-at_client c (HasServed passes) before after e served 0 some in
     omega (arith, AllZip-at_client c (TookTurns turns) before after e zip 0 some, more_than_none passes [] _ refl s.worked.passes)
 
@@ -156,9 +156,9 @@ ends_by id clients tickets passed passes (ends.TurnsSpent c) less fewer quota h 
 abbrev EndsWell : ℕ → MemberState → Type 0
 EndsWell clients m = (fault : ClusterFault) → m.fault ≡ Some fault → EndsRun clients (run_refusal fault)
 
-pub driven_ends : (c : ClusterState) (passes : ℕ) (before after : List MemberState) (fault : ClusterFault) → before ≡ map (fresh_member c) (range_with_len 0 c.board.clients)
+pub EndsRun-driven : (c : ClusterState) (passes : ℕ) (before after : List MemberState) (fault : ClusterFault) → before ≡ map (fresh_member c) (range_with_len 0 c.board.clients)
     → passes ≤ c.quota → AllZip (IsBack passes) before after → IsLeastFault after fault → EndsRun c.board.clients (run_refusal fault)
-driven_ends c passes before after fault e quota back least =
+EndsRun-driven c passes before after fault e quota back least =
     let r = least.1 in
     let found = each r.among.0 r.member r.among.1 in
     subst (EndsWell c.board.clients) r.among.2 found fault r.ended
@@ -232,14 +232,14 @@ run_of c passes before after r e served quorums is sound drawn register in_range
       sound = sound;
       tickets = is.tickets;
       numbers = is.numbers;
-      drawn = drawn ∙ sum_by_same (λ (m : MemberState). length m.clerk.receipts) passes after (each_drew c passes before after e served) ∙ ap (λ n. n * passes) many;
+      drawn = drawn ∙ sum_by_same (λ (m : MemberState). length m.clerk.receipts) passes after (All-drew c passes before after e served) ∙ ap (λ n. n * passes) many;
       register = register ∙ ap (λ n. n * passes) many;
       each_draw = λ k d lt. ((is.each_draw k d lt).client, omega (arith, in_range k d lt, ap length quorums));
       each_pass = is.each_pass;
       draws_of_each = times_of_each (λ (d : Draw). d.0) draws_of c.board.clients passes after r.draws.items is.draws (ids-are_range c passes before after e served)
-          (λ k m lt. length-map (get_or after k m).clerk.receipts (λ (x : Receipt). ((get_or after k m).requester.id, x.ticket, x.quorum)) ∙ each_drew c passes before after e served k m lt)
+          (λ k m lt. length-map (get_or after k m).clerk.receipts (λ (x : Receipt). ((get_or after k m).requester.id, x.ticket, x.quorum)) ∙ All-drew c passes before after e served k m lt)
           (λ m. All-map (λ (d : Draw). d.0 ≡ m.requester.id) (λ (x : Receipt). (m.requester.id, x.ticket, x.quorum)) m.clerk.receipts (λ k x lt. refl));
       passes_of_each = times_of_each (λ (p : Pass). p.0) passes_of c.board.clients passes after r.passes.items is.passes (ids-are_range c passes before after e served)
-          (λ k m lt. length-map (get_or after k m).seat.passes (λ (x : ℕ). ((get_or after k m).requester.id, x)) ∙ each_passed c passes before after e served k m lt)
+          (λ k m lt. length-map (get_or after k m).seat.passes (λ (x : ℕ). ((get_or after k m).requester.id, x)) ∙ All-passed c passes before after e served k m lt)
           (λ m. All-map (λ (p : Pass). p.0 ≡ m.requester.id) (λ (x : ℕ). (m.requester.id, x)) m.seat.passes (λ k x lt. refl));
     }

@@ -12,11 +12,11 @@ abbrev pub HasSize : Table → ℕ → ℕ → Type 0
 HasSize t rows columns = (length t.rows ≡ rows) × ((i : ℕ) → i < rows → length (row_of t i) ≡ columns)
 
 -- a table keeps its size at a pivot
-pub pivot_keeps : (r : Result (Unit {0}) FracFault) (t u : Table) (row col rows columns : ℕ) → OnOk r (IsPivoted t u row col) → OnErr r (u ≡ t) → HasSize t rows columns → HasSize u rows columns
-pivot_keeps (Ok x) t u row col rows columns value same size =
+pub HasSize-pivot : (r : Result (Unit {0}) FracFault) (t u : Table) (row col rows columns : ℕ) → OnOk r (IsPivoted t u row col) → OnErr r (u ≡ t) → HasSize t rows columns → HasSize u rows columns
+HasSize-pivot (Ok x) t u row col rows columns value same size =
     let count = size.0 in
     (value.shape.rows ∙ size.0, λ i lt. value.shape.columns i (omega arith) ∙ size.1 i lt)
-pivot_keeps (Err e) t u row col rows columns value same size = subst (λ v. HasSize v rows columns) (sym same) size
+HasSize-pivot (Err e) t u row col rows columns value same size = subst (λ v. HasSize v rows columns) (sym same) size
 
 -- a number that the code finds not to be at most 0
 pub positive_entry : (z e : ℤ) → le_z (to_z w128 (of_z w128 z)) (pos 0) ≡ false → FitsSigned w128 z → z ≡ e → pos 0 <ℤ e

@@ -65,9 +65,9 @@ some_pair : (a b : List ℕ) (x : List ℕ × List ℕ) → Some (a, b) ≡ Some
 some_pair a b x e = (cc, cc)
 
 -- where a text is cut
-pub cut_parts : (mark : ℕ) (bs : List ℕ) (x : List ℕ × List ℕ) → cut_at mark bs ≡ Some x
+pub cut_at-parts : (mark : ℕ) (bs : List ℕ) (x : List ℕ × List ℕ) → cut_at mark bs ≡ Some x
     → (position_or_len (λ b. eqb b mark) bs < length bs) × (x.0 ≡ before_first (λ b. eqb b mark) bs) × (x.1 ≡ after_first (λ b. eqb b mark) bs)
-cut_parts mark bs x e = by (ltb (position_or_len (λ b. eqb b mark) bs) (length bs)) refl e
+cut_at-parts mark bs x e = by (ltb (position_or_len (λ b. eqb b mark) bs) (length bs)) refl e
   where
     by : (t : Bool) → ltb (position_or_len (λ b. eqb b mark) bs) (length bs) ≡ t
         → option_map {U = List ℕ × List ℕ} (λ place. (take place bs, drop (place + 1) bs)) (cond t (Some (position_or_len (λ b. eqb b mark) bs)) None) ≡ Some x
@@ -77,20 +77,20 @@ cut_parts mark bs x e = by (ltb (position_or_len (λ b. eqb b mark) bs) (length 
 
 pub cut_at-Some : (mark : ℕ) (bs : List ℕ) (x : List ℕ × List ℕ) → cut_at mark bs ≡ Some x → bs ≡ x.0 ++ mark ∷ x.1
 cut_at-Some mark bs x e =
-    let parts = cut_parts mark bs x e in
+    let parts = cut_at-parts mark bs x e in
     let at = position-Some (λ b. eqb b mark) bs (position_or_len (λ b. eqb b mark) bs) 0 (rw (lt-ltb _ _ parts.0) refl) in
     let is : get_or bs (position_or_len (λ b. eqb b mark) bs) 0 ≡ mark = eqb-true _ _ at.1 in
     let whole = split_at_first (λ b. eqb b mark) bs 0 parts.0 in
     rw (parts.1, parts.2) (whole ∙ ap (λ t. before_first (λ b. eqb b mark) bs ++ t ∷ after_first (λ b. eqb b mark) bs) is)
 
 -- the first word, and the other words
-pub words_cut : (bs : List ℕ) (x : List ℕ × List ℕ) → cut_at 32 bs ≡ Some x → slice_split (λ b. eqb b 32) bs ≡ x.0 ∷ slice_split (λ b. eqb b 32) x.1
-words_cut bs x e =
-    let parts = cut_parts 32 bs x e in
+pub slice_split-cut_at : (bs : List ℕ) (x : List ℕ × List ℕ) → cut_at 32 bs ≡ Some x → slice_split (λ b. eqb b 32) bs ≡ x.0 ∷ slice_split (λ b. eqb b 32) x.1
+slice_split-cut_at bs x e =
+    let parts = cut_at-parts 32 bs x e in
     rw (parts.1, parts.2) (slice_split_first (λ b. eqb b 32) bs 0 parts.0)
 
-pub words_end : (bs : List ℕ) → cut_at 32 bs ≡ None → slice_split (λ b. eqb b 32) bs ≡ bs ∷ []
-words_end bs e = slice_split_none (λ b. eqb b 32) bs (by (ltb (position_or_len (λ b. eqb b 32) bs) (length bs)) refl e)
+pub slice_split-no_cut : (bs : List ℕ) → cut_at 32 bs ≡ None → slice_split (λ b. eqb b 32) bs ≡ bs ∷ []
+slice_split-no_cut bs e = slice_split_none (λ b. eqb b 32) bs (by (ltb (position_or_len (λ b. eqb b 32) bs) (length bs)) refl e)
   where
     by : (t : Bool) → ltb (position_or_len (λ b. eqb b 32) bs) (length bs) ≡ t
         → option_map {U = List ℕ × List ℕ} (λ place. (take place bs, drop (place + 1) bs)) (cond t (Some (position_or_len (λ b. eqb b 32) bs)) None) ≡ None

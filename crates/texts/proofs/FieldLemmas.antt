@@ -6,13 +6,13 @@ use Rattle.std.proofs.lemmas.Bool.Decides.{nat_tests}
 use Rattle.std.specs.Fmt.{decimal}
 use Rattle.texts.specs.Fields.{AllFit, IsBorder, fields}
 
-pub fields_push : (ns : List ℕ) (n : ℕ) → fields (ns ++ n ∷ []) ≡ fields ns ++ 32 ∷ decimal n
-fields_push [] n = append-nil _
-fields_push (m ∷ ns) n = rw (fields_push ns n) (sym (append_assoc (32 ∷ decimal m) (fields ns) (32 ∷ decimal n)))
+pub fields-push : (ns : List ℕ) (n : ℕ) → fields (ns ++ n ∷ []) ≡ fields ns ++ 32 ∷ decimal n
+fields-push [] n = append-nil _
+fields-push (m ∷ ns) n = rw (fields-push ns n) (sym (append_assoc (32 ∷ decimal m) (fields ns) (32 ∷ decimal n)))
 
-pub border_fields : (ns : List ℕ) → IsBorder (fields ns)
-border_fields [] = tt
-border_fields (n ∷ ns) = refl
+pub IsBorder-fields : (ns : List ℕ) → IsBorder (fields ns)
+IsBorder-fields [] = tt
+IsBorder-fields (n ∷ ns) = refl
 
 -- the numbers are those that were found, and others whose fields are the rest
 pub record IsLeft (found rest ns ms : List ℕ) : Type 0 where
@@ -36,15 +36,15 @@ next_number found rest ns (n ∷ ms) fewer left =
     (n, ms, record { small = left.fit.0; fit = left.fit.1; numbers = left.numbers ∙ sym (append_assoc found (n ∷ []) ms); rest_is = left.rest_is })
 
 -- once all were found, nothing is left
-pub none_left : (found rest ns ms : List ℕ) → length ns ≤ length found → IsLeft found rest ns ms → (ns ≡ found) × (rest ≡ [])
-none_left found rest ns [] all left = (left.numbers ∙ append-nil found, left.rest_is)
-none_left found rest ns (m ∷ ms) all left =
+pub IsLeft-end : (found rest ns ms : List ℕ) → length ns ≤ length found → IsLeft found rest ns ms → (ns ≡ found) × (rest ≡ [])
+IsLeft-end found rest ns [] all left = (left.numbers ∙ append-nil found, left.rest_is)
+IsLeft-end found rest ns (m ∷ ms) all left =
     let more : length ns ≡ length found + length (m ∷ ms) = ap length left.numbers ∙ length-append found (m ∷ ms) in
     absurd (omega arith)
 
-pub none_from_test : (n : ℕ) → true ≡ (n == 0) → n ≡ 0
-none_from_test n e = grind (arith, nat_tests)
+pub zero-from_test : (n : ℕ) → true ≡ (n == 0) → n ≡ 0
+zero-from_test n e = grind (arith, nat_tests)
 
-pub some_from_test : (bytes : List ℕ) → false ≡ (length bytes == 0) → bytes ≢ []
-some_from_test [] e = grind (arith, nat_tests)
-some_from_test (b ∷ bytes) e = λ none. cc
+pub some-from_test : (bytes : List ℕ) → false ≡ (length bytes == 0) → bytes ≢ []
+some-from_test [] e = grind (arith, nat_tests)
+some-from_test (b ∷ bytes) e = λ none. cc

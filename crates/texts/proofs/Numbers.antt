@@ -33,20 +33,20 @@ zero_is_short n small e =
       | inr nz ↦ absurd (omega (arith, first_decimal n (omega arith) small))
     ]
 
-pub decimal_is_utf8 : (n : ℕ) → n < 2 ^ 64 → IsUtf8 (decimal n)
-decimal_is_utf8 n small = IsUtf8-from_ascii _ (IsAscii-decimal n small)
+pub IsUtf8-decimal : (n : ℕ) → n < 2 ^ 64 → IsUtf8 (decimal n)
+IsUtf8-decimal n small = IsUtf8-from_ascii _ (IsAscii-decimal n small)
 
 digits_no_space : (ds : List ℕ) → AllDigits 10 ds → HasNoSpace ds
 digits_no_space [] h = tt
 digits_no_space (d ∷ ds) h = ((λ e. let r = digit_from_value d h.0 in absurd (omega arith)), digits_no_space ds h.1)
 
-pub decimal_no_space : (n : ℕ) → n < 2 ^ 64 → HasNoSpace (decimal n)
-decimal_no_space n small = digits_no_space _ (digits_decimal IsNumeralModel-decimal n small)
+pub HasNoSpace-decimal : (n : ℕ) → n < 2 ^ 64 → HasNoSpace (decimal n)
+HasNoSpace-decimal n small = digits_no_space _ (digits_decimal IsNumeralModel-decimal n small)
 
-pub place_of_space : (ds rest : List ℕ) → HasNoSpace ds → IsBorder rest → position_or_len (λ b. b == 32) (ds ++ rest) ≡ length ds
-place_of_space [] [] h b = refl
-place_of_space [] (x ∷ xs) h b = rw b refl
-place_of_space (d ∷ ds) rest h b = let e = place_of_space ds rest h.1 b in let ne = h.0 in grind (arith, common_steps)
+pub position_or_len-space : (ds rest : List ℕ) → HasNoSpace ds → IsBorder rest → position_or_len (λ b. b == 32) (ds ++ rest) ≡ length ds
+position_or_len-space [] [] h b = refl
+position_or_len-space [] (x ∷ xs) h b = rw b refl
+position_or_len-space (d ∷ ds) rest h b = let e = position_or_len-space ds rest h.1 b in let ne = h.0 in grind (arith, common_steps)
 
 abbrev pub is_space : ℕ → Bool
 is_space b = b == 32
@@ -55,19 +55,19 @@ one-add : (n : ℕ) → 1 + n ≡ suc n
 one-add n = omega arith
 
 -- before the first space there is none
-pub no_space_before : (bytes : List ℕ) → HasNoSpace (take (position_or_len is_space bytes) bytes)
-no_space_before [] = tt
-no_space_before (b ∷ bytes) =
+pub HasNoSpace-take : (bytes : List ℕ) → HasNoSpace (take (position_or_len is_space bytes) bytes)
+HasNoSpace-take [] = tt
+HasNoSpace-take (b ∷ bytes) =
     elim (eqb b 32) as (λ t. eqb b 32 ≡ t → HasNoSpace (take (cond (not t) (1 + position_or_len is_space bytes) 0) (b ∷ bytes))) [
       | true ↦ λ e. tt
-      | false ↦ λ e. rw (one-add (position_or_len is_space bytes)) ((let ne : b ≢ 32 = grind (arith, nat_tests) in ne), no_space_before bytes)
+      | false ↦ λ e. rw (one-add (position_or_len is_space bytes)) ((let ne : b ≢ 32 = grind (arith, nat_tests) in ne), HasNoSpace-take bytes)
     ] refl
 
 -- from there on, there is nothing or a space at the front
-pub border_from : (bytes : List ℕ) → IsBorder (drop (position_or_len is_space bytes) bytes)
-border_from [] = tt
-border_from (b ∷ bytes) =
+pub IsBorder-drop : (bytes : List ℕ) → IsBorder (drop (position_or_len is_space bytes) bytes)
+IsBorder-drop [] = tt
+IsBorder-drop (b ∷ bytes) =
     elim (eqb b 32) as (λ t. eqb b 32 ≡ t → IsBorder (drop (cond (not t) (1 + position_or_len is_space bytes) 0) (b ∷ bytes))) [
       | true ↦ λ e. (let is : b ≡ 32 = grind (arith, nat_tests) in is)
-      | false ↦ λ e. rw (one-add (position_or_len is_space bytes)) (border_from bytes)
+      | false ↦ λ e. rw (one-add (position_or_len is_space bytes)) (IsBorder-drop bytes)
     ] refl

@@ -17,9 +17,9 @@ use Rattle.voter.specs.Waiting.{Waiting, front}
 use Rattle.voter.specs.VoteMoves.{VoteMoves}
 use Rattle.voter.specs.VoterContract.{TellsVote, AllTell, Ends, IsEntry, Brings, MeetsContract}
 use Rattle.voter.specs.Steps.{Outcome, grant_to, grant_front, released, released_by, queued, queued_by, inquiry, fail_former, admitted, admitted_by, queue, freed, finish, held_stamp, is_up_to, is_older, is_grant, standing, first_some, requested, requested_by, requested_beside, compared_by, again, again_by, relinquished, relinquished_by, put_back, see, outcome_of, ends_grant, step, remind, remind_of, inquiry_again}
-use Rattle.voter.proofs.Front.{front_found}
-use Rattle.voter.proofs.Moves.{vote_moves, moves-admitted}
-use Rattle.voter.proofs.Soundness.{get_removed, get_inserted}
+use Rattle.voter.proofs.Front.{front-found}
+use Rattle.voter.proofs.Moves.{VoteMoves-outcome_of, moves-admitted}
+use Rattle.voter.proofs.Soundness.{get-removed, get-inserted}
 use Rattle.voter.proofs.Effects.{step-Some}
 
 -- A grant stays, or the message ends it.
@@ -69,8 +69,8 @@ kept_by true v w E g is ends k = inr (ends refl)
 kept_by false v w E g is ends (inl k) = inl (k.held ∙ is)
 kept_by false v w E g is ends (inr k) = absurd (none-some g (sym k.0 ∙ is))
 
-pub grant_kept : (v : VoterState) (c : ℕ) (b : VoterBody) (g : Grant) → v.held ≡ Some g → ((outcome_of v c b).state.held ≡ Some g) ⊎ Ends c b g
-grant_kept v c b g is = kept_by (ends_grant v c b) v (outcome_of v c b).state (Ends c b) g is (Ends-from_ends_grant v c b g is) (vote_moves v c b)
+pub held-kept : (v : VoterState) (c : ℕ) (b : VoterBody) (g : Grant) → v.held ≡ Some g → ((outcome_of v c b).state.held ≡ Some g) ⊎ Ends c b g
+held-kept v c b g is = kept_by (ends_grant v c b) v (outcome_of v c b).state (Ends c b) g is (Ends-from_ends_grant v c b g is) (VoteMoves-outcome_of v c b)
 
 -- Entries: what is so of the stamps that came is so of each that holds the vote or waits.
 
@@ -83,18 +83,18 @@ module _ (P : ℕ → ℕ → Type 0) where
   inserted w c s h p d t is = elim (eqb d c) as (λ b. eqb d c ≡ b → cond b (Some s) (get w d) ≡ Some t → P d t) [
     | true ↦ λ e here. let same : c ≡ d = grind (arith, nat_tests) in subst (λ n. P d n) (same_Some s t here) (subst (λ n. P n s) same p)
     | false ↦ λ e there. h d t there
-  ] refl (sym (get_inserted w c s d) ∙ is)
+  ] refl (sym (get-inserted w c s d) ∙ is)
 
   removed : (w : Waiting) (c : ℕ) → ((d t : ℕ) → get w d ≡ Some t → P d t) → (d t : ℕ) → get (remove w c) d ≡ Some t → P d t
   removed w c h d t is = elim (eqb d c) as (λ b. cond b None (get w d) ≡ Some t → P d t) [
     | true ↦ λ here. absurd (none-some t here)
     | false ↦ λ there. h d t there
-  ] (sym (get_removed w c d) ∙ is)
+  ] (sym (get-removed w c d) ∙ is)
 
   stamps-grant_to : (v : VoterState) (o : Option Request) → front v.waiting ≡ o → Stamps P v → Stamps P (grant_to v o).state
   stamps-grant_to v None is h = h
   stamps-grant_to v (Some r) is h =
-      let p = h.waiting r.client r.stamp (front_found v.waiting r is) in
+      let p = h.waiting r.client r.stamp (front-found v.waiting r is) in
       record {
         held = λ g same. subst (λ (k : Grant). P k.client k.stamp) (same_Some _ g same) p;
         waiting = removed v.waiting r.client h.waiting;
@@ -161,11 +161,11 @@ module _ (P : ℕ → ℕ → Type 0) where
   Tells c (asks.Relinquish g) = Unit {0}
   Tells c (asks.Release s) = Unit {0}
 
-  pub stamps_after : (v : VoterState) (c : ℕ) (b : VoterBody) → Tells c b → Stamps P v → Stamps P (outcome_of v c b).state
+  pub Stamps-outcome_of : (v : VoterState) (c : ℕ) (b : VoterBody) → Tells c b → Stamps P v → Stamps P (outcome_of v c b).state
   unfolding relinquished requested
-  stamps_after v c (asks.Request s) p h = stamps-requested_by _ (see v s) c s p (record { held = h.held; waiting = h.waiting })
-  stamps_after v c (asks.Relinquish n) p h = stamps-relinquished_by _ v h
-  stamps_after v c (asks.Release s) p h = stamps-released (see v s) c s (record { held = h.held; waiting = h.waiting })
+  Stamps-outcome_of v c (asks.Request s) p h = stamps-requested_by _ (see v s) c s p (record { held = h.held; waiting = h.waiting })
+  Stamps-outcome_of v c (asks.Relinquish n) p h = stamps-relinquished_by _ v h
+  Stamps-outcome_of v c (asks.Release s) p h = stamps-released (see v s) c s (record { held = h.held; waiting = h.waiting })
 
 abbrev pub Came : VoterState → ℕ → VoterBody → ℕ → ℕ → Type 0
 Came v c b d t = IsEntry v d t ⊎ Brings c b d t
@@ -182,8 +182,8 @@ entry_of : (P : ℕ → ℕ → Type 0) (w : VoterState) → Stamps P w → (d t
 entry_of P w h d t (inl e) = subst (λ n. P d n) e.3 (subst (λ n. P n e.0.stamp) e.2 (h.held e.0 e.1))
 entry_of P w h d t (inr e) = h.waiting d t e
 
-pub entries_after : (v : VoterState) (c : ℕ) (b : VoterBody) (d t : ℕ) → IsEntry (outcome_of v c b).state d t → IsEntry v d t ⊎ Brings c b d t
-entries_after v c b d t e = entry_of (Came v c b) (outcome_of v c b).state (stamps_after (Came v c b) v c b (Tells-Came v c b) (came_before v c b)) d t e
+pub IsEntry-outcome_of : (v : VoterState) (c : ℕ) (b : VoterBody) (d t : ℕ) → IsEntry (outcome_of v c b).state d t → IsEntry v d t ⊎ Brings c b d t
+IsEntry-outcome_of v c b d t e = entry_of (Came v c b) (outcome_of v c b).state (Stamps-outcome_of (Came v c b) v c b (Tells-Came v c b) (came_before v c b)) d t e
 
 -- Each LOCKED tells the vote as it stands.
 
@@ -285,11 +285,11 @@ told-relinquished_by : (b : Bool) (v : VoterState) → AllTell (relinquished_by 
 told-relinquished_by true v = told-put_back v.held v
 told-relinquished_by false v = tt
 
-pub told_after : (v : VoterState) (c : ℕ) (b : VoterBody) → AllTell (outcome_of v c b).state.held (outcome_of v c b).replies
+pub AllTell-outcome_of : (v : VoterState) (c : ℕ) (b : VoterBody) → AllTell (outcome_of v c b).state.held (outcome_of v c b).replies
 unfolding relinquished requested
-told_after v c (asks.Request s) = told-requested_by _ (see v s) c s
-told_after v c (asks.Relinquish n) = told-relinquished_by _ v
-told_after v c (asks.Release s) = told-released (see v s) c s
+AllTell-outcome_of v c (asks.Request s) = told-requested_by _ (see v s) c s
+AllTell-outcome_of v c (asks.Relinquish n) = told-relinquished_by _ v
+AllTell-outcome_of v c (asks.Release s) = told-released (see v s) c s
 
 told_again_all : (out : Bool) (v : VoterState) (held : Option Grant) (g : Grant) → AllTell held (inquiry_again out v g)
 told_again_all true v held g = (tt, tt)
@@ -299,18 +299,18 @@ told_remind : (o : Option Grant) (v : VoterState) → AllTell o (remind_of o v)
 told_remind None v = tt
 told_remind (Some g) v = (refl, told_again_all v.inquiring v (Some g) g)
 
-pub reminders_tell : (v : VoterState) → AllTell v.held (remind v)
+pub AllTell-remind : (v : VoterState) → AllTell v.held (remind v)
 unfolding remind
-reminders_tell v = told_remind v.held v
+AllTell-remind v = told_remind v.held v
 
 -- The step.
 
-pub contract_met : (v : VoterState) (m : ToVoter) (o : Outcome) → step v m ≡ Some o → MeetsContract v m o
-contract_met v m o e =
+pub MeetsContract-step : (v : VoterState) (m : ToVoter) (o : Outcome) → step v m ≡ Some o → MeetsContract v m o
+MeetsContract-step v m o e =
     let P : Outcome → Type 0 = λ p. MeetsContract v m p in
     let met : MeetsContract v m (outcome_of v m.client m.body) = record {
-      kept = grant_kept v m.client m.body;
-      entries = entries_after v m.client m.body;
-      told = told_after v m.client m.body;
+      kept = held-kept v m.client m.body;
+      entries = IsEntry-outcome_of v m.client m.body;
+      told = AllTell-outcome_of v m.client m.body;
     } in
     subst P (step-Some v m o e).1 met

@@ -10,23 +10,23 @@ use Rattle.voter.specs.declared.state.Effect.{Effect}
 use Rattle.voter.specs.declared.state.VoterState.{VoterState}
 use Rattle.voter.specs.VoteMoves.{VoteMoves}
 use Rattle.voter.specs.Steps.{Outcome, IsSound, step, unless_spent, outcome_of, is_refused, ends_grant, effect_of, effect_by, is_ended, held_stamp, is_older, is_up_to, is_grant}
-use Rattle.voter.proofs.Grants.{granted_after}
-use Rattle.voter.proofs.Moves.{vote_moves}
-use Rattle.voter.proofs.Soundness.{sound_after}
+use Rattle.voter.proofs.Grants.{granted-outcome_of}
+use Rattle.voter.proofs.Moves.{VoteMoves-outcome_of}
+use Rattle.voter.proofs.Soundness.{IsSound-outcome_of}
 use Rattle.std.proofs.lemmas.Option.{none-some, same_Some}
 
-pub step_refused : (v : VoterState) (m : ToVoter) → IsSound v → is_refused v m ≡ true → step v m ≡ None
+pub step-refused : (v : VoterState) (m : ToVoter) → IsSound v → is_refused v m ≡ true → step v m ≡ None
 unfolding step
-step_refused v m sound spent =
-    let g = granted_after v m.client m.body in
+step-refused v m sound spent =
+    let g = granted-outcome_of v m.client m.body in
     let s = sound.granted in
     let over : nat_lt v.limit (outcome_of v m.client m.body).state.granted ≡ true = grind (arith, nat_tests) in
     ap (λ b. unless_spent b (outcome_of v m.client m.body)) over
 
-pub step_taken : (v : VoterState) (m : ToVoter) → IsSound v → is_refused v m ≡ false → step v m ≡ Some (outcome_of v m.client m.body)
+pub step-taken : (v : VoterState) (m : ToVoter) → IsSound v → is_refused v m ≡ false → step v m ≡ Some (outcome_of v m.client m.body)
 unfolding step
-step_taken v m sound enough =
-    let g = granted_after v m.client m.body in
+step-taken v m sound enough =
+    let g = granted-outcome_of v m.client m.body in
     let s = sound.granted in
     let within : nat_lt v.limit (outcome_of v m.client m.body).state.granted ≡ false = grind (arith, nat_tests) in
     ap (λ b. unless_spent b (outcome_of v m.client m.body)) within
@@ -61,22 +61,22 @@ some_grant : (o : Option Grant) (c n : ℕ) → is_grant o c n ≡ true → is_s
 some_grant None c n e = e
 some_grant (Some g) c n e = refl
 
-pub ends_some : (v : VoterState) (c : ℕ) (b : VoterBody) → ends_grant v c b ≡ true → is_some v.held ≡ true
+pub held-from_ends_grant : (v : VoterState) (c : ℕ) (b : VoterBody) → ends_grant v c b ≡ true → is_some v.held ≡ true
 unfolding ends_grant
-ends_some v c (asks.Request s) e = some_older v.held c s _ e
-ends_some v c (asks.Relinquish n) e = some_grant v.held c n e
-ends_some v c (asks.Release s) e = some_up_to v.held c s e
+held-from_ends_grant v c (asks.Request s) e = some_older v.held c s _ e
+held-from_ends_grant v c (asks.Relinquish n) e = some_grant v.held c n e
+held-from_ends_grant v c (asks.Release s) e = some_up_to v.held c s e
 
-pub ended_after : (v : VoterState) (c : ℕ) (b : VoterBody) → IsSound v → is_ended v.held (outcome_of v c b).state.held ≡ ends_grant v c b
-ended_after v c b sound = ended_by (ends_grant v c b) v (outcome_of v c b).state sound (ends_some v c b) (vote_moves v c b)
+pub is_ended-outcome_of : (v : VoterState) (c : ℕ) (b : VoterBody) → IsSound v → is_ended v.held (outcome_of v c b).state.held ≡ ends_grant v c b
+is_ended-outcome_of v c b sound = ended_by (ends_grant v c b) v (outcome_of v c b).state sound (held-from_ends_grant v c b) (VoteMoves-outcome_of v c b)
 
-pub effect_refused : (v : VoterState) (m : ToVoter) → IsSound v → is_refused v m ≡ true → effect_of v m ≡ record { frees = false; refused = true }
+pub effect_of-refused : (v : VoterState) (m : ToVoter) → IsSound v → is_refused v m ≡ true → effect_of v m ≡ record { frees = false; refused = true }
 unfolding effect_of
-effect_refused v m sound spent = ap (effect_by v) (step_refused v m sound spent)
+effect_of-refused v m sound spent = ap (effect_by v) (step-refused v m sound spent)
 
-pub effect_taken : (v : VoterState) (m : ToVoter) → IsSound v → is_refused v m ≡ false → effect_of v m ≡ record { frees = ends_grant v m.client m.body; refused = false }
+pub effect_of-taken : (v : VoterState) (m : ToVoter) → IsSound v → is_refused v m ≡ false → effect_of v m ≡ record { frees = ends_grant v m.client m.body; refused = false }
 unfolding effect_of
-effect_taken v m sound enough = ap (effect_by v) (step_taken v m sound enough) ∙ (λ i. record { frees = ended_after v m.client m.body sound i; refused = false })
+effect_of-taken v m sound enough = ap (effect_by v) (step-taken v m sound enough) ∙ (λ i. record { frees = is_ended-outcome_of v m.client m.body sound i; refused = false })
 
 -- A step that is taken.
 
@@ -89,15 +89,15 @@ unfolding step
 step-Some v m o e = unspent_by _ (outcome_of v m.client m.body) o e
 
 not_refused : (v : VoterState) (m : ToVoter) → nat_lt v.limit (outcome_of v m.client m.body).state.granted ≡ false → is_refused v m ≡ false
-not_refused v m within = let g = granted_after v m.client m.body in grind (arith, nat_tests)
+not_refused v m within = let g = granted-outcome_of v m.client m.body in grind (arith, nat_tests)
 
-pub sound_step : (v : VoterState) (m : ToVoter) (o : Outcome) → IsSound v → step v m ≡ Some o → IsSound o.state
-sound_step v m o sound e =
+pub IsSound-step : (v : VoterState) (m : ToVoter) (o : Outcome) → IsSound v → step v m ≡ Some o → IsSound o.state
+IsSound-step v m o sound e =
     let t = step-Some v m o e in
-    subst (λ (p : Outcome). IsSound p.state) t.1 (sound_after v m sound (not_refused v m t.0))
+    subst (λ (p : Outcome). IsSound p.state) t.1 (IsSound-outcome_of v m sound (not_refused v m t.0))
 
-pub moves_by_effect : (v : VoterState) (m : ToVoter) (o : Outcome) → IsSound v → step v m ≡ Some o → VoteMoves (effect_of v m).frees v o.state
-moves_by_effect v m o sound e =
+pub VoteMoves-step : (v : VoterState) (m : ToVoter) (o : Outcome) → IsSound v → step v m ≡ Some o → VoteMoves (effect_of v m).frees v o.state
+VoteMoves-step v m o sound e =
     let t = step-Some v m o e in
-    let f : (effect_of v m).frees ≡ ends_grant v m.client m.body = ap (λ (x : Effect). x.frees) (effect_taken v m sound (not_refused v m t.0)) in
-    subst (λ (p : Outcome). VoteMoves (effect_of v m).frees v p.state) t.1 (subst (λ b. VoteMoves b v (outcome_of v m.client m.body).state) (sym f) (vote_moves v m.client m.body))
+    let f : (effect_of v m).frees ≡ ends_grant v m.client m.body = ap (λ (x : Effect). x.frees) (effect_of-taken v m sound (not_refused v m t.0)) in
+    subst (λ (p : Outcome). VoteMoves (effect_of v m).frees v p.state) t.1 (subst (λ b. VoteMoves b v (outcome_of v m.client m.body).state) (sym f) (VoteMoves-outcome_of v m.client m.body))

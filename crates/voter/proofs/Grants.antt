@@ -115,11 +115,11 @@ granted-relinquished_by : (b : Bool) (v : VoterState) (c n : ℕ) → is_grant v
 granted-relinquished_by true v c n e = granted-put_back v.held v ∙ ap (λ b. more b v.granted) (some_granted v.held c n e)
 granted-relinquished_by false v c n e = refl
 
-pub granted_after : (v : VoterState) (c : ℕ) (b : VoterBody) → (outcome_of v c b).state.granted ≡ more (needs_grant v c b) v.granted
+pub granted-outcome_of : (v : VoterState) (c : ℕ) (b : VoterBody) → (outcome_of v c b).state.granted ≡ more (needs_grant v c b) v.granted
 unfolding needs_grant relinquished
-granted_after v c (asks.Request s) = granted-requested (see v s) c s
-granted_after v c (asks.Relinquish n) = granted-relinquished_by _ v c n refl
-granted_after v c (asks.Release s) = granted-released (see v s) c s
+granted-outcome_of v c (asks.Request s) = granted-requested (see v s) c s
+granted-outcome_of v c (asks.Relinquish n) = granted-relinquished_by _ v c n refl
+granted-outcome_of v c (asks.Release s) = granted-released (see v s) c s
 
 -- The number of the voter, the limit and what was seen stay.
 

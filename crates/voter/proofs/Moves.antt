@@ -120,8 +120,8 @@ VoteMoves-from_see true v s w (inr k) = inr (record { granted = k.granted; grant
 VoteMoves-from_see false v s w (inl k) = inl (record { granted = k.granted; held = k.held })
 VoteMoves-from_see false v s w (inr k) = inr (k.0, record { granted = k.1.granted; grant = k.1.grant; held = k.1.held; number = k.1.number })
 
-pub vote_moves : (v : VoterState) (c : ℕ) (b : VoterBody) → VoteMoves (ends_grant v c b) v (outcome_of v c b).state
+pub VoteMoves-outcome_of : (v : VoterState) (c : ℕ) (b : VoterBody) → VoteMoves (ends_grant v c b) v (outcome_of v c b).state
 unfolding relinquished requested ends_grant
-vote_moves v c (asks.Request s) = VoteMoves-from_see _ v s _ (moves-requested_by _ (see v s) c s refl)
-vote_moves v c (asks.Relinquish n) = moves-relinquished_by _ v
-vote_moves v c (asks.Release s) = VoteMoves-from_see _ v s _ (moves-released (see v s) c s)
+VoteMoves-outcome_of v c (asks.Request s) = VoteMoves-from_see _ v s _ (moves-requested_by _ (see v s) c s refl)
+VoteMoves-outcome_of v c (asks.Relinquish n) = moves-relinquished_by _ v
+VoteMoves-outcome_of v c (asks.Release s) = VoteMoves-from_see _ v s _ (moves-released (see v s) c s)

@@ -15,7 +15,7 @@ use Rattle.std.proofs.lemmas.Bool.Decides.{nat_tests}
 use Rattle.std.proofs.lemmas.Option.{none-some}
 use Rattle.message.specs.declared.request.Request.{Request}
 use Rattle.voter.specs.Waiting.{Waiting, precedes, front, entry, waiting_of, Follows, IsQueue, without}
-use Rattle.voter.proofs.Front.{eq_by_nat, find_head, front_is, front_none, front_some, precedes_once, precedes_not_self, precedes_trans}
+use Rattle.voter.proofs.Front.{eq_by_cmp-nat, find-head, front-is, front-none, front-some, precedes-once, precedes-not_self, precedes-trans}
 
 -- the stamp of the first request of a client
 abbrev pub stamp_in : ℕ → List Request → Option ℕ
@@ -24,14 +24,14 @@ stamp_in c (r ∷ rs) = cond (eqb c r.client) (Some r.stamp) (stamp_in c rs)
 
 find_stamp : (c : ℕ) (rs : List Request) → find nat_cmp c (map entry rs) ≡ stamp_in c rs
 find_stamp c [] = refl
-find_stamp c (r ∷ rs) = find_head c (entry r) (map entry rs) ∙ ap (cond (eqb c r.client) (Some r.stamp)) (find_stamp c rs)
+find_stamp c (r ∷ rs) = find-head c (entry r) (map entry rs) ∙ ap (cond (eqb c r.client) (Some r.stamp)) (find_stamp c rs)
 
-pub get_waiting : (rs : List Request) (c : ℕ) → get (waiting_of rs) c ≡ stamp_in c rs
+pub get-waiting_of : (rs : List Request) (c : ℕ) → get (waiting_of rs) c ≡ stamp_in c rs
 unfolding waiting_of
-get_waiting rs c = get-from_entries nat_cmp_total (map entry rs) c ∙ find_stamp c rs
+get-waiting_of rs c = get-from_entries nat_cmp_total (map entry rs) c ∙ find_stamp c rs
 
-pub same_waiting : (w u : Waiting) → ((c : ℕ) → get w c ≡ get u c) → w ≡ u
-same_waiting w u h = same_map nat_cmp_total nat_cmp-IsAntisymmetric w u h
+pub Waiting-same : (w u : Waiting) → ((c : ℕ) → get w c ≡ get u c) → w ≡ u
+Waiting-same w u h = same_map nat_cmp_total nat_cmp-IsAntisymmetric w u h
 
 -- ---- the front
 
@@ -42,24 +42,24 @@ later_ones : (r : Request) (c s : ℕ) (rs : List Request) → AllByRecursion (F
 later_ones r c s [] h is = absurd (none-some s is)
 later_ones r c s (q ∷ rs) h is =
     elim (cond_eqb-Some c q.client s q.stamp _ is) [
-      | inl here ↦ precedes_once r (record { stamp = s; client = c }) (rw (here.0, here.1) h.0.later)
+      | inl here ↦ precedes-once r (record { stamp = s; client = c }) (rw (here.0, here.1) h.0.later)
       | inr later ↦ later_ones r c s rs h.1 later
     ]
 
-pub front_head : (r : Request) (rs : List Request) → IsQueue (r ∷ rs) → front (waiting_of (r ∷ rs)) ≡ Some r
-front_head r rs h = front_is (waiting_of (r ∷ rs)) r
-    (get_waiting (r ∷ rs) r.client ∙ grind (arith, nat_tests))
-    (λ c s is. elim (cond_eqb-Some c r.client s r.stamp _ (sym (get_waiting (r ∷ rs) c) ∙ is)) [
-      | inl here ↦ rw (here.0, here.1) (precedes_not_self r)
+pub front-head : (r : Request) (rs : List Request) → IsQueue (r ∷ rs) → front (waiting_of (r ∷ rs)) ≡ Some r
+front-head r rs h = front-is (waiting_of (r ∷ rs)) r
+    (get-waiting_of (r ∷ rs) r.client ∙ grind (arith, nat_tests))
+    (λ c s is. elim (cond_eqb-Some c r.client s r.stamp _ (sym (get-waiting_of (r ∷ rs) c) ∙ is)) [
+      | inl here ↦ rw (here.0, here.1) (precedes-not_self r)
       | inr later ↦ later_ones r c s rs h.1 later
     ])
 
-pub front_empty : front (waiting_of []) ≡ None
-front_empty = front_none (waiting_of []) (λ c. get_waiting [] c)
+pub front-empty : front (waiting_of []) ≡ None
+front-empty = front-none (waiting_of []) (λ c. get-waiting_of [] c)
 
-pub front_get : (rs : List Request) → IsQueue rs → front (waiting_of rs) ≡ slice_get rs 0
-front_get [] h = front_empty
-front_get (r ∷ rs) h = front_head r rs h
+pub front-waiting_of : (rs : List Request) → IsQueue rs → front (waiting_of rs) ≡ slice_get rs 0
+front-waiting_of [] h = front-empty
+front-waiting_of (r ∷ rs) h = front-head r rs h
 
 -- ---- a client leaves
 
@@ -75,8 +75,8 @@ stamp_without c q [] = grind (arith, nat_tests)
 stamp_without c q (r ∷ rs) = stamp_choice q (not (eqb r.client c)) r (without c rs) ∙ without_cases c q r.client r.stamp _ _ (stamp_without c q rs)
 
 pub waiting-without : (c : ℕ) (rs : List Request) → waiting_of (without c rs) ≡ fin.remove (waiting_of rs) c
-waiting-without c rs = same_waiting _ _ (λ q. get_waiting (without c rs) q ∙ stamp_without c q rs
-    ∙ sym (fin.get-remove nat_cmp_total (waiting_of rs) c q ∙ ap (λ b. cond b None (get (waiting_of rs) q)) (eq_by_nat q c) ∙ ap (cond (eqb q c) None) (get_waiting rs q)))
+waiting-without c rs = Waiting-same _ _ (λ q. get-waiting_of (without c rs) q ∙ stamp_without c q rs
+    ∙ sym (fin.get-remove nat_cmp_total (waiting_of rs) c q ∙ ap (λ b. cond b None (get (waiting_of rs) q)) (eq_by_cmp-nat q c) ∙ ap (cond (eqb q c) None) (get-waiting_of rs q)))
 
 all_without : (P : Request → Type 0) (c : ℕ) (rs : List Request) → AllByRecursion P rs → AllByRecursion P (without c rs)
 all_without P c [] h = tt
@@ -101,10 +101,10 @@ placed r (q ∷ rs) = cond (precedes q r) (q ∷ placed r rs) (r ∷ q ∷ rs)
 one-add : (n : ℕ) → 1 + n ≡ suc n
 one-add n = omega arith
 
-pub insert_placed : (r : Request) (rs : List Request) → insert rs (position_or_len (λ q. not (precedes q r)) rs) r ≡ placed r rs
-insert_placed r [] = refl
-insert_placed r (q ∷ rs) = elim (precedes q r) as (λ b. insert (q ∷ rs) (cond (not (not b)) (1 + position_or_len (λ p. not (precedes p r)) rs) 0) r ≡ cond b (q ∷ placed r rs) (r ∷ q ∷ rs)) [
-  | true ↦ ap (λ n. insert (q ∷ rs) n r) (one-add (position_or_len (λ p. not (precedes p r)) rs)) ∙ ap (λ (xs : List Request). q ∷ xs) (insert_placed r rs)
+pub insert-placed : (r : Request) (rs : List Request) → insert rs (position_or_len (λ q. not (precedes q r)) rs) r ≡ placed r rs
+insert-placed r [] = refl
+insert-placed r (q ∷ rs) = elim (precedes q r) as (λ b. insert (q ∷ rs) (cond (not (not b)) (1 + position_or_len (λ p. not (precedes p r)) rs) 0) r ≡ cond b (q ∷ placed r rs) (r ∷ q ∷ rs)) [
+  | true ↦ ap (λ n. insert (q ∷ rs) n r) (one-add (position_or_len (λ p. not (precedes p r)) rs)) ∙ ap (λ (xs : List Request). q ∷ xs) (insert-placed r rs)
   | false ↦ refl
 ]
 
@@ -125,8 +125,8 @@ stamp_placed r c (q ∷ rs) h = stamp_placed_choice c (precedes q r) (q ∷ plac
     ∙ placed_cases c r.client r.stamp q.client q.stamp (precedes q r) _ _ h.0 (stamp_placed r c rs h.1)
 
 pub waiting-placed : (r : Request) (rs : List Request) → IsNew r rs → waiting_of (placed r rs) ≡ fin.insert (waiting_of rs) r.client r.stamp
-waiting-placed r rs h = same_waiting _ _ (λ q. get_waiting (placed r rs) q ∙ stamp_placed r q rs h
-    ∙ sym (fin.get-insert nat_cmp_total (waiting_of rs) r.client r.stamp q ∙ ap (λ b. cond b (Some r.stamp) (get (waiting_of rs) q)) (eq_by_nat q r.client) ∙ ap (cond (eqb q r.client) (Some r.stamp)) (get_waiting rs q)))
+waiting-placed r rs h = Waiting-same _ _ (λ q. get-waiting_of (placed r rs) q ∙ stamp_placed r q rs h
+    ∙ sym (fin.get-insert nat_cmp_total (waiting_of rs) r.client r.stamp q ∙ ap (λ b. cond b (Some r.stamp) (get (waiting_of rs) q)) (eq_by_cmp-nat q r.client) ∙ ap (cond (eqb q r.client) (Some r.stamp)) (get-waiting_of rs q)))
 
 follows_placed : (q r : Request) (rs : List Request) → Follows q r → AllByRecursion (Follows q) rs → AllByRecursion (Follows q) (placed r rs)
 follows_placed q r [] f h = (f, tt)
@@ -141,7 +141,7 @@ precedes-from_not_before q r ne h = grind (arith, nat_tests)
 
 follows_all : (q r : Request) (rs : List Request) → precedes r q ≡ true → AllByRecursion (Follows q) rs → IsNew r rs → AllByRecursion (Follows r) rs
 follows_all q r [] before h new = tt
-follows_all q r (p ∷ rs) before h new = (record { later = precedes_trans r q p before h.0.later; other = new.0 }, follows_all q r rs before h.1 new.1)
+follows_all q r (p ∷ rs) before h new = (record { later = precedes-trans r q p before h.0.later; other = new.0 }, follows_all q r rs before h.1 new.1)
 
 pub queue-placed : (r : Request) (rs : List Request) → r.client < 64 → IsNew r rs → IsQueue rs → IsQueue (placed r rs)
 queue-placed r [] small new h = (small, tt, tt)
@@ -194,23 +194,23 @@ small_with r rs small h q e = elim (eqb q r.client) as (λ b. eqb q r.client ≡
   | false ↦ λ _ rest. small_clients rs h q rest
 ] refl e
 
-pub room_for : (r : Request) (rs : List Request) → r.client < 64 → IsNew r rs → IsQueue rs → length rs < 64
+pub length-IsQueue : (r : Request) (rs : List Request) → r.client < 64 → IsNew r rs → IsQueue rs → length rs < 64
 unfolding clients
-room_for r rs small new h =
+length-IsQueue r rs small new h =
     let most = length-le_from_distinct_below (r.client ∷ clients rs) 64 (IsDistinct-cons eqb r.client (clients rs) (new_apart r rs new) (IsDistinct-clients rs h)) (small_with r rs small h) in
     omega (arith, length-map rs (λ (r : Request). r.client))
 
-pub waiting_none : waiting_of [] ≡ fin.empty
+pub waiting_of-none : waiting_of [] ≡ fin.empty
 unfolding waiting_of
-waiting_none = refl
+waiting_of-none = refl
 
 removed_first : (c q s : ℕ) (o : Option ℕ) → cond (eqb q c) (Some s) (cond (eqb q c) None o) ≡ cond (eqb q c) (Some s) o
 removed_first c q s o = grind (arith, nat_tests)
 
 pub insert-remove : (w : Waiting) (c s : ℕ) → fin.insert (fin.remove w c) c s ≡ fin.insert w c s
-insert-remove w c s = same_waiting _ _ (λ q. fin.get-insert nat_cmp_total (fin.remove w c) c s q ∙ ap (cond (eq_by_cmp nat_cmp q c) (Some s)) (fin.get-remove nat_cmp_total w c q)
-    ∙ ap (λ b. cond b (Some s) (cond b None (get w q))) (eq_by_nat q c) ∙ removed_first c q s (get w q)
-    ∙ sym (fin.get-insert nat_cmp_total w c s q ∙ ap (λ b. cond b (Some s) (get w q)) (eq_by_nat q c)))
+insert-remove w c s = Waiting-same _ _ (λ q. fin.get-insert nat_cmp_total (fin.remove w c) c s q ∙ ap (cond (eq_by_cmp nat_cmp q c) (Some s)) (fin.get-remove nat_cmp_total w c q)
+    ∙ ap (λ b. cond b (Some s) (cond b None (get w q))) (eq_by_cmp-nat q c) ∙ removed_first c q s (get w q)
+    ∙ sym (fin.get-insert nat_cmp_total w c s q ∙ ap (λ b. cond b (Some s) (get w q)) (eq_by_cmp-nat q c)))
 
 pub front-insert : (w : Waiting) (c s : ℕ) → is_some (front (fin.insert w c s)) ≡ true
-front-insert w c s = front_some (fin.insert w c s) c s (fin.get-insert nat_cmp_total w c s c ∙ ap (λ b. cond b (Some s) (get w c)) (eq_by_nat c c) ∙ grind (arith, nat_tests))
+front-insert w c s = front-some (fin.insert w c s) c s (fin.get-insert nat_cmp_total w c s c ∙ ap (λ b. cond b (Some s) (get w c)) (eq_by_cmp-nat c c) ∙ grind (arith, nat_tests))

@@ -18,9 +18,9 @@ use Rattle.voter.specs.declared.state.VoterState.{VoterState}
 use Rattle.voter.specs.Waiting.{Waiting, front}
 use Rattle.voter.specs.Replies.{AllTellPlace, locked_in, locked_count, AllCarry, seen_after, AreAnswers, CarrySeen}
 use Rattle.voter.specs.Steps.{Outcome, grant_to, grant_front, released, released_by, queued, queued_by, inquiry, fail_former, admitted, admitted_by, queue, freed, finish, held_stamp, is_up_to, standing, first_some, requested, requested_by, requested_beside, compared_by, again, again_by, relinquished, relinquished_by, put_back, see, outcome_of, step, remind, remind_of, inquiry_again, IsSound}
-use Rattle.voter.proofs.Front.{front_found}
+use Rattle.voter.proofs.Front.{front-found}
 use Rattle.voter.proofs.Grants.{granted-compared_by, granted-admitted, KeepsBut-outcome_of, kept-released, up_to_own, more}
-use Rattle.voter.proofs.Soundness.{IsOrderly, get_inserted, still_none, removed_self, holder_of, orderly_see}
+use Rattle.voter.proofs.Soundness.{IsOrderly, get-inserted, get-removed_none, get-removed_self, held_stamp-holder, IsOrderly-see}
 use Rattle.voter.proofs.Effects.{step-Some}
 
 -- FAIL goes to a client that waits, INQUIRE to the holder.
@@ -44,13 +44,13 @@ unfolding released
 place-released w v c s = place-released_by w _ _ v c s
 
 inserted_self : (w : Waiting) (c s : ℕ) → get (insert w c s) c ≡ Some s
-inserted_self w c s = get_inserted w c s c ∙ grind (arith, nat_tests)
+inserted_self w c s = get-inserted w c s c ∙ grind (arith, nat_tests)
 
 -- who waited still does, when another comes
 still_waits : (w : Waiting) (c s d t : ℕ) → get w c ≡ None → get w d ≡ Some t → get (insert w c s) d ≡ Some t
 still_waits w c s d t none is = elim (eqb d c) as (λ b. eqb d c ≡ b → cond b (Some s) (get w d) ≡ Some t → get (insert w c s) d ≡ Some t) [
   | true ↦ λ e h. let same : d ≡ c = grind (arith, nat_tests) in absurd (none-some t (sym none ∙ ap (get w) (sym same) ∙ is))
-  | false ↦ λ e h. get_inserted w c s d ∙ ap (λ b. cond b (Some s) (get w d)) e ∙ is
+  | false ↦ λ e h. get-inserted w c s d ∙ ap (λ b. cond b (Some s) (get w d)) e ∙ is
 ] refl (elim (eqb d c) as (λ b. eqb d c ≡ b → cond b (Some s) (get w d) ≡ Some t) [
   | true ↦ λ e. let same : d ≡ c = grind (arith, nat_tests) in absurd (none-some t (sym none ∙ ap (get w) (sym same) ∙ is))
   | false ↦ λ e. is
@@ -65,7 +65,7 @@ place_inquiry true v w g o is waits = place_former v w o waits
 place_inquiry false v w g o is waits = ((g, is, refl, refl), place_former v w o waits)
 
 front_waits : (v : VoterState) (c s : ℕ) → get v.waiting c ≡ None → (q : Request) → front v.waiting ≡ Some q → get (insert v.waiting c s) q.client ≡ Some q.stamp
-front_waits v c s none q is = still_waits v.waiting c s q.client q.stamp none (front_found v.waiting q is)
+front_waits v c s none q is = still_waits v.waiting c s q.client q.stamp none (front-found v.waiting q is)
 
 place-queued_by : (waits granted : Bool) (v : VoterState) (g : Grant) (c s : ℕ) → v.held ≡ Some g → get v.waiting c ≡ None → AllTellPlace (queued_by waits granted v g c s).state (queued_by waits granted v g c s).replies
 place-queued_by true granted v g c s is none = (inserted_self v.waiting c s, tt)
@@ -105,7 +105,7 @@ all_append w (x ∷ xs) ys h k = (h.0, all_append w xs ys h.1 k)
 
 gone-grant_to : (v : VoterState) (o : Option Request) (c : ℕ) → get v.waiting c ≡ None → get (grant_to v o).state.waiting c ≡ None
 gone-grant_to v None c none = none
-gone-grant_to v (Some r) c none = still_none v.waiting r.client c none
+gone-grant_to v (Some r) c none = get-removed_none v.waiting r.client c none
 
 gone-grant_front : (v : VoterState) (c : ℕ) → get v.waiting c ≡ None → get (grant_front v).state.waiting c ≡ None
 unfolding grant_front
@@ -117,9 +117,9 @@ gone_by (Some u) w t stands held waits = let same = same_Some u t stands in absu
 
 gone-released_by : (holds waits : Bool) (v : VoterState) (c t : ℕ) → is_up_to (held_stamp v.held c) t ≡ holds → is_up_to (get v.waiting c) t ≡ waits → standing v c ≡ Some t → IsOrderly v → get (released_by holds waits v c t).state.waiting c ≡ None
 gone-released_by true waits v c t e f stands h =
-    let own = holder_of v.held c (sym (up_to_own (held_stamp v.held c) (get v.waiting c) t stands) ∙ e) in
+    let own = held_stamp-holder v.held c (sym (up_to_own (held_stamp v.held c) (get v.waiting c) t stands) ∙ e) in
     gone-grant_front (freed (finish v c t)) c (ap (get v.waiting) (sym own.2) ∙ h.apart own.0 own.1)
-gone-released_by false true v c t e f stands h = removed_self v.waiting c
+gone-released_by false true v c t e f stands h = get-removed_self v.waiting c
 gone-released_by false false v c t e f stands h = gone_by (held_stamp v.held c) (get v.waiting c) t stands e f
 
 gone-released : (v : VoterState) (c t : ℕ) → standing v c ≡ Some t → IsOrderly v → get (released v c t).state.waiting c ≡ None
@@ -157,7 +157,7 @@ place-relinquished_by false v = tt
 
 place_after : (v : VoterState) (c : ℕ) (b : VoterBody) → IsOrderly v → AllTellPlace (outcome_of v c b).state (outcome_of v c b).replies
 unfolding relinquished requested
-place_after v c (asks.Request s) h = place-requested_by _ (see v s) c s (orderly_see v s h)
+place_after v c (asks.Request s) h = place-requested_by _ (see v s) c s (IsOrderly-see v s h)
 place_after v c (asks.Relinquish n) h = place-relinquished_by _ v
 place_after v c (asks.Release s) h = place-released (released (see v s) c s).state (see v s) c s
 
@@ -369,8 +369,8 @@ carry_after v c (asks.Release s) = carry-released (see v s) c s
 
 -- The step.
 
-pub answers_tell : (v : VoterState) (m : ToVoter) (o : Outcome) → IsSound v → step v m ≡ Some o → AreAnswers o
-answers_tell v m o sound e =
+pub AreAnswers-step : (v : VoterState) (m : ToVoter) (o : Outcome) → IsSound v → step v m ≡ Some o → AreAnswers o
+AreAnswers-step v m o sound e =
     let brief = brief_after v m.client m.body in
     let met : AreAnswers (outcome_of v m.client m.body) = record {
       place = place_after v m.client m.body (record { numbered = sound.numbered; apart = sound.apart; free = sound.free });
@@ -379,8 +379,8 @@ answers_tell v m o sound e =
     } in
     subst AreAnswers (step-Some v m o e).1 met
 
-pub answers_carry : (v : VoterState) (m : ToVoter) (o : Outcome) → step v m ≡ Some o → CarrySeen v m o
-answers_carry v m o e =
+pub CarrySeen-step : (v : VoterState) (m : ToVoter) (o : Outcome) → step v m ≡ Some o → CarrySeen v m o
+CarrySeen-step v m o e =
     let k = KeepsBut-outcome_of v m.client m.body in
     let P : Outcome → Type 0 = λ p. CarrySeen v m p in
     let met : CarrySeen v m (outcome_of v m.client m.body) = record { carried = carry_after v m.client m.body; seen = k.seen; id = k.id; limit = k.limit } in
@@ -396,10 +396,10 @@ remind_by : (o : Option Grant) (v : VoterState) → v.held ≡ o → AllTellPlac
 remind_by None v is = (tt, tt)
 remind_by (Some g) v is = let k = remind_again v.inquiring v g is in ((tt, k.0), ((refl, refl), k.1))
 
-pub reminders_place : (v : VoterState) → AllTellPlace v (remind v)
+pub AllTellPlace-remind : (v : VoterState) → AllTellPlace v (remind v)
 unfolding remind
-reminders_place v = (remind_by v.held v refl).0
+AllTellPlace-remind v = (remind_by v.held v refl).0
 
-pub reminders_carry : (v : VoterState) → AllCarry v.id v.seen (remind v)
+pub AllCarry-remind : (v : VoterState) → AllCarry v.id v.seen (remind v)
 unfolding remind
-reminders_carry v = (remind_by v.held v refl).1
+AllCarry-remind v = (remind_by v.held v refl).1

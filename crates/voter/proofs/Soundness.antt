@@ -15,25 +15,25 @@ use Rattle.voter.specs.declared.state.Grant.{Grant}
 use Rattle.voter.specs.declared.state.VoterState.{VoterState}
 use Rattle.voter.specs.Waiting.{Waiting, front}
 use Rattle.voter.specs.Steps.{grant_to, grant_front, released, released_by, queued, queued_by, admitted, admitted_by, queue, freed, finish, held_stamp, is_up_to, standing, first_some, requested, requested_by, requested_beside, compared_by, relinquished, relinquished_by, put_back, see, outcome_of, is_refused, IsSound, start}
-use Rattle.voter.proofs.Front.{front_found, none_waits, eq_by_nat}
-use Rattle.voter.proofs.Grants.{granted_after, KeepsBut-outcome_of, up_to_own}
+use Rattle.voter.proofs.Front.{front-found, get-no_front, eq_by_cmp-nat}
+use Rattle.voter.proofs.Grants.{granted-outcome_of, KeepsBut-outcome_of, up_to_own}
 
 -- The map.
 
-pub get_removed : (w : Waiting) (c d : ℕ) → get (remove w c) d ≡ cond (eqb d c) None (get w d)
-get_removed w c d = get-remove nat_cmp_total w c d ∙ ap (λ b. cond b None (get w d)) (eq_by_nat d c)
+pub get-removed : (w : Waiting) (c d : ℕ) → get (remove w c) d ≡ cond (eqb d c) None (get w d)
+get-removed w c d = get-remove nat_cmp_total w c d ∙ ap (λ b. cond b None (get w d)) (eq_by_cmp-nat d c)
 
-pub get_inserted : (w : Waiting) (c s d : ℕ) → get (insert w c s) d ≡ cond (eqb d c) (Some s) (get w d)
-get_inserted w c s d = get-insert nat_cmp_total w c s d ∙ ap (λ b. cond b (Some s) (get w d)) (eq_by_nat d c)
+pub get-inserted : (w : Waiting) (c s d : ℕ) → get (insert w c s) d ≡ cond (eqb d c) (Some s) (get w d)
+get-inserted w c s d = get-insert nat_cmp_total w c s d ∙ ap (λ b. cond b (Some s) (get w d)) (eq_by_cmp-nat d c)
 
-pub removed_self : (w : Waiting) (c : ℕ) → get (remove w c) c ≡ None
-removed_self w c = get_removed w c c ∙ grind (arith, nat_tests)
+pub get-removed_self : (w : Waiting) (c : ℕ) → get (remove w c) c ≡ None
+get-removed_self w c = get-removed w c c ∙ grind (arith, nat_tests)
 
-pub still_none : (w : Waiting) (c d : ℕ) → get w d ≡ None → get (remove w c) d ≡ None
-still_none w c d e = get_removed w c d ∙ grind (arith, nat_tests)
+pub get-removed_none : (w : Waiting) (c d : ℕ) → get w d ≡ None → get (remove w c) d ≡ None
+get-removed_none w c d e = get-removed w c d ∙ grind (arith, nat_tests)
 
 other_inserted : (w : Waiting) (c s d : ℕ) → d ≢ c → get w d ≡ None → get (insert w c s) d ≡ None
-other_inserted w c s d ne e = get_inserted w c s d ∙ grind (arith, nat_tests)
+other_inserted w c s d ne e = get-inserted w c s d ∙ grind (arith, nat_tests)
 
 -- The vote and the queue.
 
@@ -46,13 +46,13 @@ orderly-grant_to : (v : VoterState) (o : Option Request) → front v.waiting ≡
 orderly-grant_to v None is free = record {
   numbered = λ g held. absurd (none-some g (sym free ∙ held));
   apart = λ g held. absurd (none-some g (sym free ∙ held));
-  free = λ _ c. none_waits v.waiting is c;
+  free = λ _ c. get-no_front v.waiting is c;
 }
 orderly-grant_to v (Some r) is free =
     let new : Grant = record { client = r.client; stamp = r.stamp; grant = v.granted + 1 } in
     record {
       numbered = λ g held. let same = ap (λ (k : Grant). k.grant) (same_Some new g held) in omega arith;
-      apart = λ g held. ap (get (remove v.waiting r.client)) (sym (ap (λ (k : Grant). k.client) (same_Some new g held))) ∙ removed_self v.waiting r.client;
+      apart = λ g held. ap (get (remove v.waiting r.client)) (sym (ap (λ (k : Grant). k.client) (same_Some new g held))) ∙ get-removed_self v.waiting r.client;
       free = λ none. absurd (none-some new (sym none));
     }
 
@@ -64,8 +64,8 @@ orderly-released_by : (holds waits : Bool) (v : VoterState) (c s : ℕ) → IsOr
 orderly-released_by true waits v c s h = orderly-grant_front (freed (finish v c s)) refl
 orderly-released_by false true v c s h = record {
   numbered = h.numbered;
-  apart = λ g held. still_none v.waiting c g.client (h.apart g held);
-  free = λ none d. still_none v.waiting c d (h.free none d);
+  apart = λ g held. get-removed_none v.waiting c g.client (h.apart g held);
+  free = λ none d. get-removed_none v.waiting c d (h.free none d);
 }
 orderly-released_by false false v c s h = record { numbered = h.numbered; apart = h.apart; free = h.free }
 
@@ -104,7 +104,7 @@ away-grant_to : (v : VoterState) (o : Option Request) (c : ℕ) → front v.wait
 away-grant_to v None c is free none = ap (λ (h : Option Grant). held_stamp h c) free
 away-grant_to v (Some r) c is free none =
     elim (eqb r.client c) as (λ b. eqb r.client c ≡ b → cond b (Some r.stamp) None ≡ None) [
-      | true ↦ λ e. let same : r.client ≡ c = grind (arith, nat_tests) in absurd (none-some r.stamp (sym (ap (get v.waiting) same ∙ none) ∙ front_found v.waiting r is))
+      | true ↦ λ e. let same : r.client ≡ c = grind (arith, nat_tests) in absurd (none-some r.stamp (sym (ap (get v.waiting) same ∙ none) ∙ front-found v.waiting r is))
       | false ↦ λ e. refl
     ] refl
 
@@ -116,13 +116,13 @@ none_of : (o : Option ℕ) → is_some o ≡ false → o ≡ None
 none_of None e = refl
 none_of (Some s) e = absurd (false≢true (sym e))
 
-pub holder_of : (o : Option Grant) (c : ℕ) → is_some (held_stamp o c) ≡ true → (g : Grant) × (o ≡ Some g) × (g.client ≡ c)
-holder_of None c e = absurd (false≢true e)
-holder_of (Some g) c e = (g, refl, grind (arith, nat_tests))
+pub held_stamp-holder : (o : Option Grant) (c : ℕ) → is_some (held_stamp o c) ≡ true → (g : Grant) × (o ≡ Some g) × (g.client ≡ c)
+held_stamp-holder None c e = absurd (false≢true e)
+held_stamp-holder (Some g) c e = (g, refl, grind (arith, nat_tests))
 
 away-released_by : (holds waits : Bool) (v : VoterState) (c t : ℕ) → is_up_to (held_stamp v.held c) t ≡ holds → standing v c ≡ Some t → IsOrderly v → held_stamp (released_by holds waits v c t).state.held c ≡ None
 away-released_by true waits v c t e stands h =
-    let own = holder_of v.held c (sym (up_to_own (held_stamp v.held c) (get v.waiting c) t stands) ∙ e) in
+    let own = held_stamp-holder v.held c (sym (up_to_own (held_stamp v.held c) (get v.waiting c) t stands) ∙ e) in
     away-grant_front (freed (finish v c t)) c refl (ap (get v.waiting) (sym own.2) ∙ h.apart own.0 own.1)
 away-released_by false true v c t e stands h = none_of (held_stamp v.held c) (sym (up_to_own (held_stamp v.held c) (get v.waiting c) t stands) ∙ e)
 away-released_by false false v c t e stands h = none_of (held_stamp v.held c) (sym (up_to_own (held_stamp v.held c) (get v.waiting c) t stands) ∙ e)
@@ -157,28 +157,28 @@ orderly-relinquished_by : (b : Bool) (v : VoterState) → IsOrderly v → IsOrde
 orderly-relinquished_by true v h = orderly-put_back v.held v h
 orderly-relinquished_by false v h = h
 
-pub orderly_see : (v : VoterState) (s : ℕ) → IsOrderly v → IsOrderly (see v s)
-orderly_see v s h = record { numbered = h.numbered; apart = h.apart; free = h.free }
+pub IsOrderly-see : (v : VoterState) (s : ℕ) → IsOrderly v → IsOrderly (see v s)
+IsOrderly-see v s h = record { numbered = h.numbered; apart = h.apart; free = h.free }
 
-pub orderly_after : (v : VoterState) (c : ℕ) (b : VoterBody) → IsOrderly v → IsOrderly (outcome_of v c b).state
+pub IsOrderly-outcome_of : (v : VoterState) (c : ℕ) (b : VoterBody) → IsOrderly v → IsOrderly (outcome_of v c b).state
 unfolding relinquished requested
-orderly_after v c (asks.Request s) h = orderly-requested_by _ (see v s) c s (orderly_see v s h)
-orderly_after v c (asks.Relinquish n) h = orderly-relinquished_by _ v h
-orderly_after v c (asks.Release s) h = orderly-released (see v s) c s (orderly_see v s h)
+IsOrderly-outcome_of v c (asks.Request s) h = orderly-requested_by _ (see v s) c s (IsOrderly-see v s h)
+IsOrderly-outcome_of v c (asks.Relinquish n) h = orderly-relinquished_by _ v h
+IsOrderly-outcome_of v c (asks.Release s) h = orderly-released (see v s) c s (IsOrderly-see v s h)
 
 -- With the limit.
 
-pub sound_after : (v : VoterState) (m : ToVoter) → IsSound v → is_refused v m ≡ false → IsSound (outcome_of v m.client m.body).state
-sound_after v m sound enough =
-    let g = granted_after v m.client m.body in
+pub IsSound-outcome_of : (v : VoterState) (m : ToVoter) → IsSound v → is_refused v m ≡ false → IsSound (outcome_of v m.client m.body).state
+IsSound-outcome_of v m sound enough =
+    let g = granted-outcome_of v m.client m.body in
     let k = KeepsBut-outcome_of v m.client m.body in
     let s = sound.granted in
     let l = sound.limit in
-    let o = orderly_after v m.client m.body (record { numbered = sound.numbered; apart = sound.apart; free = sound.free }) in
+    let o = IsOrderly-outcome_of v m.client m.body (record { numbered = sound.numbered; apart = sound.apart; free = sound.free }) in
     record { limit = rw k.limit l; granted = (let same = k.limit in grind (arith, nat_tests)); numbered = o.numbered; apart = o.apart; free = o.free }
 
-pub sound_start : (id limit : ℕ) → limit ≤ 2 ^ 40 → IsSound (start id limit)
-sound_start id limit most = record {
+pub IsSound-start : (id limit : ℕ) → limit ≤ 2 ^ 40 → IsSound (start id limit)
+IsSound-start id limit most = record {
   limit = most;
   granted = omega arith;
   numbered = λ g held. absurd (none-some g held);

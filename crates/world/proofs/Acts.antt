@@ -66,8 +66,8 @@ vote-Ok w os vs ds m replies n u is step wrote same sent state =
     ap (λ (l : List VoterState). record w { voters = l; sent = w.sent ++ map kinds.ToClient replies }) list ∙ sym state in
     ap (λ r. after_voter w m.voter r) now ∙ (λ i. Ok (record { sent = sym sent i; seen = Nothing; state = world i }))
 
-pub not_voted : (w : WorldState) (os : List VoterState) (m : ToVoter) → os ≡ w.voters → voter.step (voter_at os m.voter) m ≡ None → vote w m ≡ Err (faults.Voter GrantsSpent)
-not_voted w os m is step = ap (λ r. after_voter w m.voter r) (subst (λ (l : List VoterState). voter.step (voter_at l m.voter) m ≡ None) is step)
+pub vote-not_voted : (w : WorldState) (os : List VoterState) (m : ToVoter) → os ≡ w.voters → voter.step (voter_at os m.voter) m ≡ None → vote w m ≡ Err (faults.Voter GrantsSpent)
+vote-not_voted w os m is step = ap (λ r. after_voter w m.voter r) (subst (λ (l : List VoterState). voter.step (voter_at l m.voter) m ≡ None) is step)
 
 -- ---- messages alone
 
@@ -84,10 +84,10 @@ some_of : (o : Option voter.Outcome) → is_none o ≡ false → (x : voter.Outc
 some_of None e = absurd (false≢true (sym e))
 some_of (Some x) e = (x, refl)
 
-pub refuses_vote : (w : WorldState) (os : List VoterState) (m : ToVoter) → os ≡ w.voters → is_none (voter.step (voter_at os m.voter) m) ≡ true → vote w m ≡ Err (faults.Voter GrantsSpent)
-refuses_vote w os m is e = not_voted w os m is (none_of _ e)
+pub vote-refused : (w : WorldState) (os : List VoterState) (m : ToVoter) → os ≡ w.voters → is_none (voter.step (voter_at os m.voter) m) ≡ true → vote w m ≡ Err (faults.Voter GrantsSpent)
+vote-refused w os m is e = vote-not_voted w os m is (none_of _ e)
 
-pub allows_vote : (w : WorldState) (os : List VoterState) (m : ToVoter) → os ≡ w.voters → is_none (voter.step (voter_at os m.voter) m) ≡ false → (p : Outcome) × (vote w m ≡ Ok p)
-allows_vote w os m is e =
+pub vote-allowed : (w : WorldState) (os : List VoterState) (m : ToVoter) → os ≡ w.voters → is_none (voter.step (voter_at os m.voter) m) ≡ false → (p : Outcome) × (vote w m ≡ Ok p)
+vote-allowed w os m is e =
     let o = some_of _ e in
     (voter_did w m.voter o.0, ap (λ r. after_voter w m.voter r) (subst (λ (l : List VoterState). voter.step (voter_at l m.voter) m ≡ Some o.0) is o.1))

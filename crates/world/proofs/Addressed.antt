@@ -6,7 +6,7 @@ use Rattle.message.specs.declared.message.ToClient.{ToClient}
 use Rattle.message.specs.declared.message.Message.TheVariants as kinds
 use Rattle.world.specs.Ranges.{IsAddressed, IsNumbered}
 use Rattle.world.specs.Steps.{WorldState, client_at, voter_at}
-use Rattle.world.proofs.Claims.{all_get}
+use Rattle.world.proofs.Claims.{AllByRecursion-get}
 
 pub record ForVoter (w : WorldState) (m : ToVoter) : Type 0 where
   pub voter : m.voter < length w.voters
@@ -18,16 +18,16 @@ pub record ForClient (w : WorldState) (m : ToClient) : Type 0 where
   pub id : (client_at w.clients m.client).id ≡ m.client
   pub voter : m.voter < 64
 
-pub for_voter : (w : WorldState) → IsNumbered w → (k : ℕ) (m : ToVoter) → slice_get w.sent k ≡ Some (kinds.ToVoter m) → ForVoter w m
-for_voter w ok k m is =
-    let a = all_get (IsAddressed w) w.sent k (kinds.ToVoter m) ok.messages is in
+pub ForVoter-sent : (w : WorldState) → IsNumbered w → (k : ℕ) (m : ToVoter) → slice_get w.sent k ≡ Some (kinds.ToVoter m) → ForVoter w m
+ForVoter-sent w ok k m is =
+    let a = AllByRecursion-get (IsAddressed w) w.sent k (kinds.ToVoter m) ok.messages is in
     let few = ok.few_clients in
     let below = a.0 in
     record { voter = a.1; id = ok.voters m.voter a.1; client = omega arith }
 
-pub for_client : (w : WorldState) → IsNumbered w → (k : ℕ) (m : ToClient) → slice_get w.sent k ≡ Some (kinds.ToClient m) → ForClient w m
-for_client w ok k m is =
-    let a = all_get (IsAddressed w) w.sent k (kinds.ToClient m) ok.messages is in
+pub ForClient-sent : (w : WorldState) → IsNumbered w → (k : ℕ) (m : ToClient) → slice_get w.sent k ≡ Some (kinds.ToClient m) → ForClient w m
+ForClient-sent w ok k m is =
+    let a = AllByRecursion-get (IsAddressed w) w.sent k (kinds.ToClient m) ok.messages is in
     let few = ok.few_voters in
     let below = a.1 in
     record { client = a.0; id = ok.clients m.client a.0; voter = omega arith }

@@ -90,17 +90,17 @@ busy_by : (a b : Bool) → (a ≡ true → b ≡ true) → b ≡ false → a ≡
 busy_by true b goes is = absurd (false≢true (sym is ∙ goes refl))
 busy_by false b goes is = refl
 
-pub busy_before : (x y : ClientState) → IsLater x y → x.stamp ≡ y.stamp → is_idle y.phase ≡ false → is_idle x.phase ≡ false
-busy_before x y later same busy = busy_by (is_idle x.phase) (is_idle y.phase) (later.idle same) busy
+pub is_idle-before : (x y : ClientState) → IsLater x y → x.stamp ≡ y.stamp → is_idle y.phase ≡ false → is_idle x.phase ≡ false
+is_idle-before x y later same busy = busy_by (is_idle x.phase) (is_idle y.phase) (later.idle same) busy
 
-pub live_before : (x y : ClientState) (v s g : ℕ) → IsLater x y → s ≤ x.stamp → IsLive y v s g → IsLive x v s g
-live_before x y v s g later known live =
+pub IsLive-before : (x y : ClientState) (v s g : ℕ) → IsLater x y → s ≤ x.stamp → IsLive y v s g → IsLive x v s g
+IsLive-before x y v s g later known live =
     let rises = later.stamp in
     let now = live.current in
     let same : x.stamp ≡ y.stamp = omega arith in
     let over = later.last v in
     let above = live.fresh in
-    record { busy = busy_before x y later same live.busy; current = now ∙ sym same; fresh = omega arith }
+    record { busy = is_idle-before x y later same live.busy; current = now ∙ sym same; fresh = omega arith }
 
 less_or_same : (a b : ℕ) → a ≤ b → (a < b) ⊎ (a ≡ b)
 less_or_same a b h = elim (ltb a b) as (λ t. ltb a b ≡ t → (a < b) ⊎ (a ≡ b)) [
@@ -117,7 +117,7 @@ ask_later x y v (asks.Release s) later ok =
       omega arith,
       λ busy. elim (less_or_same x.stamp y.stamp rises) [
         | inl less ↦ omega arith
-        | inr same ↦ let before = ok.1 (busy_before x y later same busy) in omega arith
+        | inr same ↦ let before = ok.1 (is_idle-before x y later same busy) in omega arith
       ],
     )
 
@@ -125,19 +125,19 @@ tell_later : (x y : ClientState) (held : Option Grant) (v c : ℕ) (b : ClientBo
 tell_later x y held v c (tells.Locked s g) later ok =
     let rises = later.stamp in
     let known = ok.0 in
-    (omega arith, λ live. ok.1 (live_before x y v s g later known live))
+    (omega arith, λ live. ok.1 (IsLive-before x y v s g later known live))
 tell_later x y held v c (tells.Fail s) later ok = tt
 tell_later x y held v c (tells.Inquire g) later ok = tt
 
-pub later_self : (x : ClientState) → IsLater x x
-later_self x = record { stamp = omega arith; last = λ v. omega arith; idle = λ _ idle. idle }
+pub IsLater-self : (x : ClientState) → IsLater x x
+IsLater-self x = record { stamp = omega arith; last = λ v. omega arith; idle = λ _ idle. idle }
 
 message_later : (X W : ℕ → ClientState) (Y : ℕ → VoterState) → ((c : ℕ) → IsLater (X c) (W c)) → (m : Message) → MessageOk X Y m → MessageOk W Y m
 message_later X W Y later (kinds.ToVoter m) ok = ask_later (X m.client) (W m.client) m.voter m.body (later m.client) ok
 message_later X W Y later (kinds.ToClient m) ok = tell_later (X m.client) (W m.client) (Y m.voter).held m.voter m.client m.body (later m.client) ok
 
-pub voter_later : (b : Bounds) (X W : ℕ → ClientState) → ((c : ℕ) → IsLater (X c) (W c)) → (y : VoterState) → VoterOk b X y → VoterOk b W y
-voter_later b X W later y ok = record {
+pub VoterOk-later : (b : Bounds) (X W : ℕ → ClientState) → ((c : ℕ) → IsLater (X c) (W c)) → (y : VoterState) → VoterOk b X y → VoterOk b W y
+VoterOk-later b X W later y ok = record {
   sound = ok.sound;
   entries = λ c s is.
       let e = ok.entries c s is in
@@ -152,15 +152,15 @@ voter_later b X W later y ok = record {
 -- ---- a vote moves
 
 -- a message that is so ends no vote that its holder may still count
-pub no_kill : (x : ClientState) (v c : ℕ) (b : VoterBody) (h : Grant) → AskOk x v b → IsLive x v h.stamp h.grant → Ends c b h → ⊥
-no_kill x v c (asks.Request s) h ok live ends = let now = live.current in let less = ends.1 in omega arith
-no_kill x v c (asks.Relinquish g) h ok live ends = let above = live.fresh in let same = ends.1 in omega arith
-no_kill x v c (asks.Release s) h ok live ends = let now = live.current in let most = ends.1 in let less = ok.1 live.busy in omega arith
+pub AskOk-not_ends : (x : ClientState) (v c : ℕ) (b : VoterBody) (h : Grant) → AskOk x v b → IsLive x v h.stamp h.grant → Ends c b h → ⊥
+AskOk-not_ends x v c (asks.Request s) h ok live ends = let now = live.current in let less = ends.1 in omega arith
+AskOk-not_ends x v c (asks.Relinquish g) h ok live ends = let above = live.fresh in let same = ends.1 in omega arith
+AskOk-not_ends x v c (asks.Release s) h ok live ends = let now = live.current in let most = ends.1 in let less = ok.1 live.busy in omega arith
 
-pub ends_client : (c : ℕ) (b : VoterBody) (h : Grant) → Ends c b h → h.client ≡ c
-ends_client c (asks.Request s) h ends = ends.0
-ends_client c (asks.Relinquish g) h ends = ends.0
-ends_client c (asks.Release s) h ends = ends.0
+pub Ends-client : (c : ℕ) (b : VoterBody) (h : Grant) → Ends c b h → h.client ≡ c
+Ends-client c (asks.Request s) h ends = ends.0
+Ends-client c (asks.Relinquish g) h ends = ends.0
+Ends-client c (asks.Release s) h ends = ends.0
 
 -- how the votes of all voters change in one step
 abbrev pub VotesKeep : (ℕ → VoterState) → (ℕ → VoterState) → (ℕ → Grant → Type 0) → Type 0
@@ -190,36 +190,36 @@ message_keeps X Y Z Killed keep spares (kinds.ToClient m) ok = tell_keeps X Y Z 
 
 -- ---- lists of messages
 
-pub all_map : (P Q : Message → Type 0) → ((m : Message) → P m → Q m) → (ms : List Message) → AllByRecursion P ms → AllByRecursion Q ms
-all_map P Q f [] h = tt
-all_map P Q f (m ∷ ms) h = (f m h.0, all_map P Q f ms h.1)
+pub AllByRecursion-map : (P Q : Message → Type 0) → ((m : Message) → P m → Q m) → (ms : List Message) → AllByRecursion P ms → AllByRecursion Q ms
+AllByRecursion-map P Q f [] h = tt
+AllByRecursion-map P Q f (m ∷ ms) h = (f m h.0, AllByRecursion-map P Q f ms h.1)
 
-pub all_append : (P : Message → Type 0) (ms ns : List Message) → AllByRecursion P ms → AllByRecursion P ns → AllByRecursion P (ms ++ ns)
-all_append P [] ns h k = k
-all_append P (m ∷ ms) ns h k = (h.0, all_append P ms ns h.1 k)
+pub AllByRecursion-append : (P : Message → Type 0) (ms ns : List Message) → AllByRecursion P ms → AllByRecursion P ns → AllByRecursion P (ms ++ ns)
+AllByRecursion-append P [] ns h k = k
+AllByRecursion-append P (m ∷ ms) ns h k = (h.0, AllByRecursion-append P ms ns h.1 k)
 
-pub all_get : (P : Message → Type 0) (ms : List Message) (k : ℕ) (m : Message) → AllByRecursion P ms → slice_get ms k ≡ Some m → P m
-all_get P [] k m h is = absurd (none-some m is)
-all_get P (n ∷ ns) zero m h is = subst P (same_Some n m is) h.0
-all_get P (n ∷ ns) (suc k) m h is = all_get P ns k m h.1 is
+pub AllByRecursion-get : (P : Message → Type 0) (ms : List Message) (k : ℕ) (m : Message) → AllByRecursion P ms → slice_get ms k ≡ Some m → P m
+AllByRecursion-get P [] k m h is = absurd (none-some m is)
+AllByRecursion-get P (n ∷ ns) zero m h is = subst P (same_Some n m is) h.0
+AllByRecursion-get P (n ∷ ns) (suc k) m h is = AllByRecursion-get P ns k m h.1 is
 
-pub messages_keep : (X : ℕ → ClientState) (Y Z : ℕ → VoterState) (Killed : ℕ → Grant → Type 0) → VotesKeep Y Z Killed → SparesLive X Killed
+pub MessageOk-keep : (X : ℕ → ClientState) (Y Z : ℕ → VoterState) (Killed : ℕ → Grant → Type 0) → VotesKeep Y Z Killed → SparesLive X Killed
     → (ms : List Message) → AllByRecursion (MessageOk X Y) ms → AllByRecursion (MessageOk X Z) ms
-messages_keep X Y Z Killed keep spares ms h = all_map (MessageOk X Y) (MessageOk X Z) (message_keeps X Y Z Killed keep spares) ms h
+MessageOk-keep X Y Z Killed keep spares ms h = AllByRecursion-map (MessageOk X Y) (MessageOk X Z) (message_keeps X Y Z Killed keep spares) ms h
 
-pub messages_later : (X W : ℕ → ClientState) (Y : ℕ → VoterState) → ((c : ℕ) → IsLater (X c) (W c)) → (ms : List Message) → AllByRecursion (MessageOk X Y) ms → AllByRecursion (MessageOk W Y) ms
-messages_later X W Y later ms h = all_map (MessageOk X Y) (MessageOk W Y) (message_later X W Y later) ms h
+pub MessageOk-later : (X W : ℕ → ClientState) (Y : ℕ → VoterState) → ((c : ℕ) → IsLater (X c) (W c)) → (ms : List Message) → AllByRecursion (MessageOk X Y) ms → AllByRecursion (MessageOk W Y) ms
+MessageOk-later X W Y later ms h = AllByRecursion-map (MessageOk X Y) (MessageOk W Y) (message_later X W Y later) ms h
 
 -- ---- one client, one voter changes
 
 abbrev pub put : {A : Type 0} → (ℕ → A) → ℕ → A → ℕ → A
 put X c x q = cond (eqb q c) x (X q)
 
-pub put_at : {A : Type 0} (P : ℕ → A → Type 0) (X : ℕ → A) (c : ℕ) (x : A) → P c x → ((q : ℕ) → P q (X q)) → (q : ℕ) → P q (put X c x q)
-put_at P X c x here others q = elim (eqb q c) as (λ b. eqb q c ≡ b → P q (cond b x (X q))) [
+pub put-each : {A : Type 0} (P : ℕ → A → Type 0) (X : ℕ → A) (c : ℕ) (x : A) → P c x → ((q : ℕ) → P q (X q)) → (q : ℕ) → P q (put X c x q)
+put-each P X c x here others q = elim (eqb q c) as (λ b. eqb q c ≡ b → P q (cond b x (X q))) [
   | true ↦ λ e. let same : c ≡ q = grind (arith, nat_tests) in subst (λ n. P n x) same here
   | false ↦ λ _. others q
 ] refl
 
-pub put_same : {A : Type 0} (X : ℕ → A) (c : ℕ) (x : A) → put X c x c ≡ x
-put_same X c x = ap (λ b. cond b x (X c)) (let e : eqb c c ≡ true = grind (arith, nat_tests) in e)
+pub put-same : {A : Type 0} (X : ℕ → A) (c : ℕ) (x : A) → put X c x c ≡ x
+put-same X c x = ap (λ b. cond b x (X c)) (let e : eqb c c ≡ true = grind (arith, nat_tests) in e)

@@ -20,7 +20,7 @@ use Rattle.requester.specs.Words.{is_member, members, holds_under, last_of}
 use Rattle.world.specs.Ranges.{AreInRange, IsInRange, IsWithin}
 use Rattle.world.specs.Visible.{DoMeet, IsAmong}
 use Rattle.world.proofs.Known.{ClientLaws}
-use Rattle.world.proofs.Claims.{Bounds, Names, AskOk, MessageOk, ClientOk, IsClient, VoterOk, WorldOk, live_before, later_self, voter_later, all_append, messages_later, put, put_at, put_same}
+use Rattle.world.proofs.Claims.{Bounds, Names, AskOk, MessageOk, ClientOk, IsClient, VoterOk, WorldOk, IsLive-before, IsLater-self, VoterOk-later, AllByRecursion-append, MessageOk-later, put, put-each, put-same}
 
 -- what came: each LOCKED names voters and stamps that are in range, and is so
 abbrev pub Came : Bounds → ClientState → (ℕ → VoterState) → ℕ → client.Cause → Type 0
@@ -141,19 +141,19 @@ client_moves laws b meet X Y sent ok c within cause o accepts step came draws =
     let move = laws.meets x cause o here.sound accepts step in
     let range = laws.ranges x cause o here.sound accepts (comes_in_range b x Y c cause is.limit came) step in
     let W = put X c o.state in
-    let later : (q : ℕ) → IsLater (X q) (W q) = put_at (λ q y. IsLater (X q) y) X c o.state move.later (λ q. later_self (X q)) in
+    let later : (q : ℕ) → IsLater (X q) (W q) = put-each (λ q y. IsLater (X q) y) X c o.state move.later (λ q. IsLater-self (X q)) in
     let quorum = quorum_after b x o.state cause draws move.quorum here.quorum in
     let held : (v g : ℕ) → holds_under x v g ≡ true → Names (Y v).held c x.stamp g = ok.held c in
     let sent_now = all_sent b meet X Y ok.voters c x o.state cause is.id held (move.limit ∙ is.limit) move.later quorum came o.out move.out range in
     record {
-      messages = all_append (MessageOk W Y) sent _ (messages_later X W Y later sent ok.messages) (asks_ok b W Y c o.state (put_same X c o.state) o.out sent_now);
-      ranges = all_append (IsInRange b.voters b.clients b.limit) sent _ ok.ranges (asks_range b c o.state within o.out sent_now);
-      held = put_at (λ q y. (v g : ℕ) → holds_under y v g ≡ true → Names (Y v).held q y.stamp g) X c o.state
+      messages = AllByRecursion-append (MessageOk W Y) sent _ (MessageOk-later X W Y later sent ok.messages) (asks_ok b W Y c o.state (put-same X c o.state) o.out sent_now);
+      ranges = AllByRecursion-append (IsInRange b.voters b.clients b.limit) sent _ ok.ranges (asks_range b c o.state within o.out sent_now);
+      held = put-each (λ q y. (v g : ℕ) → holds_under y v g ≡ true → Names (Y v).held q y.stamp g) X c o.state
           (λ v g holds. elim (move.held v g holds) [
             | inl was ↦ subst (λ s. Names (Y v).held c s g) (sym was.1) (held v g was.0)
-            | inr got ↦ let told = came v o.state.stamp g got.0 in told.3 (live_before x o.state v o.state.stamp g move.later told.2 got.1)
+            | inr got ↦ let told = came v o.state.stamp g got.0 in told.3 (IsLive-before x o.state v o.state.stamp g move.later told.2 got.1)
           ]) ok.held;
-      clients = put_at (λ q y. ClientOk b y) X c o.state
+      clients = put-each (λ q y. ClientOk b y) X c o.state
           (record {
             sound = laws.stays x cause o here.sound accepts step;
             last = λ v. elim (move.last v) [
@@ -162,8 +162,8 @@ client_moves laws b meet X Y sent ok c within cause o accepts step came draws =
             ];
             quorum = quorum;
           }) ok.clients;
-      voters = λ v. voter_later b X W later (Y v) (ok.voters v);
-      client_ids = put_at (λ q y. q < b.clients → IsClient q b.limit y) X c o.state (λ _. record { id = move.id ∙ is.id; limit = move.limit ∙ is.limit }) ok.client_ids;
+      voters = λ v. VoterOk-later b X W later (Y v) (ok.voters v);
+      client_ids = put-each (λ q y. q < b.clients → IsClient q b.limit y) X c o.state (λ _. record { id = move.id ∙ is.id; limit = move.limit ∙ is.limit }) ok.client_ids;
       voter_ids = ok.voter_ids;
     }
 
@@ -200,8 +200,8 @@ client_reminds laws b meet X Y sent ok c within =
     let here = ok.clients c in
     let sent_now = all_repeated b meet c x here is.id is.limit out (laws.repeats x) (laws.reminders x here.sound) in
     record {
-      messages = all_append (MessageOk X Y) sent _ ok.messages (asks_ok b X Y c x refl out sent_now);
-      ranges = all_append (IsInRange b.voters b.clients b.limit) sent _ ok.ranges (asks_range b c x within out sent_now);
+      messages = AllByRecursion-append (MessageOk X Y) sent _ ok.messages (asks_ok b X Y c x refl out sent_now);
+      ranges = AllByRecursion-append (IsInRange b.voters b.clients b.limit) sent _ ok.ranges (asks_range b c x within out sent_now);
       held = ok.held;
       clients = ok.clients;
       voters = ok.voters;

@@ -19,7 +19,7 @@ use Rattle.requester.specs.Words.{is_idle, is_inside, members, holds, holds_unde
 use Rattle.world.specs.declared.step.Event.{Event}
 use Rattle.world.specs.Steps.{events}
 use Rattle.world.specs.Visible.{DoMeet, GoesOn, IsAmong}
-use Rattle.world.proofs.Claims.{Bounds, ClientOk, Names, WorldOk, put, put_at, put_same}
+use Rattle.world.proofs.Claims.{Bounds, ClientOk, Names, WorldOk, put, put-each, put-same}
 
 -- ---- nobody is inside together with another
 
@@ -33,14 +33,14 @@ list_all-holds x (u ∷ us) v all is = elim (eqb u v) as (λ b. eqb u v ≡ b �
 held_under : (x : ClientState) (v : ℕ) → holds x v ≡ true → holds_under x v (held_of x v) ≡ true
 held_under x v is = grind (arith, nat_tests)
 
-pub inside_busy : (p : Phase) → is_inside p ≡ true → is_idle p ≡ false
-inside_busy Idle e = absurd (false≢true e)
-inside_busy Asking e = refl
-inside_busy Inside e = refl
+pub is_idle-inside : (p : Phase) → is_inside p ≡ true → is_idle p ≡ false
+is_idle-inside Idle e = absurd (false≢true e)
+is_idle-inside Asking e = refl
+is_idle-inside Inside e = refl
 
 quorum_inside : (b : Bounds) (x : ClientState) → ClientOk b x → is_inside x.phase ≡ true → IsAmong b.quorums (members x)
 quorum_inside b x ok inside = elim ok.quorum [
-  | inl none ↦ let some = ok.sound.asked (inside_busy x.phase inside) in let len = ap (λ (q : List ℕ). length q) none in absurd (omega arith)
+  | inl none ↦ let some = ok.sound.asked (is_idle-inside x.phase inside) in let len = ap (λ (q : List ℕ). length q) none in absurd (omega arith)
   | inr among ↦ among
 ]
 
@@ -110,7 +110,7 @@ is_inside_by-nobody_else : (es : List Event) (X : ℕ → ClientState) (c : ℕ)
 is_inside_by-nobody_else es X c x None inside in_x out alone = refl
 is_inside_by-nobody_else es X c x (Some d) inside in_x out alone =
     let in_d = inside d ∙ eq_self d in
-    let same = alone d (ap (λ (y : ClientState). is_inside y.phase) (put_same X c x) ∙ in_x) (both_in X c d x in_x in_d) in
+    let same = alone d (ap (λ (y : ClientState). is_inside y.phase) (put-same X c x) ∙ in_x) (both_in X c d x in_x in_d) in
     absurd (false≢true (sym out ∙ ap (λ n. is_inside (X n).phase) same ∙ in_d))
 
 is_inside_by-true : (c : ℕ) (o : Option ℕ) → is_inside_by o c ≡ true → o ≡ Some c
@@ -122,7 +122,7 @@ pub Walked-step : (es : List Event) (X : ℕ → ClientState) (c : ℕ) (x : Cli
     → Walked (es ++ events c seen) (put X c x)
 Walked-step es X c x Nothing h sees alone =
     subst (λ (l : List Event). Walked l (put X c x)) (sym (append_nothing es))
-    (record { list = h.list; inside = put_at (λ q y. is_inside y.phase ≡ is_inside_by (inside_after None es) q) X c x (sym sees ∙ h.inside c) h.inside })
+    (record { list = h.list; inside = put-each (λ q y. is_inside y.phase ≡ is_inside_by (inside_after None es) q) X c x (sym sees ∙ h.inside c) h.inside })
 Walked-step es X c x Entered h sees alone =
     let e : Event = record { client = c; entered = true } in
     let none = is_inside_by-nobody_else es X c x (inside_after None es) h.inside sees.1 sees.0 alone in

@@ -7,26 +7,26 @@ use Rattle.world.specs.declared.fault.WorldFault.{WorldFault}
 use Rattle.world.specs.declared.fault.WorldFault.TheVariants as faults
 use Rattle.world.specs.Steps as world
 
-pub a_client : (c n : ℕ) (next : Result world.Outcome WorldFault) → c < n → world.if_client (nat_lt c n) c next ≡ next
-a_client c n next within = ap (λ t. world.if_client t c next) (let e : nat_lt c n ≡ true = grind (arith, nat_tests) in e)
+pub if_client-below : (c n : ℕ) (next : Result world.Outcome WorldFault) → c < n → world.if_client (nat_lt c n) c next ≡ next
+if_client-below c n next within = ap (λ t. world.if_client t c next) (let e : nat_lt c n ≡ true = grind (arith, nat_tests) in e)
 
-pub no_client : (c n : ℕ) (next : Result world.Outcome WorldFault) (fault : WorldFault) → (fault ≡ faults.NoSuchClient c) × (n ≤ c) → world.if_client (nat_lt c n) c next ≡ Err fault
-no_client c n next fault missing =
+pub if_client-missing : (c n : ℕ) (next : Result world.Outcome WorldFault) (fault : WorldFault) → (fault ≡ faults.NoSuchClient c) × (n ≤ c) → world.if_client (nat_lt c n) c next ≡ Err fault
+if_client-missing c n next fault missing =
     let beyond = missing.1 in
     ap (λ t. world.if_client t c next) (let e : nat_lt c n ≡ false = grind (arith, nat_tests) in e) ∙ ap (λ (f : WorldFault). Err f) (sym missing.0)
 
-pub foretold_client : (r : Option WorldFault) (c n : ℕ) (o : world.Outcome) → IfNone r (c < n) → IfSome r (λ fault. (fault ≡ faults.NoSuchClient c) × (n ≤ c)) → Foretells r (world.if_client (nat_lt c n) c (Ok o))
-foretold_client None c n o found missing = (o, a_client c n (Ok o) found)
-foretold_client (Some fault) c n o found missing = no_client c n (Ok o) fault missing
+pub Foretells-client : (r : Option WorldFault) (c n : ℕ) (o : world.Outcome) → IfNone r (c < n) → IfSome r (λ fault. (fault ≡ faults.NoSuchClient c) × (n ≤ c)) → Foretells r (world.if_client (nat_lt c n) c (Ok o))
+Foretells-client None c n o found missing = (o, if_client-below c n (Ok o) found)
+Foretells-client (Some fault) c n o found missing = if_client-missing c n (Ok o) fault missing
 
-pub a_voter : (v n : ℕ) (next : Result world.Outcome WorldFault) → v < n → world.if_voter (nat_lt v n) v next ≡ next
-a_voter v n next within = ap (λ t. world.if_voter t v next) (let e : nat_lt v n ≡ true = grind (arith, nat_tests) in e)
+pub if_voter-below : (v n : ℕ) (next : Result world.Outcome WorldFault) → v < n → world.if_voter (nat_lt v n) v next ≡ next
+if_voter-below v n next within = ap (λ t. world.if_voter t v next) (let e : nat_lt v n ≡ true = grind (arith, nat_tests) in e)
 
-pub no_voter : (v n : ℕ) (next : Result world.Outcome WorldFault) (fault : WorldFault) → (fault ≡ faults.NoSuchVoter v) × (n ≤ v) → world.if_voter (nat_lt v n) v next ≡ Err fault
-no_voter v n next fault missing =
+pub if_voter-missing : (v n : ℕ) (next : Result world.Outcome WorldFault) (fault : WorldFault) → (fault ≡ faults.NoSuchVoter v) × (n ≤ v) → world.if_voter (nat_lt v n) v next ≡ Err fault
+if_voter-missing v n next fault missing =
     let beyond = missing.1 in
     ap (λ t. world.if_voter t v next) (let e : nat_lt v n ≡ false = grind (arith, nat_tests) in e) ∙ ap (λ (f : WorldFault). Err f) (sym missing.0)
 
-pub foretold_voter : (r : Option WorldFault) (v n : ℕ) (o : world.Outcome) → IfNone r (v < n) → IfSome r (λ fault. (fault ≡ faults.NoSuchVoter v) × (n ≤ v)) → Foretells r (world.if_voter (nat_lt v n) v (Ok o))
-foretold_voter None v n o found missing = (o, a_voter v n (Ok o) found)
-foretold_voter (Some fault) v n o found missing = no_voter v n (Ok o) fault missing
+pub Foretells-voter : (r : Option WorldFault) (v n : ℕ) (o : world.Outcome) → IfNone r (v < n) → IfSome r (λ fault. (fault ≡ faults.NoSuchVoter v) × (n ≤ v)) → Foretells r (world.if_voter (nat_lt v n) v (Ok o))
+Foretells-voter None v n o found missing = (o, if_voter-below v n (Ok o) found)
+Foretells-voter (Some fault) v n o found missing = if_voter-missing v n (Ok o) fault missing

@@ -17,15 +17,15 @@ same_choice q c x y z here there = elim (eqb q c) as (λ b. eqb q c ≡ b → y 
 ] refl
 
 -- the list after a write, as a function of the number
-pub voters_put : (vs : List VoterState) (v : ℕ) (x : VoterState) → v < length vs → voter_at (set vs v x) ≡ put (voter_at vs) v x
+pub voter_at-set : (vs : List VoterState) (v : ℕ) (x : VoterState) → v < length vs → voter_at (set vs v x) ≡ put (voter_at vs) v x
 unfolding voter_at
-voters_put vs v x within = λ i q. same_choice q v x (get_or (set vs v x) q (voter.start 0 1)) (get_or vs q (voter.start 0 1))
+voter_at-set vs v x within = λ i q. same_choice q v x (get_or (set vs v x) q (voter.start 0 1)) (get_or vs q (voter.start 0 1))
     (λ same. ap (λ n. get_or (set vs v x) n (voter.start 0 1)) same ∙ get_or-set_same vs v x (voter.start 0 1) within)
     (λ other. get_or-set_other vs v q x (voter.start 0 1) other) i
 
-pub clients_put : (cs : List ClientState) (c : ℕ) (x : ClientState) → c < length cs → client_at (set cs c x) ≡ put (client_at cs) c x
+pub client_at-set : (cs : List ClientState) (c : ℕ) (x : ClientState) → c < length cs → client_at (set cs c x) ≡ put (client_at cs) c x
 unfolding client_at
-clients_put cs c x within = λ i q. same_choice q c x (get_or (set cs c x) q (client.start 0 1)) (get_or cs q (client.start 0 1))
+client_at-set cs c x within = λ i q. same_choice q c x (get_or (set cs c x) q (client.start 0 1)) (get_or cs q (client.start 0 1))
     (λ same. ap (λ n. get_or (set cs c x) n (client.start 0 1)) same ∙ get_or-set_same cs c x (client.start 0 1) within)
     (λ other. get_or-set_other cs c q x (client.start 0 1) other) i
 

@@ -17,7 +17,7 @@ use Rattle.world.specs.declared.fault.WorldFault.{WorldFault}
 use Rattle.world.specs.declared.step.Stepped.{Stepped}
 use Rattle.world.specs.Steps.{Does, Outcome, Planned, WorldState, quorum_by, step, step_of}
 use Rattle.world.specs.Visible.{DealsFrom, DoMeet}
-use Rattle.world.proofs.Claims.{all_map}
+use Rattle.world.proofs.Claims.{AllByRecursion-map}
 
 abbrev pub AllCoteriesMeet : Type 0
 AllCoteriesMeet = (s : QuorumSystem) → IsCoterie s → AllMeet s.voters s.quorums
@@ -67,21 +67,21 @@ pub record WorldLaws : Type 0 where
   pub meet : AllCoteriesMeet
   pub name : AllNameQuorums
 
-pub reached_sound : WorldLaws → (w : Planned) → (r : IsReached w) → IsSound w.plan.system.voters r.clients r.limit w.state
-reached_sound laws w r =
+pub IsSound-reached : WorldLaws → (w : Planned) → (r : IsReached w) → IsSound w.plan.system.voters r.clients r.limit w.state
+IsSound-reached laws w r =
     subst (λ (u : WorldState). IsSound w.plan.system.voters r.clients r.limit u) (sym r.state)
     (laws.sound w.plan.system.voters r.clients r.limit w.plan.system.quorums (quorum_by w.plan) r.steps r.limits (plan_meets laws.meet w.plan r.certificate) (plan_deals laws.name w.plan r.certificate))
 
-pub reached_lines : WorldLaws → (w : Planned) → IsReached w → AllByRecursion HasLine w.state.sent
-reached_lines laws w r = all_map (IsInRange w.plan.system.voters r.clients r.limit) HasLine (HasLine-in_range w.plan.system.voters r.clients r.limit r.limits) w.state.sent (reached_sound laws w r).in_range
+pub HasLine-reached : WorldLaws → (w : Planned) → IsReached w → AllByRecursion HasLine w.state.sent
+HasLine-reached laws w r = AllByRecursion-map (IsInRange w.plan.system.voters r.clients r.limit) HasLine (HasLine-in_range w.plan.system.voters r.clients r.limit r.limits) w.state.sent (IsSound-reached laws w r).in_range
 
 run_more : (deal : ℕ → List ℕ) (steps : List Step) (s : Step) (w : WorldState) → run_of deal (steps ++ s ∷ []) w ≡ after (run_of deal steps w) (step deal (run_of deal steps w) s)
 run_more deal [] s w = refl
 run_more deal (t ∷ steps) s w = run_more deal steps s (after w (step deal w t))
 
 -- one more step
-pub reached_after : (w : Planned) → IsReached w → (s : Step) (u : WorldState) → u ≡ after w.state (step_of w s) → IsReached (record { plan = w.plan; state = u })
-reached_after w r s u is = record {
+pub IsReached-after : (w : Planned) → IsReached w → (s : Step) (u : WorldState) → u ≡ after w.state (step_of w s) → IsReached (record { plan = w.plan; state = u })
+IsReached-after w r s u is = record {
   certificate = r.certificate;
   clients = r.clients;
   limit = r.limit;
@@ -95,7 +95,7 @@ does_after wanted old (Ok s) new does = sym (ap (λ r. after old r) does)
 does_after wanted old (Err fault) new does = does.1 ∙ sym (ap (λ r. after old r) does.0)
 
 -- what the code did to a world in which it made room
-pub reached_does : (w : Planned) → IsReached w → (s : Step) (roomy : WorldState) (result : Result Stepped WorldFault) (new : WorldState) → roomy ≡ w.state
+pub IsReached-does : (w : Planned) → IsReached w → (s : Step) (roomy : WorldState) (result : Result Stepped WorldFault) (new : WorldState) → roomy ≡ w.state
     → Does (step (quorum_by w.plan) roomy s) roomy result new → IsReached (record { plan = w.plan; state = new })
-reached_does w r s roomy result new same does =
-    reached_after w r s new (does_after _ w.state result new (subst (λ (u : WorldState). Does (step (quorum_by w.plan) u s) u result new) same does))
+IsReached-does w r s roomy result new same does =
+    IsReached-after w r s new (does_after _ w.state result new (subst (λ (u : WorldState). Does (step (quorum_by w.plan) u s) u result new) same does))

@@ -31,11 +31,11 @@ use Rattle.world.specs.Runs.{AreLimits, DrawsInOrder, after, run_of, start}
 use Rattle.world.specs.Steps.{WorldState, Outcome, after_client, after_voter, client_at, client_did, come, draw, events, if_client, if_voter, step, voter_at}
 use Rattle.world.specs.Visible.{DealsFrom, DoMeet, IsAmong}
 use Rattle.world.proofs.Known.{ClientLaws, VoterLaws}
-use Rattle.world.proofs.Claims.{Bounds, Names, AskOk, TellOk, MessageOk, ClientOk, IsClient, VoterOk, WorldOk, all_get, all_map, put}
+use Rattle.world.proofs.Claims.{Bounds, Names, AskOk, TellOk, MessageOk, ClientOk, IsClient, VoterOk, WorldOk, AllByRecursion-get, AllByRecursion-map, put}
 use Rattle.world.proofs.ClientMoves.{Came, Draws, client_moves, client_reminds}
 use Rattle.world.proofs.VoterMoves.{voter_moves, voter_reminds}
 use Rattle.world.proofs.Exclusion.{Walked, one_inside, Walked-step}
-use Rattle.world.proofs.Places.{clients_put, voters_put}
+use Rattle.world.proofs.Places.{client_at-set, voter_at-set}
 
 -- what a proof of runs rests on
 pub record Given (b : Bounds) : Type 0 where
@@ -60,7 +60,7 @@ client_step b given w ok c within cause o accepts step came draws =
     let X = client_at w.clients in
     let Y = voter_at w.voters in
     let number : c < b.clients = subst (λ n. c < n) ok.clients within in
-    let same : client_at (slice_set w.clients c o.state) ≡ put X c o.state = clients_put w.clients c o.state within in
+    let same : client_at (slice_set w.clients c o.state) ≡ put X c o.state = client_at-set w.clients c o.state within in
     let world = client_moves given.client b given.meet X Y w.sent ok.world c number cause o accepts step came draws in
     let sees = (given.client.meets (X c) cause o (ok.world.clients c).sound accepts step).seen in
     let walked = Walked-step w.visible X c o.state o.seen ok.walked sees (λ d in_c in_d. one_inside b given.meet (put X c o.state) Y _ world c d in_c in_d) in
@@ -107,7 +107,7 @@ RunOk-after_voter b given w ok m range asked (Some o) is =
     let X = client_at w.clients in
     let Y = voter_at w.voters in
     let within : m.voter < length w.voters = subst (λ n. m.voter < n) (sym ok.voters) range.1 in
-    let same : voter_at (slice_set w.voters m.voter o.state) ≡ put Y m.voter o.state = voters_put w.voters m.voter o.state within in
+    let same : voter_at (slice_set w.voters m.voter o.state) ≡ put Y m.voter o.state = voter_at-set w.voters m.voter o.state within in
     record {
       clients = ok.clients;
       voters = length-set w.voters m.voter o.state ∙ ok.voters;
@@ -169,8 +169,8 @@ unfolding step
 step_ok b given deal deals w ok (Ask c) = if_one b w ok _ c _ (λ t.
     RunOk-after_draw b given w ok c (less_than _ _ t) (client.Asks (deal (length w.draws))) (accepts_among b given.meet (deal (length w.draws)) (deals (length w.draws))) (λ v s g never. absurd never) (deals (length w.draws)) _ refl)
 step_ok b given deal deals w ok (Deliver k) = comes_ok b given w ok k (slice_get w.sent k)
-    (λ m is. all_get (MessageOk (client_at w.clients) (voter_at w.voters)) w.sent k m ok.world.messages is)
-    (λ m is. all_get (IsInRange b.voters b.clients b.limit) w.sent k m ok.world.ranges is)
+    (λ m is. AllByRecursion-get (MessageOk (client_at w.clients) (voter_at w.voters)) w.sent k m ok.world.messages is)
+    (λ m is. AllByRecursion-get (IsInRange b.voters b.clients b.limit) w.sent k m ok.world.ranges is)
 step_ok b given deal deals w ok (Leave c) = if_one b w ok _ c _ (λ t. RunOk-after_client b given w ok c (less_than _ _ t) client.Leaves tt (λ v s g never. absurd never) tt _ refl)
 step_ok b given deal deals w ok (GiveUp c) = if_one b w ok _ c _ (λ t. RunOk-after_client b given w ok c (less_than _ _ t) client.GivesUp tt (λ v s g never. absurd never) tt _ refl)
 step_ok b given deal deals w ok (RemindClient c) = if_one b w ok _ c _ (λ t. record {
@@ -326,7 +326,7 @@ sound_by b given w ok =
         voters = λ v within. ok.world.voter_ids v (subst (λ n. v < n) ok.voters within);
         few_clients = omega arith;
         few_voters = omega arith;
-        messages = all_map (IsInRange b.voters b.clients b.limit) (IsAddressed w) (IsAddressed-in_range b w ok.clients ok.voters) w.sent ok.world.ranges;
+        messages = AllByRecursion-map (IsInRange b.voters b.clients b.limit) (IsAddressed w) (IsAddressed-in_range b w ok.clients ok.voters) w.sent ok.world.ranges;
       };
     }
 

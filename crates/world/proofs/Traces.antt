@@ -39,17 +39,17 @@ Ran-one_step plan clients limit steps place w u refused more s ran next same is 
 by_plan : (plan : Weighted) (w : Planned) (s : Step) (r : Result Outcome WorldFault) → w.plan ≡ plan → step_of w s ≡ r → step (quorum_by plan) w.state s ≡ r
 by_plan plan w s r by is = subst (λ (p : Weighted). step (quorum_by p) w.state s ≡ r) by is
 
-pub ran_on : (plan : Weighted) (clients limit : ℕ) (steps : List Step) (place : ℕ) (w u : Planned) (refused : List (ℕ × WorldFault)) (s : Step) (told : Stepped) → Ran plan clients limit steps place w refused
+pub Ran-on : (plan : Weighted) (clients limit : ℕ) (steps : List Step) (place : ℕ) (w u : Planned) (refused : List (ℕ × WorldFault)) (s : Step) (told : Stepped) → Ran plan clients limit steps place w refused
     → place < length steps → u.plan ≡ w.plan → step_of w (get_or steps place s) ≡ Ok (outcome_of told u.state) → Ran plan clients limit steps (place + 1) u refused
-ran_on plan clients limit steps place w u refused s told ran within same done =
+Ran-on plan clients limit steps place w u refused s told ran within same done =
     let next = drop_more steps place s within in
     let is = by_plan plan w (get_or steps place s) _ ran.by done in
     subst (λ (l : List (ℕ × WorldFault)). Ran plan clients limit steps (place + 1) u l) (append-nil refused)
     (Ran-one_step plan clients limit steps place w u refused [] (get_or steps place s) ran next same (sym (ap (λ r. after w.state r) is)) (ap (λ r. refusal_at place r) is))
 
-pub ran_past : (plan : Weighted) (clients limit : ℕ) (steps : List Step) (place : ℕ) (w u : Planned) (refused : List (ℕ × WorldFault)) (s : Step) (fault : WorldFault) → Ran plan clients limit steps place w refused
+pub Ran-past : (plan : Weighted) (clients limit : ℕ) (steps : List Step) (place : ℕ) (w u : Planned) (refused : List (ℕ × WorldFault)) (s : Step) (fault : WorldFault) → Ran plan clients limit steps place w refused
     → place < length steps → u ≡ w → Refuses (step_of w (get_or steps place s)) fault → (fault ≡ faults.OutOfMemory → ⊥) → Ran plan clients limit steps (place + 1) u (refused ++ (place, fault) ∷ [])
-ran_past plan clients limit steps place w u refused s fault ran within same refuses other =
+Ran-past plan clients limit steps place w u refused s fault ran within same refuses other =
     let next = drop_more steps place s within in
     let is = by_plan plan w (get_or steps place s) _ ran.by (refused_why _ fault refuses other) in
     Ran-one_step plan clients limit steps place w u refused ((place, fault) ∷ []) (get_or steps place s) ran next (ap (λ (v : Planned). v.plan) same)

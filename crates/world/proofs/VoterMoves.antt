@@ -24,7 +24,7 @@ use Rattle.requester.specs.Soundness as sound
 use Rattle.requester.specs.Words.{holds, holds_under, held_of}
 use Rattle.world.specs.Ranges.{AreInRange, IsInRange, IsWithin, TellsWithin}
 use Rattle.world.proofs.Known.{VoterLaws}
-use Rattle.world.proofs.Claims.{Bounds, AskOk, TellOk, MessageOk, HeldOk, ClientOk, EntryOk, VoterOk, WorldOk, VotesKeep, SparesLive, no_kill, ends_client, Names-still, all_append, messages_keep, put, put_at, put_same}
+use Rattle.world.proofs.Claims.{Bounds, AskOk, TellOk, MessageOk, HeldOk, ClientOk, EntryOk, VoterOk, WorldOk, VotesKeep, SparesLive, AskOk-not_ends, Ends-client, Names-still, AllByRecursion-append, MessageOk-keep, put, put-each, put-same}
 
 -- ---- what is replied
 
@@ -169,20 +169,20 @@ voter_moves laws b X Y sent ok m range asked o step =
     let before = ok.voters m.voter in
     let after = voter_after laws b X y before m range.0 range.2 asked o step in
     let Killed : ℕ → Grant → Type 0 = λ v h. (v ≡ m.voter) × Ends m.client m.body h in
-    let keep : VotesKeep Y Z Killed = λ v. put_at (λ v z. (h : Grant) → (Y v).held ≡ Some h → (z.held ≡ Some h) ⊎ Killed v h) Y m.voter o.state
+    let keep : VotesKeep Y Z Killed = λ v. put-each (λ v z. (h : Grant) → (Y v).held ≡ Some h → (z.held ≡ Some h) ⊎ Killed v h) Y m.voter o.state
     (λ h is. elim (meets.kept h is) [ inl stays ↦ inl stays | inr ended ↦ inr (refl, ended) ]) (λ v h is. inl is) v in
     let spares : SparesLive X Killed = λ v h live killed.
-    no_kill (X h.client) v m.client m.body h (subst (λ n. AskOk (X h.client) n m.body) (sym killed.0) (subst (λ n. AskOk (X n) m.voter m.body) (sym (ends_client m.client m.body h killed.1)) asked)) live killed.1 in
+    AskOk-not_ends (X h.client) v m.client m.body h (subst (λ n. AskOk (X h.client) n m.body) (sym killed.0) (subst (λ n. AskOk (X n) m.voter m.body) (sym (Ends-client m.client m.body h killed.1)) asked)) live killed.1 in
     let told = all_told b m.voter (seen_after y.seen m.body) o.state (seen_within b.limit y.seen m.body before.seen range.2) o.replies meets.told (laws.answers y m o before.sound step).place
     (subst (λ i. AllCarry i (seen_after y.seen m.body) o.replies) id carry.carried) in
     record {
-      messages = all_append (MessageOk X Z) sent _ (messages_keep X Y Z Killed keep spares sent ok.messages) (replies_ok b X Z m.voter o.state (put_same Y m.voter o.state) after o.replies told);
-      ranges = all_append (IsInRange b.voters b.clients b.limit) sent _ ok.ranges (replies_range b X m.voter o.state range.1 after o.replies told);
+      messages = AllByRecursion-append (MessageOk X Z) sent _ (MessageOk-keep X Y Z Killed keep spares sent ok.messages) (replies_ok b X Z m.voter o.state (put-same Y m.voter o.state) after o.replies told);
+      ranges = AllByRecursion-append (IsInRange b.voters b.clients b.limit) sent _ ok.ranges (replies_range b X m.voter o.state range.1 after o.replies told);
       held = held_keeps b X Y Z Killed keep spares ok.clients ok.held;
       clients = ok.clients;
-      voters = put_at (λ v z. VoterOk b X z) Y m.voter o.state after ok.voters;
+      voters = put-each (λ v z. VoterOk b X z) Y m.voter o.state after ok.voters;
       client_ids = ok.client_ids;
-      voter_ids = put_at (λ v z. v < b.voters → z.id ≡ v) Y m.voter o.state (λ _. carry.id ∙ id) ok.voter_ids;
+      voter_ids = put-each (λ v z. v < b.voters → z.id ≡ v) Y m.voter o.state (λ _. carry.id ∙ id) ok.voter_ids;
     }
 
 -- a vote is told again
@@ -193,8 +193,8 @@ voter_reminds laws b X Y sent ok v within =
     let here = ok.voters v in
     let told = all_told b v y.seen y here.seen (voter.remind y) (laws.tells y) (laws.places y) (subst (λ i. AllCarry i y.seen (voter.remind y)) (ok.voter_ids v within) (laws.remembers y)) in
     record {
-      messages = all_append (MessageOk X Y) sent _ ok.messages (replies_ok b X Y v y refl here (voter.remind y) told);
-      ranges = all_append (IsInRange b.voters b.clients b.limit) sent _ ok.ranges (replies_range b X v y within here (voter.remind y) told);
+      messages = AllByRecursion-append (MessageOk X Y) sent _ ok.messages (replies_ok b X Y v y refl here (voter.remind y) told);
+      ranges = AllByRecursion-append (IsInRange b.voters b.clients b.limit) sent _ ok.ranges (replies_range b X v y within here (voter.remind y) told);
       held = ok.held;
       clients = ok.clients;
       voters = ok.voters;

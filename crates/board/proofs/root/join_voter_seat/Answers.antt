@@ -4,7 +4,7 @@ use Rattle.board.specs.declared.table.View.{View}
 use Rattle.board.specs.Rule.{Kept}
 use Rattle.board.specs.Views.{voter_view}
 use Rattle.board.specs.Views.{with_voter, spent_view}
-use Rattle.board.proofs.Giving.{takes_voter}
+use Rattle.board.proofs.Giving.{Joins-with_voter}
 use Rattle.board.proofs.Register.{Counted-allowed}
 use Rattle.board.proofs.root.join_voter_seat.Goals as goal
 
@@ -20,7 +20,7 @@ join_seat-requires g c =
       ap (λ (m : Me (Unit {0}) View). m.1) c.requires.other,
       c.requires.table.2,
       subst (λ (w : View). Joins (Kept key) c.args.seat.now.id u c.args.other.id w (with_voter n u w) spent_view) (sym is)
-          (takes_voter key c.args.seat.now.id u c.args.other.id n (subst (λ (k : ℕ). k < key.voters) pick c.requires.root.0) (subst (λ (k : ℕ). k < 64) pick c.requires.root.1) c.requires.root.2),
+          (Joins-with_voter key c.args.seat.now.id u c.args.other.id n (subst (λ (k : ℕ). k < key.voters) pick c.requires.root.0) (subst (λ (k : ℕ). k < 64) pick c.requires.root.1) c.requires.root.2),
     )
 
 pub load-requires : goal.load-requires

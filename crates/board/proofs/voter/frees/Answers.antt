@@ -3,8 +3,8 @@ use Rattle.board.specs.Roots.{IsCurrent}
 use Rattle.board.specs.Views.{voter_view}
 use Rattle.board.specs.Words.{IsSettledFrom}
 use Rattle.board.proofs.Votes.{Settled-allowed_by_vote}
-use Rattle.board.proofs.Words.{when_eq}
-use Rattle.board.proofs.VoterFields.{settled_after}
+use Rattle.board.proofs.Words.{MatchBool-nat_eq}
+use Rattle.board.proofs.VoterFields.{set-settled_view}
 use Rattle.board.proofs.voter.frees.Goals as goal
 
 pub compare_exchange-requires : goal.compare_exchange-requires
@@ -20,7 +20,7 @@ pub returns-clause-seat : goal.returns-clause-seat
 returns-clause-seat c =
     let seat = c.args.seat.now.me in
     let after = c.compare_exchange.new.seat.me in
-    when_eq _ _ _ _
-    (λ e. settled_after seat after c.args.voter c.args.vote c.requires.seat
+    MatchBool-nat_eq _ _ _ _
+    (λ e. set-settled_view seat after c.args.voter c.args.vote c.requires.seat
     (subst (λ (v : ℕ). after ≡ (record seat.0 { voters = set seat.0.voters v 1 }, seat.1)) c.from.ensures (c.compare_exchange.ensures.2.3 e)))
     (λ n. c.compare_exchange.ensures.2.4 n)

@@ -1,14 +1,14 @@
 use Rattle.std.proofs.lemmas.Result.{IfOk-weaker}
 use Rattle.certificate.specs.Certificates.{IsCertificate, IsOptimal}
 use Rattle.certificate.proofs.Optimal.{IsOptimal-certificate}
-use Rattle.certificate.proofs.PlanLaws.{is_spelled, is_read}
+use Rattle.certificate.proofs.PlanLaws.{plan_at-sound, plan_at-complete}
 use Rattle.certificate.proofs.reading.read_plan.Goals as goal
 
 pub returns-clause-spelled : goal.returns-clause-spelled
-returns-clause-spelled c = is_spelled c.args.coterie.now c.args.text.now c.plan_of_text.result c.plan_of_text.ensures.exact
+returns-clause-spelled c = plan_at-sound c.args.coterie.now c.args.text.now c.plan_of_text.result c.plan_of_text.ensures.exact
 
 pub returns-clause-read : goal.returns-clause-read
-returns-clause-read c = λ w same certificate e. is_read c.args.coterie.now c.args.text.now c.plan_of_text.result w c.plan_of_text.ensures.exact same certificate e
+returns-clause-read c = λ w same certificate e. plan_at-complete c.args.coterie.now c.args.text.now c.plan_of_text.result w c.plan_of_text.ensures.exact same certificate e
 
 pub returns-clause-optimal : goal.returns-clause-optimal
 returns-clause-optimal c = IfOk-weaker c.plan_of_text.result IsCertificate IsOptimal IsOptimal-certificate c.plan_of_text.ensures.certificate

@@ -2,7 +2,7 @@ use Rattle.std.proofs.Common.{◌≡◌, ap, refl, ◌∙◌}
 use Rattle.std.specs.Prelude.{string_bytes}
 use Rattle.certificate.specs.Certificates.{load_of, cycle_len}
 use Rattle.certificate.specs.PlanTexts.{spaced, plan_text}
-use Rattle.certificate.proofs.Written.{written_text, written_lines, is_text}
+use Rattle.certificate.proofs.Written.{written_text, written_text-lines, is_text}
 use Rattle.certificate.proofs.writing.write_plan.Goals as goal
 
 pub returns : goal.returns
@@ -19,4 +19,4 @@ returns c =
     let same : written_text load.0 load.1 len quorums voters ≡ written_text (load_of w).0 (load_of w).1 (cycle_len w) (spaced w.quorum_weights) (spaced w.voter_weights) =
     rw (left, right, c.cycle_len-cycle_len.ensures.value, quorums_are, voters_are) refl in
     is_text c.format.result (written_text load.0 load.1 len quorums voters) (plan_text w) c.format.ensures.ok
-    (same ∙ written_lines (load_of w).0 (load_of w).1 (cycle_len w) (spaced w.quorum_weights) (spaced w.voter_weights))
+    (same ∙ written_text-lines (load_of w).0 (load_of w).1 (cycle_len w) (spaced w.quorum_weights) (spaced w.voter_weights))

@@ -2,7 +2,7 @@ use Rattle.std.proofs.Common.{ap, ◌∙◌}
 use Rattle.requester.specs.declared.state.ClientState.{ClientState}
 use Rattle.cluster.specs.Drives.{KeepsWork}
 use Rattle.members.specs.Members.{MemberState}
-use Rattle.cluster.proofs.DriveLemmas.{Worked-draw, refused_pass}
+use Rattle.cluster.proofs.DriveLemmas.{Worked-draw, Stops-refused_pass}
 use Rattle.cluster.proofs.drives.pass_once.Goals as goal
 
 pub returns-in_default-wait_at-clause-stopped : goal.returns-in_default-wait_at-clause-stopped
@@ -22,4 +22,4 @@ returns-in-Err-clause-stopped g c =
       fault = stays.fault ∙ kept.fault;
     } in
     let drawn = Worked-draw c.args.member.now c.ask.new.self c.pass.new.self c.in_ok-ask.field-0 told.may.2 told.client told.receipt told.seat after in
-    refused_pass c.args.member.now c.enter.new.member c.pass.new.self c.in-Err.fault told.may.2 drawn c.in-Some.ensures.entered.1 stays.refused
+    Stops-refused_pass c.args.member.now c.enter.new.member c.pass.new.self c.in-Err.fault told.may.2 drawn c.in-Some.ensures.entered.1 stays.refused

@@ -1,7 +1,7 @@
 use Rattle.std.proofs.Common.{◌+◌, sym, subst, arith}
 use Rattle.members.specs.Members.{MemberState}
 use Rattle.cluster.specs.Drives.{TookTurns, WasLet, wasted}
-use Rattle.cluster.proofs.DriveLemmas.{IsBack-stopped, Worked-stopped, took_turns, was_let}
+use Rattle.cluster.proofs.DriveLemmas.{IsBack-stopped, Worked-stopped, TookTurns-Worked, WasLet-Worked}
 use Rattle.cluster.proofs.drives.serve.Goals as goal
 
 pub returns-in-Err-clause-back : goal.returns-in-Err-clause-back
@@ -14,10 +14,10 @@ returns-in-Err-clause-let_pass g c =
     let fault = c.in-Err.fault in
     let worked = Worked-stopped c.loop.counter c.args.member.now c.loop.member c.pass_once.new.member c.end.new.member fault c.loop.invariant.0 c.in-Err.ensures.stopped c.end.ensures.kept in
     let lets = g.G.Gate.lets c.args.gate.now in
-    subst (λ (m : MemberState). WasLet lets c.args.member.now m) (sym c.ends_by-in-Err.ensures) (was_let lets (c.loop.counter + wasted fault) c.loop.counter c.args.member.now _ worked c.loop.invariant.2)
+    subst (λ (m : MemberState). WasLet lets c.args.member.now m) (sym c.ends_by-in-Err.ensures) (WasLet-Worked lets (c.loop.counter + wasted fault) c.loop.counter c.args.member.now _ worked c.loop.invariant.2)
 
 pub returns-in-Err-clause-in_turns : goal.returns-in-Err-clause-in_turns
 returns-in-Err-clause-in_turns g c =
     let fault = c.in-Err.fault in
     let worked = Worked-stopped c.loop.counter c.args.member.now c.loop.member c.pass_once.new.member c.end.new.member fault c.loop.invariant.0 c.in-Err.ensures.stopped c.end.ensures.kept in
-    subst (λ (m : MemberState). TookTurns c.args.turns c.args.member.now m) (sym c.ends_by-in-Err.ensures) (took_turns c.args.turns (c.loop.counter + wasted fault) c.loop.counter c.args.member.now _ worked (omega (arith, c.loop.invariant.1)))
+    subst (λ (m : MemberState). TookTurns c.args.turns c.args.member.now m) (sym c.ends_by-in-Err.ensures) (TookTurns-Worked c.args.turns (c.loop.counter + wasted fault) c.loop.counter c.args.member.now _ worked (omega (arith, c.loop.invariant.1)))

@@ -1,7 +1,7 @@
 use Rattle.std.proofs.Common.{◌∙◌, sym, arith}
 use Rattle.clap.specs.Words.{found_of, rows_of}
 use Rattle.clap.proofs.WalkLemmas.{first_value-rows}
-use Rattle.command_line.proofs.WordLemmas.{no_number, number_given}
+use Rattle.command_line.proofs.WordLemmas.{HasNumber-missing, HasNumber-given}
 use Rattle.command_line.proofs.words.number_of.Goals as goal
 
 pub returns-in-Ok-clause-some : goal.returns-in-Ok-clause-some
@@ -11,22 +11,22 @@ returns-in-Ok-clause-some c =
 
 pub returns-in_default-clause-none : goal.returns-in_default-clause-none
 returns-in_default-clause-none c = λ _ number has.
-    no_number c.args.name.now c.args.least c.args.most number (rows_of (found_of c.args.used.now)) (c.in_default.ensures ∙ first_value-rows (found_of c.args.used.now) c.args.name.now) has
+    HasNumber-missing c.args.name.now c.args.least c.args.most number (rows_of (found_of c.args.used.now)) (c.in_default.ensures ∙ first_value-rows (found_of c.args.used.now) c.args.name.now) has
 
 pub returns-in_default-parse-clause-none : goal.returns-in_default-parse-clause-none
 returns-in_default-parse-clause-none c = λ _ number has.
     let text = c.in-Some.ensures ∙ first_value-rows (found_of c.args.used.now) c.args.name.now in
-    let given = number_given c.args.name.now c.in-Some.text.now c.args.least c.args.most number (rows_of (found_of c.args.used.now)) (sym text) has in
+    let given = HasNumber-given c.args.name.now c.in-Some.text.now c.args.least c.args.most number (rows_of (found_of c.args.used.now)) (sym text) has in
     omega (arith, given.1, c.in-Ok.ensures.value.0.1, has.2)
 
 pub returns-in_default-parse-2-clause-none : goal.returns-in_default-parse-2-clause-none
 returns-in_default-parse-2-clause-none c = λ _ number has.
     let text = c.in-Some.ensures ∙ first_value-rows (found_of c.args.used.now) c.args.name.now in
-    let given = number_given c.args.name.now c.in-Some.text.now c.args.least c.args.most number (rows_of (found_of c.args.used.now)) (sym text) has in
+    let given = HasNumber-given c.args.name.now c.in-Some.text.now c.args.least c.args.most number (rows_of (found_of c.args.used.now)) (sym text) has in
     omega (arith, given.1, c.in-Ok.ensures.value.0.1, has.1)
 
 pub returns-in_default-parse-3-clause-none : goal.returns-in_default-parse-3-clause-none
 returns-in_default-parse-3-clause-none c = λ _ number has.
     let text = c.in-Some.ensures ∙ first_value-rows (found_of c.args.used.now) c.args.name.now in
-    let given = number_given c.args.name.now c.in-Some.text.now c.args.least c.args.most number (rows_of (found_of c.args.used.now)) (sym text) has in
+    let given = HasNumber-given c.args.name.now c.in-Some.text.now c.args.least c.args.most number (rows_of (found_of c.args.used.now)) (sym text) has in
     c.in_default-parse.ensures.value.0 given.0

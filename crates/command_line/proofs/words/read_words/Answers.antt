@@ -3,7 +3,7 @@ use Rattle.std.proofs.lemmas.Result.{IfErr-weaker, IfOk-weaker}
 use Rattle.clap.specs.Simple.{is_simple}
 use Rattle.clap.specs.Words.{HasKind, fault_of, is_simple_and_free, subcommand_of, subcommand_rows_of}
 use Rattle.command_line.specs.Words.{IsNamedBy, Names, Refuses, RefusesUse, qlock_app}
-use Rattle.command_line.proofs.WordLemmas.{refused_above, refused_use}
+use Rattle.command_line.proofs.WordLemmas.{Refuses-error, Refuses-use}
 use Rattle.command_line.proofs.words.read_words.Goals as goal
 
 pub returns-clause-named : goal.returns-clause-named
@@ -26,7 +26,7 @@ returns-clause-refused c =
     let rows = (c.in_ok-matches.ensures.matches (ap is_simple app ∙ simple)).1 ∙ ap (λ a. subcommand_of a words) app in
     let faultless : fault_of qlock_app words ≡ [] = sym (ap (λ a. fault_of a words) app) ∙ c.in_ok-matches.ensures.kinds (ap is_simple_and_free app ∙ free) in
     IfErr-weaker c.command_of.result (RefusesUse (subcommand_rows_of c.in_ok-matches.matches)) (Refuses words)
-    (λ usage refused. refused_use words usage faultless (subst (λ found. RefusesUse found usage) rows refused)) c.command_of.ensures.refused
+    (λ usage refused. Refuses-use words usage faultless (subst (λ found. RefusesUse found usage) rows refused)) c.command_of.ensures.refused
 
 pub returns-in_err-matches-clause-refused : goal.returns-in_err-matches-clause-refused
 returns-in_err-matches-clause-refused c =
@@ -35,4 +35,4 @@ returns-in_err-matches-clause-refused c =
     let words = map string_bytes c.args.words.now in
     let error = c.in_err-matches.field-0.0 in
     let kinds : HasKind (fault_of qlock_app words) error = subst (λ a. HasKind (fault_of a words) error) app (c.in_err-matches.ensures.kinds (ap is_simple_and_free app ∙ free)) in
-    refused_above c.from_residual-in_err-matches.result words error kinds c.from_residual-in_err-matches.ensures.1
+    Refuses-error c.from_residual-in_err-matches.result words error kinds c.from_residual-in_err-matches.ensures.1

@@ -3,7 +3,7 @@ use Rattle.std.specs.Prelude.{FitsSigned}
 use Rattle.std.specs.Int.{w128}
 use Rattle.std.proofs.lemmas.Int.{to_z-of_z}
 use Rattle.fraction.specs.Rows.{combined}
-use Rattle.fraction.proofs.RowLemmas.{set-holds_below_next, set-keeps_above, product_is, difference_is, difference_fits}
+use Rattle.fraction.proofs.RowLemmas.{set-holds_below_next, set-keeps_above, to_z-of_z_product, to_z-of_z_difference, FitsSigned-difference}
 use Rattle.fraction.proofs.row.combine.Goals as goal
 
 pub overflow_sub-entry : goal.overflow_sub-entry
@@ -13,7 +13,7 @@ overflow_sub-entry c =
     let other : FitsSigned w128 (get_or c.args.pivot_row.now j (pos 0)) = search rules in
     let was = c.loop-j.invariant.left j (omega arith) in
     let fits = c.requires.fits j (omega arith) in
-    difference_fits _ _ _ _ (product_is _ _ _ at c.ranges.scale was fits.0) (product_is _ _ _ c.ranges.taken other refl fits.1) fits.2
+    FitsSigned-difference _ _ _ _ (to_z-of_z_product _ _ _ at c.ranges.scale was fits.0) (to_z-of_z_product _ _ _ c.ranges.taken other refl fits.1) fits.2
 
 pub loop-j-preserved : goal.loop-j-preserved
 loop-j-preserved c =
@@ -26,6 +26,6 @@ loop-j-preserved c =
     let back = sym (ap (λ t. combined c.args.row.now t c.args.pivot_row.now (to_z w128 (of_z w128 c.args.taken)) j) (to_z-of_z w128 c.args.scale c.ranges.scale) ∙ ap (λ t. combined c.args.row.now c.args.scale c.args.pivot_row.now t j) (to_z-of_z w128 c.args.taken c.ranges.taken)) in
     record {
       done = set-holds_below_next (λ k v. v ≡ combined c.args.row.now (to_z w128 (of_z w128 c.args.scale)) c.args.pivot_row.now (to_z w128 (of_z w128 c.args.taken)) k) _ _ _ lt c.loop-j.invariant.done
-          (difference_is _ _ _ _ (product_is _ _ _ at c.ranges.scale was fits.0) (product_is _ _ _ c.ranges.taken other refl fits.1) fits.2 ∙ back);
+          (to_z-of_z_difference _ _ _ _ (to_z-of_z_product _ _ _ at c.ranges.scale was fits.0) (to_z-of_z_product _ _ _ c.ranges.taken other refl fits.1) fits.2 ∙ back);
       left = set-keeps_above _ _ _ _ c.loop-j.invariant.left;
     }

@@ -3,7 +3,7 @@ use Rattle.std.specs.Prelude.{FitsSigned}
 use Rattle.std.specs.Int.{w128}
 use Rattle.std.proofs.lemmas.Int.{to_z-of_z}
 use Rattle.fraction.proofs.Passed.{passed-product, product-unfit, difference-unfit, IsOk-iff_unmet}
-use Rattle.fraction.proofs.RowLemmas.{fit_product, fit_difference}
+use Rattle.fraction.proofs.RowLemmas.{Fits-product, Fits-difference}
 use Rattle.fraction.proofs.row.test_combine.Goals as goal
 
 pub returns-in_err-product-2-clause-fits : goal.returns-in_err-product-2-clause-fits
@@ -30,7 +30,7 @@ loop-j-preserved c =
     let left = passed-product _ _ _ _ _ seen refl c.in_ok-product.ensures in
     let right = passed-product _ _ _ _ _ refl seen_other c.in_ok-product-2.ensures in
     below_more _ _ c.loop-j.invariant (
-      fit_product _ _ _ _ seen refl c.in_ok-product.ensures.1,
-      fit_product _ _ _ _ refl seen_other c.in_ok-product-2.ensures.1,
-      fit_difference _ _ _ _ left right c.in_ok-difference.ensures.1,
+      Fits-product _ _ _ _ seen refl c.in_ok-product.ensures.1,
+      Fits-product _ _ _ _ refl seen_other c.in_ok-product-2.ensures.1,
+      Fits-difference _ _ _ _ left right c.in_ok-difference.ensures.1,
     )

@@ -5,8 +5,8 @@ use Rattle.std.proofs.lemmas.List.{length-map}
 use Rattle.fraction.specs.Fractions.{Fits}
 use Rattle.fraction.specs.Tables.{Table, IsTable, IsPivoted, entry_at}
 use Rattle.fraction.specs.Rows.{lists_of, entry_of, IsUnreduced, IsLowest}
-use Rattle.fraction.proofs.RowLemmas.{product_is}
-use Rattle.fraction.proofs.SolveLemmas.{product_positive, is_pivoted, pivoted_table, unreduced_fits}
+use Rattle.fraction.proofs.RowLemmas.{to_z-of_z_product}
+use Rattle.fraction.proofs.SolveLemmas.{positive-product, IsPivoted-from_unreduced, IsTable-pivoted, Fits-unreduced}
 use Rattle.fraction.proofs.rows.solve.Goals as goal
 
 pub reduce-requires-clause-positive : goal.reduce-requires-clause-positive
@@ -14,25 +14,25 @@ reduce-requires-clause-positive c =
     let t : Table = record { rows = lists_of c.args.rows.now; den = c.args.den } in
     let entry_is : c.entry.result ≡ entry_at t c.args.row c.args.column = c.entry.ensures ∙ ap (λ r. entry_of r c.args.column) c.row_of.ensures in
     let fits : Fits (c.args.den *ℤ c.entry.result) = subst (λ e. Fits (c.args.den *ℤ e)) (sym entry_is) c.requires.fits.den in
-    let den_is = product_is c.args.den c.entry.result c.args.den c.ranges.den (record { sfits = c.entry.type_inv }) refl fits ∙ ap (λ e. c.args.den *ℤ e) entry_is in
-    subst (λ d. pos 0 <ℤ d) (sym den_is) (product_positive c.args.den _ c.requires.table.positive c.requires.positive)
+    let den_is = to_z-of_z_product c.args.den c.entry.result c.args.den c.ranges.den (record { sfits = c.entry.type_inv }) refl fits ∙ ap (λ e. c.args.den *ℤ e) entry_is in
+    subst (λ d. pos 0 <ℤ d) (sym den_is) (positive-product c.args.den _ c.requires.table.positive c.requires.positive)
 
 pub reduce-requires-clause-fits : goal.reduce-requires-clause-fits
 reduce-requires-clause-fits c =
     let t : Table = record { rows = lists_of c.args.rows.now; den = c.args.den } in
     let many = length-map c.pivot.new.rows (λ row. row.items) in
     let made = subst (λ d. IsUnreduced (record { rows = lists_of c.args.rows.now; den = d }) (lists_of c.pivot.new.rows) c.args.row c.args.column) (to_z-of_z w128 c.args.den c.ranges.den) c.pivot.ensures in
-    λ i j lt. unreduced_fits t (lists_of c.pivot.new.rows) c.args.row c.args.column c.requires.fits made i j (omega arith)
+    λ i j lt. Fits-unreduced t (lists_of c.pivot.new.rows) c.args.row c.args.column c.requires.fits made i j (omega arith)
 
 pub returns-clause-value : goal.returns-clause-value
 returns-clause-value c =
     let t : Table = record { rows = lists_of c.args.rows.now; den = c.args.den } in
     let entry_is : c.entry.result ≡ entry_at t c.args.row c.args.column = c.entry.ensures ∙ ap (λ r. entry_of r c.args.column) c.row_of.ensures in
     let fits : Fits (c.args.den *ℤ c.entry.result) = subst (λ e. Fits (c.args.den *ℤ e)) (sym entry_is) c.requires.fits.den in
-    let den_is = product_is c.args.den c.entry.result c.args.den c.ranges.den (record { sfits = c.entry.type_inv }) refl fits ∙ ap (λ e. c.args.den *ℤ e) entry_is in
+    let den_is = to_z-of_z_product c.args.den c.entry.result c.args.den c.ranges.den (record { sfits = c.entry.type_inv }) refl fits ∙ ap (λ e. c.args.den *ℤ e) entry_is in
     let made = subst (λ d. IsUnreduced (record { rows = lists_of c.args.rows.now; den = d }) (lists_of c.pivot.new.rows) c.args.row c.args.column) (to_z-of_z w128 c.args.den c.ranges.den) c.pivot.ensures in
     let lowest = subst (λ d. IsLowest (lists_of c.pivot.new.rows) (lists_of c.reduce.new.rows) d c.reduce.result) den_is c.reduce.ensures in
-    let is = is_pivoted t (lists_of c.pivot.new.rows) (lists_of c.reduce.new.rows) c.reduce.result c.args.row c.args.column made lowest in
+    let is = IsPivoted-from_unreduced t (lists_of c.pivot.new.rows) (lists_of c.reduce.new.rows) c.reduce.result c.args.row c.args.column made lowest in
     let result_is = to_z-of_z w128 c.reduce.result (record { sfits = c.reduce.type_inv }) in
     subst (λ d. IsPivoted t (record { rows = lists_of c.reduce.new.rows; den = d }) c.args.row c.args.column) (sym result_is) is
 
@@ -41,9 +41,9 @@ returns-clause-table c =
     let t : Table = record { rows = lists_of c.args.rows.now; den = c.args.den } in
     let entry_is : c.entry.result ≡ entry_at t c.args.row c.args.column = c.entry.ensures ∙ ap (λ r. entry_of r c.args.column) c.row_of.ensures in
     let fits : Fits (c.args.den *ℤ c.entry.result) = subst (λ e. Fits (c.args.den *ℤ e)) (sym entry_is) c.requires.fits.den in
-    let den_is = product_is c.args.den c.entry.result c.args.den c.ranges.den (record { sfits = c.entry.type_inv }) refl fits ∙ ap (λ e. c.args.den *ℤ e) entry_is in
+    let den_is = to_z-of_z_product c.args.den c.entry.result c.args.den c.ranges.den (record { sfits = c.entry.type_inv }) refl fits ∙ ap (λ e. c.args.den *ℤ e) entry_is in
     let made = subst (λ d. IsUnreduced (record { rows = lists_of c.args.rows.now; den = d }) (lists_of c.pivot.new.rows) c.args.row c.args.column) (to_z-of_z w128 c.args.den c.ranges.den) c.pivot.ensures in
     let lowest = subst (λ d. IsLowest (lists_of c.pivot.new.rows) (lists_of c.reduce.new.rows) d c.reduce.result) den_is c.reduce.ensures in
-    let is = is_pivoted t (lists_of c.pivot.new.rows) (lists_of c.reduce.new.rows) c.reduce.result c.args.row c.args.column made lowest in
+    let is = IsPivoted-from_unreduced t (lists_of c.pivot.new.rows) (lists_of c.reduce.new.rows) c.reduce.result c.args.row c.args.column made lowest in
     let result_is = to_z-of_z w128 c.reduce.result (record { sfits = c.reduce.type_inv }) in
-    subst (λ d. IsTable (record { rows = lists_of c.reduce.new.rows; den = d })) (sym result_is) (pivoted_table t _ c.args.row c.args.column c.requires.table c.requires.fits c.requires.positive is)
+    subst (λ d. IsTable (record { rows = lists_of c.reduce.new.rows; den = d })) (sym result_is) (IsTable-pivoted t _ c.args.row c.args.column c.requires.table c.requires.fits c.requires.positive is)

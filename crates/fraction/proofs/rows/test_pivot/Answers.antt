@@ -6,15 +6,15 @@ use Rattle.std.proofs.lemmas.Bool.{false≢true}
 use Rattle.fraction.specs.Fractions.{Fits}
 use Rattle.fraction.specs.Rows.{lists_of, row_at, entry_of, EachFits, OthersFit}
 use Rattle.fraction.proofs.Passed.{IsOk-iff_unmet}
-use Rattle.fraction.proofs.RowLemmas.{fit_product}
-use Rattle.fraction.proofs.PivotLemmas.{pivot_fits, others_fit}
-use Rattle.fraction.proofs.SmallLemmas.{small_pivot}
+use Rattle.fraction.proofs.RowLemmas.{Fits-product}
+use Rattle.fraction.proofs.PivotLemmas.{PivotFits-from_parts, OthersFit-PivotFits}
+use Rattle.fraction.proofs.SmallLemmas.{PivotFits-small}
 use Rattle.fraction.proofs.rows.test_pivot.Goals as goal
 
 pub returns-then-are_small-clause-fits : goal.returns-then-are_small-clause-fits
 returns-then-are_small-clause-fits c =
     let many = length-map c.args.rows.now (λ row. row.items) in
-    let small = small_pivot (lists_of c.args.rows.now) c.args.den c.args.row c.args.column (subst (λ z. unsigned_abs z ≤ 2 ^ 62) (to_z-of_z w128 c.args.den c.ranges.den) (c.is_small_number.ensures c.if-is_small_number.true)) (c.are_small.ensures c.if-are_small.true) (omega arith) c.requires.level c.requires.column in
+    let small = PivotFits-small (lists_of c.args.rows.now) c.args.den c.args.row c.args.column (subst (λ z. unsigned_abs z ≤ 2 ^ 62) (to_z-of_z w128 c.args.den c.ranges.den) (c.is_small_number.ensures c.if-is_small_number.true)) (c.are_small.ensures c.if-are_small.true) (omega arith) c.requires.level c.requires.column in
     (λ ok. small, λ fits. refl)
 
 pub returns-in_err-test_scale-clause-fits : goal.returns-in_err-test_scale-clause-fits
@@ -29,7 +29,7 @@ returns-clause-fits c =
     let L = lists_of c.args.rows.now in
     let entry_is : c.entry-entry.result ≡ entry_of (row_at L c.args.row) c.args.column = c.entry-entry.ensures ∙ ap (λ r. entry_of r c.args.column) c.row_of-pivot_row.ensures in
     let passed : to_z w128 (of_z w128 c.entry-entry.result) ≡ entry_of (row_at L c.args.row) c.args.column = to_z-of_z w128 c.entry-entry.result (record { sfits = c.entry-entry.type_inv }) ∙ entry_is in
-    let at : Fits (c.args.den *ℤ entry_of (row_at L c.args.row) c.args.column) = fit_product _ _ _ _ (to_z-of_z w128 c.args.den c.ranges.den) passed c.in_ok-product.ensures.1 in
+    let at : Fits (c.args.den *ℤ entry_of (row_at L c.args.row) c.args.column) = Fits-product _ _ _ _ (to_z-of_z w128 c.args.den c.ranges.den) passed c.in_ok-product.ensures.1 in
     let own : EachFits (row_at L c.args.row) c.args.den = subst (λ d. EachFits (row_at L c.args.row) d) (to_z-of_z w128 c.args.den c.ranges.den) (subst (λ r. EachFits r (to_z w128 (of_z w128 c.args.den))) c.row_of-pivot_row.ensures (c.in_ok-test_scale.ensures.fits.0 refl)) in
     let others = subst (λ s. IsOk c.test_others.result ↔ OthersFit L s c.args.row c.args.column) passed c.test_others.ensures.fits in
-    (λ ok. pivot_fits L c.args.den c.args.row c.args.column at own (others.0 ok), λ fits. others.1 (others_fit L c.args.den c.args.row c.args.column fits))
+    (λ ok. PivotFits-from_parts L c.args.den c.args.row c.args.column at own (others.0 ok), λ fits. others.1 (OthersFit-PivotFits L c.args.den c.args.row c.args.column fits))

@@ -4,7 +4,7 @@ use Rattle.std.proofs.lemmas.List.FromFn.{map-range_with_len_more}
 use Rattle.board.specs.Seats.{RootState}
 use Rattle.dealer.specs.Offices.{ClerkState}
 use Rattle.members.specs.Members.{fresh_member}
-use Rattle.members.proofs.BlankLemmas.{times_less}
+use Rattle.members.proofs.BlankLemmas.{mul-less_one}
 use Rattle.members.proofs.blank.members_of.Goals as goal
 
 pub loop-client-preserved : goal.loop-client-preserved
@@ -26,6 +26,6 @@ loop-client-preserved g c =
           ∙ get_or-set_other c.loop-client.root.clients i k false false (λ e. absurd (omega (arith, above, e)))
           ∙ inv.there k (omega (arith, above));
       clerk = kept ∙ ap (λ (k : ClerkState). record { office = k.office; rest = k.rest - c.args.quota; receipts = k.receipts }) inv.clerk
-          ∙ ap (λ (r : ℕ). record { office = c.args.office.now.name; rest = r; receipts = [] }) (times_less n i c.args.quota less);
+          ∙ ap (λ (r : ℕ). record { office = c.args.office.now.name; rest = r; receipts = [] }) (mul-less_one n i c.args.quota less);
       members = c.in_ok-push.ensures.items ∙ (λ j. inv.members j ++ made j ∷ []) ∙ sym (map-range_with_len_more (fresh_member cluster) 0 i i (omega arith));
     }

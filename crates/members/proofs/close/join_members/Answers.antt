@@ -1,7 +1,7 @@
 use Rattle.std.proofs.Common.{◌<◌, length, ◌∙◌, arith}
 use Rattle.std.proofs.lemmas.List.{length_push}
 use Rattle.members.specs.Records.{Pass}
-use Rattle.members.proofs.RecordLemmas.{more_each, more_passes, more_receipts, more_share}
+use Rattle.members.proofs.RecordLemmas.{All-all_passes_more, all_passes-more, all_receipts-more, share-more}
 use Rattle.members.proofs.close.join_members.Goals as goal
 
 pub loop-member-preserved : goal.loop-member-preserved
@@ -14,8 +14,8 @@ loop-member-preserved g c =
       table = c.join_member.ensures.table ∙ at.invariant.table;
       office = c.join_member.ensures.office ∙ at.invariant.office;
       seats = omega (arith, at.invariant.seats, joined.seats, long);
-      passes = more_passes c.args.root.now.passes at.root.passes c.join_member.new.root.passes at.yielded m at.invariant.passes joined.passes;
-      each = more_each (λ (p : Pass). p.0 < g.N.ClusterName.cluster.board.clients) at.yielded m at.invariant.each joined.each;
-      receipts = more_receipts c.args.clerk.now.receipts at.clerk.receipts c.join_member.new.clerk.receipts at.yielded m at.invariant.receipts joined.receipts;
-      share = more_share _ _ _ (length at.yielded) _ _ at.invariant.share joined.share long;
+      passes = all_passes-more c.args.root.now.passes at.root.passes c.join_member.new.root.passes at.yielded m at.invariant.passes joined.passes;
+      each = All-all_passes_more (λ (p : Pass). p.0 < g.N.ClusterName.cluster.board.clients) at.yielded m at.invariant.each joined.each;
+      receipts = all_receipts-more c.args.clerk.now.receipts at.clerk.receipts c.join_member.new.clerk.receipts at.yielded m at.invariant.receipts joined.receipts;
+      share = share-more _ _ _ (length at.yielded) _ _ at.invariant.share joined.share long;
     }

@@ -1,10 +1,10 @@
 use Rattle.std.proofs.Common.{length, sym, ap, ◌∙◌}
 use Rattle.std.proofs.lemmas.List.{with_items_is}
-use Rattle.planner.proofs.Divisors.{divided_plan}
+use Rattle.planner.proofs.Divisors.{HaveNoCommonDivisor-divided_plan}
 use Rattle.planner.proofs.search.checked.Goals as goal
 
 pub returns-in-Ok-clause-lowest : goal.returns-in-Ok-clause-lowest
 returns-in-Ok-clause-lowest c =
     let quorums = with_items_is c.args.candidate.quorum_weights c.divide.new.weights (c.divide.ensures.length ∙ ap length c.deref_mut.ensures.value ∙ sym c.args.candidate.quorum_weights.ok.0) in
     let voters = with_items_is c.args.candidate.voter_weights c.divide-2.new.weights (c.divide-2.ensures.length ∙ ap length c.deref_mut-2.ensures.value ∙ sym c.args.candidate.voter_weights.ok.0) in
-    divided_plan c.in-Ok.plan _ c.divide.new.weights c.divide-2.new.weights c.in-Ok.ensures.exact.1 quorums voters c.in-Ok.ensures.certificate c.divide.ensures.lowest c.divide-2.ensures.lowest
+    HaveNoCommonDivisor-divided_plan c.in-Ok.plan _ c.divide.new.weights c.divide-2.new.weights c.in-Ok.ensures.exact.1 quorums voters c.in-Ok.ensures.certificate c.divide.ensures.lowest c.divide-2.ensures.lowest

@@ -2,17 +2,17 @@ use Rattle.std.proofs.Common.{ap, ◌∙◌}
 use Rattle.coterie_file.specs.Reading.{coterie_at}
 use Rattle.qlock_cli.specs.Commands.{refused_as}
 use Rattle.qlock_cli.specs.declared.fault.Fault.TheVariants.{File}
-use Rattle.qlock_cli.proofs.CommandLemmas.{file_refused, part_read, part_refused}
+use Rattle.qlock_cli.proofs.CommandLemmas.{Refuses-file, coterie_part-read, coterie_part-refused}
 use Rattle.qlock_cli.proofs.answer.coterie_of.Goals as goal
 
 pub returns-in_default-clause-exact : goal.returns-in_default-clause-exact
-returns-in_default-clause-exact c = part_refused c.args.part.now c.in_default.ensures.cases.0
+returns-in_default-clause-exact c = coterie_part-refused c.args.part.now c.in_default.ensures.cases.0
 
 pub returns-in-Ok-read_coterie-clause-exact : goal.returns-in-Ok-read_coterie-clause-exact
 returns-in-Ok-read_coterie-clause-exact c =
-    part_read c.args.part.now c.in-Ok.text.now c.in-Ok.ensures.cases.0 c.in-Ok.ensures.cases.1 ∙ ap (refused_as File) c.in-Ok-read_coterie.ensures.exact
+    coterie_part-read c.args.part.now c.in-Ok.text.now c.in-Ok.ensures.cases.0 c.in-Ok.ensures.cases.1 ∙ ap (refused_as File) c.in-Ok-read_coterie.ensures.exact
 
 pub returns-in-Err-clause-exact : goal.returns-in-Err-clause-exact
 returns-in-Err-clause-exact c =
-    let part = part_read c.args.part.now c.in-Ok.text.now c.in-Ok.ensures.cases.0 c.in-Ok.ensures.cases.1 in
-    rw (c.from.ensures, part) (file_refused c.in-Err.fault (coterie_at c.in-Ok.text.now) c.in-Err.ensures.exact)
+    let part = coterie_part-read c.args.part.now c.in-Ok.text.now c.in-Ok.ensures.cases.0 c.in-Ok.ensures.cases.1 in
+    rw (c.from.ensures, part) (Refuses-file c.in-Err.fault (coterie_at c.in-Ok.text.now) c.in-Err.ensures.exact)

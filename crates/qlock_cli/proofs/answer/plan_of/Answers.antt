@@ -2,7 +2,7 @@ use Rattle.std.proofs.Common.{ap}
 use Rattle.certificate.specs.PlanTexts.{plan_at}
 use Rattle.qlock_cli.specs.Commands.{plan_part, refused_as}
 use Rattle.qlock_cli.specs.declared.fault.Fault.TheVariants.{Plan}
-use Rattle.qlock_cli.proofs.CommandLemmas.{plan_refused}
+use Rattle.qlock_cli.proofs.CommandLemmas.{Refuses-plan}
 use Rattle.qlock_cli.proofs.answer.plan_of.Goals as goal
 
 pub returns-in-Ok-clause-exact : goal.returns-in-Ok-clause-exact
@@ -11,4 +11,4 @@ returns-in-Ok-clause-exact c = ap (refused_as Plan) c.in-Ok.ensures.exact
 
 pub returns-in-Err-clause-exact : goal.returns-in-Err-clause-exact
 unfolding plan_part
-returns-in-Err-clause-exact c = rw c.from.ensures (plan_refused c.in-Err.fault (plan_at c.args.coterie.now c.args.part.now) c.in-Err.ensures.exact)
+returns-in-Err-clause-exact c = rw c.from.ensures (Refuses-plan c.in-Err.fault (plan_at c.args.coterie.now c.args.part.now) c.in-Err.ensures.exact)

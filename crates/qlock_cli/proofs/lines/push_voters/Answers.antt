@@ -3,7 +3,7 @@ use Rattle.std.specs.List.{flat_map, range_with_len}
 use Rattle.std.proofs.lemmas.Option.{get_or_from_slice_get}
 use Rattle.coterie_file.specs.Names.{name_at}
 use Rattle.qlock_cli.specs.Commands.{voter_line}
-use Rattle.qlock_cli.proofs.TextLemmas.{lines_more}
+use Rattle.qlock_cli.proofs.TextLemmas.{flat_map-more_lines}
 use Rattle.qlock_cli.proofs.lines.push_voters.Goals as goal
 
 pub loop-i-preserved : goal.loop-i-preserved
@@ -11,7 +11,7 @@ loop-i-preserved c =
     let names = c.args.named.now.names in
     let counts = c.args.counts.now in
     let name = get_or_from_slice_get names c.loop-i.i c.name.result.now [] c.name.ensures.value in
-    lines_more (λ i. voter_line (name_at names i) (slice_index counts i)) c.loop-i.i (string_bytes c.args.text.now) (string_bytes c.loop-i.text) (string_bytes c.push_str.new.self) c.loop-i.invariant
+    flat_map-more_lines (λ i. voter_line (name_at names i) (slice_index counts i)) c.loop-i.i (string_bytes c.args.text.now) (string_bytes c.loop-i.text) (string_bytes c.push_str.new.self) c.loop-i.invariant
     (c.in_ok-push_str.ensures.bytes ∙ ap (λ t. string_bytes c.loop-i.text ++ t)
     (c.deref.ensures ∙ c.in_ok-line.ensures ∙ ap (λ n. voter_line n (slice_index counts c.loop-i.i)) (sym name)))
 

@@ -1,6 +1,6 @@
 use Rattle.std.proofs.Common.{◌≡◌, ◌-◌, ap, sym, ◌∙◌, arith, length}
 use Rattle.qlock_cli.specs.Parts.{first_mark, is_mark, least_from}
-use Rattle.qlock_cli.proofs.PartLemmas.{least_later}
+use Rattle.qlock_cli.proofs.PartLemmas.{least_from-later}
 use Rattle.qlock_cli.proofs.parts.mark_in.Goals as goal
 
 pub loop-place-init : goal.loop-place-init
@@ -11,4 +11,4 @@ loop-place-init c =
 
 pub loop-place-preserved : goal.loop-place-preserved
 loop-place-preserved c =
-    sym (least_later (length c.args.input.now) c.loop-place.place (is_mark c.args.input.now) (omega arith) (sym c.if-begins_mark.ensures.mark)) ∙ c.loop-place.invariant
+    sym (least_from-later (length c.args.input.now) c.loop-place.place (is_mark c.args.input.now) (omega arith) (sym c.if-begins_mark.ensures.mark)) ∙ c.loop-place.invariant

@@ -1,5 +1,5 @@
 use Rattle.std.proofs.Common.{ℕ, ◌+◌, Option, subst, sym, ◌∙◌, arith}
-use Rattle.replay.proofs.DrawLemmas.{SoFar, right_more, wrong_end, wrong_more}
+use Rattle.replay.proofs.DrawLemmas.{SoFar, SoFar-right, SoFar-end, SoFar-wrong}
 use Rattle.replay.proofs.check.least_wrong.Goals as goal
 use Rattle.replay.proofs.check.least_wrong.Goals.{then-quorum_at-draw, else-quorum_at-draw}
 
@@ -12,12 +12,12 @@ loop-draw-preserved c =
     elim c.if-quorum_at-draw.branch [
       | then-quorum_at-draw t ↦
           subst (λ (found : Option ℕ). SoFar w draws (i + 1) found) (sym t.least-is)
-          (wrong_more w draws i (0, 0, 0) c.loop-draw.least t.lesser.result c.loop-draw-test.true c.loop-draw.invariant
+          (SoFar-wrong w draws i (0, 0, 0) c.loop-draw.least t.lesser.result c.loop-draw-test.true c.loop-draw.invariant
           (λ right. t.if-quorum_at-draw.true (value ∙ sym right)) t.lesser.ensures.none t.lesser.ensures.some)
       | else-quorum_at-draw t ↦
           subst (λ (found : Option ℕ). SoFar w draws (i + 1) found) (sym t.least-is)
-          (right_more w draws i (0, 0, 0) c.loop-draw.least c.loop-draw-test.true c.loop-draw.invariant (sym t.if-quorum_at-draw.false ∙ value))
+          (SoFar-right w draws i (0, 0, 0) c.loop-draw.least c.loop-draw-test.true c.loop-draw.invariant (sym t.if-quorum_at-draw.false ∙ value))
     ]
 
 pub returns : goal.returns
-returns c = wrong_end c.args.cycle.now c.args.draws.now c.loop-draw.draw-index c.loop-draw.least (omega arith) c.loop-draw.invariant
+returns c = SoFar-end c.args.cycle.now c.args.draws.now c.loop-draw.draw-index c.loop-draw.least (omega arith) c.loop-draw.invariant

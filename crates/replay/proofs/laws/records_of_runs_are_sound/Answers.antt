@@ -1,5 +1,5 @@
-use Rattle.replay.proofs.RunLemmas.{sound_run}
+use Rattle.replay.proofs.RunLemmas.{IsSoundRecord-run}
 use Rattle.replay.proofs.laws.records_of_runs_are_sound.Goals as goal
 
 pub returns : goal.returns
-returns c = sound_run
+returns c = IsSoundRecord-run

@@ -1,7 +1,7 @@
 use Rattle.std.proofs.Common.{string_bytes}
-use Rattle.replay.proofs.OutputLemmas.{next_message}
+use Rattle.replay.proofs.OutputLemmas.{sent_line-next}
 use Rattle.replay.proofs.output.push_messages.Goals as goal
 
 pub loop-number-preserved : goal.loop-number-preserved
 loop-number-preserved c =
-    next_message c.args.world.now.state.sent c.loop-number.number c.message.result (string_bytes c.loop-number.text) (string_bytes c.push_message.new.text) _ c.message.ensures.value c.in_ok-push_message.ensures c.loop-number.invariant
+    sent_line-next c.args.world.now.state.sent c.loop-number.number c.message.result (string_bytes c.loop-number.text) (string_bytes c.push_message.new.text) _ c.message.ensures.value c.in_ok-push_message.ensures c.loop-number.invariant

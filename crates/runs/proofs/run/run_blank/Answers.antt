@@ -3,14 +3,14 @@ use Rattle.members.specs.Clusters.{ClusterState, IsCluster}
 use Rattle.certificate.specs.Certificates.{IsCertificate}
 use Rattle.members.specs.Closes.{RefusesClose}
 use Rattle.runs.specs.Runs.{AreLet, EndsRun, IsRun}
-use Rattle.runs.proofs.RunLemmas.{all_ready, driven_ends, each_let, each_passed, run_of, two_turns}
+use Rattle.runs.proofs.RunLemmas.{all_ready, EndsRun-driven, AreLet-served, All-passed, run_of, turns-served}
 use Rattle.runs.proofs.run.run_blank.Goals as goal
 
 pub returns-in-Err-clause-ended : goal.returns-in-Err-clause-ended
 returns-in-Err-clause-ended g c =
     let cluster = g.N.ClusterName.cluster in
     let quota = subst (λ (x : ClusterState). c.args.passes ≤ x.quota) c.requires.name c.requires.quota in
-    let ended = driven_ends cluster c.args.passes c.in-Ok.members.items c.in-Err.driven.members.items c.in-Err.driven.fault c.in-Ok.ensures.members quota c.in-Err.ensures.back c.in-Err.ensures.least in
+    let ended = EndsRun-driven cluster c.args.passes c.in-Ok.members.items c.in-Err.driven.members.items c.in-Err.driven.fault c.in-Ok.ensures.members quota c.in-Err.ensures.back c.in-Err.ensures.least in
     subst (λ (x : ClusterState). EndsRun x.board.clients c.from.result) (sym c.requires.name) (subst (EndsRun cluster.board.clients) (sym c.from.ensures) ended)
 
 pub returns-in-Ok-close-clause-run : goal.returns-in-Ok-close-clause-run
@@ -25,7 +25,7 @@ returns-in-Ok-close-clause-run g c =
     let made = run_of cluster c.args.passes c.in-Ok.members.items after run c.in-Ok.ensures.members served whole.quorums is
     (c.records_of_runs_are_sound.ensures cluster after run is)
     (c.records_count_passes.ensures.draws cluster after run is)
-    (c.records_count_passes.ensures.evenly cluster after run c.args.passes is (each_passed cluster c.args.passes c.in-Ok.members.items after c.in-Ok.ensures.members served))
+    (c.records_count_passes.ensures.evenly cluster after run c.args.passes is (All-passed cluster c.args.passes c.in-Ok.members.items after c.in-Ok.ensures.members served))
     (c.records_are_in_range.ensures.quorums cluster after run whole plan is) in
     subst (λ (x : ClusterState). IsRun x.office.cycle x.board.clients c.args.passes run) (sym c.requires.name) made
 
@@ -33,14 +33,14 @@ pub returns-in-Ok-close-clause-let_pass : goal.returns-in-Ok-close-clause-let_pa
 returns-in-Ok-close-clause-let_pass g c some =
     let lets = g.G.Gate.lets c.args.gate.now in
     let driven = c.in-Ok-drive.ensures in
-    let each = each_let g.N.ClusterName.cluster lets c.args.passes c.in-Ok.members.items c.in-Ok-drive.members.items c.in-Ok.ensures.members driven.served driven.let_pass some in
+    let each = AreLet-served g.N.ClusterName.cluster lets c.args.passes c.in-Ok.members.items c.in-Ok-drive.members.items c.in-Ok.ensures.members driven.served driven.let_pass some in
     subst (λ (x : ClusterState). AreLet lets x.board.clients) (sym c.requires.name) each
 
 pub returns-in-Ok-close-clause-in_turns : goal.returns-in-Ok-close-clause-in_turns
 returns-in-Ok-close-clause-in_turns g c =
     let driven = c.in-Ok-drive.ensures in
     let whole : IsCluster g.N.ClusterName.cluster = subst IsCluster c.requires.name c.requires.cluster in
-    two_turns g.N.ClusterName.cluster c.args.turns c.args.passes c.in-Ok.members.items c.in-Ok-drive.members.items c.in-Ok.ensures.members driven.served driven.in_turns whole.some_client
+    turns-served g.N.ClusterName.cluster c.args.turns c.args.passes c.in-Ok.members.items c.in-Ok-drive.members.items c.in-Ok.ensures.members driven.served driven.in_turns whole.some_client
 
 pub unreachable-requires : goal.unreachable-requires
 unreachable-requires g c =

@@ -2,7 +2,7 @@ use Rattle.std.proofs.Common.{◌≡◌, ◌++◌, ◌∷◌, [], ◌<◌, ℕ, 
 use Rattle.std.specs.Fmt.{decimal}
 use Rattle.std.proofs.lemmas.List.{append_assoc, append-nil, take_more_set, length-take-le, length-set, take_all, nil_from_length}
 use Rattle.texts.specs.Fields.{fields}
-use Rattle.texts.proofs.FieldLemmas.{fields_push, border_fields, next_number, none_left, none_from_test, some_from_test}
+use Rattle.texts.proofs.FieldLemmas.{fields-push, IsBorder-fields, next_number, IsLeft-end, zero-from_test, some-from_test}
 use Rattle.texts.proofs.words.fields.Goals as goal
 
 pub loop-place-preserved : goal.loop-place-preserved
@@ -19,13 +19,13 @@ loop-place-preserved g c =
     let pushed : take (place + 1) (set numbers place n) ≡ found ++ n ∷ [] = take_more_set numbers place n here in
     record {
       len = length-set numbers place n ∙ full;
-      told = rw (pushed, fields_push) (inv.told ∙ ap (λ (r : List ℕ). fields found ++ r) c.in_ok-n.ensures.spelled ∙ sym (append_assoc (fields found) (32 ∷ decimal n) next));
+      told = rw (pushed, fields-push) (inv.told ∙ ap (λ (r : List ℕ). fields found ++ r) c.in_ok-n.ensures.spelled ∙ sym (append_assoc (fields found) (32 ∷ decimal n) next));
       left = λ ns len fit e.
           let left = inv.left ns len fit e in
           let taken : length found ≡ place = length-take-le place numbers (omega arith) in
           let few : length found < length ns = omega arith in
           let more = next_number found c.loop-place.rest.now ns left.0 few left.1 in
-          let same = c.in_ok-n.ensures.read more.0 (fields more.1) more.2.small (border_fields more.1) more.2.rest_is in
+          let same = c.in_ok-n.ensures.read more.0 (fields more.1) more.2.small (IsBorder-fields more.1) more.2.rest_is in
           (more.1, record { fit = more.2.fit; numbers = more.2.numbers ∙ ap (λ (f : List ℕ). f ++ more.1) (ap (λ (m : ℕ). found ++ m ∷ []) (sym same.0) ∙ sym pushed); rest_is = same.1 });
     }
 
@@ -40,7 +40,7 @@ returns-in_err-n-clause-read g c ns len fit e =
     let taken : length found ≡ place = length-take-le place numbers (omega arith) in
     let few : length found < length ns = omega arith in
     let more = next_number found c.loop-place.rest.now ns left.0 few left.1 in
-    absurd (c.in_err-n.ensures.read more.0 (fields more.1) more.2.small (border_fields more.1) more.2.rest_is)
+    absurd (c.in_err-n.ensures.read more.0 (fields more.1) more.2.small (IsBorder-fields more.1) more.2.rest_is)
 
 pub returns-then-is_empty-clause-spelled : goal.returns-then-is_empty-clause-spelled
 returns-then-is_empty-clause-spelled g c =
@@ -48,7 +48,7 @@ returns-then-is_empty-clause-spelled g c =
     let full = inv.len in
     let test = c.loop-place-test.false in
     let all : take c.loop-place.place c.loop-place.numbers ≡ c.loop-place.numbers = take_all c.loop-place.place c.loop-place.numbers (omega arith) in
-    let none : c.loop-place.rest.now ≡ [] = nil_from_length c.loop-place.rest.now (none_from_test _ c.if-is_empty.ensures) in
+    let none : c.loop-place.rest.now ≡ [] = nil_from_length c.loop-place.rest.now (zero-from_test _ c.if-is_empty.ensures) in
     inv.told ∙ ap (λ (r : List ℕ). fields (take c.loop-place.place c.loop-place.numbers) ++ r) none ∙ append-nil _ ∙ ap fields all
 
 pub returns-then-is_empty-clause-read : goal.returns-then-is_empty-clause-read
@@ -59,7 +59,7 @@ returns-then-is_empty-clause-read g c ns len fit e =
     let left = inv.left ns len fit e in
     let all : take c.loop-place.place c.loop-place.numbers ≡ c.loop-place.numbers = take_all c.loop-place.place c.loop-place.numbers (omega arith) in
     let taken : length (take c.loop-place.place c.loop-place.numbers) ≡ length c.loop-place.numbers = ap length all in
-    let none = none_left (take c.loop-place.place c.loop-place.numbers) c.loop-place.rest.now ns left.0 (omega arith) left.1 in
+    let none = IsLeft-end (take c.loop-place.place c.loop-place.numbers) c.loop-place.rest.now ns left.0 (omega arith) left.1 in
     ap (λ (n : List ℕ). Some n) (sym all ∙ sym none.0)
 
 pub returns-else-is_empty-clause-read : goal.returns-else-is_empty-clause-read
@@ -70,5 +70,5 @@ returns-else-is_empty-clause-read g c ns len fit e =
     let left = inv.left ns len fit e in
     let all : take c.loop-place.place c.loop-place.numbers ≡ c.loop-place.numbers = take_all c.loop-place.place c.loop-place.numbers (omega arith) in
     let taken : length (take c.loop-place.place c.loop-place.numbers) ≡ length c.loop-place.numbers = ap length all in
-    let none = none_left (take c.loop-place.place c.loop-place.numbers) c.loop-place.rest.now ns left.0 (omega arith) left.1 in
-    absurd (some_from_test c.loop-place.rest.now c.if-is_empty.ensures none.1)
+    let none = IsLeft-end (take c.loop-place.place c.loop-place.numbers) c.loop-place.rest.now ns left.0 (omega arith) left.1 in
+    absurd (some-from_test c.loop-place.rest.now c.if-is_empty.ensures none.1)

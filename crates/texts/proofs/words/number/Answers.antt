@@ -2,7 +2,7 @@ use Rattle.std.proofs.Common.{subst, sym, ◌∙◌}
 use Rattle.std.specs.Fmt.{decimal}
 use Rattle.std.proofs.lemmas.Fmt.{parse-decimal, decimal_nonempty}
 use Rattle.texts.specs.Fields.{IsPlain}
-use Rattle.texts.proofs.Numbers.{is_decimal, first_is_digit, zero_is_short, decimal_is_utf8}
+use Rattle.texts.proofs.Numbers.{is_decimal, first_is_digit, zero_is_short, IsUtf8-decimal}
 use Rattle.texts.proofs.words.number.Goals as goal
 
 pub returns-then-not-is_plain-clause-read : goal.returns-then-not-is_plain-clause-read
@@ -30,4 +30,4 @@ returns-in-Err-parse-clause-read c n small e =
 
 pub returns-in-Err-clause-read : goal.returns-in-Err-clause-read
 returns-in-Err-clause-read c n small e =
-    absurd (c.in-Err.ensures.cases.0 (rw e (decimal_is_utf8 n small)))
+    absurd (c.in-Err.ensures.cases.0 (rw e (IsUtf8-decimal n small)))

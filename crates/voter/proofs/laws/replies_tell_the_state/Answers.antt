@@ -1,8 +1,8 @@
-use Rattle.voter.proofs.ReplyLemmas.{answers_tell, reminders_place}
+use Rattle.voter.proofs.ReplyLemmas.{AreAnswers-step, AllTellPlace-remind}
 use Rattle.voter.proofs.laws.replies_tell_the_state.Goals as goal
 
 pub returns-clause-steps : goal.returns-clause-steps
-returns-clause-steps c = answers_tell
+returns-clause-steps c = AreAnswers-step
 
 pub returns-clause-reminders : goal.returns-clause-reminders
-returns-clause-reminders c = reminders_place
+returns-clause-reminders c = AllTellPlace-remind

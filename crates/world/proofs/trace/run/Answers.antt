@@ -1,6 +1,6 @@
 use Rattle.std.proofs.Common.{ℕ, ◌+◌, List, sym, ap, subst, ◌∙◌, arith}
 use Rattle.world.specs.declared.fault.WorldFault.{WorldFault}
-use Rattle.world.proofs.Traces.{Ran, ran_on, ran_past}
+use Rattle.world.proofs.Traces.{Ran, Ran-on, Ran-past}
 use Rattle.world.proofs.trace.run.Goals as goal
 use Rattle.world.proofs.trace.run.Goals.{in-Ok, in-Err+in_ok-keep-in-Err}
 
@@ -10,10 +10,10 @@ loop-place-preserved c =
     elim c.match-step.branch [
       | in-Ok w ↦
           subst (λ (l : List (ℕ × WorldFault)). Ran c.args.plan c.args.clients c.args.limit c.args.steps.now (c.loop-place.place + 1) c.step.new.self l) (sym (ap (λ v. v.items) w.refused-is))
-          (ran_on c.args.plan c.args.clients c.args.limit c.args.steps.now c.loop-place.place c.loop-place.world c.step.new.self c.loop-place.refused.items _ w.in-Ok.field-0 c.loop-place.invariant (omega arith)
+          (Ran-on c.args.plan c.args.clients c.args.limit c.args.steps.now c.loop-place.place c.loop-place.world c.step.new.self c.loop-place.refused.items _ w.in-Ok.field-0 c.loop-place.invariant (omega arith)
           w.in-Ok.ensures.plan w.in-Ok.ensures.stepped)
       | in-Err+in_ok-keep-in-Err w ↦
           subst (λ (l : List (ℕ × WorldFault)). Ran c.args.plan c.args.clients c.args.limit c.args.steps.now (c.loop-place.place + 1) c.step.new.self l) (sym (ap (λ v. v.items) w.refused-is ∙ w.in_ok-keep-in-Err.ensures.kept))
-          (ran_past c.args.plan c.args.clients c.args.limit c.args.steps.now c.loop-place.place c.loop-place.world c.step.new.self c.loop-place.refused.items _ w.in-Err.fault c.loop-place.invariant (omega arith)
+          (Ran-past c.args.plan c.args.clients c.args.limit c.args.steps.now c.loop-place.place c.loop-place.world c.step.new.self c.loop-place.refused.items _ w.in-Err.fault c.loop-place.invariant (omega arith)
           w.in-Err.ensures.unchanged w.in-Err.ensures.refused w.in_ok-keep-in-Err.ensures.reason)
     ]

@@ -9,7 +9,7 @@ use Rattle.board.specs.Rule.{IsKept}
 use Rattle.board.specs.Seats.{Setting}
 use Rattle.board.specs.Views.{root_view}
 use Rattle.board.proofs.Ends.{IsKept-start}
-use Rattle.board.proofs.RootFields.{fresh_root, is_below}
+use Rattle.board.proofs.RootFields.{IsRoot-fresh, lt-from_nat_lt}
 use Rattle.board.proofs.board.Board.new.Goals as goal
 
 pub of_words-requires : goal.of_words-requires
@@ -46,11 +46,11 @@ invariant_of-root c =
     let clients : c.from.result ≡ c.args.clients = c.from.ensures in
     let view = root_view c.voters-voters.result c.args.clients in
     let long : length c.as_slice.result.now ≡ c.voters-voters.result + 1 = ap length (c.as_slice.ensures.value ∙ c.in_ok-words.ensures) ∙ length-replicate (c.voters-voters.result + 1) 0 in
-    let on_below : (v : ℕ) → get_or c.first.result v false ≡ true → v < c.voters-voters.result = λ v on. is_below v c.voters-voters.result (sym (c.first.ensures.first v) ∙ on) in
+    let on_below : (v : ℕ) → get_or c.first.result v false ≡ true → v < c.voters-voters.result = λ v on. lt-from_nat_lt v c.voters-voters.result (sym (c.first.ensures.first v) ∙ on) in
     record {
       no_slots = ap (λ (m : Me (Unit {0}) View). m.1) made.4;
       root = subst (λ (x : View × List (ℕ × ℕ)). IsRoot x.0 (c.voters-voters.result + c.from.result) c.first.result c.first-2.result x.1) (λ i. (sym (ap (λ (m : Me (Unit {0}) View). m.0) made.4) i, sym c.new.ensures.items i))
-          (fresh_root c.voters-voters.result c.args.clients (c.voters-voters.result + c.from.result) c.first.result c.first-2.result
+          (IsRoot-fresh c.voters-voters.result c.args.clients (c.voters-voters.result + c.from.result) c.first.result c.first-2.result
           (omega arith)
           (omega (arith, c.first.ensures.sum, c.first-2.ensures.sum, c.from-2.ensures))
           (λ v on. omega (arith, on_below v on, c.voters-voters.ensures.value)));

@@ -6,8 +6,8 @@ use Rattle.board.specs.Seats.{BoardState, RootState, ClientSeatState}
 use Rattle.board.specs.Rule.{Kept}
 use Rattle.board.specs.Roots.{passes_of, IsRoot}
 use Rattle.board.specs.Views.{client_view, with_client, spent_view}
-use Rattle.board.proofs.Giving.{takes_client}
-use Rattle.board.proofs.RootFields.{took_client, numbers_of}
+use Rattle.board.proofs.Giving.{Joins-with_client}
+use Rattle.board.proofs.RootFields.{IsRoot-with_client, numbers_of}
 use Rattle.board.proofs.Register.{Counted-allowed}
 use Rattle.board.proofs.root.BoardRoot.join_client.Goals as goal
 
@@ -24,7 +24,7 @@ join_seat-requires c =
       ap (λ (m : Me (Unit {0}) View). m.1) c.other.invariant.view,
       omega (arith, c.board.invariant.words),
       subst (λ (x : View). Joins (Kept key) c.self.inside.seat.id u o.seat.id x (with_client u x) spent_view) (sym is)
-          (takes_client key c.self.inside.seat.id u o.seat.id o.client o.held o.reading o.passes.items c.other.invariant.few c.in-None.ensures (omega (arith, root.parts, root.enough))),
+          (Joins-with_client key c.self.inside.seat.id u o.seat.id o.client o.held o.reading o.passes.items c.other.invariant.few c.in-None.ensures (omega (arith, root.parts, root.enough))),
     )
 
 pub load-requires : goal.load-requires
@@ -56,6 +56,6 @@ invariant_of-self-2 c =
     record {
       no_slots = ap (λ (m : Me (Unit {0}) View). m.1) me ∙ c.self.invariant.no_slots;
       root = subst (λ (x : View × List (ℕ × ℕ)). IsRoot x.0 (c.self.inside.seats + 1) c.self.inside.voters c.self.inside.clients x.1) (λ i. (sym (ap (λ (m : Me (Unit {0}) View). m.0) me) i, sym kept i))
-          (took_client u c.self.inside.seats c.self.inside.voters c.self.inside.clients c.self.inside.passes.items o.seat.me.0 (passes_of o.client o.passes.items) c.self.invariant.root one passes);
+          (IsRoot-with_client u c.self.inside.seats c.self.inside.voters c.self.inside.clients c.self.inside.passes.items o.seat.me.0 (passes_of o.client o.passes.items) c.self.invariant.root one passes);
       on_table = λ v on. subst (λ (z : TableId). v + 1 < z.words) (sym (c.load.ensures.0 ∙ c.join_seat.ensures.0)) (c.self.invariant.on_table v on);
     }

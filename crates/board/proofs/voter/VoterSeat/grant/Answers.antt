@@ -6,7 +6,7 @@ use Rattle.board.specs.Views.{current_name}
 use Rattle.board.specs.Seats.{Setting}
 use Rattle.board.specs.Words.{name_of, name_in}
 use Rattle.board.proofs.Votes.{Granted-allowed_by_word}
-use Rattle.board.proofs.VoterFields.{voter_room, voter_here, voter_after}
+use Rattle.board.proofs.VoterFields.{length-voter_view, slice_index-voter_view, set-voter_view}
 use Rattle.board.proofs.voter.VoterSeat.grant.Goals as goal
 
 pub swap-requires : goal.swap-requires
@@ -15,8 +15,8 @@ swap-requires c =
     let voter = ap (λ (s : VoterSeatState). s.voter) c.self.view_is in
     let voters = ap (λ (b : BoardState). b.voters) c.board.view_is in
     let sheet = ap (λ (s : Setting). s.voters) c.board.invariant.same_sheet in
-    let here = voter_here c.self.inside.seat.me c.self.inside.voter c.self.inside.current c.self.invariant.view c.self.invariant.few in
-    let room = voter_room c.self.inside.seat.me c.self.inside.voter c.self.inside.current c.self.invariant.view c.self.invariant.few in
+    let here = slice_index-voter_view c.self.inside.seat.me c.self.inside.voter c.self.inside.current c.self.invariant.view c.self.invariant.few in
+    let room = length-voter_view c.self.inside.seat.me c.self.inside.voter c.self.inside.current c.self.invariant.view c.self.invariant.few in
     let at : c.from.result ≡ c.self.inside.voter = c.from.ensures in
     let words = ap (λ (z : TableId). z.words) (ap (λ (s : VoterSeatState). s.table) c.self.view_is ∙ c.requires.table ∙ sym (ap (λ (b : BoardState). b.table) c.board.view_is)) in
     let in_board : c.from.result < c.board.inside.sheet.voters = omega (arith, c.self.invariant.on_table, c.board.invariant.words, words) in (
@@ -32,7 +32,7 @@ pub invariant_of-self : goal.invariant_of-self
 invariant_of-self c =
     let in_range : c.args.client < 64 = omega (arith, c.requires.client, ap (λ (b : BoardState). b.clients) c.board.view_is, c.board.invariant.few_clients) in
     record {
-      view = voter_after c.self.inside.seat.me c.swap.new.seat.me c.self.inside.voter _ c.self.inside.current (Some (c.args.client, c.args.grant)) c.self.invariant.view
+      view = set-voter_view c.self.inside.seat.me c.swap.new.seat.me c.self.inside.voter _ c.self.inside.current (Some (c.args.client, c.args.grant)) c.self.invariant.view
           (subst (λ (v : ℕ). c.swap.new.seat.me ≡ (record c.self.inside.seat.me.0 { voters = set c.self.inside.seat.me.0.voters v (name_in c.word-offered.result + 1) }, c.self.inside.seat.me.1)) c.from.ensures c.swap.ensures.2.2)
           (omega (arith, c.word-offered.ensures));
       few = c.self.invariant.few;

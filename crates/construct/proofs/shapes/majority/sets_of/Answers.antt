@@ -5,8 +5,8 @@ use Rattle.itertools.specs.Odometer.{ways}
 use Rattle.itertools.specs.Pool.{ascending_low, ascending_high, combination_left}
 use Rattle.numbers.specs.Sets.{has, IsSet, set_where}
 use Rattle.construct.specs.Majority.{sets_from}
-use Rattle.construct.proofs.MajorityLemmas.{IsChoice-sets_from, IsSet-choice, below_choice}
-use Rattle.construct.proofs.Combinations.{ways_are_sets, members_are_places, set_where-has}
+use Rattle.construct.proofs.MajorityLemmas.{IsChoice-sets_from, IsSet-choice, All-IsChoice}
+use Rattle.construct.proofs.Combinations.{ways-sets_from, members_are_places, set_where-has}
 use Rattle.construct.proofs.shapes.majority.sets_of.Goals as goal
 
 pub loop-members-init : goal.loop-members-init
@@ -16,14 +16,14 @@ loop-members-init c =
     let made = c.in_ok-members-items.members-items in
     let made_by = c.in_ok-members-items.ensures in
     let left : combination_left made ≡ sets_from 0 n k =
-    made_by.left ∙ ap (λ m. ways ascending_low (ascending_high m k) k []) made_by.size ∙ ways_are_sets k n k n [] (omega arith) (omega arith) in
+    made_by.left ∙ ap (λ m. ways ascending_low (ascending_high m k) k []) made_by.size ∙ ways-sets_from k n k n [] (omega arith) (omega arith) in
     let all = IsChoice-sets_from 0 n k in
     rw c.into_iter-members-iterator.ensures.into_iter_gives
     (record {
       pool = made_by.pool;
       together = ap (λ xs. xs ++ combination_left made) c.new-sets.ensures.items ∙ left;
       sets = rw left (λ j d lt. IsSet-choice n k _ c.requires (all j d lt));
-      below = rw left (λ j d lt. below_choice n k _ (all j d lt));
+      below = rw left (λ j d lt. All-IsChoice n k _ (all j d lt));
     })
 
 pub loop-members-preserved : goal.loop-members-preserved

@@ -5,7 +5,7 @@ use Rattle.numbers.specs.Counts.{greatest_below, times}
 use Rattle.certificate.specs.Certificates.{Weighted, IsCertificate, IsOptimal}
 use Rattle.dealer.specs.Cycles.{quorum_of_ticket}
 use Rattle.dealer.specs.Accounts.{account_of, quorums_named}
-use Rattle.dealer.proofs.AccountLemmas.{length-values_below, sum-times-le, voters_from_quorums, greatest-values, account_of_parts, quorums-whole, least_busiest}
+use Rattle.dealer.proofs.AccountLemmas.{length-values_below, sum-times-le, voters-from_quorums, greatest-values, account_of-parts, quorums-whole, busiest_of-least}
 use Rattle.dealer.proofs.cycle.Cycle.account.Goals as goal
 
 pub counts_of_voters-requires-clause-lengths : goal.counts_of_voters-requires-clause-lengths
@@ -38,7 +38,7 @@ voters_counted : (c : goal.After-from-2) → c.in_ok-voters.voters.items ≡ (ac
 voters_counted c =
     let w = c.args.self.now in
     let tickets = c.args.tickets.now in
-    voters_from_quorums w tickets c.coterie.result.now c.deref.result.now c.in_ok-voters.voters.items
+    voters-from_quorums w tickets c.coterie.result.now c.deref.result.now c.in_ok-voters.voters.items
     (c.voters_are_counted_by_quorum.ensures w tickets (subst IsCertificate c.self.view_is c.self.invariant.certificate))
     (c.coterie.ensures.value ∙ ap (λ (v : Weighted). v.system) c.self.view_is)
     (c.deref.ensures.value ∙ c.in_ok-quorums.ensures)
@@ -53,7 +53,7 @@ busiest_counted c =
 
 pub returns-clause-value : goal.returns-clause-value
 returns-clause-value c =
-    account_of_parts c.args.self.now c.args.tickets.now c.from.result c.from-2.result c.greatest_of-busiest.result
+    account_of-parts c.args.self.now c.args.tickets.now c.from.result c.from-2.result c.greatest_of-busiest.result
     (quorums_counted c) (c.from-2.ensures ∙ voters_counted c) (busiest_counted c)
 
 pub returns-clause-shares : goal.returns-clause-shares
@@ -71,4 +71,4 @@ returns-clause-least c = λ k whole list long within.
     let is = subst IsCertificate c.self.view_is c.self.invariant.certificate in
     let optimal = subst IsOptimal c.self.view_is c.self.invariant.optimal in
     let even = c.whole_cycles_follow_weights.ensures.even c.args.self.now k c.args.tickets.now is whole in
-    omega (arith, busiest_counted c, even, least_busiest c.args.self.now k list is optimal (long ∙ whole.in_all) within)
+    omega (arith, busiest_counted c, even, busiest_of-least c.args.self.now k list is optimal (long ∙ whole.in_all) within)

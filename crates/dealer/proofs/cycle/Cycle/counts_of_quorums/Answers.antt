@@ -9,7 +9,7 @@ use Rattle.dealer.specs.Accounts.{quorums_named}
 use Rattle.dealer.specs.Blocks.{quorums_from, AreInOrder, IsCycleOf, IsPlaceIn}
 use Rattle.dealer.specs.declared.rounds.Block.{Block}
 use Rattle.dealer.specs.declared.rounds.Listed.{Listed}
-use Rattle.dealer.proofs.AccountLemmas.{counts_more, ticket_in_range}
+use Rattle.dealer.proofs.AccountLemmas.{times-more_counts, ticket_in_range}
 use Rattle.dealer.proofs.BlockLemmas.{AreInOrder-blocks}
 use Rattle.dealer.proofs.MadeBlocks.{named_in_lists}
 use Rattle.dealer.proofs.cycle.Cycle.counts_of_quorums.Goals.{After-index, After-index-in-loop-ticket}
@@ -73,7 +73,7 @@ loop-ticket-preserved c =
     let counts = c.loop-ticket.counts.items in
     record {
       long = length-set counts j (c.index_mut.result.now + 1) ∙ c.loop-ticket.invariant.long;
-      counted = counts_more c.args.self.now c.args.tickets.now counts c.loop-ticket.ticket-index j c.index_mut.result.now (omega arith) c.loop-ticket.invariant.counted named inside
+      counted = times-more_counts c.args.self.now c.args.tickets.now counts c.loop-ticket.ticket-index j c.index_mut.result.now (omega arith) c.loop-ticket.invariant.counted named inside
           (get_or_read counts j c.index_mut.result.now inside c.index_mut.ensures.value 0);
     }
 

@@ -4,7 +4,7 @@ use Rattle.dealer.specs.Cycles.{cycle_of, round_of}
 use Rattle.dealer.specs.Blocks.{AreInOrder, IsPlaceIn}
 use Rattle.dealer.specs.declared.rounds.Block.{Block}
 use Rattle.dealer.proofs.BlockLemmas.{AreInOrder-blocks, named_in_block}
-use Rattle.dealer.proofs.MadeBlocks.{block_lists}
+use Rattle.dealer.proofs.MadeBlocks.{quorums_from-block}
 use Rattle.dealer.proofs.cycle.Cycle.named_at.Goals as goal
 
 pub place_in-number-requires : goal.place_in-number-requires
@@ -15,7 +15,7 @@ place_in-number-requires c =
 pub quorum_in-requires-clause-listed : goal.quorum_in-requires-clause-listed
 quorum_in-requires-clause-listed c =
     let is = c.self.invariant in
-    (block_lists c.self.inside.plan.quorum_weights c.self.inside.blocks.items c.deref-2.result.now c.place_in-number.result.0 c.index.result.now is.in_blocks (c.deref-2.ensures.value ∙ is.quorums) (omega arith) c.index.ensures).1
+    (quorums_from-block c.self.inside.plan.quorum_weights c.self.inside.blocks.items c.deref-2.result.now c.place_in-number.result.0 c.index.result.now is.in_blocks (c.deref-2.ensures.value ∙ is.quorums) (omega arith) c.index.ensures).1
 
 pub returns : goal.returns
 returns c =
@@ -26,7 +26,7 @@ returns c =
     let b = c.index.result.now in
     let lt : c.args.place < sum weights = omega (arith, c.requires, ap (λ (w : Weighted). cycle_len w) c.self.view_is) in
     let in_blocks = subst (λ bs. IsPlaceIn bs c.args.place found) c.deref.ensures.value c.place_in-number.ensures in
-    let listed = block_lists weights blocks c.deref-2.result.now found.0 b is.in_blocks (c.deref-2.ensures.value ∙ is.quorums) (omega arith) c.index.ensures in
+    let listed = quorums_from-block weights blocks c.deref-2.result.now found.0 b is.in_blocks (c.deref-2.ensures.value ∙ is.quorums) (omega arith) c.index.ensures in
     c.quorum_in.ensures
     ∙ ap (λ xs. get_or xs found.1 0) (listed.0 ∙ ap (λ (k : Block). round_of weights k.least) c.index.ensures)
     ∙ sym (named_in_block weights blocks c.args.place found b is.in_blocks lt in_blocks)

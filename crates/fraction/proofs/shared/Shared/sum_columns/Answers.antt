@@ -5,7 +5,7 @@ use Rattle.std.proofs.lemmas.List.{with_items_is}
 use Rattle.fraction.specs.Tables.{Table, IsTable, IsSummed}
 use Rattle.fraction.specs.Rows.{lists_of, EachRow, AllSumsFit, IsSummedRow}
 use Rattle.fraction.proofs.Passed.{IsOk-iff_unmet}
-use Rattle.fraction.proofs.SumLemmas.{IsSummed-from_rows, summed_table}
+use Rattle.fraction.proofs.SumLemmas.{IsSummed-from_rows, IsTable-summed}
 use Rattle.fraction.proofs.shared.Shared.sum_columns.Goals as goal
 
 pub returns-in_err-test_sums-clause-fits : goal.returns-in_err-test_sums-clause-fits
@@ -21,7 +21,7 @@ invariant_of-self c =
     let t : Table = record { rows = lists_of c.self.inside.rows.items; den = c.self.inside.den } in
     let is = subst (λ rs. EachRow (IsSummedRow c.args.columns.now c.args.into) (lists_of rs) (lists_of new)) c.deref_mut.ensures.value c.put_sums.ensures in
     let fits = subst (λ rs. AllSumsFit (lists_of rs) c.args.columns.now) c.deref.ensures.value (c.in_ok-test_sums.ensures.fits.0 refl) in
-    subst (λ rs. IsTable (record { rows = rs; den = c.self.inside.den })) (sym rows_are) (summed_table t (lists_of new) c.args.columns.now c.args.into c.self.invariant fits is)
+    subst (λ rs. IsTable (record { rows = rs; den = c.self.inside.den })) (sym rows_are) (IsTable-summed t (lists_of new) c.args.columns.now c.args.into c.self.invariant fits is)
 
 pub returns-clause-value : goal.returns-clause-value
 returns-clause-value c =

@@ -3,36 +3,36 @@ use Rattle.requester.specs.Steps.{ask}
 use Rattle.requester.specs.Words.{is_idle, is_spent}
 use Rattle.dealer.specs.Offices.{RefusesTicket}
 use Rattle.members.specs.Members.{MayAsk, MemberState, RefusesStart}
-use Rattle.members.proofs.MemberLemmas.{asked_member, not_both, refuses_start, refuses_ticket, ask-Ok}
+use Rattle.members.proofs.MemberLemmas.{IsMember-asked, Ok-not_Err, RefusesStart-ask, RefusesAsk-ticket, ask-Ok}
 use Rattle.members.proofs.member.Member.ask.Goals as goal
 
 pub returns-in-Some-clause-refused : goal.returns-in-Some-clause-refused
 returns-in-Some-clause-refused g c =
-    subst (λ (m : MemberState). RefusesStart m.requester c.in-Some.fault) c.self.view_is (refuses_start c.self.inside.requester [] _ (c.in-Some.ensures []))
+    subst (λ (m : MemberState). RefusesStart m.requester c.in-Some.fault) c.self.view_is (RefusesStart-ask c.self.inside.requester [] _ (c.in-Some.ensures []))
 
 pub returns-in-Err-clause-refused : goal.returns-in-Err-clause-refused
 returns-in-Err-clause-refused g c =
     let asked = c.in_default.ensures [] in
-    refuses_ticket c.args.self.now c.in-Err.fault
+    RefusesAsk-ticket c.args.self.now c.in-Err.fault
     (subst (λ (m : MemberState). (is_idle m.requester.phase ≡ true) × (is_spent m.requester ≡ false)) c.self.view_is (ask-Ok c.self.inside.requester [] asked.0 asked.1))
     (subst (λ (m : MemberState). RefusesTicket m.clerk.rest c.in-Err.fault) c.self.view_is c.in-Err.ensures.err)
 
 pub unreachable-requires : goal.unreachable-requires
 unreachable-requires g c =
     let asked = c.in_default.ensures c.quorum-quorum.result.now in
-    not_both (ask c.self.inside.requester c.quorum-quorum.result.now) asked.0 _ asked.1 c.in_default-ask_into.ensures.refused.0
+    Ok-not_Err (ask c.self.inside.requester c.quorum-quorum.result.now) asked.0 _ asked.1 c.in_default-ask_into.ensures.refused.0
 
 pub send-lost-requires : goal.send-lost-requires
 send-lost-requires g c =
     let quorum = c.quorum-quorum.ensures in
     let drawn = c.in-Ok.ensures in
-    record { held = (asked_member _ _ _ _ _ c.self.invariant c.clients_keep_their_laws.ensures _ _ c.in-Ok-ask_into.ensures.asked quorum.set quorum.some c.draw.new.clerk c.in-Ok.receipt drawn.kept drawn.some quorum.in_range quorum.value).held }
+    record { held = (IsMember-asked _ _ _ _ _ c.self.invariant c.clients_keep_their_laws.ensures _ _ c.in-Ok-ask_into.ensures.asked quorum.set quorum.some c.draw.new.clerk c.in-Ok.receipt drawn.kept drawn.some quorum.in_range quorum.value).held }
 
 pub invariant_of-self-2 : goal.invariant_of-self-2
 invariant_of-self-2 g c =
     let quorum = c.quorum-quorum.ensures in
     let drawn = c.in-Ok.ensures in
-    asked_member _ _ _ _ _ c.self.invariant c.clients_keep_their_laws.ensures _ _ c.in-Ok-ask_into.ensures.asked quorum.set quorum.some c.draw.new.clerk c.in-Ok.receipt drawn.kept drawn.some quorum.in_range quorum.value
+    IsMember-asked _ _ _ _ _ c.self.invariant c.clients_keep_their_laws.ensures _ _ c.in-Ok-ask_into.ensures.asked quorum.set quorum.some c.draw.new.clerk c.in-Ok.receipt drawn.kept drawn.some quorum.in_range quorum.value
 
 pub returns-clause-asked : goal.returns-clause-asked
 returns-clause-asked g c =

@@ -2,30 +2,30 @@ use Rattle.std.proofs.Common.{◌≡◌, true, false, refl, sym, ap, ◌∙◌, 
 use Rattle.requester.specs.Steps.{give_up}
 use Rattle.requester.specs.Words.{is_asking}
 use Rattle.members.specs.Members.{MemberState}
-use Rattle.members.proofs.MemberLemmas.{both_places, ended_by_giving_up, ended_member, gave_up_asking, holds_fewer, not_given_up}
+use Rattle.members.proofs.MemberLemmas.{length-both_held, Ended-give_up, IsMember-ended, is_asking-give_up, HoldsFewer-HoldsNothing, is_asking-refused_give_up}
 use Rattle.members.proofs.member.Member.give_up.Goals as goal
 
 pub returns-in_default-clause-refused : goal.returns-in_default-clause-refused
 returns-in_default-clause-refused g c =
-    (refl, subst (λ (m : MemberState). is_asking m.requester.phase ≡ false) c.self.view_is (not_given_up c.self.inside.requester _ c.in_default.ensures.refused.0))
+    (refl, subst (λ (m : MemberState). is_asking m.requester.phase ≡ false) c.self.view_is (is_asking-refused_give_up c.self.inside.requester _ c.in_default.ensures.refused.0))
 
 pub finish-lost-requires-clause-places : goal.finish-lost-requires-clause-places
 finish-lost-requires-clause-places g c =
-    both_places _ _ _ _ _ c.self.invariant _ (ended_by_giving_up c.clients_keep_their_laws.ensures _ _ c.self.invariant.sound c.in-Ok.ensures.given_up).sound
+    length-both_held _ _ _ _ _ c.self.invariant _ (Ended-give_up c.clients_keep_their_laws.ensures _ _ c.self.invariant.sound c.in-Ok.ensures.given_up).sound
 
 pub finish-lost-requires-clause-fewer : goal.finish-lost-requires-clause-fewer
-finish-lost-requires-clause-fewer g c = holds_fewer c.give_up_into.new.self _ (ended_by_giving_up c.clients_keep_their_laws.ensures _ _ c.self.invariant.sound c.in-Ok.ensures.given_up).nothing
+finish-lost-requires-clause-fewer g c = HoldsFewer-HoldsNothing c.give_up_into.new.self _ (Ended-give_up c.clients_keep_their_laws.ensures _ _ c.self.invariant.sound c.in-Ok.ensures.given_up).nothing
 
 pub invariant_of-self-2 : goal.invariant_of-self-2
 invariant_of-self-2 g c =
     let same = c.finish-lost.ensures.same in
-    ended_member _ _ _ _ _ c.self.invariant _ (ended_by_giving_up c.clients_keep_their_laws.ensures _ _ c.self.invariant.sound c.in-Ok.ensures.given_up) c.finish-lost.new.seat same.0 same.1 c.finish-lost.ensures.held c.finish-lost.ensures.within
+    IsMember-ended _ _ _ _ _ c.self.invariant _ (Ended-give_up c.clients_keep_their_laws.ensures _ _ c.self.invariant.sound c.in-Ok.ensures.given_up) c.finish-lost.new.seat same.0 same.1 c.finish-lost.ensures.held c.finish-lost.ensures.within
 
 pub returns-clause-given_up : goal.returns-clause-given_up
 returns-clause-given_up g c = (_, sym (ap (λ (m : MemberState). give_up m.requester) c.self.view_is) ∙ c.in-Ok.ensures.given_up, (refl, search rules))
 
 pub returns-clause-idle : goal.returns-clause-idle
-returns-clause-idle g c = (ended_by_giving_up c.clients_keep_their_laws.ensures _ _ c.self.invariant.sound c.in-Ok.ensures.given_up).idle
+returns-clause-idle g c = (Ended-give_up c.clients_keep_their_laws.ensures _ _ c.self.invariant.sound c.in-Ok.ensures.given_up).idle
 
 pub returns-clause-may : goal.returns-clause-may
-returns-clause-may g c = subst (λ (m : MemberState). is_asking m.requester.phase ≡ true) c.self.view_is (gave_up_asking _ _ c.in-Ok.ensures.given_up)
+returns-clause-may g c = subst (λ (m : MemberState). is_asking m.requester.phase ≡ true) c.self.view_is (is_asking-give_up _ _ c.in-Ok.ensures.given_up)

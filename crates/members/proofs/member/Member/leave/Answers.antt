@@ -2,7 +2,7 @@ use Rattle.std.proofs.Common.{◌≡◌, true, false, refl, sym, ap, ◌∙◌, 
 use Rattle.requester.specs.Steps.{leave}
 use Rattle.requester.specs.Words.{is_inside}
 use Rattle.members.specs.Members.{MemberState}
-use Rattle.members.proofs.MemberLemmas.{both_places, ended_by_leaving, ended_member, holds_fewer, left_inside, not_left}
+use Rattle.members.proofs.MemberLemmas.{length-both_held, Ended-leave, IsMember-ended, HoldsFewer-HoldsNothing, is_inside-leave, not_left}
 use Rattle.members.proofs.member.Member.leave.Goals as goal
 
 pub returns-in_default-clause-refused : goal.returns-in_default-clause-refused
@@ -11,21 +11,21 @@ returns-in_default-clause-refused g c =
 
 pub finish-lost-requires-clause-places : goal.finish-lost-requires-clause-places
 finish-lost-requires-clause-places g c =
-    both_places _ _ _ _ _ c.self.invariant _ (ended_by_leaving c.clients_keep_their_laws.ensures _ _ c.self.invariant.sound c.in-Ok.ensures.left).sound
+    length-both_held _ _ _ _ _ c.self.invariant _ (Ended-leave c.clients_keep_their_laws.ensures _ _ c.self.invariant.sound c.in-Ok.ensures.left).sound
 
 pub finish-lost-requires-clause-fewer : goal.finish-lost-requires-clause-fewer
-finish-lost-requires-clause-fewer g c = holds_fewer c.leave_into.new.self _ (ended_by_leaving c.clients_keep_their_laws.ensures _ _ c.self.invariant.sound c.in-Ok.ensures.left).nothing
+finish-lost-requires-clause-fewer g c = HoldsFewer-HoldsNothing c.leave_into.new.self _ (Ended-leave c.clients_keep_their_laws.ensures _ _ c.self.invariant.sound c.in-Ok.ensures.left).nothing
 
 pub invariant_of-self-2 : goal.invariant_of-self-2
 invariant_of-self-2 g c =
     let same = c.finish-lost.ensures.same in
-    ended_member _ _ _ _ _ c.self.invariant _ (ended_by_leaving c.clients_keep_their_laws.ensures _ _ c.self.invariant.sound c.in-Ok.ensures.left) c.finish-lost.new.seat same.0 same.1 c.finish-lost.ensures.held c.finish-lost.ensures.within
+    IsMember-ended _ _ _ _ _ c.self.invariant _ (Ended-leave c.clients_keep_their_laws.ensures _ _ c.self.invariant.sound c.in-Ok.ensures.left) c.finish-lost.new.seat same.0 same.1 c.finish-lost.ensures.held c.finish-lost.ensures.within
 
 pub returns-clause-idle : goal.returns-clause-idle
-returns-clause-idle g c = (ended_by_leaving c.clients_keep_their_laws.ensures _ _ c.self.invariant.sound c.in-Ok.ensures.left).idle
+returns-clause-idle g c = (Ended-leave c.clients_keep_their_laws.ensures _ _ c.self.invariant.sound c.in-Ok.ensures.left).idle
 
 pub returns-clause-may : goal.returns-clause-may
-returns-clause-may g c = subst (λ (m : MemberState). is_inside m.requester.phase ≡ true) c.self.view_is (left_inside _ _ c.in-Ok.ensures.left)
+returns-clause-may g c = subst (λ (m : MemberState). is_inside m.requester.phase ≡ true) c.self.view_is (is_inside-leave _ _ c.in-Ok.ensures.left)
 
 pub returns-clause-left : goal.returns-clause-left
 returns-clause-left g c = (_, sym (ap (λ (m : MemberState). leave m.requester) c.self.view_is) ∙ c.in-Ok.ensures.left, (refl, search rules))

@@ -4,7 +4,7 @@ use Rattle.requester.specs.Soundness.{IsSound}
 use Rattle.requester.specs.Words.{is_idle}
 use Rattle.board.specs.Seats.{ClientSeatState as SeatState}
 use Rattle.dealer.specs.Offices.{ClerkState, share_of}
-use Rattle.members.proofs.MemberLemmas.{holds_none}
+use Rattle.members.proofs.MemberLemmas.{HoldsWithin-nobody}
 use Rattle.members.proofs.member.Member.new.Goals as goal
 
 pub invariant_of-result : goal.invariant_of-result
@@ -19,6 +19,6 @@ invariant_of-result g c =
       office = ap (λ (k : ClerkState). k.office) c.requires.clerk;
       share = omega (arith, ap share_of c.requires.clerk);
       held = ap (λ (s : SeatState). s.held) c.requires.fresh ∙ sym (ap (λ (x : ClientState). x.held) c.new.ensures);
-      within = holds_none g.N.ClusterName.cluster.board.voters c.args.seat.held (ap (λ (s : SeatState). s.held) c.requires.fresh);
+      within = HoldsWithin-nobody g.N.ClusterName.cluster.board.voters c.args.seat.held (ap (λ (s : SeatState). s.held) c.requires.fresh);
       asks = λ busy. absurd (true≢false (sym (ap (λ (x : ClientState). is_idle x.phase) c.new.ensures) ∙ busy));
     }

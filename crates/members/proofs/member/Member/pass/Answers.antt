@@ -1,6 +1,6 @@
 use Rattle.std.proofs.Common.{◌≡◌, ℕ, Option, Some, IfSome, refl, sym, ap, ◌∙◌, subst}
 use Rattle.board.specs.Seats.{BoardState, ClientSeatState as SeatState}
-use Rattle.members.proofs.MemberLemmas.{board_fault, full_or_not, not_refused}
+use Rattle.members.proofs.MemberLemmas.{Board-injective, full_or_not, not_refused}
 use Rattle.members.proofs.member.Member.pass.Goals.{in-Ok, in-Err}
 use Rattle.members.proofs.member.Member.pass.Goals as goal
 
@@ -11,7 +11,7 @@ returns-clause-full g c = λ e.
     elim c.match-write_register.branch [
       | in-Ok w ↦ absurd (not_refused _ _ _ w.result-is e)
       | in-Err w ↦
-          let full = subst (λ (r : Option (ℕ × ℕ)). IfSome r (λ p. p.1 ≡ limit)) read (w.in-Err.ensures.full (board_fault _ _ _ w.result-is e)) in
+          let full = subst (λ (r : Option (ℕ × ℕ)). IfSome r (λ p. p.1 ≡ limit)) read (w.in-Err.ensures.full (Board-injective _ _ _ w.result-is e)) in
           let number = full ∙ ap (λ (b : BoardState). b.limit) c.cluster.invariant.board_is in
           (c.self.inside.quorum, ap (λ (s : SeatState). s.reading) w.in-Err.ensures.kept ∙ read ∙ (λ i. Some (c.self.inside.quorum, number i)))
     ]
@@ -29,6 +29,6 @@ returns-clause-room g c = λ e.
         λ same.
             let number = same ∙ sym (ap (λ (b : BoardState). b.limit) c.cluster.invariant.board_is) in
             let full = w.in-Err.ensures.limit (subst (λ (r : Option (ℕ × ℕ)). IfSome r (λ p. p.1 ≡ limit)) (sym read) number) in
-            full_or_not _ w.in-Err.fault full refl (board_fault _ _ _ w.result-is e),
+            full_or_not _ w.in-Err.fault full refl (Board-injective _ _ _ w.result-is e),
       )
     ]

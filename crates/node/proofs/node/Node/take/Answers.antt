@@ -4,14 +4,14 @@ use Rattle.voter.specs.declared.state.Effect.{Effect}
 use Rattle.voter.specs.Steps.{Outcome, effect_of}
 use Rattle.board.specs.Seats.{BoardState, VoterSeatState as SeatState}
 use Rattle.node.specs.Nodes.{NodeState, IsFor, IsNode, offered, settled}
-use Rattle.node.proofs.NodeLemmas.{Took, frees_held, not_refused, may_offer, stays_node}
+use Rattle.node.proofs.NodeLemmas.{Took, held-from_frees, not_refused, may_offer, IsNode-offered}
 use Rattle.node.proofs.node.Node.take.Given.{Over}
 use Rattle.node.proofs.node.Node.take.Goals.{After-held}
 use Rattle.node.proofs.node.Node.take.Goals as goal
 
 pub settle-requires-clause-current : goal.settle-requires-clause-current
 settle-requires-clause-current g c = λ e.
-    subst IsSome (sym c.self.invariant.current) ((frees_held c.self.inside.voter c.args.message.now (ap (λ (x : Effect). x.frees) (sym c.effect-effect.ensures) ∙ e)))
+    subst IsSome (sym c.self.invariant.current) ((held-from_frees c.self.inside.voter c.args.message.now (ap (λ (x : Effect). x.frees) (sym c.effect-effect.ensures) ∙ e)))
 
 pub unreachable-requires : goal.unreachable-requires
 unreachable-requires g c =
@@ -54,4 +54,4 @@ invariant_of-self-2 g c =
     c.offer.ensures ∙ (λ i. offered (c.held.ensures i) (seat_settled g at i)) in
     let pushed : c.push_reserved.new.self.items ≡ log ++ m ∷ [] = c.push_reserved.ensures.items ∙ ap (λ (l : List ToVoter). l ++ m ∷ []) c.in_ok-reserve.ensures.items in
     subst (λ (p : List ToVoter × SeatState). IsNode board c.take.new.self p.0 p.1) (λ i. (sym pushed i, sym after i))
-    (stays_node board c.self.inside.voter log c.self.inside.seat m _ (took g at))
+    (IsNode-offered board c.self.inside.voter log c.self.inside.seat m _ (took g at))

@@ -3,14 +3,14 @@ use Rattle.std.specs.List.{insert, position_or_len}
 use Rattle.std.specs.Prelude.{not}
 use Rattle.voter.specs.Waiting.{IsQueue, waiting_of, precedes, without}
 use Rattle.std.specs.FinMap as fin
-use Rattle.voter.proofs.Queues.{waiting-without, queue-without, waiting-placed, queue-placed, new-without, room_for, insert_placed, placed, insert-remove}
+use Rattle.voter.proofs.Queues.{waiting-without, queue-without, waiting-placed, queue-placed, new-without, length-IsQueue, insert-placed, placed, insert-remove}
 use Rattle.voter.proofs.queue.Queue.insert.Goals as goal
 
 pub insert-requires : goal.insert-requires
 insert-requires c =
     let old = c.self.inside.requests.items in
     let r = c.args.request in
-    let room : length c.drop_client.new.requests.items < 64 = rw c.drop_client.ensures (room_for r (without r.client old) c.requires (new-without r old) (queue-without r.client old c.self.invariant)) in
+    let room : length c.drop_client.new.requests.items < 64 = rw c.drop_client.ensures (length-IsQueue r (without r.client old) c.requires (new-without r old) (queue-without r.client old c.self.invariant)) in
     (lit< tt, (rw (← c.as_slice.ensures.value) c.place_of-place.ensures.bound, room))
 
 is_placed : (c : goal.After-insert) → c.insert.new.self.items ≡ placed c.args.request (without c.args.request.client c.self.inside.requests.items)
@@ -18,7 +18,7 @@ is_placed c =
     let r = c.args.request in
     c.insert.ensures.items
     ∙ ap (λ n. insert c.drop_client.new.requests.items n r) (c.place_of-place.ensures.place ∙ ap (position_or_len (λ q. not (precedes q r))) c.as_slice.ensures.value)
-    ∙ insert_placed r c.drop_client.new.requests.items
+    ∙ insert-placed r c.drop_client.new.requests.items
     ∙ ap (placed r) c.drop_client.ensures
 
 pub invariant_of-self : goal.invariant_of-self

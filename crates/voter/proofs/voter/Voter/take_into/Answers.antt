@@ -2,20 +2,20 @@ use Rattle.std.proofs.Common.{ap, sym, ◌∙◌, refl, Some, subst}
 use Rattle.voter.specs.declared.state.VoterState.{VoterState}
 use Rattle.voter.specs.Steps.{step, IsSound}
 use Rattle.voter.proofs.Grants.{KeepsBut-outcome_of}
-use Rattle.voter.proofs.Effects.{step_refused, step_taken}
-use Rattle.voter.proofs.Soundness.{sound_after}
+use Rattle.voter.proofs.Effects.{step-refused, step-taken}
+use Rattle.voter.proofs.Soundness.{IsSound-outcome_of}
 use Rattle.voter.proofs.voter.Voter.take_into.Goals as goal
 
 pub returns-then-is_refused-clause-refused : goal.returns-then-is_refused-clause-refused
 returns-then-is_refused-clause-refused c =
-    (sym (ap (λ v. step v c.args.message.now) c.self.view_is) ∙ step_refused c.self.inside.state c.args.message.now c.self.invariant (sym c.if-is_refused.ensures), refl, c.clear.ensures)
+    (sym (ap (λ v. step v c.args.message.now) c.self.view_is) ∙ step-refused c.self.inside.state c.args.message.now c.self.invariant (sym c.if-is_refused.ensures), refl, c.clear.ensures)
 
 pub invariant_of-self : goal.invariant_of-self
-invariant_of-self c = subst IsSound (sym c.act.ensures.state) (sound_after c.self.inside.state c.args.message.now c.self.invariant (sym c.if-is_refused.ensures))
+invariant_of-self c = subst IsSound (sym c.act.ensures.state) (IsSound-outcome_of c.self.inside.state c.args.message.now c.self.invariant (sym c.if-is_refused.ensures))
 
 pub returns-clause-taken : goal.returns-clause-taken
 returns-clause-taken c =
-    sym (ap (λ v. step v c.args.message.now) c.self.view_is) ∙ step_taken c.self.inside.state c.args.message.now c.self.invariant (sym c.if-is_refused.ensures)
+    sym (ap (λ v. step v c.args.message.now) c.self.view_is) ∙ step-taken c.self.inside.state c.args.message.now c.self.invariant (sym c.if-is_refused.ensures)
     ∙ (λ i. Some (record { replies = sym c.act.ensures.replies i; state = sym c.act.ensures.state i }))
 
 pub returns-clause-id : goal.returns-clause-id

@@ -3,7 +3,7 @@ use Rattle.message.specs.declared.message.Message.{Message}
 use Rattle.requester.specs.Steps as client
 use Rattle.world.specs.States.{shown}
 use Rattle.world.specs.Steps.{come, step}
-use Rattle.world.proofs.Acts.{allows_vote, refuses_vote}
+use Rattle.world.proofs.Acts.{vote-allowed, vote-refused}
 use Rattle.world.proofs.state.State.deliver_fault.Goals as goal
 
 pub returns-in-None : goal.returns-in-None
@@ -14,12 +14,12 @@ pub returns-then-is_refused : goal.returns-then-is_refused
 unfolding step
 returns-then-is_refused c = λ deal.
     ap (λ (o : _). come (shown c.args.self.now) c.args.number o) (sym c.message.ensures ∙ c.in-Some-ToVoter.is ∙ ap (λ (m : Message). Some m) c.in-Some-ToVoter.field-0-is)
-    ∙ refuses_vote (shown c.args.self.now) c.deref.result.now c.in-Some-ToVoter.message c.deref.ensures.value (sym c.is_refused.ensures ∙ c.if-is_refused.true)
+    ∙ vote-refused (shown c.args.self.now) c.deref.result.now c.in-Some-ToVoter.message c.deref.ensures.value (sym c.is_refused.ensures ∙ c.if-is_refused.true)
 
 pub returns-else-is_refused : goal.returns-else-is_refused
 unfolding step
 returns-else-is_refused c = λ deal.
-    let p = allows_vote (shown c.args.self.now) c.deref.result.now c.in-Some-ToVoter.message c.deref.ensures.value (sym c.is_refused.ensures ∙ c.if-is_refused.false) in
+    let p = vote-allowed (shown c.args.self.now) c.deref.result.now c.in-Some-ToVoter.message c.deref.ensures.value (sym c.is_refused.ensures ∙ c.if-is_refused.false) in
     (p.0, ap (λ (o : _). come (shown c.args.self.now) c.args.number o) (sym c.message.ensures ∙ c.in-Some-ToVoter.is ∙ ap (λ (m : Message). Some m) c.in-Some-ToVoter.field-0-is) ∙ p.1)
 
 pub returns-in-Some-ToClient : goal.returns-in-Some-ToClient

@@ -8,19 +8,19 @@ use Rattle.voter.specs.Steps.{remind}
 use Rattle.world.specs.States.{shown}
 use Rattle.world.specs.Steps.{voter_at, step}
 use Rattle.world.proofs.Acts.{say-outcome}
-use Rattle.world.proofs.Foretold.{a_voter, no_voter}
+use Rattle.world.proofs.Foretold.{if_voter-below, if_voter-missing}
 use Rattle.world.proofs.state.State.remind_voter.Goals as goal
 
 pub returns-in-Some : goal.returns-in-Some
 unfolding step
-returns-in-Some c = λ deal. (no_voter c.args.voter (length c.args.self.now.voters.items) _ c.in-Some.fault c.in-Some.ensures.missing, refl)
+returns-in-Some c = λ deal. (if_voter-missing c.args.voter (length c.args.self.now.voters.items) _ c.in-Some.fault c.in-Some.ensures.missing, refl)
 
 pub returns : goal.returns
 unfolding step
 returns c = λ deal.
     let out : c.remind-reminders.result.items ≡ remind (voter_at c.args.self.now.voters.items c.args.voter) =
     c.remind-reminders.ensures ∙ ap (λ (x : VoterState). remind x) (c.voter_of.ensures ∙ ap (λ (l : List VoterState). voter_at l c.args.voter) c.deref.ensures.value) in
-    a_voter c.args.voter (length c.args.self.now.voters.items) _ c.in_default.ensures.found
+    if_voter-below c.args.voter (length c.args.self.now.voters.items) _ c.in_default.ensures.found
     ∙ ap (λ o. Ok o) (say-outcome (shown c.args.self.now) (map kinds.ToClient (remind (voter_at c.args.self.now.voters.items c.args.voter))) c.len.result _
     (c.len.ensures.value ∙ ap (λ (l : List ToClient). length l) out ∙ sym (length-map (remind (voter_at c.args.self.now.voters.items c.args.voter)) kinds.ToClient))
     (ap (λ (l : List Message). record (shown c.args.self.now) { sent = l }) (c.send_to_clients.ensures ∙ ap (λ (l : List ToClient). c.args.self.now.sent.items ++ map kinds.ToClient l) (c.as_slice.ensures.value ∙ out))))

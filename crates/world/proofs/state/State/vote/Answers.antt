@@ -8,7 +8,7 @@ use Rattle.voter.specs.declared.fault.VoterFault.TheVariants.{GrantsSpent}
 use Rattle.voter.specs.declared.state.VoterState.{VoterState}
 use Rattle.world.specs.declared.fault.WorldFault.TheVariants as faults
 use Rattle.world.specs.States.{shown}
-use Rattle.world.proofs.Acts.{not_voted, vote-Ok, with_items-items}
+use Rattle.world.proofs.Acts.{vote-not_voted, vote-Ok, with_items-items}
 use Rattle.world.proofs.state.State.vote.Goals as goal
 
 -- there is one fault of voters
@@ -26,7 +26,7 @@ returns-in-Ok c =
 
 pub returns-in-Err : goal.returns-in-Err
 returns-in-Err c = (
-  not_voted (shown c.args.self.now) c.deref_mut.result.now c.args.message.now c.deref_mut.ensures.value c.in-Err.ensures.refused.0 ∙ ap (λ (fault : VoterFault). Err (faults.Voter fault)) (spent c.in-Err.fault),
+  vote-not_voted (shown c.args.self.now) c.deref_mut.result.now c.args.message.now c.deref_mut.ensures.value c.in-Err.ensures.refused.0 ∙ ap (λ (fault : VoterFault). Err (faults.Voter fault)) (spent c.in-Err.fault),
   ap (λ (l : List VoterState). record (shown c.args.self.now) { voters = l })
       (with_items-items c.args.self.now.voters c.deref_mut.result.now c.vote.new.voters c.args.message.now.voter _ c.deref_mut.ensures.value c.in-Err.ensures.others ∙ c.in-Err.ensures.refused.1 ∙ c.deref_mut.ensures.value),
 )
