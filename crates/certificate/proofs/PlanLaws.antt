@@ -19,7 +19,7 @@ use Rattle.texts.specs.Lines.{text_of_lines}
 use Rattle.certificate.specs.PlanTexts.{IsShort, Telling, telling_of, title_line, load_line, cycle_line, weights_line, lines_of, plan_text, read_title, read_load, read_cycle, read_weights, line_at, ◌>>=◌, telling_at, telling_fault, unless_fault, judged, weighted_by, plan_at, MemoryAside}
 use Rattle.certificate.proofs.FaultLaws.{weights_fault-IsCertificate}
 use Rattle.certificate.proofs.LoadLemmas.{weight_on-le}
-use Rattle.certificate.proofs.Spellings.{title-Some, title-again, load-Some, load-again, cycle-Some, cycle-again, weights-Some, weights-again, Lacks-load, Lacks-cycle, Lacks-weights, line_at-Ok, line_at-append}
+use Rattle.certificate.proofs.Spellings.{read_title-Some, read_title-title_line, read_load-Some, read_load-load_line, read_cycle-Some, read_cycle-cycle_line, read_weights-Some, read_weights-weights_line, Lacks-load, Lacks-cycle, Lacks-weights, line_at-Ok, line_at-append}
 
 bind_Ok : {A B : Type 0} (r : Result A PlanFault) (f : A → Result B PlanFault) (y : B) → (r >>= f) ≡ Ok y → (x : A) × (r ≡ Ok x) × (f x ≡ Ok y)
 bind_Ok (Ok x) f y e = (x, refl, e)
@@ -59,7 +59,7 @@ voters-Ok l n q text t e =
     let made : Telling = record { load = l; cycle = n; quorum_weights = q; voter_weights = line.0.0 } in
     let end = ended_Ok (eqb (length line.0.1) 0) (BadText 6) made t line.2 in
     let is : text ≡ weights_line (codes "voter ") line.0.0 ++ 10 ∷ [] =
-    line_before 5 (read_weights (codes "voter ")) (weights_line (codes "voter ")) text line.0.1 line.0.0 (weights-Some (codes "voter ")) line.1 [] (nil_from_length line.0.1 (eqb-true _ _ end.0)) in
+    line_before 5 (read_weights (codes "voter ")) (weights_line (codes "voter ")) text line.0.1 line.0.0 (read_weights-Some (codes "voter ")) line.1 [] (nil_from_length line.0.1 (eqb-true _ _ end.0)) in
     (is ∙ ap (λ (u : Telling). weights_line (codes "voter ") u.voter_weights ++ 10 ∷ []) end.1, ap (λ (u : Telling). u.load) end.1, ap (λ (u : Telling). u.cycle) end.1, ap (λ (u : Telling). u.quorum_weights) end.1)
 
 quorums-Ok : (l : ℕ × ℕ) (n : ℕ) (text : List ℕ) (t : Telling) → from_quorums l n text ≡ Ok t → (text ≡ text_of_lines (weights_line (codes "quorum ") t.quorum_weights ∷ weights_line (codes "voter ") t.voter_weights ∷ [])) × (l ≡ t.load) × (n ≡ t.cycle)
@@ -67,7 +67,7 @@ quorums-Ok l n text t e =
     let line = bind_Ok (line_at 4 (read_weights (codes "quorum ")) text) (λ quorums. from_voters l n quorums.0 quorums.1) t e in
     let rest = voters-Ok l n line.0.0 line.0.1 t line.2 in
     let after = text_of_lines (weights_line (codes "voter ") t.voter_weights ∷ []) in (
-      line_before 4 (read_weights (codes "quorum ")) (weights_line (codes "quorum ")) text line.0.1 line.0.0 (weights-Some (codes "quorum ")) line.1 after rest.0
+      line_before 4 (read_weights (codes "quorum ")) (weights_line (codes "quorum ")) text line.0.1 line.0.0 (read_weights-Some (codes "quorum ")) line.1 after rest.0
           ∙ ap (λ q. weights_line (codes "quorum ") q ++ 10 ∷ after) rest.3,
       rest.1,
       rest.2,
@@ -78,21 +78,21 @@ cycle-Ok l text t e =
     let line = bind_Ok (line_at 3 read_cycle text) (λ cycle. from_quorums l cycle.0 cycle.1) t e in
     let rest = quorums-Ok l line.0.0 line.0.1 t line.2 in
     let after = text_of_lines (weights_line (codes "quorum ") t.quorum_weights ∷ weights_line (codes "voter ") t.voter_weights ∷ []) in
-    (line_before 3 read_cycle cycle_line text line.0.1 line.0.0 cycle-Some line.1 after rest.0 ∙ ap (λ n. cycle_line n ++ 10 ∷ after) rest.2, rest.1)
+    (line_before 3 read_cycle cycle_line text line.0.1 line.0.0 read_cycle-Some line.1 after rest.0 ∙ ap (λ n. cycle_line n ++ 10 ∷ after) rest.2, rest.1)
 
 load-Ok : (text : List ℕ) (t : Telling) → from_load text ≡ Ok t → text ≡ text_of_lines (load_line t.load ∷ cycle_line t.cycle ∷ weights_line (codes "quorum ") t.quorum_weights ∷ weights_line (codes "voter ") t.voter_weights ∷ [])
 load-Ok text t e =
     let line = bind_Ok (line_at 2 read_load text) (λ load. from_cycle load.0 load.1) t e in
     let rest = cycle-Ok line.0.0 line.0.1 t line.2 in
     let after = text_of_lines (cycle_line t.cycle ∷ weights_line (codes "quorum ") t.quorum_weights ∷ weights_line (codes "voter ") t.voter_weights ∷ []) in
-    line_before 2 read_load load_line text line.0.1 line.0.0 load-Some line.1 after rest.0 ∙ ap (λ l. load_line l ++ 10 ∷ after) rest.1
+    line_before 2 read_load load_line text line.0.1 line.0.0 read_load-Some line.1 after rest.0 ∙ ap (λ l. load_line l ++ 10 ∷ after) rest.1
 
 -- what is told by a text is spelled so
 telling-Ok : (text : List ℕ) (t : Telling) → telling_at text ≡ Ok t → text ≡ text_of_lines (lines_of t)
 unfolding telling_at
 telling-Ok text t e =
     let line = bind_Ok (line_at 1 read_title text) (λ title. from_load title.1) t e in
-    line_before 1 read_title (λ _. title_line) text line.0.1 line.0.0 title-Some line.1 _ (load-Ok line.0.1 t line.2)
+    line_before 1 read_title (λ _. title_line) text line.0.1 line.0.0 read_title-Some line.1 _ (load-Ok line.0.1 t line.2)
 
 -- what the lines tell has 1 to 7 digits each, and there is a quorum and a voter
 pub record IsSpelled (t : Telling) : Type 0 where
@@ -124,11 +124,11 @@ telling-again t more h =
     let rest2 = cycle_line t.cycle ++ 10 ∷ rest3 in
     let rest1 = load_line t.load ++ 10 ∷ rest2 in
     ap telling_at (text_of_lines-append (lines_of t) more)
-    ∙ ap (λ r. r >>= λ title. from_load title.1) (line_at-append 1 read_title title_line rest1 tt title-again (search rules))
-    ∙ ap (λ r. r >>= λ load. from_cycle load.0 load.1) (line_at-append 2 read_load (load_line t.load) rest2 t.load (load-again t.load h.left h.right) (Lacks-load t.load h.left h.right))
-    ∙ ap (λ r. r >>= λ cycle. from_quorums t.load cycle.0 cycle.1) (line_at-append 3 read_cycle (cycle_line t.cycle) rest3 t.cycle (cycle-again t.cycle h.cycle) (Lacks-cycle t.cycle h.cycle))
-    ∙ ap (λ r. r >>= λ q. from_voters t.load t.cycle q.0 q.1) (line_at-append 4 (read_weights (codes "quorum ")) quorums rest4 t.quorum_weights (weights-again (codes "quorum ") t.quorum_weights h.some_quorum h.quorums) (Lacks-weights (codes "quorum ") t.quorum_weights (search rules) h.quorums))
-    ∙ ap (λ r. r >>= λ v. telling_unless_more t.load t.cycle t.quorum_weights v) (line_at-append 5 (read_weights (codes "voter ")) voters more t.voter_weights (weights-again (codes "voter ") t.voter_weights h.some_voter h.voters) (Lacks-weights (codes "voter ") t.voter_weights (search rules) h.voters))
+    ∙ ap (λ r. r >>= λ title. from_load title.1) (line_at-append 1 read_title title_line rest1 tt read_title-title_line (search rules))
+    ∙ ap (λ r. r >>= λ load. from_cycle load.0 load.1) (line_at-append 2 read_load (load_line t.load) rest2 t.load (read_load-load_line t.load h.left h.right) (Lacks-load t.load h.left h.right))
+    ∙ ap (λ r. r >>= λ cycle. from_quorums t.load cycle.0 cycle.1) (line_at-append 3 read_cycle (cycle_line t.cycle) rest3 t.cycle (read_cycle-cycle_line t.cycle h.cycle) (Lacks-cycle t.cycle h.cycle))
+    ∙ ap (λ r. r >>= λ q. from_voters t.load t.cycle q.0 q.1) (line_at-append 4 (read_weights (codes "quorum ")) quorums rest4 t.quorum_weights (read_weights-weights_line (codes "quorum ") t.quorum_weights h.some_quorum h.quorums) (Lacks-weights (codes "quorum ") t.quorum_weights (search rules) h.quorums))
+    ∙ ap (λ r. r >>= λ v. telling_unless_more t.load t.cycle t.quorum_weights v) (line_at-append 5 (read_weights (codes "voter ")) voters more t.voter_weights (read_weights-weights_line (codes "voter ") t.voter_weights h.some_voter h.voters) (Lacks-weights (codes "voter ") t.voter_weights (search rules) h.voters))
 
 -- no fault, so the value
 unless_Ok : (o : Option PlanFault) (w p : Weighted) → unless_fault o w ≡ Ok p → (o ≡ None) × (w ≡ p)

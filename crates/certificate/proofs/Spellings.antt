@@ -67,17 +67,17 @@ behind-append word rest =
     ap (λ b. cond b (Some (drop (length word) (word ++ rest))) None) same ∙ ap Some (drop_at word rest (length word) refl)
 
 -- each line
-pub title-Some : (line : List ℕ) (x : Unit {0}) → read_title line ≡ Some x → line ≡ title_line
-title-Some line x e = (bytes_eq-Decides line title_line).0 (cond_some (bytes_eq line title_line) tt x e).0
+pub read_title-Some : (line : List ℕ) (x : Unit {0}) → read_title line ≡ Some x → line ≡ title_line
+read_title-Some line x e = (bytes_eq-Decides line title_line).0 (cond_some (bytes_eq line title_line) tt x e).0
 
-pub title-again : read_title title_line ≡ Some tt
-title-again = refl
+pub read_title-title_line : read_title title_line ≡ Some tt
+read_title-title_line = refl
 
 pair_is : (a b : ℕ) (p : ℕ × ℕ) → (a, b) ≡ p → (a ≡ p.0) × (b ≡ p.1)
 pair_is a b p e = (ap (λ x. x.0) e, ap (λ x. x.1) e)
 
-pub load-Some : (line : List ℕ) (x : ℕ × ℕ) → read_load line ≡ Some x → line ≡ load_line x
-load-Some line x e =
+pub read_load-Some : (line : List ℕ) (x : ℕ × ℕ) → read_load line ≡ Some x → line ≡ load_line x
+read_load-Some line x e =
     let word = and_then_Some (λ rest. option_and_then read_pair (cut_at 47 rest)) (behind (codes "load ") line) x e in
     let sides = and_then_Some read_pair (cut_at 47 word.0) x word.2 in
     let left = and_then_Some (λ p. option_map (λ q. (p, q)) (number_of sides.0.1)) (number_of sides.0.0) x sides.2 in
@@ -88,22 +88,22 @@ load-Some line x e =
     ∙ ap (λ t. t ++ 47 ∷ sides.0.1) (number_of-Some sides.0.0 left.0 left.1 ∙ ap decimal parts.0)
     ∙ ap (λ t. decimal x.0 ++ 47 ∷ t) (number_of-Some sides.0.1 right.0 right.1 ∙ ap decimal parts.1))
 
-pub load-again : (x : ℕ × ℕ) → IsShort x.0 → IsShort x.1 → read_load (load_line x) ≡ Some x
-load-again x left right =
+pub read_load-load_line : (x : ℕ × ℕ) → IsShort x.0 → IsShort x.1 → read_load (load_line x) ≡ Some x
+read_load-load_line x left right =
     let cut = cut_at-append 47 (decimal x.0) (decimal x.1) (Lacks-decimal 47 x.0 (omega arith) left) in
     ap (option_and_then (λ rest. option_and_then read_pair (cut_at 47 rest))) (behind-append (codes "load ") (decimal x.0 ++ 47 ∷ decimal x.1))
     ∙ ap (option_and_then read_pair) cut ∙ rw (number_of-decimal x.0 left, number_of-decimal x.1 right) refl
 
-pub cycle-Some : (line : List ℕ) (n : ℕ) → read_cycle line ≡ Some n → line ≡ cycle_line n
-cycle-Some line n e =
+pub read_cycle-Some : (line : List ℕ) (n : ℕ) → read_cycle line ≡ Some n → line ≡ cycle_line n
+read_cycle-Some line n e =
     let word = and_then_Some number_of (behind (codes "cycle ") line) n e in
     behind-Some (codes "cycle ") line word.0 word.1 ∙ ap (λ t. codes "cycle " ++ t) (number_of-Some word.0 n word.2)
 
-pub cycle-again : (n : ℕ) → IsShort n → read_cycle (cycle_line n) ≡ Some n
-cycle-again n short = ap (option_and_then number_of) (behind-append (codes "cycle ") (decimal n)) ∙ number_of-decimal n short
+pub read_cycle-cycle_line : (n : ℕ) → IsShort n → read_cycle (cycle_line n) ≡ Some n
+read_cycle-cycle_line n short = ap (option_and_then number_of) (behind-append (codes "cycle ") (decimal n)) ∙ number_of-decimal n short
 
-pub weights-Some : (word line ns : List ℕ) → read_weights word line ≡ Some ns → line ≡ weights_line word ns
-weights-Some word line ns e =
+pub read_weights-Some : (word line ns : List ℕ) → read_weights word line ≡ Some ns → line ≡ weights_line word ns
+read_weights-Some word line ns e =
     let rest = and_then_Some (λ rest. numbers_of (slice_split (λ b. eqb b 32) rest)) (behind word line) ns e in
     behind-Some word line rest.0 rest.1
     ∙ ap (λ t. word ++ t) (sym (join_with_byte-slice_split 32 rest.0) ∙ ap (join_with_byte 32) (numbers_of-Some (slice_split (λ b. eqb b 32) rest.0) ns rest.2))
@@ -112,8 +112,8 @@ some_words : (ns : List ℕ) → 0 < length ns → 0 < length (map decimal ns)
 some_words [] some = absurd (omega arith)
 some_words (n ∷ ns) some = omega arith
 
-pub weights-again : (word ns : List ℕ) → 0 < length ns → AllByRecursion IsShort ns → read_weights word (weights_line word ns) ≡ Some ns
-weights-again word ns some short =
+pub read_weights-weights_line : (word ns : List ℕ) → 0 < length ns → AllByRecursion IsShort ns → read_weights word (weights_line word ns) ≡ Some ns
+read_weights-weights_line word ns some short =
     ap (option_and_then (λ rest. numbers_of (slice_split (λ b. eqb b 32) rest))) (behind-append word (spaced ns))
     ∙ ap numbers_of (slice_split-join (map decimal ns) (some_words ns some) (AllLack-decimal 32 ns (omega arith) short))
     ∙ numbers_of-decimal ns short
@@ -148,8 +148,8 @@ pub line_at-append : {X : Type 0} (k : ℕ) (read : List ℕ → Option X) (line
 line_at-append k read line rest x is lacks = rw (cut_at-append 10 line rest lacks, is) refl
 
 -- what is read has 1 to 7 digits
-pub load-short : (line : List ℕ) (x : ℕ × ℕ) → read_load line ≡ Some x → IsShort x.0 × IsShort x.1
-load-short line x e =
+pub read_load-IsShort : (line : List ℕ) (x : ℕ × ℕ) → read_load line ≡ Some x → IsShort x.0 × IsShort x.1
+read_load-IsShort line x e =
     let word = and_then_Some (λ rest. option_and_then read_pair (cut_at 47 rest)) (behind (codes "load ") line) x e in
     let sides = and_then_Some read_pair (cut_at 47 word.0) x word.2 in
     let left = and_then_Some (λ p. option_map (λ q. (p, q)) (number_of sides.0.1)) (number_of sides.0.0) x sides.2 in
@@ -157,8 +157,8 @@ load-short line x e =
     let parts = pair_is left.0 right.0 x right.2 in
     (omega (arith, parts.0, number_of-small sides.0.0 left.0 left.1), omega (arith, parts.1, number_of-small sides.0.1 right.0 right.1))
 
-pub cycle-short : (line : List ℕ) (n : ℕ) → read_cycle line ≡ Some n → IsShort n
-cycle-short line n e =
+pub read_cycle-IsShort : (line : List ℕ) (n : ℕ) → read_cycle line ≡ Some n → IsShort n
+read_cycle-IsShort line n e =
     let word = and_then_Some number_of (behind (codes "cycle ") line) n e in
     number_of-small word.0 n word.2
 
@@ -174,17 +174,17 @@ numbers-short (word ∷ words) ns e =
     subst (λ ms. All IsShort ms × (length ms ≡ suc (length words))) others.2
     (All-cons IsShort first.0 others.0 (number_of-small word first.0 first.1) rest.0, ap suc rest.1)
 
-pub weights-short : (word line ns : List ℕ) → read_weights word line ≡ Some ns → All IsShort ns × (0 < length ns)
-weights-short word line ns e =
+pub read_weights-IsShort : (word line ns : List ℕ) → read_weights word line ≡ Some ns → All IsShort ns × (0 < length ns)
+read_weights-IsShort word line ns e =
     let rest = and_then_Some (λ rest. numbers_of (slice_split (λ b. eqb b 32) rest)) (behind word line) ns e in
     let short = numbers-short (slice_split (λ b. eqb b 32) rest.0) ns rest.2 in
     (short.0, omega (arith, short.1, length-slice_split (λ b. eqb b 32) rest.0))
 
-pub load-spelled : (line : List ℕ) (x : ℕ × ℕ) → line ≡ load_line x → IsShort x.0 → IsShort x.1 → read_load line ≡ Some x
-load-spelled line x e left right = ap read_load e ∙ load-again x left right
+pub read_load-from_line : (line : List ℕ) (x : ℕ × ℕ) → line ≡ load_line x → IsShort x.0 → IsShort x.1 → read_load line ≡ Some x
+read_load-from_line line x e left right = ap read_load e ∙ read_load-load_line x left right
 
-pub cycle-spelled : (line : List ℕ) (n : ℕ) → line ≡ cycle_line n → IsShort n → read_cycle line ≡ Some n
-cycle-spelled line n e short = ap read_cycle e ∙ cycle-again n short
+pub read_cycle-from_line : (line : List ℕ) (n : ℕ) → line ≡ cycle_line n → IsShort n → read_cycle line ≡ Some n
+read_cycle-from_line line n e short = ap read_cycle e ∙ read_cycle-cycle_line n short
 
-pub weights-spelled : (word line ns : List ℕ) → line ≡ weights_line word ns → All IsShort ns → 0 < length ns → read_weights word line ≡ Some ns
-weights-spelled word line ns e short some = ap (read_weights word) e ∙ weights-again word ns some (recursion_from_All IsShort ns short)
+pub read_weights-from_line : (word line ns : List ℕ) → line ≡ weights_line word ns → All IsShort ns → 0 < length ns → read_weights word line ≡ Some ns
+read_weights-from_line word line ns e short some = ap (read_weights word) e ∙ read_weights-weights_line word ns some (recursion_from_All IsShort ns short)

@@ -88,8 +88,8 @@ pub passed_below-all : (p : ℕ → Bool) → passed_below p 64 ≡ set_where p
 passed_below-all p = set_where-same (λ v. ltb v 64 && p v) p (λ i lt. ap (λ b. b && p i) (lt-ltb i 64 lt))
 
 -- the set of a list's numbers below 64, number by number
-pub listed-none : [] ≡ set_where (has [])
-listed-none = is_set_where [] (has []) tt (λ i lt. refl)
+pub set_where-nil : [] ≡ set_where (has [])
+set_where-nil = is_set_where [] (has []) tt (λ i lt. refl)
 
 has-more : (xs : List ℕ) (k j : ℕ) → k < length xs → has (take (k + 1) xs) j ≡ (has (take k xs) j || (eqb (get_or xs k 0) j || false))
 has-more xs k j lt = ap (λ t. has t j) (take_more xs k 0 lt) ∙ has-append (take k xs) (get_or xs k 0 ∷ []) j
@@ -108,8 +108,8 @@ eqb_turned i j = elim (cases_eq i j) as (λ _. eqb i j ≡ eqb j i) [
   | inr off ↦ ne_eqb i j off ∙ sym (ne_eqb j i (λ e. off (sym e)))
 ]
 
-pub listed-more : (xs : List ℕ) (k : ℕ) (s : List ℕ) → k < length xs → s ≡ set_where (has (take k xs)) → set_where (λ j. eqb j (get_or xs k 0) || has s j) ≡ set_where (has (take (k + 1) xs))
-listed-more xs k s lt e =
+pub set_where-take_more : (xs : List ℕ) (k : ℕ) (s : List ℕ) → k < length xs → s ≡ set_where (has (take k xs)) → set_where (λ j. eqb j (get_or xs k 0) || has s j) ≡ set_where (has (take (k + 1) xs))
+set_where-take_more xs k s lt e =
     set_where-same (λ j. eqb j (get_or xs k 0) || has s j) (has (take (k + 1) xs)) (λ j below.
     ap (λ b. eqb j (get_or xs k 0) || b) (ap (λ t. has t j) e ∙ has-set_where (has (take k xs)) j below)
     ∙ or_turned (has (take k xs) j) (eqb j (get_or xs k 0)) (eqb (get_or xs k 0) j) (eqb_turned j (get_or xs k 0)) ∙ sym (has-more xs k j lt))
@@ -119,7 +119,7 @@ or_nothing true b e = refl
 or_nothing false true e = sym e
 or_nothing false false e = refl
 
-pub listed-other : (xs : List ℕ) (k : ℕ) (s : List ℕ) → k < length xs → 64 ≤ get_or xs k 0 → s ≡ set_where (has (take k xs)) → s ≡ set_where (has (take (k + 1) xs))
-listed-other xs k s lt out e =
+pub set_where-take_other : (xs : List ℕ) (k : ℕ) (s : List ℕ) → k < length xs → 64 ≤ get_or xs k 0 → s ≡ set_where (has (take k xs)) → s ≡ set_where (has (take (k + 1) xs))
+set_where-take_other xs k s lt out e =
     e ∙ set_where-same (has (take k xs)) (has (take (k + 1) xs)) (λ j below.
     or_nothing (has (take k xs) j) (eqb (get_or xs k 0) j) (ne_eqb (get_or xs k 0) j (λ same. omega arith)) ∙ sym (has-more xs k j lt))

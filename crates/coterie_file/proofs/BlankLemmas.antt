@@ -9,9 +9,9 @@ use Rattle.coterie_file.specs.Lists.{table_at}
 use Rattle.coterie_file.specs.declared.fault.FileFault.{FileFault}
 use Rattle.coterie_file.specs.declared.fault.FileFault.TheVariants.{OutOfMemory}
 
-pub blank_is_empty : (text : List ℕ) → IsBlank text → table_at text ≡ Ok no_members
+pub table_at-blank : (text : List ℕ) → IsBlank text → table_at text ≡ Ok no_members
 unfolding parse_document lines
-blank_is_empty text blank = rw (eq-eqb _ 0 blank) refl
+table_at-blank text blank = rw (eq-eqb _ 0 blank) refl
 
 -- a fault that is not want of memory, of a text that is read
 pub never_refused : (fault : FileFault) (wanted : Result Members FileFault) (table : Members) → Refuses fault wanted → wanted ≡ Ok table → (fault ≡ OutOfMemory → ⊥) → ⊥

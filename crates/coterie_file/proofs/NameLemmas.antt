@@ -19,9 +19,9 @@ pub seen_at : (names : List (String Global)) (i : ℕ) (text : List ℕ) (keys :
 seen_at names i text keys e = sym (list_any-map (λ n. bytes_eq text n) (λ k. k.now) keys) ∙ ap (list_any (λ n. bytes_eq text n)) e
 
 -- the texts so far and the next
-pub texts_push : (names : List (String Global)) (i : ℕ) (name : String Global) (text : List ℕ) → i < length names → name ≡ get_or names i name → text ≡ string_bytes name
+pub texts_before-push : (names : List (String Global)) (i : ℕ) (name : String Global) (text : List ℕ) → i < length names → name ≡ get_or names i name → text ≡ string_bytes name
     → texts_before names i ++ text ∷ [] ≡ texts_before names (i + 1)
-texts_push names i name text lt at is =
+texts_before-push names i name text lt at is =
     ap (λ t. texts_before names i ++ t ∷ []) (is ∙ ap string_bytes at) ∙ sym (ap (map string_bytes) (take_more names i name lt) ∙ map-append string_bytes (take i names) (get_or names i name ∷ []))
 
 next_text : (names : List (String Global)) (i : ℕ) (name : String Global) (text : List ℕ) → i < length names → name ≡ get_or names i name → text ≡ string_bytes name
@@ -41,4 +41,4 @@ pub repeat_later : (names : List (String Global)) (i : ℕ) (name : String Globa
 repeat_later names i name text lt at is found =
     ap (first_repeat (texts_before names i)) (next_text names i name text lt at is)
     ∙ ap (λ b. cond b (Some (length (texts_before names i))) (first_repeat (texts_before names i ++ text ∷ []) (texts_from names (i + 1)))) found
-    ∙ ap (λ t. first_repeat t (texts_from names (i + 1))) (texts_push names i name text lt at is)
+    ∙ ap (λ t. first_repeat t (texts_from names (i + 1))) (texts_before-push names i name text lt at is)

@@ -21,11 +21,11 @@ abbrev pub repeats : Vec (String Global) Global → Bool
 repeats members = is_some (first_repeat [] (map string_bytes members.items))
 
 -- the first place that passes, in a loop
-pub position_here : {A : Type 0} (p : A → Bool) (xs : List A) (i : ℕ) (d : A) → i < length xs → p (get_or xs i d) ≡ true → position_from p i (drop i xs) ≡ Some i
-position_here p xs i d lt e = ap (position_from p i) (drop_more xs i d lt) ∙ ap (λ b. cond b (Some i) (position_from p (i + 1) (drop (i + 1) xs))) e
+pub position_from-here : {A : Type 0} (p : A → Bool) (xs : List A) (i : ℕ) (d : A) → i < length xs → p (get_or xs i d) ≡ true → position_from p i (drop i xs) ≡ Some i
+position_from-here p xs i d lt e = ap (position_from p i) (drop_more xs i d lt) ∙ ap (λ b. cond b (Some i) (position_from p (i + 1) (drop (i + 1) xs))) e
 
-pub position_later : {A : Type 0} (p : A → Bool) (xs : List A) (i : ℕ) (d : A) → i < length xs → p (get_or xs i d) ≡ false → position_from p i (drop i xs) ≡ position_from p (i + 1) (drop (i + 1) xs)
-position_later p xs i d lt e = ap (position_from p i) (drop_more xs i d lt) ∙ ap (λ b. cond b (Some i) (position_from p (i + 1) (drop (i + 1) xs))) e
+pub position_from-later : {A : Type 0} (p : A → Bool) (xs : List A) (i : ℕ) (d : A) → i < length xs → p (get_or xs i d) ≡ false → position_from p i (drop i xs) ≡ position_from p (i + 1) (drop (i + 1) xs)
+position_from-later p xs i d lt e = ap (position_from p i) (drop_more xs i d lt) ∙ ap (λ b. cond b (Some i) (position_from p (i + 1) (drop (i + 1) xs))) e
 
 pub unless-Ok : {X : Type 0} (o : Option FileFault) (x y : X) → unless o x ≡ Ok y → (o ≡ None) × (x ≡ y)
 unless-Ok None x y e = (refl, cc)
@@ -50,8 +50,8 @@ pub repeated_at : (names : List (String Global)) (quorums : List (Vec (String Gl
 repeated_at names quorums = position-map (λ members. is_some (first_repeat [] members)) (λ q. map string_bytes q.items) quorums
 
 -- more than 64 voters are refused, whatever the sets
-pub too_many : (n : ℕ) (sets : List (List ℕ)) → 64 < n → first_fault n sets ≡ Some TooManyVoters
-too_many n sets lt = rw (ne_eqb n 0 (λ e. omega arith), lt-ltb 64 n lt) refl
+pub first_fault-too_many : (n : ℕ) (sets : List (List ℕ)) → 64 < n → first_fault n sets ≡ Some TooManyVoters
+first_fault-too_many n sets lt = rw (ne_eqb n 0 (λ e. omega arith), lt-ltb 64 n lt) refl
 
 -- lists whose names are known are answered by their sets
 pub known_answer : (lists : NameLists) (system : QuorumSystem) → names_fault lists.names ≡ None → position (λ members. not (list_all (has_name lists.names) members)) lists.quorums ≡ None

@@ -95,8 +95,8 @@ greatest_below-same (suc n) f g same =
     omega (arith, greatest_below-same n f g (λ i lt. same i (omega arith)), same n (omega arith))
 
 -- the greatest of a list of values
-pub greatest-values : (n : ℕ) (f : ℕ → ℕ) → greatest_below (length (values_below n f)) (λ i. get_or (values_below n f) i 0) ≡ greatest_below n f
-greatest-values n f =
+pub greatest_below-values : (n : ℕ) (f : ℕ → ℕ) → greatest_below (length (values_below n f)) (λ i. get_or (values_below n f) i 0) ≡ greatest_below n f
+greatest_below-values n f =
     ap (λ m. greatest_below m (λ i. get_or (values_below n f) i 0)) (length-values_below n f)
     ∙ greatest_below-same n (λ i. get_or (values_below n f) i 0) f (get_or-values_below n f)
 

@@ -10,12 +10,12 @@ use Rattle.std.proofs.lemmas.List.FromFn.{get_or-range_with_len, length-range_wi
 use Rattle.dealer.specs.Cycles.{round_of, greatest_weight, cycle_of}
 use Rattle.dealer.specs.Blocks.{places_of, rounds_before, IsBlock, AreBlocksUpTo, AreBlocksOf, AreInOrder, IsPlaceIn}
 use Rattle.dealer.specs.declared.rounds.Block.{Block}
-use Rattle.dealer.proofs.CycleLemmas.{rounds-more, cycle_of-rounds, length-cycle_of}
+use Rattle.dealer.proofs.CycleLemmas.{flat_map-rounds_more, cycle_of-rounds, length-cycle_of}
 
 -- one round more fills as many places as it lists quorums
 pub places_of-more : (weights : List ℕ) (r : ℕ) → places_of weights (r + 1) ≡ places_of weights r + length (round_of weights (r + 1))
 places_of-more weights r =
-    ap length (rounds-more weights r (r + 1) refl)
+    ap length (flat_map-rounds_more weights r (r + 1) refl)
     ∙ length-append (flat_map (round_of weights) (range_with_len 1 r)) (round_of weights (r + 1))
 
 -- rounds that list equally many quorums

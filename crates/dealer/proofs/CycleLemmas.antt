@@ -33,8 +33,8 @@ times-rounds weights r (suc n) j some =
     ]
 
 -- no weight is above the greatest
-pub weight-le : (weights : List ℕ) (j : ℕ) → get_or weights j 0 ≤ greatest_weight weights
-weight-le weights j =
+pub get_or-le-greatest_weight : (weights : List ℕ) (j : ℕ) → get_or weights j 0 ≤ greatest_weight weights
+get_or-le-greatest_weight weights j =
     elim (cases_lt j (length weights)) [
       | inl inside ↦ greatest_below-le (length weights) (λ k. get_or weights k 0) j inside
       | inr outside ↦ omega (arith, get_or_past weights j 0 outside)
@@ -44,7 +44,7 @@ weight-le weights j =
 pub times-cycle_of : (weights : List ℕ) (j : ℕ) → times j (cycle_of weights) ≡ get_or weights j 0
 unfolding cycle_of
 times-cycle_of weights j =
-    omega (arith, times-rounds weights 1 (greatest_weight weights) j (omega arith), weight-le weights j)
+    omega (arith, times-rounds weights 1 (greatest_weight weights) j (omega arith), get_or-le-greatest_weight weights j)
 
 -- a cycle is as long as its weights add up to
 pub length-cycle_of : (weights : List ℕ) → length (cycle_of weights) ≡ sum weights
@@ -77,8 +77,8 @@ round_of-more weights r =
     (λ j passes. le-leb r (get_or weights j 0) (omega (arith, leb-true (r + 1) (get_or weights j 0) passes)))
 
 -- one round more
-pub rounds-more : (weights : List ℕ) (r more : ℕ) → more ≡ r + 1 → flat_map (round_of weights) (range_with_len 1 more) ≡ flat_map (round_of weights) (range_with_len 1 r) ++ round_of weights more
-rounds-more weights r more e =
+pub flat_map-rounds_more : (weights : List ℕ) (r more : ℕ) → more ≡ r + 1 → flat_map (round_of weights) (range_with_len 1 more) ≡ flat_map (round_of weights) (range_with_len 1 r) ++ round_of weights more
+flat_map-rounds_more weights r more e =
     let next : more ≡ suc r = omega arith in
     ap (λ n. flat_map (round_of weights) (range_with_len 1 n)) next ∙ flat_map-range_more (round_of weights) 1 r more (omega arith)
 

@@ -9,7 +9,7 @@ use Rattle.std.proofs.lemmas.List.Kept.{AllPairs-from_increasing, IsStrictlyIncr
 use Rattle.std.proofs.lemmas.List.Sums.{sum_by-take-le}
 use Rattle.numbers.specs.Counts.{times}
 use Rattle.dealer.specs.Cycles.{round_of, greatest_weight, cycle_of, turn_at, GoesByTurns}
-use Rattle.dealer.proofs.CycleLemmas.{times-round_of, times-rounds, rounds-more, cycle_of-rounds}
+use Rattle.dealer.proofs.CycleLemmas.{times-round_of, times-rounds, flat_map-rounds_more, cycle_of-rounds}
 use Rattle.numbers.proofs.CountLemmas.{times-append, times-get_or}
 
 -- what stands in a round has a weight of at least the round's number
@@ -133,7 +133,7 @@ IsUpTo-rounds weights (suc r) =
     let next : suc r ≡ r + 1 = omega arith in
     let more = IsUpTo-more weights list r refl (IsUpTo-rounds weights r) in
     subst (λ (n : ℕ). IsUpTo (flat_map (round_of weights) (range_with_len 1 n)) n) (sym next)
-    (subst (λ (all : List ℕ). IsUpTo all (r + 1)) (sym (rounds-more weights r (r + 1) refl)) more)
+    (subst (λ (all : List ℕ). IsUpTo all (r + 1)) (sym (flat_map-rounds_more weights r (r + 1) refl)) more)
 
 -- a cycle goes by turns
 pub GoesByTurns-cycle_of : (weights : List ℕ) → GoesByTurns (cycle_of weights)

@@ -58,8 +58,8 @@ gcd_of-IsGcd a b g is =
         ]
 
 -- the greatest common divisor of a number that is not 0 is not 0
-pub gcd-some : (a b g : ℕ) → IsGcd a b g → 0 < b → 0 < g
-gcd-some a b g is some =
+pub IsGcd-some : (a b g : ℕ) → IsGcd a b g → 0 < b → 0 < g
+IsGcd-some a b g is some =
     elim (cases_lt 0 g) [
       | inl pos ↦ pos
       | inr low ↦
@@ -69,8 +69,8 @@ gcd-some a b g is some =
     ]
 
 -- both numbers, divided by their greatest common divisor, have none but 1
-pub lowest-IsGcd : (a b g : ℕ) → IsGcd a b g → 0 < g → IsGcd (a / g) (b / g) 1
-lowest-IsGcd a b g is some = (
+pub IsGcd-lowest : (a b g : ℕ) → IsGcd a b g → 0 < g → IsGcd (a / g) (b / g) 1
+IsGcd-lowest a b g is some = (
   one-dvd (a / g),
   one-dvd (b / g),
   λ d da db.

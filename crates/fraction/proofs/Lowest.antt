@@ -5,14 +5,14 @@ use Rattle.std.proofs.lemmas.Int.{ints, unsigned_abs-mul}
 use Rattle.std.specs.Int.{IsGcd}
 use Rattle.std.specs.Int.Signed.{lt_z}
 use Rattle.std.proofs.Math.Nat.{mul-div_cancel', mul-zero, zero-mul, div-le_self}
-use Rattle.divisor.proofs.GcdLemmas.{gcd-some, lowest-IsGcd, lowest-exact}
+use Rattle.divisor.proofs.GcdLemmas.{IsGcd-some, IsGcd-lowest, lowest-exact}
 use Rattle.fraction.specs.Fractions.{Fraction, IsReduced, IsRatio, Fits, signed_of}
 
 -- a number that is not 0 has an absolute value above 0
-pub abs-some : (z : ℤ) → z ≢ pos 0 → 0 < unsigned_abs z
-abs-some (pos zero) ne = absurd (ne refl)
-abs-some (pos (suc n)) ne = omega arith
-abs-some (negsuc n) ne = omega arith
+pub unsigned_abs-some : (z : ℤ) → z ≢ pos 0 → 0 < unsigned_abs z
+unsigned_abs-some (pos zero) ne = absurd (ne refl)
+unsigned_abs-some (pos (suc n)) ne = omega arith
+unsigned_abs-some (negsuc n) ne = omega arith
 
 unsigned_abs-signed_of : (b : Bool) (n : ℕ) → unsigned_abs (signed_of b n) ≡ n
 unsigned_abs-signed_of true n = refl
@@ -67,8 +67,8 @@ pub record IsDivided (num den : ℤ) (g : ℕ) (f : Fraction) : Type 0 where
   pub num_is : f.num ≡ signed_of (beq (lt_z num (pos 0)) (lt_z den (pos 0))) (unsigned_abs num / g)
   pub den_is : f.den ≡ pos (unsigned_abs den / g)
 
-pub divided-IsRatio : (num den : ℤ) (g : ℕ) (f : Fraction) → IsDivided num den g f → IsRatio num den f
-divided-IsRatio num den g f d =
+pub IsRatio-divided : (num den : ℤ) (g : ℕ) (f : Fraction) → IsDivided num den g f → IsRatio num den f
+IsRatio-divided num den g f d =
     let size_n : ℕ = unsigned_abs num in
     let size_d : ℕ = unsigned_abs den in
     let signed = ratio_of (lt_z num (pos 0)) (lt_z den (pos 0)) size_n size_d (size_n / g) (size_d / g) (lowest-exact size_n size_d g d.divisor) in
@@ -78,16 +78,16 @@ divided-IsRatio num den g f d =
     ∙ ap (λ x. x *ℤ pos (size_d / g)) (sym (signed_of-abs num))
     ∙ ap (λ x. num *ℤ x) (sym d.den_is)
 
-pub divided-IsReduced : (num den : ℤ) (g : ℕ) (f : Fraction) → IsDivided num den g f → den ≢ pos 0 → Fits num → Fits den → IsReduced f
-divided-IsReduced num den g f d some num_fits den_fits =
+pub IsReduced-divided : (num den : ℤ) (g : ℕ) (f : Fraction) → IsDivided num den g f → den ≢ pos 0 → Fits num → Fits den → IsReduced f
+IsReduced-divided num den g f d some num_fits den_fits =
     let size_n : ℕ = unsigned_abs num in
     let size_d : ℕ = unsigned_abs den in
-    let some_d = abs-some den some in
-    let some_g = gcd-some size_n size_d g d.divisor some_d in
+    let some_d = unsigned_abs-some den some in
+    let some_g = IsGcd-some size_n size_d g d.divisor some_d in
     let num_abs : unsigned_abs f.num ≡ size_n / g = ap (λ z. unsigned_abs z) d.num_is ∙ unsigned_abs-signed_of _ _ in
     let den_abs : unsigned_abs f.den ≡ size_d / g = ap (λ z. unsigned_abs z) d.den_is in
     let whole : g * (size_d / g) ≡ size_d = mul-div_cancel' g d.divisor.1 in
-    let lowest = lowest-IsGcd size_n size_d g d.divisor some_g in
+    let lowest = IsGcd-lowest size_n size_d g d.divisor some_g in
     record {
       positive = subst (λ z. pos 0 <ℤ z) (sym d.den_is) (above_zero (size_d / g) (quotient-some g (size_d / g) size_d whole some_d));
       lowest = subst (λ b. IsGcd (unsigned_abs f.num) b 1) (sym den_abs) (subst (λ a. IsGcd a (size_d / g) 1) (sym num_abs) lowest);
@@ -109,7 +109,7 @@ divided-IsReduced num den g f d some num_fits den_fits =
 pub product-some : (a b z : ℤ) → a ≢ pos 0 → b ≢ pos 0 → z ≡ a *ℤ b → z ≢ pos 0
 product-some a b z some_a some_b e none =
     let size : unsigned_abs a * unsigned_abs b ≡ 0 = sym (unsigned_abs-mul a b) ∙ ap (λ x. unsigned_abs x) (sym e ∙ none) in
-    no_zero (unsigned_abs a) (unsigned_abs b) (abs-some a some_a) (abs-some b some_b) size
+    no_zero (unsigned_abs a) (unsigned_abs b) (unsigned_abs-some a some_a) (unsigned_abs-some b some_b) size
   where
     no_zero : (m n : ℕ) → 0 < m → 0 < n → m * n ≡ 0 → ⊥
     no_zero zero n some_m some_n e = omega arith

@@ -12,7 +12,7 @@ use Rattle.std.proofs.Math.Nat.{one-dvd, eq-zero_of_zero-dvd, mul-dvd-mul_left, 
 use Rattle.fraction.specs.Fractions.{Fits}
 use Rattle.fraction.specs.Tables.{Table, PivotFits, pivoted, row_of}
 use Rattle.fraction.specs.Rows.{lists_of, row_at, entry_of, combined, EachFits, EliminateFits, IsEliminated, AllEliminateFit, EachRow, IsDivided, IsDivisorOfAll, IsLevelWith, OthersFit, IsUnreduced, IsLowest}
-use Rattle.fraction.proofs.Lowest.{abs-some, positive-some}
+use Rattle.fraction.proofs.Lowest.{unsigned_abs-some, positive-some}
 
 -- a list of one element
 pub cons-from_length_one : (own : List (Vec ℤ Global)) (d : Vec ℤ Global) → length own ≡ 1 → own ≡ get_or own 0 d ∷ []
@@ -146,7 +146,7 @@ IsUnreduced-from_rows L M A B A' B' p p' den row col e f n above below same own 
 -- a divisor of a number that is not 0 is not 0
 pub divisor-some : (den : ℤ) (size g : ℕ) → size ≡ unsigned_abs den → pos 0 <ℤ den → g ∣ size → 0 < g
 divisor-some den size g e above divides =
-    let size_some = abs-some den (positive-some den above) in
+    let size_some = unsigned_abs-some den (positive-some den above) in
     elim (cases_lt 0 g) [
       | inl some ↦ some
       | inr low ↦

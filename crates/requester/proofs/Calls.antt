@@ -12,8 +12,8 @@ use Rattle.requester.specs.Words.{holds}
 use Rattle.requester.specs.Soundness.{IsSound}
 use Rattle.requester.specs.RequesterContract.{Accepts}
 use Rattle.requester.specs.Steps.{Outcome, Cause, Asks, Leaves, GivesUp, step, ask, leave, give_up, take, relinquish, relinquish_if, relinquish_each, failed, failed_by, inquired, inquired_by}
-use Rattle.requester.proofs.SoundSteps.{sound-step, sound-take}
-use Rattle.requester.proofs.ContractLemmas.{met-step, met-take}
+use Rattle.requester.proofs.SoundSteps.{IsSound-step, IsSound-take}
+use Rattle.requester.proofs.ContractLemmas.{MeetsContract-step, MeetsContract-take}
 
 pub record IsSameClient (x y : ClientState) : Type 0 where
   pub sound : IsSound y
@@ -28,12 +28,12 @@ outcome out seen y = record { out = out; seen = seen; state = y }
 abbrev pub Refused : ClientState → ClientState → List ToVoter → Result Outcome ClientFault → ClientFault → Type 0
 Refused x y out wanted f = (wanted ≡ Err f) × (y ≡ x) × (out ≡ [])
 
-same_client-step : (x y : ClientState) (out : List ToVoter) (cause : Cause) (r : Result Seen ClientFault) → IsSound x → IfOk r (λ _. Accepts x cause)
+IsSameClient-step : (x y : ClientState) (out : List ToVoter) (cause : Cause) (r : Result Seen ClientFault) → IsSound x → IfOk r (λ _. Accepts x cause)
     → IfOk r (λ a. step x cause ≡ Ok (outcome out a y)) → IfErr r (Refused x y out (step x cause)) → IsSameClient x y
-same_client-step x y out cause (Ok a) s accepts done refused =
-    let k = met-step x cause (outcome out a y) s accepts done in
-    record { sound = sound-step x cause (outcome out a y) s accepts done; id = k.id; limit = k.limit }
-same_client-step x y out cause (Err f) s accepts done refused = subst (IsSameClient x) (sym refused.1) (record { sound = s; id = refl; limit = refl })
+IsSameClient-step x y out cause (Ok a) s accepts done refused =
+    let k = MeetsContract-step x cause (outcome out a y) s accepts done in
+    record { sound = IsSound-step x cause (outcome out a y) s accepts done; id = k.id; limit = k.limit }
+IsSameClient-step x y out cause (Err f) s accepts done refused = subst (IsSameClient x) (sym refused.1) (record { sound = s; id = refl; limit = refl })
 
 IfOk-with_some : (q : List ℕ) (r : Result Seen ClientFault) → 1 ≤ length q → IfOk r (λ _. IsSet q) → IfOk r (λ _. IsSet q × (1 ≤ length q))
 IfOk-with_some q (Ok a) some set = (set, some)
@@ -43,26 +43,26 @@ IfOk-Accepts : (x : ClientState) (cause : Cause) (r : Result Seen ClientFault) �
 IfOk-Accepts x cause (Ok a) k = k
 IfOk-Accepts x cause (Err f) k = tt
 
-pub same_client-ask : (x y : ClientState) (out : List ToVoter) (q : List ℕ) (r : Result Seen ClientFault) → IsSound x → 1 ≤ length q → IfOk r (λ _. IsSet q)
+pub IsSameClient-ask : (x y : ClientState) (out : List ToVoter) (q : List ℕ) (r : Result Seen ClientFault) → IsSound x → 1 ≤ length q → IfOk r (λ _. IsSet q)
     → IfOk r (λ a. ask x q ≡ Ok (outcome out a y)) → IfErr r (Refused x y out (ask x q)) → IsSameClient x y
 unfolding step
-same_client-ask x y out q r s some set asked refused = same_client-step x y out (Asks q) r s (IfOk-with_some q r some set) asked refused
+IsSameClient-ask x y out q r s some set asked refused = IsSameClient-step x y out (Asks q) r s (IfOk-with_some q r some set) asked refused
 
-pub same_client-leave : (x y : ClientState) (out : List ToVoter) (r : Result Seen ClientFault) → IsSound x
+pub IsSameClient-leave : (x y : ClientState) (out : List ToVoter) (r : Result Seen ClientFault) → IsSound x
     → IfOk r (λ a. leave x ≡ Ok (outcome out a y)) → IfErr r (Refused x y out (leave x)) → IsSameClient x y
 unfolding step
-same_client-leave x y out r s left refused = same_client-step x y out Leaves r s (IfOk-Accepts x Leaves r tt) left refused
+IsSameClient-leave x y out r s left refused = IsSameClient-step x y out Leaves r s (IfOk-Accepts x Leaves r tt) left refused
 
-pub same_client-give_up : (x y : ClientState) (out : List ToVoter) (r : Result Seen ClientFault) → IsSound x
+pub IsSameClient-give_up : (x y : ClientState) (out : List ToVoter) (r : Result Seen ClientFault) → IsSound x
     → IfOk r (λ a. give_up x ≡ Ok (outcome out a y)) → IfErr r (Refused x y out (give_up x)) → IsSameClient x y
 unfolding step
-same_client-give_up x y out r s given_up refused = same_client-step x y out GivesUp r s (IfOk-Accepts x GivesUp r tt) given_up refused
+IsSameClient-give_up x y out r s given_up refused = IsSameClient-step x y out GivesUp r s (IfOk-Accepts x GivesUp r tt) given_up refused
 
-pub same_client-take : (x y : ClientState) (m : ToClient) (out : List ToVoter) (seen : Seen) → IsSound x → take x m ≡ outcome out seen y → IsSameClient x y
-same_client-take x y m out seen s e =
-    let k = met-take x m s in
+pub IsSameClient-take : (x y : ClientState) (m : ToClient) (out : List ToVoter) (seen : Seen) → IsSound x → take x m ≡ outcome out seen y → IsSameClient x y
+IsSameClient-take x y m out seen s e =
+    let k = MeetsContract-take x m s in
     let state = ap (λ (o : Outcome). o.state) e in
-    subst (IsSameClient x) state (record { sound = sound-take x m s; id = k.id; limit = k.limit })
+    subst (IsSameClient x) state (record { sound = IsSound-take x m s; id = k.id; limit = k.limit })
 
 -- FAIL and INQUIRE let nothing be seen
 

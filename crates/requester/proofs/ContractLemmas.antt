@@ -20,7 +20,7 @@ use Rattle.requester.specs.RequesterContract.{Accepts, IsLive, IsLocked, Locks, 
 use Rattle.requester.specs.Steps.{Outcome, silent, cleared, begun, asked, tell, is_fresh, hold, enter_if, locked, locked_by, failed, failed_by, inquired, inquired_by, see, take_body, take, released, Cause, Asks, Takes, Leaves, GivesUp, step, remind, remind_in, remind_by, remind_member}
 use Rattle.requester.proofs.Members.{absurd-true_false, both_true-from_and, AllByRecursion-weaker, AllByRecursion-map_members, AllByRecursion-flat_map_members, get_or-zeros}
 use Rattle.requester.proofs.Giving.{GivesBack, IsGiving, Given, GivesBack-silent, GivesBack-relinquish}
-use Rattle.requester.proofs.SoundSteps.{Counts, Counts-is_fresh, is_current-busy, HoldsMore-hold, is_inside-from_Counts, GivesBack-failed_by, is_asking-outside, sound-see, Ok-same, ask-Ok, leave-Ok, give_up-Ok}
+use Rattle.requester.proofs.SoundSteps.{Counts, Counts-is_fresh, is_current-busy, HoldsMore-hold, is_inside-from_Counts, GivesBack-failed_by, is_asking-outside, IsSound-see, Ok-same, ask-Ok, leave-Ok, give_up-Ok}
 
 -- Steps that give votes back
 
@@ -45,8 +45,8 @@ Says-IsGiving x cause y m g = (
 last_of-Given : (x y : ClientState) (v : ℕ) → IsSound x → Given x y v → last_of x v ≤ last_of y v
 last_of-Given x y v s g = let fresh = (s.held v g.was).fresh in let last = g.last in omega arith
 
-pub met-GivesBack : (x : ClientState) (m : ToClient) (o : Outcome) → IsSound x → GivesBack x o → MeetsContract x (Takes m) o
-met-GivesBack x m o s k = record {
+pub MeetsContract-GivesBack : (x : ClientState) (m : ToClient) (o : Outcome) → IsSound x → GivesBack x o → MeetsContract x (Takes m) o
+MeetsContract-GivesBack x m o s k = record {
   id = k.id;
   limit = k.limit;
   later = record {
@@ -71,8 +71,8 @@ met-GivesBack x m o s k = record {
 }
 
 -- a step after which the same is held, and nothing is sent
-met-silent : (x : ClientState) (m : ToClient) → IsSound x → MeetsContract x (Takes m) (silent x)
-met-silent x m s = met-GivesBack x m (silent x) s (GivesBack-silent x s.places)
+MeetsContract-silent : (x : ClientState) (m : ToClient) → IsSound x → MeetsContract x (Takes m) (silent x)
+MeetsContract-silent x m s = MeetsContract-GivesBack x m (silent x) s (GivesBack-silent x s.places)
 
 -- LOCKED
 
@@ -81,9 +81,9 @@ is_current-false Idle s t e = inl refl
 is_current-false Asking s t e = inr (λ same. grind (arith, nat_tests))
 is_current-false Inside s t e = inr (λ same. grind (arith, nat_tests))
 
-met-enter : (b : Bool) (x : ClientState) (m : ToClient) (t g : ℕ) → m.body ≡ tells.Locked t g → IsSound x → Counts x m.voter g → is_idle x.phase ≡ false → t ≡ x.stamp
+MeetsContract-enter : (b : Bool) (x : ClientState) (m : ToClient) (t g : ℕ) → m.body ≡ tells.Locked t g → IsSound x → Counts x m.voter g → is_idle x.phase ≡ false → t ≡ x.stamp
     → MeetsContract x (Takes m) (enter_if b (hold x m.voter g))
-met-enter b x m t g body s c busy current = elim b as (λ b. MeetsContract x (Takes m) (enter_if b (hold x m.voter g))) [
+MeetsContract-enter b x m t g body s c busy current = elim b as (λ b. MeetsContract x (Takes m) (enter_if b (hold x m.voter g))) [
   | true ↦ record {
     id = refl;
     limit = refl;
@@ -123,9 +123,9 @@ met-enter b x m t g body s c busy current = elim b as (λ b. MeetsContract x (Ta
           inl (holds_under-same_held x (hold x m.voter g) v h (more.other_held v other) e, refl)
     ]
 
-met-locked_by : (current fresh : Bool) (x : ClientState) (m : ToClient) (t g : ℕ) → m.body ≡ tells.Locked t g → IsSound x → is_current x t ≡ current → is_fresh x m.voter g ≡ fresh
+MeetsContract-locked_by : (current fresh : Bool) (x : ClientState) (m : ToClient) (t g : ℕ) → m.body ≡ tells.Locked t g → IsSound x → is_current x t ≡ current → is_fresh x m.voter g ≡ fresh
     → MeetsContract x (Takes m) (locked_by current fresh x m.voter t g)
-met-locked_by false fresh x m t g body s c f = record {
+MeetsContract-locked_by false fresh x m t g body s c f = record {
   id = refl;
   limit = refl;
   later = record { stamp = omega arith; last = λ v. omega arith; idle = λ _ idle. idle };
@@ -135,18 +135,18 @@ met-locked_by false fresh x m t g body s c f = record {
   seen = refl;
   quorum = (refl, refl);
 }
-met-locked_by true false x m t g body s c f = met-silent x m s
-met-locked_by true true x m t g body s c f = let k = is_current-busy x t c in met-enter _ x m t g body s (Counts-is_fresh x m.voter g s f) k.0 k.1
+MeetsContract-locked_by true false x m t g body s c f = MeetsContract-silent x m s
+MeetsContract-locked_by true true x m t g body s c f = let k = is_current-busy x t c in MeetsContract-enter _ x m t g body s (Counts-is_fresh x m.voter g s f) k.0 k.1
 
 -- FAIL and INQUIRE
 
-met-failed_by : (b : Bool) (x : ClientState) (m : ToClient) → IsSound x → MeetsContract x (Takes m) (failed_by b x m.voter)
-met-failed_by false x m s = met-silent x m s
-met-failed_by true x m s = met-GivesBack x m (failed_by true x m.voter) s (GivesBack-failed_by x m.voter s.places)
+MeetsContract-failed_by : (b : Bool) (x : ClientState) (m : ToClient) → IsSound x → MeetsContract x (Takes m) (failed_by b x m.voter)
+MeetsContract-failed_by false x m s = MeetsContract-silent x m s
+MeetsContract-failed_by true x m s = MeetsContract-GivesBack x m (failed_by true x m.voter) s (GivesBack-failed_by x m.voter s.places)
 
-met-inquired_by : (b hindered : Bool) (x : ClientState) (m : ToClient) → IsSound x → MeetsContract x (Takes m) (inquired_by b hindered x m.voter)
-met-inquired_by false hindered x m s = met-silent x m s
-met-inquired_by true false x m s = record {
+MeetsContract-inquired_by : (b hindered : Bool) (x : ClientState) (m : ToClient) → IsSound x → MeetsContract x (Takes m) (inquired_by b hindered x m.voter)
+MeetsContract-inquired_by false hindered x m s = MeetsContract-silent x m s
+MeetsContract-inquired_by true false x m s = record {
   id = refl;
   limit = refl;
   later = record { stamp = omega arith; last = λ v. omega arith; idle = λ _ idle. idle };
@@ -156,21 +156,21 @@ met-inquired_by true false x m s = record {
   seen = refl;
   quorum = (refl, refl);
 }
-met-inquired_by true true x m s = met-GivesBack x m (inquired_by true true x m.voter) s (GivesBack-relinquish x m.voter s.places)
+MeetsContract-inquired_by true true x m s = MeetsContract-GivesBack x m (inquired_by true true x m.voter) s (GivesBack-relinquish x m.voter s.places)
 
 -- Any message
 
-met-body : (x : ClientState) (m : ToClient) (b : ClientBody) → m.body ≡ b → IsSound x → MeetsContract x (Takes m) (take_body x m.voter b)
+MeetsContract-body : (x : ClientState) (m : ToClient) (b : ClientBody) → m.body ≡ b → IsSound x → MeetsContract x (Takes m) (take_body x m.voter b)
 unfolding locked failed inquired
-met-body x m (tells.Locked t g) body s = met-locked_by _ _ x m t g body s refl refl
-met-body x m (tells.Fail t) body s = met-failed_by _ x m s
-met-body x m (tells.Inquire g) body s = met-inquired_by _ _ x m s
+MeetsContract-body x m (tells.Locked t g) body s = MeetsContract-locked_by _ _ x m t g body s refl refl
+MeetsContract-body x m (tells.Fail t) body s = MeetsContract-failed_by _ x m s
+MeetsContract-body x m (tells.Inquire g) body s = MeetsContract-inquired_by _ _ x m s
 
-pub met-take : (x : ClientState) (m : ToClient) → IsSound x → MeetsContract x (Takes m) (take x m)
+pub MeetsContract-take : (x : ClientState) (m : ToClient) → IsSound x → MeetsContract x (Takes m) (take x m)
 unfolding take
-met-take x m s =
+MeetsContract-take x m s =
     let y = see x m.seen in
-    let k = met-body y m m.body refl (sound-see x m.seen s) in
+    let k = MeetsContract-body y m m.body refl (IsSound-see x m.seen s) in
     let l = k.later in
     record {
       id = k.id;
@@ -200,8 +200,8 @@ is_idle-outside Idle e = refl
 is_idle-outside Asking e = refl
 is_idle-outside Inside e = sym e
 
-met-asked : (x : ClientState) (q : List ℕ) → IsSound x → is_idle x.phase ≡ true → MeetsContract x (Asks q) (asked x q)
-met-asked x q s idle =
+MeetsContract-asked : (x : ClientState) (q : List ℕ) → IsSound x → is_idle x.phase ≡ true → MeetsContract x (Asks q) (asked x q)
+MeetsContract-asked x q s idle =
     let clock = s.clock in
     record {
       id = refl;
@@ -215,8 +215,8 @@ met-asked x q s idle =
     }
 
 -- the request is over
-met-released : (x : ClientState) (seen : Seen) (cause : Cause) → Sees x.phase seen Idle → KeepsQuorum x cause (released x seen).state → MeetsContract x cause (released x seen)
-met-released x seen cause sees keeps =
+MeetsContract-released : (x : ClientState) (seen : Seen) (cause : Cause) → Sees x.phase seen Idle → KeepsQuorum x cause (released x seen).state → MeetsContract x cause (released x seen)
+MeetsContract-released x seen cause sees keeps =
     let y = (released x seen).state in
     record {
       id = refl;
@@ -229,16 +229,16 @@ met-released x seen cause sees keeps =
       quorum = keeps;
     }
 
-pub met-step : (x : ClientState) (cause : Cause) (o : Outcome) → IsSound x → Accepts x cause → step x cause ≡ Ok o → MeetsContract x cause o
+pub MeetsContract-step : (x : ClientState) (cause : Cause) (o : Outcome) → IsSound x → Accepts x cause → step x cause ≡ Ok o → MeetsContract x cause o
 unfolding step
-met-step x (Asks q) o s accepts e = let k = ask-Ok x q o e in subst (λ (p : Outcome). MeetsContract x (Asks q) p) k.2 (met-asked x q s k.0)
-met-step x (Takes m) o s accepts e = subst (λ (p : Outcome). MeetsContract x (Takes m) p) (Ok-same (take x m) o e) (met-take x m s)
-met-step x Leaves o s accepts e =
+MeetsContract-step x (Asks q) o s accepts e = let k = ask-Ok x q o e in subst (λ (p : Outcome). MeetsContract x (Asks q) p) k.2 (MeetsContract-asked x q s k.0)
+MeetsContract-step x (Takes m) o s accepts e = subst (λ (p : Outcome). MeetsContract x (Takes m) p) (Ok-same (take x m) o e) (MeetsContract-take x m s)
+MeetsContract-step x Leaves o s accepts e =
     let k = leave-Ok x o e in
-    subst (λ (p : Outcome). MeetsContract x Leaves p) k.1 (met-released x Left Leaves (k.0, refl) (refl, refl))
-met-step x GivesUp o s accepts e =
+    subst (λ (p : Outcome). MeetsContract x Leaves p) k.1 (MeetsContract-released x Left Leaves (k.0, refl) (refl, refl))
+MeetsContract-step x GivesUp o s accepts e =
     let k = give_up-Ok x o e in
-    subst (λ (p : Outcome). MeetsContract x GivesUp p) k.1 (met-released x Nothing GivesUp (is_asking-outside x.phase k.0) (refl, refl))
+    subst (λ (p : Outcome). MeetsContract x GivesUp p) k.1 (MeetsContract-released x Nothing GivesUp (is_asking-outside x.phase k.0) (refl, refl))
 
 -- Reminders
 

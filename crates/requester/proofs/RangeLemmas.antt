@@ -18,15 +18,15 @@ use Rattle.requester.specs.RequesterContract.{Accepts, AllInRange, ComesInRange,
 use Rattle.requester.specs.Steps.{Outcome, asked, begun, tell, hold, enter_if, locked, locked_by, failed, failed_by, inquired, inquired_by, see, take, take_body, released, Cause, Asks, Takes, Leaves, GivesUp, step, remind, remind_in, remind_by, remind_member}
 use Rattle.requester.proofs.Members.{AllByRecursion-map_members, AllByRecursion-flat_map_members, AllByRecursion-weaker, has-IsSet_below}
 use Rattle.requester.proofs.Giving.{GivesBack, IsGiving, GivesBack-relinquish}
-use Rattle.requester.proofs.SoundSteps.{is_asking-busy, ask-Ok, GivesBack-failed_by, give_up-Ok, leave-Ok, Ok-same, sound-see}
+use Rattle.requester.proofs.SoundSteps.{is_asking-busy, ask-Ok, GivesBack-failed_by, give_up-Ok, leave-Ok, Ok-same, IsSound-see}
 
 abbrev pub InRange : Cause → ClientState → ToVoter → Type 0
 InRange cause y m = IsReached cause y m.voter × (m.voter < 64) × SaysInRange y.limit m.body
 
 -- Steps that give votes back
 
-in_range-IsGiving : (x : ClientState) (cause : Cause) (o : Outcome) → IsSound x → GivesBack x o → (m : ToVoter) → IsGiving x o.state m → InRange cause o.state m
-in_range-IsGiving x cause o s k m g =
+InRange-IsGiving : (x : ClientState) (cause : Cause) (o : Outcome) → IsSound x → GivesBack x o → (m : ToVoter) → IsGiving x o.state m → InRange cause o.state m
+InRange-IsGiving x cause o s k m g =
     let w = s.held m.voter g.vote.was in
     let was = g.vote.was in
     let some : 1 ≤ held_of x m.voter = grind (arith, nat_tests) in (
@@ -35,52 +35,52 @@ in_range-IsGiving x cause o s k m g =
       subst (SaysInRange o.state.limit) (sym g.body) some,
     )
 
-in_range-GivesBack : (x : ClientState) (cause : Cause) (o : Outcome) → IsSound x → GivesBack x o → AllInRange cause o.state o.out
-in_range-GivesBack x cause o s k = AllByRecursion-weaker (IsGiving x o.state) (InRange cause o.state) (in_range-IsGiving x cause o s k) o.out k.out
+AllInRange-GivesBack : (x : ClientState) (cause : Cause) (o : Outcome) → IsSound x → GivesBack x o → AllInRange cause o.state o.out
+AllInRange-GivesBack x cause o s k = AllByRecursion-weaker (IsGiving x o.state) (InRange cause o.state) (InRange-IsGiving x cause o s k) o.out k.out
 
 -- Any message
 
-in_range-enter : (b : Bool) (cause : Cause) (x : ClientState) → AllInRange cause (enter_if b x).state (enter_if b x).out
-in_range-enter false cause x = tt
-in_range-enter true cause x = tt
+AllInRange-enter : (b : Bool) (cause : Cause) (x : ClientState) → AllInRange cause (enter_if b x).state (enter_if b x).out
+AllInRange-enter false cause x = tt
+AllInRange-enter true cause x = tt
 
-in_range-locked_by : (current fresh : Bool) (x : ClientState) (m : ToClient) (t g : ℕ) → m.body ≡ tells.Locked t g → m.voter < 64 → ComesInRange x.limit (Takes m)
+AllInRange-locked_by : (current fresh : Bool) (x : ClientState) (m : ToClient) (t g : ℕ) → m.body ≡ tells.Locked t g → m.voter < 64 → ComesInRange x.limit (Takes m)
     → AllInRange (Takes m) (locked_by current fresh x m.voter t g).state (locked_by current fresh x m.voter t g).out
-in_range-locked_by false fresh x m t g body below came =
+AllInRange-locked_by false fresh x m t g body below came =
     let locks : IsLocked (Takes m) m.voter t g = subst (λ b. Locks m.voter b m.voter t g) (sym body) (refl, refl, refl) in
     ((inr (t, (g, locks)), below, came m.voter t g locks), tt)
-in_range-locked_by true false x m t g body below came = tt
-in_range-locked_by true true x m t g body below came = in_range-enter _ (Takes m) (hold x m.voter g)
+AllInRange-locked_by true false x m t g body below came = tt
+AllInRange-locked_by true true x m t g body below came = AllInRange-enter _ (Takes m) (hold x m.voter g)
 
-in_range-failed_by : (b : Bool) (x : ClientState) (m : ToClient) → IsSound x → AllInRange (Takes m) (failed_by b x m.voter).state (failed_by b x m.voter).out
-in_range-failed_by false x m s = tt
-in_range-failed_by true x m s = in_range-GivesBack x (Takes m) (failed_by true x m.voter) s (GivesBack-failed_by x m.voter s.places)
+AllInRange-failed_by : (b : Bool) (x : ClientState) (m : ToClient) → IsSound x → AllInRange (Takes m) (failed_by b x m.voter).state (failed_by b x m.voter).out
+AllInRange-failed_by false x m s = tt
+AllInRange-failed_by true x m s = AllInRange-GivesBack x (Takes m) (failed_by true x m.voter) s (GivesBack-failed_by x m.voter s.places)
 
-in_range-inquired_by : (b hindered : Bool) (x : ClientState) (m : ToClient) → IsSound x → AllInRange (Takes m) (inquired_by b hindered x m.voter).state (inquired_by b hindered x m.voter).out
-in_range-inquired_by false hindered x m s = tt
-in_range-inquired_by true false x m s = tt
-in_range-inquired_by true true x m s = in_range-GivesBack x (Takes m) (inquired_by true true x m.voter) s (GivesBack-relinquish x m.voter s.places)
+AllInRange-inquired_by : (b hindered : Bool) (x : ClientState) (m : ToClient) → IsSound x → AllInRange (Takes m) (inquired_by b hindered x m.voter).state (inquired_by b hindered x m.voter).out
+AllInRange-inquired_by false hindered x m s = tt
+AllInRange-inquired_by true false x m s = tt
+AllInRange-inquired_by true true x m s = AllInRange-GivesBack x (Takes m) (inquired_by true true x m.voter) s (GivesBack-relinquish x m.voter s.places)
 
-in_range-body : (x : ClientState) (m : ToClient) (b : ClientBody) → m.body ≡ b → IsSound x → m.voter < 64 → ComesInRange x.limit (Takes m)
+AllInRange-body : (x : ClientState) (m : ToClient) (b : ClientBody) → m.body ≡ b → IsSound x → m.voter < 64 → ComesInRange x.limit (Takes m)
     → AllInRange (Takes m) (take_body x m.voter b).state (take_body x m.voter b).out
 unfolding locked failed inquired
-in_range-body x m (tells.Locked t g) body s below came = in_range-locked_by _ _ x m t g body below came
-in_range-body x m (tells.Fail t) body s below came = in_range-failed_by _ x m s
-in_range-body x m (tells.Inquire g) body s below came = in_range-inquired_by _ _ x m s
+AllInRange-body x m (tells.Locked t g) body s below came = AllInRange-locked_by _ _ x m t g body below came
+AllInRange-body x m (tells.Fail t) body s below came = AllInRange-failed_by _ x m s
+AllInRange-body x m (tells.Inquire g) body s below came = AllInRange-inquired_by _ _ x m s
 
-in_range-take : (x : ClientState) (m : ToClient) → IsSound x → m.voter < 64 → ComesInRange x.limit (Takes m) → AllInRange (Takes m) (take x m).state (take x m).out
+AllInRange-take : (x : ClientState) (m : ToClient) → IsSound x → m.voter < 64 → ComesInRange x.limit (Takes m) → AllInRange (Takes m) (take x m).state (take x m).out
 unfolding take
-in_range-take x m s below came = in_range-body (see x m.seen) m m.body refl (sound-see x m.seen s) below came
+AllInRange-take x m s below came = AllInRange-body (see x m.seen) m m.body refl (IsSound-see x m.seen s) below came
 
 -- Calls
 
-in_range-asked : (x : ClientState) (q : List ℕ) → IsSet q → x.clock < x.limit → AllInRange (Asks q) (begun x q) (asked x q).out
-in_range-asked x q set room =
+AllInRange-asked : (x : ClientState) (q : List ℕ) → IsSet q → x.clock < x.limit → AllInRange (Asks q) (begun x q) (asked x q).out
+AllInRange-asked x q set room =
     AllByRecursion-map_members (InRange (Asks q) (begun x q)) (λ v. tell (begun x q) v (asks.Request (x.clock + 1))) q
     (λ v member. (inl member, has-IsSet_below q v set member, (omega arith, omega arith)))
 
-in_range-released : (x : ClientState) (seen : Seen) (cause : Cause) → IsSound x → is_idle x.phase ≡ false → AllInRange cause (released x seen).state (released x seen).out
-in_range-released x seen cause s busy =
+AllInRange-released : (x : ClientState) (seen : Seen) (cause : Cause) → IsSound x → is_idle x.phase ≡ false → AllInRange cause (released x seen).state (released x seen).out
+AllInRange-released x seen cause s busy =
     AllByRecursion-map_members (InRange cause (released x seen).state) (λ v. tell x v (asks.Release x.stamp)) (members x)
     (λ v member. (inl member, has-IsSet_below (members x) v s.quorum member, (s.stamped busy, s.stamp)))
 
@@ -89,38 +89,38 @@ is_inside-busy Idle e = sym e
 is_inside-busy Asking e = refl
 is_inside-busy Inside e = refl
 
-pub in_range-step : (x : ClientState) (cause : Cause) (o : Outcome) → IsSound x → Accepts x cause → ComesInRange x.limit cause → step x cause ≡ Ok o → AllInRange cause o.state o.out
+pub AllInRange-step : (x : ClientState) (cause : Cause) (o : Outcome) → IsSound x → Accepts x cause → ComesInRange x.limit cause → step x cause ≡ Ok o → AllInRange cause o.state o.out
 unfolding step
-in_range-step x (Asks q) o s accepts came e =
+AllInRange-step x (Asks q) o s accepts came e =
     let k = ask-Ok x q o e in
-    subst (λ (p : Outcome). AllInRange (Asks q) p.state p.out) k.2 (in_range-asked x q accepts.0 k.1)
-in_range-step x (Takes m) o s accepts came e = subst (λ (p : Outcome). AllInRange (Takes m) p.state p.out) (Ok-same (take x m) o e) (in_range-take x m s accepts.1 came)
-in_range-step x Leaves o s accepts came e =
+    subst (λ (p : Outcome). AllInRange (Asks q) p.state p.out) k.2 (AllInRange-asked x q accepts.0 k.1)
+AllInRange-step x (Takes m) o s accepts came e = subst (λ (p : Outcome). AllInRange (Takes m) p.state p.out) (Ok-same (take x m) o e) (AllInRange-take x m s accepts.1 came)
+AllInRange-step x Leaves o s accepts came e =
     let k = leave-Ok x o e in
-    subst (λ (p : Outcome). AllInRange Leaves p.state p.out) k.1 (in_range-released x Left Leaves s (is_inside-busy x.phase k.0))
-in_range-step x GivesUp o s accepts came e =
+    subst (λ (p : Outcome). AllInRange Leaves p.state p.out) k.1 (AllInRange-released x Left Leaves s (is_inside-busy x.phase k.0))
+AllInRange-step x GivesUp o s accepts came e =
     let k = give_up-Ok x o e in
-    subst (λ (p : Outcome). AllInRange GivesUp p.state p.out) k.1 (in_range-released x Nothing GivesUp s (is_asking-busy x.phase k.0))
+    subst (λ (p : Outcome). AllInRange GivesUp p.state p.out) k.1 (AllInRange-released x Nothing GivesUp s (is_asking-busy x.phase k.0))
 
 -- Reminders
 
 abbrev pub ReminderInRange : ClientState → ToVoter → Type 0
 ReminderInRange x m = (is_member x m.voter ≡ true) × (m.voter < 64) × SaysInRange x.limit m.body
 
-in_range-remind_by : (held given : Bool) (x : ClientState) (v : ℕ) → IsSound x → is_idle x.phase ≡ false → is_relinquished x v ≡ given → is_member x v ≡ true
+RemindersInRange-remind_by : (held given : Bool) (x : ClientState) (v : ℕ) → IsSound x → is_idle x.phase ≡ false → is_relinquished x v ≡ given → is_member x v ≡ true
     → RemindersInRange x (remind_by held given x v)
-in_range-remind_by true given x v s busy e member = tt
-in_range-remind_by false false x v s busy e member = ((member, has-IsSet_below (members x) v s.quorum member, (s.stamped busy, s.stamp)), tt)
-in_range-remind_by false true x v s busy e member =
+RemindersInRange-remind_by true given x v s busy e member = tt
+RemindersInRange-remind_by false false x v s busy e member = ((member, has-IsSet_below (members x) v s.quorum member, (s.stamped busy, s.stamp)), tt)
+RemindersInRange-remind_by false true x v s busy e member =
     let below = has-IsSet_below (members x) v s.quorum member in
     ((member, below, s.relinquished v e), ((member, below, (s.stamped busy, s.stamp)), tt))
 
-in_range-remind_in : (p : Phase) (x : ClientState) → IsSound x → x.phase ≡ p → RemindersInRange x (remind_in p x)
-in_range-remind_in Idle x s e = tt
-in_range-remind_in Asking x s e =
-    AllByRecursion-flat_map_members (ReminderInRange x) (remind_member x) (members x) (λ v member. in_range-remind_by _ _ x v s (ap is_idle e) refl member)
-in_range-remind_in Inside x s e = tt
+RemindersInRange-remind_in : (p : Phase) (x : ClientState) → IsSound x → x.phase ≡ p → RemindersInRange x (remind_in p x)
+RemindersInRange-remind_in Idle x s e = tt
+RemindersInRange-remind_in Asking x s e =
+    AllByRecursion-flat_map_members (ReminderInRange x) (remind_member x) (members x) (λ v member. RemindersInRange-remind_by _ _ x v s (ap is_idle e) refl member)
+RemindersInRange-remind_in Inside x s e = tt
 
-pub in_range-remind : (x : ClientState) → IsSound x → RemindersInRange x (remind x)
+pub RemindersInRange-remind : (x : ClientState) → IsSound x → RemindersInRange x (remind x)
 unfolding remind
-in_range-remind x s = in_range-remind_in x.phase x s refl
+RemindersInRange-remind x s = RemindersInRange-remind_in x.phase x s refl

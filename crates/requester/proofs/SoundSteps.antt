@@ -148,9 +148,9 @@ IsHeldWell-hold x p v g s c busy runs u h = elim (cases_eq u v) [
       record { busy = runs; member = w.member; fresh = omega arith }
 ]
 
-sound-hold : (x : ClientState) (p : Phase) (v g : ℕ) → IsSound x → Counts x v g → is_idle x.phase ≡ false → is_idle p ≡ false
+IsSound-hold : (x : ClientState) (p : Phase) (v g : ℕ) → IsSound x → Counts x v g → is_idle x.phase ≡ false → is_idle p ≡ false
     → (is_inside p ≡ true → is_covered (hold x v g) ≡ true) → IsSound (record (hold x v g) { phase = p })
-sound-hold x p v g s c busy runs inside =
+IsSound-hold x p v g s c busy runs inside =
     let m = HoldsMore-hold x v g s.places c.place in
     record {
       id = s.id;
@@ -175,14 +175,14 @@ is_inside-from_Counts x v g s c = elim (is_inside x.phase) as (λ b. is_inside x
   | false ↦ λ _. refl
 ] refl
 
-sound-enter : (b : Bool) (x : ClientState) (v g : ℕ) → IsSound x → Counts x v g → is_idle x.phase ≡ false → is_covered (hold x v g) ≡ b → IsSound (enter_if b (hold x v g)).state
-sound-enter false x v g s c busy e = sound-hold x x.phase v g s c busy busy (λ inside. absurd-true_false (is_inside x.phase) inside (is_inside-from_Counts x v g s c))
-sound-enter true x v g s c busy e = sound-hold x Inside v g s c busy refl (λ _. e)
+IsSound-enter : (b : Bool) (x : ClientState) (v g : ℕ) → IsSound x → Counts x v g → is_idle x.phase ≡ false → is_covered (hold x v g) ≡ b → IsSound (enter_if b (hold x v g)).state
+IsSound-enter false x v g s c busy e = IsSound-hold x x.phase v g s c busy busy (λ inside. absurd-true_false (is_inside x.phase) inside (is_inside-from_Counts x v g s c))
+IsSound-enter true x v g s c busy e = IsSound-hold x Inside v g s c busy refl (λ _. e)
 
-sound-locked_by : (current fresh : Bool) (x : ClientState) (v t g : ℕ) → IsSound x → is_current x t ≡ current → is_fresh x v g ≡ fresh → IsSound (locked_by current fresh x v t g).state
-sound-locked_by false fresh x v t g s c f = s
-sound-locked_by true false x v t g s c f = s
-sound-locked_by true true x v t g s c f = sound-enter _ x v g s (Counts-is_fresh x v g s f) (is_current-busy x t c).0 refl
+IsSound-locked_by : (current fresh : Bool) (x : ClientState) (v t g : ℕ) → IsSound x → is_current x t ≡ current → is_fresh x v g ≡ fresh → IsSound (locked_by current fresh x v t g).state
+IsSound-locked_by false fresh x v t g s c f = s
+IsSound-locked_by true false x v t g s c f = s
+IsSound-locked_by true true x v t g s c f = IsSound-enter _ x v g s (Counts-is_fresh x v g s f) (is_current-busy x t c).0 refl
 
 -- FAIL and INQUIRE
 
@@ -209,9 +209,9 @@ GivesBack-failed_by x v places =
           (λ m p. let g = p.vote in record { client = p.client; vote = record { was = g.was; gone = g.gone; last = g.last; inquired = g.inquired }; body = p.body }) o.out k.out;
     }
 
-sound-failed_by : (b : Bool) (x : ClientState) (v : ℕ) → IsSound x → (b ≡ true → is_asking x.phase ≡ true) → IsSound (failed_by b x v).state
-sound-failed_by false x v s asking = s
-sound-failed_by true x v s asking = IsSound-GivesBack x (failed_by true x v) s (is_asking-outside x.phase (asking refl)) (GivesBack-failed_by x v s.places)
+IsSound-failed_by : (b : Bool) (x : ClientState) (v : ℕ) → IsSound x → (b ≡ true → is_asking x.phase ≡ true) → IsSound (failed_by b x v).state
+IsSound-failed_by false x v s asking = s
+IsSound-failed_by true x v s asking = IsSound-GivesBack x (failed_by true x v) s (is_asking-outside x.phase (asking refl)) (GivesBack-failed_by x v s.places)
 
 pub is_asking-from_failed : (x : ClientState) (v t : ℕ) → (is_asking x.phase && t == x.stamp && is_member x v && not (holds x v)) ≡ true → is_asking x.phase ≡ true
 is_asking-from_failed x v t e = grind (arith, nat_tests)
@@ -220,9 +220,9 @@ holds_under-holds : (x : ClientState) (v g : ℕ) → holds_under x v g ≡ true
 holds_under-holds x v g e = (both_true-from_and (holds x v) (held_of x v == g) e).0
 
 -- the clock is raised, and votes are marked as asked for, all of which are held
-sound-raised : (x : ClientState) (now : ℕ) (marked : List ℕ) → IsSound x → x.clock ≤ now → ((v : ℕ) → has marked v ≡ true → holds x v ≡ true)
+IsSound-raised : (x : ClientState) (now : ℕ) (marked : List ℕ) → IsSound x → x.clock ≤ now → ((v : ℕ) → has marked v ≡ true → holds x v ≡ true)
     → IsSound (record x { clock = now; inquired = marked })
-sound-raised x now marked s later all_held =
+IsSound-raised x now marked s later all_held =
     let p = s.places in
     let before = s.clock in
     record {
@@ -241,32 +241,32 @@ sound-raised x now marked s later all_held =
       relinquished = s.relinquished;
     }
 
-sound-inquire : (x : ClientState) (v : ℕ) → IsSound x → holds x v ≡ true → IsSound (inquire x v)
-sound-inquire x v s h =
-    sound-raised x x.clock (inquire x v).inquired s (omega arith) (λ u e. elim (has-with_voter x.inquired v u e) [
+IsSound-inquire : (x : ClientState) (v : ℕ) → IsSound x → holds x v ≡ true → IsSound (inquire x v)
+IsSound-inquire x v s h =
+    IsSound-raised x x.clock (inquire x v).inquired s (omega arith) (λ u e. elim (has-with_voter x.inquired v u e) [
       | inl same ↦ ap (holds x) same ∙ h
       | inr was ↦ s.inquired u was
     ])
 
-sound-inquired_by : (b hindered : Bool) (x : ClientState) (v g : ℕ) → IsSound x → (is_asking x.phase && holds_under x v g) ≡ b → IsSound (inquired_by b hindered x v).state
-sound-inquired_by false hindered x v g s e = s
-sound-inquired_by true false x v g s e = sound-inquire x v s (holds_under-holds x v g (both_true-from_and (is_asking x.phase) (holds_under x v g) e).1)
-sound-inquired_by true true x v g s e = IsSound-GivesBack x (inquired_by true true x v) s (is_asking-outside x.phase (both_true-from_and (is_asking x.phase) (holds_under x v g) e).0) (GivesBack-relinquish x v s.places)
+IsSound-inquired_by : (b hindered : Bool) (x : ClientState) (v g : ℕ) → IsSound x → (is_asking x.phase && holds_under x v g) ≡ b → IsSound (inquired_by b hindered x v).state
+IsSound-inquired_by false hindered x v g s e = s
+IsSound-inquired_by true false x v g s e = IsSound-inquire x v s (holds_under-holds x v g (both_true-from_and (is_asking x.phase) (holds_under x v g) e).1)
+IsSound-inquired_by true true x v g s e = IsSound-GivesBack x (inquired_by true true x v) s (is_asking-outside x.phase (both_true-from_and (is_asking x.phase) (holds_under x v g) e).0) (GivesBack-relinquish x v s.places)
 
 -- Any message
 
-sound-body : (x : ClientState) (v : ℕ) (b : ClientBody) → IsSound x → IsSound (take_body x v b).state
+IsSound-body : (x : ClientState) (v : ℕ) (b : ClientBody) → IsSound x → IsSound (take_body x v b).state
 unfolding locked failed inquired
-sound-body x v (tells.Locked t g) s = sound-locked_by _ _ x v t g s refl refl
-sound-body x v (tells.Fail t) s = sound-failed_by _ x v s (is_asking-from_failed x v t)
-sound-body x v (tells.Inquire g) s = sound-inquired_by _ _ x v g s refl
+IsSound-body x v (tells.Locked t g) s = IsSound-locked_by _ _ x v t g s refl refl
+IsSound-body x v (tells.Fail t) s = IsSound-failed_by _ x v s (is_asking-from_failed x v t)
+IsSound-body x v (tells.Inquire g) s = IsSound-inquired_by _ _ x v g s refl
 
-pub sound-see : (x : ClientState) (t : ℕ) → IsSound x → IsSound (see x t)
-sound-see x t s = sound-raised x (see x t).clock x.inquired s (omega arith) s.inquired
+pub IsSound-see : (x : ClientState) (t : ℕ) → IsSound x → IsSound (see x t)
+IsSound-see x t s = IsSound-raised x (see x t).clock x.inquired s (omega arith) s.inquired
 
-pub sound-take : (x : ClientState) (m : ToClient) → IsSound x → IsSound (take x m).state
+pub IsSound-take : (x : ClientState) (m : ToClient) → IsSound x → IsSound (take x m).state
 unfolding take
-sound-take x m s = sound-body (see x m.seen) m.voter m.body (sound-see x m.seen s)
+IsSound-take x m s = IsSound-body (see x m.seen) m.voter m.body (IsSound-see x m.seen s)
 
 -- Calls
 
@@ -276,8 +276,8 @@ HasPlaces-cleared x p = record { held = refl; last = p.last }
 cleared-holds_nothing : {A : Type 0} (x : ClientState) (v : ℕ) → holds (cleared x) v ≡ true → A
 cleared-holds_nothing x v h = absurd-true_false (holds (cleared x) v) h (ap (ltb 0) (get_or-zeros 64 v))
 
-sound-asked : (x : ClientState) (q : List ℕ) → IsSound x → IsSet q → 1 ≤ length q → x.clock < x.limit → IsSound (begun x q)
-sound-asked x q s set some room =
+IsSound-asked : (x : ClientState) (q : List ℕ) → IsSound x → IsSet q → 1 ≤ length q → x.clock < x.limit → IsSound (begun x q)
+IsSound-asked x q s set some room =
     let p = HasPlaces-cleared x s.places in
     record {
       id = s.id;
@@ -295,8 +295,8 @@ sound-asked x q s set some room =
       relinquished = λ v h. absurd-true_false false h refl;
     }
 
-sound-released : (x : ClientState) (seen : Seen) → IsSound x → IsSound (released x seen).state
-sound-released x seen s =
+IsSound-released : (x : ClientState) (seen : Seen) → IsSound x → IsSound (released x seen).state
+IsSound-released x seen s =
     let p = HasPlaces-cleared x s.places in
     record {
       id = s.id;
@@ -354,26 +354,26 @@ pub give_up-Ok : (x : ClientState) (o : Outcome) → give_up x ≡ Ok o → (is_
 unfolding give_up
 give_up-Ok x o e = give_up_in-Ok x.phase x o e
 
-pub sound-ask : (x : ClientState) (q : List ℕ) (o : Outcome) → IsSound x → IsSet q → 1 ≤ length q → ask x q ≡ Ok o → IsSound o.state
-sound-ask x q o s set some e =
+pub IsSound-ask : (x : ClientState) (q : List ℕ) (o : Outcome) → IsSound x → IsSet q → 1 ≤ length q → ask x q ≡ Ok o → IsSound o.state
+IsSound-ask x q o s set some e =
     let k = ask-Ok x q o e in
-    subst (λ (p : Outcome). IsSound p.state) k.2 (sound-asked x q s set some k.1)
+    subst (λ (p : Outcome). IsSound p.state) k.2 (IsSound-asked x q s set some k.1)
 
-pub sound-leave : (x : ClientState) (o : Outcome) → IsSound x → leave x ≡ Ok o → IsSound o.state
-sound-leave x o s e = subst (λ (p : Outcome). IsSound p.state) (leave-Ok x o e).1 (sound-released x Left s)
+pub IsSound-leave : (x : ClientState) (o : Outcome) → IsSound x → leave x ≡ Ok o → IsSound o.state
+IsSound-leave x o s e = subst (λ (p : Outcome). IsSound p.state) (leave-Ok x o e).1 (IsSound-released x Left s)
 
-pub sound-give_up : (x : ClientState) (o : Outcome) → IsSound x → give_up x ≡ Ok o → IsSound o.state
-sound-give_up x o s e = subst (λ (p : Outcome). IsSound p.state) (give_up-Ok x o e).1 (sound-released x Nothing s)
+pub IsSound-give_up : (x : ClientState) (o : Outcome) → IsSound x → give_up x ≡ Ok o → IsSound o.state
+IsSound-give_up x o s e = subst (λ (p : Outcome). IsSound p.state) (give_up-Ok x o e).1 (IsSound-released x Nothing s)
 
-pub sound-step : (x : ClientState) (cause : Cause) (o : Outcome) → IsSound x → Accepts x cause → step x cause ≡ Ok o → IsSound o.state
+pub IsSound-step : (x : ClientState) (cause : Cause) (o : Outcome) → IsSound x → Accepts x cause → step x cause ≡ Ok o → IsSound o.state
 unfolding step
-sound-step x (Asks q) o s accepts e = sound-ask x q o s accepts.0 accepts.1 e
-sound-step x (Takes m) o s accepts e = subst (λ (p : Outcome). IsSound p.state) (Ok-same (take x m) o e) (sound-take x m s)
-sound-step x Leaves o s accepts e = sound-leave x o s e
-sound-step x GivesUp o s accepts e = sound-give_up x o s e
+IsSound-step x (Asks q) o s accepts e = IsSound-ask x q o s accepts.0 accepts.1 e
+IsSound-step x (Takes m) o s accepts e = subst (λ (p : Outcome). IsSound p.state) (Ok-same (take x m) o e) (IsSound-take x m s)
+IsSound-step x Leaves o s accepts e = IsSound-leave x o s e
+IsSound-step x GivesUp o s accepts e = IsSound-give_up x o s e
 
-pub sound-start : (id limit : ℕ) → id < 64 → 1 ≤ limit → limit ≤ 2 ^ 40 → IsSound (start id limit)
-sound-start id limit small some most =
+pub IsSound-start : (id limit : ℕ) → id < 64 → 1 ≤ limit → limit ≤ 2 ^ 40 → IsSound (start id limit)
+IsSound-start id limit small some most =
     let x = start id limit in
     record {
       id = small;

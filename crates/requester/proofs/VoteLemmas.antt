@@ -11,7 +11,7 @@ use Rattle.requester.specs.Held.{HoldsBesides, HoldsNothing, IsKeptOrGiven}
 use Rattle.requester.specs.Steps.{Outcome, ask, hold, enter_if, locked, locked_by, failed, failed_by, inquired, inquired_by, see, take, take_body, would_hold, would_hold_body, leave, give_up}
 use Rattle.requester.proofs.Members.{absurd-true_false, list_all-member, get_or-zeros}
 use Rattle.requester.proofs.Giving.{GivesBack, GivesBack-relinquish}
-use Rattle.requester.proofs.SoundSteps.{GivesBack-failed_by, sound-see, ask-Ok, leave-Ok, give_up-Ok}
+use Rattle.requester.proofs.SoundSteps.{GivesBack-failed_by, IsSound-see, ask-Ok, leave-Ok, give_up-Ok}
 
 -- A LOCKED that counts
 
@@ -69,7 +69,7 @@ would_hold-see x n v (tells.Inquire g) = refl
 
 pub IsKeptOrGiven-take : (x : ClientState) (m : ToClient) → IsSound x → would_hold x m ≡ false → (v : ℕ) → IsKeptOrGiven x (take x m) v
 unfolding would_hold take
-IsKeptOrGiven-take x m s e v = IsKeptOrGiven-take_body (see x m.seen) m.voter m.body (sound-see x m.seen s) (would_hold-see x m.seen m.voter m.body ∙ e) v
+IsKeptOrGiven-take x m s e v = IsKeptOrGiven-take_body (see x m.seen) m.voter m.body (IsSound-see x m.seen s) (would_hold-see x m.seen m.voter m.body ∙ e) v
 
 -- Phases
 

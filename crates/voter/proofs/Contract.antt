@@ -18,7 +18,7 @@ use Rattle.voter.specs.VoteMoves.{VoteMoves}
 use Rattle.voter.specs.VoterContract.{TellsVote, AllTell, Ends, IsEntry, Brings, MeetsContract}
 use Rattle.voter.specs.Steps.{Outcome, grant_to, grant_front, released, released_by, queued, queued_by, inquiry, fail_former, admitted, admitted_by, queue, freed, finish, held_stamp, is_up_to, is_older, is_grant, standing, first_some, requested, requested_by, requested_beside, compared_by, again, again_by, relinquished, relinquished_by, put_back, see, outcome_of, ends_grant, step, remind, remind_of, inquiry_again}
 use Rattle.voter.proofs.Front.{front-found}
-use Rattle.voter.proofs.Moves.{VoteMoves-outcome_of, moves-admitted}
+use Rattle.voter.proofs.Moves.{VoteMoves-outcome_of, VoteMoves-admitted}
 use Rattle.voter.proofs.Soundness.{get-removed, get-inserted}
 use Rattle.voter.proofs.Effects.{step-Some}
 
@@ -266,7 +266,7 @@ told-compared_by false true v c s t e stands = let same : t ≡ s = grind (arith
 told-compared_by false false v c s t e stands =
     let w = (released v c t).state in
     let a = admitted w c s in
-    all_append a.state.held (released v c t).replies a.replies (still_all w a.state (moves-admitted w c s) (released v c t).replies (told-released v c t)) (told-admitted w c s)
+    all_append a.state.held (released v c t).replies a.replies (still_all w a.state (VoteMoves-admitted w c s) (released v c t).replies (told-released v c t)) (told-admitted w c s)
 
 told-beside : (v : VoterState) (c s : ℕ) (o : Option ℕ) → standing v c ≡ o → AllTell (requested_beside v c s o).state.held (requested_beside v c s o).replies
 unfolding requested_beside

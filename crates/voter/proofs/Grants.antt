@@ -141,9 +141,9 @@ kept-released_by true waits v c s = let k = kept-grant_front (freed (finish v c 
 kept-released_by false true v c s = record { id = refl; limit = refl; seen = refl }
 kept-released_by false false v c s = record { id = refl; limit = refl; seen = refl }
 
-pub kept-released : (v : VoterState) (c s : ℕ) → Keeps v (released v c s).state
+pub Keeps-released : (v : VoterState) (c s : ℕ) → Keeps v (released v c s).state
 unfolding released
-kept-released v c s = kept-released_by _ _ v c s
+Keeps-released v c s = kept-released_by _ _ v c s
 
 kept-queued_by : (waits granted : Bool) (v : VoterState) (g : Grant) (c s : ℕ) → Keeps v (queued_by waits granted v g c s).state
 kept-queued_by true granted v g c s = record { id = refl; limit = refl; seen = refl }
@@ -166,7 +166,7 @@ kept-compared_by : (less same : Bool) (v : VoterState) (c s t : ℕ) → Keeps v
 kept-compared_by true same v c s t = record { id = refl; limit = refl; seen = refl }
 kept-compared_by false true v c s t = record { id = refl; limit = refl; seen = refl }
 kept-compared_by false false v c s t =
-    let r = kept-released v c t in
+    let r = Keeps-released v c t in
     let a = kept-admitted (released v c t).state c s in
     record { id = a.id ∙ r.id; limit = a.limit ∙ r.limit; seen = a.seen ∙ r.seen }
 
@@ -197,4 +197,4 @@ pub KeepsBut-outcome_of : (v : VoterState) (c : ℕ) (b : VoterBody) → KeepsBu
 unfolding relinquished requested
 KeepsBut-outcome_of v c (asks.Request s) = let k = kept-requested_by _ (see v s) c s in record { id = k.id; limit = k.limit; seen = k.seen }
 KeepsBut-outcome_of v c (asks.Relinquish n) = let k = kept-relinquished_by _ v in record { id = k.id; limit = k.limit; seen = k.seen }
-KeepsBut-outcome_of v c (asks.Release s) = let k = kept-released (see v s) c s in record { id = k.id; limit = k.limit; seen = k.seen }
+KeepsBut-outcome_of v c (asks.Release s) = let k = Keeps-released (see v s) c s in record { id = k.id; limit = k.limit; seen = k.seen }

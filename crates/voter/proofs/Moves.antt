@@ -53,9 +53,9 @@ moves-admitted_by : (o : Option Grant) (v : VoterState) (c s : ℕ) → v.held �
 moves-admitted_by None v c s is = from_free v (grant_front (queue v c s)).state is (moves-grant_front v (queue v c s) refl is)
 moves-admitted_by (Some g) v c s is = moves-queued v g c s
 
-pub moves-admitted : (v : VoterState) (c s : ℕ) → VoteMoves false v (admitted v c s).state
+pub VoteMoves-admitted : (v : VoterState) (c s : ℕ) → VoteMoves false v (admitted v c s).state
 unfolding admitted
-moves-admitted v c s = moves-admitted_by v.held v c s refl
+VoteMoves-admitted v c s = moves-admitted_by v.held v c s refl
 
 -- one step, and then one that ends no grant
 VoteMoves-then : (e : Bool) (u v w : VoterState) → VoteMoves e u v → VoteMoves false v w → VoteMoves e u w
@@ -86,7 +86,7 @@ moves-compared_by false false v c s t l e stands =
     let up = up_to_own (held_stamp v.held c) (get v.waiting c) t stands in
     let same_test : is_up_to (held_stamp v.held c) t ≡ is_older (held_stamp v.held c) s = grind (arith, nat_tests) in
     let w = (released v c t).state in
-    subst (λ b. VoteMoves b v (admitted w c s).state) same_test (VoteMoves-then _ v w (admitted w c s).state (moves-released v c t) (moves-admitted w c s))
+    subst (λ b. VoteMoves b v (admitted w c s).state) same_test (VoteMoves-then _ v w (admitted w c s).state (moves-released v c t) (VoteMoves-admitted w c s))
 
 none_older : (o w : Option ℕ) (s : ℕ) → first_some o w ≡ None → is_older o s ≡ false
 none_older None w s e = refl
@@ -94,7 +94,7 @@ none_older (Some u) w s e = grind (arith, nat_tests)
 
 moves-beside : (v : VoterState) (c s : ℕ) (o : Option ℕ) → standing v c ≡ o → VoteMoves (is_older (held_stamp v.held c) s) v (requested_beside v c s o).state
 unfolding requested_beside
-moves-beside v c s None stands = subst (λ b. VoteMoves b v (admitted v c s).state) (sym (none_older (held_stamp v.held c) (get v.waiting c) s stands)) (moves-admitted v c s)
+moves-beside v c s None stands = subst (λ b. VoteMoves b v (admitted v c s).state) (sym (none_older (held_stamp v.held c) (get v.waiting c) s stands)) (VoteMoves-admitted v c s)
 moves-beside v c s (Some t) stands = moves-compared_by _ _ v c s t refl refl stands
 
 moves-requested_by : (done : Bool) (v : VoterState) (c s : ℕ) → nat_le s (slice_index v.finished c) ≡ done → VoteMoves (nat_lt (slice_index v.finished c) s && is_older (held_stamp v.held c) s) v (requested_by done v c s).state

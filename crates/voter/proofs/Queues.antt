@@ -74,8 +74,8 @@ stamp_without : (c q : ℕ) (rs : List Request) → stamp_in q (without c rs) �
 stamp_without c q [] = grind (arith, nat_tests)
 stamp_without c q (r ∷ rs) = stamp_choice q (not (eqb r.client c)) r (without c rs) ∙ without_cases c q r.client r.stamp _ _ (stamp_without c q rs)
 
-pub waiting-without : (c : ℕ) (rs : List Request) → waiting_of (without c rs) ≡ fin.remove (waiting_of rs) c
-waiting-without c rs = Waiting-same _ _ (λ q. get-waiting_of (without c rs) q ∙ stamp_without c q rs
+pub waiting_of-without : (c : ℕ) (rs : List Request) → waiting_of (without c rs) ≡ fin.remove (waiting_of rs) c
+waiting_of-without c rs = Waiting-same _ _ (λ q. get-waiting_of (without c rs) q ∙ stamp_without c q rs
     ∙ sym (fin.get-remove nat_cmp_total (waiting_of rs) c q ∙ ap (λ b. cond b None (get (waiting_of rs) q)) (eq_by_cmp-nat q c) ∙ ap (cond (eqb q c) None) (get-waiting_of rs q)))
 
 all_without : (P : Request → Type 0) (c : ℕ) (rs : List Request) → AllByRecursion P rs → AllByRecursion P (without c rs)
@@ -85,11 +85,11 @@ all_without P c (r ∷ rs) h = elim (not (eqb r.client c)) as (λ b. AllByRecurs
   | false ↦ all_without P c rs h.1
 ]
 
-pub queue-without : (c : ℕ) (rs : List Request) → IsQueue rs → IsQueue (without c rs)
-queue-without c [] h = tt
-queue-without c (r ∷ rs) h = elim (not (eqb r.client c)) as (λ b. IsQueue (cond b (r ∷ without c rs) (without c rs))) [
-  | true ↦ (h.0, all_without (Follows r) c rs h.1, queue-without c rs h.2)
-  | false ↦ queue-without c rs h.2
+pub IsQueue-without : (c : ℕ) (rs : List Request) → IsQueue rs → IsQueue (without c rs)
+IsQueue-without c [] h = tt
+IsQueue-without c (r ∷ rs) h = elim (not (eqb r.client c)) as (λ b. IsQueue (cond b (r ∷ without c rs) (without c rs))) [
+  | true ↦ (h.0, all_without (Follows r) c rs h.1, IsQueue-without c rs h.2)
+  | false ↦ IsQueue-without c rs h.2
 ]
 
 -- ---- a request comes in its place
@@ -124,8 +124,8 @@ stamp_placed r c [] h = refl
 stamp_placed r c (q ∷ rs) h = stamp_placed_choice c (precedes q r) (q ∷ placed r rs) (r ∷ q ∷ rs)
     ∙ placed_cases c r.client r.stamp q.client q.stamp (precedes q r) _ _ h.0 (stamp_placed r c rs h.1)
 
-pub waiting-placed : (r : Request) (rs : List Request) → IsNew r rs → waiting_of (placed r rs) ≡ fin.insert (waiting_of rs) r.client r.stamp
-waiting-placed r rs h = Waiting-same _ _ (λ q. get-waiting_of (placed r rs) q ∙ stamp_placed r q rs h
+pub waiting_of-placed : (r : Request) (rs : List Request) → IsNew r rs → waiting_of (placed r rs) ≡ fin.insert (waiting_of rs) r.client r.stamp
+waiting_of-placed r rs h = Waiting-same _ _ (λ q. get-waiting_of (placed r rs) q ∙ stamp_placed r q rs h
     ∙ sym (fin.get-insert nat_cmp_total (waiting_of rs) r.client r.stamp q ∙ ap (λ b. cond b (Some r.stamp) (get (waiting_of rs) q)) (eq_by_cmp-nat q r.client) ∙ ap (cond (eqb q r.client) (Some r.stamp)) (get-waiting_of rs q)))
 
 follows_placed : (q r : Request) (rs : List Request) → Follows q r → AllByRecursion (Follows q) rs → AllByRecursion (Follows q) (placed r rs)
@@ -143,21 +143,21 @@ follows_all : (q r : Request) (rs : List Request) → precedes r q ≡ true → 
 follows_all q r [] before h new = tt
 follows_all q r (p ∷ rs) before h new = (record { later = precedes-trans r q p before h.0.later; other = new.0 }, follows_all q r rs before h.1 new.1)
 
-pub queue-placed : (r : Request) (rs : List Request) → r.client < 64 → IsNew r rs → IsQueue rs → IsQueue (placed r rs)
-queue-placed r [] small new h = (small, tt, tt)
-queue-placed r (q ∷ rs) small new h = elim (precedes q r) as (λ b. precedes q r ≡ b → IsQueue (cond b (q ∷ placed r rs) (r ∷ q ∷ rs))) [
-  | true ↦ λ e. (h.0, follows_placed q r rs (record { later = e; other = λ s. new.0 (sym s) }) h.1, queue-placed r rs small new.1 h.2)
+pub IsQueue-placed : (r : Request) (rs : List Request) → r.client < 64 → IsNew r rs → IsQueue rs → IsQueue (placed r rs)
+IsQueue-placed r [] small new h = (small, tt, tt)
+IsQueue-placed r (q ∷ rs) small new h = elim (precedes q r) as (λ b. precedes q r ≡ b → IsQueue (cond b (q ∷ placed r rs) (r ∷ q ∷ rs))) [
+  | true ↦ λ e. (h.0, follows_placed q r rs (record { later = e; other = λ s. new.0 (sym s) }) h.1, IsQueue-placed r rs small new.1 h.2)
   | false ↦ λ e. (small, (record { later = precedes-from_not_before q r new.0 e; other = new.0 }, follows_all q r rs (precedes-from_not_before q r new.0 e) h.1 new.1), h)
 ] refl
 
 is_new_step : (k c : ℕ) → eqb k c ≡ false → c ≢ k
 is_new_step k c e = grind (arith, nat_tests)
 
-pub new-without : (r : Request) (rs : List Request) → IsNew r (without r.client rs)
-new-without r [] = tt
-new-without r (q ∷ rs) = elim (eqb q.client r.client) as (λ b. eqb q.client r.client ≡ b → IsNew r (cond (not b) (q ∷ without r.client rs) (without r.client rs))) [
-  | true ↦ λ e. new-without r rs
-  | false ↦ λ e. (is_new_step q.client r.client e, new-without r rs)
+pub IsNew-without : (r : Request) (rs : List Request) → IsNew r (without r.client rs)
+IsNew-without r [] = tt
+IsNew-without r (q ∷ rs) = elim (eqb q.client r.client) as (λ b. eqb q.client r.client ≡ b → IsNew r (cond (not b) (q ∷ without r.client rs) (without r.client rs))) [
+  | true ↦ λ e. IsNew-without r rs
+  | false ↦ λ e. (is_new_step q.client r.client e, IsNew-without r rs)
 ] refl
 
 -- ---- how many can wait

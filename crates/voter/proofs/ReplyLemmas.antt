@@ -19,7 +19,7 @@ use Rattle.voter.specs.Waiting.{Waiting, front}
 use Rattle.voter.specs.Replies.{AllTellPlace, locked_in, locked_count, AllCarry, seen_after, AreAnswers, CarrySeen}
 use Rattle.voter.specs.Steps.{Outcome, grant_to, grant_front, released, released_by, queued, queued_by, inquiry, fail_former, admitted, admitted_by, queue, freed, finish, held_stamp, is_up_to, standing, first_some, requested, requested_by, requested_beside, compared_by, again, again_by, relinquished, relinquished_by, put_back, see, outcome_of, step, remind, remind_of, inquiry_again, IsSound}
 use Rattle.voter.proofs.Front.{front-found}
-use Rattle.voter.proofs.Grants.{granted-compared_by, granted-admitted, KeepsBut-outcome_of, kept-released, up_to_own, more}
+use Rattle.voter.proofs.Grants.{granted-compared_by, granted-admitted, KeepsBut-outcome_of, Keeps-released, up_to_own, more}
 use Rattle.voter.proofs.Soundness.{IsOrderly, get-inserted, get-removed_none, get-removed_self, held_stamp-holder, IsOrderly-see}
 use Rattle.voter.proofs.Effects.{step-Some}
 
@@ -340,7 +340,7 @@ carry-compared_by true same v c s t = tt
 carry-compared_by false true v c s t = carry_again v.held v c s
 carry-compared_by false false v c s t =
     let w = (released v c t).state in
-    let k = kept-released v c t in
+    let k = Keeps-released v c t in
     let a = (admitted w c s).replies in
     carry_append v.id v.seen (released v c t).replies a (carry-released v c t) (subst (λ i. AllCarry i v.seen a) k.id (subst (λ n. AllCarry w.id n a) k.seen (carry-admitted w c s)))
 

@@ -127,14 +127,14 @@ away-released_by true waits v c t e stands h =
 away-released_by false true v c t e stands h = none_of (held_stamp v.held c) (sym (up_to_own (held_stamp v.held c) (get v.waiting c) t stands) ∙ e)
 away-released_by false false v c t e stands h = none_of (held_stamp v.held c) (sym (up_to_own (held_stamp v.held c) (get v.waiting c) t stands) ∙ e)
 
-pub away-released : (v : VoterState) (c t : ℕ) → standing v c ≡ Some t → IsOrderly v → held_stamp (released v c t).state.held c ≡ None
+pub held_stamp-released : (v : VoterState) (c t : ℕ) → standing v c ≡ Some t → IsOrderly v → held_stamp (released v c t).state.held c ≡ None
 unfolding released
-away-released v c t stands h = away-released_by _ _ v c t refl stands h
+held_stamp-released v c t stands h = away-released_by _ _ v c t refl stands h
 
 orderly-compared_by : (less same : Bool) (v : VoterState) (c s t : ℕ) → standing v c ≡ Some t → IsOrderly v → IsOrderly (compared_by less same v c s t).state
 orderly-compared_by true same v c s t stands h = h
 orderly-compared_by false true v c s t stands h = h
-orderly-compared_by false false v c s t stands h = orderly-admitted (released v c t).state c s (away-released v c t stands h) (orderly-released v c t h)
+orderly-compared_by false false v c s t stands h = orderly-admitted (released v c t).state c s (held_stamp-released v c t stands h) (orderly-released v c t h)
 
 away_none : (o w : Option ℕ) → first_some o w ≡ None → o ≡ None
 away_none None w e = refl

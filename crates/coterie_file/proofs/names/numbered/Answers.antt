@@ -3,7 +3,7 @@ use Rattle.std.proofs.lemmas.Bool.{not-false, not-true}
 use Rattle.std.specs.List.{list_any}
 use Rattle.std.specs.Str.{bytes_eq}
 use Rattle.coterie_file.proofs.ListLemmas.{map-push}
-use Rattle.coterie_file.proofs.NameLemmas.{seen_at, texts_push, repeat_here, repeat_later}
+use Rattle.coterie_file.proofs.NameLemmas.{seen_at, texts_before-push, repeat_here, repeat_later}
 use Rattle.coterie_file.proofs.names.numbered.Goals as goal
 
 pub returns-then-not-is_new : goal.returns-then-not-is_new
@@ -24,6 +24,6 @@ loop-i-preserved c =
     let later = repeat_later names i name text (omega arith) c.index-names-i.is c.as_str.ensures.value (sym (seen_at names i text keys c.loop-i.invariant.0) ∙ none) in
     let grown = c.in_ok-is_new.ensures.keys ∙ ap (λ b. cond b keys (keys ++ c.as_str.result ∷ [])) none in (
       ap (map (λ k. k.now)) grown ∙ map-push (λ k. k.now) keys c.as_str.result ∙ ap (λ t. t ++ text ∷ []) c.loop-i.invariant.0
-          ∙ texts_push names i name text (omega arith) c.index-names-i.is c.as_str.ensures.value,
+          ∙ texts_before-push names i name text (omega arith) c.index-names-i.is c.as_str.ensures.value,
       sym later ∙ c.loop-i.invariant.1,
     )

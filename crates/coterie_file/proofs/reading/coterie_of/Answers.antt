@@ -7,7 +7,7 @@ use Rattle.coterie_file.specs.Lists.{listed}
 use Rattle.coterie_file.specs.Names.{names_fault}
 use Rattle.coterie_file.specs.Reading.{system_of, lists_fault}
 use Rattle.coterie_file.specs.declared.fault.FileFault.TheVariants.{Coterie}
-use Rattle.coterie_file.proofs.ReadingLemmas.{unless-Ok, coterie_or-Ok, coterie_or-Err, unknown_at, repeated_at, too_many, known_answer, system_of-listed, Gives-Coterie}
+use Rattle.coterie_file.proofs.ReadingLemmas.{unless-Ok, coterie_or-Ok, coterie_or-Err, unknown_at, repeated_at, first_fault-too_many, known_answer, system_of-listed, Gives-Coterie}
 use Rattle.coterie_file.proofs.reading.coterie_of.Goals as goal
 
 pub returns-in-Some-clause-exact : goal.returns-in-Some-clause-exact
@@ -32,7 +32,7 @@ returns-then-len-gt-MAX_VOTERS-clause-exact c =
     let voters = map (λ k. k.now) c.in_ok-voters.voters.keys in
     let known = unless-Ok (names_fault (map string_bytes names)) (map string_bytes names) voters c.in_ok-voters.ensures.exact in
     let answer = λ (system : QuorumSystem). known_answer lists system known.0 (unknown_at names c.args.quorums.now voters known.1 ∙ sym c.in_default.ensures) (repeated_at names c.args.quorums.now ∙ sym c.in_ok-j.ensures ∙ c.in_default-2.is) in
-    let many = too_many (length lists.names) (system_of lists).quorums (omega (arith, c.len.ensures.len, ap length known.1, length-map c.in_ok-voters.voters.keys (λ k. k.now))) in
+    let many = first_fault-too_many (length lists.names) (system_of lists).quorums (omega (arith, c.len.ensures.len, ap length known.1, length-map c.in_ok-voters.voters.keys (λ k. k.now))) in
     answer (system_of lists) refl ∙ ap (λ o. unless (option_map Coterie o) (system_of lists)) many
 
 pub returns-in_err-of-clause-exact : goal.returns-in_err-of-clause-exact

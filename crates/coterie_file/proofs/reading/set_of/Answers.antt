@@ -1,7 +1,7 @@
 use Rattle.std.proofs.Common.{◌||◌, ap, sym, ◌∙◌, arith, map, eqb}
 use Rattle.numbers.specs.Sets.{has, set_where}
 use Rattle.coterie_file.specs.Reading.{quorum_of}
-use Rattle.coterie_file.proofs.NameLemmas.{texts_push, texts_before}
+use Rattle.coterie_file.proofs.NameLemmas.{texts_before-push, texts_before}
 use Rattle.coterie_file.proofs.QuorumLemmas.{quorum_of-nil, quorum_of-push, quorum_of-other}
 use Rattle.coterie_file.proofs.reading.set_of.Goals as goal
 use Rattle.coterie_file.proofs.reading.set_of.Goals.{in-Some, in_default}
@@ -14,7 +14,7 @@ loop-name-preserved c =
     let keys = map (λ k. k.now) c.args.voters.now.keys in
     let done = texts_before c.args.members.now c.loop-name.name-index in
     let text = c.as_str.result.now in
-    let grown = ap (quorum_of keys) (texts_push c.args.members.now c.loop-name.name-index c.name-item.result text (omega arith) c.name-item.is c.as_str.ensures.value) in
+    let grown = ap (quorum_of keys) (texts_before-push c.args.members.now c.loop-name.name-index c.name-item.result text (omega arith) c.name-item.is c.as_str.ensures.value) in
     elim c.match-number_in.branch [
       | in-Some w ↦
           rw w.set-is (w.insert.ensures.members ∙ ap (λ s. set_where (λ j. eqb j w.in-Some.number || has s j)) c.loop-name.invariant

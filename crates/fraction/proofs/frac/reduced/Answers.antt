@@ -4,9 +4,9 @@ use Rattle.std.specs.Int.Signed.{lt_z}
 use Rattle.std.specs.Bool.{beq}
 use Rattle.std.proofs.lemmas.Int.{to_z-of_z, to_z_pos, fits_signed_from_abs}
 use Rattle.std.proofs.Math.Nat.{div-le_self}
-use Rattle.divisor.proofs.GcdLemmas.{gcd-some}
+use Rattle.divisor.proofs.GcdLemmas.{IsGcd-some}
 use Rattle.fraction.specs.Fractions.{Fits, signed_of}
-use Rattle.fraction.proofs.Lowest.{IsDivided, divided-IsRatio, divided-IsReduced, abs-some}
+use Rattle.fraction.proofs.Lowest.{IsDivided, IsRatio-divided, IsReduced-divided, unsigned_abs-some}
 use Rattle.fraction.proofs.frac.reduced.Goals as goal
 
 -- what the calls answered, where the numbers are seen as the code passes them
@@ -45,7 +45,7 @@ is_divided c =
 IsGcd-nonzero : (den den' : ℤ) (top bottom g : ℕ) → den' ≡ den → den ≢ pos 0 → bottom ≡ unsigned_abs den' → IsGcd top bottom g → g ≢ 0
 IsGcd-nonzero den den' top bottom g den_is ne bottom_is gcd none =
     let at_bottom : unsigned_abs den ≡ bottom = ap (λ z. unsigned_abs z) (sym den_is) ∙ sym bottom_is in
-    let above : 0 < g = gcd-some top bottom g gcd (subst (λ n. 0 < n) at_bottom (abs-some den ne)) in
+    let above : 0 < g = IsGcd-some top bottom g gcd (subst (λ n. 0 < n) at_bottom (unsigned_abs-some den ne)) in
     omega arith
 
 pub quotient-requires : goal.quotient-requires
@@ -55,10 +55,10 @@ pub quotient-requires-2 : goal.quotient-requires-2
 quotient-requires-2 c = IsGcd-nonzero c.args.den _ _ _ _ (as_passed c.args.den c.requires.den_fits) c.requires.divisor c.unsigned_abs-bottom.ensures.value c.wide_gcd-common.ensures
 
 pub invariant_of-result : goal.invariant_of-result
-invariant_of-result c = divided-IsReduced _ _ _ _ (is_divided c) c.requires.divisor c.requires.num_fits c.requires.den_fits
+invariant_of-result c = IsReduced-divided _ _ _ _ (is_divided c) c.requires.divisor c.requires.num_fits c.requires.den_fits
 
 pub returns-clause-value : goal.returns-clause-value
-returns-clause-value c = divided-IsRatio _ _ _ _ (is_divided c)
+returns-clause-value c = IsRatio-divided _ _ _ _ (is_divided c)
 
 pub returns-clause-reduced : goal.returns-clause-reduced
-returns-clause-reduced c = divided-IsReduced _ _ _ _ (is_divided c) c.requires.divisor c.requires.num_fits c.requires.den_fits
+returns-clause-reduced c = IsReduced-divided _ _ _ _ (is_divided c) c.requires.divisor c.requires.num_fits c.requires.den_fits

@@ -1,8 +1,8 @@
-use Rattle.requester.proofs.SoundSteps.{sound-start, sound-step}
+use Rattle.requester.proofs.SoundSteps.{IsSound-start, IsSound-step}
 use Rattle.requester.proofs.laws.requesters_stay_sound.Goals as goal
 
 pub returns-clause-first : goal.returns-clause-first
-returns-clause-first c = sound-start
+returns-clause-first c = IsSound-start
 
 pub returns-clause-steps : goal.returns-clause-steps
-returns-clause-steps c = sound-step
+returns-clause-steps c = IsSound-step

@@ -5,7 +5,7 @@ use Rattle.numbers.specs.Counts.{greatest_below, times}
 use Rattle.certificate.specs.Certificates.{Weighted, IsCertificate, IsOptimal}
 use Rattle.dealer.specs.Cycles.{quorum_of_ticket}
 use Rattle.dealer.specs.Accounts.{account_of, quorums_named}
-use Rattle.dealer.proofs.AccountLemmas.{length-values_below, sum-times-le, voters-from_quorums, greatest-values, account_of-parts, quorums-whole, busiest_of-least}
+use Rattle.dealer.proofs.AccountLemmas.{length-values_below, sum-times-le, voters-from_quorums, greatest_below-values, account_of-parts, quorums-whole, busiest_of-least}
 use Rattle.dealer.proofs.cycle.Cycle.account.Goals as goal
 
 pub counts_of_voters-requires-clause-lengths : goal.counts_of_voters-requires-clause-lengths
@@ -49,7 +49,7 @@ busiest_counted c =
     let w = c.args.self.now in
     c.greatest_of-busiest.ensures
     ∙ ap (λ (list : List ℕ). greatest_below (length list) (λ i. get_or list i 0)) (c.deref-2.ensures.value ∙ voters_counted c)
-    ∙ greatest-values w.system.voters (λ i. count_of w.system i (quorums_named w c.args.tickets.now))
+    ∙ greatest_below-values w.system.voters (λ i. count_of w.system i (quorums_named w c.args.tickets.now))
 
 pub returns-clause-value : goal.returns-clause-value
 returns-clause-value c =
