@@ -12,10 +12,12 @@ pub to_z-of_z_equal : (z z' : ℤ) → Fits z → z ≡ z' → to_z w128 (of_z w
 to_z-of_z_equal z z' fits e = to_z-of_z w128 z (fits_signed_from_abs w128 z fits) ∙ e
 
 -- the numbers of a fraction as the code passes them
-pub passed-num : (n d : ℤ) (f : Fraction) → IsReduced (record { num = n; den = d }) → record { num = n; den = d } ≡ f → to_z w128 (of_z w128 n) ≡ f.num
+pub passed-num : (n d : ℤ) (f : Fraction) → IsReduced (record { num = n; den = d }) → record { num = n; den = d } ≡ f
+    → to_z w128 (of_z w128 n) ≡ f.num
 passed-num n d f reduced is = to_z-of_z_equal n f.num reduced.num_fits (ap (λ (g : Fraction). g.num) is)
 
-pub passed-den : (n d : ℤ) (f : Fraction) → IsReduced (record { num = n; den = d }) → record { num = n; den = d } ≡ f → to_z w128 (of_z w128 d) ≡ f.den
+pub passed-den : (n d : ℤ) (f : Fraction) → IsReduced (record { num = n; den = d }) → record { num = n; den = d } ≡ f
+    → to_z w128 (of_z w128 d) ≡ f.den
 passed-den n d f reduced is = to_z-of_z_equal d f.den reduced.den_fits (ap (λ (g : Fraction). g.den) is)
 
 -- a product that was formed, as the code passes it

@@ -22,7 +22,8 @@ place_in-number-requires c =
 
 -- the place that is found is in its list, and the list has the ticket's quorum there
 place_named : (c : After-index) → (c.place_in-number.result.1 < length c.index.result.now.items)
-    × (get_or c.index.result.now.items c.place_in-number.result.1 0 ≡ quorum_of_ticket c.args.self.now (get_or c.args.tickets.now c.loop-ticket.ticket-index 0))
+    × (get_or c.index.result.now.items c.place_in-number.result.1 0
+    ≡ quorum_of_ticket c.args.self.now (get_or c.args.tickets.now c.loop-ticket.ticket-index 0))
 place_named c =
     let w = c.args.self.now in
     let ticket = get_or c.args.tickets.now c.loop-ticket.ticket-index 0 in
@@ -33,33 +34,45 @@ place_named c =
     let found = subst (λ (bs : List Block). IsPlaceIn bs (ticket % c.cycle_len.result) c.place_in-number.result) c.deref-in-loop-ticket.ensures.value c.place_in-number.ensures in
     let laid_out = c.in_ok-lists.ensures ∙ ap₂ (λ (qs : List Listed) (bs : List Block). map (λ (b : Block). quorums_from qs b.least) bs) c.deref.ensures.value c.deref-2.ensures.value in
     let at = ap (λ l. l.items) c.index.ensures ∙ sym (get_or-map (λ l. l.items) lists c.place_in-number.result.0 list list.items (omega (arith, found.in_range, ap length laid_out, length-map lists (λ l. l.items), length-map blocks (λ (b : Block). quorums_from c.self.inside.listed.items b.least)))) in
-    named_in_lists w ticket c.cycle_len.result c.self.inside.listed.items blocks _ c.place_in-number.result list.items is (c.cycle_len.ensures.value ∙ ap (λ (v : Weighted). cycle_len v) c.self.view_is) found laid_out at
+    named_in_lists w ticket c.cycle_len.result c.self.inside.listed.items blocks _ c.place_in-number.result list.items is
+    (c.cycle_len.ensures.value ∙ ap (λ (v : Weighted). cycle_len v) c.self.view_is) found laid_out at
 
 -- then what is counted is the ticket's quorum, and it has a count
 quorum_counted : (c : After-index-in-loop-ticket) → (c.place_in-number.result.1 < length c.index.result.now.items)
-    × (get_or c.index.result.now.items c.place_in-number.result.1 0 ≡ quorum_of_ticket c.args.self.now (get_or c.args.tickets.now c.loop-ticket.ticket-index 0))
-    → (c.index-in-loop-ticket.result.now ≡ quorum_of_ticket c.args.self.now (get_or c.args.tickets.now c.loop-ticket.ticket-index 0))
+    × (get_or c.index.result.now.items c.place_in-number.result.1 0
+    ≡ quorum_of_ticket c.args.self.now (get_or c.args.tickets.now c.loop-ticket.ticket-index 0))
+    → (c.index-in-loop-ticket.result.now
+    ≡ quorum_of_ticket c.args.self.now (get_or c.args.tickets.now c.loop-ticket.ticket-index 0))
     × (c.index-in-loop-ticket.result.now < length c.loop-ticket.counts.items)
 quorum_counted c (in_list, at) =
     let w = c.args.self.now in
-    let is = subst (λ (v : Weighted). IsCycleOf v c.self.inside.listed.items c.self.inside.blocks.items) c.self.view_is c.self.invariant in
-    let named = get_or_read c.index.result.now.items c.place_in-number.result.1 c.index-in-loop-ticket.result.now in_list c.index-in-loop-ticket.ensures 0 ∙ at in
-    (named, omega (arith, named, c.loop-ticket.invariant.long, ticket_in_range w (get_or c.args.tickets.now c.loop-ticket.ticket-index 0) is.certificate))
+    let blocks = c.self.inside.blocks.items in
+    let is = subst (λ (v : Weighted). IsCycleOf v c.self.inside.listed.items blocks) c.self.view_is c.self.invariant in
+    let inside = ticket_in_range w (get_or c.args.tickets.now c.loop-ticket.ticket-index 0) is.certificate in
+    let list = c.index.result.now.items in
+    let named = get_or_read list c.place_in-number.result.1 _ in_list c.index-in-loop-ticket.ensures 0 ∙ at in
+    (named, omega (arith, named, c.loop-ticket.invariant.long, inside))
 
 pub index-requires-in-loop-ticket : goal.index-requires-in-loop-ticket
-index-requires-in-loop-ticket c = omega (arith, (place_named (goal.at.index-requires-in-loop-ticket c).After-index).0, c.index.result.now.ok.0)
+index-requires-in-loop-ticket c =
+    omega (arith, (place_named (goal.at.index-requires-in-loop-ticket c).After-index).0, c.index.result.now.ok.0)
 
 pub index_mut-requires : goal.index_mut-requires
-index_mut-requires c = omega (arith, (quorum_counted (goal.at.index_mut-requires c).After-index-in-loop-ticket (place_named (goal.at.index_mut-requires c).After-index)).1, c.loop-ticket.counts.ok.0)
+index_mut-requires c =
+    let at = goal.at.index_mut-requires c in
+    let counted = quorum_counted at.After-index-in-loop-ticket (place_named at.After-index) in
+    omega (arith, counted.1, c.loop-ticket.counts.ok.0)
 
 pub overflow_add-index_mut : goal.overflow_add-index_mut
 overflow_add-index_mut c =
     let w = c.args.self.now in
     let j = c.index-in-loop-ticket.result.now in
     let before = take c.loop-ticket.ticket-index c.args.tickets.now in
+    let at = goal.at.overflow_add-index_mut c in
+    let counted = quorum_counted at.After-index-in-loop-ticket (place_named at.After-index) in
     omega (
       arith,
-      get_or_read c.loop-ticket.counts.items j c.index_mut.result.now (quorum_counted (goal.at.overflow_add-index_mut c).After-index-in-loop-ticket (place_named (goal.at.overflow_add-index_mut c).After-index)).1 c.index_mut.ensures.value 0,
+      get_or_read c.loop-ticket.counts.items j c.index_mut.result.now counted.1 c.index_mut.ensures.value 0,
       c.loop-ticket.invariant.counted j,
       count_by-le-length (λ k. eqb k j) (quorums_named w before),
       length-map before (quorum_of_ticket w),
@@ -68,7 +81,8 @@ overflow_add-index_mut c =
 
 pub loop-ticket-preserved : goal.loop-ticket-preserved
 loop-ticket-preserved c =
-    let (named, inside) = quorum_counted (goal.at.loop-ticket-preserved c).After-index-in-loop-ticket (place_named (goal.at.loop-ticket-preserved c).After-index) in
+    let at = goal.at.loop-ticket-preserved c in
+    let (named, inside) = quorum_counted at.After-index-in-loop-ticket (place_named at.After-index) in
     let j = c.index-in-loop-ticket.result.now in
     let counts = c.loop-ticket.counts.items in
     record {

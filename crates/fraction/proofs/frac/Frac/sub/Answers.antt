@@ -11,8 +11,10 @@ returns-in_err-product-2-clause-fits c =
 
 pub returns-in_err-num-clause-fits : goal.returns-in_err-num-clause-fits
 returns-in_err-num-clause-fits c =
-    let left = passed-product _ _ _ _ _ (passed-num _ _ _ c.self.invariant c.self.view_is) (passed-den _ _ _ c.other.invariant c.other.view_is) c.in_ok-product.ensures in
-    let right = passed-product _ _ _ _ _ (passed-num _ _ _ c.other.invariant c.other.view_is) (passed-den _ _ _ c.self.invariant c.self.view_is) c.in_ok-product-2.ensures in
+    let left = passed-product _ _ _ _ _
+    (passed-num _ _ _ c.self.invariant c.self.view_is) (passed-den _ _ _ c.other.invariant c.other.view_is) c.in_ok-product.ensures in
+    let right = passed-product _ _ _ _ _
+    (passed-num _ _ _ c.other.invariant c.other.view_is) (passed-den _ _ _ c.self.invariant c.self.view_is) c.in_ok-product-2.ensures in
     IsOk-iff_unmet _ _ c.from_residual-in_err-num.ensures.0 (λ fits. difference-unfit _ _ _ _ left right c.in_err-num.ensures.1 fits.3)
 
 pub returns-in_err-product-3-clause-fits : goal.returns-in_err-product-3-clause-fits

@@ -18,7 +18,9 @@ unreachable-requires g c =
     not_refused c.self.inside.voter c.args.message.now (ap (λ (x : Effect). x.refused) (sym c.effect-effect.ensures) ∙ c.if-effect.false) c.in_default.ensures.refused.0
 
 -- what the voter's step is known for, and the seat after the settling
-took : (g : Over) (c : After-held g) → Took g.N.ClusterName.cluster.board c.self.inside.voter c.self.inside.log.items c.self.inside.seat c.args.message.now (record { replies = c.in-Ok.replies.items; state = c.take.new.self })
+took : (g : Over) (c : After-held g)
+    → Took g.N.ClusterName.cluster.board c.self.inside.voter c.self.inside.log.items c.self.inside.seat c.args.message.now
+    (record { replies = c.in-Ok.replies.items; state = c.take.new.self })
 took g c =
     let v = c.self.inside.voter in
     let m = c.args.message.now in
@@ -35,14 +37,18 @@ took g c =
       sound = c.voters_stay_sound.ensures.steps v m o sound s;
     }
 
-seat_settled : (g : Over) (c : After-held g) → c.settle.new.seat ≡ settled (effect_of c.self.inside.voter c.args.message.now).frees c.self.inside.seat
-seat_settled g c = c.if-not-settle.ensures.settled ∙ ap (λ (x : Effect). settled x.frees c.self.inside.seat) c.effect-effect.ensures
+seat_settled : (g : Over) (c : After-held g)
+    → c.settle.new.seat ≡ settled (effect_of c.self.inside.voter c.args.message.now).frees c.self.inside.seat
+seat_settled g c =
+    c.if-not-settle.ensures.settled ∙ ap (λ (x : Effect). settled x.frees c.self.inside.seat) c.effect-effect.ensures
 
 pub offer-requires-clause-next : goal.offer-requires-clause-next
 offer-requires-clause-next g c =
     let at = (goal.at.offer-requires-clause-next g c).After-held in
-    subst (λ (p : BoardState × SeatState). p.1.current ≡ None → IfSome c.held.result (λ h. (h.client < p.0.clients) × (p.1.last < h.grant) × (h.grant ≤ 2 ^ 40))) (λ i. (sym c.requires.board i, sym (seat_settled g at) i))
-    (may_offer g.N.ClusterName.cluster.board c.self.inside.voter c.self.inside.log.items c.self.inside.seat c.args.message.now _ (took g at) c.held.result (sym c.held.ensures))
+    subst (λ (p : BoardState × SeatState). p.1.current ≡ None → IfSome c.held.result (λ h. (h.client < p.0.clients) × (p.1.last < h.grant) × (h.grant ≤ 2 ^ 40)))
+    (λ i. (sym c.requires.board i, sym (seat_settled g at) i))
+    (may_offer g.N.ClusterName.cluster.board c.self.inside.voter c.self.inside.log.items c.self.inside.seat c.args.message.now _
+    (took g at) c.held.result (sym c.held.ensures))
 
 pub invariant_of-self-2 : goal.invariant_of-self-2
 invariant_of-self-2 g c =
