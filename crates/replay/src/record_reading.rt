@@ -32,7 +32,10 @@ enum RecordLine {
         quorum: usize,
     },
     /// A client passed by a number.
-    Pass { client: u8, number: u64 },
+    Pass {
+        client: u8,
+        number: u64,
+    },
     /// The register.
     Register(u64),
 }
