@@ -63,7 +63,7 @@ example make-majority-5 /dev/null 0 make majority 5
 example make-tree-2 /dev/null 0 make tree 2
 example make-wheel-3 /dev/null 0 make wheel 3
 example make-cyclic-7 /dev/null 0 make cyclic 7 0 1 3
-for coterie in grid-3-3 majority-5 wheel-3 cyclic-7 three-racks; do
+for coterie in grid-3-3 majority-5 wheel-3 wheel-3-fast-hub cyclic-7 three-racks; do
     example "plan-$coterie" "$coterie.toml" 0 plan
 done
 
@@ -74,9 +74,28 @@ for coterie in tree-2 weighted-votes; do
     example "check-$coterie" "$work/input" 0 check
 done
 
+# coteries whose voters have capacities 1 and 2 by turns: each gets a plan, and the plan's load is compared
+for coterie in ../bench/coteries/*.toml; do
+    name=$(basename "$coterie" .toml)
+    awk '{ print }
+        /^voters = / {
+            voters = gsub(/"[^"]*"/, "")
+            list = "1"
+            for (i = 1; i < voters; i++) list = list ", " (i % 2 + 1)
+            print "capacity = [" list "]"
+        }' "$coterie" > "$work/coterie"
+    "$qlock" plan < "$work/coterie" > "$work/plan" || true
+    parts "$work/coterie" "$work/plan" > "$work/input"
+    printf '%s ' "$name"
+    "$qlock" check < "$work/input" || true
+done | sed 's/ cycle .*//' > "$work/loads"
+compare "$work/loads" loads-with-capacities.out
+
 # plans, checked and dealt by
 example check-wheel-3 wheel-3-planned.txt 0 check
 example deal-wheel-3 wheel-3-planned.txt 0 deal 5
+example check-wheel-3-fast-hub wheel-3-fast-hub-planned.txt 0 check
+example deal-wheel-3-fast-hub wheel-3-fast-hub-planned.txt 0 deal 7
 
 # stories of the lock
 for world in race late-message withdrawal; do
@@ -94,6 +113,7 @@ example replay-wheel-3 replay-wheel-3.txt 0 replay
 # refusals
 example two-disjoint-quorums refused-disjoint.toml 1 plan
 example plan-that-is-not-optimal refused-plan.txt 1 check
+example plan-for-other-capacities refused-capacity.txt 1 check
 example ticket-drawn-twice refused-record.txt 1 replay
 example script-without-world refused-script.txt 1 world
 example no-plan-at-all wheel-3.toml 1 check

@@ -126,6 +126,8 @@ done
 for name in majority wheel tree grid; do
     planned "$work/$name.toml" "$work/$name"
 done
+cp "$root/examples/wheel-3-fast-hub.toml" "$work/capacities.toml"
+planned "$work/capacities.toml" "$work/capacities"
 { cat "$work/majority"; printf '%%%%\nquorum-record 1\ndraw 0 0 0\ndraw 1 2 2\ndraw 0 1 1\npass 0 0\npass 1 1\nregister 2\n'; } > "$work/record"
 { cat "$work/majority"; printf '%%%%\nworld 2 1000\nask 0\nask 1\ndeliver 2\ndeliver 0\ndeliver 3\ndeliver 4\ndeliver 6\ndeliver 5\nleave 1\ndeliver 7\n'; } > "$work/script"
 { cat "$work/grid"; echo %%; "$program" run 2 2 100000 < "$work/grid"; } > "$work/run"
@@ -135,13 +137,14 @@ try 'make wheel 3' '' /dev/null make wheel 3
 try 'make tree 2' '' /dev/null make tree 2
 try 'make grid 2 2' '' /dev/null make grid 2 2
 try 'make cyclic 7 0 1 3' '' /dev/null make cyclic 7 0 1 3
-for name in majority wheel tree grid; do
+for name in majority wheel tree grid capacities; do
     try "plan $name" '' "$work/$name.toml" plan
     try "check $name" '' "$work/$name" check
 done
 for count in 0 5 7 10; do
     try "deal $count wheel" '' "$work/wheel" deal "$count"
 done
+try 'deal 7 capacities' '' "$work/capacities" deal 7
 try 'world majority' '' "$work/script" world
 try 'run 2 2 100000 grid' 4 "$work/grid" run 2 2 100000
 try 'replay grid' '' "$work/run" replay

@@ -3,6 +3,7 @@
 use certificate::{Plan, check};
 use dealer::Cycle;
 use quorum_set::{Coterie, QSet};
+use small_plans::unit_capacities;
 use std::alloc::{AllocError, Global};
 
 /// What to time.
@@ -99,7 +100,8 @@ fn sets_of(alloc: Global, count: usize) -> Result<Vec<QSet>, AllocError> {
     Ok(sets)
 }
 
-/// Returns a plan with these weights. Voter 0 is in each quorum, so any weights make a plan.
+/// Returns a plan with these weights, for voters of capacity 1. Voter 0 is in each quorum, so any
+/// weights make a plan.
 fn plan_with(alloc: Global, weights: Vec<u64>) -> Option<Plan> {
     let sets = sets_of(alloc, weights.len()).ok()?;
     let coterie = Coterie::of(64, sets).ok()?;
@@ -107,7 +109,8 @@ fn plan_with(alloc: Global, weights: Vec<u64>) -> Option<Plan> {
     for _ in 1..64 {
         voter_weights.push(0).ok()?;
     }
-    check(alloc, &coterie, weights, voter_weights).ok()
+    let capacities = unit_capacities(alloc, coterie.voters()).ok()?;
+    check(alloc, &coterie, &capacities, weights, voter_weights).ok()
 }
 
 /// Returns the quorums of a cycle, round by round.

@@ -1,4 +1,4 @@
--- Lists in which each quorum stands as often as its weight says.
+-- Lists in which each quorum is as often as its weight says.
 use Rattle.std.proofs.Common.{◌≡◌, ℕ, ◌*◌, ◌≤◌, Bool, true, false, cond, List, [], ◌∷◌, length, get_or, zero, suc, max, refl, ap, inl, inr, arith}
 use Rattle.std.proofs.lemmas.Bool.{cases_lt}
 use Rattle.std.proofs.lemmas.List.{get_or_past}
@@ -8,7 +8,10 @@ use Rattle.quorum_set.specs.Counts.{count_of, busiest_of}
 use Rattle.numbers.specs.Counts.{greatest_below, times}
 use Rattle.numbers.specs.Sums.{sum_below}
 use Rattle.certificate.specs.Loads.{weight_on}
-use Rattle.certificate.specs.Certificates.{Weighted, busiest_count}
+use Rattle.certificate.specs.Certificates.{Weighted, IsCertificate, busiest_count, cycle_count, cycle_ratio}
+use Rattle.certificate.specs.Ratios.{ratio_of}
+use Rattle.certificate.proofs.RatioLemmas.{greatest_ratio-bound, greatest_ratio-is, greatest_ratio-reached, greatest_ratio-some}
+use Rattle.divisor.specs.Gcd.{lowest_terms}
 use Rattle.numbers.proofs.CountLemmas.{sum_by-none_above}
 use Rattle.numbers.proofs.SumsBelow.{sum_by-zero_above, sum_below-head, sum_below-same, sum_below-times, sum_by-sum_below}
 
@@ -63,3 +66,30 @@ pub busiest_of-even : (w : Weighted) (k : ℕ) (list : List ℕ) → length w.qu
     → busiest_of w.system list ≡ k * busiest_count w
 busiest_of-even w k list e stands =
     greatest_below-times w.system.voters k (λ i. count_of w.system i list) (λ i. weight_on i w.system.quorums w.quorum_weights) (count_of-even w k list e stands)
+
+-- a voter's count of k cycles, next to k times the ratio of one
+count-times-le : (k c q p cap count : ℕ) → count ≡ k * c → c * q ≤ p * cap → count * q ≤ k * p * cap
+count-times-le k c q p cap count e le =
+    let scaled : k * (c * q) ≤ k * (p * cap) = mul-le-mul_left k le in
+    let is : count * q ≡ k * c * q = ap (λ x. x * q) e in
+    omega (arith, scaled, is)
+
+count-times-ge : (k c q p cap count : ℕ) → count ≡ k * c → c * q ≡ p * cap → k * p * cap ≤ count * q
+count-times-ge k c q p cap count e same =
+    let scaled : k * (c * q) ≡ k * (p * cap) = ap (λ x. k * x) same in
+    let is : count * q ≡ k * c * q = ap (λ x. x * q) e in
+    omega (arith, scaled, is)
+
+pub ratio_of-even : (w : Weighted) (k : ℕ) (list : List ℕ) → IsCertificate w → ((j : ℕ) → times j list ≡ k * get_or w.quorum_weights j 0)
+    → ratio_of w.system w.capacities list ≡ lowest_terms (k * (cycle_ratio w).0) (cycle_ratio w).1
+ratio_of-even w k list h stands =
+    let s = w.system in
+    let r = cycle_ratio w in
+    let counts = count_of-even w k list h.quorums stands in
+    let found = greatest_ratio-reached s.voters w.capacities (cycle_count w) h.capacities h.coterie.some_voter in
+    greatest_ratio-is s.voters w.capacities (λ i. count_of s i list) h.capacities (k * r.0) r.1
+    (greatest_ratio-some s.voters w.capacities (cycle_count w) h.capacities)
+    (λ i lt. count-times-le k (cycle_count w i) r.1 r.0 (get_or w.capacities i 0) (count_of s i list) (counts i)
+    (greatest_ratio-bound s.voters w.capacities (cycle_count w) h.capacities i lt))
+    found.0 found.1
+    (count-times-ge k (cycle_count w found.0) r.1 r.0 (get_or w.capacities found.0 0) (count_of s found.0 list) (counts found.0) found.2)

@@ -1,6 +1,7 @@
 -- Weights have no fault exactly where they are a certificate.
 use Rattle.std.proofs.Common.{◌≡◌, Bool, true, false, cond, refl, arith, Option, None, Some}
 use Rattle.std.proofs.lemmas.Bool.{and_parts, eqb-true, eqb-false, eq-eqb, ne_eqb, ltb-false, le-ltb, not-false, or_parts, or_from}
+use Rattle.quorum_set.specs.Capacities.{AreCapacities}
 use Rattle.quorum_set.specs.Coteries.{IsCoterie}
 use Rattle.certificate.specs.Certificates.{Weighted, IsCertificate, weights_fault, cycle_len, voter_total}
 
@@ -13,8 +14,9 @@ none_of_four : {F : Type 0} (a b c d : Bool) (w x y z : F) → a ≡ false → b
     → cond a (Some w) (cond b (Some x) (cond c (Some y) (cond d (Some z) None))) ≡ None
 none_of_four a b c d w x y z ea eb ec ed = rw (ea, eb, ec, ed) refl
 
-pub IsCertificate-weights_fault : (w : Weighted) → IsCoterie w.system → weights_fault w ≡ None → IsCertificate w
-IsCertificate-weights_fault w coterie none =
+pub IsCertificate-weights_fault : (w : Weighted) → IsCoterie w.system → AreCapacities w.capacities w.system.voters
+    → weights_fault w ≡ None → IsCertificate w
+IsCertificate-weights_fault w coterie capacities none =
     let one = cond_Some-None _ _ _ none in
     let two = cond_Some-None _ _ _ one.1 in
     let three = cond_Some-None _ _ _ two.1 in
@@ -26,6 +28,7 @@ IsCertificate-weights_fault w coterie none =
     let some_voter = eqb-false (voter_total w) 0 some.1 in
     record {
       coterie = coterie;
+      capacities = capacities;
       quorums = eqb-true _ _ lengths.0;
       voters = eqb-true _ _ lengths.1;
       some_quorum = omega arith;

@@ -1,10 +1,11 @@
 -- What is written of a plan.
 use Rattle.std.proofs.Common.{◌≡◌, ℕ, ◌+◌, ◌<◌, ◌≤◌, List, [], ◌∷◌, ◌++◌, length, get_or, take, Result, Ok, Err, sym, refl, ap, ◌∙◌, arith, append_assoc}
-use Rattle.std.specs.Prelude.{codes, IfOk, IfSome, Some, String, string_bytes}
+use Rattle.std.specs.Prelude.{codes, IfOk, IfSome, Option, None, Some, String, string_bytes}
 use Rattle.std.specs.Fmt.{decimal}
 use Rattle.std.proofs.lemmas.List.{take_more, length-take}
+use Rattle.std.proofs.lemmas.Fmt.{decimal_digit}
 use Rattle.texts.specs.Lines.{text_of_lines}
-use Rattle.certificate.specs.PlanTexts.{spaced, title_line, load_line, cycle_line}
+use Rattle.certificate.specs.PlanTexts.{spaced, version_of, title_line, load_line, cycle_line, capacity_lines}
 use Rattle.certificate.proofs.Spellings.{spaced-push}
 
 pub spaced-first : (new text before ns : List ℕ) (k : ℕ) → k ≤ 0 → k < length ns → new ≡ text ++ decimal (get_or ns k 0) → text ≡ before → before ≡ spaced (take k ns) → new ≡ spaced (take (k + 1) ns)
@@ -21,13 +22,16 @@ spaced-next new text pushed before ns k some lt written same push is =
     ∙ sym (spaced-push (take k ns) (get_or ns k 0) (omega (arith, length-take k ns)))
     ∙ ap spaced (sym (take_more ns k 0 lt))
 
--- the five lines as one text, with the weights as they were written
-abbrev pub written_text : ℕ → ℕ → ℕ → List ℕ → List ℕ → List ℕ
-written_text p q d quorums voters =
-    codes "quorum-plan 1\nload " ++ (decimal p ++ (codes "/" ++ (decimal q ++ (codes "\ncycle " ++ (decimal d ++ (codes "\nquorum " ++ (quorums ++ (codes "\nvoter " ++ (voters ++ codes "\n")))))))))
+-- the lines as one text, with the line of capacities and the weights as they were written
+abbrev pub written_text : ℕ → ℕ → ℕ → ℕ → List ℕ → List ℕ → List ℕ → List ℕ
+written_text version p q d capacities quorums voters =
+    (codes "quorum-plan " ++ (decimal version ++ (codes "\nload " ++ (decimal p ++ (codes "/" ++ (decimal q ++ (codes "\ncycle " ++ (decimal d ++ (codes "\n" ++ (capacities ++ (codes "quorum " ++ quorums)))))))))))
+    ++ (codes "\nvoter " ++ (voters ++ codes "\n"))
 
-pub written_text-lines : (p q d : ℕ) (quorums voters : List ℕ) → written_text p q d quorums voters ≡ text_of_lines (title_line ∷ load_line (p, q) ∷ cycle_line d ∷ (codes "quorum " ++ quorums) ∷ (codes "voter " ++ voters) ∷ [])
-written_text-lines p q d quorums voters = simp append_assoc
+pub written_text-lines : (c : Option (List ℕ)) (p q d : ℕ) (quorums voters : List ℕ) → written_text (version_of c) p q d (text_of_lines (capacity_lines c)) quorums voters
+    ≡ text_of_lines (title_line (version_of c) ∷ load_line (p, q) ∷ cycle_line d ∷ (capacity_lines c ++ ((codes "quorum " ++ quorums) ∷ (codes "voter " ++ voters) ∷ [])))
+written_text-lines None p q d quorums voters = rw (decimal_digit 1 (omega arith)) (simp append_assoc)
+written_text-lines (Some capacities) p q d quorums voters = rw (decimal_digit 2 (omega arith)) (simp append_assoc)
 
 pub is_text : {A E : Type 0} (r : Result (String A) E) (got wanted : List ℕ) → IfOk r (λ s. IfSome (Some got) (λ bs. string_bytes s ≡ bs)) → got ≡ wanted → IfOk r (λ s. string_bytes s ≡ wanted)
 is_text (Ok s) got wanted h e = h ∙ e

@@ -1,19 +1,22 @@
 -- Certificates: weights of quorums and of voters that show that a plan is optimal.
-use Rattle.std.specs.Prelude.{◌≡◌, ℕ, ◌*◌, ◌<◌, ◌≤◌, not, ◌&&◌, ◌||◌, ◌==◌, nat_lt, if◌then◌else◌, List, length, sum, Option, None, Some, Result, Ok, Err}
+use Rattle.std.specs.Prelude.{◌≡◌, ℕ, ◌*◌, ◌<◌, ◌≤◌, not, ◌&&◌, ◌||◌, ◌==◌, nat_lt, if◌then◌else◌, List, length, slice_index, sum, Option, None, Some, Result, Ok, Err}
 use Rattle.std.specs.List.{All}
+use Rattle.quorum_set.specs.Capacities.{AreCapacities, are_unit}
 use Rattle.quorum_set.specs.Coteries.{QuorumSystem, IsCoterie}
-use Rattle.quorum_set.specs.Counts.{busiest_of}
+use Rattle.quorum_set.specs.Counts.{count_of, busiest_of}
 use Rattle.numbers.specs.Bounds.{max_cycle}
-use Rattle.numbers.specs.Counts.{greatest_below}
+use Rattle.numbers.specs.Counts.{greatest_below, least_of}
+use Rattle.numbers.specs.Sums.{sum_below}
 use Rattle.divisor.specs.Gcd.{lowest_terms}
 use Rattle.certificate.specs.Loads.{weight_on, weight_within}
-use Rattle.numbers.specs.Counts.{least_of}
+use Rattle.certificate.specs.Ratios.{greatest_ratio}
 use Rattle.certificate.specs.declared.fault.PlanFault.{PlanFault}
-use Rattle.certificate.specs.declared.fault.PlanFault.TheVariants.{WrongLength, TooLarge, Empty, NotOptimal, OutOfMemory}
+use Rattle.certificate.specs.declared.fault.PlanFault.TheVariants.{WrongLength, TooLarge, Empty, NotOptimal, NotOptimalRatio, OutOfMemory}
 
--- a coterie, a weight for each quorum, and a weight for each voter
+-- a coterie, a capacity for each voter, a weight for each quorum, and a weight for each voter
 pub record Weighted : Type 0 where
   pub system : QuorumSystem
+  pub capacities : List ℕ
   pub quorum_weights : List ℕ
   pub voter_weights : List ℕ
 
@@ -25,20 +28,63 @@ cycle_len w = sum w.quorum_weights
 abbrev pub voter_total : Weighted → ℕ
 voter_total w = sum w.voter_weights
 
--- how often a cycle uses its busiest voter: the greatest sum, over the voters, of the weights of
--- the quorums with that voter
+-- the sum of the voters' weights, each times the voter's capacity
+abbrev pub capacity_total : Weighted → ℕ
+capacity_total w = sum_below (λ i. slice_index w.voter_weights i * slice_index w.capacities i) w.system.voters
+
+-- how often a cycle uses a voter: the sum of the weights of the quorums with that voter
+abbrev pub cycle_count : Weighted → ℕ → ℕ
+cycle_count w i = weight_on i w.system.quorums w.quorum_weights
+
+-- how often a cycle uses its busiest voter
 abbrev pub busiest_count : Weighted → ℕ
-busiest_count w = greatest_below w.system.voters (λ i. weight_on i w.system.quorums w.quorum_weights)
+busiest_count w = greatest_below w.system.voters (cycle_count w)
+
+-- the ratio of a cycle: the greatest count of a voter, divided by its capacity, in lowest terms
+abbrev pub cycle_ratio : Weighted → ℕ × ℕ
+cycle_ratio w = greatest_ratio w.system.voters w.capacities (cycle_count w)
 
 -- the smallest sum, over the quorums, of the weights of a quorum's members
 abbrev pub lightest_quorum : Weighted → ℕ
 lightest_quorum w = least_of (weight_within w.voter_weights) w.system.quorums
 
--- The weights show that no cycle is more even. In any list of quorums, the voters' counts, each
--- times the voter's weight, add up to at least the lightest quorum's weight for each entry. This
--- cycle reaches that bound. It is the duality of linear programs by which Naor and Wool (SIAM J.
--- Comput. 27(2), 1998) determine the load, in whole numbers.
+-- The weights show that no cycle has a smaller ratio for its length. In any list of quorums, the
+-- voters' counts, each times the voter's weight, add up to at least the lightest quorum's weight for
+-- each entry. This cycle reaches that bound. It is the duality of linear programs by which Naor and
+-- Wool (SIAM J. Comput. 27(2), 1998) determine the load, in whole numbers and with capacities.
 pub record IsCertificate (w : Weighted) : Type 0 where
+  pub coterie : IsCoterie w.system
+  pub capacities : AreCapacities w.capacities w.system.voters
+  pub quorums : length w.quorum_weights ≡ length w.system.quorums
+  pub voters : length w.voter_weights ≡ w.system.voters
+  pub some_quorum : 0 < cycle_len w
+  pub few_quorums : cycle_len w ≤ max_cycle
+  pub some_voter : 0 < voter_total w
+  pub few_voters : voter_total w ≤ max_cycle
+  pub balanced : (cycle_ratio w).0 * capacity_total w ≡ (cycle_ratio w).1 * lightest_quorum w * cycle_len w
+
+-- the numbers that a plan stores next to its weights: the cycle's length, the busiest count, and the
+-- ratio
+abbrev pub IsKept : Weighted → ℕ → ℕ → ℕ × ℕ → Type 0
+IsKept w len top ratio = IsCertificate w × (len ≡ cycle_len w) × (top ≡ busiest_count w) × (ratio ≡ cycle_ratio w)
+
+-- each list of quorum numbers uses some voter at least as often, for the list's length and the
+-- voter's capacity, as the ratio of the cycle says
+abbrev pub IsOptimal : Weighted → Type 0
+IsOptimal w =
+    (list : List ℕ) → All (λ j. j < length w.system.quorums) list
+    → (i : ℕ) × (i < w.system.voters)
+    × (length list * (cycle_ratio w).0 * slice_index w.capacities i
+    ≤ count_of w.system i list * (cycle_ratio w).1 * cycle_len w)
+
+-- the load, in lowest terms: the ratio of a cycle, divided by the cycle's length
+abbrev pub load_of : Weighted → ℕ × ℕ
+load_of w = lowest_terms (cycle_ratio w).0 ((cycle_ratio w).1 * cycle_len w)
+
+-- The same for capacities that are all 1
+
+-- the weights show that no cycle is more even
+pub record IsUnitCertificate (w : Weighted) : Type 0 where
   pub coterie : IsCoterie w.system
   pub quorums : length w.quorum_weights ≡ length w.system.quorums
   pub voters : length w.voter_weights ≡ w.system.voters
@@ -48,19 +94,24 @@ pub record IsCertificate (w : Weighted) : Type 0 where
   pub few_voters : voter_total w ≤ max_cycle
   pub balanced : busiest_count w * voter_total w ≡ lightest_quorum w * cycle_len w
 
--- the numbers that a plan stores next to its weights: the cycle's length and the busiest count
-abbrev pub IsKept : Weighted → ℕ → ℕ → Type 0
-IsKept w len top = IsCertificate w × (len ≡ cycle_len w) × (top ≡ busiest_count w)
-
 -- no list of quorum numbers has, for its length, a smaller busiest count than the cycle
-abbrev pub IsOptimal : Weighted → Type 0
-IsOptimal w =
+abbrev pub IsUnitOptimal : Weighted → Type 0
+IsUnitOptimal w =
     (list : List ℕ) → All (λ j. j < length w.system.quorums) list
     → length list * busiest_count w ≤ busiest_of w.system list * cycle_len w
 
 -- the load, in lowest terms: the share of a cycle's quorums that have the busiest voter
-abbrev pub load_of : Weighted → ℕ × ℕ
-load_of w = lowest_terms (busiest_count w) (cycle_len w)
+abbrev pub unit_load : Weighted → ℕ × ℕ
+unit_load w = lowest_terms (busiest_count w) (cycle_len w)
+
+-- Faults
+
+-- the fault of weights that are no certificate, with the numbers that do not balance
+abbrev pub unbalanced : Weighted → PlanFault
+unbalanced w =
+    if are_unit w.capacities
+    then NotOptimal (busiest_count w) (voter_total w) (lightest_quorum w) (cycle_len w)
+    else NotOptimalRatio (cycle_ratio w).0 (cycle_ratio w).1 (capacity_total w) (lightest_quorum w) (cycle_len w)
 
 -- the first fault of the weights
 abbrev pub weights_fault : Weighted → Option PlanFault
@@ -69,8 +120,8 @@ weights_fault w =
     then Some WrongLength else
     if nat_lt max_cycle (cycle_len w) || nat_lt max_cycle (voter_total w) then Some TooLarge else
     if (cycle_len w == 0) || (voter_total w == 0) then Some Empty else
-    if not (busiest_count w * voter_total w == lightest_quorum w * cycle_len w)
-    then Some (NotOptimal (busiest_count w) (voter_total w) (lightest_quorum w) (cycle_len w)) else None
+    if not ((cycle_ratio w).0 * capacity_total w == (cycle_ratio w).1 * lightest_quorum w * cycle_len w)
+    then Some (unbalanced w) else None
 
 -- the result for the weights: if they have no fault, a plan with them or out of memory; else their
 -- first fault

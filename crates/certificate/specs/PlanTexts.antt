@@ -1,49 +1,78 @@
--- The text of a plan: five lines, each with a newline at its end.
+-- The text of a plan: five or six lines, each with a newline at its end.
 --
---     quorum-plan 1
+--     quorum-plan 2        1 if all capacities are 1
 --     load P/Q             the load in lowest terms
 --     cycle D              the length of a cycle
+--     capacity C0 C1 ..    the capacity of each voter; no such line if all are 1
 --     quorum A0 A1 ..      the weight of each quorum
 --     voter B0 B1 ..       the weight of each voter
 --
--- A number has 1 to 7 decimal digits and no leading zero.
-use Rattle.std.specs.Prelude.{◌<◌, ◌≡◌, ℕ, Bool, true, false, not, ◌&&◌, ◌||◌, ◌==◌, nat_lt, if◌then◌else◌, List, [], ◌∷◌, ◌++◌, length, take, drop, map, slice_index, codes, Option, None, Some, Result, Ok, Err, option_map, option_and_then}
+-- A number has 1 to 7 decimal digits and no leading zero. The load of version 2 has numbers of 1 to
+-- 10 digits, and a capacity is 1 to 1000.
+use Rattle.std.specs.Prelude.{◌<◌, ◌≡◌, ℕ, ◌+◌, ◌^◌, Bool, true, false, not, ◌&&◌, ◌||◌, ◌==◌, nat_lt, nat_le, if◌then◌else◌, List, [], ◌∷◌, ◌++◌, length, take, drop, map, slice_index, codes, Option, None, Some, Result, Ok, Err, option_map, option_and_then}
 use Rattle.std.specs.Option.{option_or, ok_or}
 use Rattle.std.specs.List.{list_all, slice_split, join_with_byte}
 use Rattle.std.specs.Char.{is_ascii_digit}
+use Rattle.std.specs.Cmp.Lexicographic.{pointwise}
 use Rattle.std.specs.Str.{bytes_eq}
 use Rattle.std.specs.Str.Parse.{digits_value}
 use Rattle.std.specs.Fmt.{decimal}
 pub use Rattle.numbers.specs.Results.{◌>>=◌}
 use Rattle.numbers.specs.Results.{RefusesUnless, GivesUnless}
+use Rattle.numbers.specs.Bounds.{max_capacity}
+use Rattle.quorum_set.specs.Capacities.{are_unit}
 use Rattle.quorum_set.specs.Coteries.{QuorumSystem}
 use Rattle.texts.specs.Cuts.{cut_at}
 use Rattle.texts.specs.Lines.{text_of_lines}
 use Rattle.certificate.specs.declared.fault.PlanFault.{PlanFault}
-use Rattle.certificate.specs.declared.fault.PlanFault.TheVariants.{BadText, WrongLoad, WrongCycle, OutOfMemory}
+use Rattle.certificate.specs.declared.fault.PlanFault.TheVariants.{BadText, WrongCapacity, WrongLoad, WrongCycle, OutOfMemory}
 use Rattle.certificate.specs.Certificates.{Weighted, cycle_len, load_of, weights_fault}
 
--- the values in the lines of a text
+-- the values in the lines of a text; version 1 has no capacities
 pub record Telling : Type 0 where
   pub load : ℕ × ℕ
   pub cycle : ℕ
+  pub capacities : Option (List ℕ)
   pub quorum_weights : List ℕ
   pub voter_weights : List ℕ
+
+-- the capacities that a text gives, unless all are 1
+abbrev pub told_capacities : List ℕ → Option (List ℕ)
+told_capacities capacities = if are_unit capacities then None else Some capacities
 
 -- the values in the lines of a plan's text
 abbrev pub telling_of : Weighted → Telling
 telling_of w =
-    record { load = load_of w; cycle = cycle_len w; quorum_weights = w.quorum_weights; voter_weights = w.voter_weights }
+    record {
+      load = load_of w;
+      cycle = cycle_len w;
+      capacities = told_capacities w.capacities;
+      quorum_weights = w.quorum_weights;
+      voter_weights = w.voter_weights;
+    }
 
 -- Format
 
+-- the number has at most this many decimal digits
+abbrev pub HasDigits : ℕ → ℕ → Type 0
+HasDigits digits n = n < 10 ^ digits
+
 -- the number has 1 to 7 digits
 abbrev pub IsShort : ℕ → Type 0
-IsShort n = n < 10000000
+IsShort n = HasDigits 7 n
 
--- the first line of a plan
-abbrev pub title_line : List ℕ
-title_line = codes "quorum-plan 1"
+-- the version of a text with these capacities
+abbrev pub version_of : Option (List ℕ) → ℕ
+version_of None = 1
+version_of (Some capacities) = 2
+
+-- the most digits of a number in the load's line, by the version
+abbrev pub load_digits : ℕ → ℕ
+load_digits version = if version == 1 then 7 else 10
+
+-- the first line of a plan, by the version
+abbrev pub title_line : ℕ → List ℕ
+title_line version = if version == 1 then codes "quorum-plan 1" else codes "quorum-plan 2"
 
 -- the line of the load; 47 is a slash
 abbrev pub load_line : ℕ × ℕ → List ℕ
@@ -61,11 +90,17 @@ spaced numbers = join_with_byte 32 (map decimal numbers)
 abbrev pub weights_line : List ℕ → List ℕ → List ℕ
 weights_line word weights = word ++ spaced weights
 
--- the five lines of a plan
+-- the line of the capacities, if the text has one
+abbrev pub capacity_lines : Option (List ℕ) → List (List ℕ)
+capacity_lines None = []
+capacity_lines (Some capacities) = weights_line (codes "capacity ") capacities ∷ []
+
+-- the lines of a plan
 abbrev pub lines_of : Telling → List (List ℕ)
 lines_of t =
-    title_line ∷ load_line t.load ∷ cycle_line t.cycle
-    ∷ weights_line (codes "quorum ") t.quorum_weights ∷ weights_line (codes "voter ") t.voter_weights ∷ []
+    title_line (version_of t.capacities) ∷ load_line t.load ∷ cycle_line t.cycle
+    ∷ (capacity_lines t.capacities
+    ++ (weights_line (codes "quorum ") t.quorum_weights ∷ weights_line (codes "voter ") t.voter_weights ∷ []))
 
 -- the one text of a plan
 abbrev pub plan_text : Weighted → List ℕ
@@ -73,45 +108,62 @@ plan_text w = text_of_lines (lines_of (telling_of w))
 
 -- Reading
 
--- whether the bytes are a number: 1 to 7 decimal digits, without a leading zero
-abbrev pub is_number : List ℕ → Bool
-is_number bytes =
+-- whether the bytes are a number: one digit or more up to this many, without a leading zero
+abbrev pub is_number : ℕ → List ℕ → Bool
+is_number digits bytes =
     nat_lt 0 (length bytes)
-    && (nat_lt (length bytes) 8
+    && (nat_le (length bytes) digits
     && ((length bytes == 1 || not (slice_index bytes 0 == 48)) && list_all is_ascii_digit bytes))
 
--- the number that these bytes are, if they are one
-abbrev pub number_of : List ℕ → Option ℕ
-number_of bytes = if is_number bytes then Some (digits_value 10 bytes) else None
+-- the number of at most this many digits that these bytes are, if they are one
+abbrev pub number_of : ℕ → List ℕ → Option ℕ
+number_of digits bytes = if is_number digits bytes then Some (digits_value 10 bytes) else None
 
--- the numbers that the words are, if each is one
+-- the numbers of 1 to 7 digits that the words are, if each is one
 abbrev pub numbers_of : List (List ℕ) → Option (List ℕ)
 numbers_of [] = Some []
-numbers_of (word ∷ words) = option_and_then (λ n. option_map (λ ns. n ∷ ns) (numbers_of words)) (number_of word)
+numbers_of (word ∷ words) = option_and_then (λ n. option_map (λ ns. n ∷ ns) (numbers_of words)) (number_of 7 word)
 
 -- the rest of the line after this word, if the line begins with it
 abbrev pub behind : List ℕ → List ℕ → Option (List ℕ)
 behind word line = if bytes_eq (take (length word) line) word then Some (drop (length word) line) else None
 
--- the title, if the line is the title
-abbrev pub read_title : List ℕ → Option (Unit {0})
-read_title line = if bytes_eq line title_line then Some tt else None
+-- the version, if the line is a title
+abbrev pub read_title : List ℕ → Option ℕ
+read_title line =
+    if bytes_eq line (title_line 1) then Some 1 else
+    if bytes_eq line (title_line 2) then Some 2 else None
 
--- the numbers that the two sides are, if each is one
-abbrev pub read_pair : List ℕ × List ℕ → Option (ℕ × ℕ)
-read_pair sides = option_and_then (λ p. option_map (λ q. (p, q)) (number_of sides.1)) (number_of sides.0)
+-- the numbers of at most this many digits that the two sides are, if each is one
+abbrev pub read_pair : ℕ → List ℕ × List ℕ → Option (ℕ × ℕ)
+read_pair digits sides =
+    option_and_then (λ p. option_map (λ q. (p, q)) (number_of digits sides.1)) (number_of digits sides.0)
 
--- the load in a line, if it is a line of a load
-abbrev pub read_load : List ℕ → Option (ℕ × ℕ)
-read_load line = option_and_then (λ rest. option_and_then read_pair (cut_at 47 rest)) (behind (codes "load ") line)
+-- the load in a line, if it is a line of a load with numbers of at most this many digits
+abbrev pub read_load : ℕ → List ℕ → Option (ℕ × ℕ)
+read_load digits line =
+    option_and_then (λ rest. option_and_then (read_pair digits) (cut_at 47 rest)) (behind (codes "load ") line)
 
 -- the cycle's length in a line, if it is the line of one
 abbrev pub read_cycle : List ℕ → Option ℕ
-read_cycle line = option_and_then number_of (behind (codes "cycle ") line)
+read_cycle line = option_and_then (number_of 7) (behind (codes "cycle ") line)
 
 -- the weights in a line, if it is a line of weights after this word
 abbrev pub read_weights : List ℕ → List ℕ → Option (List ℕ)
 read_weights word line = option_and_then (λ rest. numbers_of (slice_split (λ b. b == 32) rest)) (behind word line)
+
+-- whether each number is a capacity
+abbrev pub are_in_range : List ℕ → Bool
+are_in_range numbers = list_all (λ c. nat_le 1 c && nat_le c max_capacity) numbers
+
+-- whether each number is a capacity, and some is not 1
+abbrev pub are_told : List ℕ → Bool
+are_told numbers = are_in_range numbers && not (are_unit numbers)
+
+-- the capacities in a line, if it is a line of capacities, not all of them 1
+abbrev pub read_capacities : List ℕ → Option (List ℕ)
+read_capacities line =
+    option_and_then (λ numbers. if are_told numbers then Some numbers else None) (read_weights (codes "capacity ") line)
 
 -- The value of the line at the front of a text, and the rest of the text. If the line is missing,
 -- has no newline at its end, or is not in the format, it is the fault `BadText` with this number.
@@ -119,26 +171,40 @@ abbrev pub line_at : {X : Type 0} → ℕ → (List ℕ → Option X) → List �
 line_at number read text =
     ok_or (option_and_then (λ cut. option_map (λ x. (x, cut.1)) (read cut.0)) (cut_at 10 text)) (BadText number)
 
+-- the capacities of a text of this version, behind its third line, and the rest of the text; or the
+-- bad line
+abbrev pub capacities_at : ℕ → List ℕ → Result (Option (List ℕ) × List ℕ) PlanFault
+capacities_at version text =
+    if version == 1 then Ok (None, text)
+    else line_at 4 read_capacities text >>= λ x. Ok (Some x.0, x.1)
+
 -- the values of a text, or its first bad line
 unfoldable pub telling_at : List ℕ → Result Telling PlanFault
 telling_at text = do
   title ← line_at 1 read_title text
-  load ← line_at 2 read_load title.1
+  load ← line_at 2 (read_load (load_digits title.0)) title.1
   cycle ← line_at 3 read_cycle load.1
-  quorums ← line_at 4 (read_weights (codes "quorum ")) cycle.1
-  voters ← line_at 5 (read_weights (codes "voter ")) quorums.1
+  capacities ← capacities_at title.0 cycle.1
+  quorums ← line_at (3 + title.0) (read_weights (codes "quorum ")) capacities.1
+  voters ← line_at (4 + title.0) (read_weights (codes "voter ")) quorums.1
   if length voters.1 == 0
-      then Ok (record { load = load.0; cycle = cycle.0; quorum_weights = quorums.0; voter_weights = voters.0 })
-      else Err (BadText 6)
+      then Ok (record {
+        load = load.0;
+        cycle = cycle.0;
+        capacities = capacities.0;
+        quorum_weights = quorums.0;
+        voter_weights = voters.0;
+      })
+      else Err (BadText (5 + title.0))
 
--- the load and the cycle's length in the first three lines, and the rest of the text; or the first
--- of these lines that is bad
-unfoldable pub head_at : List ℕ → Result ((ℕ × ℕ) × ℕ × List ℕ) PlanFault
+-- the version, the load and the cycle's length in the first three lines, and the rest of the text;
+-- or the first of these lines that is bad
+unfoldable pub head_at : List ℕ → Result (ℕ × (ℕ × ℕ) × ℕ × List ℕ) PlanFault
 head_at text = do
   title ← line_at 1 read_title text
-  load ← line_at 2 read_load title.1
+  load ← line_at 2 (read_load (load_digits title.0)) title.1
   cycle ← line_at 3 read_cycle load.1
-  Ok (load.0, cycle.0, cycle.1)
+  Ok (title.0, load.0, cycle.0, cycle.1)
 
 -- the first fault of the load and the cycle's length that a text gives for a plan
 abbrev pub head_fault : Weighted → ℕ × ℕ → ℕ → Option PlanFault
@@ -155,17 +221,28 @@ abbrev pub unless_fault : Option PlanFault → Weighted → Result Weighted Plan
 unless_fault None w = Ok w
 unless_fault (Some e) w = Err e
 
--- the plan, or the first fault: of its weights, then of the values of its text
+-- whether the text gives these capacities
+abbrev pub are_given : List ℕ → Option (List ℕ) → Bool
+are_given capacities None = are_unit capacities
+are_given capacities (Some told) = pointwise (λ c d. c == d) told capacities
+
+-- the first fault of the capacities that a text gives
+abbrev pub capacities_fault : List ℕ → Telling → Option PlanFault
+capacities_fault capacities t = if are_given capacities t.capacities then None else Some WrongCapacity
+
+-- the plan, or the first fault: of the text's capacities, of its weights, then of its other values
 abbrev pub judged : Weighted → Telling → Result Weighted PlanFault
-judged w t = unless_fault (option_or (weights_fault w) (telling_fault w t)) w
+judged w t =
+    unless_fault (option_or (capacities_fault w.capacities t) (option_or (weights_fault w) (telling_fault w t))) w
 
--- a system of quorums with the weights of a text
-abbrev pub weighted_by : QuorumSystem → Telling → Weighted
-weighted_by s t = record { system = s; quorum_weights = t.quorum_weights; voter_weights = t.voter_weights }
+-- a system of quorums and capacities with the weights of a text
+abbrev pub weighted_by : QuorumSystem → List ℕ → Telling → Weighted
+weighted_by s capacities t =
+    record { system = s; capacities = capacities; quorum_weights = t.quorum_weights; voter_weights = t.voter_weights }
 
--- the plan of a coterie that the text describes, or the first fault
-unfoldable pub plan_at : QuorumSystem → List ℕ → Result Weighted PlanFault
-plan_at s text = telling_at text >>= λ t. judged (weighted_by s t) t
+-- the plan of a coterie and capacities that the text describes, or the first fault
+unfoldable pub plan_at : QuorumSystem → List ℕ → List ℕ → Result Weighted PlanFault
+plan_at s capacities text = telling_at text >>= λ t. judged (weighted_by s capacities t) t
 
 -- the fault is out of memory
 abbrev pub is_out_of_memory : PlanFault → Bool

@@ -1,16 +1,21 @@
 //! Laws about plans and their texts.
-ghost use Rattle.std.specs.Prelude.{◌≡◌, ◌*◌, ◌↔◌, ◌<◌, ◌++◌, ℕ, List, [], None, Some, length, slice_index};
+ghost use Rattle.std.specs.Prelude.{◌≡◌, ◌*◌, ◌↔◌, ◌<◌, ◌≤◌, ◌++◌, ℕ, List, [], true, false, None, Some, codes, length, slice_index};
 ghost use Rattle.std.specs.Fmt.{decimal};
+ghost use Rattle.std.specs.Int.{IsGcd};
 ghost use Rattle.std.specs.List.{All};
+ghost use Rattle.divisor.specs.Gcd.{lowest_terms};
+ghost use Rattle.numbers.specs.Counts.{greatest_below, times};
+ghost use Rattle.quorum_set.specs.Capacities.{AreCapacities, IsCapacity, are_unit, unit_capacities};
 ghost use Rattle.quorum_set.specs.Coteries.{IsCoterie};
 ghost use Rattle.quorum_set.specs.Counts.{count_of, busiest_of};
-ghost use Rattle.numbers.specs.Counts.{times};
-ghost use Rattle.certificate.specs.Certificates.{Weighted, IsCertificate, weights_fault, busiest_count};
-ghost use Rattle.certificate.specs.PlanTexts.{IsShort, plan_text, number_of, load_line, cycle_line, weights_line, read_load, read_cycle, read_weights};
+ghost use Rattle.certificate.specs.Certificates.{Weighted, IsCertificate, IsOptimal, IsUnitCertificate, IsUnitOptimal, weights_fault, busiest_count, cycle_len, cycle_ratio, load_of, unit_load};
 ghost use Rattle.certificate.specs.Loads.{weight_on};
+ghost use Rattle.certificate.specs.PlanTexts.{HasDigits, IsShort, plan_text, number_of, load_line, cycle_line, weights_line, read_load, read_cycle, read_capacities, read_weights};
+ghost use Rattle.certificate.specs.Ratios.{greatest_ratio, ratio_of};
 
 /// A list that has each quorum k times its weight uses each voter k times the weight on the voter's
-/// quorums. It uses its busiest voter k times the busiest count.
+/// quorums. It uses its busiest voter k times the busiest count, and its ratio is k times the ratio
+/// of the cycle.
 ///
 /// With k = 1: the busiest count is the greatest count of a voter in any list that has each quorum
 /// as often as its weight.
@@ -21,24 +26,71 @@ pub fn whole_cycles_are_even()
     ensures busiest { (w : Weighted) (k : ℕ) (list : List ℕ) → length w.quorum_weights ≡ length w.system.quorums
         → ((j : ℕ) → times j list ≡ k * slice_index w.quorum_weights j)
         → busiest_of w.system list ≡ k * busiest_count w }
+    ensures ratio { (w : Weighted) (k : ℕ) (list : List ℕ) → IsCertificate w
+        → ((j : ℕ) → times j list ≡ k * slice_index w.quorum_weights j)
+        → ratio_of w.system w.capacities list ≡ lowest_terms (k * (cycle_ratio w).0) (cycle_ratio w).1 }
+{}
+
+/// A ratio is at least each count, divided by the voter's capacity. For some voter it is this
+/// quotient, unless there is no voter. It is in lowest terms.
+pub fn ratios_are_greatest()
+    ensures bound { (n : ℕ) (capacities : List ℕ) (count : ℕ → ℕ) → AreCapacities capacities n → (i : ℕ) → i < n
+        → count i * (greatest_ratio n capacities count).1
+        ≤ (greatest_ratio n capacities count).0 * slice_index capacities i }
+    ensures reached { (n : ℕ) (capacities : List ℕ) (count : ℕ → ℕ) → AreCapacities capacities n → 0 < n
+        → (i : ℕ) × (i < n) × (count i * (greatest_ratio n capacities count).1
+        ≡ (greatest_ratio n capacities count).0 * slice_index capacities i) }
+    ensures lowest { (n : ℕ) (capacities : List ℕ) (count : ℕ → ℕ) → AreCapacities capacities n
+        → IsGcd (greatest_ratio n capacities count).0 (greatest_ratio n capacities count).1 1 }
+{}
+
+/// No list of quorum numbers has, for its length, a smaller ratio than the cycle of optimal weights.
+pub fn no_list_has_a_smaller_ratio()
+    ensures { (w : Weighted) → AreCapacities w.capacities w.system.voters → IsOptimal w
+        → (list : List ℕ) → All (λ j. j < length w.system.quorums) list
+        → length list * (cycle_ratio w).0 * (ratio_of w.system w.capacities list).1
+        ≤ (ratio_of w.system w.capacities list).0 * ((cycle_ratio w).1 * cycle_len w) }
+{}
+
+/// If all capacities are 1, a ratio is the greatest count, over 1. The weights are a certificate,
+/// and optimal, if and only if they are so without capacities. The load is the same.
+pub fn unit_capacities_change_nothing()
+    ensures ratio { (n : ℕ) (capacities : List ℕ) (count : ℕ → ℕ) → length capacities ≡ n → are_unit capacities ≡ true
+        → greatest_ratio n capacities count ≡ (greatest_below n count, 1) }
+    ensures certificate { (w : Weighted) → w.capacities ≡ unit_capacities w.system.voters
+        → IsCertificate w ↔ IsUnitCertificate w }
+    ensures optimal { (w : Weighted) → IsCoterie w.system → w.capacities ≡ unit_capacities w.system.voters
+        → IsOptimal w ↔ IsUnitOptimal w }
+    ensures load { (w : Weighted) → w.capacities ≡ unit_capacities w.system.voters → load_of w ≡ unit_load w }
+    ensures units { (capacities : List ℕ) (n : ℕ) → length capacities ≡ n
+        → (are_unit capacities ≡ true) ↔ (capacities ≡ unit_capacities n) }
+    ensures capacities { (n : ℕ) → AreCapacities (unit_capacities n) n }
 {}
 
 /// Weights of a coterie have no fault if and only if they are a certificate.
 pub fn certificates_have_no_fault()
-    ensures { (w : Weighted) → IsCoterie w.system → (weights_fault w ≡ None) ↔ IsCertificate w }
+    ensures { (w : Weighted) → IsCoterie w.system → AreCapacities w.capacities w.system.voters
+        → (weights_fault w ≡ None) ↔ IsCertificate w }
 {}
 
-/// Bytes are read as a number if and only if they are its decimal text, of 1 to 7 digits.
+/// Bytes are read as a number of at most this many digits, 1 to 19, if and only if they are its
+/// decimal text and it has no more digits.
 pub fn numbers_have_one_spelling()
-    ensures { (bytes : List ℕ) (n : ℕ) → (number_of bytes ≡ Some n) ↔ ((bytes ≡ decimal n) × IsShort n) }
+    ensures { (digits : ℕ) (bytes : List ℕ) (n : ℕ) → 0 < digits → digits ≤ 19
+        → (number_of digits bytes ≡ Some n) ↔ ((bytes ≡ decimal n) × HasDigits digits n) }
 {}
 
-/// A line is read as a load, a cycle's length, or weights after their word if and only if it is
-/// the line that is written for these.
+/// A line is read as a load, a cycle's length, capacities, or weights after their word if and only
+/// if it is the line that is written for these. Its numbers have at most 7 digits, and those of a
+/// load at most `digits`, which is 1 to 19. Capacities are 1 to 1000, and some is not 1.
 pub fn lines_are_read_as_spelled()
-    ensures load { (line : List ℕ) (load : ℕ × ℕ)
-        → (read_load line ≡ Some load) ↔ ((line ≡ load_line load) × (IsShort load.0 × IsShort load.1)) }
+    ensures load { (digits : ℕ) (line : List ℕ) (load : ℕ × ℕ) → 0 < digits → digits ≤ 19
+        → (read_load digits line ≡ Some load)
+        ↔ ((line ≡ load_line load) × (HasDigits digits load.0 × HasDigits digits load.1)) }
     ensures cycle { (line : List ℕ) (n : ℕ) → (read_cycle line ≡ Some n) ↔ ((line ≡ cycle_line n) × IsShort n) }
+    ensures capacities { (line capacities : List ℕ) → (read_capacities line ≡ Some capacities)
+        ↔ ((line ≡ weights_line (codes "capacity ") capacities)
+        × (All IsCapacity capacities × (are_unit capacities ≡ false))) }
     ensures weights { (word line weights : List ℕ) → (read_weights word line ≡ Some weights)
         ↔ ((line ≡ weights_line word weights) × (All IsShort weights × (0 < length weights))) }
 {}

@@ -1,10 +1,11 @@
 //! Sums of weights: of the quorums with a voter, and of a quorum's members.
-ghost use Rattle.std.specs.Prelude.{◌≡◌, ◌<◌, ◌≤◌, ◌^◌, length, sum, All, SomeIff};
+ghost use Rattle.std.specs.Prelude.{◌≡◌, ◌*◌, ◌<◌, ◌≤◌, ◌^◌, length, slice_index, sum, All, SomeIff};
 ghost use Rattle.quorum_set.specs.Coteries.{IsCoterie};
 ghost use Rattle.numbers.specs.Bounds.{max_cycle};
-ghost use Rattle.numbers.specs.Counts.{greatest_below};
+ghost use Rattle.numbers.specs.Counts.{greatest_below, least_of};
+ghost use Rattle.numbers.specs.Sums.{sum_below};
+ghost use Rattle.quorum_set.specs.Capacities.{AreCapacities};
 ghost use Rattle.certificate.specs.Loads.{weight_on, weight_within};
-ghost use Rattle.numbers.specs.Counts.{least_of};
 
 use numbers::MAX_CYCLE;
 use quorum_set::{Coterie, QSet};
@@ -82,4 +83,19 @@ pub(crate) fn lightest_quorum(coterie: &Coterie, weights: &[u64]) -> u64
         least = least.min(weight_within(coterie.quorum(j), weights));
     }
     least
+}
+
+/// Returns the sum of the voters' weights, each times the voter's capacity.
+pub(crate) fn capacity_total(capacities: &[u64], weights: &[u64]) -> u64
+    requires capacities { AreCapacities capacities.now (length weights.now) }
+    requires small { sum weights.now ≤ max_cycle }
+    ensures total { result
+        ≡ sum_below (λ i. slice_index weights.now i * slice_index capacities.now i) (length weights.now) }
+    ensures small { result ≤ 1000000000 }
+{
+    let mut total = 0;
+    for (i, weight) in weights.iter().enumerate() {
+        total += *weight * capacities[i];
+    }
+    total
 }

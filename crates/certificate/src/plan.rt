@@ -1,24 +1,34 @@
 //! Plans.
-ghost use Rattle.std.specs.Prelude.{◌≡◌, ◌*◌, ◌<◌, length, IfOk, slice_index};
+ghost use Rattle.std.specs.Prelude.{◌≡◌, ◌*◌, ◌<◌, ◌≤◌, true, length, sum, IfOk, slice_index};
 ghost use Rattle.std.specs.Int.{IsGcd};
-ghost use Rattle.certificate.specs.Certificates.{IsCertificate, IsOptimal, AnswersPlan, cycle_len, busiest_count, load_of};
+ghost use Rattle.numbers.specs.Bounds.{max_capacity, max_cycle};
+ghost use Rattle.numbers.specs.Counts.{greatest_below};
+ghost use Rattle.quorum_set.specs.Capacities.{AreCapacities, are_unit};
+ghost use Rattle.certificate.specs.Certificates.{IsCertificate, IsOptimal, IsUnitOptimal, AnswersPlan, cycle_len, cycle_ratio, busiest_count, load_of, unit_load};
+ghost use Rattle.certificate.specs.Loads.{weight_on};
+ghost use Rattle.certificate.specs.Ratios.{greatest_ratio};
 
 use crate::fault::PlanFault;
-use crate::loads::{busiest_count, lightest_quorum, total};
+use crate::loads::{busiest_count, capacity_total, lightest_quorum, total, weight_on};
+use crate::ratios::greatest_ratio;
 use divisor::gcd;
-use quorum_set::Coterie;
+use numbers::MAX_VOTERS;
+use quorum_set::{Coterie, are_unit};
 use std::alloc::{AllocError, Global};
 use std::marker::Model;
 
-/// A coterie with a weight for each quorum, and a weight for each voter. The voters' weights are
-/// the certificate that the quorums' weights are optimal. Contracts see the three.
+/// A coterie with a capacity for each voter, a weight for each quorum, and a weight for each voter.
+/// The voters' weights are the certificate that the quorums' weights are optimal. Contracts see the
+/// four.
 #[derive(Drop)]
 pub struct Plan {
     coterie: Coterie,
+    capacities: Vec<u64>,
     quorum_weights: Vec<u64>,
     voter_weights: Vec<u64>,
     cycle_len: u64,
     busiest: u64,
+    ratio: (u64, u64),
 }
 
 impl Model for Plan {
@@ -28,49 +38,70 @@ impl Model for Plan {
 
     ghost view = { λ p. record {
       system = p.coterie;
+      capacities = p.capacities.items;
       quorum_weights = p.quorum_weights.items;
       voter_weights = p.voter_weights.items;
     } };
 
     ghost invariant = { λ p. IsKept
-        (record { system = p.coterie; quorum_weights = p.quorum_weights.items; voter_weights = p.voter_weights.items })
-        p.cycle_len p.busiest };
+        (record {
+          system = p.coterie;
+          capacities = p.capacities.items;
+          quorum_weights = p.quorum_weights.items;
+          voter_weights = p.voter_weights.items;
+        })
+        p.cycle_len p.busiest p.ratio };
 }
 
-/// Checks weights of the quorums against weights of the voters. Returns the plan that has both and
-/// a copy of the coterie.
+/// Checks weights of the quorums against weights of the voters. Returns the plan that has both, a
+/// copy of the coterie, and the capacities. There has to be a capacity for each voter, 1 to 1000.
 ///
 /// Fails with the first of these faults:
 ///
 /// - `WrongLength` if there is not one weight for each quorum and one for each voter;
 /// - `TooLarge` if a sum of weights is above 1,000,000;
 /// - `Empty` if a sum of weights is 0;
-/// - `NotOptimal` if the weights are no certificate;
+/// - `NotOptimal` if the weights are no certificate; `NotOptimalRatio` in its place if some capacity
+///   is not 1;
 /// - `OutOfMemory`.
 pub fn check(
     alloc: Global,
     coterie: &Coterie,
+    capacities: &[u64],
     quorum_weights: Vec<u64>,
     voter_weights: Vec<u64>,
 ) -> Result<Plan, PlanFault>
+    requires capacities { AreCapacities capacities.now coterie.now.voters }
     ensures exact { AnswersPlan
-        (record { system = coterie.now; quorum_weights = quorum_weights.items; voter_weights = voter_weights.items })
+        (record {
+          system = coterie.now;
+          capacities = capacities.now;
+          quorum_weights = quorum_weights.items;
+          voter_weights = voter_weights.items;
+        })
         result }
     ensures certificate { IfOk result IsCertificate }
     ensures optimal { IfOk result IsOptimal }
 {
-    plan_of(alloc, coterie, quorum_weights, voter_weights)
+    plan_of(alloc, coterie, capacities, quorum_weights, voter_weights)
 }
 
 /// Returns the plan of these weights, or the first fault.
 fn plan_of(
     alloc: Global,
     coterie: &Coterie,
+    capacities: &[u64],
     quorum_weights: Vec<u64>,
     voter_weights: Vec<u64>,
 ) -> Result<Plan, PlanFault>
+    requires capacities { AreCapacities capacities.now coterie.now.voters }
     ensures exact { AnswersPlan
-        (record { system = coterie.now; quorum_weights = quorum_weights.items; voter_weights = voter_weights.items })
+        (record {
+          system = coterie.now;
+          capacities = capacities.now;
+          quorum_weights = quorum_weights.items;
+          voter_weights = voter_weights.items;
+        })
         result }
     ensures certificate { IfOk result IsCertificate }
 {
@@ -87,25 +118,62 @@ fn plan_of(
         return Err(PlanFault::Empty);
     }
     let busiest_count = busiest_count(coterie, &quorum_weights);
+    let ratio = cycle_ratio(coterie, capacities, &quorum_weights, busiest_count);
+    let capacity_total = capacity_total(capacities, &voter_weights);
     let lightest_quorum = lightest_quorum(coterie, &voter_weights);
-    if busiest_count * voter_total != lightest_quorum * cycle_len {
-        return Err(PlanFault::NotOptimal {
-            busiest_count,
-            voter_total,
+    if ratio.0 * capacity_total != ratio.1 * lightest_quorum * cycle_len {
+        if are_unit(capacities) {
+            return Err(PlanFault::NotOptimal {
+                busiest_count,
+                voter_total,
+                lightest_quorum,
+                cycle_len,
+            });
+        }
+        return Err(PlanFault::NotOptimalRatio {
+            ratio_numerator: ratio.0,
+            ratio_denominator: ratio.1,
+            capacity_total,
             lightest_quorum,
             cycle_len,
         });
     }
-    let Ok(coterie) = coterie.copy(alloc) else {
-        return Err(PlanFault::OutOfMemory);
-    };
     Ok(Plan {
-        coterie,
+        coterie: coterie.copy(alloc)?,
+        capacities: capacities.to_vec(alloc)?,
         quorum_weights,
         voter_weights,
         cycle_len,
         busiest: busiest_count,
+        ratio,
     })
+}
+
+/// Returns the ratio of the cycle with these weights of the quorums and this busiest count.
+#[tactic(auto, using(crate::proofs::RatioLemmas::counts_with_next))]
+fn cycle_ratio(
+    coterie: &Coterie,
+    capacities: &[u64],
+    weights: &[u64],
+    busiest_count: u64,
+) -> (u64, u64)
+    requires capacities { AreCapacities capacities.now coterie.now.voters }
+    requires lengths { length weights.now ≡ length coterie.now.quorums }
+    requires small { sum weights.now ≤ max_cycle }
+    requires busiest { busiest_count
+        ≡ greatest_below coterie.now.voters (λ i. weight_on i coterie.now.quorums weights.now) }
+    ensures ratio { result
+        ≡ greatest_ratio coterie.now.voters capacities.now (λ i. weight_on i coterie.now.quorums weights.now) }
+    ensures small { (result.0 ≤ max_cycle) × (result.1 ≤ max_capacity) }
+{
+    if are_unit(capacities) {
+        return (busiest_count, 1);
+    }
+    let mut counts = [0; MAX_VOTERS];
+    for voter in 0..coterie.voters() {
+        counts[voter] = weight_on(coterie, weights, voter as u8);
+    }
+    greatest_ratio(&counts[..coterie.voters()], capacities)
 }
 
 impl Plan {
@@ -129,23 +197,58 @@ impl Plan {
     pub fn busiest(&self) -> u64
         ensures value { result ≡ busiest_count self.now }
         ensures certificate { IsCertificate self.now }
-        // No list of quorums has, for its length, a smaller busiest count.
-        ensures optimal { IsOptimal self.now }
+        // If all capacities are 1, no list of quorums has, for its length, a smaller busiest count.
+        ensures least { are_unit self.now.capacities ≡ true → IsUnitOptimal self.now }
     {
         self.busiest
     }
 
-    /// Returns the load: the share of a cycle's quorums that have the busiest voter, as a numerator
-    /// and a denominator in lowest terms.
+    /// Returns the ratio of a cycle: how often it uses a voter, divided by the voter's capacity, for
+    /// the voter of which this is greatest. It is a numerator and a denominator in lowest terms. If
+    /// all capacities are 1, it is the busiest count and 1.
+    pub fn ratio(&self) -> (u64, u64)
+        ensures value { result ≡ cycle_ratio self.now }
+        ensures certificate { IsCertificate self.now }
+        // Each list of quorums uses some voter, for its length and the voter's capacity, as much.
+        ensures optimal { IsOptimal self.now }
+    {
+        self.ratio
+    }
+
+    /// Returns the load, as a numerator and a denominator in lowest terms: the ratio of a cycle,
+    /// divided by its length. If all capacities are 1, it is the share of a cycle's quorums that
+    /// have the busiest voter.
     pub fn load(&self) -> (u64, u64)
         ensures value { result ≡ load_of self.now }
-        ensures exact { result.0 * cycle_len self.now ≡ busiest_count self.now * result.1 }
+        ensures exact { result.0 * ((cycle_ratio self.now).1 * cycle_len self.now)
+            ≡ (cycle_ratio self.now).0 * result.1 }
         ensures lowest { IsGcd result.0 result.1 1 }
         ensures certificate { IsCertificate self.now }
         ensures optimal { IsOptimal self.now }
+        // If all capacities are 1, this is the least share that lists of quorums reach.
+        ensures least { are_unit self.now.capacities ≡ true → (result ≡ unit_load self.now) × IsUnitOptimal self.now }
     {
-        let common = gcd(self.busiest, self.cycle_len);
-        (self.busiest / common, self.cycle_len / common)
+        let denominator = self.ratio.1 * self.cycle_len;
+        let common = gcd(self.ratio.0, denominator);
+        (self.ratio.0 / common, denominator / common)
+    }
+
+    /// Returns the capacity of a voter, 1 to 1000. The voter's number has to be below the number of
+    /// voters.
+    pub fn capacity(&self, voter: u8) -> u64
+        requires { voter < self.now.system.voters }
+        ensures value { result ≡ slice_index self.now.capacities voter }
+        ensures certificate { IsCertificate self.now }
+    {
+        self.capacities[usize::from(voter)]
+    }
+
+    /// Returns the capacity of each voter.
+    pub fn capacities(&self) -> &[u64]
+        ensures value { result.now ≡ self.now.capacities }
+        ensures certificate { IsCertificate self.now }
+    {
+        self.capacities.as_slice()
     }
 
     /// Returns the weight of a quorum: how often a cycle uses it. The quorum's number has to be
@@ -189,10 +292,12 @@ impl Plan {
     {
         Ok(Plan {
             coterie: self.coterie.copy(alloc)?,
+            capacities: self.capacities.as_slice().to_vec(alloc)?,
             quorum_weights: self.quorum_weights.as_slice().to_vec(alloc)?,
             voter_weights: self.voter_weights.as_slice().to_vec(alloc)?,
             cycle_len: self.cycle_len,
             busiest: self.busiest,
+            ratio: self.ratio,
         })
     }
 }

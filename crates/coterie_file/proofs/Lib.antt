@@ -1,4 +1,6 @@
 pub mod BlankLemmas
+pub mod CapacityLemmas
+pub mod IntegerLaws
 pub mod ListLemmas
 pub mod NameLaws
 pub mod NameLemmas

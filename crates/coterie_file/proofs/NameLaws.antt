@@ -53,7 +53,7 @@ first_repeat-means before (name ∷ names) differ =
           rw one (first_repeat-means (before ++ name ∷ []) names (all_pairs_push (λ m n. m ≢ n) before name differ (has_name-false before name e)))
     ] refl
 
-and-true : (a b : Bool) → (a && b) ≡ true → (a ≡ true) × (b ≡ true)
+pub and-true : (a b : Bool) → (a && b) ≡ true → (a ≡ true) × (b ≡ true)
 and-true true b e = (refl, e)
 and-true false b e = cc
 

@@ -13,11 +13,13 @@ use Rattle.std.proofs.lemmas.Slice.Eq.{bytes_eq-Decides}
 use Rattle.quorum_set.specs.Coteries.{IsCoterie, first_fault}
 use Rattle.numbers.specs.Sets.{has, IsSet}
 use Rattle.numbers.proofs.SetLemmas.{IsSet-set_where, has-set_where, has-above}
+use Rattle.coterie_file.specs.Capacities.{capacities_fault}
 use Rattle.coterie_file.specs.Lists.{NameLists, lists_at}
 use Rattle.coterie_file.specs.Named.{NamedSystem, IsNamed}
 use Rattle.coterie_file.specs.Names.{has_name, number_of, name_at, AllDiffer, first_repeat, names_fault}
-use Rattle.coterie_file.specs.Reading.{is_number, quorum_of, system_of, lists_fault, coterie_in, coterie_at, ListsCoterie, Spells}
+use Rattle.coterie_file.specs.Reading.{is_number, quorum_of, system_of, lists_fault, named_of, coterie_in, coterie_at, ListsCoterie, Spells}
 use Rattle.coterie_file.specs.declared.fault.FileFault.TheVariants.{UnknownName, RepeatedMember, Coterie}
+use Rattle.coterie_file.proofs.CapacityLemmas.{AreCapacities-from_no_fault, capacities_fault-none}
 use Rattle.coterie_file.proofs.NameLaws.{has_name-true, position-None, position-none, option_or-None, option_map-None, AllDiffer-from_no_repeat, first_repeat-none, AreNames-from_no_fault, names_fault-none}
 use Rattle.coterie_file.proofs.ReadingLemmas.{unless-Ok}
 
@@ -84,11 +86,13 @@ lists_fault-means law lists e =
     let unknown = λ (members : List (List ℕ)). not (list_all (has_name lists.names) members) in
     let repeated = λ (members : List (List ℕ)). is_some (first_repeat [] members) in
     let last = option_map Coterie (first_fault (system_of lists).voters (system_of lists).quorums) in
-    let third = option_or (option_map RepeatedMember (position repeated lists.quorums)) last in
+    let fourth = option_or (capacities_fault (length lists.names) lists.capacities) last in
+    let third = option_or (option_map RepeatedMember (position repeated lists.quorums)) fourth in
     let second = option_or (option_map UnknownName (position unknown lists.quorums)) third in
     let a = option_or-None (names_fault lists.names) second e in
     let b = option_or-None (option_map UnknownName (position unknown lists.quorums)) third a.1 in
-    let c = option_or-None (option_map RepeatedMember (position repeated lists.quorums)) last b.1 in
+    let c = option_or-None (option_map RepeatedMember (position repeated lists.quorums)) fourth b.1 in
+    let d = option_or-None (capacities_fault (length lists.names) lists.capacities) last c.1 in
     let known = position-None unknown lists.quorums (option_map-None UnknownName _ b.0) in
     let once = position-None repeated lists.quorums (option_map-None RepeatedMember _ c.0) in
     record {
@@ -97,7 +101,8 @@ lists_fault-means law lists e =
           let there = has_name-true lists.names (get_or (get_or lists.quorums k d) j x) (AllPass-from_list_all (has_name lists.names) (get_or lists.quorums k d) (not-false _ (known k d lt)) j x l) in
           (there.0, there.1, get_or_default lists.names there.0 _ [] there.1 ∙ there.2);
       once = λ k d lt. AllDiffer-from_no_repeat (get_or lists.quorums k d) (is_some-none (first_repeat [] (get_or lists.quorums k d)) (once k d lt));
-      coterie = (law (length lists.names) (system_of lists).quorums (all_sets lists)).0 (option_map-None Coterie _ c.1);
+      capacities = AreCapacities-from_no_fault (length lists.names) lists.capacities d.0;
+      coterie = (law (length lists.names) (system_of lists).quorums (all_sets lists)).0 (option_map-None Coterie _ d.1);
     }
 
 -- a listed name is found
@@ -112,12 +117,12 @@ lists_fault-none law lists h =
     not_from_true _ (list_all-from_AllPass (has_name lists.names) (get_or lists.quorums k d) (λ j x l. has_name-there lists.names _ (h.known k d lt j x l)))) in
     let once : position repeated lists.quorums ≡ None = position-none repeated lists.quorums [] (λ k d lt. ap is_some (first_repeat-none (get_or lists.quorums k d) (h.once k d lt))) in
     let sets : first_fault (system_of lists).voters (system_of lists).quorums ≡ None = (law (length lists.names) (system_of lists).quorums (all_sets lists)).1 h.coterie in
-    rw (names_fault-none lists.names h.names, known, once) (ap (option_map Coterie) sets)
+    rw (names_fault-none lists.names h.names, known, once, capacities_fault-none (length lists.names) lists.capacities h.capacities) (ap (option_map Coterie) sets)
 
 -- what a text reads as
-read_lists : CoterieLaw → (lists : NameLists) (n : NamedSystem) → coterie_in lists ≡ Ok n → ListsCoterie lists × (n ≡ record { system = system_of lists; names = lists.names })
+read_lists : CoterieLaw → (lists : NameLists) (n : NamedSystem) → coterie_in lists ≡ Ok n → ListsCoterie lists × (n ≡ named_of lists)
 read_lists law lists n e =
-    let parts = unless-Ok (lists_fault lists) (record { system = system_of lists; names = lists.names }) n e in
+    let parts = unless-Ok (lists_fault lists) (named_of lists) n e in
     (lists_fault-means law lists parts.0, sym parts.1)
 
 pub coterie_at-spells : CoterieLaw → (text : List ℕ) (n : NamedSystem) → coterie_at text ≡ Ok n → Spells text n
@@ -133,4 +138,4 @@ spells-coterie_at law text n h = rw (h.1, lists_fault-none law h.0 h.2) (ap Ok (
 pub named_at : CoterieLaw → (text : List ℕ) (n : NamedSystem) → coterie_at text ≡ Ok n → IsNamed n
 named_at law text n e =
     let h = coterie_at-spells law text n e in
-    rw h.3 (record { coterie = h.2.coterie; one_each = refl; names = h.2.names })
+    rw h.3 (record { coterie = h.2.coterie; one_each = refl; names = h.2.names; capacities = h.2.capacities })

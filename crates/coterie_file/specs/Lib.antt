@@ -1,4 +1,5 @@
 pub mod Answers
+pub mod Capacities
 pub mod Lists
 pub mod Named
 pub mod Names

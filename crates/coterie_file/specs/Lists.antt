@@ -1,22 +1,27 @@
--- The names that a TOML table lists under its two keys.
-use Rattle.std.specs.Prelude.{ℕ, ◌+◌, ◌==◌, if◌then◌else◌, List, [], ◌∷◌, map, String, Vec, string_bytes, Option, None, Some, Result, option_map, option_and_then, ok_or, codes}
+-- The names and capacities that a TOML table lists under its keys.
+use Rattle.std.specs.Prelude.{ℕ, ◌+◌, ◌==◌, Bool, if◌then◌else◌, ℤ, pos, negsuc, List, [], ◌∷◌, length, map, String, Vec, string_bytes, Option, None, Some, Result, option_map, option_and_then, is_some, ok_or, codes}
 use Rattle.std.specs.declared.alloc.Global.{Global}
-use Rattle.toml.specs.Data.{Items, no_items, item, Members, no_members, member, string, get_member, as_str, as_array}
+use Rattle.toml.specs.Data.{Items, no_items, item, Members, no_members, member, string, integer, get_member, as_str, as_integer, as_array}
 use Rattle.toml.specs.View.{items_of}
 use Rattle.toml.specs.Parse.{parse_document}
+use Rattle.quorum_set.specs.Capacities.{unit_capacities}
 use Rattle.coterie_file.specs.Answers.{◌>>=◌}
 use Rattle.coterie_file.specs.declared.fault.FileFault.{FileFault}
 use Rattle.coterie_file.specs.declared.fault.FileFault.TheVariants.{NotToml, Keys}
 
--- the names of the voters, and for each quorum the names of its members, in the order of the text
+-- the names and the capacities of the voters, and for each quorum the names of its members, in the order of the text
 pub record NameLists : Type 0 where
   pub names : List (List ℕ)
   pub quorums : List (List (List ℕ))
+  pub capacities : List ℕ
 
--- the name lists of these strings
-abbrev pub listed : List (String Global) → List (Vec (String Global) Global) → NameLists
-listed names quorums =
-    record { names = map string_bytes names; quorums = map (λ members. map string_bytes members.items) quorums }
+-- the lists of these strings and numbers
+abbrev pub listed : List (String Global) → List (Vec (String Global) Global) → List ℕ → NameLists
+listed names quorums capacities = record {
+  names = map string_bytes names;
+  quorums = map (λ members. map string_bytes members.items) quorums;
+  capacities = capacities;
+}
 
 -- the texts of an array, if each item is a string
 abbrev pub texts_of : Items → Option (List (List ℕ))
@@ -30,6 +35,17 @@ text_lists_of (item d items) =
     option_and_then (λ texts. option_map (λ lists. texts ∷ lists) (text_lists_of items))
     (option_and_then texts_of (as_array d))
 
+-- the integer, or 0 if it is negative; 0 is no capacity either
+abbrev pub or_zero : ℤ → ℕ
+or_zero (pos n) = n
+or_zero (negsuc n) = 0
+
+-- the numbers of an array, if each item is an integer
+abbrev pub numbers_of : Items → Option (List ℕ)
+numbers_of no_items = Some []
+numbers_of (item d items) =
+    option_and_then (λ z. option_map (λ numbers. or_zero z ∷ numbers) (numbers_of items)) (as_integer d)
+
 -- how many keys a table has
 abbrev pub key_count : Members → ℕ
 key_count no_members = 0
@@ -39,11 +55,27 @@ key_count (member key d members) = key_count members + 1
 abbrev pub items_at : List ℕ → Members → Option Items
 items_at key table = option_and_then as_array (get_member key table)
 
--- the lists of a table that has the two keys `voters` and `quorums` and no other
+-- whether a table has the key `capacity`
+abbrev pub has_capacities : Members → Bool
+has_capacities table = is_some (get_member (codes "capacity") table)
+
+-- how many keys a table has to have: `capacity` may be left out
+abbrev pub wanted_keys : Members → ℕ
+wanted_keys table = if has_capacities table then 3 else 2
+
+-- the numbers at the key `capacity`, or capacity 1 for each of n voters if there is no such key
+abbrev pub capacities_at : ℕ → Members → Option (List ℕ)
+capacities_at n table =
+    if has_capacities table then option_and_then numbers_of (items_at (codes "capacity") table)
+    else Some (unit_capacities n)
+
+-- the lists of a table that has the keys `voters` and `quorums`, may have `capacity`, and has no other
 abbrev pub lists_of : Members → Option NameLists
 lists_of table =
-    if key_count table == 2 then
-    option_and_then (λ names. option_map (λ quorums. record { names = names; quorums = quorums })
+    if key_count table == wanted_keys table then
+    option_and_then (λ names. option_and_then (λ quorums.
+    option_map (λ capacities. record { names = names; quorums = quorums; capacities = capacities })
+    (capacities_at (length names) table))
     (option_and_then text_lists_of (items_at (codes "quorums") table)))
     (option_and_then texts_of (items_at (codes "voters") table))
     else None
@@ -59,6 +91,10 @@ table_at text = ok_or (parse_document text) NotToml
 -- the lists that a text describes
 abbrev pub lists_at : List ℕ → Result NameLists FileFault
 lists_at text = table_at text >>= lists_in
+
+-- the array of these numbers
+abbrev pub integers : List ℕ → Items
+integers numbers = items_of (map (λ n. integer (pos n)) numbers)
 
 -- the array of these strings
 abbrev pub strings : List (List ℕ) → Items

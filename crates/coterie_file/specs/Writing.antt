@@ -1,6 +1,7 @@
 -- The text that is written for a coterie.
-use Rattle.std.specs.Prelude.{ℕ, List, ◌++◌, map, flat_map, codes}
+use Rattle.std.specs.Prelude.{ℕ, if◌then◌else◌, List, [], ◌++◌, map, flat_map, codes, decimal}
 use Rattle.std.specs.List.{join_by}
+use Rattle.quorum_set.specs.Capacities.{are_unit}
 use Rattle.coterie_file.specs.Named.{NamedSystem}
 use Rattle.coterie_file.specs.Names.{name_at}
 
@@ -16,8 +17,13 @@ name_list names = codes "[" ++ (join_by quoted (codes ", ") names ++ codes "]")
 abbrev pub quorum_line : List (List ℕ) → List ℕ → List ℕ
 quorum_line names members = codes "  " ++ (name_list (map (name_at names) members) ++ codes ",\n")
 
--- the text of a coterie: the voters' names, and a line for each quorum
+-- the line of the capacities, after a line end; it is left out if all capacities are 1
+abbrev pub capacity_line : List ℕ → List ℕ
+capacity_line capacities =
+    if are_unit capacities then [] else codes "\ncapacity = [" ++ (join_by decimal (codes ", ") capacities ++ codes "]")
+
+-- the text of a coterie: the voters' names, their capacities if one is not 1, and a line for each quorum
 abbrev pub coterie_text : NamedSystem → List ℕ
 coterie_text n =
-    codes "voters = " ++ (name_list n.names ++ (codes "\nquorums = [\n"
-    ++ (flat_map (quorum_line n.names) n.system.quorums ++ codes "]\n")))
+    codes "voters = " ++ (name_list n.names ++ (capacity_line n.capacities ++ (codes "\nquorums = [\n"
+    ++ (flat_map (quorum_line n.names) n.system.quorums ++ codes "]\n"))))

@@ -29,6 +29,12 @@ pub enum FileFault {
     /// This quorum lists a name twice.
     #[error("F6 RepeatedMember {0}")]
     RepeatedMember(usize),
+    /// The list of capacities has this many numbers, and there is another number of voters.
+    #[error("F7 CapacityCount {0}")]
+    CapacityCount(usize),
+    /// The capacity listed for this voter is not in 1 to 1000.
+    #[error("F8 BadCapacity {0}")]
+    BadCapacity(usize),
     /// The quorums are no coterie.
     #[error(transparent)]
     Coterie(CoterieFault),

@@ -2,7 +2,9 @@
 //!
 //! In `quorum_set` a coterie (Garcia-Molina and Barbara, JACM 32(4), 1985) has sets of voters'
 //! numbers. Here the voters also have names, and a text lists them. A voter's number is its place
-//! in `voters`, and a quorum's number is its place in `quorums`. `read_coterie` returns the coterie
+//! in `voters`, and a quorum's number is its place in `quorums`. Each voter has a capacity, a number
+//! from 1 to 1000: a voter of capacity 2 may be asked twice as often as one of capacity 1. A text
+//! may list the capacities in `capacity`. Otherwise they are 1. `read_coterie` returns the coterie
 //! or the first fault, as a function of the text alone (unless it runs out of memory). The programs
 //! that plan, deal and run over a coterie start from this crate. It knows nothing of plans.
 //!
@@ -11,11 +13,13 @@
 //! let named = read_coterie(alloc, text)?;
 //! named.coterie().quorum(1)          // the set of 1 and 2
 //! named.name(2)                      // "c"
+//! named.capacities()                 // 1, 1 and 1: the text has no key `capacity`
 //! write_coterie(alloc, &named)?      // the same coterie, a line for each quorum
 //! read_coterie(alloc, "voters = ['a', 'a']\nquorums = [['a']]")    // Err(FileFault::RepeatedName(1))
 //! ```
 #![tactic(auto)]
 
+mod capacities;
 mod fault;
 mod laws;
 mod lists;
@@ -26,8 +30,9 @@ mod writing;
 
 pub use fault::FileFault;
 pub use laws::{
-    first_repeat_is_least, lists_are_arrays_of_strings, names_have_no_fault,
-    quorums_have_the_listed_voters, texts_read_as_coteries,
+    capacities_are_arrays_of_integers, capacities_have_no_fault, first_repeat_is_least,
+    lists_are_arrays_of_strings, names_have_no_fault, quorums_have_the_listed_voters,
+    texts_read_as_coteries,
 };
 pub use named::Named;
 pub use reading::read_coterie;

@@ -6,9 +6,11 @@ ghost use Rattle.numbers.specs.Bounds.{max_voters};
 ghost use Rattle.coterie_file.specs.Answers.{Gives, unless};
 ghost use Rattle.coterie_file.specs.Lists.{listed};
 ghost use Rattle.coterie_file.specs.Names.{has_name, number_of, first_repeat, AreNames};
+ghost use Rattle.quorum_set.specs.Capacities.{AreCapacities};
 ghost use Rattle.coterie_file.specs.Reading.{quorum_of, system_of, lists_fault, coterie_at};
 ghost use Rattle.coterie_file.specs.declared.fault.FileFault.TheVariants.{Keys};
 
+use crate::capacities::{capacities_fault, kept};
 use crate::fault::FileFault;
 use crate::lists::NameLists;
 use crate::named::Named;
@@ -108,10 +110,13 @@ fn coterie_of(
     alloc: Global,
     names: &[String],
     quorums: &[Vec<String>],
+    capacities: &[u64],
 ) -> Result<Coterie, FileFault>
     ensures exact { Gives (λ c. c) result
-        (unless (lists_fault (listed names.now quorums.now)) (system_of (listed names.now quorums.now))) }
+        (unless (lists_fault (listed names.now quorums.now capacities.now))
+        (system_of (listed names.now quorums.now capacities.now))) }
     ensures names { OnOk result (AreNames (map string_bytes names.now)) }
+    ensures capacities { OnOk result (AreCapacities capacities.now (length names.now)) }
 {
     let voters = voters_of(alloc, names)?;
     if let Some(j) = first_unknown(&voters, quorums) {
@@ -119,6 +124,9 @@ fn coterie_of(
     }
     if let Some(j) = first_repeated(alloc, quorums)? {
         return Err(FileFault::RepeatedMember(j));
+    }
+    if let Some(fault) = capacities_fault(names.len(), capacities) {
+        return Err(fault);
     }
     if voters.len() > MAX_VOTERS {
         return Err(FileFault::Coterie(CoterieFault::TooManyVoters));
@@ -129,17 +137,20 @@ fn coterie_of(
 
 /// Returns the coterie that a text describes.
 ///
-/// The text is a TOML document with two keys: `voters`, an array of names, and `quorums`, an array
-/// of arrays of these names. A voter's number is its place in `voters`.
+/// The text is a TOML document with the keys `voters`, an array of names, and `quorums`, an array of
+/// arrays of these names. It may have a third key, `capacity`, an array of integers: one capacity
+/// for each voter, each from 1 to 1000. Without it each voter has capacity 1. A voter's number is
+/// its place in `voters`.
 ///
-/// Fails with the first fault of the text, or with `OutOfMemory`. Any text that is not blank may
-/// fail with `OutOfMemory`, since reading TOML allocates. A blank text, of white space, line ends
-/// and comments, fails with `Keys`.
+/// Fails with the first fault of the text, in the order of `FileFault`, or with `OutOfMemory`. Any
+/// text that is not blank may fail with `OutOfMemory`, since reading TOML allocates. A blank text,
+/// of white space, line ends and comments, fails with `Keys`.
 pub fn read_coterie(alloc: Global, text: &str) -> Result<Named, FileFault>
     ensures exact { Gives (λ n. n) result (coterie_at text.now) }
     ensures blank { IsBlank text.now → result ≡ Err Keys }
 {
     let lists = NameLists::of(alloc, text)?;
-    let coterie = coterie_of(alloc, &lists.names, &lists.quorums)?;
-    Ok(Named::with(coterie, lists.names))
+    let coterie = coterie_of(alloc, &lists.names, &lists.quorums, &lists.capacities)?;
+    let capacities = kept(&lists.capacities);
+    Ok(Named::with(coterie, lists.names, capacities))
 }

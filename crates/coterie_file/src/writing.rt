@@ -1,10 +1,10 @@
 //! Writing a coterie as text.
-ghost use Rattle.std.specs.Prelude.{◌≡◌, ◌<◌, [], length, map, All, IfOk, slice_index_or, string_bytes};
+ghost use Rattle.std.specs.Prelude.{◌≡◌, ◌<◌, [], decimal, length, map, All, IfOk, slice_index_or, string_bytes};
 ghost use Rattle.coterie_file.specs.Names.{name_at};
-ghost use Rattle.coterie_file.specs.Writing.{name_list, quorum_line, coterie_text};
+ghost use Rattle.coterie_file.specs.Writing.{name_list, quorum_line, capacity_line, coterie_text};
 
 use crate::named::Named;
-use quorum_set::QSet;
+use quorum_set::{QSet, are_unit};
 use std::alloc::{AllocError, Global};
 use std::convert::AsStr;
 
@@ -45,14 +45,38 @@ fn line_of(alloc: Global, named: &Named, j: usize) -> Result<String, AllocError>
     format!(in alloc; "  {list},\n")
 }
 
+/// Returns the decimal texts of the numbers.
+fn texts_of(alloc: Global, numbers: &[u64]) -> Result<Vec<String>, AllocError>
+    ensures { IfOk result (λ v. map string_bytes v.items ≡ map decimal numbers.now) }
+{
+    let mut texts = Vec::with_capacity(alloc, numbers.len())?;
+    for number in numbers {
+        texts.push(format!(in alloc; "{number}")?)?;
+    }
+    Ok(texts)
+}
+
+/// Returns the line of the capacities, after a line end. It is empty if all capacities are 1.
+fn capacity_line(alloc: Global, capacities: &[u64]) -> Result<String, AllocError>
+    ensures { IfOk result (λ t. string_bytes t ≡ capacity_line capacities.now) }
+{
+    if are_unit(capacities) {
+        return Ok(String::new(alloc));
+    }
+    let list = texts_of(alloc, capacities)?.join(alloc, ", ")?;
+    format!(in alloc; "\ncapacity = [{list}]")
+}
+
 /// Returns the text of a coterie: a TOML document that `read_coterie` reads back. The names are in
-/// the order of their voters' numbers. Each quorum is on a line of its own, with its members in
+/// the order of their voters' numbers. The capacities are on the second line if one of them is not
+/// 1; otherwise they are left out. Each quorum is on a line of its own, with its members in
 /// ascending order.
 pub fn write_coterie(alloc: Global, named: &Named) -> Result<String, AllocError>
     ensures layout { IfOk result (λ t. string_bytes t ≡ coterie_text named.now) }
 {
     let voters = list_of(alloc, named.names())?;
-    let mut text = format!(in alloc; "voters = {voters}\nquorums = [\n")?;
+    let capacities = capacity_line(alloc, named.capacities())?;
+    let mut text = format!(in alloc; "voters = {voters}{capacities}\nquorums = [\n")?;
     for j in 0..named.coterie().count() {
         let line = line_of(alloc, named, j)?;
         text.push_str(&line)?;

@@ -9,7 +9,7 @@ use Rattle.std.proofs.Math.Nat.{le_of_mul-le-mul_right, mod-lt, mul_assoc, mul_c
 use Rattle.quorum_set.specs.Coteries.{QuorumSystem}
 use Rattle.quorum_set.specs.Counts.{count_of, busiest_of}
 use Rattle.numbers.specs.Counts.{greatest_below, times}
-use Rattle.certificate.specs.Certificates.{Weighted, IsCertificate, IsOptimal, cycle_len, busiest_count}
+use Rattle.certificate.specs.Certificates.{Weighted, IsCertificate, IsUnitOptimal, cycle_len, busiest_count}
 use Rattle.certificate.specs.Loads.{weight_on}
 use Rattle.dealer.specs.declared.account.Account.{Account}
 use Rattle.dealer.specs.Cycles.{cycle_of, quorum_of_ticket}
@@ -115,16 +115,21 @@ voters-from_quorums w tickets s counts voters by_quorum same counted summed =
     ∙ sym (values_below-same w.system.voters (λ i. count_of w.system i (quorums_named w tickets)) (λ i. weight_on i w.system.quorums (account_of w tickets).quorums) by_quorum)
 
 -- an account by its parts
-pub account_of-parts : (w : Weighted) (tickets quorums voters : List ℕ) (busiest : ℕ)
+pub account_of-parts : (w : Weighted) (tickets quorums voters : List ℕ) (busiest : ℕ) (ratio : ℕ × ℕ)
     → quorums ≡ (account_of w tickets).quorums → voters ≡ (account_of w tickets).voters → busiest ≡ (account_of w tickets).busiest
-    → ◌≡◌ {A = Account} (record { drawn = length tickets; quorums = quorums; voters = voters; busiest = busiest }) (account_of w tickets)
-account_of-parts w tickets quorums voters busiest in_quorums in_voters most =
-    let made : List ℕ → List ℕ → ℕ → Account = λ q v b. record { drawn = length tickets; quorums = q; voters = v; busiest = b } in
+    → ratio ≡ (account_of w tickets).ratio
+    → ◌≡◌ {A = Account} (record { drawn = length tickets; quorums = quorums; voters = voters; busiest = busiest; ratio = ratio }) (account_of w tickets)
+account_of-parts w tickets quorums voters busiest ratio in_quorums in_voters most greatest =
+    let made : List ℕ → List ℕ → ℕ → ℕ × ℕ → Account =
+    λ q v b r. record { drawn = length tickets; quorums = q; voters = v; busiest = b; ratio = r } in
     let whole = account_of w tickets in
-    ap (λ q. made q voters busiest) in_quorums ∙ ap (λ v. made whole.quorums v busiest) in_voters ∙ ap (made whole.quorums whole.voters) most
+    ap (λ q. made q voters busiest ratio) in_quorums
+    ∙ ap (λ v. made whole.quorums v busiest ratio) in_voters
+    ∙ ap (λ b. made whole.quorums whole.voters b ratio) most
+    ∙ ap (made whole.quorums whole.voters whole.busiest) greatest
 
--- k cycles are dealt as evenly as any quorums in equal number
-pub busiest_of-least : (w : Weighted) (k : ℕ) (list : List ℕ) → IsCertificate w → IsOptimal w → length list ≡ k * cycle_len w → All (λ j. j < length w.system.quorums) list
+-- with capacities that are all 1, k cycles are dealt as evenly as any quorums in equal number
+pub busiest_of-least : (w : Weighted) (k : ℕ) (list : List ℕ) → IsCertificate w → IsUnitOptimal w → length list ≡ k * cycle_len w → All (λ j. j < length w.system.quorums) list
     → k * busiest_count w ≤ busiest_of w.system list
 busiest_of-least w k list is optimal long within =
     scaled k (cycle_len w) (length list) (busiest_count w) (busiest_of w.system list) is.some_quorum long (optimal list within)

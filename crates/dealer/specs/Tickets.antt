@@ -43,7 +43,7 @@ joined v w = hand v.cycle (v.rest + w.rest) (v.drawn ++ w.drawn)
 
 -- what is left of a seat that joined another
 abbrev pub nothing : Hand
-nothing = hand (record { system = record { voters = 0; quorums = [] }; quorum_weights = []; voter_weights = [] }) 0 []
+nothing = hand (record { system = record { voters = 0; quorums = [] }; capacities = []; quorum_weights = []; voter_weights = [] }) 0 []
 
 -- The end of an office, as a seat sees it. The seat has no more than the quota. If it has all of
 -- it, it has all tickets that were drawn.

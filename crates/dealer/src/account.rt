@@ -20,6 +20,9 @@ pub struct Account {
     pub voters: Counts,
     /// The greatest count of a voter, or 0 if there is no ticket.
     pub busiest: u64,
+    /// The greatest count of a voter, divided by the voter's capacity: a numerator and a denominator
+    /// in lowest terms. It is 0/1 if there is no ticket.
+    pub ratio: (u64, u64),
 }
 
 /// Returns how often each voter is used if each quorum is used as often as `counts` says.

@@ -1,16 +1,19 @@
 //! The cycle of a plan.
-ghost use Rattle.std.specs.Prelude.{◌≡◌, ◌<◌, ◌*◌, ℕ, length, map, slice_index, IfOk, IfErr};
+ghost use Rattle.std.specs.Prelude.{◌≡◌, ◌<◌, ◌*◌, ℕ, true, length, map, slice_index, IfOk, IfErr};
 ghost use Rattle.numbers.specs.Counts.{times};
+ghost use Rattle.quorum_set.specs.Capacities.{are_unit};
 ghost use Rattle.certificate.specs.Certificates.{IsCertificate, IsOptimal, busiest_count, cycle_len};
 ghost use Rattle.dealer.specs.Cycles.{cycle_of, quorum_of_ticket};
 ghost use Rattle.dealer.specs.Blocks.{listed_quorums, AreBlocksOf};
-ghost use Rattle.dealer.specs.Accounts.{account_of, quorums_named, values_below, IsWholeCycles, IsLeastBusiest};
+ghost use Rattle.dealer.specs.Accounts.{account_of, quorums_named, ratio_of_cycles, values_below, IsWholeCycles, IsLeastBusiest, IsLeastRatio};
 
 use crate::account::{Account, counts_of_voters, greatest_of};
 use crate::counts::Counts;
 use crate::laws::{voters_are_counted_by_quorum, whole_cycles_follow_weights};
 use crate::rounds::{Block, Listed, blocks_of, listed_of, lists_of, place_in, quorum_in};
-use certificate::Plan;
+use certificate::{
+    Plan, greatest_ratio, no_list_has_a_smaller_ratio, unit_capacities_change_nothing,
+};
 use std::alloc::{AllocError, Global};
 use std::marker::Model;
 
@@ -71,7 +74,7 @@ impl Cycle {
         ensures err { IfErr result (λ refusal. refusal.0 ≡ plan) }
     {
         // Called for its contract alone, which says what is proved of every plan.
-        let _ = plan.busiest();
+        let _ = plan.ratio();
         match rounds_of(alloc, &plan) {
             Ok((listed, blocks)) => Ok(Cycle {
                 plan,
@@ -129,7 +132,8 @@ impl Cycle {
     /// Returns the account of a list of tickets, in any order. Fails only if it runs out of memory.
     ///
     /// The tickets of whole cycles use each quorum as often as its weight says. No list of that
-    /// length uses its busiest voter less often.
+    /// length has a smaller ratio. If all capacities are 1, no list of that length uses its busiest
+    /// voter less often.
     pub fn account(&self, alloc: Global, tickets: &[u64]) -> Result<Account, AllocError>
         ensures value { IfOk result (λ account. account ≡ account_of self.now tickets.now) }
 
@@ -137,22 +141,33 @@ impl Cycle {
         ensures shares { (k : ℕ) → IsWholeCycles self.now k tickets.now →
             IfOk result (λ account.
             account.quorums ≡ map (λ weight. k * weight) self.now.quorum_weights) }
-        // .. and the busiest voter k times the busiest count. No list of that length does better.
+        // .. and the busiest voter k times the busiest count. The ratio is k times the cycle's.
         ensures even { (k : ℕ) → IsWholeCycles self.now k tickets.now →
             IfOk result (λ account. account.busiest ≡ k * busiest_count self.now) }
-        ensures least { (k : ℕ) → IsWholeCycles self.now k tickets.now →
+        ensures ratio { (k : ℕ) → IsWholeCycles self.now k tickets.now →
+            IfOk result (λ account. account.ratio ≡ ratio_of_cycles self.now k) }
+
+        // No list of that length has a smaller ratio. If all capacities are 1, none has a smaller
+        // busiest count.
+        ensures least_ratio { (k : ℕ) → IsWholeCycles self.now k tickets.now →
+            IfOk result (λ account. IsLeastRatio self.now account.drawn account.ratio) }
+        ensures least { (k : ℕ) → are_unit self.now.capacities ≡ true → IsWholeCycles self.now k tickets.now →
             IfOk result (λ account. IsLeastBusiest self.now account.drawn account.busiest) }
     {
         voters_are_counted_by_quorum();
         whole_cycles_follow_weights();
+        no_list_has_a_smaller_ratio();
+        unit_capacities_change_nothing();
         let quorums = self.counts_of_quorums(alloc, tickets)?;
         let voters = counts_of_voters(alloc, self.plan.coterie(), &quorums)?;
         let busiest = greatest_of(&voters);
+        let ratio = greatest_ratio(&voters, self.plan.capacities());
         Ok(Account {
             drawn: tickets.len() as u64,
             quorums: Counts::from(quorums),
             voters: Counts::from(voters),
             busiest,
+            ratio,
         })
     }
 }

@@ -5,8 +5,9 @@ ghost use Rattle.quorum_set.specs.Counts.{count_of, busiest_of};
 ghost use Rattle.numbers.specs.Counts.{times};
 ghost use Rattle.certificate.specs.Certificates.{Weighted, IsCertificate, busiest_count, cycle_len};
 ghost use Rattle.certificate.specs.Loads.{weight_on};
+ghost use Rattle.certificate.specs.Ratios.{ratio_of};
 ghost use Rattle.dealer.specs.Cycles.{cycle_of, quorum_of_ticket, GoesByTurns};
-ghost use Rattle.dealer.specs.Accounts.{account_of, quorums_named, IsWholeCycles};
+ghost use Rattle.dealer.specs.Accounts.{account_of, quorums_named, ratio_of_cycles, IsWholeCycles};
 
 use certificate::whole_cycles_are_even;
 
@@ -40,13 +41,16 @@ pub fn voters_are_counted_by_quorum()
 }
 
 /// The tickets of k whole cycles use each quorum k times its weight, and their busiest voter k
-/// times the busiest count.
+/// times the busiest count. Their ratio is k times the ratio of the cycle.
 pub fn whole_cycles_follow_weights()
     ensures shares { (w : Weighted) (k : ℕ) (tickets : List ℕ) → IsWholeCycles w k tickets →
         (j : ℕ) → times j (quorums_named w tickets) ≡ k * slice_index w.quorum_weights j }
     ensures even { (w : Weighted) (k : ℕ) (tickets : List ℕ) →
         IsCertificate w → IsWholeCycles w k tickets →
         busiest_of w.system (quorums_named w tickets) ≡ k * busiest_count w }
+    ensures ratio { (w : Weighted) (k : ℕ) (tickets : List ℕ) →
+        IsCertificate w → IsWholeCycles w k tickets →
+        ratio_of w.system w.capacities (quorums_named w tickets) ≡ ratio_of_cycles w k }
 {
     whole_cycles_are_even();
 }

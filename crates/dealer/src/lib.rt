@@ -15,10 +15,11 @@
 //! within the round. If the round lists all of them, as the rounds of the first block do, the place
 //! is an index.
 //!
-//! An [`Account`] says how often a list of tickets uses each quorum and each voter. This is proved
-//! of k whole cycles: they use each quorum k times its weight, and no list of that length uses its
-//! busiest voter less often (Naor and Wool, SIAM J. Comput. 27(2), 1998, section 2: the load of a
-//! strategy).
+//! An [`Account`] says how often a list of tickets uses each quorum and each voter. Its ratio is the
+//! greatest count of a voter, divided by the voter's capacity. This is proved of k whole cycles:
+//! they use each quorum k times its weight, and no list of that length has a smaller ratio. If all
+//! capacities are 1, no list of that length uses its busiest voter less often (Naor and Wool, SIAM
+//! J. Comput. 27(2), 1998, section 2: the load of a strategy).
 //!
 //! ```text
 //! // The wheel with three rims, quorums {0,1}, {0,2}, {0,3}, {1,2,3} with the weights 1, 1, 1, 2:
@@ -55,8 +56,8 @@
 //! Not proved: in which order threads draw, and that there is memory for a receipt. If there is
 //! none, no ticket is taken.
 //!
-//! Depends on `certificate`, whose [`Plan`](certificate::Plan) it takes, on `quorum_set` and
-//! `numbers`, and on `atomic_table`. Everything that draws quorums depends on this crate.
+//! Depends on `certificate`, whose [`Plan`](certificate::Plan) it takes, on `quorum_set`, `divisor`
+//! and `numbers`, and on `atomic_table`. Everything that draws quorums depends on this crate.
 #![tactic(auto)]
 
 mod account;

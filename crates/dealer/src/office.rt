@@ -1,10 +1,11 @@
 //! Offices: tickets for the clerks of any number of threads.
-ghost use Rattle.std.specs.Prelude.{◌≡◌, ℕ, ◌+◌, ◌-◌, ◌*◌, ◌<◌, ◌≤◌, [], ◌∷◌, ◌++◌, length, map, IfOk, IfErr};
+ghost use Rattle.std.specs.Prelude.{◌≡◌, ℕ, true, ◌+◌, ◌-◌, ◌*◌, ◌<◌, ◌≤◌, [], ◌∷◌, ◌++◌, length, map, IfOk, IfErr};
 ghost use Rattle.std.specs.List.{All};
 ghost use Rattle.numbers.specs.Bounds.{max_tickets};
 ghost use Rattle.numbers.specs.Sums.{AreAllBelow};
+ghost use Rattle.quorum_set.specs.Capacities.{are_unit};
 ghost use Rattle.certificate.specs.Certificates.{busiest_count, cycle_len};
-ghost use Rattle.dealer.specs.Accounts.{account_of, IsWholeCycles, IsLeastBusiest};
+ghost use Rattle.dealer.specs.Accounts.{account_of, ratio_of_cycles, IsLeastBusiest, IsLeastRatio};
 ghost use Rattle.dealer.specs.Offices.{receipt_of, tickets_of, share_of, AreByCycle, RefusesTicket, RefusesAccount};
 
 use crate::account::Account;
@@ -55,7 +56,11 @@ fn account_of_all(alloc: Global, cycle: &Cycle, receipts: &[Receipt]) -> Result<
         IfOk result (λ account. account.quorums ≡ map (λ weight. k * weight) cycle.now.quorum_weights) }
     ensures even { (k : ℕ) → length receipts.now ≡ k * cycle_len cycle.now →
         IfOk result (λ account. account.busiest ≡ k * busiest_count cycle.now) }
-    ensures least { (k : ℕ) → length receipts.now ≡ k * cycle_len cycle.now →
+    ensures ratio { (k : ℕ) → length receipts.now ≡ k * cycle_len cycle.now →
+        IfOk result (λ account. account.ratio ≡ ratio_of_cycles cycle.now k) }
+    ensures least_ratio { (k : ℕ) → length receipts.now ≡ k * cycle_len cycle.now →
+        IfOk result (λ account. IsLeastRatio cycle.now account.drawn account.ratio) }
+    ensures least { (k : ℕ) → are_unit cycle.now.capacities ≡ true → length receipts.now ≡ k * cycle_len cycle.now →
         IfOk result (λ account. IsLeastBusiest cycle.now account.drawn account.busiest) }
 {
     let tickets = ticket_numbers(alloc, receipts)?;
@@ -166,11 +171,19 @@ impl Office {
         ensures shares { (k : ℕ) → length clerk.receipts ≡ k * cycle_len self.name.cycle →
             IfOk result (λ closed.
             closed.0.quorums ≡ map (λ weight. k * weight) self.name.cycle.quorum_weights) }
-        // .. and the busiest voter k times the busiest count. No list of that length does better.
+        // .. and the busiest voter k times the busiest count. The ratio is k times the cycle's.
         ensures even { (k : ℕ) → length clerk.receipts ≡ k * cycle_len self.name.cycle →
             IfOk result (λ closed. closed.0.busiest ≡ k * busiest_count self.name.cycle) }
-        ensures least { (k : ℕ) → length clerk.receipts ≡ k * cycle_len self.name.cycle →
+        ensures ratio { (k : ℕ) → length clerk.receipts ≡ k * cycle_len self.name.cycle →
+            IfOk result (λ closed. closed.0.ratio ≡ ratio_of_cycles self.name.cycle k) }
+
+        // No list of that length has a smaller ratio. If all capacities are 1, none has a smaller
+        // busiest count.
+        ensures least_ratio { (k : ℕ) → length clerk.receipts ≡ k * cycle_len self.name.cycle →
             IfOk result (λ closed.
+            IsLeastRatio self.name.cycle closed.0.drawn closed.0.ratio) }
+        ensures least { (k : ℕ) → are_unit self.name.cycle.capacities ≡ true
+            → length clerk.receipts ≡ k * cycle_len self.name.cycle → IfOk result (λ closed.
             IsLeastBusiest self.name.cycle closed.0.drawn closed.0.busiest) }
 
         ensures err { IfErr result (λ unclosed.

@@ -2,7 +2,8 @@
 //! crates that read them: that no prefix of a record is a record, and what happens with more than
 //! 64 voters or 4096 quorums.
 use program_runs::{
-    MAJORITY, MAJORITY_PLAN, ONE, Row, WHEEL, WHEEL_PLAN, answer, answer_planned, first_wrong, plan,
+    FAST_HUB, FAST_HUB_PLAN, MAJORITY, MAJORITY_PLAN, ONE, Row, WHEEL, WHEEL_PLAN, answer,
+    answer_planned, first_wrong, plan,
 };
 use std::alloc::{AllocError, Global};
 use std::sync::Wait;
@@ -29,7 +30,11 @@ fn refused_beginnings<T: Threads + Wait + Sync>(
 
 #[test]
 fn no_prefix_of_a_plan_is_one(rt: HostRuntime) -> Result<(), Fail> {
-    for (coterie, plan) in [(MAJORITY, MAJORITY_PLAN), (WHEEL, WHEEL_PLAN)] {
+    for (coterie, plan) in [
+        (MAJORITY, MAJORITY_PLAN),
+        (WHEEL, WHEEL_PLAN),
+        (FAST_HUB, FAST_HUB_PLAN),
+    ] {
         let refused = refused_beginnings(&rt, rt.alloc(), coterie, plan)?;
         assert!(rt; refused == plan.len());
     }

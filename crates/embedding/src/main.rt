@@ -89,7 +89,7 @@ fn serve<N: ClusterName>(rt: &impl Wait, alloc: Global, blank: Blank) -> Option<
 /// Reads the coterie, plans it, and serves. Returns `None` if any call fails.
 fn run(rt: &impl Wait, alloc: Global) -> Option<String> {
     let named = read_coterie(alloc, COTERIE).ok()?;
-    let plan = plan(alloc, named.coterie()).ok()?;
+    let plan = plan(alloc, named.coterie(), named.capacities()).ok()?;
     let blank = Blank::new(alloc, plan, CLIENTS, QUOTA).ok()?;
     serve::<Brand>(rt, alloc, blank)
 }

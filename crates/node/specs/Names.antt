@@ -21,7 +21,7 @@ no_cluster = record {
   };
   office = record {
     table = record { words = 0; slots = 0; views_name = 0; atom = 0; block = 0; offset = 0; slot_names = [] };
-    cycle = record { system = record { voters = 0; quorums = [] }; quorum_weights = []; voter_weights = [] };
+    cycle = record { system = record { voters = 0; quorums = [] }; capacities = []; quorum_weights = []; voter_weights = [] };
   };
   quota = 0;
 }

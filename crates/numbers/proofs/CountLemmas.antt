@@ -69,6 +69,24 @@ greatest_below-le (suc n) f i lt =
       | inr off ↦ omega (arith, greatest_below-le n f i (omega arith))
     ]
 
+-- it is one of the values
+pub greatest_below-reached : (n : ℕ) (f : ℕ → ℕ) → 0 < n → (i : ℕ) × (i < n) × (greatest_below n f ≡ f i)
+greatest_below-reached zero f some = absurd (omega arith)
+greatest_below-reached (suc n) f some =
+    elim (cases_lt (f n) (greatest_below n f)) [
+      | inl less ↦
+          elim (cases_lt 0 n) [
+            | inl more ↦
+                let found = greatest_below-reached n f more in
+                (found.0, omega (arith, found.1), omega (arith, found.2, less))
+            | inr none ↦ let at : greatest_below n f ≡ 0 = ap (λ m. greatest_below m f) (only n none) in absurd (omega (arith, at, less))
+          ]
+      | inr last ↦ (n, omega arith, omega (arith, last))
+    ]
+  where
+    only : (n : ℕ) → n ≤ 0 → n ≡ 0
+    only n le = omega arith
+
 pub greatest_below-bound : (n : ℕ) (f : ℕ → ℕ) (m : ℕ) → ((i : ℕ) → i < n → f i ≤ m) → greatest_below n f ≤ m
 greatest_below-bound zero f m most = omega arith
 greatest_below-bound (suc n) f m most =

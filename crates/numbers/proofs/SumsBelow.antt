@@ -1,5 +1,5 @@
 -- Sums over the numbers below a bound, and over lists of numbers.
-use Rattle.std.proofs.Common.{◌≡◌, ℕ, ◌+◌, ◌*◌, ◌%◌, ◌<◌, Bool, cond, eqb, leb, List, [], ◌∷◌, length, get_or, zero, suc, sum_by, sym, refl, ap, ◌∙◌, inl, inr, arith}
+use Rattle.std.proofs.Common.{◌≡◌, ℕ, ◌+◌, ◌*◌, ◌%◌, ◌<◌, ◌≤◌, Bool, cond, eqb, leb, List, [], ◌∷◌, length, get_or, zero, suc, sum_by, sym, refl, ap, ◌∙◌, inl, inr, arith}
 use Rattle.std.proofs.lemmas.Bool.{cases_eq, cases_lt, eq-eqb, ne_eqb, le-leb, lt-leb}
 use Rattle.std.proofs.lemmas.List.Sums.{sum_by-cons}
 use Rattle.std.proofs.lemmas.Nat.{mod-mul-add}
@@ -11,6 +11,10 @@ use Rattle.numbers.proofs.SetLemmas.{has-below, has-head, has-tail}
 pub sum_below-same : (n : ℕ) (f g : ℕ → ℕ) → ((i : ℕ) → i < n → f i ≡ g i) → sum_below f n ≡ sum_below g n
 sum_below-same zero f g same = refl
 sum_below-same (suc n) f g same = omega (arith, sum_below-same n f g (λ i lt. same i (omega arith)), same n (omega arith))
+
+pub sum_below-le : (n : ℕ) (f g : ℕ → ℕ) → ((i : ℕ) → i < n → f i ≤ g i) → sum_below f n ≤ sum_below g n
+sum_below-le zero f g less = omega arith
+sum_below-le (suc n) f g less = omega (arith, sum_below-le n f g (λ i lt. less i (omega arith)), less n (omega arith))
 
 pub sum_below-zero : (n : ℕ) → sum_below (λ i. 0) n ≡ 0
 sum_below-zero zero = refl

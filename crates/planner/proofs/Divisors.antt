@@ -42,8 +42,8 @@ HaveNoCommonDivisor-ones zero some = absurd (omega arith)
 HaveNoCommonDivisor-ones (suc n) some = λ d all. eq-one_of_dvd-one (all 0 0 (omega arith))
 
 -- a plan of all weights 1
-pub HaveNoCommonDivisor-all_ones : (s : QuorumSystem) (p : Weighted) → p ≡ all_ones s → IsCertificate p → HaveNoCommonDivisor p.quorum_weights × HaveNoCommonDivisor p.voter_weights
-HaveNoCommonDivisor-all_ones s p e is =
+pub HaveNoCommonDivisor-all_ones : (s : QuorumSystem) (capacities : List ℕ) (p : Weighted) → p ≡ all_ones s capacities → IsCertificate p → HaveNoCommonDivisor p.quorum_weights × HaveNoCommonDivisor p.voter_weights
+HaveNoCommonDivisor-all_ones s capacities p e is =
     let quorums = subst (λ (w : Weighted). 0 < length w.system.quorums) e is.coterie.some_quorum in
     let voters = subst (λ (w : Weighted). 0 < w.system.voters) e is.coterie.some_voter in
     (subst HaveNoCommonDivisor (sym (ap (λ (w : Weighted). w.quorum_weights) e)) (HaveNoCommonDivisor-ones (length s.quorums) quorums), subst HaveNoCommonDivisor (sym (ap (λ (w : Weighted). w.voter_weights) e)) (HaveNoCommonDivisor-ones s.voters voters))

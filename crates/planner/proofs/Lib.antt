@@ -1,3 +1,4 @@
+pub mod CauseLemmas
 pub mod Degrees
 pub mod Divisors
 pub mod Ones

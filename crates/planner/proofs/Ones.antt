@@ -1,19 +1,23 @@
--- All weights 1 are a certificate exactly of a uniform coterie.
+-- All weights 1 are a certificate exactly of a uniform coterie, if all voters have the same capacity.
 use Rattle.std.proofs.Common.{◌≡◌, ℕ, ◌+◌, ◌*◌, ◌<◌, ◌≤◌, ◌↔◌, cond, List, [], ◌∷◌, length, get_or, zero, suc, sum, count_by, sym, ap, refl, subst, ◌∙◌, arith}
 use Rattle.std.specs.List.{All}
+use Rattle.std.specs.Int.{IsGcd}
+use Rattle.std.proofs.lemmas.List.{get_or-replicate}
 use Rattle.std.proofs.lemmas.List.Sums.{sum_by-cons}
 use Rattle.std.proofs.lemmas.List.Folds.{sum_by-replicate}
 use Rattle.std.proofs.lemmas.List.Elements.{All-head, All-tail}
+use Rattle.std.proofs.lemmas.Nat.Gcd.{same_from_IsGcd, IsGcd-from_zero}
+use Rattle.std.proofs.Math.Nat.{mul_left_comm, mul_assoc, eq_of_mul-eq-mul_left, le_of_mul-le-mul_right}
 use Rattle.numbers.specs.Sets.{has, Ascends}
+use Rattle.quorum_set.specs.Capacities.{AreCapacities}
 use Rattle.quorum_set.specs.Coteries.{QuorumSystem, IsCoterie}
-use Rattle.numbers.specs.Counts.{greatest_below}
 use Rattle.certificate.specs.Loads.{weight_on, weight_within}
 use Rattle.numbers.specs.Counts.{least_of}
-use Rattle.certificate.specs.Certificates.{IsCertificate, busiest_count, lightest_quorum}
-use Rattle.numbers.proofs.CountLemmas.{least_of-le, greatest_below-le}
+use Rattle.certificate.specs.Certificates.{IsCertificate, capacity_total, cycle_count, cycle_ratio, lightest_quorum}
+use Rattle.numbers.proofs.CountLemmas.{least_of-le}
 use Rattle.numbers.specs.Sums.{sum_below}
 use Rattle.numbers.proofs.SetLemmas.{Ascends-all_below}
-use Rattle.planner.specs.Uniform.{IsUniform, ones, all_ones, degree_of}
+use Rattle.planner.specs.Uniform.{AreEqual, IsUniform, ones, all_ones, degree_of}
 use Rattle.planner.proofs.Degrees.{sum_below-degrees, sum_below-level, sum_below-level_from_most, sum_by-level, sum_by-level_from_least, sum_below-most, sum_by-least}
 
 -- the weight on a voter's quorums is the voter's degree
@@ -22,23 +26,13 @@ weight_on-ones i [] = refl
 weight_on-ones i (q ∷ qs) = ap (λ t. cond (has q i) 1 0 + t) (weight_on-ones i qs) ∙ sym (sum_by-cons (λ q. cond (has q i) 1 0) q qs)
 
 get_or-ones : (n i : ℕ) → i < n → get_or (ones n) i 0 ≡ 1
-get_or-ones zero i lt = absurd (omega arith)
-get_or-ones (suc n) zero lt = refl
-get_or-ones (suc n) (suc i) lt = get_or-ones n i (omega arith)
+get_or-ones n i lt = get_or-replicate {A = ℕ} n i 1 0 lt
 
 -- the weight of a quorum's members is its size
 weight_within-ones : (n : ℕ) (q : List ℕ) → All (λ i. i < n) q → weight_within (ones n) q ≡ length q
 weight_within-ones n [] h = refl
 weight_within-ones n (x ∷ xs) h =
     omega (arith, sum_by-cons (λ i. get_or (ones n) i 0) x xs, get_or-ones n x (All-head (λ i. i < n) x xs h), weight_within-ones n xs (All-tail (λ i. i < n) x xs h))
-
-greatest_below-level : (n : ℕ) (f : ℕ → ℕ) (m : ℕ) → 0 < n → ((i : ℕ) → i < n → f i ≡ m) → greatest_below n f ≡ m
-greatest_below-level zero f m some level = absurd (omega arith)
-greatest_below-level (suc zero) f m some level = let last = level 0 (omega arith) in omega arith
-greatest_below-level (suc (suc n)) f m some level =
-    let last = level (suc n) (omega arith) in
-    let rest = greatest_below-level (suc n) f m (omega arith) (λ i lt. level i (omega arith)) in
-    omega (arith, last, rest)
 
 least_of-level : (f : List ℕ → ℕ) (qs : List (List ℕ)) (t : ℕ) → 0 < length qs → All (λ q. f q ≡ t) qs → least_of f qs ≡ t
 least_of-level f [] t some h = absurd (omega arith)
@@ -66,8 +60,38 @@ length-ones : (n : ℕ) → length (ones n) ≡ n
 length-ones zero = refl
 length-ones (suc n) = ap suc (length-ones n)
 
-pub IsCertificate-uniform : (s : QuorumSystem) → IsCoterie s → IsUniform s → IsCertificate (all_ones s)
-IsCertificate-uniform s h u =
+-- all capacities are c, at each place
+get_or-equal : (capacities : List ℕ) (n : ℕ) → AreCapacities capacities n → (equal : AreEqual capacities) → (i : ℕ) → i < n → get_or capacities i 0 ≡ equal.0
+get_or-equal capacities n are equal i lt = equal.1 i 0 (omega (arith, are.one_each))
+
+-- weights 1 and capacities c total n times c
+capacity_total-ones : (s : QuorumSystem) (capacities : List ℕ) → AreCapacities capacities s.voters → (equal : AreEqual capacities) → capacity_total (all_ones s capacities) ≡ s.voters * equal.0
+capacity_total-ones s capacities are equal =
+    sum_below-level s.voters equal.0 (λ i. get_or (ones s.voters) i 0 * get_or capacities i 0) (λ i lt. times_one _ _ _ (get_or-ones s.voters i lt) (get_or-equal capacities s.voters are equal i lt))
+  where
+    times_one : (a b c : ℕ) → a ≡ 1 → b ≡ c → a * b ≡ c
+    times_one a b c ea eb = rw ea (omega (arith, eb))
+
+-- no voter's count, divided by its capacity, is above the ratio; some voter's count reaches it; the
+-- ratio is in lowest terms
+pub record IsTop (n : ℕ) (capacities : List ℕ) (count : ℕ → ℕ) (ratio : ℕ × ℕ) : Type 0 where
+  pub bound : (i : ℕ) → i < n → count i * ratio.1 ≤ ratio.0 * get_or capacities i 0
+  pub reached : (i : ℕ) × (i < n) × (count i * ratio.1 ≡ ratio.0 * get_or capacities i 0)
+  pub lowest : IsGcd ratio.0 ratio.1 1
+
+-- of the cycle of all weights 1
+abbrev pub HasTop : QuorumSystem → List ℕ → Type 0
+HasTop s capacities = IsTop s.voters capacities (cycle_count (all_ones s capacities)) (cycle_ratio (all_ones s capacities))
+
+-- the count of the voter that reaches the ratio p / q, for capacities that are all c
+reached-degree : (s : QuorumSystem) (capacities : List ℕ) → AreCapacities capacities s.voters → (equal : AreEqual capacities) → HasTop s capacities → (i : ℕ) × (i < s.voters) × (degree_of s i * (cycle_ratio (all_ones s capacities)).1 ≡ (cycle_ratio (all_ones s capacities)).0 * equal.0)
+reached-degree s capacities are equal top =
+    let r : ℕ × ℕ = cycle_ratio (all_ones s capacities) in
+    let at = top.reached in
+    (at.0, at.1, ap (λ d. d * r.1) (sym (weight_on-ones at.0 s.quorums)) ∙ at.2 ∙ ap (λ c. r.0 * c) (get_or-equal capacities s.voters are equal at.0 at.1))
+
+pub IsCertificate-uniform : (s : QuorumSystem) (capacities : List ℕ) → IsCoterie s → AreCapacities capacities s.voters → AreEqual capacities → HasTop s capacities → IsUniform s → IsCertificate (all_ones s capacities)
+IsCertificate-uniform s capacities h are equal top u =
     let n : ℕ = s.voters in
     let q : ℕ = length s.quorums in
     let some_voter = h.some_voter in
@@ -76,37 +100,53 @@ IsCertificate-uniform s h u =
     let few_quorums = h.few_quorums in
     let cycle = sum-ones q in
     let total = sum-ones n in
-    let most : busiest_count (all_ones s) ≡ u.degree = greatest_below-level n (λ i. weight_on i s.quorums (ones q)) u.degree some_voter (λ i lt. weight_on-ones i s.quorums ∙ u.voters i lt) in
-    let least : lightest_quorum (all_ones s) ≡ u.size = least_of-level (weight_within (ones n)) s.quorums u.size some_quorum (λ j d lt. weight_within-ones_at s h j d lt ∙ u.quorums j d lt) in
+    let at = reached-degree s capacities are equal top in
+    let most = ap (λ d. d * (cycle_ratio (all_ones s capacities)).1) (sym (u.voters at.0 at.1)) ∙ at.2 in
+    let least : lightest_quorum (all_ones s capacities) ≡ u.size = least_of-level (weight_within (ones n)) s.quorums u.size some_quorum (λ j d lt. weight_within-ones_at s h j d lt ∙ u.quorums j d lt) in
     let degrees = sum_below-degrees n s.quorums (Ascends-quorums s h) in
     let level : sum_below (degree_of s) n ≡ n * u.degree = sum_below-level n u.degree (degree_of s) u.voters in
     let sizes = sum_by-level u.size s.quorums u.quorums in
     let twice : n * u.degree ≡ q * u.size = sym level ∙ degrees ∙ sizes in
     record {
       coterie = h;
+      capacities = are;
       quorums = length-ones q;
       voters = length-ones n;
       some_quorum = omega arith;
       few_quorums = omega arith;
       some_voter = omega arith;
       few_voters = omega arith;
-      balanced = meeting _ _ _ _ u.degree u.size n q most total least cycle twice;
+      balanced = meeting _ _ _ _ _ u.degree u.size n q equal.0 (capacity_total-ones s capacities are equal) least cycle most twice;
     }
   where
-    meeting : (m b t d degree size n q : ℕ) → m ≡ degree → b ≡ n → t ≡ size → d ≡ q → n * degree ≡ q * size → m * b ≡ t * d
-    meeting m b t d degree size n q em eb et ed twice = rw (em, eb, et, ed) (omega (arith, twice))
+    order : (q size r : ℕ) → q * size * r ≡ r * size * q
+    order q size r = grind arith
 
-pub IsUniform-certificate : (s : QuorumSystem) → IsCoterie s → IsCertificate (all_ones s) → IsUniform s
-IsUniform-certificate s h c =
+    meeting : (p r total t d degree size n q c : ℕ) → total ≡ n * c → t ≡ size → d ≡ q → degree * r ≡ p * c → n * degree ≡ q * size → p * total ≡ r * t * d
+    meeting p r total t d degree size n q c eb et ed most twice =
+        rw (eb, et, ed) (mul_left_comm p n c ∙ ap (λ x. n * x) (sym most) ∙ sym (mul_assoc n degree r) ∙ ap (λ x. x * r) twice ∙ order q size r)
+
+-- the denominator of a ratio that some voter reaches is not 0
+denominator-some : (d p r c : ℕ) → d * r ≡ p * c → 1 ≤ c → IsGcd p r 1 → 0 < r
+denominator-some d p zero c e some is = absurd (off d c some (subst (λ x. d * 0 ≡ x * c) (sym (same_from_IsGcd p 0 1 p is (IsGcd-from_zero p 0 refl))) e))
+  where
+    off : (d c : ℕ) → 1 ≤ c → d * 0 ≡ 1 * c → ⊥
+    off d c some e = omega (arith, some, e)
+denominator-some d p (suc r) c e some is = omega arith
+
+pub IsUniform-certificate : (s : QuorumSystem) (capacities : List ℕ) → IsCoterie s → AreCapacities capacities s.voters → AreEqual capacities → HasTop s capacities → IsCertificate (all_ones s capacities) → IsUniform s
+IsUniform-certificate s capacities h are equal top c =
     let n : ℕ = s.voters in
     let q : ℕ = length s.quorums in
-    let m : ℕ = busiest_count (all_ones s) in
-    let t : ℕ = lightest_quorum (all_ones s) in
-    let cycle = sum-ones q in
-    let total = sum-ones n in
+    let r : ℕ × ℕ = cycle_ratio (all_ones s capacities) in
+    let at = reached-degree s capacities are equal top in
+    let m : ℕ = degree_of s at.0 in
+    let t : ℕ = lightest_quorum (all_ones s capacities) in
+    let some : 1 ≤ equal.0 = subst (λ x. 1 ≤ x) (get_or-equal capacities n are equal at.0 at.1) (are.in_range at.0 0 (omega (arith, at.1, are.one_each))).0 in
+    let over : 0 < r.1 = denominator-some m r.0 r.1 equal.0 at.2 some top.lowest in
     let degrees = sum_below-degrees n s.quorums (Ascends-quorums s h) in
-    let balanced : m * n ≡ t * q = ap (λ x. m * x) (sym total) ∙ c.balanced ∙ ap (λ x. t * x) cycle in
-    let most : (i : ℕ) → i < n → degree_of s i ≤ m = λ i lt. subst (λ x. x ≤ m) (weight_on-ones i s.quorums) (greatest_below-le n (λ i. weight_on i s.quorums (ones q)) i lt) in
+    let balanced : m * n ≡ t * q = scaled r.0 r.1 _ t _ m n q equal.0 over at.2 (capacity_total-ones s capacities are equal) (sum-ones q) c.balanced in
+    let most : (i : ℕ) → i < n → degree_of s i ≤ m = λ i lt. le_of_mul-le-mul_right {k = r.1} (subst (λ x. x * r.1 ≤ m * r.1) (weight_on-ones i s.quorums) (subst (λ x. cycle_count (all_ones s capacities) i * r.1 ≤ x) (ap (λ x. r.0 * x) (get_or-equal capacities n are equal i lt) ∙ sym at.2) (top.bound i lt))) over in
     let least : All (λ r. t ≤ length r) s.quorums = λ j d lt. subst (λ x. t ≤ x) (weight_within-ones_at s h j d lt) (least_of-le (weight_within (ones n)) s.quorums j d lt) in
     let low = sum_by-least t s.quorums least in
     let high = sum_below-most n m (degree_of s) most in
@@ -116,6 +156,16 @@ IsUniform-certificate s h c =
       quorums = sum_by-level_from_least t s.quorums least (omega (arith, degrees, high, balanced));
       voters = sum_below-level_from_most n m (degree_of s) most (omega (arith, degrees, low, balanced));
     }
+  where
+    left : (r m n : ℕ) → r * (m * n) ≡ m * r * n
+    left r m n = grind arith
 
-pub IsCertificate-all_ones : (s : QuorumSystem) → IsCoterie s → IsCertificate (all_ones s) ↔ IsUniform s
-IsCertificate-all_ones s h = (IsUniform-certificate s h, IsCertificate-uniform s h)
+    right : (p c n : ℕ) → p * c * n ≡ p * (n * c)
+    right p c n = grind arith
+
+    scaled : (p r total t d m n q c : ℕ) → 0 < r → m * r ≡ p * c → total ≡ n * c → d ≡ q → p * total ≡ r * t * d → m * n ≡ t * q
+    scaled p r total t d m n q c over at eb ed balanced =
+        eq_of_mul-eq-mul_left r over (m * n) (t * q) (left r m n ∙ ap (λ x. x * n) at ∙ right p c n ∙ ap (λ x. p * x) (sym eb) ∙ balanced ∙ ap (λ x. r * t * x) ed ∙ mul_assoc r t q)
+
+pub IsCertificate-all_ones : (s : QuorumSystem) (capacities : List ℕ) → IsCoterie s → AreCapacities capacities s.voters → AreEqual capacities → HasTop s capacities → IsCertificate (all_ones s capacities) ↔ IsUniform s
+IsCertificate-all_ones s capacities h are equal top = (IsUniform-certificate s capacities h are equal top, IsCertificate-uniform s capacities h are equal top)

@@ -29,15 +29,19 @@ pub enum Cause {
     /// The weights were all 0.
     #[error("P3")]
     Empty,
-    /// The weights were no certificate.
+    /// The weights were no certificate, and all capacities are 1.
     #[error("P4")]
     NotOptimal,
+    /// The weights were no certificate, and some capacity is not 1.
+    #[error("P8")]
+    NotOptimalRatio,
 }
 
 /// Why there is no plan.
 #[derive(Clone, Copy, Debug, PartialEq, Eq, Error)]
 pub enum PlannerFault {
-    /// The search ended without a plan, for this cause. This never happens for a uniform coterie.
+    /// The search ended without a plan, for this cause. This never happens for a uniform coterie
+    /// whose voters have the same capacity.
     #[error("N1 NoPlan {0}")]
     NoPlan(Cause),
     /// Memory ran out.
@@ -69,6 +73,7 @@ impl PlannerFault {
             PlanFault::WrongLength => PlannerFault::NoPlan(Cause::WrongLength),
             PlanFault::TooLarge => PlannerFault::NoPlan(Cause::TooLarge),
             PlanFault::Empty => PlannerFault::NoPlan(Cause::Empty),
+            PlanFault::NotOptimalRatio { .. } => PlannerFault::NoPlan(Cause::NotOptimalRatio),
             PlanFault::OutOfMemory => PlannerFault::OutOfMemory,
             _ => PlannerFault::NoPlan(Cause::NotOptimal),
         }

@@ -1,17 +1,18 @@
-//! Plans for coteries: finds weights of quorums that load the busiest voter least, and certifies
-//! them.
+//! Plans for coteries: finds weights of quorums that load the busiest voter least, for the voter's
+//! capacity, and certifies them.
 //!
-//! `plan` first tries all weights 1, which are a certificate if and only if the coterie is uniform.
-//! Otherwise it tries weights that the simplex method finds. Each attempt is checked by
-//! `certificate::check`, so a plan that is returned is optimal however it was found. Whether a plan
-//! is found for a coterie that is not uniform is left to the method.
+//! `plan` first tries all weights 1. If all voters have the same capacity, these are a certificate
+//! if and only if the coterie is uniform. If they are none, `plan` tries weights that the simplex
+//! method finds. Each attempt is checked by `certificate::check`, so a plan that is returned is
+//! optimal however it was found. Whether a plan is found for any other coterie is left to the
+//! method.
 //!
 //! This crate depends on `certificate`, `simplex`, `quorum_set` and `numbers`.
 //!
 //! ```text
 //! // A hub 0 with three rims: {0, 1}, {0, 2}, {0, 3} and {1, 2, 3}.
-//! let plan = plan(alloc, &wheel)?;
-//! assert_eq!(rt; plan.load(), (3, 5));
+//! let capacities = [1, 1, 1, 1];
+//! assert_eq!(rt; plan(alloc, &wheel, &capacities)?.load(), (3, 5));
 //! ```
 #![tactic(auto)]
 

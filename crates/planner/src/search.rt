@@ -1,7 +1,8 @@
 //! The search for a plan.
 ghost use Rattle.std.specs.Prelude.{◌≡◌, ◌≢◌, ◌<◌, ◌/◌, length, vec_len, map, sum, IfOk, IfErr, IsOkUnless};
+ghost use Rattle.quorum_set.specs.Capacities.{AreCapacities};
 ghost use Rattle.certificate.specs.Certificates.{IsCertificate, IsOptimal};
-ghost use Rattle.planner.specs.Uniform.{IsUniform, IsWarranted, all_ones};
+ghost use Rattle.planner.specs.Uniform.{AreEqual, IsUniform, IsWarranted, all_ones};
 ghost use Rattle.planner.specs.Weights.{HaveNoCommonDivisor, IsGreatestDivisor};
 ghost use Rattle.planner.specs.Causes.{CanCome};
 
@@ -57,36 +58,46 @@ fn divide(weights: &mut [u64])
 }
 
 /// Returns the plan with all weights 1, or the fault of the check.
-fn even(alloc: Global, coterie: &Coterie) -> Result<Plan, PlanFault>
+fn even(alloc: Global, coterie: &Coterie, capacities: &[u64]) -> Result<Plan, PlanFault>
+    requires capacities { AreCapacities capacities.now coterie.now.voters }
     ensures coterie { IfOk result (λ p. p.system ≡ coterie.now) }
+    ensures capacities { IfOk result (λ p. p.capacities ≡ capacities.now) }
     ensures certificate { IfOk result IsCertificate }
     ensures optimal { IfOk result IsOptimal }
-    ensures uniform { IsUniform coterie.now → IsOkUnless result PlanFault.OutOfMemory }
-    ensures ones { IfOk result (λ p. p ≡ all_ones coterie.now) }
-    ensures certified { IsCertificate (all_ones coterie.now) → IsOkUnless result PlanFault.OutOfMemory }
+    ensures uniform { IsUniform coterie.now → AreEqual capacities.now → IsOkUnless result PlanFault.OutOfMemory }
+    ensures ones { IfOk result (λ p. p ≡ all_ones coterie.now capacities.now) }
+    ensures certified { IsCertificate (all_ones coterie.now capacities.now) → IsOkUnless result PlanFault.OutOfMemory }
 {
     ones_certify_uniform_coteries();
     certificates_have_no_fault();
     let quorum_weights = vec![in alloc; 1u64; coterie.count()]?;
     let voter_weights = vec![in alloc; 1u64; coterie.voters()]?;
-    check(alloc, coterie, quorum_weights, voter_weights)
+    check(alloc, coterie, capacities, quorum_weights, voter_weights)
 }
 
 /// Returns the plan of a candidate's weights, in lowest terms.
-fn checked(alloc: Global, coterie: &Coterie, candidate: Candidate, left: u32) -> Result<Plan, Miss>
+fn checked(
+    alloc: Global,
+    coterie: &Coterie,
+    capacities: &[u64],
+    candidate: Candidate,
+    left: u32,
+) -> Result<Plan, Miss>
+    requires capacities { AreCapacities capacities.now coterie.now.voters }
     requires quorums { vec_len candidate.quorum_weights ≡ length coterie.now.quorums }
     requires voters { vec_len candidate.voter_weights ≡ coterie.now.voters }
     ensures coterie { IfOk result (λ p. p.system ≡ coterie.now) }
+    ensures capacities { IfOk result (λ p. p.capacities ≡ capacities.now) }
     ensures certificate { IfOk result IsCertificate }
     ensures optimal { IfOk result IsOptimal }
     ensures lowest { IfOk result (λ p. HaveNoCommonDivisor p.quorum_weights × HaveNoCommonDivisor p.voter_weights) }
-    ensures unreachable { IfErr result (λ miss. CanCome miss.fault) }
+    ensures unreachable { IfErr result (λ miss. CanCome capacities.now miss.fault) }
 {
     let mut quorum_weights = candidate.quorum_weights;
     let mut voter_weights = candidate.voter_weights;
     divide(&mut quorum_weights);
     divide(&mut voter_weights);
-    match check(alloc, coterie, quorum_weights, voter_weights) {
+    match check(alloc, coterie, capacities, quorum_weights, voter_weights) {
         Ok(plan) => Ok(plan),
         Err(fault) => Err(Miss {
             fault: PlannerFault::of_check(fault),
@@ -100,17 +111,25 @@ fn checked(alloc: Global, coterie: &Coterie, candidate: Candidate, left: u32) ->
 }
 
 /// Returns the plan that the simplex method finds by this rule with at most `pivots` pivots.
-fn attempt(alloc: Global, coterie: &Coterie, rule: Rule, pivots: u32) -> Result<Plan, Miss>
+fn attempt(
+    alloc: Global,
+    coterie: &Coterie,
+    capacities: &[u64],
+    rule: Rule,
+    pivots: u32,
+) -> Result<Plan, Miss>
+    requires capacities { AreCapacities capacities.now coterie.now.voters }
     ensures coterie { IfOk result (λ p. p.system ≡ coterie.now) }
+    ensures capacities { IfOk result (λ p. p.capacities ≡ capacities.now) }
     ensures certificate { IfOk result IsCertificate }
     ensures optimal { IfOk result IsOptimal }
     ensures lowest { IfOk result (λ p. HaveNoCommonDivisor p.quorum_weights × HaveNoCommonDivisor p.voter_weights) }
-    ensures unreachable { IfErr result (λ miss. CanCome miss.fault) }
+    ensures unreachable { IfErr result (λ miss. CanCome capacities.now miss.fault) }
 {
-    match solve_by(alloc, coterie, rule, pivots) {
+    match solve_by(alloc, coterie, capacities, rule, pivots) {
         Ok(candidate) => {
             let left = pivots - candidate.pivots;
-            checked(alloc, coterie, candidate, left)
+            checked(alloc, coterie, capacities, candidate, left)
         }
         Err(fault) => Err(Miss {
             fault: PlannerFault::of_simplex(fault),
@@ -123,52 +142,59 @@ fn attempt(alloc: Global, coterie: &Coterie, rule: Rule, pivots: u32) -> Result<
 }
 
 /// Returns the plan that the simplex method finds, by one rule or the other.
-fn found(alloc: Global, coterie: &Coterie) -> Result<Plan, PlannerFault>
+fn found(alloc: Global, coterie: &Coterie, capacities: &[u64]) -> Result<Plan, PlannerFault>
+    requires capacities { AreCapacities capacities.now coterie.now.voters }
     ensures coterie { IfOk result (λ p. p.system ≡ coterie.now) }
+    ensures capacities { IfOk result (λ p. p.capacities ≡ capacities.now) }
     ensures certificate { IfOk result IsCertificate }
     ensures optimal { IfOk result IsOptimal }
     ensures lowest { IfOk result (λ p. HaveNoCommonDivisor p.quorum_weights × HaveNoCommonDivisor p.voter_weights) }
-    ensures unreachable { IfErr result CanCome }
+    ensures unreachable { IfErr result (CanCome capacities.now) }
 {
-    let miss = match attempt(alloc, coterie, Rule::Dantzig, PIVOTS) {
+    let miss = match attempt(alloc, coterie, capacities, Rule::Dantzig, PIVOTS) {
         Ok(plan) => return Ok(plan),
         Err(miss) => miss,
     };
     let Some(left) = miss.left else {
         return Err(miss.fault);
     };
-    match attempt(alloc, coterie, Rule::LeastPivot, left) {
+    match attempt(alloc, coterie, capacities, Rule::LeastPivot, left) {
         Ok(plan) => Ok(plan),
         Err(miss) => Err(miss.fault),
     }
 }
 
-/// Returns a plan of the coterie: weights of its quorums that load the busiest voter least, and the
-/// voters' weights that certify it.
+/// Returns a plan of the coterie and its voters' capacities: weights of its quorums that load the
+/// busiest voter least, for the voter's capacity, and the voters' weights that certify it. There has
+/// to be a capacity for each voter, 1 to 1000.
 ///
-/// All weights are 1 if and only if these are a certificate, which they are for uniform coteries.
-/// Otherwise the simplex method looks for weights, by Dantzig's rule and, if its numbers grow too
-/// large, by the rule of the smallest pivot. Both rules together make at most 10,000 pivots. In
-/// each case no number above 1 divides all weights of the quorums, or all weights of the voters.
+/// All weights are 1 if and only if these are a certificate. They are one for uniform coteries whose
+/// voters have the same capacity. Otherwise the simplex method looks for weights, by Dantzig's rule
+/// and, if its numbers grow too large, by the rule of the smallest pivot. Both rules together make
+/// at most 10,000 pivots. In each case no number above 1 divides all weights of the quorums, or all
+/// weights of the voters.
 ///
 /// Fails with `NoPlan` if neither rule finds a plan, with the cause of the last attempt, and with
 /// `OutOfMemory` at any point.
-pub fn plan(alloc: Global, coterie: &Coterie) -> Result<Plan, PlannerFault>
+pub fn plan(alloc: Global, coterie: &Coterie, capacities: &[u64]) -> Result<Plan, PlannerFault>
+    requires capacities { AreCapacities capacities.now coterie.now.voters }
     ensures coterie { IfOk result (λ p. p.system ≡ coterie.now) }
+    ensures capacities { IfOk result (λ p. p.capacities ≡ capacities.now) }
     ensures certificate { IfOk result IsCertificate }
     ensures optimal { IfOk result IsOptimal }
-    // A uniform coterie gets a plan, unless memory runs out.
-    ensures uniform { IfErr result (IsWarranted coterie.now) }
+    // A uniform coterie whose voters have the same capacity gets a plan, unless memory runs out.
+    ensures uniform { IfErr result (IsWarranted coterie.now capacities.now) }
     // All weights are 1 if these are a certificate.
-    ensures ones { IfOk result (λ p. IsCertificate (all_ones coterie.now) → p ≡ all_ones coterie.now) }
+    ensures ones { IfOk result (λ p.
+        IsCertificate (all_ones coterie.now capacities.now) → p ≡ all_ones coterie.now capacities.now) }
     // No number above 1 divides all weights of the quorums, or all weights of the voters.
     ensures lowest { IfOk result (λ p. HaveNoCommonDivisor p.quorum_weights × HaveNoCommonDivisor p.voter_weights) }
-    // There are never too few or too many weights.
-    ensures unreachable { IfErr result CanCome }
+    // There are never too few or too many weights, and P4 and P8 depend on the capacities.
+    ensures unreachable { IfErr result (CanCome capacities.now) }
 {
-    match even(alloc, coterie) {
+    match even(alloc, coterie, capacities) {
         Ok(plan) => Ok(plan),
         Err(PlanFault::OutOfMemory) => Err(PlannerFault::OutOfMemory),
-        Err(_) => found(alloc, coterie),
+        Err(_) => found(alloc, coterie, capacities),
     }
 }

@@ -70,6 +70,19 @@ fn first_faults(rt: HostRuntime) -> Result<(), Fail> {
             "voters = ['a']\nquorums = [['a', 'a'], []]",
             "F6 RepeatedMember 0",
         ),
+        (
+            "voters = ['a', 'b']\nquorums = [['a', 'a']]\ncapacity = [2]",
+            "F6 RepeatedMember 0",
+        ),
+        (
+            "voters = ['a', 'b']\nquorums = []\ncapacity = [0]",
+            "F7 CapacityCount 1",
+        ),
+        (
+            "voters = ['a', 'b']\nquorums = []\ncapacity = [1, 0]",
+            "F8 BadCapacity 1",
+        ),
+        ("voters = []\nquorums = []\ncapacity = []", "E1 NoVoters"),
         ("voters = []\nquorums = []", "E1 NoVoters"),
         ("voters = ['a', 'b', 'c']\nquorums = []", "E3 NoQuorums"),
         (
@@ -101,6 +114,35 @@ quorums = [
 "#;
 
 #[test]
+fn capacities_are_read(rt: HostRuntime) -> Result<(), Fail> {
+    let alloc = rt.alloc();
+    let table = [
+        ("[1, 1, 1]", MAJORITY),
+        ("[2, 1, 1]", WEIGHTED),
+        ("[\n  0x2, # twice as often\n  1,\n  1,\n]", WEIGHTED),
+        ("[2, 1]", "F7 CapacityCount 2"),
+        ("[]", "F7 CapacityCount 0"),
+        ("[2, 1, 1, 0]", "F7 CapacityCount 4"),
+        ("[2, 0, 1]", "F8 BadCapacity 1"),
+        ("[1000, 1, 1001]", "F8 BadCapacity 2"),
+        ("[-1, 1, 0]", "F8 BadCapacity 0"),
+        ("[1, -9223372036854775808, 0]", "F8 BadCapacity 1"),
+        ("[1, 1, 9223372036854775807]", "F8 BadCapacity 2"),
+        ("'x'", "F2 Keys"),
+        ("1", "F2 Keys"),
+        ("[1, 'x', 1]", "F2 Keys"),
+        ("[1.5, 1, 1]", "F2 Keys"),
+        ("[[1], 1, 1]", "F2 Keys"),
+        ("[1, 1, 1]\nweights = [1, 1, 1]", "F2 Keys"),
+    ];
+    for (capacity, want) in &table {
+        let text = format!(in alloc; "{MAJORITY}capacity = {capacity}\n")?;
+        assert_eq!(rt; answer_to(alloc, &text)?.as_str(), *want, "{capacity}");
+    }
+    Ok(())
+}
+
+#[test]
 fn layouts_read_alike(rt: HostRuntime) -> Result<(), Fail> {
     let alloc = rt.alloc();
     let layouts = [
@@ -114,6 +156,16 @@ fn layouts_read_alike(rt: HostRuntime) -> Result<(), Fail> {
     }
     Ok(())
 }
+
+/// The same with other capacities.
+const WEIGHTED: &str = r#"voters = ["v0", "v1", "v2"]
+capacity = [2, 1, 1]
+quorums = [
+  ["v0", "v1"],
+  ["v0", "v2"],
+  ["v1", "v2"],
+]
+"#;
 
 /// Returns the coterie of any two of three voters.
 fn majority(alloc: Global) -> Result<Coterie, Fail>
@@ -157,6 +209,35 @@ fn names_are_given(rt: HostRuntime) -> Result<(), Fail> {
     for (names, want) in &table {
         assert_eq!(rt; text_with(alloc, names.as_slice())?.as_str(), *want);
     }
+    Ok(())
+}
+
+/// Returns the text of the majority with these capacities, or of their fault.
+fn text_weighing(alloc: Global, capacities: &[u64]) -> Result<String, Fail> {
+    let mut given = Vec::new(alloc);
+    for capacity in capacities {
+        given.push(*capacity)?;
+    }
+    let named = Named::numbered(alloc, majority(alloc)?)?;
+    shown(alloc, named.with_capacities(given))
+}
+
+#[test]
+fn capacities_are_given(rt: HostRuntime) -> Result<(), Fail> {
+    let alloc = rt.alloc();
+    let table: [(&[u64], &str); 6] = [
+        (&[1, 1, 1], MAJORITY),
+        (&[2, 1, 1], WEIGHTED),
+        (&[2, 0], "F7 CapacityCount 2"),
+        (&[2, 1, 1, 1], "F7 CapacityCount 4"),
+        (&[1, 1001, 0], "F8 BadCapacity 1"),
+        (&[1, 1, 18446744073709551615], "F8 BadCapacity 2"),
+    ];
+    for (capacities, want) in &table {
+        assert_eq!(rt; text_weighing(alloc, *capacities)?.as_str(), *want);
+    }
+    let named = Named::numbered(alloc, majority(alloc)?)?;
+    assert_eq!(rt; named.capacities().len(), 3);
     Ok(())
 }
 

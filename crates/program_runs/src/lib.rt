@@ -14,8 +14,8 @@ pub use commands::{
     serve,
 };
 pub use samples::{
-    GRID, GRID_PLAN, LONGER_PLAN, MAJORITY, MAJORITY_PLAN, ONE, ONE_PLAN, RACE, RACE_OUTPUT,
-    RECORD, RECORD_ACCOUNT, WHEEL, WHEEL_PLAN,
+    FAST_HUB, FAST_HUB_PLAN, GRID, GRID_PLAN, LONGER_PLAN, MAJORITY, MAJORITY_PLAN, ONE, ONE_PLAN,
+    RACE, RACE_OUTPUT, RECORD, RECORD_ACCOUNT, WHEEL, WHEEL_PLAN,
 };
 
 /// The text of a plan: its load, its cycle, the quorums' weights and the voters' weights.

@@ -17,6 +17,13 @@ pub const WHEEL: &str =
 
 pub const WHEEL_PLAN: &str = "quorum-plan 1\nload 3/5\ncycle 5\nquorum 1 1 1 2\nvoter 2 1 1 1\n";
 
+/// The wheel, whose hub has capacity 2.
+pub const FAST_HUB: &str =
+    "voters = [\"v0\", \"v1\", \"v2\", \"v3\"]\ncapacity = [2, 1, 1, 1]\nquorums = [\n  [\"v0\", \"v1\"],\n  [\"v0\", \"v2\"],\n  [\"v0\", \"v3\"],\n  [\"v1\", \"v2\", \"v3\"],\n]\n";
+
+pub const FAST_HUB_PLAN: &str =
+    "quorum-plan 2\nload 3/7\ncycle 7\ncapacity 2 1 1 1\nquorum 2 2 2 1\nvoter 2 1 1 1\n";
+
 /// A plan of the wheel with the same load, and a cycle twice as long.
 pub const LONGER_PLAN: &str = "quorum-plan 1\nload 3/5\ncycle 10\nquorum 2 2 2 4\nvoter 2 1 1 1\n";
 

@@ -91,6 +91,7 @@ fn agrees(alloc: Global, weights: &[u64]) -> Result<bool, Fail> {
         (len == quorums.len() as u64)
             & (account.quorums.as_slice() == weights)
             & (account.busiest == len)
+            & (account.ratio == (len, 1))
             & names(&cycle, 0, &quorums)
             & names(&cycle, len, &quorums),
     )

@@ -1,7 +1,9 @@
 //! Offices: worked examples, and two threads that draw.
 ghost use Rattle.std.specs.Prelude.{◌≡◌, ◌≤◌, ◌^◌, IfSome};
 
-use crate::cycles::{Row, SHORT, SHORT_ROWS, is_row, majority_cycle, wheel_cycle};
+use crate::cycles::{
+    HUB_ROWS, Row, SHORT, SHORT_ROWS, hub_cycle, is_row, majority_cycle, wheel_cycle,
+};
 use dealer::{Clerk, Cycle, DealFault, Office, OfficeFault, Receipt};
 use std::alloc::Global;
 use std::test::Fail;
@@ -92,7 +94,12 @@ fn a_clerk_that_joined_is_in_the_account(rt: HostRuntime) {
     };
     let clerk = draw_all(&office, root.split(&office, 1));
     let joined = root.join(&office, clerk).is_ok();
-    let closed = closes(rt.alloc(), office, root, &(1, &[1, 0, 0], &[1, 1, 0], 1));
+    let closed = closes(
+        rt.alloc(),
+        office,
+        root,
+        &(1, &[1, 0, 0], &[1, 1, 0], 1, (1, 1)),
+    );
     assert!(rt; joined & closed);
 }
 
@@ -106,12 +113,12 @@ fn a_clerk_that_is_lost_keeps_its_share(rt: HostRuntime) {
     assert_eq!(rt; refused, Some((0, OfficeFault::ClerksOut(5))));
 }
 
-/// Returns whether an office of the wheel that deals as many tickets as the account has closes with
-/// this account.
-fn deals(alloc: Global, row: &Row) -> bool
+/// Returns whether an office of this cycle that deals as many tickets as the account has closes
+/// with this account.
+fn deals(alloc: Global, cycle: Option<Cycle>, row: &Row) -> bool
     requires { row.now.0 ≤ 2 ^ 63 }
 {
-    match office_of(alloc, wheel_cycle(alloc, SHORT), row.0) {
+    match office_of(alloc, cycle, row.0) {
         Some((office, clerk)) => {
             let clerk = draw_all(&office, clerk);
             closes(alloc, office, clerk, row)
@@ -123,7 +130,16 @@ fn deals(alloc: Global, row: &Row) -> bool
 #[test]
 fn deals_in_the_plan_s_proportions(rt: HostRuntime) {
     for row in &SHORT_ROWS {
-        assert!(rt; row.0 < 11 && deals(rt.alloc(), row), "{} draws", row.0);
+        let dealt = row.0 < 11 && deals(rt.alloc(), wheel_cycle(rt.alloc(), SHORT), row);
+        assert!(rt; dealt, "{} draws", row.0);
+    }
+}
+
+#[test]
+fn deals_in_proportion_to_capacities(rt: HostRuntime) {
+    for row in &HUB_ROWS {
+        let dealt = row.0 < 15 && deals(rt.alloc(), hub_cycle(rt.alloc()), row);
+        assert!(rt; dealt, "{} draws", row.0);
     }
 }
 
@@ -164,6 +180,7 @@ fn two_threads_draw_each_ticket_once(rt: HostRuntime) {
         [10_000; 3].as_slice(),
         [20_000; 3].as_slice(),
         20_000,
+        (20_000, 1),
     );
     assert!(rt; joined & closes(alloc, office, one, &row));
 }

@@ -53,7 +53,7 @@ Refuses-plan plan.OutOfMemory wanted e = tt
 Refuses-plan fault wanted e = ap (refused_as Plan) e
 
 -- a refusal of the planner is one of the command `plan`
-pub unplanned_refused : (input : List ℕ) (named : NamedSystem) (fault : PlannerFault) → coterie_part input ≡ Ok named → IsWarranted named.system fault → CanCome fault
+pub unplanned_refused : (input : List ℕ) (named : NamedSystem) (fault : PlannerFault) → coterie_part input ≡ Ok named → IsWarranted named.system named.capacities fault → CanCome named.capacities fault
     → IsRefusedBy commands.Plan input (planner_refusal fault)
 unplanned_refused input named planner.OutOfMemory e warranted can_come = tt
 unplanned_refused input named (planner.NoPlan cause) e warranted can_come = record { named = named; coterie = e; warranted = warranted; can_come = can_come }

@@ -8,7 +8,7 @@ use Rattle.dealer.specs.declared.account.Account.{Account}
 use Rattle.dealer.specs.declared.receipt.Receipt.{Receipt}
 use Rattle.dealer.specs.Offices.{receipt_of}
 use Rattle.numbers.proofs.CountLemmas.{flat_map-range_more}
-use Rattle.qlock_cli.specs.Commands.{account_text, deal_text, receipt_line, ticket_line, ticket_lines}
+use Rattle.qlock_cli.specs.Commands.{account_text, deal_text, ratio_part, receipt_line, ticket_line, ticket_lines}
 use Rattle.qlock_cli.specs.declared.answer.Planned.{Planned}
 
 -- what was written for the numbers below n, and then the line of n
@@ -23,10 +23,12 @@ pub receipt_lines : (w : Weighted) (tickets : List ℕ) → flat_map receipt_lin
 receipt_lines w [] = refl
 receipt_lines w (t ∷ ts) = ap (λ rest. ticket_line w t ++ rest) (receipt_lines w ts)
 
--- the lines of the receipts, and behind them those of the account
-pub deal_text-joined : (p : Planned) (n : ℕ) (receipts : List Receipt) (account : Account) (start tickets all : List ℕ) → receipts ≡ map (receipt_of p.plan) (range_with_len 0 n) → account ≡ account_of p.plan (range_with_len 0 n) → start ≡ []
-    → tickets ≡ start ++ flat_map receipt_line receipts → all ≡ tickets ++ account_text p.named.names account → all ≡ deal_text p n
+-- the lines of the receipts, behind them those of the account, and its ratio
+pub deal_text-joined : (p : Planned) (n : ℕ) (receipts : List Receipt) (account : Account) (start tickets counted all : List ℕ) → receipts ≡ map (receipt_of p.plan) (range_with_len 0 n) → account ≡ account_of p.plan (range_with_len 0 n) → start ≡ []
+    → tickets ≡ start ++ flat_map receipt_line receipts → counted ≡ tickets ++ account_text p.named.names account → all ≡ counted ++ ratio_part p.named.capacities account → all ≡ deal_text p n
 unfolding deal_text
-deal_text-joined p n receipts account start tickets all drawn counts empty dealt closed =
+deal_text-joined p n receipts account start tickets counted all drawn counts empty dealt closed ended =
     let lines : tickets ≡ ticket_lines p.plan n = dealt ∙ ap (λ t. t ++ flat_map receipt_line receipts) empty ∙ ap (flat_map receipt_line) drawn ∙ receipt_lines p.plan (range_with_len 0 n) in
-    closed ∙ ap₂ (λ (t : List ℕ) (a : Account). t ++ account_text p.named.names a) lines counts
+    ended ∙ ap (λ t. t ++ ratio_part p.named.capacities account) closed
+    ∙ append_assoc tickets (account_text p.named.names account) (ratio_part p.named.capacities account)
+    ∙ ap₂ (λ (t : List ℕ) (a : Account). t ++ (account_text p.named.names a ++ ratio_part p.named.capacities a)) lines counts

@@ -7,6 +7,7 @@ use Rattle.std.specs.Str.{is_utf8}
 use Rattle.numbers.specs.Bounds.{max_clients}
 pub use Rattle.numbers.specs.Results.{◌>>=◌}
 use Rattle.numbers.specs.Results.{RefusesUnless, GivesUnless}
+use Rattle.quorum_set.specs.Capacities.{are_unit, unit_capacities}
 use Rattle.quorum_set.specs.Coteries.{QuorumSystem}
 use Rattle.construct.specs.Cyclic.{cyclic_at}
 use Rattle.construct.specs.Grid.{grid_at}
@@ -79,15 +80,15 @@ Gives view result wanted = GivesUnless is_out_of_memory view result wanted
 unfoldable pub coterie_part : List ℕ → Result NamedSystem Fault
 coterie_part bytes = if is_utf8 bytes then refused_as File (coterie_at bytes) else Err (File NotToml)
 
--- the plan of the coterie that the bytes describe
-unfoldable pub plan_part : QuorumSystem → List ℕ → Result Weighted Fault
-plan_part system bytes = refused_as faults.Plan (plan_at system bytes)
+-- the plan of the coterie and capacities that the bytes describe
+unfoldable pub plan_part : NamedSystem → List ℕ → Result Weighted Fault
+plan_part named bytes = refused_as faults.Plan (plan_at named.system named.capacities bytes)
 
 -- what two parts describe: a coterie, and a plan of it
 unfoldable pub planned_by : List ℕ → List ℕ → Result Planned Fault
 planned_by coterie plan = do
   named ← coterie_part coterie
-  plan ← plan_part named.system plan
+  plan ← plan_part named plan
   Ok (record { named = named; plan = plan })
 
 -- what an input of two parts describes: a coterie, and a plan of it
@@ -122,6 +123,10 @@ voter_line name count = codes "voter " ++ (name ++ (32 ∷ (decimal count ++ 10 
 abbrev pub busiest_line : ℕ → List ℕ
 busiest_line count = codes "busiest " ++ (decimal count ++ 10 ∷ [])
 
+-- the line of a ratio
+abbrev pub ratio_line : ℕ × ℕ → List ℕ
+ratio_line ratio = codes "ratio " ++ (decimal ratio.0 ++ (47 ∷ (decimal ratio.1 ++ 10 ∷ [])))
+
 -- the line of the number of tickets that were drawn
 abbrev pub drawn_line : ℕ → List ℕ
 drawn_line count = codes "drawn " ++ (decimal count ++ 10 ∷ [])
@@ -150,17 +155,26 @@ voter_lines names counts =
 abbrev pub account_text : List (List ℕ) → Account → List ℕ
 account_text names account = voter_lines names account.voters ++ busiest_line account.busiest
 
--- the tickets below n with their quorums, and their account
-unfoldable pub deal_text : Planned → ℕ → List ℕ
-deal_text p n = ticket_lines p.plan n ++ account_text p.named.names (account_of p.plan (range_with_len 0 n))
+-- the line of an account's ratio, if some capacity is not 1
+abbrev pub ratio_part : List ℕ → Account → List ℕ
+ratio_part capacities account = if are_unit capacities then [] else ratio_line account.ratio
 
--- the lines of a record: how many tickets were drawn, their account, and the register
-abbrev pub record_lines : List (List ℕ) → Account → ℕ → List ℕ
-record_lines names account register = drawn_line account.drawn ++ (account_text names account ++ register_line register)
+-- the tickets below n with their quorums, their account, and its ratio if some capacity is not 1
+unfoldable pub deal_text : Planned → ℕ → List ℕ
+deal_text p n =
+    let account = account_of p.plan (range_with_len 0 n) in
+    ticket_lines p.plan n ++ (account_text p.named.names account ++ ratio_part p.named.capacities account)
+
+-- the lines of a record: how many tickets were drawn, their account, the register, and the account's
+-- ratio if some capacity is not 1
+abbrev pub record_lines : NamedSystem → Account → ℕ → List ℕ
+record_lines named account register =
+    drawn_line account.drawn
+    ++ (account_text named.names account ++ (register_line register ++ ratio_part named.capacities account))
 
 -- the lines of a record's entries: of the tickets that were drawn, and of the register
 abbrev pub replay_text : Planned → Entries → List ℕ
-replay_text p e = record_lines p.named.names (account_of p.plan (tickets_of e.draws)) e.register
+replay_text p e = record_lines p.named (account_of p.plan (tickets_of e.draws)) e.register
 
 -- the text that `check` writes
 unfoldable pub check_text : Planned → List ℕ
@@ -178,7 +192,12 @@ shape_at (Cyclic n base) = cyclic_at n base.items
 
 -- the text of a coterie whose voters have numbered names
 abbrev pub numbered_text : QuorumSystem → List ℕ
-numbered_text system = coterie_text (record { system = system; names = numbered_names system.voters })
+numbered_text system =
+    coterie_text (record {
+      system = system;
+      names = numbered_names system.voters;
+      capacities = unit_capacities system.voters;
+    })
 
 -- what `make` writes, or its fault
 abbrev pub make_answer_of : Shape → Result (List ℕ) Fault
@@ -192,24 +211,25 @@ check_answer_of input = planned_in input >>= λ p. Ok (check_text p)
 abbrev pub deal_answer_of : ℕ → List ℕ → Result (List ℕ) Fault
 deal_answer_of n input = planned_in input >>= λ p. Ok (deal_text p n)
 
--- the output is the text of some plan of the coterie that the input describes, and that plan is
--- optimal
+-- the output is the text of some plan of the coterie and capacities that the input describes, and
+-- that plan is optimal
 pub record IsPlanText (input output : List ℕ) : Type 0 where
   pub named : NamedSystem
   pub coterie : coterie_part input ≡ Ok named
   pub plan : Weighted
   pub system : plan.system ≡ named.system
+  pub capacities : plan.capacities ≡ named.capacities
   pub certificate : IsCertificate plan
   pub optimal : IsOptimal plan
   pub spelled : output ≡ plan_text plan
 
--- the input describes a coterie that is not uniform, and the planner found no plan of it, for this
--- cause
+-- the input describes a coterie that is not uniform or has unequal capacities, and the planner found
+-- no plan of it, for this cause
 pub record IsUnplanned (input : List ℕ) (cause : Cause) : Type 0 where
   pub named : NamedSystem
   pub coterie : coterie_part input ≡ Ok named
-  pub warranted : IsWarranted named.system (NoPlan cause)
-  pub can_come : CanCome (NoPlan cause)
+  pub warranted : IsWarranted named.system named.capacities (NoPlan cause)
+  pub can_come : CanCome named.capacities (NoPlan cause)
 
 -- `plan` fails with this fault for the input: the input describes no coterie, or there is no plan
 -- of it. The fault is never the planner's own `OutOfMemory`.

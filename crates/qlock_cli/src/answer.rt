@@ -12,7 +12,7 @@ ghost use Rattle.qlock_cli.specs.Faults.{IsBeforeScript, IsOfFile};
 
 use crate::dealing::dealt;
 use crate::fault::Fault;
-use crate::lines::{load_line_of, push_account, push_receipts, record_lines_of};
+use crate::lines::{load_line_of, push_account, push_ratio, push_receipts, record_lines_of};
 use crate::parts::split_part;
 use certificate::{Plan, read_plan, write_plan};
 use cluster::RunRecord;
@@ -41,14 +41,14 @@ fn coterie_of(alloc: Global, part: &[u8]) -> Result<Named, Fault>
     }
 }
 
-/// Returns the plan of a coterie that a part describes.
-fn plan_of(alloc: Global, coterie: &Coterie, part: &[u8]) -> Result<Plan, Fault>
-    ensures exact { Gives (λ p. p) result (plan_part coterie.now part.now) }
+/// Returns the plan of a coterie and its voters' capacities that a part describes.
+fn plan_of(alloc: Global, named: &Named, part: &[u8]) -> Result<Plan, Fault>
+    ensures exact { Gives (λ p. p) result (plan_part named.now part.now) }
     ensures own { IfErr result IsOwn }
     ensures before { IfErr result IsBeforeScript }
-    ensures coterie { IfOk result (λ p. p.system ≡ coterie.now) }
+    ensures coterie { IfOk result (λ p. p.system ≡ named.now.system) }
 {
-    match read_plan(alloc, coterie, part) {
+    match read_plan(alloc, named.coterie(), named.capacities(), part) {
         Ok(plan) => Ok(plan),
         Err(fault) => Err(Fault::from(fault)),
     }
@@ -73,7 +73,7 @@ fn planned_by(alloc: Global, coterie: &[u8], plan: &[u8]) -> Result<Planned, Fau
         Ok(named) => named,
         Err(fault) => return Err(fault),
     };
-    let plan = match plan_of(alloc, named.coterie(), plan) {
+    let plan = match plan_of(alloc, &named, plan) {
         Ok(plan) => plan,
         Err(fault) => return Err(fault),
     };
@@ -138,6 +138,7 @@ fn deal_text_of(alloc: Global, planned: Planned, count: u64) -> Result<String, A
     let mut text = String::new(alloc);
     push_receipts(alloc, &mut text, &receipts)?;
     push_account(alloc, &mut text, &named, &account)?;
+    push_ratio(alloc, &mut text, named.capacities(), &account)?;
     Ok(text)
 }
 
@@ -188,7 +189,7 @@ fn plan_answer(alloc: Global, input: &[u8]) -> Result<String, Fault>
         Ok(named) => named,
         Err(fault) => return Err(fault),
     };
-    let plan = match plan(alloc, named.coterie()) {
+    let plan = match plan(alloc, named.coterie(), named.capacities()) {
         Ok(plan) => plan,
         Err(fault) => return Err(Fault::from(fault)),
     };

@@ -4,10 +4,11 @@ ghost use Rattle.std.specs.List.{flat_map, range_with_len};
 ghost use Rattle.coterie_file.specs.Named.{IsNamed};
 ghost use Rattle.coterie_file.specs.Names.{name_at};
 ghost use Rattle.dealer.specs.Accounts.{account_of};
-ghost use Rattle.qlock_cli.specs.Commands.{account_text, busiest_line, drawn_line, load_line, receipt_line, record_lines, register_line, voter_line, voter_lines};
+ghost use Rattle.qlock_cli.specs.Commands.{account_text, busiest_line, drawn_line, load_line, ratio_line, ratio_part, receipt_line, record_lines, register_line, voter_line, voter_lines};
 
 use coterie_file::Named;
 use dealer::{Account, Receipt};
+use quorum_set::are_unit;
 use std::alloc::{AllocError, Global};
 
 /// Returns the line `TICKET QUORUM`.
@@ -53,6 +54,14 @@ pub fn load_line_of(alloc: Global, load: (u64, u64), cycle_len: u64) -> Result<S
 {
     let (busiest, cycle) = load;
     format!(in alloc; "load {busiest}/{cycle} cycle {cycle_len}\n")
+}
+
+/// Returns the line `ratio P/Q`.
+fn ratio_line_of(alloc: Global, ratio: (u64, u64)) -> Result<String, AllocError>
+    ensures { IfOk result (λ line. string_bytes line ≡ ratio_line ratio) }
+{
+    let (count, capacity) = ratio;
+    format!(in alloc; "ratio {count}/{capacity}\n")
 }
 
 /// Adds a line for each receipt to the text.
@@ -106,7 +115,25 @@ pub fn push_account(
     Ok(())
 }
 
-/// Returns the lines of a record: how many tickets were drawn, their account, and the register.
+/// Adds the line of an account's ratio to the text, if some capacity is not 1.
+pub fn push_ratio(
+    alloc: Global,
+    text: &mut String,
+    capacities: &[u64],
+    account: &Account,
+) -> Result<(), AllocError>
+    ensures { OnOk result (string_bytes text.new ≡ string_bytes text.old ++ ratio_part capacities.now account.now) }
+{
+    if are_unit(capacities) {
+        return Ok(());
+    }
+    let line = ratio_line_of(alloc, account.ratio)?;
+    text.push_str(&line)?;
+    Ok(())
+}
+
+/// Returns the lines of a record: how many tickets were drawn, their account, the register, and the
+/// account's ratio if some capacity is not 1.
 pub fn record_lines_of(
     alloc: Global,
     named: &Named,
@@ -115,11 +142,12 @@ pub fn record_lines_of(
 ) -> Result<String, AllocError>
     requires named { IsNamed named.now }
     requires one_each { length account.now.voters ≡ named.now.system.voters }
-    ensures { IfOk result (λ text. string_bytes text ≡ record_lines named.now.names account.now register) }
+    ensures { IfOk result (λ text. string_bytes text ≡ record_lines named.now account.now register) }
 {
     let mut text = drawn_line_of(alloc, account.drawn)?;
     push_account(alloc, &mut text, named, account)?;
     let line = register_line_of(alloc, register)?;
     text.push_str(&line)?;
+    push_ratio(alloc, &mut text, named.capacities(), account)?;
     Ok(text)
 }

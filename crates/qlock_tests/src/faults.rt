@@ -40,13 +40,15 @@ const COTERIES: [(CoterieFault, &str); 8] = [
     (CoterieFault::Contained(0, 3), "E8 Contained 0 3"),
 ];
 
-const COTERIE_TEXTS: [(FileFault, &str); 8] = [
+const COTERIE_TEXTS: [(FileFault, &str); 10] = [
     (FileFault::NotToml, "F1 NotToml"),
     (FileFault::Keys, "F2 Keys"),
     (FileFault::BadName(63), "F3 BadName 63"),
     (FileFault::RepeatedName(1), "F4 RepeatedName 1"),
     (FileFault::UnknownName(12), "F5 UnknownName 12"),
     (FileFault::RepeatedMember(0), "F6 RepeatedMember 0"),
+    (FileFault::CapacityCount(2), "F7 CapacityCount 2"),
+    (FileFault::BadCapacity(63), "F8 BadCapacity 63"),
     (
         FileFault::Coterie(CoterieFault::Disjoint(1, 2)),
         "E7 Disjoint 1 2",
@@ -76,7 +78,7 @@ const SIMPLEX_METHODS: [(SimplexFault, &str); 4] = [
     (SimplexFault::OutOfMemory, "O1 OutOfMemory"),
 ];
 
-const PLANS: [(PlanFault, &str); 8] = [
+const PLANS: [(PlanFault, &str); 10] = [
     (PlanFault::WrongLength, "P1 WrongLength"),
     (PlanFault::TooLarge, "P2 TooLarge"),
     (PlanFault::Empty, "P3 Empty"),
@@ -89,13 +91,24 @@ const PLANS: [(PlanFault, &str); 8] = [
         },
         "P4 NotOptimal 3 5 2 4",
     ),
+    (
+        PlanFault::NotOptimalRatio {
+            ratio_numerator: 3,
+            ratio_denominator: 1,
+            capacity_total: 7,
+            lightest_quorum: 4,
+            cycle_len: 5,
+        },
+        "P8 NotOptimalRatio 3 1 7 4 5",
+    ),
     (PlanFault::BadText { line: 6 }, "P5 BadText 6"),
+    (PlanFault::WrongCapacity, "P9 WrongCapacity"),
     (PlanFault::WrongLoad, "P6 WrongLoad"),
     (PlanFault::WrongCycle, "P7 WrongCycle"),
     (PlanFault::OutOfMemory, "O1 OutOfMemory"),
 ];
 
-const PLANNERS: [(PlannerFault, &str); 8] = [
+const PLANNERS: [(PlannerFault, &str); 9] = [
     (PlannerFault::NoPlan(Cause::Overflow), "N1 NoPlan S1"),
     (PlannerFault::NoPlan(Cause::PivotLimit), "N1 NoPlan S2"),
     (PlannerFault::NoPlan(Cause::NoRow), "N1 NoPlan S3"),
@@ -103,6 +116,7 @@ const PLANNERS: [(PlannerFault, &str); 8] = [
     (PlannerFault::NoPlan(Cause::TooLarge), "N1 NoPlan P2"),
     (PlannerFault::NoPlan(Cause::Empty), "N1 NoPlan P3"),
     (PlannerFault::NoPlan(Cause::NotOptimal), "N1 NoPlan P4"),
+    (PlannerFault::NoPlan(Cause::NotOptimalRatio), "N1 NoPlan P8"),
     (PlannerFault::OutOfMemory, "O1 OutOfMemory"),
 ];
 

@@ -2,12 +2,15 @@
 //!
 //! - Each command has a module: `coteries` and `plans`, `dealing`, `worlds`, `records` and
 //!   `running`.
+//! - `capacities` has the commands for voters with capacities.
 //! - `gates` holds up clients.
 //! - `faults` has the line of every fault.
 //!
 //! Depends on `program_runs`, which runs the commands, and on every crate that has faults.
 #![tactic(auto)]
 
+#[cfg(test)]
+mod capacities;
 #[cfg(test)]
 mod coteries;
 #[cfg(test)]

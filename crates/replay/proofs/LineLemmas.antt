@@ -1,26 +1,13 @@
 -- Lines of a script: they have no newline, and their words have no space.
 use Rattle.std.proofs.Common.{◌≡◌, ℕ, ◌<◌, ◌^◌, List, [], ◌∷◌, ◌++◌, get_or, Option, Some, None, length, IfSome, MatchOption, ap, ap₂, ◌∙◌, refl, arith, rules}
-use Rattle.std.specs.Str.Parse.{AllDigits}
-use Rattle.std.proofs.lemmas.Bool.{ne_eqb}
-use Rattle.std.proofs.lemmas.Str.Parse.{digit_from_value}
-use Rattle.std.proofs.lemmas.Fmt.{digits_decimal}
 use Rattle.std.specs.Fmt.{decimal}
 use Rattle.texts.specs.Cuts.{cut_at}
-use Rattle.texts.proofs.CutLemmas.{Lacks, Lacks-append, cut_at-append}
+use Rattle.texts.proofs.CutLemmas.{Lacks, Lacks-append, Lacks-decimal, cut_at-append}
 use Rattle.texts.specs.Fields.{AllFit, HasNoSpace, fields}
-use Rattle.texts.proofs.Numbers.{IsNumeralModel-decimal}
 use Rattle.world.specs.declared.step.Step.{Step}
 use Rattle.world.specs.declared.step.Step.TheVariants.{Ask, Deliver, Leave, GiveUp, RemindClient, RemindVoter}
 use Rattle.replay.specs.declared.reading.Sizes.{Sizes}
 use Rattle.replay.specs.Scripts.{AreSizes, HasStepLine, step_line, step_number, step_word, world_line}
-
--- digits are 48 to 57
-Lacks-digits : (mark : ℕ) (ds : List ℕ) → mark < 48 → AllDigits 10 ds → Lacks mark ds
-Lacks-digits mark [] low h = tt
-Lacks-digits mark (d ∷ ds) low h = (ne_eqb d mark (λ e. let r = digit_from_value d h.0 in absurd (omega arith)), Lacks-digits mark ds low h.1)
-
-pub Lacks-decimal : (mark n : ℕ) → mark < 48 → n < 2 ^ 64 → Lacks mark (decimal n)
-Lacks-decimal mark n low small = Lacks-digits mark (decimal n) low (digits_decimal IsNumeralModel-decimal n small)
 
 pub Lacks-fields : (ns : List ℕ) → AllFit ns → Lacks 10 (fields ns)
 Lacks-fields [] fit = tt

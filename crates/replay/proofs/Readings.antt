@@ -6,11 +6,11 @@ use Rattle.std.specs.Fmt.{decimal}
 use Rattle.std.proofs.lemmas.List.{append-nil, append_assoc}
 use Rattle.std.proofs.lemmas.Fmt.{decimal_injective}
 use Rattle.texts.specs.Cuts.{cut_at}
-use Rattle.texts.proofs.CutLemmas.{Lacks, cut_at-append}
+use Rattle.texts.proofs.CutLemmas.{Lacks, Lacks-decimal, cut_at-append}
 use Rattle.world.specs.declared.step.Step.{Step}
 use Rattle.world.specs.declared.step.Step.TheVariants.{Ask, Deliver, Leave, GiveUp, RemindClient, RemindVoter}
 use Rattle.replay.specs.Scripts.{AreSizes, BeginsWith, HasStepLine, HaveLines, IsFirstBad, IsLine, IsScript, IsStepLine, IsWorldLine, Script, script_text, step_line, step_number, step_word, steps_text, world_line}
-use Rattle.replay.proofs.LineLemmas.{Lacks-decimal, Lacks-step, Lacks-world, cut_line, fit_step, same_pair}
+use Rattle.replay.proofs.LineLemmas.{Lacks-step, Lacks-world, cut_line, fit_step, same_pair}
 use Rattle.replay.proofs.StepsLemmas.{some_text}
 
 -- Lines

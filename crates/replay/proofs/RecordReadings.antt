@@ -5,7 +5,7 @@ use Rattle.std.specs.List.{AllByRecursion}
 use Rattle.std.specs.Fmt.{decimal}
 use Rattle.std.proofs.lemmas.List.{append-nil}
 use Rattle.std.proofs.lemmas.Fmt.{decimal_injective}
-use Rattle.texts.proofs.CutLemmas.{cut_at-append}
+use Rattle.texts.proofs.CutLemmas.{Lacks-decimal, cut_at-append}
 use Rattle.texts.specs.Cuts.{cut_at}
 use Rattle.texts.specs.Fields.{AllFit, fields}
 use Rattle.replay.specs.declared.record_reading.RecordLine.{RecordLine}
@@ -16,7 +16,7 @@ use Rattle.replay.specs.declared.fault.ReplayFault.TheVariants.{TicketTwice, Tic
 use Rattle.members.specs.Records.{Draw, Pass}
 use Rattle.replay.specs.Records.{Entries, entries_of}
 use Rattle.replay.specs.RecordTexts.{BeginsWithNone, HasDrawLine, HasLine, HasPassLine, HasText, IsBadBody, IsBadRest, IsFirstBad, MayFollow, StopsBehind, body_text, draw_line, draws_text, pass_line, passes_text, record_line, record_text, register_line, title_line}
-use Rattle.replay.proofs.LineLemmas.{Lacks-decimal, same_pair}
+use Rattle.replay.proofs.LineLemmas.{same_pair}
 use Rattle.replay.proofs.Readings.{same_line}
 use Rattle.replay.proofs.RecordLineLemmas.{Lacks-record_line, AllFit-line_numbers}
 use Rattle.replay.proofs.RecordTextLemmas.{lines_by}

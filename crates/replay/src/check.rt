@@ -1,10 +1,11 @@
 //! Checking a record of a run.
-ghost use Rattle.std.specs.Prelude.{◌≡◌, ◌*◌, ◌<◌, ℕ, List, IfErr, IfOk, IfSome, MatchOption, None, min, length, map};
+ghost use Rattle.std.specs.Prelude.{◌≡◌, ◌*◌, ◌<◌, ℕ, List, IfErr, IfOk, IfSome, MatchOption, None, true, min, length, map};
 ghost use Rattle.std.specs.List.{All};
 ghost use Rattle.std.specs.List.Sorted.{IsNonDecreasing};
 ghost use Rattle.numbers.specs.Counts.{times};
+ghost use Rattle.quorum_set.specs.Capacities.{are_unit};
 ghost use Rattle.certificate.specs.Certificates.{IsCertificate, busiest_count, cycle_len};
-ghost use Rattle.dealer.specs.Accounts.{IsLeastBusiest, account_of};
+ghost use Rattle.dealer.specs.Accounts.{IsLeastBusiest, IsLeastRatio, account_of, ratio_of_cycles};
 ghost use Rattle.replay.specs.Records.{EachOnce, IsFirstFault, IsFirstGap, IsFound, IsLeast, IsMissing, IsNumberFault, IsRegisterFault, IsRight, IsSoundRecord, IsTicketFault, IsTwice, IsWrong, NoneTwice, entries_of, numbers_of, tickets_of};
 ghost use Rattle.replay.specs.declared.fault.ReplayFault.TheVariants.{OutOfMemory};
 
@@ -235,10 +236,17 @@ pub fn check_record(alloc: Global, plan: &Plan, run: &RunRecord) -> Result<Accou
     // After k whole cycles each quorum was used k times its weight, ..
     ensures shares { (k : ℕ) → length run.now.draws.items ≡ k * cycle_len plan.now
         → IfOk result (λ account. account.quorums ≡ map (λ weight. k * weight) plan.now.quorum_weights) }
-    // .. and the busiest voter k times the busiest count: no list of that length does better.
+    // .. and the busiest voter k times the busiest count. The ratio is k times the cycle's.
     ensures even { (k : ℕ) → length run.now.draws.items ≡ k * cycle_len plan.now
         → IfOk result (λ account. account.busiest ≡ k * busiest_count plan.now) }
-    ensures least { (k : ℕ) → length run.now.draws.items ≡ k * cycle_len plan.now
+    ensures ratio { (k : ℕ) → length run.now.draws.items ≡ k * cycle_len plan.now
+        → IfOk result (λ account. account.ratio ≡ ratio_of_cycles plan.now k) }
+
+    // No list of that length has a smaller ratio. If all capacities are 1, none has a smaller
+    // busiest count.
+    ensures least_ratio { (k : ℕ) → length run.now.draws.items ≡ k * cycle_len plan.now
+        → IfOk result (λ account. IsLeastRatio plan.now account.drawn account.ratio) }
+    ensures least { (k : ℕ) → are_unit plan.now.capacities ≡ true → length run.now.draws.items ≡ k * cycle_len plan.now
         → IfOk result (λ account. IsLeastBusiest plan.now account.drawn account.busiest) }
 {
     let cycle = match cycle_of(alloc, plan) {

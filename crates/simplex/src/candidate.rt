@@ -1,5 +1,6 @@
 //! Candidates, and the method that finds them.
 ghost use Rattle.std.specs.Prelude.{◌≡◌, ℕ, ◌+◌, ◌<◌, ◌≤◌, ◌^◌, length, vec_len, IfOk, IfErr};
+ghost use Rattle.quorum_set.specs.Capacities.{AreCapacities};
 ghost use Rattle.simplex.specs.Pivots.{NamesAtMost};
 
 use crate::choice::{Rule, entering, first_entering};
@@ -9,7 +10,7 @@ use fraction::FracFault;
 use quorum_set::Coterie;
 use std::alloc::Global;
 
-/// Weights that may be a certificate of a coterie's load.
+/// Weights that may be a certificate of the load of a coterie and its voters' capacities.
 #[derive(Drop)]
 pub struct Candidate {
     /// A weight for each quorum.
@@ -135,18 +136,24 @@ fn voter_weights(alloc: Global, method: &Method) -> Result<Vec<u64>, SimplexFaul
 }
 
 /// Returns a candidate that Dantzig's rule finds with at most `pivots` pivots: one number for each
-/// quorum and one for each voter.
+/// quorum and one for each voter. There has to be a capacity for each voter, 1 to 1000.
 ///
 /// Fails with `Overflow` if a number does not fit, with `PivotLimit` if more pivots are needed,
 /// with `NoRow` if no row limits a column, and with `OutOfMemory`. The number of pivots in
 /// `Overflow` is at most `pivots` too.
-pub fn solve(alloc: Global, coterie: &Coterie, pivots: u32) -> Result<Candidate, SimplexFault>
+pub fn solve(
+    alloc: Global,
+    coterie: &Coterie,
+    capacities: &[u64],
+    pivots: u32,
+) -> Result<Candidate, SimplexFault>
+    requires capacities { AreCapacities capacities.now coterie.now.voters }
     ensures quorums { IfOk result (λ c. vec_len c.quorum_weights ≡ length coterie.now.quorums) }
     ensures voters { IfOk result (λ c. vec_len c.voter_weights ≡ coterie.now.voters) }
     ensures limit { IfOk result (λ c. c.pivots ≤ pivots) }
     ensures refused { IfErr result (NamesAtMost pivots) }
 {
-    solve_by(alloc, coterie, Rule::Dantzig, pivots)
+    solve_by(alloc, coterie, capacities, Rule::Dantzig, pivots)
 }
 
 /// Returns a candidate that this rule finds; otherwise the same as `solve`. After 2n pivots in a
@@ -155,15 +162,17 @@ pub fn solve(alloc: Global, coterie: &Coterie, pivots: u32) -> Result<Candidate,
 pub fn solve_by(
     alloc: Global,
     coterie: &Coterie,
+    capacities: &[u64],
     rule: Rule,
     pivots: u32,
 ) -> Result<Candidate, SimplexFault>
+    requires capacities { AreCapacities capacities.now coterie.now.voters }
     ensures quorums { IfOk result (λ c. vec_len c.quorum_weights ≡ length coterie.now.quorums) }
     ensures voters { IfOk result (λ c. vec_len c.voter_weights ≡ coterie.now.voters) }
     ensures limit { IfOk result (λ c. c.pivots ≤ pivots) }
     ensures refused { IfErr result (NamesAtMost pivots) }
 {
-    let mut method = Method::of(alloc, coterie)?;
+    let mut method = Method::of(alloc, coterie, capacities)?;
     improve(&mut method, rule, pivots)?;
     let quorum_weights = quorum_weights(alloc, &method, coterie.count())?;
     let voter_weights = voter_weights(alloc, &method)?;

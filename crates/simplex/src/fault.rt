@@ -18,7 +18,7 @@ pub enum SimplexFault {
     #[error("S2 PivotLimit")]
     PivotLimit,
     /// A column improves the solution without bound: no row limits it. This can't happen for a
-    /// coterie, since the sum that is maximised is at most the number of voters. That is not
+    /// coterie, since the sum that is maximised is at most the sum of the capacities. That is not
     /// proved.
     #[error("S3 NoRow")]
     NoRow,

@@ -1,8 +1,9 @@
 //! Candidate weights for a coterie's quorums and voters, by the simplex method in exact arithmetic.
 //!
 //! How much to use each quorum is the solution of a linear program: use the quorums as much as
-//! possible in total, but no voter more than once. This solution loads the busiest voter least, and
-//! the solution of the dual weighs the voters (Naor and Wool, SIAM J. Comput. 27(2), 1998).
+//! possible in total, but no voter more often than its capacity. This solution loads the busiest
+//! voter least, for the voter's capacity, and the solution of the dual weighs the voters (Naor and
+//! Wool, SIAM J. Comput. 27(2), 1998).
 //!
 //! Here Dantzig's simplex method solves the program, from the empty solution, in whole numbers over
 //! one denominator (`fraction::Shared`). Both solutions are read off the tableau as they are. The
@@ -15,7 +16,7 @@
 //!
 //! ```text
 //! // Any two of three voters.
-//! let candidate = solve(alloc, &majority, 10_000)?;
+//! let candidate = solve(alloc, &majority, &[1, 1, 1], 10_000)?;
 //! assert_eq!(rt; candidate.quorum_weights.len(), 3);
 //! assert_eq!(rt; candidate.voter_weights.len(), 3);
 //! ```

@@ -2,6 +2,7 @@
 ghost use Rattle.std.specs.Prelude.{◌≡◌, ◌+◌, ◌<◌, ◌≤◌, ◌^◌, length, vec_len, IfOk, IfErr, IfSome, OnOk, OnErr};
 ghost use Rattle.std.specs.List.{All};
 ghost use Rattle.numbers.specs.Bounds.{max_voters, max_quorums};
+ghost use Rattle.quorum_set.specs.Capacities.{AreCapacities};
 
 use crate::tableau::Tableau;
 use fraction::FracFault;
@@ -129,13 +130,18 @@ fn slacks(alloc: Global, quorums: usize, voters: usize) -> Result<Vec<usize>, Al
 
 impl<'a> Method<'a> {
     /// Returns the method before the first pivot.
-    pub(crate) fn of(alloc: Global, coterie: &'a Coterie) -> Result<Method<'a>, AllocError>
+    pub(crate) fn of(
+        alloc: Global,
+        coterie: &'a Coterie,
+        capacities: &[u64],
+    ) -> Result<Method<'a>, AllocError>
+        requires { AreCapacities capacities.now coterie.now.voters }
         ensures coterie { IfOk result (λ m. m.coterie.now ≡ coterie.now) }
         ensures none { IfOk result (λ m. m.made ≡ 0) }
     {
         let columns = all_summands(alloc, coterie)?;
-        let tableau = Tableau::of(alloc, coterie.voters())?;
         let basis = slacks(alloc, coterie.count(), coterie.voters())?;
+        let tableau = Tableau::of(alloc, capacities)?;
         Ok(Method {
             coterie,
             columns,

@@ -25,49 +25,53 @@ pub(crate) struct Tableau {
     ghost columns: { (i : ℕ) → i < voters + 1 → length (row_of cells i) ≡ voters + 3 },
 }
 
-/// Returns a row of zeros with a one in two columns.
+/// Returns a row of zeros, with a one in one column and this number in another.
 fn row_with(
     alloc: Global,
     columns: usize,
-    first: usize,
-    second: usize,
+    one: usize,
+    other: usize,
+    number: u64,
 ) -> Result<Vec<i128>, AllocError>
     ensures { IfOk result (λ v. IsStartRow columns v.items) }
 {
     let mut row = Vec::with_capacity(alloc, columns)?;
     for column in 0..columns {
-        let is_one = column == first || column == second;
-        row.push(if is_one { 1i128 } else { 0 })?;
+        row.push(if column == one {
+            1
+        } else if column == other {
+            i128::from(number)
+        } else {
+            0
+        })?;
     }
     Ok(row)
 }
 
-/// Returns the rows before the first pivot: no quorum is used, and each voter's slack is 1.
-fn start_rows(alloc: Global, voters: usize) -> Result<Vec<Vec<i128>>, AllocError>
-    requires { voters ≤ max_voters }
-    ensures { IfOk result (λ v. AreStartRows (voters + 1) (voters + 3) v.items) }
+/// Returns the rows before the first pivot: no quorum is used, and each voter's slack is the
+/// voter's capacity. The right side of the objective's row is 0.
+fn start_rows(alloc: Global, capacities: &[u64]) -> Result<Vec<Vec<i128>>, AllocError>
+    requires { length capacities.now ≤ max_voters }
+    ensures { IfOk result (λ v. AreStartRows (length capacities.now + 1) (length capacities.now + 3) v.items) }
 {
+    let voters = capacities.len();
     let mut rows = Vec::with_capacity(alloc, voters + 1)?;
-    for row in 0..voters + 1 {
-        let (first, second) = if row < voters {
-            (row, voters)
-        } else {
-            (voters + 1, voters + 1)
-        };
-        rows.push(row_with(alloc, voters + 3, first, second)?)?;
+    for (voter, capacity) in capacities.iter().enumerate() {
+        rows.push(row_with(alloc, voters + 3, voter, voters, *capacity)?)?;
     }
+    rows.push(row_with(alloc, voters + 3, voters + 1, voters, 0)?)?;
     Ok(rows)
 }
 
 impl Tableau {
-    /// Returns the tableau before the first pivot.
-    pub(crate) fn of(alloc: Global, voters: usize) -> Result<Tableau, AllocError>
-        requires { voters ≤ max_voters }
-        ensures { IfOk result (λ t. t.voters ≡ voters) }
+    /// Returns the tableau before the first pivot, for voters of these capacities.
+    pub(crate) fn of(alloc: Global, capacities: &[u64]) -> Result<Tableau, AllocError>
+        requires { length capacities.now ≤ max_voters }
+        ensures { IfOk result (λ t. t.voters ≡ length capacities.now) }
     {
-        let rows = start_rows(alloc, voters)?;
+        let rows = start_rows(alloc, capacities)?;
         Ok(Tableau {
-            voters,
+            voters: capacities.len(),
             cells: Shared::of(rows, 1),
         })
     }

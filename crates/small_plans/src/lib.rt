@@ -7,15 +7,16 @@
 //! | [`grid_plan`] | 2 by 2 | a row and a column, which are any three | 3/4 |
 //! | [`wheel_plan`] | a hub and three rims | the hub with a rim, or all rims | 3/5 |
 //!
-//! [`plan_of`] makes others. Nothing but safety is proved here. What is returned is a plan because
-//! `certificate` checked it.
+//! In these plans each voter has capacity 1. [`plan_of`] makes others, and [`plan_with`] those with
+//! capacities. Nothing but safety is proved here, and what capacities are. What is returned is a plan
+//! because `certificate` checked it.
 //!
-//! Depends on `quorum_set` and `certificate`.
+//! Depends on `numbers`, `quorum_set` and `certificate`.
 #![tactic(auto)]
 
 mod plans;
 
 pub use plans::{
-    coterie_of, even_plan, grid_plan, lone_plan, majority_plan, plan_of, set_of, sets_of,
-    wheel_plan,
+    are_capacities, coterie_of, even_plan, grid_plan, lone_plan, majority_plan, plan_of, plan_with,
+    set_of, sets_of, unit_capacities, wheel_plan,
 };

@@ -1,7 +1,9 @@
 //! Coteries and plans from lists of numbers.
-ghost use Rattle.std.specs.Prelude.{◌≡◌, IfOk};
+ghost use Rattle.std.specs.Prelude.{◌≡◌, IfOk, IsTrue};
+ghost use Rattle.quorum_set.specs.Capacities.{AreCapacities, unit_capacities};
 
 use certificate::{Plan, check};
+use numbers::MAX_CAPACITY;
 use quorum_set::{Coterie, QSet};
 use std::alloc::{AllocError, Global};
 use std::test::Fail;
@@ -42,18 +44,50 @@ pub fn coterie_of(alloc: Global, voters: usize, quorums: &[&[u8]]) -> Result<Cot
     Ok(Coterie::of(voters, sets_of(alloc, quorums)?)?)
 }
 
-/// Returns the plan with these weights of the quorums and of the voters, or `None` if it is not a
-/// plan or memory runs out.
+/// Returns capacity 1 for each of this many voters.
+#[tactic(auto, using(crate::proofs::Units::unit_capacities_of))]
+pub fn unit_capacities(alloc: Global, voters: usize) -> Result<Vec<u64>, AllocError>
+    ensures unit { IfOk result (λ v. v.items ≡ unit_capacities voters) }
+    ensures capacities { IfOk result (λ v. AreCapacities v.items voters) }
+{
+    vec![in alloc; 1; voters]
+}
+
+/// Returns whether there is a capacity for each of this many voters, 1 to 1000.
+pub fn are_capacities(capacities: &[u64], voters: usize) -> bool
+    ensures { IsTrue result → AreCapacities capacities.now voters }
+{
+    capacities.len() == voters && capacities.iter().all(|c| 1 <= *c && *c <= MAX_CAPACITY)
+}
+
+/// Returns the plan with these capacities and these weights of the quorums and of the voters, or
+/// `None` if it is not a plan or memory runs out.
+pub fn plan_with(
+    alloc: Global,
+    quorums: &[&[u8]],
+    capacities: &[u64],
+    quorum_weights: &[u64],
+    voter_weights: &[u64],
+) -> Option<Plan> {
+    let coterie = Coterie::of(voter_weights.len(), sets_of(alloc, quorums).ok()?).ok()?;
+    if !are_capacities(capacities, coterie.voters()) {
+        return None;
+    }
+    let quorum_weights = quorum_weights.to_vec(alloc).ok()?;
+    let voter_weights = voter_weights.to_vec(alloc).ok()?;
+    check(alloc, &coterie, capacities, quorum_weights, voter_weights).ok()
+}
+
+/// Returns the plan with these weights of the quorums and of the voters, all of capacity 1, or
+/// `None` if it is not a plan or memory runs out.
 pub fn plan_of(
     alloc: Global,
     quorums: &[&[u8]],
     quorum_weights: &[u64],
     voter_weights: &[u64],
 ) -> Option<Plan> {
-    let coterie = Coterie::of(voter_weights.len(), sets_of(alloc, quorums).ok()?).ok()?;
-    let quorum_weights = quorum_weights.to_vec(alloc).ok()?;
-    let voter_weights = voter_weights.to_vec(alloc).ok()?;
-    check(alloc, &coterie, quorum_weights, voter_weights).ok()
+    let capacities = unit_capacities(alloc, voter_weights.len()).ok()?;
+    plan_with(alloc, quorums, &capacities, quorum_weights, voter_weights)
 }
 
 /// Returns the plan in which each quorum and each voter has weight 1, or `None` if it is not a plan

@@ -1,5 +1,5 @@
 -- Texts that are cut at a byte, and what has no such byte.
-use Rattle.std.proofs.Common.{◌≡◌, ℕ, ◌+◌, ◌<◌, Bool, true, false, cond, eqb, ltb, List, [], ◌∷◌, ◌++◌, length, get_or, take, drop, None, Some, sym, refl, ap, ◌∙◌, arith, length-append, append_assoc}
+use Rattle.std.proofs.Common.{◌≡◌, ℕ, ◌+◌, ◌^◌, ◌<◌, Bool, true, false, cond, eqb, ltb, List, [], ◌∷◌, ◌++◌, length, get_or, take, drop, None, Some, sym, refl, ap, ◌∙◌, arith, length-append, append_assoc}
 use Rattle.std.specs.List.{All, position, position_or_len, before_first, after_first, slice_split, join_with_byte}
 use Rattle.std.specs.Option.{option_map}
 use Rattle.std.specs.Str.{all_ascii_digits}
@@ -39,8 +39,8 @@ Lacks-digits mark (d ∷ ds) low h =
     let parts = tells_all_ascii_digits.parts d ds h in
     (ne_eqb d mark (λ e. omega (arith, parts.0)), Lacks-digits mark ds low parts.1)
 
-pub Lacks-decimal : (mark n : ℕ) → mark < 48 → n < 10000000 → Lacks mark (decimal n)
-Lacks-decimal mark n low small = Lacks-digits mark (decimal n) low (digits_decimal ascii_numerals n (omega arith))
+pub Lacks-decimal : (mark n : ℕ) → mark < 48 → n < 2 ^ 64 → Lacks mark (decimal n)
+Lacks-decimal mark n low fits = Lacks-digits mark (decimal n) low (digits_decimal ascii_numerals n fits)
 
 place_after : (mark : ℕ) (front rest : List ℕ) → Lacks mark front → position_or_len (λ b. eqb b mark) (front ++ mark ∷ rest) ≡ length front
 place_after mark [] rest h = rw (eq-eqb mark mark refl) refl

@@ -2,7 +2,7 @@
 use certificate::Plan;
 use cluster::RunRecord;
 use replay::{ReplayFault, check_record};
-use small_plans::majority_plan;
+use small_plans::{majority_plan, plan_with};
 use std::alloc::{AllocError, Global};
 use std::test::Fail;
 
@@ -61,13 +61,14 @@ fn names_each_fault_once(rt: HostRuntime) -> Result<(), Fail> {
     Ok(())
 }
 
-/// Returns whether a record has three draws, two of them for each voter.
-fn has_three_draws(alloc: Global, plan: &Plan, record: &RunRecord) -> bool {
+/// Returns whether a record has three draws, two of them for each voter, and this ratio.
+fn has_three_draws(alloc: Global, plan: &Plan, record: &RunRecord, ratio: (u64, u64)) -> bool {
     match check_record(alloc, plan, record) {
         Ok(account) => {
             (account.drawn == 3)
                 & (account.voters.as_slice() == [2, 2, 2].as_slice())
                 & (account.busiest == 2)
+                & (account.ratio == ratio)
         }
         Err(_) => false,
     }
@@ -79,6 +80,22 @@ fn accounts_for_a_sound_record(rt: HostRuntime) -> Result<(), Fail> {
         panic!(rt; "no plan")
     };
     let record = record_of(rt.alloc(), (0, 1, 1), (1, 1), 2)?;
-    assert!(rt; has_three_draws(rt.alloc(), &plan, &record));
+    assert!(rt; has_three_draws(rt.alloc(), &plan, &record, (2, 1)));
+    Ok(())
+}
+
+/// Returns the plan of any two of three voters, each of capacity 4.
+fn strong_plan(alloc: Global) -> Option<Plan> {
+    let quorums: [&[u8]; 3] = [&[0, 1], &[0, 2], &[1, 2]];
+    plan_with(alloc, &quorums, &[4, 4, 4], &[1, 1, 1], &[1, 1, 1])
+}
+
+#[test]
+fn accounts_by_the_plan_s_capacities(rt: HostRuntime) -> Result<(), Fail> {
+    let Some(plan) = strong_plan(rt.alloc()) else {
+        panic!(rt; "no plan")
+    };
+    let record = record_of(rt.alloc(), (0, 1, 1), (1, 1), 2)?;
+    assert!(rt; has_three_draws(rt.alloc(), &plan, &record, (1, 2)));
     Ok(())
 }

@@ -2,4 +2,4 @@ use Rattle.certificate.proofs.FaultLaws.{IsCertificate-weights_fault, weights_fa
 use Rattle.certificate.proofs.laws.certificates_have_no_fault.Goals as goal
 
 pub returns : goal.returns
-returns c = λ w coterie. (IsCertificate-weights_fault w coterie, weights_fault-IsCertificate w)
+returns c = λ w coterie capacities. (IsCertificate-weights_fault w coterie capacities, weights_fault-IsCertificate w)

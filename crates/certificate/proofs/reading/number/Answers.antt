@@ -3,10 +3,11 @@ use Rattle.certificate.proofs.Numbers.{number_of-long, number_of-none, number_of
 use Rattle.certificate.proofs.reading.number.Goals as goal
 
 pub returns-in-Some : goal.returns-in-Some
-returns-in-Some c = sym (number_of-spelled c.args.bytes.now c.in-Some.value c.in-Some.ensures.spelled c.if-value-lt-NUMBER_END.true)
+returns-in-Some c = sym (number_of-spelled c.args.digits c.args.bytes.now c.in-Some.value c.requires.some c.requires.few c.in-Some.ensures.spelled (omega (arith, c.pow.ensures, c.if-value-pow.true)))
 
 pub returns-in_default : goal.returns-in_default
-returns-in_default c = sym (number_of-long c.args.bytes.now c.in-Some.value c.in-Some.ensures.spelled (omega arith) (omega (arith, c.if-value-lt-NUMBER_END.false)))
+returns-in_default c =
+    sym (number_of-long c.args.digits c.args.bytes.now c.in-Some.value c.requires.few c.in-Some.ensures.spelled (omega arith) (omega (arith, c.pow.ensures, c.if-value-pow.false)))
 
 pub returns-in_default-2 : goal.returns-in_default-2
-returns-in_default-2 c = sym (number_of-none c.args.bytes.now (λ n fits e. let some = c.in_default.ensures.read n fits e in cc))
+returns-in_default-2 c = sym (number_of-none c.args.digits c.args.bytes.now c.requires.few (λ n fits e. let some = c.in_default.ensures.read n fits e in cc))

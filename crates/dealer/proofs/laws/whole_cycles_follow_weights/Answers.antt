@@ -8,3 +8,7 @@ returns-clause-shares c = times-whole
 pub returns-clause-even : goal.returns-clause-even
 returns-clause-even c = λ w k tickets is whole.
     c.whole_cycles_are_even.ensures.busiest w k (quorums_named w tickets) is.quorums (times-whole w k tickets whole)
+
+pub returns-clause-ratio : goal.returns-clause-ratio
+returns-clause-ratio c = λ w k tickets is whole.
+    c.whole_cycles_are_even.ensures.ratio w k (quorums_named w tickets) is (times-whole w k tickets whole)

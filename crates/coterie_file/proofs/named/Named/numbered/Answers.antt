@@ -10,11 +10,11 @@ loop-i-preserved c =
     ap (map string_bytes) c.in_ok-push.ensures.items ∙ map-push string_bytes c.loop-i.names.items c.in_ok-format.field-0
     ∙ ap₂ (λ xs x. xs ++ x ∷ []) c.loop-i.invariant c.in_ok-format.ensures.ok ∙ sym (numbered_names-push i)
 
-pub with-requires-clause-one_each : goal.with-requires-clause-one_each
-with-requires-clause-one_each c =
+pub with_units-requires-clause-one_each : goal.with_units-requires-clause-one_each
+with_units-requires-clause-one_each c =
     omega (arith, sym (length-map c.loop-i.names.items string_bytes) ∙ ap length c.loop-i.invariant ∙ length-numbered_names c.loop-i.i-counter)
 
-pub with-requires-clause-names : goal.with-requires-clause-names
-with-requires-clause-names c =
+pub with_units-requires-clause-names : goal.with_units-requires-clause-names
+with_units-requires-clause-names c =
     let few = c.voters-i-end.ensures.coterie.few_voters in
     rw c.loop-i.invariant (AreNames-numbered c.loop-i.i-counter (omega arith))

@@ -1,7 +1,8 @@
 use Rattle.std.proofs.Common.{◌≡◌, List, ◌+◌, ◌*◌, length, ap, sym, ◌∙◌, subst, arith}
 use Rattle.numbers.specs.Sums.{AreAllBelow}
+use Rattle.quorum_set.specs.Capacities.{are_unit}
 use Rattle.certificate.specs.Certificates.{cycle_len}
-use Rattle.dealer.specs.Accounts.{IsLeastBusiest}
+use Rattle.dealer.specs.Accounts.{IsLeastBusiest, IsLeastRatio}
 use Rattle.dealer.specs.Offices.{OfficeName, OfficeState, ClerkState, tickets_of}
 use Rattle.dealer.specs.declared.receipt.Receipt.{Receipt}
 use Rattle.dealer.specs.declared.tickets.Sheet.{Sheet}
@@ -35,9 +36,17 @@ returns-in-Ok-clause-quorums c =
     let cycle = ap (λ (v : ClerkState). v.office.cycle) c.clerk.view_is ∙ ap (λ (n : OfficeName). n.cycle) c.requires in
     rw (← cycle, sym receipts ∙ c.clerk.invariant.receipts) (AreByCycle-map hand.cycle hand.drawn)
 
-pub returns-in-Ok-clause-least : goal.returns-in-Ok-clause-least
-returns-in-Ok-clause-least c = λ k long.
+pub returns-in-Ok-clause-least_ratio : goal.returns-in-Ok-clause-least_ratio
+returns-in-Ok-clause-least_ratio c = λ k long.
     let receipts = ap (λ (v : ClerkState). v.receipts) c.clerk.view_is in
     let cycle = ap (λ (v : OfficeState). v.name.cycle) c.self.view_is in
     let many = ap length (c.deref.ensures.value ∙ receipts) ∙ long ∙ ap (λ w. k * cycle_len w) (sym cycle) in
-    subst (λ w. IsLeastBusiest w c.in-Ok.account.drawn c.in-Ok.account.busiest) cycle (c.in-Ok.ensures.least k many)
+    subst (λ w. IsLeastRatio w c.in-Ok.account.drawn c.in-Ok.account.ratio) cycle (c.in-Ok.ensures.least_ratio k many)
+
+pub returns-in-Ok-clause-least : goal.returns-in-Ok-clause-least
+returns-in-Ok-clause-least c = λ k units long.
+    let receipts = ap (λ (v : ClerkState). v.receipts) c.clerk.view_is in
+    let cycle = ap (λ (v : OfficeState). v.name.cycle) c.self.view_is in
+    let many = ap length (c.deref.ensures.value ∙ receipts) ∙ long ∙ ap (λ w. k * cycle_len w) (sym cycle) in
+    subst (λ w. IsLeastBusiest w c.in-Ok.account.drawn c.in-Ok.account.busiest) cycle
+    (c.in-Ok.ensures.least k (ap (λ w. are_unit w.capacities) cycle ∙ units) many)
