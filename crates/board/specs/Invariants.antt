@@ -1,9 +1,9 @@
 -- What a board and its seats keep between any two calls.
-use Rattle.std.specs.Prelude.{◌≡◌, ℕ, ◌+◌, ◌<◌, ◌≤◌, Bool, List, [], Option, IfSome}
+use Rattle.std.specs.Prelude.{◌≡◌, ℕ, ◌+◌, ◌*◌, ◌<◌, ◌≤◌, Bool, List, [], length, Option, IfSome}
 use Rattle.std.specs.List.{All}
 use Rattle.atomic_table.specs.Seated.{TableId}
 use Rattle.atomic_table.specs.Table.{Me}
-use Rattle.numbers.specs.Bounds.{max_voters, max_clients, max_stamp, max_tickets}
+use Rattle.numbers.specs.Bounds.{max_voters, max_quorums, max_clients, max_stamp, max_tickets}
 use Rattle.quorum_set.specs.Meetings.{AllMeet}
 use Rattle.board.specs.declared.table.View.{View}
 use Rattle.board.specs.Seats.{Setting}
@@ -11,8 +11,9 @@ use Rattle.board.specs.Roots.{IsRoot, AreWithin, AreOnBoard, IsCurrent}
 use Rattle.board.specs.Views.{voter_view, client_view}
 
 -- The table has one word for each voter and one for the register, and was made with the board's
--- sheet. The sheet's numbers are in range, and any two of its quorums meet.
-pub record IsBoard (key : Setting) (table : TableId) (sheet : Setting) : Type 0 where
+-- sheet. The sheet's numbers are in range, and any two of its quorums meet. The first coterie's
+-- quorums are among them. A coterie has at most 4096 quorums, and there are at most two coteries.
+pub record IsBoard (key : Setting) (table : TableId) (sheet : Setting) (firsts : ℕ) : Type 0 where
   pub same_sheet : key ≡ sheet
   pub words : table.words ≡ sheet.voters + 1
   pub no_slots : table.slots ≡ 0
@@ -23,6 +24,8 @@ pub record IsBoard (key : Setting) (table : TableId) (sheet : Setting) : Type 0 
   pub some_voter : 1 ≤ sheet.voters
   pub few_voters : sheet.voters ≤ max_voters
   pub meet : AllMeet sheet.voters sheet.quorums
+  pub few_firsts : firsts ≤ length sheet.quorums
+  pub few_quorums : length sheet.quorums ≤ 2 * max_quorums
 
 -- a voter's seat: its view is that of its current grant, and its voter is one of the table's
 pub record IsVoterSeat (me : Me (Unit {0}) View) (table : TableId) (voter : ℕ) (current : Option (ℕ × ℕ)) (last : ℕ)

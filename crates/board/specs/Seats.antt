@@ -13,11 +13,13 @@ pub record Setting : Type 0 where
   pub clients : ℕ
   pub limit : ℕ
 
--- a board: the same, and which board it is
+-- A board: the same, which board it is, and how many of its quorums are those of its first coterie.
+-- They come first, and then come those of its second coterie, if it has one.
 pub record BoardState : Type 0 where
   pub table : TableId
   pub voters : ℕ
   pub quorums : List (List ℕ)
+  pub firsts : ℕ
   pub clients : ℕ
   pub limit : ℕ
 
@@ -32,7 +34,8 @@ pub record VoterSeatState : Type 0 where
 -- A client's seat:
 -- - its board and its client;
 -- - for each voter, the grant under which its vote is held, or 0;
--- - the quorum and the number of the last reading, if it still counts;
+-- - the place of the quorum in the board's list and the number of the last reading, if it still
+--   counts;
 -- - the pass numbers.
 pub record ClientSeatState : Type 0 where
   pub table : TableId

@@ -1,16 +1,17 @@
 //! The board, on which all seats make their steps.
-ghost use Rattle.std.specs.Prelude.{◌≡◌, ℕ, ◌+◌, ◌-◌, ◌<◌, ◌≤◌, [], true, false, IfOk, IfErr, map, nat_lt, length, replicate, slice_index_or};
+ghost use Rattle.std.specs.Prelude.{◌≡◌, ℕ, ◌+◌, ◌-◌, ◌*◌, ◌<◌, ◌≤◌, ◌++◌, [], true, false, IfOk, IfErr, map, nat_lt, length, replicate, slice_index_or};
 ghost use Rattle.std.specs.List.{sum_by};
-ghost use Rattle.numbers.specs.Bounds.{max_voters, max_clients, max_tickets};
+ghost use Rattle.numbers.specs.Bounds.{max_voters, max_quorums, max_clients, max_tickets};
 ghost use Rattle.numbers.specs.Sums.{AreAllBelow};
 ghost use Rattle.quorum_set.specs.Meetings.{AllMeet};
+ghost use Rattle.board.specs.Quorums.{place_of, HasQuorum};
 ghost use Rattle.board.specs.Roots.{weight};
 ghost use Rattle.board.specs.Seats.{BoardState, RootState};
 
 use crate::fault::BoardFault;
 use crate::root::BoardRoot;
 use crate::table::{Sheet, VoteTable};
-use quorum_set::{Coterie, QSet, coteries_meet};
+use quorum_set::{Bridge, Coterie, QSet, Side, bridges_meet, coteries_meet};
 use std::alloc::{AllocError, Global};
 use std::marker::Model;
 
@@ -20,6 +21,8 @@ use std::marker::Model;
 pub struct Board {
     pub(crate) table: VoteTable,
     pub(crate) sheet: Sheet,
+    /// How many of the quorums are those of the first coterie.
+    pub(crate) firsts: usize,
 }
 
 impl Model for Board {
@@ -32,11 +35,12 @@ impl Model for Board {
       table = b.table.shared.table_id;
       voters = b.sheet.voters;
       quorums = b.sheet.quorums;
+      firsts = b.firsts;
       clients = b.sheet.clients;
       limit = b.sheet.limit;
     } };
 
-    ghost invariant = { λ b. IsBoard b.table.shared.key b.table.shared.table_id b.sheet };
+    ghost invariant = { λ b. IsBoard b.table.shared.key b.table.shared.table_id b.sheet b.firsts };
 }
 
 impl Board {
@@ -54,6 +58,7 @@ impl Board {
         requires some_number { 1 ≤ limit }
         requires limit { limit ≤ max_tickets }
         ensures coterie { IfOk result (λ r. (r.0.voters ≡ coterie.now.voters) × (r.0.quorums ≡ coterie.now.quorums)) }
+        ensures firsts { IfOk result (λ r. r.0.firsts ≡ length coterie.now.quorums) }
         ensures clients { IfOk result (λ r. r.0.clients ≡ clients) }
         ensures limit { IfOk result (λ r. r.0.limit ≡ limit) }
         ensures root { IfOk result (λ r.
@@ -63,16 +68,83 @@ impl Board {
         ensures client_seats { IfOk result (λ r. (c : ℕ) → slice_index_or r.1.clients c false ≡ nat_lt c clients) }
     {
         coteries_meet();
-        let voters = coterie.voters();
+        let quorums = quorums_of(alloc, coterie)?;
+        let (voters, firsts) = (coterie.voters(), coterie.count());
+        Board::over(alloc, voters, quorums, firsts, clients, limit)
+    }
+
+    /// Creates a board for two coteries over the same voters, of which quorums may be in use at
+    /// once. The list of its quorums has the first coterie's and then the second's. All else is as
+    /// `new` has it. Fails if it runs out of memory.
+    pub fn bridged(
+        alloc: Global,
+        bridge: &Bridge,
+        clients: u8,
+        limit: u64,
+    ) -> Result<(Board, BoardRoot), AllocError>
+        requires some_client { 1 ≤ clients }
+        requires few_clients { clients ≤ max_clients }
+        requires some_number { 1 ≤ limit }
+        requires limit { limit ≤ max_tickets }
+        ensures voters { IfOk result (λ r. r.0.voters ≡ bridge.now.first.voters) }
+        ensures quorums { IfOk result (λ r.
+            r.0.quorums ≡ bridge.now.first.quorums ++ bridge.now.second.quorums) }
+        ensures firsts { IfOk result (λ r. r.0.firsts ≡ length bridge.now.first.quorums) }
+        ensures clients { IfOk result (λ r. r.0.clients ≡ clients) }
+        ensures limit { IfOk result (λ r. r.0.limit ≡ limit) }
+        ensures root { IfOk result (λ r. (r.1.table ≡ r.0.table)
+            × (r.1.seats ≡ bridge.now.first.voters + clients) × (r.1.passes ≡ [])) }
+        ensures voter_seats { IfOk result (λ r.
+            (v : ℕ) → slice_index_or r.1.voters v false ≡ nat_lt v bridge.now.first.voters) }
+        ensures client_seats { IfOk result (λ r. (c : ℕ) → slice_index_or r.1.clients c false ≡ nat_lt c clients) }
+    {
+        bridges_meet();
+        let quorums = joint_quorums(alloc, bridge)?;
+        let (voters, firsts) = (bridge.first().voters(), bridge.first().count());
+        Board::over(alloc, voters, quorums, firsts, clients, limit)
+    }
+
+    /// Creates a board for these voters and quorums. Any two of the quorums meet, and the first
+    /// `firsts` of them are those of the first coterie.
+    fn over(
+        alloc: Global,
+        voters: usize,
+        quorums: Vec<QSet>,
+        firsts: usize,
+        clients: u8,
+        limit: u64,
+    ) -> Result<(Board, BoardRoot), AllocError>
+        requires some_voter { 1 ≤ voters }
+        requires few_voters { voters ≤ max_voters }
+        requires meet { AllMeet voters quorums.items }
+        requires firsts { firsts ≤ length quorums.items }
+        requires few_quorums { length quorums.items ≤ 2 * max_quorums }
+        requires some_client { 1 ≤ clients }
+        requires few_clients { clients ≤ max_clients }
+        requires some_number { 1 ≤ limit }
+        requires limit { limit ≤ max_tickets }
+        ensures quorums { IfOk result (λ r.
+            (r.0.voters ≡ voters) × (r.0.quorums ≡ quorums.items) × (r.0.firsts ≡ firsts)) }
+        ensures clients { IfOk result (λ r. r.0.clients ≡ clients) }
+        ensures limit { IfOk result (λ r. r.0.limit ≡ limit) }
+        ensures root { IfOk result (λ r.
+            (r.1.table ≡ r.0.table) × (r.1.seats ≡ voters + clients) × (r.1.passes ≡ [])) }
+        ensures voter_seats { IfOk result (λ r. (v : ℕ) → slice_index_or r.1.voters v false ≡ nat_lt v voters) }
+        ensures client_seats { IfOk result (λ r. (c : ℕ) → slice_index_or r.1.clients c false ≡ nat_lt c clients) }
+    {
         let words = zeros(alloc, voters + 1)?;
         let sheet = Sheet {
             voters,
-            quorums: quorums_of(alloc, coterie)?,
+            quorums,
             clients,
             limit,
         };
         let (table, seat) = VoteTable::of_words(alloc, words.as_slice(), &sheet)?;
-        let board = Board { table, sheet };
+        let board = Board {
+            table,
+            sheet,
+            firsts,
+        };
         let root = BoardRoot {
             seat,
             seats: voters as u64 + u64::from(clients),
@@ -111,6 +183,19 @@ impl Board {
         self.sheet.limit()
     }
 
+    /// Returns the place of a coterie's quorum in the list of all quorums. The coterie has to have
+    /// that quorum.
+    pub(crate) fn place(&self, side: Side, quorum: usize) -> usize
+        requires { HasQuorum self.now.firsts self.now.quorums side quorum }
+        ensures place { result ≡ place_of self.now.firsts side quorum }
+        ensures in_range { result < length self.now.quorums }
+    {
+        match side {
+            Side::First => quorum,
+            Side::Second => self.firsts + quorum,
+        }
+    }
+
     /// Closes the board and returns the register and all passes. Fails with `SeatsOut(n)` if n
     /// seats were given and not joined again. Allocates no memory.
     pub fn close(self, root: BoardRoot) -> Result<Total, BoardFault>
@@ -122,7 +207,11 @@ impl Board {
         ensures out { IfErr result (λ e. (root.seats < self.voters + self.clients)
             × (e ≡ BoardFault.SeatsOut (self.voters + self.clients - root.seats))) }
     {
-        let Board { table, sheet } = self;
+        let Board {
+            table,
+            sheet,
+            firsts: _,
+        } = self;
         let BoardRoot {
             seat,
             seats,
@@ -159,6 +248,16 @@ fn quorums_of(alloc: Global, coterie: &Coterie) -> Result<Vec<QSet>, AllocError>
     for j in 0..coterie.count() {
         quorums.push(coterie.quorum(j).copy())?;
     }
+    Ok(quorums)
+}
+
+/// Returns the quorums of the first coterie and then those of the second.
+fn joint_quorums(alloc: Global, bridge: &Bridge) -> Result<Vec<QSet>, AllocError>
+    ensures { IfOk result (λ v. v.items ≡ bridge.now.first.quorums ++ bridge.now.second.quorums) }
+{
+    let mut quorums = quorums_of(alloc, bridge.first())?;
+    let mut others = quorums_of(alloc, bridge.second())?;
+    quorums.append(&mut others)?;
     Ok(quorums)
 }
 

@@ -5,7 +5,7 @@ ghost use mathlib.Core.Option.{none};
 ghost use Rattle.atomic_table.specs.Table.{step};
 ghost use Rattle.numbers.specs.Bounds.{max_voters, max_clients, max_stamp};
 ghost use Rattle.board.specs.Moves.{Read};
-ghost use Rattle.board.specs.Quorums.{quorum_at, HoldsAll};
+ghost use Rattle.board.specs.Quorums.{quorum_at, place_of, HasQuorum, HoldsAll};
 ghost use Rattle.board.specs.Seats.{BoardState, ClientSeatState};
 
 use crate::board::Board;
@@ -14,6 +14,7 @@ use crate::table::{GiveBack, Number, ReadFor, Take, View, VoteTable, Write};
 use crate::vote::Vote;
 use atomic_table::Seat;
 use numbers::MAX_VOTERS;
+use quorum_set::Side;
 use std::marker::{Brand, Model};
 
 /// The only right to take votes for a client. It may be moved to a thread. Contracts see a
@@ -69,6 +70,8 @@ impl ClientSeat {
     }
 
     /// Returns the quorum and the number of the last reading of the register, if it still counts.
+    /// The quorum is its place in the board's list, in which the second coterie's quorums come after
+    /// the first's.
     pub fn reading(&self) -> Option<(usize, u64)>
         ensures { result ≡ self.now.reading }
     {
@@ -115,6 +118,9 @@ impl ClientSeat {
 
     /// Gives the voter's vote back. The seat must hold that vote, and the board must be the seat's.
     /// A reading of the register no longer counts.
+    ///
+    /// The votes that are left may still cover a quorum, if it lies within a quorum of the other
+    /// coterie. The reading is forgotten all the same.
     pub fn give_back(&mut self, board: &Board, voter: u8)
         requires table { self.old.table ≡ board.now.table }
         requires held { slice_index self.old.held voter ≢ 0 }
@@ -131,22 +137,29 @@ impl ClientSeat {
         self.reading = None;
     }
 
-    /// Reads the register for a quorum of this board, and returns the number read. The seat must
-    /// hold the vote of every member, so the client is inside. The board must be the seat's.
+    /// Reads the register for a quorum of this board, and returns the number read. `quorum` is its
+    /// number in the coterie of that side, which must have it: on a board of one coterie, the second
+    /// has none. The seat must hold the vote of every member, so the client is inside. The board
+    /// must be the seat's.
+    ///
+    /// The reading keeps the quorum's place in the board's list, in which the second coterie's
+    /// quorums come after the first's.
     ///
     /// The number is above each of the client's pass numbers. It stays the register's number while
     /// the reading counts.
-    pub fn read_register(&mut self, board: &Board, quorum: usize) -> u64
+    pub fn read_register(&mut self, board: &Board, side: Side, quorum: usize) -> u64
         requires table { self.old.table ≡ board.now.table }
-        requires quorum { quorum < length board.now.quorums }
-        requires held { HoldsAll (quorum_at board.now.quorums quorum) self.old.held }
-        ensures read { self.new ≡ record self.old { reading = Some (quorum, result) } }
+        requires quorum { HasQuorum board.now.firsts board.now.quorums side quorum }
+        requires held { HoldsAll (quorum_at board.now.quorums (place_of board.now.firsts side quorum)) self.old.held }
+        ensures read { self.new
+            ≡ record self.old { reading = Some (place_of board.now.firsts side quorum, result) } }
         ensures above { All (λ x. x < result) self.old.passes }
         ensures table { self.new.table ≡ self.old.table }
     {
+        let place = board.place(side, quorum);
         let word = board.sheet.voters();
-        let number = read::<Brand>(&board.table, &mut self.seat, word, quorum);
-        self.reading = Some((quorum, number));
+        let number = read::<Brand>(&board.table, &mut self.seat, word, place);
+        self.reading = Some((place, number));
         number
     }
 

@@ -27,8 +27,9 @@
 //! - The pass numbers of all clients together are the numbers below the register, each once.
 //!   [`Board::close`] returns them.
 //!
-//! This holds for any list of quorums in which any two meet. Nothing is proved about waiting or
-//! progress.
+//! This holds for any list of quorums in which any two meet, so also while a plan is exchanged:
+//! [`Board::bridged`] has the quorums of two coteries, and those of one meet those of the other.
+//! Nothing is proved about waiting or progress.
 //!
 //! [`BoardRoot`] gives each seat once and takes it back. A seat that is dropped stays out, and so
 //! do the votes that it holds.
@@ -42,7 +43,7 @@
 //! let mut client = root.client(&board, 0);
 //! voter.grant(&board, 0, 1);
 //! if client.take(&board, 0, 1) {
-//!     let number = client.read_register(&board, 0); // 0
+//!     let number = client.read_register(&board, Side::First, 0); // 0
 //!     client.write_register(&board)?; // the register is 1, and pass number 0 is this client's
 //!     client.give_back(&board, 0);
 //! }

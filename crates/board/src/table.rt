@@ -23,7 +23,8 @@ pub struct View {
     pub client: u64,
     /// For each voter, the grant under which its vote is held, or 0.
     pub held: LinkedList<u64>,
-    /// The quorum and the number of the last reading of the register, if it still counts.
+    /// The place of the quorum in the board's list and the number of the last reading of the
+    /// register, if it still counts.
     pub reading: Option<(usize, u64)>,
     /// Its pass numbers.
     pub passes: LinkedList<u64>,

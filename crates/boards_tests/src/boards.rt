@@ -5,7 +5,7 @@ ghost use Rattle.board.specs.Seats.{BoardState, ClientSeatState, RootState, Vote
 ghost use Rattle.board.specs.Words.{nobody};
 
 use board::{Board, BoardFault, BoardRoot, ClientSeat, Total, VoterSeat};
-use quorum_set::{Coterie, QSet};
+use quorum_set::{Coterie, QSet, Side};
 use std::alloc::Global;
 use std::test::Fail;
 use std::thread;
@@ -32,7 +32,7 @@ fn one(alloc: Global) -> Result<Coterie, Fail>
 fn board_of(alloc: Global, clients: u8, limit: u64) -> Result<(Board, BoardRoot), Fail>
     requires clients { (1 ≤ clients) × (clients ≤ 64) }
     requires limit { (1 ≤ limit) × (limit ≤ 100) }
-    ensures board { IfOk result (λ p. (p.0.voters ≡ 1) × (p.0.quorums ≡ (0 ∷ []) ∷ []) × (p.0.clients ≡ clients)) }
+    ensures board { IfOk result (λ p. (p.0.voters ≡ 1) × (p.0.quorums ≡ (0 ∷ []) ∷ []) × (p.0.firsts ≡ 1) × (p.0.clients ≡ clients)) }
     ensures root { IfOk result (λ p. p.1.table ≡ p.0.table) }
 {
     Ok(Board::new(alloc, &one(alloc)?, clients, limit)?)
@@ -69,7 +69,7 @@ pub(crate) type Seated = (Board, BoardRoot, VoterSeat, ClientSeat);
 pub(crate) fn seated(alloc: Global, clients: u8, limit: u64) -> Result<Option<Seated>, Fail>
     requires clients { (1 ≤ clients) × (clients ≤ 64) }
     requires limit { (1 ≤ limit) × (limit ≤ 100) }
-    ensures board { IfOk result (λ r. IfSome r (λ p. (p.0.voters ≡ 1) × (p.0.quorums ≡ (0 ∷ []) ∷ []) × (p.0.clients ≡ clients))) }
+    ensures board { IfOk result (λ r. IfSome r (λ p. (p.0.voters ≡ 1) × (p.0.quorums ≡ (0 ∷ []) ∷ []) × (p.0.firsts ≡ 1) × (p.0.clients ≡ clients))) }
     ensures root { IfOk result (λ r. IfSome r (λ p. p.1.table ≡ p.0.table)) }
     ensures voter { IfOk result (λ r. IfSome r (λ p. p.2 ≡ record { table = p.0.table; voter = 0; current = None; last = 0 })) }
     ensures client { IfOk result (λ r. IfSome r (λ p. p.3 ≡ record { table = p.0.table; client = 0; held = nobody; reading = None; passes = [] })) }
@@ -98,7 +98,7 @@ fn enters(board: &Board, voter: &mut VoterSeat, client: &mut ClientSeat) -> bool
 fn inside(alloc: Global, clients: u8, limit: u64) -> Result<Option<Seated>, Fail>
     requires clients { (1 ≤ clients) × (clients ≤ 64) }
     requires limit { (1 ≤ limit) × (limit ≤ 100) }
-    ensures board { IfOk result (λ r. IfSome r (λ p. (p.0.voters ≡ 1) × (p.0.quorums ≡ (0 ∷ []) ∷ []) × (p.0.clients ≡ clients))) }
+    ensures board { IfOk result (λ r. IfSome r (λ p. (p.0.voters ≡ 1) × (p.0.quorums ≡ (0 ∷ []) ∷ []) × (p.0.firsts ≡ 1) × (p.0.clients ≡ clients))) }
     ensures root { IfOk result (λ r. IfSome r (λ p. p.1.table ≡ p.0.table)) }
     ensures voter { IfOk result (λ r. IfSome r (λ p. p.2 ≡ record { table = p.0.table; voter = 0; current = Some (0, 1); last = 1 })) }
     ensures client { IfOk result (λ r. IfSome r (λ p. (p.3.table ≡ p.0.table) × (slice_index p.3.held 0 ≡ 1))) }
@@ -258,12 +258,12 @@ type Pass = (u64, Option<(usize, u64)>, Result<u64, BoardFault>);
 /// Has the client, which is inside by quorum 0, pass once.
 fn pass(board: &Board, client: &mut ClientSeat) -> Pass
     requires table { client.old.table ≡ board.now.table }
-    requires quorums { board.now.quorums ≡ (0 ∷ []) ∷ [] }
+    requires quorums { (board.now.quorums ≡ (0 ∷ []) ∷ []) × (board.now.firsts ≡ 1) }
     requires held { slice_index client.old.held 0 ≡ 1 }
     ensures table { client.new.table ≡ client.old.table }
     ensures held { client.new.held ≡ client.old.held }
 {
-    let number = client.read_register(board, 0);
+    let number = client.read_register(board, Side::First, 0);
     let reading = client.reading();
     (number, reading, client.write_register(board))
 }
@@ -271,7 +271,7 @@ fn pass(board: &Board, client: &mut ClientSeat) -> Pass
 /// Returns whether the client can pass once, up to the limit 1, and not again.
 fn passes_once(board: &Board, client: &mut ClientSeat) -> bool
     requires table { client.old.table ≡ board.now.table }
-    requires quorums { board.now.quorums ≡ (0 ∷ []) ∷ [] }
+    requires quorums { (board.now.quorums ≡ (0 ∷ []) ∷ []) × (board.now.firsts ≡ 1) }
     requires held { slice_index client.old.held 0 ≡ 1 }
 {
     let first = pass(board, client);
@@ -305,7 +305,7 @@ fn faults_are_written(rt: HostRuntime) -> Result<(), Fail> {
 /// Has the client, which is inside by quorum 0, pass and give back the vote of voter 0.
 fn pass_once(board: &Board, mut client: ClientSeat) -> ClientSeat
     requires table { client.table ≡ board.now.table }
-    requires quorums { board.now.quorums ≡ (0 ∷ []) ∷ [] }
+    requires quorums { (board.now.quorums ≡ (0 ∷ []) ∷ []) × (board.now.firsts ≡ 1) }
     requires held { slice_index client.held 0 ≡ 1 }
     ensures { result.table ≡ client.table }
 {
@@ -340,7 +340,7 @@ fn come_back(
 ) -> Option<Total>
     requires root { root.table ≡ board.table }
     requires voter { (voter.table ≡ board.table) × IsSome voter.current }
-    requires quorums { board.quorums ≡ (0 ∷ []) ∷ [] }
+    requires quorums { (board.quorums ≡ (0 ∷ []) ∷ []) × (board.firsts ≡ 1) }
     requires client { (client.table ≡ board.table) × (slice_index client.held 0 ≡ 1) }
 {
     let client = pass_once(&board, client);
@@ -376,7 +376,7 @@ fn pass_on<R: Threads>(
     first: ClientSeat,
     mut second: ClientSeat,
 ) -> bool
-    requires sizes { (board.now.voters ≡ 1) × (1 < board.now.clients) × (board.now.quorums ≡ (0 ∷ []) ∷ []) }
+    requires sizes { (board.now.voters ≡ 1) × (1 < board.now.clients) × (board.now.quorums ≡ (0 ∷ []) ∷ []) × (board.now.firsts ≡ 1) }
     requires voter { voter ≡ record { table = board.now.table; voter = 0; current = Some (0, 1); last = 1 } }
     requires first { (first.table ≡ board.now.table) × (slice_index first.held 0 ≡ 1) }
     requires second { second ≡ record { table = board.now.table; client = 1; held = nobody; reading = None; passes = [] } }
@@ -384,7 +384,7 @@ fn pass_on<R: Threads>(
     let (first, offered) = thread::join(
         rt,
         move ||
-            requires { (first.table ≡ board.now.table) × (board.now.quorums ≡ (0 ∷ []) ∷ []) × (slice_index first.held 0 ≡ 1) }
+            requires { (first.table ≡ board.now.table) × (board.now.quorums ≡ (0 ∷ []) ∷ []) × (board.now.firsts ≡ 1) × (slice_index first.held 0 ≡ 1) }
             ensures { result.table ≡ board.entry.now.table }
         { pass_once(board, first) },
         move ||

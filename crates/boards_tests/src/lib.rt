@@ -1,6 +1,7 @@
 //! Tests of boards and of the nodes on them through public calls. This crate has nothing but tests.
 //!
-//! - `boards` has votes and the register, on one thread and on two.
+//! - `boards` has votes and the register, on one thread and on two, and `bridged` has the quorums of
+//!   two coteries.
 //! - `nodes` has nodes and mailboxes, and `services` has each voter serve each client.
 //!
 //! The tests are not in the crates that they test, so these are proved once, and not again together
@@ -9,6 +10,8 @@
 
 #[cfg(test)]
 mod boards;
+#[cfg(test)]
+mod bridged;
 #[cfg(test)]
 mod nodes;
 #[cfg(test)]

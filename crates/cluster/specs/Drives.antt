@@ -1,40 +1,75 @@
 -- Drives of members: what becomes of each, and which fault is returned.
-use Rattle.std.specs.Prelude.{◌≡◌, ℕ, ◌+◌, ◌*◌, ◌<◌, ◌≤◌, ◌++◌, Bool, true, List, Option, None, Some, IfSome, All, Contains, length}
+use Rattle.std.specs.Prelude.{◌≡◌, ℕ, ◌+◌, ◌-◌, ◌*◌, ◌/◌, ◌<◌, ◌≤◌, ◌++◌, Bool, true, false, cond, is_some, min, nat_le, List, Option, None, Some, IfSome, All, Contains, length}
 use Rattle.board.specs.declared.fault.BoardFault.TheVariants.{SeatsOut, VoteOut, RegisterFull, OutOfMemory}
 use Rattle.dealer.specs.declared.fault.DealFault.TheVariants.{QuotaSpent, OutOfMemory as NoRoom}
 use Rattle.requester.specs.declared.fault.ClientFault.TheVariants.{Busy, NotInside as Outside, NotAsking, StampsSpent}
 use Rattle.requester.specs.Words.{is_idle}
 use Rattle.members.specs.declared.fault.ClusterFault.{ClusterFault}
 use Rattle.members.specs.declared.fault.ClusterFault.TheVariants as ends
+use Rattle.quorum_set.specs.declared.bridge.Side.{Side}
+use Rattle.quorum_set.specs.declared.bridge.Side.TheVariants.{First, Second}
+use Rattle.members.specs.Clerks.{ClerksState, may_exchange, receipts_of, rest_of}
 use Rattle.members.specs.Members.{MemberState}
 
 -- the list afterwards is the list before and n more entries
 abbrev pub HasMore : {A : Type 0} → ℕ → List A → List A → Type 0
 HasMore {A} n before after = (more : List A) × (after ≡ before ++ more) × (length more ≡ n)
 
--- the same client, which drew `drawn` more of its tickets and passed `passed` more times
-pub record Worked (drawn passed : ℕ) (before after : MemberState) : Type 0 where
+-- how many tickets of a plan n requests draw while the first of these sides is in use
+abbrev pub on : Side → Side → ℕ → ℕ
+on First First n = n
+on First Second n = 0
+on Second First n = 0
+on Second Second n = n
+
+-- the first `half` of n requests use the first plan, and the others the second
+abbrev pub split : ℕ → ℕ → Side → ℕ
+split half n First = min half n
+split half n Second = n - half
+
+abbrev pub draws_if : Bool → Side → ℕ → ℕ → Side → ℕ
+draws_if true side half n plan = split half n plan
+draws_if false side half n plan = on side plan n
+
+-- How many tickets of a plan a member draws by n requests. If it may exchange the plan, it does so
+-- after `half` of them. Otherwise all are of the plan in use.
+abbrev pub draws_by : ClerksState → ℕ → ℕ → Side → ℕ
+draws_by k half n plan = draws_if (may_exchange k) k.side half n plan
+
+abbrev pub side_if : Bool → Side → ℕ → ℕ → Side
+side_if true side half n = cond (nat_le half n) Second side
+side_if false side half n = side
+
+-- the plan that a member uses after n passes: if it may exchange the plan, it does so after `half`
+abbrev pub side_after : ClerksState → ℕ → ℕ → Side
+side_after k half n = side_if (may_exchange k) k.side half n
+
+-- the same client, which drew this many more tickets of each plan and passed `passed` more times
+pub record Worked (drawn : Side → ℕ) (passed : ℕ) (before after : MemberState) : Type 0 where
   pub client : after.requester.id ≡ before.requester.id
-  pub receipts : HasMore drawn before.clerk.receipts after.clerk.receipts
-  pub rest : after.clerk.rest + drawn ≡ before.clerk.rest
+  pub receipts : (plan : Side) → HasMore (drawn plan) (receipts_of before.clerks plan) (receipts_of after.clerks plan)
+  pub rest : (plan : Side) → rest_of after.clerks plan + drawn plan ≡ rest_of before.clerks plan
   pub passes : HasMore passed before.seat.passes after.seat.passes
+  pub second : is_some after.clerks.second ≡ is_some before.clerks.second
 
 -- the same client with the same tickets and pass numbers
 pub record KeepsWork (before after : MemberState) : Type 0 where
   pub client : after.requester.id ≡ before.requester.id
-  pub clerk : after.clerk ≡ before.clerk
+  pub clerks : after.clerks ≡ before.clerks
   pub passes : after.seat.passes ≡ before.seat.passes
   pub fault : after.fault ≡ before.fault
 
 -- The member is idle again. It drew one ticket for each of `passes` passes, and made each of them.
--- Nothing ended its work early.
+-- If there is another plan, it exchanged the plan after half of them, rounded down, and uses the
+-- second plan now. Nothing ended its work early.
 pub record HasServed (passes : ℕ) (before after : MemberState) : Type 0 where
-  pub worked : Worked passes passes before after
+  pub worked : Worked (draws_by before.clerks (passes / 2) passes) passes before after
+  pub side : after.clerks.side ≡ side_after before.clerks (passes / 2) passes
   pub idle : is_idle after.requester.phase ≡ true
   pub fault : after.fault ≡ None
 
--- What ends the work of this client early, if it had `tickets` tickets and passed `passed` times.
--- All except the first two need a ticket.
+-- What ends the work of this client early, if it had `tickets` tickets of the plan in use and passed
+-- `passed` times by that plan. All except the first two need a ticket.
 -- - No stamp is left.
 -- - It passed once for each ticket.
 -- - The register is at its limit.
@@ -53,6 +88,7 @@ EndsWork client tickets passed (ends.Board (SeatsOut k)) = ⊥
 EndsWork client tickets passed (ends.Board (VoteOut v)) = ⊥
 EndsWork client tickets passed ends.NotInside = ⊥
 EndsWork client tickets passed (ends.TurnsSpent c) = (c ≡ client) × (passed < tickets)
+EndsWork client tickets passed ends.NoSecondPlan = ⊥
 
 -- how many tickets this fault leaves without a pass: 1 if it came after the draw
 abbrev pub wasted : ClusterFault → ℕ
@@ -61,19 +97,51 @@ wasted (ends.Deal e) = 0
 wasted (ends.Board e) = 1
 wasted ends.NotInside = 1
 wasted (ends.TurnsSpent c) = 1
+wasted ends.NoSecondPlan = 0
 
 -- The member is idle again, and its work ended early by this fault. It made fewer than `passes`
--- passes. It drew a ticket for each that it made, and one more if the fault came after the draw.
+-- passes. It drew a ticket for each that it made, and one more if the fault came after the draw. If
+-- there is another plan, it exchanged the plan after half of `passes` passes, if it came so far.
 pub record HasEnded (passes : ℕ) (fault : ClusterFault) (before after : MemberState) : Type 0 where
   pub passed : ℕ
   pub fewer : passed < passes
-  pub worked : Worked (passed + wasted fault) passed before after
+  pub worked : Worked (draws_by before.clerks (passes / 2) (passed + wasted fault)) passed before after
+  pub side : after.clerks.side ≡ side_after before.clerks (passes / 2) passed
   pub idle : is_idle after.requester.phase ≡ true
-  pub ends : EndsWork after.requester.id before.clerk.rest passed fault
+  pub ends : EndsWork after.requester.id (rest_of before.clerks after.clerks.side)
+      (draws_by before.clerks (passes / 2) passed after.clerks.side) fault
+
+-- The member is idle again, and made n passes by the plan in use, with a ticket for each. Nothing
+-- ended its work early.
+pub record HasServedOn (n : ℕ) (before after : MemberState) : Type 0 where
+  pub worked : Worked (λ plan. on before.clerks.side plan n) n before after
+  pub side : after.clerks.side ≡ before.clerks.side
+  pub idle : is_idle after.requester.phase ≡ true
+  pub fault : after.fault ≡ None
+
+-- the member's work by the plan in use ended early by this fault, before n passes
+pub record HasEndedOn (n : ℕ) (fault : ClusterFault) (before after : MemberState) : Type 0 where
+  pub passed : ℕ
+  pub fewer : passed < n
+  pub worked : Worked (λ plan. on before.clerks.side plan (passed + wasted fault)) passed before after
+  pub side : after.clerks.side ≡ before.clerks.side
+  pub idle : is_idle after.requester.phase ≡ true
+  pub keeps : after.fault ≡ Some fault
+  pub ends : EndsWork after.requester.id (rest_of before.clerks before.clerks.side) passed fault
+
+-- the member's work by the plan in use ended early, before n passes
+abbrev pub IsEndedOn : ℕ → MemberState → MemberState → Type 0
+IsEndedOn n before after = (fault : ClusterFault) × HasEndedOn n fault before after
+
+-- the clerks after the member exchanged the plan, if there is another one
+abbrev pub next_plan : ClerksState → ClerksState
+next_plan k = record k { side = cond (may_exchange k) Second k.side }
 
 -- the member did not make its pass, because of this fault
 abbrev pub Stops : MemberState → MemberState → ClusterFault → Type 0
-Stops before after fault = Worked (wasted fault) 0 before after × EndsWork before.requester.id before.clerk.rest 0 fault
+Stops before after fault = Worked (λ plan. on before.clerks.side plan (wasted fault)) 0 before after
+    × (after.clerks.side ≡ before.clerks.side)
+    × EndsWork before.requester.id (rest_of before.clerks before.clerks.side) 0 fault
 
 -- if the client passed, it was let pass
 abbrev pub WasLet : (ℕ → Bool) → MemberState → MemberState → Type 0

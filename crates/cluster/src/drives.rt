@@ -1,9 +1,9 @@
 //! Drives: members that work in threads of their own.
-ghost use Rattle.std.specs.Prelude.{◌≡◌, ◌+◌, ◌<◌, ◌≤◌, [], ◌∷◌, ◌++◌, List, true, None, IfOk, IfErr, IfSome, MatchResult};
+ghost use Rattle.std.specs.Prelude.{◌≡◌, ◌+◌, ◌*◌, ◌<◌, ◌≤◌, [], ◌∷◌, ◌++◌, List, true, None, IfOk, IfErr, IfNone, IfSome, MatchResult};
 ghost use Rattle.std.specs.List.{AllZip};
 ghost use Rattle.requester.specs.Words.{is_idle, is_inside};
 ghost use Rattle.members.specs.Members.{AreIdle, MemberState};
-ghost use Rattle.cluster.specs.Drives.{HasServed, IsBack, IsLeastFault, IsLeastOf, KeepsWork, Stops, TookTurns, WasLet, Worked};
+ghost use Rattle.cluster.specs.Drives.{HasServed, HasServedOn, IsBack, IsEndedOn, IsLeastFault, IsLeastOf, KeepsWork, next_plan, on, Stops, TookTurns, WasLet, Worked};
 
 use crate::gate::Gate;
 use members::{Cluster, ClusterFault, ClusterName, Member};
@@ -96,7 +96,8 @@ fn pass_once<N: ClusterName, G: Gate>(
     gate: &G,
 ) -> Result<u64, ClusterFault>
     requires idle { is_idle member.old.requester.phase ≡ true }
-    ensures passed { IfOk result (λ _. Worked 1 1 member.old member.new × (is_idle member.new.requester.phase ≡ true)) }
+    ensures passed { IfOk result (λ _. Worked (λ plan. on member.old.clerks.side plan 1) 1 member.old member.new
+        × (member.new.clerks.side ≡ member.old.clerks.side) × (is_idle member.new.requester.phase ≡ true)) }
     ensures stopped { IfErr result (Stops member.old member.new) }
     ensures let_pass { IfOk result (λ _. G.lets gate.now member.old.requester.id ≡ true) }
     ensures in_turns { IfOk result (λ left. left + 2 ≤ turns) }
@@ -138,7 +139,51 @@ fn end<N: ClusterName>(rt: &impl Wait, cluster: &Cluster<N>, member: &mut Member
     }
 }
 
-/// Has a member make `passes` passes. If its work ends early, the member keeps the fault.
+/// Has a member make `passes` passes by the plan in use. Returns how many turns are left. If its work
+/// ends early, the member keeps the fault, and this returns `None`.
+fn serve_on<N: ClusterName, G: Gate>(
+    rt: &impl Wait,
+    cluster: &Cluster<N>,
+    member: &mut Member<N>,
+    passes: u64,
+    turns: u64,
+    gate: &G,
+) -> Option<u64>
+    requires idle { is_idle member.old.requester.phase ≡ true }
+    ensures served { IfSome result (λ _. HasServedOn passes member.old member.new) }
+    ensures ended { IfNone result (IsEndedOn passes member.old member.new) }
+    ensures client { member.new.requester.id ≡ member.old.requester.id }
+    ensures left { IfSome result (λ left. left + 2 * passes ≤ turns) }
+    ensures let_pass { WasLet (G.lets gate.now) member.old member.new }
+    ensures in_turns { TookTurns turns member.old member.new }
+{
+    member.ends_by(None);
+    let mut left = turns;
+    for _ in 0..passes {
+        match pass_once(rt, cluster, member, left, gate) {
+            Ok(rest) => left = rest,
+            Err(fault) => {
+                end(rt, cluster, member);
+                member.ends_by(Some(fault));
+                return None;
+            }
+        }
+    }
+    Some(left)
+}
+
+/// Exchanges a member's plan, if there is another one that it does not use yet.
+fn exchange<N: ClusterName>(member: &mut Member<N>)
+    ensures { member.new ≡ record member.old { clerks = next_plan member.old.clerks } }
+{
+    match member.exchange() {
+        Ok(()) => {}
+        Err(_) => {}
+    }
+}
+
+/// Has a member make `passes` passes. If there is another plan, the member exchanges its plan after
+/// half of them. If its work ends early, the member keeps the fault.
 fn serve<N: ClusterName, G: Gate>(
     rt: &impl Wait,
     cluster: &Cluster<N>,
@@ -152,18 +197,12 @@ fn serve<N: ClusterName, G: Gate>(
     ensures let_pass { WasLet (G.lets gate.now) member.old member.new }
     ensures in_turns { TookTurns turns member.old member.new }
 {
-    member.ends_by(None);
-    let mut left = turns;
-    for _ in 0..passes {
-        match pass_once(rt, cluster, member, left, gate) {
-            Ok(rest) => left = rest,
-            Err(fault) => {
-                end(rt, cluster, member);
-                member.ends_by(Some(fault));
-                return;
-            }
-        }
-    }
+    let half = passes / 2;
+    let Some(left) = serve_on(rt, cluster, member, half, turns, gate) else {
+        return;
+    };
+    exchange(member);
+    let _ = serve_on(rt, cluster, member, passes - half, left, gate);
 }
 
 /// Returns the smallest client whose work ended early and its fault, taking one more member into
@@ -234,6 +273,10 @@ fn serve_all<N: ClusterName + Send + Sync, R: Threads + Wait + Sync, G: Gate>(
 /// after the other.
 ///
 /// All members must be idle. An empty list returns at once.
+///
+/// If the cluster has a second plan, each member that does not use it yet exchanges its plan after
+/// half of `passes` passes, rounded down. Its first passes use the first plan and the others the
+/// second.
 ///
 /// Each pump and each question to the gate whether the member may pass is a turn. Each member has
 /// `turns` turns for all its passes, and a pass takes at least two. At each empty pump beyond 16 in

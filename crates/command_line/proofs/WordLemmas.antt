@@ -1,12 +1,11 @@
 -- Lemmas on the sizes of a shape, and on what words name.
-use Rattle.std.proofs.Common.{◌≡◌, ◌⊎◌, ℕ, ◌+◌, ◌<◌, ◌≤◌, List, [], ◌∷◌, ◌++◌, length, get_or, take, zero, suc, ap, ap₂, refl, sym, subst, ◌∙◌, arith, codes, Option, Some, None, Ok, Err, Result, inl, inr, slice_index}
+use Rattle.std.proofs.Common.{◌≡◌, ℕ, ◌+◌, ◌<◌, ◌≤◌, List, [], ◌∷◌, ◌++◌, length, get_or, take, zero, suc, ap, ap₂, refl, sym, subst, ◌∙◌, arith, codes, Option, Some, None, Ok, Err, Result, inl, inr, slice_index}
 use Rattle.std.specs.Prelude.{IfErr, IfSome, unwrap_or}
 use Rattle.std.specs.Result.{IsErrAnd}
 use Rattle.std.specs.Str.Parse.{ParsesUnsigned}
 use Rattle.clap.specs.Words.{HasKind, Row, Text, all_of, fault_of, first_of, subcommand_of}
 use Rattle.clap.specs.declared.error.Error.{Error}
 use Rattle.command_line.specs.Words.{AreSizes, BecomesUsage, HasNumber, IsNamedBy, IsNumber, IsShapeOf, NamesNone, Refuses, RefusesUse, qlock_app, size_texts}
-use Rattle.command_line.specs.declared.command.Command.{Command}
 use Rattle.command_line.specs.declared.command.Command.TheVariants.{Check, Deal, Make, Plan, Replay, Run, World}
 use Rattle.command_line.specs.declared.command.Shape.{Shape}
 use Rattle.command_line.specs.declared.usage.Usage.{Usage}

@@ -1,5 +1,5 @@
 -- Results of constructions.
-use Rattle.std.specs.Prelude.{Bool, true, false, if◌then◌else◌, Result, Ok, Err}
+use Rattle.std.specs.Prelude.{Bool, true, false, if◌then◌else◌, Result, Err}
 use Rattle.numbers.specs.Results.{RefusesUnless, GivesUnless}
 use Rattle.quorum_set.specs.Coteries.{QuorumSystem}
 use Rattle.construct.specs.declared.fault.ConstructFault.{ConstructFault}

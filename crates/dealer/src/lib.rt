@@ -67,6 +67,7 @@ mod cycle;
 mod fault;
 mod laws;
 mod office;
+mod plans;
 mod receipt;
 mod rounds;
 mod tickets;
@@ -81,4 +82,5 @@ pub use laws::{
     voters_are_counted_by_quorum, whole_cycles_follow_weights,
 };
 pub use office::Office;
+pub use plans::Plans;
 pub use receipt::Receipt;

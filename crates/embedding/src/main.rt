@@ -7,6 +7,7 @@ ghost use Rattle.members.specs.Clusters.{ClusterState};
 
 use cluster::{Blank, Cluster, ClusterName, Member};
 use coterie_file::read_coterie;
+use dealer::Plans;
 use planner::plan;
 use requester::Seen;
 use std::alloc::Global;
@@ -90,7 +91,7 @@ fn serve<N: ClusterName>(rt: &impl Wait, alloc: Global, blank: Blank) -> Option<
 fn run(rt: &impl Wait, alloc: Global) -> Option<String> {
     let named = read_coterie(alloc, COTERIE).ok()?;
     let plan = plan(alloc, named.coterie(), named.capacities()).ok()?;
-    let blank = Blank::new(alloc, plan, CLIENTS, QUOTA).ok()?;
+    let blank = Blank::new(alloc, Plans::single(plan), CLIENTS, QUOTA).ok()?;
     serve::<Brand>(rt, alloc, blank)
 }
 

@@ -11,6 +11,7 @@ ghost use Rattle.std.specs.Prelude.{◌≡◌};
 ghost use Rattle.members.specs.Clusters.{ClusterState};
 
 use cluster::{Blank, Cluster, ClusterName, Member};
+use dealer::Plans;
 use requester::Seen;
 use small_plans::majority_plan;
 use std::alloc::Global;
@@ -64,7 +65,7 @@ fn outcome_of<N: ClusterName>(rt: &impl Wait, alloc: Global, blank: Blank) -> Op
 /// Returns the result as a line, or `None` if memory ran out for more than messages.
 fn line_of(rt: &impl Wait, alloc: Global) -> Option<String> {
     let plan = majority_plan(alloc)?;
-    let blank = Blank::new(alloc, plan, 1, 1).ok()?;
+    let blank = Blank::new(alloc, Plans::single(plan), 1, 1).ok()?;
     let Outcome { passed, lost } = outcome_of::<Brand>(rt, alloc, blank)?;
     let how = if passed { "passed" } else { "outside" };
     format!(in alloc; "{how}, lost {lost}").ok()

@@ -1,3 +1,4 @@
+pub mod ClerkLemmas
 pub mod MemberLemmas
 pub mod BlankLemmas
 pub mod CountLemmas

@@ -2,7 +2,6 @@
 use Rattle.std.proofs.Common.{◌≡◌, ◌≢◌, inr, ℕ, zero, suc, replicate, ◌<◌, ◌≤◌, Bool, true, false, true≢false, not, ◌&&◌, List, [], ◌∷◌, Result, Ok, Err, refl, sym, ap, ◌∙◌, subst, length, arith}
 use Rattle.std.specs.Prelude.{slice_index, filter, ◌==◌}
 use Rattle.std.proofs.lemmas.Grind.{same_number_lists}
-use Rattle.std.proofs.lemmas.List.{length_push}
 use Rattle.message.specs.declared.message.ToClient.{ToClient}
 use Rattle.message.specs.declared.message.ClientBody.{ClientBody}
 use Rattle.message.specs.declared.message.ClientBody.TheVariants as tells
@@ -19,7 +18,7 @@ use Rattle.requester.specs.Soundness.{IsSound}
 use Rattle.requester.specs.Steps.{Outcome, Asks, Takes, Leaves, GivesUp, ask, ask_in, ask_unless, give_up, give_up_in, leave, leave_in, step, take, take_body, see, locked, locked_by, enter_if, hold, is_fresh, failed, failed_by, fail, inquired, inquired_by, relinquish, relinquish_if, relinquish_each}
 use Rattle.requester.specs.Words.{is_idle, is_asking, is_inside, is_spent, is_current, is_covered, is_inquired, is_hindered, is_member, holds, holds_under, members}
 use Rattle.board.specs.Seats.{BoardState, ClientSeatState as SeatState}
-use Rattle.board.specs.Quorums.{quorum_at}
+use Rattle.board.specs.Quorums.{HasQuorum, place_of, quorum_at}
 use Rattle.board.specs.Words.{nobody}
 use Rattle.board.specs.declared.fault.BoardFault.{BoardFault}
 use Rattle.board.specs.declared.fault.BoardFault.TheVariants.{OutOfMemory, RegisterFull}
@@ -30,10 +29,13 @@ use Rattle.members.specs.declared.fault.ClusterFault.{ClusterFault}
 use Rattle.members.specs.declared.fault.ClusterFault.TheVariants as refuses
 use Rattle.dealer.specs.declared.fault.DealFault.{DealFault}
 use Rattle.dealer.specs.declared.fault.DealFault.TheVariants.{QuotaSpent, OutOfMemory as NoRoom}
-use Rattle.dealer.specs.Offices.{ClerkState, RefusesTicket, share_of}
+use Rattle.dealer.specs.Offices.{RefusesTicket}
+use Rattle.quorum_set.specs.declared.bridge.Side.{Side}
+use Rattle.members.specs.Clerks.{ClerksState, HasShare, IsThere, drawn, names_of, rest_of}
+use Rattle.members.proofs.ClerkLemmas.{HasShare-drawn, IsThere-drawn, names_of-drawn}
 use Rattle.members.specs.Clusters.{ClusterState}
 use Rattle.node.specs.Votes.{HoldsWithin, HoldsFewer}
-use Rattle.members.specs.Members.{IsMember, MemberState, RefusesAsk, RefusesStart, with_receipt}
+use Rattle.members.specs.Members.{IsMember, MemberState, RefusesAsk, RefusesStart}
 
 -- Steps
 
@@ -94,7 +96,7 @@ pub RefusesStart-ask : (x : ClientState) (q : List ℕ) (e : ClientFault) → as
 unfolding ask
 RefusesStart-ask x q e err = refuses_in x.phase x q e refl err
 
-pub RefusesAsk-ticket : (m : MemberState) (e : DealFault) → (is_idle m.requester.phase ≡ true) × (is_spent m.requester ≡ false) → RefusesTicket m.clerk.rest e → RefusesAsk m (refuses.Deal e)
+pub RefusesAsk-ticket : (m : MemberState) (e : DealFault) → (is_idle m.requester.phase ≡ true) × (is_spent m.requester ≡ false) → RefusesTicket (rest_of m.clerks m.clerks.side) e → RefusesAsk m (refuses.Deal e)
 RefusesAsk-ticket m QuotaSpent start err = (start.0, start.1, err)
 RefusesAsk-ticket m NoRoom start err = (start.0, start.1, err)
 
@@ -248,62 +250,64 @@ HoldsWithin-nobody voters held e = λ v some. absurd (some (ap (λ l. slice_inde
 pub HoldsFewer-HoldsNothing : (y : ClientState) (seat : List ℕ) → HoldsNothing y → HoldsFewer y.held seat
 HoldsFewer-HoldsNothing y seat nothing = λ v. inr (nothing v)
 
--- a clerk that draws keeps its share
-share_drawn : (k : ClerkState) (r : Receipt) → 0 < k.rest → share_of (with_receipt k r) ≡ share_of k
-share_drawn k r some = omega (arith, some, length_push k.receipts r)
-
 -- The member after a step of its client
 
-next_member : (c : ClusterState) (x : ClientState) (seat : SeatState) (clerk : ClerkState) (quorum : ℕ) → IsMember c x seat clerk quorum
+next_member : (c : ClusterState) (x : ClientState) (seat : SeatState) (clerks : ClerksState) (side : Side) (quorum : ℕ) → IsMember c x seat clerks side quorum
     → (y : ClientState) → IsSound y → y.id ≡ x.id
     → (after : SeatState) → after.table ≡ seat.table → after.client ≡ seat.client → after.held ≡ y.held → HoldsWithin c.board.voters after.held
-    → (drawn : ClerkState) → drawn.office ≡ clerk.office → share_of drawn ≡ share_of clerk
-    → (number : ℕ) → (is_idle y.phase ≡ false → (number < length c.board.quorums) × (members y ≡ quorum_at c.board.quorums number))
-    → IsMember c y after drawn number
-next_member c x seat clerk quorum r y sound id after table client held within drawn office share number asks = record {
+    → (later : ClerksState) → names_of later ≡ names_of clerks → HasShare later c.quota → IsThere later.side later.second
+    → (plan : Side) (number : ℕ)
+    → (is_idle y.phase ≡ false → HasQuorum c.board.firsts c.board.quorums plan number × (members y ≡ quorum_at c.board.quorums (place_of c.board.firsts plan number)))
+    → IsMember c y after later plan number
+next_member c x seat clerks side quorum r y sound id after table client held within later names share there plan number asks = record {
   sound = sound;
   client = id ∙ r.client ∙ sym client;
   inside = subst (λ n. n < c.board.clients) (sym client) r.inside;
   table = table ∙ r.table;
-  office = office ∙ r.office;
-  share = share ∙ r.share;
+  offices = names ∙ r.offices;
+  share = share;
+  in_use = there;
   held = held;
   within = within;
   asks = asks;
 }
 
-module _ (c : ClusterState) (x : ClientState) (seat : SeatState) (clerk : ClerkState) (quorum : ℕ) (r : IsMember c x seat clerk quorum) where
+module _ (c : ClusterState) (x : ClientState) (seat : SeatState) (clerks : ClerksState) (side : Side) (quorum : ℕ) (r : IsMember c x seat clerks side quorum) where
   -- its seat and a sound client have a place for each voter
   pub length-both_held : (y : ClientState) → IsSound y → (length seat.held ≡ 64) × (length y.held ≡ 64)
   length-both_held y sound = (ap length r.held ∙ r.sound.places.held, sound.places.held)
 
-  -- it asked the quorum of this number, and its clerk keeps the receipt
+  -- it asked the quorum with this number of the plan in use, and the clerk of that plan keeps the
+  -- receipt
   pub IsMember-asked : AreClientLaws → (q : List ℕ) (o : Outcome) → ask x q ≡ Ok o → IsSet q → 1 ≤ length q
-      → (drawn : ClerkState) (receipt : Receipt) → drawn ≡ with_receipt clerk receipt → 0 < clerk.rest
-      → receipt.quorum < length c.board.quorums → q ≡ quorum_at c.board.quorums receipt.quorum
-      → IsMember c o.state seat drawn receipt.quorum
-  IsMember-asked laws q o e set some drawn receipt kept left in_range is =
+      → (later : ClerksState) (receipt : Receipt) → later ≡ drawn clerks receipt → 0 < rest_of clerks clerks.side
+      → (plan : Side) → HasQuorum c.board.firsts c.board.quorums plan receipt.quorum → q ≡ quorum_at c.board.quorums (place_of c.board.firsts plan receipt.quorum)
+      → IsMember c o.state seat later plan receipt.quorum
+  IsMember-asked laws q o e set some later receipt kept left plan in_range is =
       let s = of_ask x q o e in
       let sound = laws.sound x (Asks q) o r.sound (set, some) s in
       let meets = laws.meets x (Asks q) o r.sound (set, some) s in
       let held = r.held ∙ no_votes x.held o.state.held r.sound.places.held sound.places.held (laws.idle x r.sound (ask-Ok x q o e).0) (laws.asked x q o e) in
-      next_member c x seat clerk quorum r o.state sound meets.id seat refl refl held r.within
-      drawn (ap (λ (k : ClerkState). k.office) kept) (ap share_of kept ∙ share_drawn clerk receipt left) receipt.quorum (λ busy. (in_range, meets.quorum ∙ is))
+      next_member c x seat clerks side quorum r o.state sound meets.id seat refl refl held r.within
+      later (ap names_of kept ∙ names_of-drawn clerks receipt)
+      (subst (λ (k : ClerksState). HasShare k c.quota) (sym kept) (HasShare-drawn clerks receipt c.quota left r.share))
+      (subst (λ (k : ClerksState). IsThere k.side k.second) (sym kept) (IsThere-drawn clerks receipt r.in_use))
+      plan receipt.quorum (λ busy. (in_range, meets.quorum ∙ is))
 
   -- its client took a message
   pub IsMember-took : (m : ToClient) (o : Outcome) → Took x m o
       → (after : SeatState) → after.table ≡ seat.table → after.client ≡ seat.client → after.held ≡ o.state.held → HoldsWithin c.board.voters after.held
-      → IsMember c o.state after clerk quorum
+      → IsMember c o.state after clerks side quorum
   IsMember-took m o t after table client held within =
-      next_member c x seat clerk quorum r o.state t.sound t.id after table client held within clerk refl refl quorum
+      next_member c x seat clerks side quorum r o.state t.sound t.id after table client held within clerks refl r.share r.in_use side quorum
       (λ busy. let asks = r.asks (sym t.quorum.1 ∙ busy) in (asks.0, t.quorum.0 ∙ asks.1))
 
   -- its client ended its request
   pub IsMember-ended : (o : Outcome) → Ended x o
       → (after : SeatState) → after.table ≡ seat.table → after.client ≡ seat.client → after.held ≡ o.state.held → HoldsWithin c.board.voters after.held
-      → IsMember c o.state after clerk quorum
+      → IsMember c o.state after clerks side quorum
   IsMember-ended o e after table client held within =
-      next_member c x seat clerk quorum r o.state e.sound e.id after table client held within clerk refl refl quorum
+      next_member c x seat clerks side quorum r o.state e.sound e.id after table client held within clerks refl r.share r.in_use side quorum
       (λ busy. absurd (true≢false (sym e.idle ∙ busy)))
 
 -- What is answered for a fault of the board

@@ -1,4 +1,5 @@
 pub mod ClientLaws
+pub mod Clerks
 pub mod Clusters
 pub mod Losses
 pub mod Members

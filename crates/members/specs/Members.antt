@@ -1,5 +1,5 @@
 -- Members of a cluster, as contracts see them, and what their calls do.
-use Rattle.std.specs.Prelude.{◌≡◌, ◌⊎◌, ℕ, ◌-◌, ◌<◌, ◌++◌, ◌∷◌, [], true, false, List, Option, None, Ok, All, length}
+use Rattle.std.specs.Prelude.{◌≡◌, ◌⊎◌, ℕ, ◌<◌, ◌++◌, ◌∷◌, [], true, false, List, Option, None, Ok, All, length}
 use Rattle.numbers.specs.Bounds.{max_stamp}
 use Rattle.message.specs.declared.message.ToClient.{ToClient}
 use Rattle.requester.specs.declared.fault.ClientFault.{ClientFault}
@@ -12,24 +12,24 @@ use Rattle.requester.specs.Steps.{Outcome, ask, give_up, leave, start, take, wou
 use Rattle.requester.specs.Words.{is_idle, is_inside, is_spent, members}
 use Rattle.board.specs.declared.fault.BoardFault.TheVariants.{SeatsOut, VoteOut, RegisterFull, OutOfMemory as NoPlace}
 use Rattle.board.specs.Seats.{BoardState, ClientSeatState as SeatState}
-use Rattle.board.specs.Quorums.{quorum_at}
+use Rattle.board.specs.Quorums.{quorum_at, place_of, HasQuorum}
+use Rattle.quorum_set.specs.declared.bridge.Side.{Side}
 use Rattle.board.specs.Words.{nobody}
 use Rattle.dealer.specs.declared.fault.DealFault.TheVariants.{QuotaSpent, OutOfMemory as NoRoom}
-use Rattle.dealer.specs.declared.receipt.Receipt.{Receipt}
-use Rattle.dealer.specs.Offices.{ClerkState, share_of}
 use Rattle.members.specs.declared.fault.ClusterFault.{ClusterFault}
 use Rattle.members.specs.declared.fault.ClusterFault.TheVariants as refuses
-use Rattle.members.specs.Clusters.{ClusterState}
+use Rattle.members.specs.Clerks.{ClerksState, HasShare, IsThere, fresh_clerks, names_of, rest_of}
+use Rattle.members.specs.Clusters.{ClusterState, names_in}
 use Rattle.members.specs.Losses.{LosesAtMost, most_lost, one_more}
 use Rattle.node.specs.Mail.{IsMail}
 use Rattle.node.specs.Votes.{HoldsWithin}
 
--- a member: its client, its seat on the board, its clerk, how many messages it lost, and why its
+-- a member: its client, its seat on the board, its clerks, how many messages it lost, and why its
 -- work ended early when it was last driven
 pub record MemberState : Type 0 where
   pub requester : ClientState
   pub seat : SeatState
-  pub clerk : ClerkState
+  pub clerks : ClerksState
   pub lost : ℕ
   pub fault : Option ClusterFault
 
@@ -37,27 +37,30 @@ pub record MemberState : Type 0 where
 abbrev pub AreIdle : List MemberState → Type 0
 AreIdle members = All (λ m. is_idle m.requester.phase ≡ true) members
 
--- The client is of this cluster, and the votes that it holds are those that its seat holds. While a
--- request runs, its quorum is the one with this number.
-pub record IsMember (c : ClusterState) (x : ClientState) (seat : SeatState) (clerk : ClerkState)
-    (quorum : ℕ) : Type 0 where
+-- The client is of this cluster, and the votes that it holds are those that its seat holds. Its clerks
+-- are of the cluster's offices. While a request runs, its quorum is the one with this number in the
+-- coterie of this side.
+pub record IsMember (c : ClusterState) (x : ClientState) (seat : SeatState) (clerks : ClerksState)
+    (side : Side) (quorum : ℕ) : Type 0 where
   pub sound : IsSound x
   pub client : x.id ≡ seat.client
   pub inside : seat.client < c.board.clients
   pub table : seat.table ≡ c.board.table
-  pub office : clerk.office ≡ c.office
-  pub share : share_of clerk ≡ c.quota
+  pub offices : names_of clerks ≡ names_in c
+  pub share : HasShare clerks c.quota
+  pub in_use : IsThere clerks.side clerks.second
   pub held : seat.held ≡ x.held
   pub within : HoldsWithin c.board.voters seat.held
   pub asks : is_idle x.phase ≡ false
-      → (quorum < length c.board.quorums) × (members x ≡ quorum_at c.board.quorums quorum)
+      → HasQuorum c.board.firsts c.board.quorums side quorum
+      × (members x ≡ quorum_at c.board.quorums (place_of c.board.firsts side quorum))
 
 -- the member with this number, just after the cluster was opened
 abbrev pub fresh_member : ClusterState → ℕ → MemberState
 fresh_member c client = record {
   requester = start client max_stamp;
   seat = record { table = c.board.table; client = client; held = nobody; reading = None; passes = [] };
-  clerk = record { office = c.office; rest = c.quota; receipts = [] };
+  clerks = fresh_clerks (names_in c) c.quota;
   lost = 0;
   fault = None;
 }
@@ -102,20 +105,22 @@ RefusesStart x NotAsking = ⊥
 abbrev pub RefusesAsk : MemberState → ClusterFault → Type 0
 RefusesAsk m (refuses.Client e) = RefusesStart m.requester e
 RefusesAsk m (refuses.Deal QuotaSpent) =
-    (is_idle m.requester.phase ≡ true) × (is_spent m.requester ≡ false) × (m.clerk.rest ≡ 0)
+    (is_idle m.requester.phase ≡ true) × (is_spent m.requester ≡ false) × (rest_of m.clerks m.clerks.side ≡ 0)
 RefusesAsk m (refuses.Deal NoRoom) =
-    (is_idle m.requester.phase ≡ true) × (is_spent m.requester ≡ false) × (0 < m.clerk.rest)
+    (is_idle m.requester.phase ≡ true) × (is_spent m.requester ≡ false) × (0 < rest_of m.clerks m.clerks.side)
 RefusesAsk m (refuses.Board e) = ⊥
 RefusesAsk m refuses.NotInside = ⊥
+RefusesAsk m refuses.NoSecondPlan = ⊥
 RefusesAsk m (refuses.TurnsSpent c) = ⊥
 
--- what a member needs to ask: it is idle, and a stamp and a ticket are left
+-- what a member needs to ask: it is idle, and a stamp and a ticket of the plan in use are left
 abbrev pub MayAsk : MemberState → Type 0
-MayAsk m = (is_idle m.requester.phase ≡ true) × (is_spent m.requester ≡ false) × (0 < m.clerk.rest)
+MayAsk m =
+    (is_idle m.requester.phase ≡ true) × (is_spent m.requester ≡ false) × (0 < rest_of m.clerks m.clerks.side)
 
--- the clerk after it drew the ticket of this receipt
-abbrev pub with_receipt : ClerkState → Receipt → ClerkState
-with_receipt clerk r = record clerk { rest = clerk.rest - 1; receipts = clerk.receipts ++ r ∷ [] }
+-- the place, in the board's list, of the quorum with this number of the plan that a member uses
+abbrev pub place_in : ClusterState → MemberState → ℕ → ℕ
+place_in c m quorum = place_of c.board.firsts m.clerks.side quorum
 
 -- the seat after it passed by this number; it no longer has a reading
 abbrev pub with_pass : SeatState → ℕ → SeatState
@@ -131,3 +136,4 @@ RefusesPass m (refuses.Board (VoteOut v)) = ⊥
 RefusesPass m (refuses.Client e) = ⊥
 RefusesPass m (refuses.Deal e) = ⊥
 RefusesPass m (refuses.TurnsSpent c) = ⊥
+RefusesPass m refuses.NoSecondPlan = ⊥

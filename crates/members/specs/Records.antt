@@ -5,9 +5,11 @@ use Rattle.requester.specs.Words.{is_idle}
 use Rattle.board.specs.declared.fault.BoardFault.{BoardFault}
 use Rattle.board.specs.declared.fault.BoardFault.TheVariants.{SeatsOut, VoteOut, RegisterFull, OutOfMemory}
 use Rattle.dealer.specs.declared.receipt.Receipt.{Receipt}
-use Rattle.dealer.specs.Cycles.{quorum_of_ticket}
+use Rattle.quorum_set.specs.declared.bridge.Side.{Side}
+use Rattle.quorum_set.specs.declared.bridge.Side.TheVariants.{First, Second}
 use Rattle.members.specs.declared.record.RunRecord.{RunRecord}
-use Rattle.members.specs.Clusters.{ClusterState}
+use Rattle.members.specs.Clerks.{IsDealt, receipts_of}
+use Rattle.members.specs.Clusters.{ClusterState, names_in}
 use Rattle.members.specs.Members.{MemberState}
 
 -- a client, the ticket that it drew, and the quorum that the ticket names
@@ -22,17 +24,17 @@ Pass = ℕ × ℕ
 abbrev pub idle_count : List MemberState → ℕ
 idle_count members = count_by (λ m. is_idle m.requester.phase) members
 
--- what a member drew, in the order of its requests
-abbrev pub draws_of : MemberState → List Draw
-draws_of m = map (λ r. (m.requester.id, r.ticket, r.quorum)) m.clerk.receipts
+-- what a member drew of one plan, in the order of its requests
+abbrev pub draws_of : Side → MemberState → List Draw
+draws_of side m = map (λ r. (m.requester.id, r.ticket, r.quorum)) (receipts_of m.clerks side)
 
--- what these members drew, one member after the other
-abbrev pub all_draws : List MemberState → List Draw
-all_draws members = flat_map draws_of members
+-- what these members drew of one plan, one member after the other
+abbrev pub all_draws : Side → List MemberState → List Draw
+all_draws side members = flat_map (draws_of side) members
 
--- these members' receipts, one member after the other
-abbrev pub all_receipts : List MemberState → List Receipt
-all_receipts members = flat_map (λ m. m.clerk.receipts) members
+-- these members' receipts of one plan, one member after the other
+abbrev pub all_receipts : Side → List MemberState → List Receipt
+all_receipts side members = flat_map (λ m. receipts_of m.clerks side) members
 
 -- the passes of a member, in order
 abbrev pub passes_of : MemberState → List Pass
@@ -46,22 +48,29 @@ all_passes members = flat_map passes_of members
 abbrev pub AreInOrder : List ℕ → Type 0
 AreInOrder numbers = numbers ≡ range_with_len 0 (length numbers)
 
--- the draw is of a client of the cluster, and names the quorum at its ticket's place of the cycle
-pub record IsDraw (c : ClusterState) (d : Draw) : Type 0 where
+-- the draw is of a client of the cluster, and names the quorum at its ticket's place of the cycle of
+-- this side's plan; without such a plan there is none
+pub record IsDraw (c : ClusterState) (side : Side) (d : Draw) : Type 0 where
   pub client : d.0 < c.board.clients
-  pub quorum : d.2 ≡ quorum_of_ticket c.office.cycle d.1
+  pub quorum : IsDealt (names_in c) side d.1 d.2
+
+-- these are the draws of one plan of these members, with their clients, in the order of their tickets;
+-- the tickets are 0, 1, 2 and so on
+pub record AreDrawsOf (c : ClusterState) (side : Side) (members : List MemberState) (draws : List Draw) : Type 0 where
+  pub same : IsPermutation (all_draws side members) draws
+  pub tickets : AreInOrder (map (λ d. d.1) draws)
+  pub each : All (IsDraw c side) draws
 
 -- The record of a run of these members:
--- - It has each member's draws with its client, and no others, in the order of their tickets. These
---   are 0, 1, 2 and so on.
+-- - It has each member's draws with its client, and no others, for each plan by itself. They are in
+--   the order of their tickets, which are 0, 1, 2 and so on.
 -- - It has each member's passes with its client, and no others, in the order of their numbers.
 --   These are 0, 1, 2 and so on.
 -- - The register is the number of passes.
 -- - How many messages were lost is the members' sum, at most 2^64 - 1.
 pub record IsRecordOf (c : ClusterState) (members : List MemberState) (r : RunRecord) : Type 0 where
-  pub draws : IsPermutation (all_draws members) r.draws.items
-  pub tickets : AreInOrder (map (λ d. d.1) r.draws.items)
-  pub each_draw : All (IsDraw c) r.draws.items
+  pub first : AreDrawsOf c First members r.draws.items
+  pub second : AreDrawsOf c Second members r.draws2.items
   pub passes : IsPermutation (all_passes members) r.passes.items
   pub numbers : AreInOrder (map (λ p. p.1) r.passes.items)
   pub each_pass : All (λ p. p.0 < c.board.clients) r.passes.items

@@ -1,19 +1,22 @@
 //! A cluster before it has a name.
-ghost use Rattle.std.specs.Prelude.{◌≡◌, ℕ, ◌+◌, ◌*◌, ◌<◌, ◌≤◌, [], false, IfOk, length, map, nat_lt, slice_index_or};
+ghost use Rattle.std.specs.Prelude.{◌≡◌, ℕ, ◌+◌, ◌*◌, ◌<◌, ◌≤◌, ◌++◌, [], false, IfOk, IfSome, length, map, nat_lt, option_map, slice_index_or};
 ghost use Rattle.std.specs.List.{range_with_len};
 ghost use Rattle.numbers.specs.Bounds.{max_clients, max_tickets};
 ghost use Rattle.board.specs.Seats.{BoardState, RootState};
-ghost use Rattle.dealer.specs.Offices.{ClerkState};
-ghost use Rattle.members.specs.Clusters.{ClusterState, IsCluster};
+ghost use Rattle.dealer.specs.Plans.{PlanPair, coteries_of};
+ghost use Rattle.members.specs.Clerks.{fresh_clerks, office_names, plan_quorums};
+ghost use Rattle.members.specs.Clusters.{ClusterState, IsCluster, names_in};
 ghost use Rattle.members.specs.Members.{AreIdle, fresh_member};
 
+use crate::clerks::{Clerks, Offices, open_offices};
 use crate::cluster::{Cluster, Left};
 use crate::member::Member;
 use board::{Board, BoardRoot};
 use certificate::Plan;
-use dealer::{Clerk, Cycle, Office};
+use dealer::Plans;
 use node::{ClusterName, Mailbox, Node};
 use numbers::MAX_TICKETS;
+use quorum_set::Bridge;
 use std::alloc::{AllocError, Global};
 use std::marker::{Model, PhantomData};
 use std::sync::Mutex;
@@ -23,23 +26,34 @@ use std::sync::Mutex;
 pub struct Blank {
     board: Board,
     root: BoardRoot,
-    office: Office,
-    clerk: Clerk,
+    offices: Offices,
+    clerks: Clerks,
     voters: u8,
     clients: u8,
     quota: u64,
 }
 
 impl Model for Blank {
+    ghost use Rattle.std.specs.Prelude.{option_map};
     ghost use Rattle.members.specs.Clusters.{ClusterState, IsBlank};
 
     ghost Value = { ClusterState };
 
-    ghost view = { λ b. record { board = b.board; office = b.office.name; quota = b.quota } };
+    ghost view = { λ b. record {
+      board = b.board;
+      office = b.offices.first.name;
+      second = option_map (λ o. o.name) b.offices.second;
+      quota = b.quota;
+    } };
 
     ghost invariant = { λ b. IsBlank
-        (record { board = b.board; office = b.office.name; quota = b.quota })
-        b.office.quota b.root b.clerk b.voters b.clients };
+        (record {
+          board = b.board;
+          office = b.offices.first.name;
+          second = option_map (λ o. o.name) b.offices.second;
+          quota = b.quota;
+        })
+        b.offices b.root b.clerks b.voters b.clients };
 }
 
 /// Creates a node for each voter, with the voter's seat from the root.
@@ -82,67 +96,104 @@ fn mailboxes_of<N: ClusterName>(
     Ok(mailboxes)
 }
 
-/// Creates a member for each client, with the client's seat from the root and with `quota` of the
+/// Creates a member for each client, with the client's seat from the root and with `quota` of each
 /// clerk's tickets.
 fn members_of<N: ClusterName>(
     alloc: Global,
     board: &Board,
     root: &mut BoardRoot,
-    office: &Office,
-    clerk: &mut Clerk,
+    offices: &Offices,
+    clerks: &mut Clerks,
     clients: u8,
     quota: u64,
 ) -> Result<Vec<Member<N>>, AllocError>
     requires board { board.now ≡ N.cluster.board }
-    requires office { office.now.name ≡ N.cluster.office }
+    requires offices { office_names offices.now ≡ names_in N.cluster }
     requires quota { quota ≡ N.cluster.quota }
     requires clients { (clients ≡ N.cluster.board.clients) × (clients ≤ max_clients) }
     requires table { root.old.table ≡ board.now.table }
     requires there { (c : ℕ) → slice_index_or root.old.clients c false ≡ nat_lt c clients }
     requires seats { root.old.seats ≡ clients }
-    requires clerk { clerk.old ≡ record { office = office.now.name; rest = clients * quota; receipts = [] } }
+    requires clerks { clerks.old ≡ fresh_clerks (names_in N.cluster) (clients * quota) }
     ensures members { IfOk result (λ members. members.items ≡ map (fresh_member N.cluster) (range_with_len 0 clients)) }
     ensures seats { IfOk result (λ _. (root.new.seats ≡ 0) × (root.new.passes ≡ root.old.passes)) }
-    ensures clerk { IfOk result (λ _. clerk.new ≡ record { office = office.now.name; rest = 0; receipts = [] }) }
+    ensures clerks { IfOk result (λ _. clerks.new ≡ fresh_clerks (names_in N.cluster) 0) }
     ensures table { root.new.table ≡ root.old.table }
 {
     let mut members = Vec::with_capacity(alloc, usize::from(clients))?;
     for client in 0..clients {
         let seat = root.client(board, client);
-        let part = clerk.split(office, quota);
+        let part = clerks.split(offices, quota);
         members.push(Member::new(seat, part))?;
     }
     Ok(members)
 }
 
+/// Creates the board of one plan's coterie, or of two plans' coteries, and its root.
+fn board_of(
+    alloc: Global,
+    first: &Plan,
+    second: &Option<(Plan, Bridge)>,
+    clients: u8,
+) -> Result<(Board, BoardRoot), AllocError>
+    requires some_client { 1 ≤ clients }
+    requires few_clients { clients ≤ max_clients }
+    requires bridge { IfSome second.now (λ s. s.1 ≡ coteries_of first.now s.0) }
+    ensures voters { IfOk result (λ r. r.0.voters ≡ first.now.system.voters) }
+    ensures quorums { IfOk result (λ r.
+        r.0.quorums ≡ first.now.system.quorums ++ plan_quorums (option_map (λ s. s.0) second.now)) }
+    ensures firsts { IfOk result (λ r. r.0.firsts ≡ length first.now.system.quorums) }
+    ensures clients { IfOk result (λ r. r.0.clients ≡ clients) }
+    ensures limit { IfOk result (λ r. r.0.limit ≡ max_tickets) }
+    ensures root { IfOk result (λ r. (r.1.table ≡ r.0.table)
+        × (r.1.seats ≡ first.now.system.voters + clients) × (r.1.passes ≡ [])) }
+    ensures voter_seats { IfOk result (λ r.
+        (v : ℕ) → slice_index_or r.1.voters v false ≡ nat_lt v first.now.system.voters) }
+    ensures client_seats { IfOk result (λ r. (c : ℕ) → slice_index_or r.1.clients c false ≡ nat_lt c clients) }
+{
+    match second {
+        Some((_, bridge)) => Board::bridged(alloc, bridge, clients, MAX_TICKETS),
+        None => Board::new(alloc, first.coterie(), clients, MAX_TICKETS),
+    }
+}
+
+/// Returns the second plan without its bridge, if there is one.
+fn plan_of(second: Option<(Plan, Bridge)>) -> Option<Plan>
+    ensures { result ≡ option_map (λ s. s.0) second }
+{
+    let (plan, _) = second?;
+    Some(plan)
+}
+
 impl Blank {
-    /// Creates a cluster of a plan's voters and of 1 to 64 clients. Each client may draw `quota`
-    /// tickets; all clients together may draw at most 2^63. Consumes the plan. Fails only if it
-    /// runs out of memory.
-    pub fn new(alloc: Global, plan: Plan, clients: u8, quota: u64) -> Result<Blank, AllocError>
+    /// Creates a cluster of the voters of one or two plans and of 1 to 64 clients. The first plan is
+    /// in use, and each member may exchange it for the second. Each client may draw `quota` tickets
+    /// of each plan; all clients together may draw at most 2^63. Consumes the plans. Fails only if
+    /// it runs out of memory.
+    pub fn new(alloc: Global, plans: Plans, clients: u8, quota: u64) -> Result<Blank, AllocError>
         requires some_client { 1 ≤ clients }
         requires few_clients { clients ≤ max_clients }
         requires quota { clients * quota ≤ max_tickets }
-        ensures plan { IfOk result (λ blank. blank.office.cycle ≡ plan) }
+        ensures first { IfOk result (λ blank. blank.office.cycle ≡ plans.first) }
+        ensures second { IfOk result (λ blank. option_map (λ o. o.cycle) blank.second ≡ plans.second) }
         ensures clients { IfOk result (λ blank. blank.board.clients ≡ clients) }
         ensures quota { IfOk result (λ blank. blank.quota ≡ quota) }
         ensures cluster { IfOk result IsCluster }
     {
-        let voters = plan.coterie().voters() as u8;
-        let (board, root) = Board::new(alloc, plan.coterie(), clients, MAX_TICKETS)?;
-        let cycle = match Cycle::of(alloc, plan) {
-            Ok(cycle) => cycle,
-            Err((_, error)) => return Err(error),
-        };
-        let (office, clerk) = match Office::new(alloc, cycle, u64::from(clients) * quota) {
-            Ok(made) => made,
-            Err((_, error)) => return Err(error),
-        };
+        let (first, second) = plans.into_parts();
+        let voters = first.coterie().voters() as u8;
+        let (board, root) = board_of(alloc, &first, &second, clients)?;
+        let (offices, clerks) = open_offices(
+            alloc,
+            first,
+            plan_of(second),
+            u64::from(clients) * quota,
+        )?;
         Ok(Blank {
             board,
             root,
-            office,
-            clerk,
+            offices,
+            clerks,
             voters,
             clients,
             quota,
@@ -151,7 +202,7 @@ impl Blank {
 
     /// Opens the cluster under a name. Returns the running cluster, and a member for each client,
     /// in order. Each member is idle, with the quota of the blank and with no receipts, votes or
-    /// pass numbers. Fails only if it runs out of memory.
+    /// pass numbers. It uses the first plan. Fails only if it runs out of memory.
     pub fn open<N: ClusterName>(
         self,
         alloc: Global,
@@ -164,8 +215,8 @@ impl Blank {
         let Blank {
             board,
             mut root,
-            office,
-            mut clerk,
+            offices,
+            mut clerks,
             voters,
             clients,
             quota,
@@ -173,16 +224,22 @@ impl Blank {
         let nodes = nodes_of(alloc, &board, &mut root, voters)?;
         let mailboxes = mailboxes_of(alloc, clients)?;
         let members = members_of(
-            alloc, &board, &mut root, &office, &mut clerk, clients, quota,
+            alloc,
+            &board,
+            &mut root,
+            &offices,
+            &mut clerks,
+            clients,
+            quota,
         )?;
         let left = Left {
             root,
-            clerk,
+            clerks,
             of: PhantomData,
         };
         let cluster = Cluster {
             board,
-            office,
+            offices,
             nodes,
             mailboxes,
             left: Mutex::new(left),

@@ -1,21 +1,22 @@
 //! The end of a cluster, and its record.
-ghost use Rattle.std.specs.Prelude.{◌≡◌, ◌+◌, ◌-◌, ◌*◌, ◌^◌, ◌<◌, ◌≤◌, ◌++◌, [], IfOk, IfErr, IfNone, IfSome, IsPermutation, length, map, min};
+ghost use Rattle.std.specs.Prelude.{◌≡◌, ℕ, ◌+◌, ◌-◌, ◌*◌, ◌^◌, ◌<◌, ◌≤◌, ◌++◌, [], IfOk, IfErr, IfNone, IfSome, IsPermutation, length, map, min};
 ghost use Rattle.std.specs.List.{All, sum_by};
 ghost use Rattle.std.specs.List.Sorted.{IsNonDecreasingBy};
-ghost use Rattle.numbers.specs.Sums.{AreAllBelow};
-ghost use Rattle.dealer.specs.Offices.{share_of, tickets_of};
 ghost use Rattle.board.specs.Seats.{BoardState};
-ghost use Rattle.members.specs.Clusters.{ClusterState};
+ghost use Rattle.quorum_set.specs.declared.bridge.Side.{Side};
+ghost use Rattle.members.specs.Clerks.{HasShare, joined_each, names_of, office_names, receipts_of};
+ghost use Rattle.members.specs.Clusters.{ClusterState, names_in};
 ghost use Rattle.members.specs.Closes.{RefusesClose};
 ghost use Rattle.members.specs.Records.{IsDraw, IsLoss, IsRecordOf, all_draws, all_passes, all_receipts, draws_of, idle_count, passes_of};
 
+use crate::clerks::{Clerks, Offices};
 use crate::cluster::{Cluster, Left};
 use crate::fault::ClusterFault;
 use crate::member::Member;
 use crate::record::RunRecord;
 use board::{Board, BoardFault, BoardRoot};
-use dealer::{Clerk, Office};
 use node::{ClusterName, Node};
+use quorum_set::Side;
 use requester::Phase;
 use std::alloc::{AllocError, Global};
 use std::fmt;
@@ -90,32 +91,34 @@ fn lost_by<N: ClusterName>(members: &[Member<N>]) -> u64
     lost
 }
 
-/// Appends a member's draws to the others.
+/// Appends a member's draws of one plan to the others.
 fn push_draws<N: ClusterName>(
     draws: &mut Vec<(u8, u64, usize)>,
     member: &Member<N>,
+    side: Side,
 ) -> Result<(), AllocError>
-    ensures added { IfOk result (λ _. draws.new.items ≡ draws.old.items ++ draws_of member.now) }
-    ensures each { IfOk result (λ _. All (IsDraw N.cluster) (draws_of member.now)) }
+    ensures added { IfOk result (λ _. draws.new.items ≡ draws.old.items ++ draws_of side member.now) }
+    ensures each { IfOk result (λ _. All (IsDraw N.cluster side) (draws_of side member.now)) }
 {
     let client = member.client();
-    for receipt in member.receipts() {
+    for receipt in member.receipts(side) {
         draws.push((client, receipt.ticket, receipt.quorum))?;
     }
     Ok(())
 }
 
-/// Returns the draws of all members, one member after the other.
+/// Returns the draws of one plan of all members, one member after the other.
 fn collect_draws<N: ClusterName>(
     alloc: Global,
     members: &[Member<N>],
+    side: Side,
 ) -> Result<Vec<(u8, u64, usize)>, AllocError>
-    ensures value { IfOk result (λ draws. draws.items ≡ all_draws members.now) }
-    ensures each { IfOk result (λ draws. All (IsDraw N.cluster) draws.items) }
+    ensures value { IfOk result (λ draws. draws.items ≡ all_draws side members.now) }
+    ensures each { IfOk result (λ draws. All (IsDraw N.cluster side) draws.items) }
 {
     let mut draws = Vec::new(alloc);
     for member in members {
-        push_draws(&mut draws, member)?;
+        push_draws(&mut draws, member, side)?;
     }
     Ok(draws)
 }
@@ -141,30 +144,31 @@ fn by_number(mut passes: Vec<(u8, u64)>) -> Vec<(u8, u64)>
 /// Joins a member's clerk to the last clerk, and its seat to the root.
 fn join_member<N: ClusterName>(
     board: &Board,
-    office: &Office,
+    offices: &Offices,
     root: &mut BoardRoot,
-    clerk: &mut Clerk,
+    clerks: &mut Clerks,
     member: Member<N>,
 ) -> Result<(), BoardFault>
     requires board { board.now ≡ N.cluster.board }
-    requires office { office.now.name ≡ N.cluster.office }
+    requires offices { office_names offices.now ≡ names_in N.cluster }
     requires table { root.old.table ≡ N.cluster.board.table }
-    requires clerk { clerk.old.office ≡ N.cluster.office }
+    requires clerks { names_of clerks.old ≡ names_in N.cluster }
     ensures seats { IfOk result (λ _. root.new.seats ≡ root.old.seats + 1) }
     ensures passes { IfOk result (λ _. root.new.passes ≡ root.old.passes ++ passes_of member) }
     ensures each { IfOk result (λ _. All (λ p. p.0 < N.cluster.board.clients) (passes_of member)) }
-    ensures receipts { IfOk result (λ _. clerk.new.receipts ≡ clerk.old.receipts ++ member.clerk.receipts) }
-    ensures share { IfOk result (λ _. share_of clerk.new ≡ share_of clerk.old + N.cluster.quota) }
+    ensures joined { IfOk result (λ _. clerks.new ≡ joined_each clerks.old member.clerks) }
+    ensures own { IfOk result (λ _. names_of member.clerks ≡ names_in N.cluster) }
+    ensures share { IfOk result (λ _. HasShare member.clerks N.cluster.quota) }
     ensures table { root.new.table ≡ root.old.table }
-    ensures office { clerk.new.office ≡ clerk.old.office }
+    ensures names { names_of clerks.new ≡ names_of clerks.old }
     ensures lost { IfErr result (IsLoss N.cluster) }
 {
     let Member {
         seat,
-        clerk: own,
+        clerks: own,
         ..
     } = member;
-    match clerk.join(office, own) {
+    match clerks.join(offices, own) {
         Ok(()) => {}
         Err(_) => return Err(BoardFault::OutOfMemory),
     }
@@ -178,27 +182,28 @@ fn join_member<N: ClusterName>(
 /// Joins all members' clerks and seats.
 fn join_members<N: ClusterName>(
     board: &Board,
-    office: &Office,
+    offices: &Offices,
     root: &mut BoardRoot,
-    clerk: &mut Clerk,
+    clerks: &mut Clerks,
     members: Vec<Member<N>>,
 ) -> Result<(), BoardFault>
     requires board { board.now ≡ N.cluster.board }
-    requires office { office.now.name ≡ N.cluster.office }
+    requires offices { office_names offices.now ≡ names_in N.cluster }
     requires table { root.old.table ≡ N.cluster.board.table }
-    requires clerk { clerk.old.office ≡ N.cluster.office }
+    requires clerks { names_of clerks.old ≡ names_in N.cluster }
     ensures seats { IfOk result (λ _. root.new.seats ≡ root.old.seats + length members.items) }
     ensures passes { IfOk result (λ _. root.new.passes ≡ root.old.passes ++ all_passes members.items) }
     ensures each { IfOk result (λ _. All (λ p. p.0 < N.cluster.board.clients) (all_passes members.items)) }
-    ensures receipts { IfOk result (λ _. clerk.new.receipts ≡ clerk.old.receipts ++ all_receipts members.items) }
-    ensures share { IfOk result (λ _.
-        share_of clerk.new ≡ share_of clerk.old + length members.items * N.cluster.quota) }
+    ensures receipts { IfOk result (λ _. (side : Side) →
+        receipts_of clerks.new side ≡ receipts_of clerks.old side ++ all_receipts side members.items) }
+    ensures share { IfOk result (λ _. (n : ℕ) → HasShare clerks.old n →
+        HasShare clerks.new (n + length members.items * N.cluster.quota)) }
     ensures table { root.new.table ≡ root.old.table }
-    ensures office { clerk.new.office ≡ clerk.old.office }
+    ensures names { names_of clerks.new ≡ names_of clerks.old }
     ensures lost { IfErr result (IsLoss N.cluster) }
 {
     for member in members {
-        join_member(board, office, root, clerk, member)?;
+        join_member(board, offices, root, clerks, member)?;
     }
     Ok(())
 }
@@ -226,26 +231,10 @@ fn join_nodes<N: ClusterName>(
     Ok(())
 }
 
-/// Closes an office with a clerk that has all its tickets, drawn or left.
-fn close_office(alloc: Global, office: Office, clerk: Clerk) -> Result<(), BoardFault>
-    requires office { clerk.office ≡ office.name }
-    requires whole { office.quota ≤ share_of clerk }
-    ensures tickets { IfOk result (λ _. AreAllBelow (tickets_of clerk.receipts) (length clerk.receipts)) }
-    ensures memory { IfErr result (λ fault. fault ≡ BoardFault.OutOfMemory) }
-{
-    match office.close(alloc, clerk) {
-        Ok(_) => Ok(()),
-        Err(unclosed) => match unclosed.fault {
-            dealer::OfficeFault::OutOfMemory => Err(BoardFault::OutOfMemory),
-            dealer::OfficeFault::ClerksOut(_) => unreachable!(),
-        },
-    }
-}
-
 impl<N: ClusterName> Cluster<N> {
     /// Closes the cluster with its members, and returns the record of its run:
     ///
-    /// - who drew which ticket and received which quorum, in the order of tickets;
+    /// - who drew which ticket and received which quorum, for each plan in the order of tickets;
     /// - who passed by which number, in the order of numbers;
     /// - the register;
     /// - how many messages were lost.
@@ -279,30 +268,35 @@ impl<N: ClusterName> Cluster<N> {
         ensures lost { IfErr result (IsLoss N.cluster) }
     {
         let lost = lost_by(&members);
-        let draws = match collect_draws(alloc, &members) {
+        let draws = match collect_draws(alloc, &members, Side::First) {
+            Ok(draws) => draws,
+            Err(_) => return Err(BoardFault::OutOfMemory),
+        };
+        let draws2 = match collect_draws(alloc, &members, Side::Second) {
             Ok(draws) => draws,
             Err(_) => return Err(BoardFault::OutOfMemory),
         };
         let Cluster {
             board,
-            office,
+            offices,
             nodes,
             mailboxes: _,
             left,
         } = self;
         let Left {
             mut root,
-            mut clerk,
+            mut clerks,
             of: _,
         } = left.into_inner();
-        join_members(&board, &office, &mut root, &mut clerk, members)?;
+        join_members(&board, &offices, &mut root, &mut clerks, members)?;
         join_nodes(&board, &mut root, nodes)?;
-        close_office(alloc, office, clerk)?;
+        offices.close(alloc, clerks)?;
         let Ok(total) = board.close(root) else {
             unreachable!()
         };
         Ok(RunRecord {
             draws: by_ticket(draws),
+            draws2: by_ticket(draws2),
             passes: by_number(total.passes),
             register: total.register,
             lost,

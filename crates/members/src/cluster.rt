@@ -2,27 +2,28 @@
 ghost use Rattle.std.specs.Prelude.{◌≡◌, ◌<◌, ◌≤◌, true, false, None, IfSome, length, nat_le};
 ghost use Rattle.std.specs.List.{count_by};
 ghost use Rattle.numbers.specs.Sets.{IsSet};
-ghost use Rattle.board.specs.Quorums.{quorum_at};
-ghost use Rattle.members.specs.Clusters.{ClusterState, IsLeft};
+ghost use Rattle.board.specs.Quorums.{HasQuorum, place_of, quorum_at};
+ghost use Rattle.members.specs.Clerks.{quorums_of};
+ghost use Rattle.members.specs.Clusters.{ClusterState, IsLeft, names_in};
 ghost use Rattle.members.specs.Losses.{is_stray, is_stray_reply, most_lost};
 ghost use Rattle.node.specs.Mail.{IsMail};
 
+use crate::clerks::{Clerks, Offices};
 use board::{Board, BoardRoot, ClientSeat};
-use dealer::{Clerk, Office};
 use message::{ToClient, ToVoter};
 use node::{ClusterName, Mailbox, Node};
-use quorum_set::QSet;
+use quorum_set::{QSet, Side};
 use requester::Requester;
 use std::marker::{Model, PhantomData};
 use std::sync::{Mutex, Wait};
 use voter::Replies;
 
-/// A running cluster: its board, its office, a node for each voter and a mailbox for each client.
+/// A running cluster: its board, its offices, a node for each voter and a mailbox for each client.
 /// Threads share it through a `&`. Contracts see which cluster it is.
 #[derive(Drop)]
 pub struct Cluster<N: ClusterName> {
     pub(crate) board: Board,
-    pub(crate) office: Office,
+    pub(crate) offices: Offices,
     pub(crate) nodes: Vec<Mutex<Node<N>>>,
     pub(crate) mailboxes: Vec<Mutex<Mailbox<N>>>,
     /// Unused until `close`. The lock lets threads share the cluster.
@@ -33,9 +34,9 @@ pub struct Cluster<N: ClusterName> {
 #[derive(Drop)]
 pub(crate) struct Left<N: ClusterName> {
     pub(crate) root: BoardRoot,
-    pub(crate) clerk: Clerk,
+    pub(crate) clerks: Clerks,
     pub(crate) of: PhantomData<N>,
-    ghost left: { IsLeft N.cluster root clerk },
+    ghost left: { IsLeft N.cluster root clerks },
 }
 
 impl<N: ClusterName> Model for Cluster<N> {
@@ -46,7 +47,7 @@ impl<N: ClusterName> Model for Cluster<N> {
 
     ghost view = { λ c. N.cluster };
 
-    ghost invariant = { λ c. Runs N.cluster c.board c.office (length c.nodes.items) (length c.mailboxes.items) };
+    ghost invariant = { λ c. Runs N.cluster c.board c.offices (length c.nodes.items) (length c.mailboxes.items) };
 }
 
 impl<N: ClusterName> Cluster<N> {
@@ -154,15 +155,16 @@ impl<N: ClusterName> Cluster<N> {
         lost
     }
 
-    /// Returns the quorum with this number.
-    pub(crate) fn quorum(&self, number: usize) -> &QSet
-        requires { number < length N.cluster.office.cycle.system.quorums }
-        ensures value { result.now ≡ quorum_at N.cluster.board.quorums number }
-        ensures in_range { number < length N.cluster.board.quorums }
+    /// Returns the quorum with this number of a plan's coterie.
+    pub(crate) fn quorum(&self, side: Side, number: usize) -> &QSet
+        requires { number < length (quorums_of (names_in N.cluster) side) }
+        ensures value { result.now
+            ≡ quorum_at N.cluster.board.quorums (place_of N.cluster.board.firsts side number) }
+        ensures in_range { HasQuorum N.cluster.board.firsts N.cluster.board.quorums side number }
         ensures set { IsSet result.now }
         ensures some { 1 ≤ length result.now }
     {
-        self.office.cycle().plan().coterie().quorum(number)
+        self.offices.quorum(side, number)
     }
 
     /// Takes the first message out of a client's mailbox and returns it, if there is one.

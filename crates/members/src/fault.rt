@@ -23,4 +23,7 @@ pub enum ClusterFault {
     /// This client's turns are spent.
     #[error("K2 TurnsSpent {0}")]
     TurnsSpent(u8),
+    /// There is no second plan, or it is in use already.
+    #[error("K4 NoSecondPlan")]
+    NoSecondPlan,
 }

@@ -4,6 +4,7 @@ ghost use Rattle.std.specs.Prelude.{◌≡◌};
 ghost use Rattle.members.specs.Clusters.{ClusterState};
 
 use super::*;
+use dealer::Plans;
 use message::{ClientBody, ToClient, ToVoter, VoterBody};
 use requester::Seen;
 use small_plans::majority_plan;
@@ -187,7 +188,7 @@ fn forged_messages_let_no_two_pass_at_once(rt: HostRuntime) -> Result<(), Fail> 
     let Some(plan) = majority_plan(rt.alloc()) else {
         panic!(rt; "no plan")
     };
-    let Ok(blank) = Blank::new(rt.alloc(), plan, 3, 40) else {
+    let Ok(blank) = Blank::new(rt.alloc(), Plans::single(plan), 3, 40) else {
         panic!(rt; "no cluster")
     };
     match record_of::<Brand, _>(&rt, rt.alloc(), blank)? {

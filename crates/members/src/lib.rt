@@ -9,7 +9,7 @@
 //!   It is behind a lock, and takes one message at a time. Its lock is released before its replies
 //!   go into mailboxes.
 //! - A mailbox has the messages to one client, first in, first out, behind a lock.
-//! - A [`Member`] is a client with its seat on the board and its clerk. One thread at a time drives
+//! - A [`Member`] is a client with its seat on the board and its clerks. One thread at a time drives
 //!   it: it calls [`Member::ask`], [`Member::pump`] until that returns `Entered`, [`Member::pass`]
 //!   any number of times, and [`Member::leave`].
 //! - [`Cluster::close`] takes the members back, once all are idle, and returns the [`RunRecord`]:
@@ -39,7 +39,7 @@
 //!     }
 //!     Ok(member.pass(&cluster).ok()) // pass number 0
 //! }
-//! // once::<Brand>(rt, alloc, Blank::new(alloc, plan, 1, 100)?)
+//! // once::<Brand>(rt, alloc, Blank::new(alloc, Plans::single(plan), 1, 100)?)
 //! ```
 //!
 //! # What is proved
@@ -51,9 +51,12 @@
 //! - `ask` fails if the client is not idle, or has no stamp or no ticket left. `pass` and `leave`
 //!   fail if it is not inside, and `give_up` if it is not asking. Otherwise only `pass` fails, on a
 //!   full register, and `ask` and `pass` when out of memory.
-//! - A record has each member's draws and passes, and no others. Its tickets and its numbers are 0,
-//!   1, 2 and so on. Each ticket names its quorum by the plan's cycle, and the register is the
-//!   number of passes.
+//! - A cluster may have two plans with a bridge between their coteries. `exchange` has the member's
+//!   later requests draw of the second plan. It fails if there is none, or the member exchanged
+//!   already. A request that runs keeps its quorum.
+//! - A record has each member's draws and passes, and no others, with the draws of each plan by
+//!   themselves. Its tickets of each plan and its numbers are 0, 1, 2 and so on. Each ticket names
+//!   its quorum by its plan's cycle, and the register is the number of passes.
 //!
 //! A message may be lost: a node drops it, memory runs out, or it is a LOCKED whose vote can't be
 //! taken. [`Member::lost`] counts such messages:
@@ -77,6 +80,7 @@
 #![tactic(auto)]
 
 mod blank;
+mod clerks;
 mod close;
 mod cluster;
 mod fault;

@@ -3,6 +3,7 @@ ghost use Rattle.std.specs.Prelude.{◌≡◌, ◌≤◌};
 ghost use Rattle.members.specs.Clusters.{ClusterState};
 
 use super::*;
+use dealer::Plans;
 use message::{ClientBody, ToClient, ToVoter, VoterBody};
 use requester::Seen;
 use small_plans::majority_plan;
@@ -16,7 +17,7 @@ fn majority_blank(alloc: Global, clients: u8) -> Option<Blank>
     requires least { 1 ≤ clients }
     requires most { clients ≤ 64 }
 {
-    Blank::new(alloc, majority_plan(alloc)?, clients, 4).ok()
+    Blank::new(alloc, Plans::single(majority_plan(alloc)?), clients, 4).ok()
 }
 
 /// A call of a member.

@@ -5,41 +5,44 @@ ghost use Rattle.numbers.specs.Bounds.{max_voters, max_clients};
 ghost use Rattle.board.specs.Quorums.{quorum_at};
 ghost use Rattle.board.specs.Seats.{BoardState, ClientSeatState};
 ghost use Rattle.board.specs.declared.fault.BoardFault.{BoardFault};
-ghost use Rattle.dealer.specs.Offices.{AreByCycle, ClerkState, receipt_of};
 ghost use Rattle.requester.specs.Soundness.{IsSound};
 ghost use Rattle.requester.specs.Steps.{remind};
 ghost use Rattle.requester.specs.Words.{is_asking, is_idle, is_inside, members};
-ghost use Rattle.members.specs.Clusters.{ClusterState};
+ghost use Rattle.members.specs.Clerks.{AreDealt, ClerksState, IsDealt, drawn, exchanged, may_exchange, receipts_of};
+ghost use Rattle.members.specs.Clusters.{ClusterState, names_in};
 ghost use Rattle.members.specs.Losses.{LosesAtMost, most_lost};
-ghost use Rattle.members.specs.Members.{MemberState, MayAsk, Asked, HasLeft, GaveUp, Met, Pumped, RefusesAsk, RefusesPass, fresh_member, with_receipt, with_pass};
+ghost use Rattle.members.specs.Members.{MemberState, MayAsk, Asked, HasLeft, GaveUp, Met, Pumped, RefusesAsk, RefusesPass, fresh_member, place_in, with_pass};
 ghost use Rattle.node.specs.Mail.{IsMail};
 ghost use Rattle.node.specs.Votes.{HoldsFewer, HoldsWithin};
 
+use crate::clerks::Clerks;
 use crate::cluster::Cluster;
 use crate::fault::ClusterFault;
 use crate::laws::clients_keep_their_laws;
 use arrayvec::ArrayVec;
 use board::ClientSeat;
-use dealer::{Clerk, Receipt};
+use dealer::Receipt;
 use message::ToClient;
 use node::{ClusterName, accept, give_back};
 use numbers::MAX_STAMP;
+use quorum_set::Side;
 use requester::{ClientFault, Messages, Phase, Requester, Seen, requesters_stay_sound};
 use std::marker::{Model, PhantomData};
 use std::sync::Wait;
 
-/// A client of a cluster with its seat on the board and its clerk. It may be moved to a thread,
+/// A client of a cluster with its seat on the board and its clerks. It may be moved to a thread,
 /// which drives it. Whenever no call runs, the client holds the votes that the seat holds.
 /// Contracts see a `MemberState`.
 #[derive(Drop)]
 pub struct Member<N: ClusterName> {
     pub(crate) requester: Requester,
     pub(crate) seat: ClientSeat,
-    pub(crate) clerk: Clerk,
+    pub(crate) clerks: Clerks,
     pub(crate) lost: u64,
     /// Why its work ended early when it was last driven.
     pub(crate) fault: Option<ClusterFault>,
-    /// The number of the quorum of the current or last request.
+    /// The side and the number of the quorum of the current or last request.
+    pub(crate) side: Side,
     pub(crate) quorum: usize,
     /// What its client sent last. It is kept here so that no step has to make room for it.
     pub(crate) out: Messages,
@@ -59,12 +62,12 @@ impl<N: ClusterName> Model for Member<N> {
     ghost view = { λ m. record {
       requester = m.requester;
       seat = m.seat;
-      clerk = m.clerk;
+      clerks = m.clerks;
       lost = m.lost;
       fault = m.fault;
     } };
 
-    ghost invariant = { λ m. IsMember N.cluster m.requester m.seat m.clerk m.quorum };
+    ghost invariant = { λ m. IsMember N.cluster m.requester m.seat m.clerks m.side m.quorum };
 }
 
 /// Ends a step of a client: gives back the votes that it no longer holds, and then sends its
@@ -91,21 +94,23 @@ fn finish<N: ClusterName>(
 }
 
 impl<N: ClusterName> Member<N> {
-    /// Creates a member from a clerk and from a seat that holds no vote and has not passed.
-    pub(crate) fn new(seat: ClientSeat, clerk: Clerk) -> Member<N>
+    /// Creates a member from clerks that drew no ticket and from a seat that holds no vote and has
+    /// not passed.
+    pub(crate) fn new(seat: ClientSeat, clerks: Clerks) -> Member<N>
         requires client { seat.client < N.cluster.board.clients }
         requires few { N.cluster.board.clients ≤ max_clients }
         requires fresh { seat ≡ (fresh_member N.cluster seat.client).seat }
-        requires clerk { clerk ≡ (fresh_member N.cluster seat.client).clerk }
+        requires clerks { clerks ≡ (fresh_member N.cluster seat.client).clerks }
         ensures { result ≡ fresh_member N.cluster seat.client }
     {
         requesters_stay_sound();
         Member {
             requester: Requester::new(seat.client(), MAX_STAMP),
             seat,
-            clerk,
+            clerks,
             lost: 0,
             fault: None,
+            side: Side::First,
             quorum: 0,
             out: ArrayVec::new(),
             of: PhantomData,
@@ -151,13 +156,39 @@ impl<N: ClusterName> Member<N> {
         self.fault = fault;
     }
 
-    /// Returns the receipts of its tickets, in the order of its requests. Each names the quorum of
-    /// its ticket.
-    pub fn receipts(&self) -> &[Receipt]
-        ensures value { result.now ≡ self.now.clerk.receipts }
-        ensures quorums { AreByCycle N.cluster.office.cycle self.now.clerk.receipts }
+    /// Returns the receipts of its tickets of one plan, in the order of its requests. Each names the
+    /// quorum of its ticket. Without a second plan, that one has no receipts.
+    pub fn receipts(&self, side: Side) -> &[Receipt]
+        ensures value { result.now ≡ receipts_of self.now.clerks side }
+        ensures dealt { AreDealt (names_in N.cluster) side (receipts_of self.now.clerks side) }
     {
-        self.clerk.receipts()
+        self.clerks.receipts(side)
+    }
+
+    /// Returns the plan that its next request uses.
+    pub fn side(&self) -> Side
+        ensures { result ≡ self.now.clerks.side }
+    {
+        self.clerks.side()
+    }
+
+    /// Exchanges the plan: its requests from here on use the second plan. A request that runs goes
+    /// on with its quorum. Neither waits nor takes memory.
+    ///
+    /// Fails with `NoSecondPlan` if and only if there is no second plan or it is in use already, and
+    /// then changes nothing.
+    pub fn exchange(&mut self) -> Result<(), ClusterFault>
+        ensures exchanged { IfOk result (λ _. self.new ≡ record self.old { clerks = exchanged self.old.clerks }) }
+        ensures may { IfOk result (λ _. may_exchange self.old.clerks ≡ true) }
+        ensures refused { IfErr result (λ fault.
+            (fault ≡ ClusterFault.NoSecondPlan) × (may_exchange self.old.clerks ≡ false)) }
+        ensures kept { IfErr result (λ _. self.new ≡ self.old) }
+    {
+        if self.clerks.exchange() {
+            Ok(())
+        } else {
+            Err(ClusterFault::NoSecondPlan)
+        }
     }
 
     /// Returns its pass numbers, in order.
@@ -167,19 +198,21 @@ impl<N: ClusterName> Member<N> {
         self.seat.passes()
     }
 
-    /// Starts a request: draws a ticket and sends REQUEST to each member of the quorum that it
-    /// names. Returns the ticket's receipt.
+    /// Starts a request: draws a ticket of the plan in use and sends REQUEST to each member of the
+    /// quorum that it names. Returns the ticket's receipt.
     ///
     /// Fails for the first of these reasons, and then changes nothing:
     ///
     /// - the client is not idle;
     /// - no stamp is left;
-    /// - its clerk has no ticket left;
+    /// - it has no ticket of that plan left;
     /// - there is no memory for the receipt.
     pub fn ask(&mut self, rt: &impl Wait, cluster: &Cluster<N>) -> Result<Receipt, ClusterFault>
-        ensures asked { IfOk result (λ r. Asked self.old (quorum_at N.cluster.board.quorums r.quorum) self.new) }
-        ensures dealt { IfOk result (λ r. r ≡ receipt_of N.cluster.office.cycle r.ticket) }
-        ensures receipt { IfOk result (λ r. self.new.clerk ≡ with_receipt self.old.clerk r) }
+        ensures asked { IfOk result (λ r.
+            Asked self.old (quorum_at N.cluster.board.quorums (place_in N.cluster self.old r.quorum)) self.new) }
+        ensures dealt { IfOk result (λ r.
+            IsDealt (names_in N.cluster) self.old.clerks.side r.ticket r.quorum) }
+        ensures receipt { IfOk result (λ r. self.new.clerks ≡ drawn self.old.clerks r) }
         ensures seat { IfOk result (λ _. self.new.seat ≡ self.old.seat) }
         ensures may { IfOk result (λ _. MayAsk self.old) }
         ensures refused { IfErr result (RefusesAsk self.old) }
@@ -192,14 +225,16 @@ impl<N: ClusterName> Member<N> {
         if let Some(fault) = self.requester.ask_fault() {
             return Err(ClusterFault::Client(fault));
         }
-        let receipt = match cluster.office.draw(&mut self.clerk) {
+        let side = self.clerks.side();
+        let receipt = match self.clerks.draw(&cluster.offices) {
             Ok(receipt) => receipt,
             Err(fault) => return Err(ClusterFault::Deal(fault)),
         };
-        let quorum = cluster.quorum(receipt.quorum);
+        let quorum = cluster.quorum(side, receipt.quorum);
         let Ok(_) = self.requester.ask_into(quorum, &mut self.out) else {
             unreachable!()
         };
+        self.side = side;
         self.quorum = receipt.quorum;
         let lost = cluster.send(rt, &self.requester, &self.seat, self.out.as_slice());
         self.lost = self.lost.saturating_add(lost);
@@ -220,7 +255,7 @@ impl<N: ClusterName> Member<N> {
         ensures not_left { result ≢ Some Seen.Left }
         ensures busy { is_idle self.new.requester.phase ≡ is_idle self.old.requester.phase }
         ensures empty { result ≡ None → self.new ≡ self.old }
-        ensures clerk { self.new.clerk ≡ self.old.clerk }
+        ensures clerks { self.new.clerks ≡ self.old.clerks }
         ensures passes { self.new.seat.passes ≡ self.old.seat.passes }
         ensures client { self.new.requester.id ≡ self.old.requester.id }
         ensures fault { self.new.fault ≡ self.old.fault }
@@ -241,7 +276,7 @@ impl<N: ClusterName> Member<N> {
             → is_inside self.new.requester.phase ≡ is_inside self.old.requester.phase }
         ensures not_left { result ≢ Seen.Left }
         ensures busy { is_idle self.new.requester.phase ≡ is_idle self.old.requester.phase }
-        ensures clerk { self.new.clerk ≡ self.old.clerk }
+        ensures clerks { self.new.clerks ≡ self.old.clerks }
         ensures passes { self.new.seat.passes ≡ self.old.seat.passes }
         ensures client { self.new.requester.id ≡ self.old.requester.id }
         ensures fault { self.new.fault ≡ self.old.fault }
@@ -267,7 +302,7 @@ impl<N: ClusterName> Member<N> {
         ensures refused { IfErr result (λ fault.
             (fault ≡ ClusterFault.NotInside) × (is_inside self.old.requester.phase ≡ false)) }
         ensures kept { IfErr result (λ _. self.new ≡ self.old) }
-        ensures clerk { self.new.clerk ≡ self.old.clerk }
+        ensures clerks { self.new.clerks ≡ self.old.clerks }
         ensures passes { self.new.seat.passes ≡ self.old.seat.passes }
         ensures client { self.new.requester.id ≡ self.old.requester.id }
         ensures fault { self.new.fault ≡ self.old.fault }
@@ -291,7 +326,7 @@ impl<N: ClusterName> Member<N> {
         ensures refused { IfErr result (λ fault.
             (fault ≡ ClusterFault.Client ClientFault.NotAsking) × (is_asking self.old.requester.phase ≡ false)) }
         ensures kept { IfErr result (λ _. self.new ≡ self.old) }
-        ensures clerk { self.new.clerk ≡ self.old.clerk }
+        ensures clerks { self.new.clerks ≡ self.old.clerks }
         ensures passes { self.new.seat.passes ≡ self.old.seat.passes }
         ensures client { self.new.requester.id ≡ self.old.requester.id }
         ensures fault { self.new.fault ≡ self.old.fault }
@@ -340,7 +375,7 @@ impl<N: ClusterName> Member<N> {
             → (j : ℕ) × (x : ℕ) × (self.new.seat.reading ≡ Some (j, x)) × (x ≢ N.cluster.board.limit) }
         ensures outside { result ≡ Err ClusterFault.NotInside → self.new ≡ self.old }
         ensures requester { self.new.requester ≡ self.old.requester }
-        ensures clerk { self.new.clerk ≡ self.old.clerk }
+        ensures clerks { self.new.clerks ≡ self.old.clerks }
         ensures fault { self.new.fault ≡ self.old.fault }
         ensures kept { IfErr result (λ _.
             self.new ≡ record self.old { seat = record self.old.seat { reading = self.new.seat.reading } }) }
@@ -348,7 +383,8 @@ impl<N: ClusterName> Member<N> {
         if self.requester.phase() != Phase::Inside {
             return Err(ClusterFault::NotInside);
         }
-        self.seat.read_register(&cluster.board, self.quorum);
+        self.seat
+            .read_register(&cluster.board, self.side, self.quorum);
         match self.seat.write_register(&cluster.board) {
             Ok(number) => Ok(number),
             Err(fault) => Err(ClusterFault::Board(fault)),

@@ -3,9 +3,11 @@
 /// The record of a run of a cluster.
 #[derive(Debug, Drop)]
 pub struct RunRecord {
-    /// Who drew which ticket, and which quorum it named: client, ticket, quorum. They are in the
-    /// order of tickets if [`Cluster::close`](crate::Cluster::close) made the record.
+    /// Who drew which ticket of the first plan, and which quorum it named: client, ticket, quorum.
+    /// They are in the order of tickets if [`Cluster::close`](crate::Cluster::close) made the record.
     pub draws: Vec<(u8, u64, usize)>,
+    /// The same of the second plan. Empty without a second plan.
+    pub draws2: Vec<(u8, u64, usize)>,
     /// Who passed by which number: client, number. They are in the order of numbers if
     /// `Cluster::close` made the record.
     pub passes: Vec<(u8, u64)>,

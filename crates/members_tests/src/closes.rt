@@ -88,6 +88,7 @@ const RECORDS: [(&[(usize, Act)], Wanted); 4] = [
 /// Returns whether the record is the one that is wanted.
 fn is_wanted(record: &RunRecord, wanted: &Wanted) -> bool {
     (record.draws.as_slice() == wanted.draws)
+        & record.draws2.is_empty()
         & (record.passes.as_slice() == wanted.passes)
         & (record.register == wanted.register)
         & (record.lost == 0)

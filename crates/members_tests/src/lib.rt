@@ -3,12 +3,15 @@
 //! - `scripts` plays calls of members on one thread, each with what it has to return.
 //! - `threads` has two members pass, each in a thread of its own.
 //! - `closes` closes clusters, also with a member missing or inside.
+//! - `exchanges` has members exchange their plan.
 //!
 //! What needs private items (lost and forged messages) is tested in `members` itself.
 #![tactic(auto)]
 
 #[cfg(test)]
 mod closes;
+#[cfg(test)]
+mod exchanges;
 #[cfg(test)]
 mod scripts;
 #[cfg(test)]

@@ -2,7 +2,7 @@
 ghost use Rattle.std.specs.Prelude.{◌≡◌, ◌*◌, ◌≤◌, ◌^◌};
 ghost use Rattle.members.specs.Clusters.{ClusterState};
 
-use dealer::Receipt;
+use dealer::{Plans, Receipt};
 use members::{Blank, Cluster, ClusterFault, ClusterName, Member};
 use requester::{ClientFault, Phase, Seen};
 use small_plans::majority_plan;
@@ -85,7 +85,7 @@ pub(crate) fn majority_blank(alloc: Global, clients: u8) -> Option<Blank>
     requires least { 1 ≤ clients }
     requires most { clients ≤ 64 }
 {
-    Blank::new(alloc, majority_plan(alloc)?, clients, 4).ok()
+    Blank::new(alloc, Plans::single(majority_plan(alloc)?), clients, 4).ok()
 }
 
 /// Returns whether a member's call returns what it has to.

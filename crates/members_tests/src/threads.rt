@@ -3,7 +3,9 @@ ghost use Rattle.std.specs.Prelude.{◌≡◌, ◌*◌, ◌≤◌, ◌^◌};
 ghost use Rattle.members.specs.Clusters.{ClusterState};
 
 use crate::scripts::majority_blank;
+use dealer::Plans;
 use members::{Blank, Cluster, ClusterName, Member};
+use quorum_set::Side;
 use requester::Seen;
 use small_plans::even_plan;
 use std::alloc::{AllocError, Global};
@@ -62,7 +64,7 @@ fn totals_of<N: ClusterName>(members: &[Member<N>]) -> Totals {
     let mut lost: u64 = 0;
     for member in members {
         passes = passes.saturating_add(member.passes().len());
-        draws = draws.saturating_add(member.receipts().len());
+        draws = draws.saturating_add(member.receipts(Side::First).len());
         lost = lost.saturating_add(member.lost());
     }
     Totals {
@@ -76,7 +78,8 @@ fn totals_of<N: ClusterName>(members: &[Member<N>]) -> Totals {
 /// draw one ticket.
 fn largest_blank(alloc: Global) -> Option<Blank> {
     let all = (0..64u8).collect::<Vec<u8>>(alloc).ok()?;
-    Blank::new(alloc, even_plan(alloc, 64, &[&all])?, 64, 1).ok()
+    let plans = Plans::single(even_plan(alloc, 64, &[&all])?);
+    Blank::new(alloc, plans, 64, 1).ok()
 }
 
 /// Has the members enter with the vote of each voter, one after the other, and pass and leave.

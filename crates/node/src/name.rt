@@ -1,8 +1,8 @@
 //! Which cluster a value belongs to.
 use std::marker::Brand;
 
-/// The name of one cluster, as a type. It names the cluster's board, its office, and how many
-/// tickets each client may draw.
+/// The name of one cluster, as a type. It names the cluster's board, the office of its first plan,
+/// that of its second plan, if it has one, and how many tickets each client may draw at each office.
 ///
 /// It has no value. What a lock gives and what a thread is lent have it as a type parameter, so
 /// they belong to one cluster. Code that works on a cluster is generic in its name.

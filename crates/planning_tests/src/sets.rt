@@ -1,6 +1,6 @@
 //! Sets and coteries.
-use quorum_set::{Coterie, CoterieFault, QSet};
-use small_plans::{set_of, sets_of};
+use quorum_set::{Bridge, Coterie, CoterieFault, QSet};
+use small_plans::{coterie_of, set_of, sets_of};
 use std::alloc::{AllocError, Global};
 use std::test::Fail;
 
@@ -82,5 +82,50 @@ fn sets_and_a_copy(rt: HostRuntime) -> Result<(), Fail> {
     };
     let copy = coterie.copy(alloc)?;
     assert!(rt; copy.voters() == 3 && copy.count() == 3);
+    Ok(())
+}
+
+/// Returns the text of the fault between two coteries of three voters, or an empty text for a
+/// bridge.
+fn bridge_text(alloc: Global, old: &[&[u8]], new: &[&[u8]]) -> Result<String, Fail> {
+    let old = coterie_of(alloc, 3, old)?;
+    let new = coterie_of(alloc, 3, new)?;
+    match Bridge::of(alloc, &old, &new) {
+        Ok(_) => Ok(String::new(alloc)),
+        Err(fault) => Ok(fault.to_string(alloc)?),
+    }
+}
+
+#[test]
+fn bridges_between_coteries(rt: HostRuntime) -> Result<(), Fail> {
+    let alloc = rt.alloc();
+    let any_two: &[&[u8]] = &[&[0, 1], &[0, 2], &[1, 2]];
+    let other_way: &[&[u8]] = &[&[1, 2], &[0, 2], &[0, 1]];
+    let all: &[&[u8]] = &[&[0, 1, 2]];
+    let first: &[&[u8]] = &[&[0]];
+    let table: [(&[&[u8]], &[&[u8]], &str); 6] = [
+        (any_two, all, ""),
+        (all, any_two, ""),
+        (any_two, other_way, ""),
+        (any_two, first, "J1 NotBridged 2 0"),
+        (first, any_two, "J1 NotBridged 0 2"),
+        (first, all, ""),
+    ];
+    for (old, new, want) in &table {
+        assert_eq!(rt; bridge_text(alloc, old, new)?.as_str(), *want);
+    }
+    Ok(())
+}
+
+#[test]
+fn bridge_keeps_both(rt: HostRuntime) -> Result<(), Fail> {
+    let alloc = rt.alloc();
+    let old = coterie_of(alloc, 3, &[&[0, 1], &[0, 2], &[1, 2]])?;
+    let new = coterie_of(alloc, 3, &[&[0, 1, 2]])?;
+    let Ok(bridge) = Bridge::of(alloc, &old, &new) else {
+        panic!(rt; "no bridge")
+    };
+    assert_eq!(rt; bridge.first().count(), 3);
+    assert_eq!(rt; bridge.second().count(), 1);
     Ok(())
 }

@@ -4,7 +4,8 @@
 //!   threads.
 //! - `messages` reads and writes lines.
 //! - `voters` and `requesters` have worked examples of the two automata, `worlds` of both together,
-//!   and `scripts` the same as text.
+//!   and `scripts` the same as text. In `worlds` a plan is exchanged, too, and `pairs` puts two plans
+//!   together.
 //!
 //! The tests are not in the crates that they test, so these are proved once, and not again together
 //! with their tests.
@@ -18,6 +19,8 @@ mod long_cycles;
 mod messages;
 #[cfg(test)]
 mod offices;
+#[cfg(test)]
+mod pairs;
 #[cfg(test)]
 mod requesters;
 #[cfg(test)]

@@ -3,8 +3,9 @@ ghost use Rattle.std.specs.Prelude.{◌≤◌, ◌^◌};
 
 use crate::messages::add_line;
 use certificate::Plan;
+use dealer::Plans;
 use requester::Seen;
-use small_plans::{lone_plan, majority_plan};
+use small_plans::{bridged_plans, lone_plan, majority_plan, whole_plan};
 use std::alloc::{AllocError, Global};
 use std::test::Fail;
 use world::{Step, Stepped, Trace, World, run};
@@ -17,6 +18,9 @@ fn write_rest(text: &mut String, trace: &Trace) -> Result<(), AllocError> {
     }
     for (client, ticket) in trace.draws.as_slice() {
         write!(text, "draw {client} {ticket}\n")?;
+    }
+    for (client, ticket) in trace.draws2.as_slice() {
+        write!(text, "draw2 {client} {ticket}\n")?;
     }
     for (place, fault) in trace.refused.as_slice() {
         write!(text, "{place}: {fault}\n")?;
@@ -32,6 +36,27 @@ fn story(alloc: Global, trace: &Trace) -> Result<String, AllocError> {
     }
     write_rest(&mut text, trace)?;
     Ok(text)
+}
+
+/// Returns whether a run of these plans does this.
+fn makes_by(
+    alloc: Global,
+    plans: Option<Plans>,
+    clients: u8,
+    limit: u64,
+    steps: &[Step],
+    want: &str,
+) -> Result<bool, Fail>
+    requires some { 1 ≤ clients }
+    requires few { clients ≤ 64 }
+    requires least { 1 ≤ limit }
+    requires most { limit ≤ 2 ^ 40 }
+{
+    let Some(plans) = plans else {
+        return Ok(false);
+    };
+    let trace = run(alloc, plans, clients, limit, steps)?;
+    Ok(story(alloc, &trace)?.as_str() == want)
 }
 
 /// Returns whether a run of this plan does this.
@@ -51,8 +76,14 @@ fn makes(
     let Some(plan) = plan else {
         return Ok(false);
     };
-    let trace = run(alloc, plan, clients, limit, steps)?;
-    Ok(story(alloc, &trace)?.as_str() == want)
+    makes_by(
+        alloc,
+        Some(Plans::single(plan)),
+        clients,
+        limit,
+        steps,
+        want,
+    )
 }
 
 #[test]
@@ -190,9 +221,58 @@ draw 0 0
     Ok(())
 }
 
+#[test]
+fn plan_is_exchanged_while_a_client_is_inside(rt: HostRuntime) -> Result<(), Fail> {
+    let alloc = rt.alloc();
+    let mut steps = Vec::new(alloc);
+    for step in [Step::Ask(0), Step::Exchange, Step::Ask(1)] {
+        steps.push(step)?;
+    }
+    for number in [0, 1, 5, 6, 2, 3, 4, 9] {
+        steps.push(Step::Deliver(number))?;
+    }
+    steps.push(Step::Leave(0))?;
+    for number in [10, 11, 12, 13] {
+        steps.push(Step::Deliver(number))?;
+    }
+    steps.push(Step::Exchange)?;
+    let want = "request 0 0 1
+request 0 1 1
+request 1 0 1
+request 1 1 1
+request 1 2 1
+locked 0 0 1 1 1
+locked 1 0 1 1 1
+fail 0 1 1 1
+fail 1 1 1 1
+locked 2 1 1 1 1
+release 0 0 1
+release 0 1 1
+locked 0 1 1 2 1
+locked 1 1 1 2 1
+enter 0
+leave 0
+enter 1
+draw 0 0
+draw2 1 0
+16: U4 NoSecondPlan
+";
+    let plans = bridged_plans(alloc, majority_plan(alloc), whole_plan(alloc));
+    assert!(rt; makes_by(alloc, plans, 2, 1000, &steps, want)?);
+    Ok(())
+}
+
+#[test]
+fn plan_alone_is_not_exchanged(rt: HostRuntime) -> Result<(), Fail> {
+    let alloc = rt.alloc();
+    let want = "0: U4 NoSecondPlan\n";
+    assert!(rt; makes(alloc, lone_plan(alloc), 1, 1, &[Step::Exchange], want)?);
+    Ok(())
+}
+
 /// Returns whether client 0 of a new world asks one voter, and nothing else is seen.
 fn asks_one(alloc: Global, plan: Plan) -> Result<bool, AllocError> {
-    let mut world = World::new(alloc, plan, 1, 1000)?;
+    let mut world = World::new(alloc, Plans::single(plan), 1, 1000)?;
     let asked = Stepped {
         sent: 1,
         seen: Seen::Nothing,

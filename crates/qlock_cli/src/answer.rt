@@ -21,7 +21,7 @@ use construct::{ConstructFault, cyclic, grid, majority, tree, wheel};
 use coterie_file::{FileFault, Named, read_coterie, write_coterie};
 use dealer::Account;
 use planner::plan;
-use quorum_set::Coterie;
+use quorum_set::{Coterie, Side};
 use replay::{ReplayFault, check_record, read_record, run_script};
 use std::alloc::{AllocError, Global};
 
@@ -251,7 +251,7 @@ fn account_of_record(alloc: Global, plan: &Plan, run: &RunRecord) -> Result<Acco
     ensures sound { IfOk result (λ _. IsSoundRecord plan.now (entries_of run.now)) }
     ensures fault { IfErr result (IsFirstFault plan.now (entries_of run.now)) }
 {
-    check_record(alloc, plan, run)
+    check_record(alloc, plan, Side::First, run)
 }
 
 /// Returns what `replay` writes for an input: what the record in its third part says.

@@ -8,12 +8,12 @@ use certificate::PlanFault;
 use cluster::{Blank, CloseFault, ClusterFault, ClusterName};
 use construct::ConstructFault;
 use coterie_file::FileFault;
-use dealer::{DealFault, OfficeFault};
+use dealer::{DealFault, OfficeFault, Plans};
 use fraction::FracFault;
 use message::MessageFault;
 use planner::{Cause, PlannerFault};
 use qlock_cli::{DeviceFault, Fault};
-use quorum_set::CoterieFault;
+use quorum_set::{BridgeFault, CoterieFault};
 use replay::ReplayFault;
 use requester::ClientFault;
 use runs::RunFault;
@@ -38,6 +38,14 @@ const COTERIES: [(CoterieFault, &str); 8] = [
     ),
     (CoterieFault::Disjoint(2, 10), "E7 Disjoint 2 10"),
     (CoterieFault::Contained(0, 3), "E8 Contained 0 3"),
+];
+
+const BRIDGES: [(BridgeFault, &str); 2] = [
+    (
+        BridgeFault::NotBridged(4094, 4095),
+        "J1 NotBridged 4094 4095",
+    ),
+    (BridgeFault::OutOfMemory, "O1 OutOfMemory"),
 ];
 
 const COTERIE_TEXTS: [(FileFault, &str); 10] = [
@@ -144,13 +152,14 @@ const CLIENTS: [(ClientFault, &str); 4] = [
     (ClientFault::StampsSpent, "C4 StampsSpent"),
 ];
 
-const WORLDS: [(WorldFault, &str); 6] = [
+const WORLDS: [(WorldFault, &str); 7] = [
     (
         WorldFault::NoSuchMessage(18_446_744_073_709_551_615),
         "U1 NoSuchMessage 18446744073709551615",
     ),
     (WorldFault::NoSuchClient(255), "U2 NoSuchClient 255"),
     (WorldFault::NoSuchVoter(64), "U3 NoSuchVoter 64"),
+    (WorldFault::NoSecondPlan, "U4 NoSecondPlan"),
     (WorldFault::Client(ClientFault::Busy), "C1 Busy"),
     (WorldFault::Voter(VoterFault::GrantsSpent), "V1 GrantsSpent"),
     (WorldFault::OutOfMemory, "O1 OutOfMemory"),
@@ -163,7 +172,7 @@ const BOARDS: [(BoardFault, &str); 4] = [
     (BoardFault::OutOfMemory, "O1 OutOfMemory"),
 ];
 
-const CLUSTERS: [(ClusterFault, &str); 5] = [
+const CLUSTERS: [(ClusterFault, &str); 6] = [
     (
         ClusterFault::Client(ClientFault::StampsSpent),
         "C4 StampsSpent",
@@ -175,6 +184,7 @@ const CLUSTERS: [(ClusterFault, &str); 5] = [
     ),
     (ClusterFault::NotInside, "K1 NotInside"),
     (ClusterFault::TurnsSpent(63), "K2 TurnsSpent 63"),
+    (ClusterFault::NoSecondPlan, "K4 NoSecondPlan"),
 ];
 
 const RECORDS_AND_SCRIPTS: [(ReplayFault, &str); 8] = [
@@ -235,6 +245,7 @@ fn have_lines<F: Display>(alloc: Global, table: &[(F, &str)]) -> Result<bool, Al
 fn faults_of_plans(rt: HostRuntime) -> Result<(), Fail> {
     let alloc = rt.alloc();
     assert!(rt; have_lines(alloc, &COTERIES)?);
+    assert!(rt; have_lines(alloc, &BRIDGES)?);
     assert!(rt; have_lines(alloc, &COTERIE_TEXTS)?);
     assert!(rt; have_lines(alloc, &SHAPES)?);
     assert!(rt; have_lines(alloc, &FRACTIONS)?);
@@ -285,7 +296,7 @@ fn faults_of_closed_clusters(rt: HostRuntime) -> Result<(), Fail> {
     let Some(plan) = majority_plan(alloc) else {
         panic!(rt; "no plan")
     };
-    let blank = Blank::new(alloc, plan, 1, 1)?;
+    let blank = Blank::new(alloc, Plans::single(plan), 1, 1)?;
     let text = closed_alone::<Brand>(alloc, blank)?;
     assert!(rt; text.as_str() == "K3 MembersOut 1");
     Ok(())

@@ -13,7 +13,7 @@ use Rattle.quorum_set.proofs.CoterieLemmas.{position-None}
 abbrev LeastFrom : (List ℕ → List ℕ → Bool) → ℕ → List (List ℕ) → ℕ × ℕ → Type 0
 LeastFrom test d sets p = (j : ℕ) × (k : ℕ) × (p.0 ≡ d + j) × (p.1 ≡ d + k) × IsLeastPair test sets j k
 
-some_parts : (a b : ℕ) (p : ℕ × ℕ) → Some (a, b) ≡ Some p → (p.0 ≡ a) × (p.1 ≡ b)
+pub some_parts : (a b : ℕ) (p : ℕ × ℕ) → Some (a, b) ≡ Some p → (p.0 ≡ a) × (p.1 ≡ b)
 some_parts a b p e = (cc, cc)
 
 -- one set before the others, where no later one passes with it, and where the one at i is the first
@@ -65,7 +65,7 @@ IsLeastPair-first_pair test sets j k e =
     subst (λ n. IsLeastPair test sets n k) at_j (subst (λ n. IsLeastPair test sets found.0 n) at_k found.4)
 
 -- no place passes
-position-nil : {A : Type 0} (p : A → Bool) (xs : List A) → All (λ x. p x ≡ false) xs → position p xs ≡ None
+pub position-nil : {A : Type 0} (p : A → Bool) (xs : List A) → All (λ x. p x ≡ false) xs → position p xs ≡ None
 position-nil p [] all = refl
 position-nil p (x ∷ xs) all = by (position p (x ∷ xs)) refl
   where

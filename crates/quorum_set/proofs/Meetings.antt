@@ -1,8 +1,6 @@
 -- Members of sets, and that any two quorums of a coterie meet.
-use Rattle.std.proofs.Common.{◌≡◌, ℕ, suc, ◌<◌, ◌≤◌, eqb, Bool, true, false, true≢false, List, [], ◌∷◌, length, refl, sym, ap, ◌∙◌, subst, arith, ne_eqb}
+use Rattle.std.proofs.Common.{◌≡◌, ℕ, ◌<◌, ◌≤◌, eqb, Bool, true, false, true≢false, List, [], ◌∷◌, length, refl, sym, ap, ◌∙◌, subst, arith}
 use Rattle.std.specs.Prelude.{◌||◌, slice_index_or}
-use Rattle.std.specs.List.{All}
-use mathlib.Core.Logic.{dite}
 use native.Mathlib.Decide.{ℕ_discrete, dec_le}
 use Rattle.numbers.specs.Sets.{has, meet}
 use Rattle.quorum_set.specs.Coteries.{QuorumSystem, IsCoterie}
@@ -18,7 +16,7 @@ has_later x v xs e = either_way (eqb x v)
     either_way false = e
 
 -- a common member, where the test says that there is one
-meet-common : (p q : List ℕ) → meet p q ≡ true → (v : ℕ) × (has p v ≡ true) × (has q v ≡ true)
+pub meet-common : (p q : List ℕ) → meet p q ≡ true → (v : ℕ) × (has p v ≡ true) × (has q v ≡ true)
 meet-common [] q e = absurd (true≢false (sym e))
 meet-common (x ∷ xs) q e = here_or_later (has q x) refl (λ later. meet-common xs q later)
   where

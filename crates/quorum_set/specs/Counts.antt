@@ -1,6 +1,6 @@
 -- How often a list of quorum numbers uses each voter (Naor and Wool, SIAM J. Comput. 27(2), 1998,
 -- section 2, for whole numbers).
-use Rattle.std.specs.Prelude.{ℕ, ◌==◌, List, [], max, count_by, slice_index_or, zero, suc}
+use Rattle.std.specs.Prelude.{ℕ, List, [], count_by, slice_index_or}
 use Rattle.numbers.specs.Sets.{has}
 use Rattle.numbers.specs.Counts.{greatest_below}
 use Rattle.quorum_set.specs.Coteries.{QuorumSystem}

@@ -1,3 +1,4 @@
+pub mod Bridges
 pub mod Capacities
 pub mod Coteries
 pub mod Counts

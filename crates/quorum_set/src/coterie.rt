@@ -66,7 +66,7 @@ fn first_stray(n: usize, sets: &[QSet]) -> Option<(usize, u8)>
 }
 
 /// Returns the place of the first of the later sets that has no member in common with this one.
-fn first_disjoint_from(set: &QSet, later: &[QSet]) -> Option<usize>
+pub(crate) fn first_disjoint_from(set: &QSet, later: &[QSet]) -> Option<usize>
     ensures { result ≡ position (are_disjoint set.now) later.now }
 {
     later.iter().position(|other| !set.meets(other))
@@ -178,6 +178,14 @@ impl Coterie {
         ensures coterie { IsCoterie self.now }
     {
         &self.quorums[number]
+    }
+
+    /// Returns the quorums, in the order of their numbers.
+    pub(crate) fn quorums(&self) -> &[QSet]
+        ensures value { result.now ≡ self.now.quorums }
+        ensures coterie { IsCoterie self.now }
+    {
+        self.quorums.as_slice()
     }
 
     /// Returns an equal coterie, unless it runs out of memory.

@@ -1,11 +1,11 @@
 -- Lines of a script: they have no newline, and their words have no space.
-use Rattle.std.proofs.Common.{◌≡◌, ℕ, ◌<◌, ◌^◌, List, [], ◌∷◌, ◌++◌, get_or, Option, Some, None, length, IfSome, MatchOption, ap, ap₂, ◌∙◌, refl, arith, rules}
+use Rattle.std.proofs.Common.{◌≡◌, ℕ, List, [], ◌∷◌, ◌++◌, get_or, Option, Some, None, length, IfSome, MatchOption, ap, ap₂, ◌∙◌, refl, arith, rules}
 use Rattle.std.specs.Fmt.{decimal}
 use Rattle.texts.specs.Cuts.{cut_at}
 use Rattle.texts.proofs.CutLemmas.{Lacks, Lacks-append, Lacks-decimal, cut_at-append}
 use Rattle.texts.specs.Fields.{AllFit, HasNoSpace, fields}
 use Rattle.world.specs.declared.step.Step.{Step}
-use Rattle.world.specs.declared.step.Step.TheVariants.{Ask, Deliver, Leave, GiveUp, RemindClient, RemindVoter}
+use Rattle.world.specs.declared.step.Step.TheVariants.{Ask, Deliver, Leave, GiveUp, RemindClient, RemindVoter, Exchange}
 use Rattle.replay.specs.declared.reading.Sizes.{Sizes}
 use Rattle.replay.specs.Scripts.{AreSizes, HasStepLine, step_line, step_number, step_word, world_line}
 
@@ -21,6 +21,7 @@ fit_step (Leave c) h = (omega arith, tt)
 fit_step (GiveUp c) h = (omega arith, tt)
 fit_step (RemindClient c) h = (omega arith, tt)
 fit_step (RemindVoter v) h = (omega arith, tt)
+fit_step Exchange h = absurd h
 
 pub fit_sizes : (clients limit : ℕ) → AreSizes clients limit → AllFit (clients ∷ limit ∷ [])
 fit_sizes clients limit h = (omega arith, (omega arith, tt))
@@ -32,6 +33,7 @@ Lacks-word (Leave c) = search rules
 Lacks-word (GiveUp c) = search rules
 Lacks-word (RemindClient c) = search rules
 Lacks-word (RemindVoter v) = search rules
+Lacks-word Exchange = tt
 
 pub Lacks-step : (s : Step) → HasStepLine s → Lacks 10 (step_line s)
 Lacks-step s h = Lacks-append 10 (step_word s) (fields (step_number s ∷ [])) (Lacks-word s) (Lacks-fields (step_number s ∷ []) (fit_step s h))
@@ -47,6 +49,7 @@ no_space_word (Leave c) = search rules
 no_space_word (GiveUp c) = search rules
 no_space_word (RemindClient c) = search rules
 no_space_word (RemindVoter v) = search rules
+no_space_word Exchange = search rules
 
 pub no_space_world : HasNoSpace (119 ∷ 111 ∷ 114 ∷ 108 ∷ 100 ∷ [])
 no_space_world = search rules

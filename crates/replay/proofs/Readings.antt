@@ -8,7 +8,7 @@ use Rattle.std.proofs.lemmas.Fmt.{decimal_injective}
 use Rattle.texts.specs.Cuts.{cut_at}
 use Rattle.texts.proofs.CutLemmas.{Lacks, Lacks-decimal, cut_at-append}
 use Rattle.world.specs.declared.step.Step.{Step}
-use Rattle.world.specs.declared.step.Step.TheVariants.{Ask, Deliver, Leave, GiveUp, RemindClient, RemindVoter}
+use Rattle.world.specs.declared.step.Step.TheVariants.{Ask, Deliver, Leave, GiveUp, RemindClient, RemindVoter, Exchange}
 use Rattle.replay.specs.Scripts.{AreSizes, BeginsWith, HasStepLine, HaveLines, IsFirstBad, IsLine, IsScript, IsStepLine, IsWorldLine, Script, script_text, step_line, step_number, step_word, steps_text, world_line}
 use Rattle.replay.proofs.LineLemmas.{Lacks-step, Lacks-world, cut_line, fit_step, same_pair}
 use Rattle.replay.proofs.StepsLemmas.{some_text}
@@ -38,14 +38,15 @@ step_by word n =
     if bytes_eq word (codes "remind-client") then Some (RemindClient n) else
     if bytes_eq word (codes "remind-voter") then Some (RemindVoter n) else None
 
-step_by-word : (s : Step) → step_by (step_word s) (step_number s) ≡ Some s
+step_by-word : (s : Step) → HasStepLine s → step_by (step_word s) (step_number s) ≡ Some s
 unfolding step_by
-step_by-word (Ask c) = refl
-step_by-word (Deliver k) = refl
-step_by-word (Leave c) = refl
-step_by-word (GiveUp c) = refl
-step_by-word (RemindClient c) = refl
-step_by-word (RemindVoter v) = refl
+step_by-word (Ask c) h = refl
+step_by-word (Deliver k) h = refl
+step_by-word (Leave c) h = refl
+step_by-word (GiveUp c) h = refl
+step_by-word (RemindClient c) h = refl
+step_by-word (RemindVoter v) h = refl
+step_by-word Exchange h = absurd h
 
 Lacks-space : (s : Step) → Lacks 32 (step_word s)
 Lacks-space (Ask c) = search rules
@@ -54,6 +55,7 @@ Lacks-space (Leave c) = search rules
 Lacks-space (GiveUp c) = search rules
 Lacks-space (RemindClient c) = search rules
 Lacks-space (RemindVoter v) = search rules
+Lacks-space Exchange = tt
 
 cut_step : (s : Step) → cut_at 32 (step_line s) ≡ Some (step_word s, decimal (step_number s) ++ [])
 cut_step s = cut_at-append 32 (step_word s) (decimal (step_number s) ++ []) (Lacks-space s)
@@ -62,7 +64,7 @@ pub same_step : (s t : Step) → HasStepLine s → HasStepLine t → step_line s
 same_step s t hs ht e =
     let parts = same_pair (step_word s) (step_word t) (decimal (step_number s) ++ []) (decimal (step_number t) ++ []) (sym (cut_step s) ∙ ap (cut_at 32) e ∙ cut_step t) in
     let number = same_decimal (step_number s) (step_number t) (fit_step s hs).0 (fit_step t ht).0 parts.1 in
-    let by : ◌≡◌ {A = Option Step} (Some s) (Some t) = sym (step_by-word s) ∙ ap₂ step_by parts.0 number ∙ step_by-word t in
+    let by : ◌≡◌ {A = Option Step} (Some s) (Some t) = sym (step_by-word s hs) ∙ ap₂ step_by parts.0 number ∙ step_by-word t ht in
     cc
 
 pub same_sizes : (c l d m : ℕ) → AreSizes c l → AreSizes d m → world_line c l ≡ world_line d m → (c ≡ d) × (l ≡ m)

@@ -9,11 +9,12 @@ use Rattle.message.specs.Lines.{message_line}
 use Rattle.requester.specs.declared.fault.ClientFault.{ClientFault}
 use Rattle.requester.specs.declared.fault.ClientFault.TheVariants.{Busy, NotInside, NotAsking, StampsSpent}
 use Rattle.world.specs.declared.fault.WorldFault.{WorldFault}
-use Rattle.world.specs.declared.fault.WorldFault.TheVariants.{NoSuchMessage, NoSuchClient, NoSuchVoter, Client, Voter, OutOfMemory}
+use Rattle.world.specs.declared.fault.WorldFault.TheVariants.{NoSuchMessage, NoSuchClient, NoSuchVoter, NoSecondPlan, Client, Voter, OutOfMemory}
 use Rattle.world.specs.declared.step.Event.{Event}
 use Rattle.world.specs.declared.step.Step.{Step}
 use Rattle.world.specs.Runs.{after, start_by}
-use Rattle.world.specs.Steps.{Outcome, WorldState, quorum_by, step}
+use Rattle.dealer.specs.Plans.{single}
+use Rattle.world.specs.Steps.{Dealing, Outcome, WorldState, dealing_of, step}
 use Rattle.replay.specs.Scripts.{IsScript, Script, script_text}
 
 -- Lines; 10 is a newline, 32 a space
@@ -48,6 +49,7 @@ abbrev pub fault_text : WorldFault → List ℕ
 fault_text (NoSuchMessage number) = codes "U1 NoSuchMessage " ++ decimal number
 fault_text (NoSuchClient client) = codes "U2 NoSuchClient " ++ decimal client
 fault_text (NoSuchVoter voter) = codes "U3 NoSuchVoter " ++ decimal voter
+fault_text NoSecondPlan = codes "U4 NoSecondPlan"
 fault_text (Client fault) = client_fault_text fault
 fault_text (Voter fault) = codes "V1 GrantsSpent"
 fault_text OutOfMemory = codes "O1 OutOfMemory"
@@ -67,13 +69,13 @@ step_output w (Ok o) =
 step_output w (Err fault) = refusal_of (fault_text fault)
 
 -- what the steps write, one after the other
-abbrev pub run_output : (ℕ → List ℕ) → List Step → WorldState → List ℕ
+abbrev pub run_output : Dealing → List Step → WorldState → List ℕ
 run_output deal [] w = []
 run_output deal (s ∷ steps) w = step_output w (step deal w s) ++ run_output deal steps (after w (step deal w s))
 
 -- what a script writes, with quorums by the plan
 abbrev pub script_output : Weighted → Script → List ℕ
-script_output plan s = run_output (quorum_by plan) s.steps (start_by plan s.clients s.limit)
+script_output plan s = run_output (dealing_of (single plan)) s.steps (start_by (single plan) s.clients s.limit)
 
 -- the output is that of the script whose text this is
 pub record IsOutput (plan : Weighted) (text output : List ℕ) : Type 0 where

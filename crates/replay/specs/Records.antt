@@ -8,6 +8,8 @@ use Rattle.numbers.specs.Counts.{times}
 use Rattle.numbers.specs.Sums.{AreAllBelow}
 use Rattle.certificate.specs.Certificates.{Weighted}
 use Rattle.dealer.specs.Cycles.{quorum_of_ticket}
+use Rattle.quorum_set.specs.declared.bridge.Side.{Side}
+use Rattle.quorum_set.specs.declared.bridge.Side.TheVariants.{First, Second}
 use Rattle.members.specs.declared.record.RunRecord.{RunRecord}
 use Rattle.members.specs.Records.{Draw, Pass}
 use Rattle.replay.specs.declared.check.Gap.{Gap}
@@ -15,15 +17,24 @@ use Rattle.replay.specs.declared.check.Gap.TheVariants.{Twice, Missing}
 use Rattle.replay.specs.declared.fault.ReplayFault.{ReplayFault}
 use Rattle.replay.specs.declared.fault.ReplayFault.TheVariants.{TicketTwice, TicketMissing, WrongQuorum, PassTwice, PassMissing, WrongRegister, BadLine, OutOfMemory}
 
--- what a record says of a run, except how many messages were lost
+-- what a record says of the draws of one plan and of all passes; it also says how many messages were lost
 pub record Entries : Type 0 where
   pub draws : List Draw
   pub passes : List Pass
   pub register : ℕ
 
--- the entries of a record
+-- the draws of one plan
+abbrev pub draws_on : Side → RunRecord → List Draw
+draws_on First r = r.draws.items
+draws_on Second r = r.draws2.items
+
+-- the entries of a record, with the draws of one plan; all passes count
+abbrev pub entries_on : Side → RunRecord → Entries
+entries_on side r = record { draws = draws_on side r; passes = r.passes.items; register = r.register }
+
+-- the entries of a record, with the draws of the first plan
 abbrev pub entries_of : RunRecord → Entries
-entries_of r = record { draws = r.draws.items; passes = r.passes.items; register = r.register }
+entries_of r = entries_on First r
 
 -- the tickets that were drawn
 abbrev pub tickets_of : List Draw → List ℕ

@@ -16,7 +16,7 @@ use Rattle.numbers.specs.Bounds.{max_clients, max_stamp}
 use Rattle.texts.specs.Lines.{text_of_lines}
 use Rattle.texts.specs.Fields.{fields}
 use Rattle.world.specs.declared.step.Step.{Step}
-use Rattle.world.specs.declared.step.Step.TheVariants.{Ask, Deliver, Leave, GiveUp, RemindClient, RemindVoter}
+use Rattle.world.specs.declared.step.Step.TheVariants.{Ask, Deliver, Leave, GiveUp, RemindClient, RemindVoter, Exchange}
 use Rattle.replay.specs.declared.fault.ReplayFault.{ReplayFault}
 use Rattle.replay.specs.declared.fault.ReplayFault.TheVariants.{BadLine, OutOfMemory}
 
@@ -30,7 +30,7 @@ pub record Script : Type 0 where
 
 -- The text
 
--- the word of a step
+-- the word of a step; an exchange has none
 abbrev pub step_word : Step → List ℕ
 step_word (Ask client) = codes "ask"
 step_word (Deliver message) = codes "deliver"
@@ -38,6 +38,7 @@ step_word (Leave client) = codes "leave"
 step_word (GiveUp client) = codes "give-up"
 step_word (RemindClient client) = codes "remind-client"
 step_word (RemindVoter voter) = codes "remind-voter"
+step_word Exchange = []
 
 -- the number of a step: of a message, a client or a voter
 abbrev pub step_number : Step → ℕ
@@ -47,8 +48,9 @@ step_number (Leave client) = client
 step_number (GiveUp client) = client
 step_number (RemindClient client) = client
 step_number (RemindVoter voter) = voter
+step_number Exchange = 0
 
--- a message's number is below 2^64, a client or a voter at most 255
+-- A message's number is below 2^64, a client or a voter at most 255. Scripts have no line for an exchange.
 abbrev pub HasStepLine : Step → Type 0
 HasStepLine (Ask client) = client ≤ 255
 HasStepLine (Deliver message) = message < 2 ^ 64
@@ -56,6 +58,7 @@ HasStepLine (Leave client) = client ≤ 255
 HasStepLine (GiveUp client) = client ≤ 255
 HasStepLine (RemindClient client) = client ≤ 255
 HasStepLine (RemindVoter voter) = voter ≤ 255
+HasStepLine Exchange = ⊥
 
 -- the one line of a step, without its newline
 abbrev pub step_line : Step → List ℕ

@@ -6,13 +6,14 @@ ghost use Rattle.numbers.specs.Counts.{times};
 ghost use Rattle.quorum_set.specs.Capacities.{are_unit};
 ghost use Rattle.certificate.specs.Certificates.{IsCertificate, busiest_count, cycle_len};
 ghost use Rattle.dealer.specs.Accounts.{IsLeastBusiest, IsLeastRatio, account_of, ratio_of_cycles};
-ghost use Rattle.replay.specs.Records.{EachOnce, IsFirstFault, IsFirstGap, IsFound, IsLeast, IsMissing, IsNumberFault, IsRegisterFault, IsRight, IsSoundRecord, IsTicketFault, IsTwice, IsWrong, NoneTwice, entries_of, numbers_of, tickets_of};
+ghost use Rattle.replay.specs.Records.{EachOnce, IsFirstFault, IsFirstGap, IsFound, IsLeast, IsMissing, IsNumberFault, IsRegisterFault, IsRight, IsSoundRecord, IsTicketFault, IsTwice, IsWrong, NoneTwice, draws_on, entries_on, numbers_of, tickets_of};
 ghost use Rattle.replay.specs.declared.fault.ReplayFault.TheVariants.{OutOfMemory};
 
 use crate::fault::ReplayFault;
 use certificate::Plan;
 use cluster::RunRecord;
 use dealer::{Account, Cycle};
+use quorum_set::Side;
 use std::alloc::{AllocError, Global};
 
 /// The reason why n numbers are not 0 to n - 1, each once.
@@ -121,6 +122,16 @@ fn least_wrong(cycle: &Cycle, draws: &[(u8, u64, usize)]) -> Option<u64>
     least
 }
 
+/// Returns the draws of one plan.
+fn draws_on(side: Side, run: &RunRecord) -> &[(u8, u64, usize)]
+    ensures { result.now ≡ draws_on side run.now }
+{
+    match side {
+        Side::First => &run.draws,
+        Side::Second => &run.draws2,
+    }
+}
+
 /// Returns the tickets of draws, in their order.
 fn tickets_of(alloc: Global, draws: &[(u8, u64, usize)]) -> Result<Vec<u64>, AllocError>
     ensures { IfOk result (λ v. v.items ≡ tickets_of draws.now) }
@@ -170,8 +181,8 @@ fn number_fault(numbers: Vec<u64>) -> Option<ReplayFault>
 
 /// Returns the fault of a register that is not the number of passes.
 fn register_fault(run: &RunRecord) -> Option<ReplayFault>
-    ensures { MatchOption result (run.now.register ≡ length run.now.passes.items)
-        (IsRegisterFault (entries_of run.now)) }
+    ensures { (side : Side) → MatchOption result (run.now.register ≡ length run.now.passes.items)
+        (IsRegisterFault (entries_on side run.now)) }
 {
     let passes = run.passes.len() as u64;
     if run.register == passes {
@@ -185,19 +196,20 @@ fn register_fault(run: &RunRecord) -> Option<ReplayFault>
 /// `OutOfMemory`, as nothing is allocated here.
 fn fault_of(
     cycle: &Cycle,
+    side: Side,
     run: &RunRecord,
     tickets: Vec<u64>,
     numbers: Vec<u64>,
 ) -> Option<ReplayFault>
-    requires tickets { tickets.items ≡ tickets_of run.now.draws.items }
+    requires tickets { tickets.items ≡ tickets_of (draws_on side run.now) }
     requires numbers { numbers.items ≡ numbers_of run.now.passes.items }
-    ensures { MatchOption result (IsSoundRecord cycle.now (entries_of run.now))
-        (IsFound cycle.now (entries_of run.now)) }
+    ensures { MatchOption result (IsSoundRecord cycle.now (entries_on side run.now))
+        (IsFound cycle.now (entries_on side run.now)) }
 {
     if let Some(fault) = ticket_fault(tickets) {
         return Some(fault);
     }
-    if let Some(ticket) = least_wrong(cycle, &run.draws) {
+    if let Some(ticket) = least_wrong(cycle, draws_on(side, run)) {
         return Some(ReplayFault::WrongQuorum(ticket));
     }
     if let Some(fault) = number_fault(numbers) {
@@ -206,8 +218,9 @@ fn fault_of(
     register_fault(run)
 }
 
-/// Checks a record of a run against the plan by which the run dealt quorums, and returns the
-/// account of its tickets.
+/// Checks a record of a run against a plan by which the run dealt quorums, and returns the account
+/// of its tickets. The side says which of the record's draws are those of the plan: the first
+/// plan's, `draws`, or the second's, `draws2`. All passes count, whichever plan a client used.
 ///
 /// With n draws, the tickets must be 0 to n - 1, each once, in any order, and each with its quorum
 /// by the plan's cycle. With p passes, the numbers must be 0 to p - 1, each once, and the register
@@ -224,41 +237,47 @@ fn fault_of(
 /// - `WrongRegister`: the register is not p.
 ///
 /// Memory may run out at any point. The time is that of sorting the tickets and the numbers.
-pub fn check_record(alloc: Global, plan: &Plan, run: &RunRecord) -> Result<Account, ReplayFault>
+pub fn check_record(
+    alloc: Global,
+    plan: &Plan,
+    side: Side,
+    run: &RunRecord,
+) -> Result<Account, ReplayFault>
     // The result is the account of the record's tickets.
-    ensures account { IfOk result (λ account. account ≡ account_of plan.now (tickets_of run.now.draws.items)) }
+    ensures account { IfOk result (λ account. account ≡ account_of plan.now (tickets_of (draws_on side run.now))) }
     // A record is accepted if and only if it is sound, unless memory runs out.
-    ensures sound { IfOk result (λ _. IsSoundRecord plan.now (entries_of run.now)) }
-    ensures accepted { IsSoundRecord plan.now (entries_of run.now) → IfErr result (λ fault. fault ≡ OutOfMemory) }
+    ensures sound { IfOk result (λ _. IsSoundRecord plan.now (entries_on side run.now)) }
+    ensures accepted { IsSoundRecord plan.now (entries_on side run.now)
+        → IfErr result (λ fault. fault ≡ OutOfMemory) }
     // Which fault is returned.
-    ensures fault { IfErr result (IsFirstFault plan.now (entries_of run.now)) }
+    ensures fault { IfErr result (IsFirstFault plan.now (entries_on side run.now)) }
 
     // After k whole cycles each quorum was used k times its weight, ..
-    ensures shares { (k : ℕ) → length run.now.draws.items ≡ k * cycle_len plan.now
+    ensures shares { (k : ℕ) → length (draws_on side run.now) ≡ k * cycle_len plan.now
         → IfOk result (λ account. account.quorums ≡ map (λ weight. k * weight) plan.now.quorum_weights) }
     // .. and the busiest voter k times the busiest count. The ratio is k times the cycle's.
-    ensures even { (k : ℕ) → length run.now.draws.items ≡ k * cycle_len plan.now
+    ensures even { (k : ℕ) → length (draws_on side run.now) ≡ k * cycle_len plan.now
         → IfOk result (λ account. account.busiest ≡ k * busiest_count plan.now) }
-    ensures ratio { (k : ℕ) → length run.now.draws.items ≡ k * cycle_len plan.now
+    ensures ratio { (k : ℕ) → length (draws_on side run.now) ≡ k * cycle_len plan.now
         → IfOk result (λ account. account.ratio ≡ ratio_of_cycles plan.now k) }
 
     // No list of that length has a smaller ratio. If all capacities are 1, none has a smaller
     // busiest count.
-    ensures least_ratio { (k : ℕ) → length run.now.draws.items ≡ k * cycle_len plan.now
+    ensures least_ratio { (k : ℕ) → length (draws_on side run.now) ≡ k * cycle_len plan.now
         → IfOk result (λ account. IsLeastRatio plan.now account.drawn account.ratio) }
-    ensures least { (k : ℕ) → are_unit plan.now.capacities ≡ true → length run.now.draws.items ≡ k * cycle_len plan.now
+    ensures least { (k : ℕ) → are_unit plan.now.capacities ≡ true → length (draws_on side run.now) ≡ k * cycle_len plan.now
         → IfOk result (λ account. IsLeastBusiest plan.now account.drawn account.busiest) }
 {
     let cycle = match cycle_of(alloc, plan) {
         Ok(cycle) => cycle,
         Err(fault) => return Err(fault),
     };
-    let tickets = tickets_of(alloc, &run.draws)?;
+    let tickets = tickets_of(alloc, draws_on(side, run))?;
     let numbers = numbers_of(alloc, &run.passes)?;
-    if let Some(fault) = fault_of(&cycle, run, tickets, numbers) {
+    if let Some(fault) = fault_of(&cycle, side, run, tickets, numbers) {
         return Err(fault);
     }
-    let tickets = tickets_of(alloc, &run.draws)?;
+    let tickets = tickets_of(alloc, draws_on(side, run))?;
     let account = cycle.account(alloc, &tickets)?;
     Ok(account)
 }

@@ -12,6 +12,7 @@ use crate::fault::ReplayFault;
 use crate::reading::read_script;
 use crate::script::Script;
 use certificate::Plan;
+use dealer::Plans;
 use message::{Message, write_message};
 use requester::ClientFault;
 use std::alloc::{AllocError, Global};
@@ -71,6 +72,7 @@ pub(crate) fn push_refusal(text: &mut String, fault: WorldFault) -> Result<(), A
         WorldFault::NoSuchMessage(number) => write!(text, "! U1 NoSuchMessage {number}\n"),
         WorldFault::NoSuchClient(client) => write!(text, "! U2 NoSuchClient {client}\n"),
         WorldFault::NoSuchVoter(voter) => write!(text, "! U3 NoSuchVoter {voter}\n"),
+        WorldFault::NoSecondPlan => push_fault_text(text, "U4 NoSecondPlan"),
         WorldFault::Client(fault) => push_fault_text(text, client_fault_text(fault)),
         WorldFault::Voter(VoterFault::GrantsSpent) => push_fault_text(text, "V1 GrantsSpent"),
         WorldFault::OutOfMemory => push_fault_text(text, "O1 OutOfMemory"),
@@ -123,7 +125,7 @@ fn push_step(
     ensures text { OnOk result
         (string_bytes text.new ≡ string_bytes text.old ++ step_output world.old.state (step_of world.old step)) }
     ensures world { OnOk result (world.new.state ≡ after world.old.state (step_of world.old step)) }
-    ensures plan { world.new.plan ≡ world.old.plan }
+    ensures plans { world.new.plans ≡ world.old.plans }
     ensures memory { IfErr result (λ fault. fault ≡ OutOfMemory) }
 {
     let messages = world.sent();
@@ -148,7 +150,8 @@ fn output_of(alloc: Global, plan: Plan, script: &Script, room: usize) -> Result<
     ensures memory { IfErr result (λ fault. fault ≡ OutOfMemory) }
 {
     let mut text = String::with_capacity(alloc, room)?;
-    let mut world = World::new(alloc, plan, script.clients(), script.limit())?;
+    let plans = Plans::single(plan);
+    let mut world = World::new(alloc, plans, script.clients(), script.limit())?;
     for step in script.steps() {
         match push_step(alloc, &mut text, &mut world, *step) {
             Ok(()) => {}

@@ -241,6 +241,7 @@ fn read_body(alloc: Global, text: &[u8]) -> Result<RunRecord, ReplayFault>
     ensures spelled { IfOk result (λ run. HasText (entries_of run) × (text.now ≡ body_text (entries_of run))) }
     ensures bad { IfErr result (IsBadRest text.now) }
     ensures lost { IfOk result (λ run. run.lost ≡ 0) }
+    ensures one_plan { IfOk result (λ run. run.draws2.items ≡ []) }
 {
     let (draws, rest) = first_draws(alloc, text)?;
     let (passes, rest) = first_passes(alloc, rest)?;
@@ -253,6 +254,7 @@ fn read_body(alloc: Global, text: &[u8]) -> Result<RunRecord, ReplayFault>
     }
     Ok(RunRecord {
         draws,
+        draws2: Vec::new(alloc),
         passes,
         register,
         lost: 0,
@@ -275,7 +277,7 @@ fn behind_title(text: &[u8]) -> Option<&[u8]>
 /// Fails with `BadLine` for the first line that is missing, malformed or out of place, or has no
 /// newline. A line after the register's is out of place too. Memory may run out at any point.
 ///
-/// The record's number of lost messages is 0. The time is that of one pass over the text.
+/// The record has no draws of a second plan, and its number of lost messages is 0. The time is that of one pass over the text.
 pub fn read_record(alloc: Global, text: &[u8]) -> Result<RunRecord, ReplayFault>
     // What is read has this text.
     ensures spelled { IfOk result (λ run. HasText (entries_of run) × (text.now ≡ record_text (entries_of run))) }
@@ -286,8 +288,9 @@ pub fn read_record(alloc: Global, text: &[u8]) -> Result<RunRecord, ReplayFault>
     ensures bad { IfErr result (IsBadRecord text.now) }
     // The first line is read before any memory is allocated.
     ensures first { ((body : List ℕ) → text.now ≢ title_line ++ 10 ∷ body) → IfErr result (λ fault. fault ≡ BadLine 1) }
-    // No text says how many messages were lost.
+    // No text says how many messages were lost, or has draws of a second plan.
     ensures lost { IfOk result (λ run. run.lost ≡ 0) }
+    ensures one_plan { IfOk result (λ run. run.draws2.items ≡ []) }
 {
     match behind_title(text) {
         Some(body) => read_body(alloc, body),

@@ -48,10 +48,12 @@ fn push_register(text: &mut String, register: u64) -> Result<(), AllocError>
 /// Returns the text of the record of a run, in the order of its lists. How many messages were lost
 /// is not written.
 ///
-/// A client must be at most 63 and a quorum at most 4095, or the text could not be read. Fails only
-/// if it runs out of memory.
+/// A client must be at most 63 and a quorum at most 4095, or the text could not be read. A text has
+/// the draws of one plan alone, so the record must have none of a second plan. Fails only if it runs
+/// out of memory.
 pub fn write_record(alloc: Global, run: &RunRecord) -> Result<String, AllocError>
     requires draws { All (λ d. (d.0 ≤ 63) × (d.2 ≤ 4095)) run.now.draws.items }
+    requires one_plan { run.now.draws2.items ≡ [] }
     requires passes { All (λ p. p.0 ≤ 63) run.now.passes.items }
     ensures { IfOk result (λ text. string_bytes text ≡ record_text (entries_of run.now)) }
 {

@@ -1,5 +1,5 @@
 -- What holds of every client.
-use Rattle.std.specs.Prelude.{ℕ, ◌≡◌, ◌<◌, ◌≤◌, ◌^◌, true, false, length}
+use Rattle.std.specs.Prelude.{ℕ, ◌≡◌, ◌<◌, ◌≤◌, true, false, length}
 use Rattle.numbers.specs.Bounds.{max_clients, max_voters, max_stamp}
 use Rattle.numbers.specs.Sets.{IsSet}
 use Rattle.requester.specs.declared.state.ClientState.{ClientState}

@@ -1,5 +1,5 @@
 -- What a run of driven members comes to.
-use Rattle.std.proofs.Common.{◌≡◌, ℕ, zero, suc, ◌+◌, ◌*◌, ◌<◌, ◌≤◌, ◌++◌, ◌==◌, List, [], ◌∷◌, Bool, true, Some, IsPermutation, map, flat_map, length, sum_by, count_by, get_or, refl, sym, ap, ◌∙◌, subst, cond, inl, inr, arith}
+use Rattle.std.proofs.Common.{◌≡◌, ℕ, zero, suc, ◌+◌, ◌*◌, ◌/◌, ◌<◌, Option, None, ◌≤◌, ◌++◌, ◌==◌, List, [], ◌∷◌, Bool, true, Some, IsPermutation, map, flat_map, length, sum_by, count_by, get_or, refl, sym, ap, ◌∙◌, subst, cond, inl, inr, arith}
 use Rattle.std.specs.List.{All, AllZip, range_with_len}
 use Rattle.std.proofs.lemmas.List.{length-map}
 use Rattle.std.proofs.lemmas.List.FromFn.{get_or-map-range_with_len, get_or-range_with_len, length-range_with_len}
@@ -10,10 +10,15 @@ use Rattle.std.proofs.lemmas.List.Sorted.{sum_by-IsPermutation}
 use Rattle.std.proofs.lemmas.List.Sums.{sum_by-append, sum_by-cons}
 use native.Mathlib.Nat.{add-mul, zero-mul}
 use Rattle.requester.specs.Words.{is_idle}
+use Rattle.quorum_set.specs.declared.bridge.Side.{Side}
+use Rattle.quorum_set.specs.declared.bridge.Side.TheVariants.{First, Second}
+use Rattle.board.specs.Quorums.{HasQuorum}
+use Rattle.dealer.specs.Offices.{OfficeName}
+use Rattle.members.specs.Clerks.{ClerksState, IsDealt, fresh_clerks, receipts_of, rest_of}
 use Rattle.members.specs.Clusters.{ClusterState}
-use Rattle.cluster.specs.Drives.{HasMore, HasServed, HasEnded, IsBack, IsBackBy, IsLeastFault, EndsWork, TookTurns, WasLet}
+use Rattle.cluster.specs.Drives.{HasMore, HasServed, HasEnded, IsBack, IsBackBy, IsLeastFault, EndsWork, TookTurns, WasLet, draws_by, side_after}
 use Rattle.members.specs.Members.{AreIdle, MemberState, fresh_member}
-use Rattle.members.specs.Records.{Draw, Pass, IsRecordOf, draws_of, idle_count, passes_of}
+use Rattle.members.specs.Records.{Draw, Pass, IsDraw, IsRecordOf, draws_of, idle_count, passes_of}
 use Rattle.dealer.specs.declared.receipt.Receipt.{Receipt}
 use Rattle.members.specs.declared.record.RunRecord.{RunRecord}
 use Rattle.members.specs.declared.fault.ClusterFault.{ClusterFault}
@@ -24,11 +29,10 @@ use Rattle.requester.specs.declared.fault.ClientFault.TheVariants as client
 use Rattle.replay.specs.Records.{IsSoundRecord, entries_of}
 use Rattle.runs.specs.Runs.{AreLet, EndsRun, IsRun, run_refusal}
 
--- a member that drew and passed nothing yet
+-- a member of a cluster of one plan, which drew and passed nothing yet
 record IsFresh (c : ClusterState) (m : MemberState) : Type 0 where
   pub client : m.requester.id < c.board.clients
-  pub receipts : m.clerk.receipts ≡ []
-  pub rest : m.clerk.rest ≡ c.quota
+  pub clerks : m.clerks ≡ fresh_clerks (c.office, None) c.quota
   pub passes : m.seat.passes ≡ []
 
 -- Lists
@@ -74,11 +78,10 @@ once_within v c a (suc n) other le lt = elim (cases_eq a c) [
 
 -- Fresh members that were driven
 
-are_fresh : (c : ClusterState) (members : List MemberState) → members ≡ map (fresh_member c) (range_with_len 0 c.board.clients) → All (IsFresh c) members
-are_fresh c members e = subst (All (IsFresh c)) (sym e) (All-map (IsFresh c) (fresh_member c) (range_with_len 0 c.board.clients) (λ k d lt. record {
+are_fresh : (c : ClusterState) (members : List MemberState) → c.second ≡ None → members ≡ map (fresh_member c) (range_with_len 0 c.board.clients) → All (IsFresh c) members
+are_fresh c members alone e = subst (All (IsFresh c)) (sym e) (All-map (IsFresh c) (fresh_member c) (range_with_len 0 c.board.clients) (λ k d lt. record {
   client = below c.board.clients k d lt;
-  receipts = refl;
-  rest = refl;
+  clerks = ap (λ (s : Option OfficeName). fresh_clerks (c.office, s) c.quota) alone;
   passes = refl;
 }))
   where
@@ -94,16 +97,19 @@ as_many : (c : ClusterState) (before after : List MemberState) (R : MemberState 
 as_many c before after R e zip = AllZip-long R before after zip ∙ ap length e ∙ length-map (range_with_len 0 c.board.clients) (fresh_member c) ∙ length-range_with_len 0 c.board.clients
 
 -- each made so many passes
-pub All-passed : (c : ClusterState) (passes : ℕ) (before after : List MemberState) → before ≡ map (fresh_member c) (range_with_len 0 c.board.clients) → AllZip (HasServed passes) before after
+pub All-passed : (c : ClusterState) (passes : ℕ) (before after : List MemberState) → c.second ≡ None → before ≡ map (fresh_member c) (range_with_len 0 c.board.clients) → AllZip (HasServed passes) before after
     → All (λ m. length m.seat.passes ≡ passes) after
-All-passed c passes before after e served =
-    zip_right (IsFresh c) (HasServed passes) (λ m. length m.seat.passes ≡ passes) (λ x y fresh s. more_than_none passes x.seat.passes y.seat.passes fresh.passes s.worked.passes) before after (are_fresh c before e) served
+All-passed c passes before after alone e served =
+    zip_right (IsFresh c) (HasServed passes) (λ m. length m.seat.passes ≡ passes) (λ x y fresh s. more_than_none passes x.seat.passes y.seat.passes fresh.passes s.worked.passes) before after (are_fresh c before alone e) served
 
 -- each drew so many tickets
-pub All-drew : (c : ClusterState) (passes : ℕ) (before after : List MemberState) → before ≡ map (fresh_member c) (range_with_len 0 c.board.clients) → AllZip (HasServed passes) before after
-    → All (λ m. length m.clerk.receipts ≡ passes) after
-All-drew c passes before after e served =
-    zip_right (IsFresh c) (HasServed passes) (λ m. length m.clerk.receipts ≡ passes) (λ x y fresh s. more_than_none passes x.clerk.receipts y.clerk.receipts fresh.receipts s.worked.receipts) before after (are_fresh c before e) served
+pub All-drew : (c : ClusterState) (passes : ℕ) (before after : List MemberState) → c.second ≡ None → before ≡ map (fresh_member c) (range_with_len 0 c.board.clients) → AllZip (HasServed passes) before after
+    → All (λ m. length (receipts_of m.clerks First) ≡ passes) after
+All-drew c passes before after alone e served =
+    zip_right (IsFresh c) (HasServed passes) (λ m. length (receipts_of m.clerks First) ≡ passes)
+    (λ x y fresh s. more_than_none passes (receipts_of x.clerks First) (receipts_of y.clerks First) (ap (λ (k : ClerksState). receipts_of k First) fresh.clerks)
+    (subst (λ (k : ClerksState). HasMore (draws_by k (passes / 2) passes First) (receipts_of x.clerks First) (receipts_of y.clerks First)) fresh.clerks (s.worked.receipts First)))
+    before after (are_fresh c before alone e) served
 
 -- what became of the client of this number
 AllZip-at_client : (c : ClusterState) (R : MemberState → MemberState → Type 0) (before after : List MemberState) → before ≡ map (fresh_member c) (range_with_len 0 c.board.clients) → AllZip R before after
@@ -152,13 +158,14 @@ ends_by id clients tickets passed passes (ends.Board (board.SeatsOut k)) less fe
 ends_by id clients tickets passed passes (ends.Board (board.VoteOut v)) less fewer quota h = absurd h
 ends_by id clients tickets passed passes ends.NotInside less fewer quota h = absurd h
 ends_by id clients tickets passed passes (ends.TurnsSpent c) less fewer quota h = omega (arith, less, h.0)
+ends_by id clients tickets passed passes ends.NoSecondPlan less fewer quota h = absurd h
 
 abbrev EndsWell : ℕ → MemberState → Type 0
 EndsWell clients m = (fault : ClusterFault) → m.fault ≡ Some fault → EndsRun clients (run_refusal fault)
 
-pub EndsRun-driven : (c : ClusterState) (passes : ℕ) (before after : List MemberState) (fault : ClusterFault) → before ≡ map (fresh_member c) (range_with_len 0 c.board.clients)
+pub EndsRun-driven : (c : ClusterState) (passes : ℕ) (before after : List MemberState) (fault : ClusterFault) → c.second ≡ None → before ≡ map (fresh_member c) (range_with_len 0 c.board.clients)
     → passes ≤ c.quota → AllZip (IsBack passes) before after → IsLeastFault after fault → EndsRun c.board.clients (run_refusal fault)
-EndsRun-driven c passes before after fault e quota back least =
+EndsRun-driven c passes before after fault alone e quota back least =
     let r = least.1 in
     let found = each r.among.0 r.member r.among.1 in
     subst (EndsWell c.board.clients) r.among.2 found fault r.ended
@@ -166,10 +173,14 @@ EndsRun-driven c passes before after fault e quota back least =
     one : (x y : MemberState) → IsFresh c x → IsBack passes x y → EndsWell c.board.clients y
     one x y fresh h fault told =
         let ended : HasEnded passes fault x y = subst (λ f. IsBackBy passes f x y) told h in
-        ends_by y.requester.id c.board.clients x.clerk.rest ended.passed passes fault (omega (arith, ended.worked.client, fresh.client)) ended.fewer (omega (arith, quota, fresh.rest)) ended.ends
+        let side : y.clerks.side ≡ First = ended.side ∙ ap (λ (k : ClerksState). side_after k (passes / 2) ended.passed) fresh.clerks in
+        let by : EndsWork y.requester.id c.quota ended.passed fault =
+        subst (λ (k : ClerksState). EndsWork y.requester.id (rest_of k First) (draws_by k (passes / 2) ended.passed First) fault) fresh.clerks
+        (subst (λ (s : Side). EndsWork y.requester.id (rest_of x.clerks s) (draws_by x.clerks (passes / 2) ended.passed s) fault) side ended.ends) in
+        ends_by y.requester.id c.board.clients c.quota ended.passed passes fault (omega (arith, ended.worked.client, fresh.client)) ended.fewer quota by
 
     each : All (EndsWell c.board.clients) after
-    each = zip_right (IsFresh c) (IsBack passes) (EndsWell c.board.clients) one before after (are_fresh c before e) back
+    each = zip_right (IsFresh c) (IsBack passes) (EndsWell c.board.clients) one before after (are_fresh c before alone e) back
 
 -- What each client did
 
@@ -221,25 +232,32 @@ ids-are_range c passes before after e served = same_numbers passes before after 
 
 -- The record
 
-pub run_of : (c : ClusterState) (passes : ℕ) (before after : List MemberState) (r : RunRecord) → before ≡ map (fresh_member c) (range_with_len 0 c.board.clients) → AllZip (HasServed passes) before after
-    → c.board.quorums ≡ c.office.cycle.system.quorums → IsRecordOf c after r → IsSoundRecord c.office.cycle (entries_of r)
-    → length r.draws.items ≡ sum_by (λ m. length m.clerk.receipts) after → r.register ≡ length after * passes
-    → All (λ d. d.2 < length c.board.quorums) r.draws.items
+-- without a second plan no draw is of one
+no_second : (c : ClusterState) (draws : List Draw) → c.second ≡ None → All (IsDraw c Second) draws → draws ≡ []
+no_second c [] alone all = refl
+no_second c (d ∷ ds) alone all =
+    absurd (subst (λ (s : Option OfficeName). IsDealt (c.office, s) Second d.1 d.2) alone (all 0 d (omega arith)).quorum)
+
+pub run_of : (c : ClusterState) (passes : ℕ) (before after : List MemberState) (r : RunRecord) → c.second ≡ None → before ≡ map (fresh_member c) (range_with_len 0 c.board.clients) → AllZip (HasServed passes) before after
+    → c.board.firsts ≡ length c.office.cycle.system.quorums → IsRecordOf c after r → IsSoundRecord c.office.cycle (entries_of r)
+    → length r.draws.items ≡ sum_by (λ m. length (receipts_of m.clerks First)) after → r.register ≡ length after * passes
+    → All (λ d. HasQuorum c.board.firsts c.board.quorums First d.2) r.draws.items
     → IsRun c.office.cycle c.board.clients passes r
-run_of c passes before after r e served quorums is sound drawn register in_range =
+run_of c passes before after r alone e served firsts is sound drawn register in_range =
     let many = as_many c before after (HasServed passes) e served in
     record {
       sound = sound;
-      tickets = is.tickets;
+      tickets = is.first.tickets;
       numbers = is.numbers;
-      drawn = drawn ∙ sum_by_same (λ (m : MemberState). length m.clerk.receipts) passes after (All-drew c passes before after e served) ∙ ap (λ n. n * passes) many;
+      drawn = drawn ∙ sum_by_same (λ (m : MemberState). length (receipts_of m.clerks First)) passes after (All-drew c passes before after alone e served) ∙ ap (λ n. n * passes) many;
+      one_plan = no_second c r.draws2.items alone is.second.each;
       register = register ∙ ap (λ n. n * passes) many;
-      each_draw = λ k d lt. ((is.each_draw k d lt).client, omega (arith, in_range k d lt, ap length quorums));
+      each_draw = λ k d lt. ((is.first.each k d lt).client, omega (arith, in_range k d lt, firsts));
       each_pass = is.each_pass;
-      draws_of_each = times_of_each (λ (d : Draw). d.0) draws_of c.board.clients passes after r.draws.items is.draws (ids-are_range c passes before after e served)
-          (λ k m lt. length-map (get_or after k m).clerk.receipts (λ (x : Receipt). ((get_or after k m).requester.id, x.ticket, x.quorum)) ∙ All-drew c passes before after e served k m lt)
-          (λ m. All-map (λ (d : Draw). d.0 ≡ m.requester.id) (λ (x : Receipt). (m.requester.id, x.ticket, x.quorum)) m.clerk.receipts (λ k x lt. refl));
+      draws_of_each = times_of_each (λ (d : Draw). d.0) (draws_of First) c.board.clients passes after r.draws.items is.first.same (ids-are_range c passes before after e served)
+          (λ k m lt. length-map (receipts_of (get_or after k m).clerks First) (λ (x : Receipt). ((get_or after k m).requester.id, x.ticket, x.quorum)) ∙ All-drew c passes before after alone e served k m lt)
+          (λ m. All-map (λ (d : Draw). d.0 ≡ m.requester.id) (λ (x : Receipt). (m.requester.id, x.ticket, x.quorum)) (receipts_of m.clerks First) (λ k x lt. refl));
       passes_of_each = times_of_each (λ (p : Pass). p.0) passes_of c.board.clients passes after r.passes.items is.passes (ids-are_range c passes before after e served)
-          (λ k m lt. length-map (get_or after k m).seat.passes (λ (x : ℕ). ((get_or after k m).requester.id, x)) ∙ All-passed c passes before after e served k m lt)
+          (λ k m lt. length-map (get_or after k m).seat.passes (λ (x : ℕ). ((get_or after k m).requester.id, x)) ∙ All-passed c passes before after alone e served k m lt)
           (λ m. All-map (λ (p : Pass). p.0 ≡ m.requester.id) (λ (x : ℕ). (m.requester.id, x)) m.seat.passes (λ k x lt. refl));
     }

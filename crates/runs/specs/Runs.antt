@@ -1,5 +1,5 @@
 -- Runs of a plan's lock: their records, and why a run has none.
-use Rattle.std.specs.Prelude.{◌≡◌, ℕ, ◌*◌, ◌<◌, ◌==◌, Bool, true, length, map}
+use Rattle.std.specs.Prelude.{◌≡◌, ℕ, ◌*◌, ◌<◌, ◌==◌, Bool, true, [], length, map}
 use Rattle.std.specs.List.{All, count_by}
 use Rattle.certificate.specs.Certificates.{Weighted}
 use Rattle.board.specs.declared.fault.BoardFault.TheVariants as board
@@ -17,11 +17,13 @@ use Rattle.runs.specs.declared.fault.RunFault.TheVariants.{Cluster, OutOfMemory}
 -- - It is sound for the plan: its tickets, their quorums, its pass numbers and its register.
 -- - Tickets and numbers are in order.
 -- - Each client has a ticket and a pass number for each of its passes.
+-- - It has no draws of a second plan.
 pub record IsRun (plan : Weighted) (clients passes : ℕ) (r : RunRecord) : Type 0 where
   pub sound : IsSoundRecord plan (entries_of r)
   pub tickets : AreInOrder (map (λ d. d.1) r.draws.items)
   pub numbers : AreInOrder (map (λ p. p.1) r.passes.items)
   pub drawn : length r.draws.items ≡ clients * passes
+  pub one_plan : r.draws2.items ≡ []
   pub register : r.register ≡ clients * passes
   pub each_draw : All (λ d. (d.0 < clients) × (d.2 < length plan.system.quorums)) r.draws.items
   pub each_pass : All (λ p. p.0 < clients) r.passes.items
@@ -54,6 +56,7 @@ EndsRunBy clients (ends.Board (board.SeatsOut k)) = ⊥
 EndsRunBy clients (ends.Board board.OutOfMemory) = ⊥
 EndsRunBy clients ends.NotInside = ⊥
 EndsRunBy clients (ends.TurnsSpent c) = c < clients
+EndsRunBy clients ends.NoSecondPlan = ⊥
 
 abbrev pub EndsRun : ℕ → RunFault → Type 0
 EndsRun clients OutOfMemory = Unit {0}

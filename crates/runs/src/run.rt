@@ -1,5 +1,5 @@
 //! Runs, from the plan to the record.
-ghost use Rattle.std.specs.Prelude.{◌≡◌, ◌*◌, ◌<◌, ◌≤◌, IfOk, IfErr};
+ghost use Rattle.std.specs.Prelude.{◌≡◌, ◌*◌, ◌<◌, ◌≤◌, None, IfOk, IfErr};
 ghost use Rattle.numbers.specs.Bounds.{max_clients, max_tickets};
 ghost use Rattle.certificate.specs.Certificates.{IsCertificate};
 ghost use Rattle.members.specs.Clusters.{ClusterState, IsCluster};
@@ -11,14 +11,15 @@ use cluster::{
     Blank, CloseFault, ClusterName, Gate, RunRecord, drive, records_are_in_range,
     records_count_passes,
 };
+use dealer::Plans;
 use replay::records_of_runs_are_sound;
 use std::alloc::Global;
 use std::marker::Brand;
 use std::sync::Wait;
 use std::thread::Threads;
 
-/// Opens a cluster, has each of its members make `passes` passes, closes it, and returns the
-/// record.
+/// Opens a cluster of one plan, has each of its members make `passes` passes, closes it, and returns
+/// the record.
 fn run_blank<N: ClusterName + Send + Sync, R: Threads + Wait + Sync, G: Gate>(
     rt: &R,
     alloc: Global,
@@ -30,6 +31,7 @@ fn run_blank<N: ClusterName + Send + Sync, R: Threads + Wait + Sync, G: Gate>(
     requires name { blank ≡ N.cluster }
     requires cluster { IsCluster blank }
     requires plan { IsCertificate blank.office.cycle }
+    requires alone { blank.second ≡ None }
     requires quota { passes ≤ blank.quota }
     ensures run { IfOk result (IsRun blank.office.cycle blank.board.clients passes) }
     ensures ended { IfErr result (EndsRun blank.board.clients) }
@@ -80,7 +82,7 @@ pub fn record_of_run<R: Threads + Wait + Sync, G: Gate>(
     ensures in_turns { IfOk result (λ _. 2 * passes ≤ turns) }
 {
     let _ = plan.busiest();
-    match Blank::new(alloc, plan, clients, passes) {
+    match Blank::new(alloc, Plans::single(plan), clients, passes) {
         Ok(blank) => run_blank::<Brand, _, _>(rt, alloc, blank, passes, turns, gate),
         Err(_) => Err(RunFault::OutOfMemory),
     }

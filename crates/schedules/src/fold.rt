@@ -1,7 +1,7 @@
 //! A world that is run step by step, and what can be seen of it.
 ghost use Rattle.std.specs.Prelude.{◌≤◌, ◌^◌};
 
-use certificate::Plan;
+use dealer::Plans;
 use std::alloc::{AllocError, Global};
 use world::{Event, Step, Stepped, Trace, World, WorldFault};
 
@@ -29,9 +29,9 @@ pub struct Fold {
 
 impl Fold {
     /// Returns a new world.
-    pub fn new(alloc: Global, plan: Plan, sizes: Sizes) -> Result<Fold, AllocError> {
+    pub fn new(alloc: Global, plans: Plans, sizes: Sizes) -> Result<Fold, AllocError> {
         Ok(Fold {
-            world: World::new(alloc, plan, sizes.clients, sizes.limit)?,
+            world: World::new(alloc, plans, sizes.clients, sizes.limit)?,
             refused: Vec::new(alloc),
             steps: 0,
         })

@@ -7,7 +7,9 @@
 //! have to make the same messages, the same events and the same refusals. A separate checker tests
 //! that at most one client is inside.
 //!
-//! `world` proves this of every list; here it is seen of a thousand. The tests also count what the
+//! In further lists a plan is exchanged for another at a random place, also while a client is inside.
+//!
+//! `world` proves this of every list; here it is seen of two thousand. The tests also count what the
 //! lists tried, so that none passes because nothing happened.
 #![tactic(auto)]
 

@@ -11,8 +11,14 @@ use std::alloc::{AllocError, Global};
 use std::test::Fail;
 use world::{Step, Stepped, WorldFault};
 
-/// How many steps a schedule has.
+/// How many steps a schedule of one plan has.
 const STEPS: usize = 2000;
+
+/// How many steps a schedule of two plans has.
+const STEPS_OF_TWO: usize = 500;
+
+/// One step in this many exchanges the plan, if there are two.
+const EXCHANGES: u64 = 128;
 
 /// What schedules tried.
 #[derive(Clone, Copy, Debug, Default)]
@@ -28,6 +34,14 @@ pub struct Tally {
     pub spent: u64,
     /// How many messages arrived before they were sent.
     pub absent: u64,
+    /// How often a plan was exchanged.
+    pub exchanges: u64,
+    /// How often this was done while a client was inside.
+    pub amid: u64,
+    /// How often it was refused, because the second plan was in use already.
+    pub refusals: u64,
+    /// How many clients entered after the plan was exchanged.
+    pub later: u64,
 }
 
 /// A schedule that is being drawn, and the world in which its steps are made.
@@ -39,8 +53,11 @@ pub struct Schedule {
     pub steps: Vec<Step>,
     /// How large its world is.
     pub sizes: Sizes,
+    kind: Kind,
     voters: u8,
     rng: Pcg64,
+    /// Whether the plan was exchanged.
+    exchanged: bool,
     /// The message that arrives next, while they arrive in order.
     next: u64,
     /// For each message, by number, whether it arrived.
@@ -73,11 +90,13 @@ impl Schedule {
         let mut rng = Pcg64::seed_from_u64(seed);
         let sizes = draw_sizes(&mut rng);
         Ok(Schedule {
-            fold: Fold::new(alloc, kind.plan(alloc)?, sizes)?,
+            fold: Fold::new(alloc, kind.plans(alloc)?, sizes)?,
             steps: Vec::new(alloc),
             sizes,
+            kind,
             voters: kind.voters(),
             rng,
+            exchanged: false,
             next: 0,
             came: Vec::new(alloc),
         })
@@ -128,6 +147,9 @@ impl Schedule {
     }
 
     fn draw_step(&mut self) -> Step {
+        if self.kind.are_two() && below(&mut self.rng, EXCHANGES) == 0 {
+            return Step::Exchange;
+        }
         match below(&mut self.rng, 32) {
             0..=2 => Step::Ask(self.draw_client()),
             3..=5 => Step::Leave(self.draw_client()),
@@ -166,10 +188,35 @@ impl Schedule {
         }
     }
 
+    /// Returns whether a client is inside.
+    fn is_one_inside(&self) -> bool {
+        match self.fold.world.visible().last() {
+            Some(event) => event.entered,
+            None => false,
+        }
+    }
+
+    /// Exchanges the plan, and counts it.
+    fn exchange(&mut self, tally: &mut Tally) -> Result<(), Fail> {
+        if self.fold.play(Step::Exchange)?.is_err() {
+            tally.refusals = tally.refusals.saturating_add(1);
+            return Ok(());
+        }
+        self.exchanged = true;
+        tally.exchanges = tally.exchanges.saturating_add(1);
+        if self.is_one_inside() {
+            tally.amid = tally.amid.saturating_add(1);
+        }
+        Ok(())
+    }
+
     /// Draws a step, makes it, and counts what it tried.
     fn add_step(&mut self, tally: &mut Tally) -> Result<(), Fail> {
         let step = self.draw_step();
         self.steps.push(step)?;
+        if let Step::Exchange = step {
+            return self.exchange(tally);
+        }
         let Step::Deliver(number) = step else {
             let _ = self.fold.play(step)?;
             return Ok(());
@@ -182,6 +229,9 @@ impl Schedule {
         let again = self.note(number)?;
         let answer = self.fold.play(step)?;
         tally.count(&message, again, &answer);
+        if self.exchanged && matches!(answer, Ok(stepped) if stepped.seen == Seen::Entered) {
+            tally.later = tally.later.saturating_add(1);
+        }
         Ok(())
     }
 }
@@ -212,7 +262,8 @@ impl Tally {
 /// Draws the schedule of a seed, makes its steps as they are drawn, and counts what they tried.
 pub fn drawn(alloc: Global, kind: Kind, seed: u64, tally: &mut Tally) -> Result<Schedule, Fail> {
     let mut schedule = Schedule::new(alloc, kind, seed)?;
-    for _ in 0..STEPS {
+    let steps = if kind.are_two() { STEPS_OF_TWO } else { STEPS };
+    for _ in 0..steps {
         schedule.add_step(tally)?;
     }
     Ok(schedule)

@@ -3,6 +3,7 @@ ghost use Rattle.std.specs.Prelude.{◌≡◌, IfOk, IsTrue};
 ghost use Rattle.quorum_set.specs.Capacities.{AreCapacities, unit_capacities};
 
 use certificate::{Plan, check};
+use dealer::Plans;
 use numbers::MAX_CAPACITY;
 use quorum_set::{Coterie, QSet};
 use std::alloc::{AllocError, Global};
@@ -117,4 +118,20 @@ pub fn grid_plan(alloc: Global) -> Option<Plan> {
 /// the rims, is used twice as often as each of the others.
 pub fn wheel_plan(alloc: Global) -> Option<Plan> {
     plan_of(alloc, &SPOKES, &[1, 1, 1, 2], &[2, 1, 1, 1])
+}
+
+/// Returns the plan of three voters as one quorum, or `None` if memory runs out.
+pub fn whole_plan(alloc: Global) -> Option<Plan> {
+    even_plan(alloc, 3, &[&[0, 1, 2]])
+}
+
+/// Returns both plans: the old one is in use first. Returns `None` if one of them is missing, if they
+/// have different voters or no bridge, or if memory runs out.
+pub fn bridged_plans(alloc: Global, old: Option<Plan>, new: Option<Plan>) -> Option<Plans> {
+    let old = old?;
+    let new = new?;
+    if old.coterie().voters() != new.coterie().voters() {
+        return None;
+    }
+    Plans::bridged(alloc, old, new).ok()
 }

@@ -4,6 +4,8 @@ ghost use Rattle.members.specs.Clusters.{ClusterState};
 
 use certificate::Plan;
 use cluster::{Blank, ClusterFault, ClusterName, Gate, Member, drive};
+use dealer::Plans;
+use quorum_set::Side;
 use requester::Phase;
 use std::alloc::{AllocError, Global};
 use std::marker::Brand;
@@ -29,6 +31,24 @@ impl Gate for Shut {
     }
 }
 
+/// Returns a cluster of one or two plans, with this number of clients and this quota of tickets of
+/// each plan for each.
+pub(crate) fn blank_by(
+    alloc: Global,
+    plans: Option<Plans>,
+    clients: u8,
+    quota: u64,
+) -> Option<Blank>
+    requires least { 1 ≤ clients }
+    requires most { clients ≤ 64 }
+    requires quota { quota ≤ 1000 }
+{
+    match plans {
+        Some(plans) => Blank::new(alloc, plans, clients, quota).ok(),
+        None => None,
+    }
+}
+
 /// Returns a cluster of a plan, with this number of clients and this quota of tickets for each.
 pub(crate) fn blank_of(alloc: Global, plan: Option<Plan>, clients: u8, quota: u64) -> Option<Blank>
     requires least { 1 ≤ clients }
@@ -36,7 +56,7 @@ pub(crate) fn blank_of(alloc: Global, plan: Option<Plan>, clients: u8, quota: u6
     requires quota { quota ≤ 1000 }
 {
     match plan {
-        Some(plan) => Blank::new(alloc, plan, clients, quota).ok(),
+        Some(plan) => blank_by(alloc, Some(Plans::single(plan)), clients, quota),
         None => None,
     }
 }
@@ -67,7 +87,9 @@ fn with_member<N: ClusterName>(outcome: Outcome, member: &Member<N>) -> Outcome 
         idle: outcome
             .idle
             .saturating_add(usize::from(member.phase() == Phase::Idle)),
-        draws: outcome.draws.saturating_add(member.receipts().len()),
+        draws: outcome
+            .draws
+            .saturating_add(member.receipts(Side::First).len()),
         passes: outcome.passes.saturating_add(member.passes().len()),
         fault: outcome.fault,
     }

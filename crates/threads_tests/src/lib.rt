@@ -1,7 +1,8 @@
 //! Tests of running threads and of their records through public calls. This crate has nothing but
 //! tests.
 //!
-//! - `clusters` makes clusters for `drives` and `gates`.
+//! - `clusters` makes clusters for `drives`, `gates` and `exchanges`, in which the members' plan is
+//!   exchanged for another.
 //! - `record_texts` reads records, `record_checks` checks them, and `records_of_runs` and
 //!   `runs_of_plans` make them.
 //!
@@ -13,6 +14,8 @@
 mod clusters;
 #[cfg(test)]
 mod drives;
+#[cfg(test)]
+mod exchanges;
 #[cfg(test)]
 mod gates;
 #[cfg(test)]

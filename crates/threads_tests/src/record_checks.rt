@@ -1,6 +1,7 @@
 //! Records that are checked.
 use certificate::Plan;
 use cluster::RunRecord;
+use quorum_set::Side;
 use replay::{ReplayFault, check_record};
 use small_plans::{majority_plan, plan_with};
 use std::alloc::{AllocError, Global};
@@ -20,6 +21,7 @@ fn record_of(
     let passes = [(0u8, 0u64), second].as_slice().to_vec(alloc)?;
     Ok(RunRecord {
         draws,
+        draws2: Vec::new(alloc),
         passes,
         register,
         lost: 0,
@@ -35,7 +37,7 @@ fn fault_of(
     register: u64,
 ) -> Result<Option<ReplayFault>, AllocError> {
     let record = record_of(alloc, third, second, register)?;
-    Ok(check_record(alloc, plan, &record).err())
+    Ok(check_record(alloc, plan, Side::First, &record).err())
 }
 
 /// Third draws, second passes and registers, and the faults of their records.
@@ -63,7 +65,7 @@ fn names_each_fault_once(rt: HostRuntime) -> Result<(), Fail> {
 
 /// Returns whether a record has three draws, two of them for each voter, and this ratio.
 fn has_three_draws(alloc: Global, plan: &Plan, record: &RunRecord, ratio: (u64, u64)) -> bool {
-    match check_record(alloc, plan, record) {
+    match check_record(alloc, plan, Side::First, record) {
         Ok(account) => {
             (account.drawn == 3)
                 & (account.voters.as_slice() == [2, 2, 2].as_slice())

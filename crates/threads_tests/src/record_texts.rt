@@ -21,19 +21,19 @@ fn says(alloc: Global, text: &[u8], want: &str) -> Result<bool, AllocError> {
 const READ: [(&str, &str); 4] = [
     (
         RECORD,
-        "RunRecord { draws: [(0, 0, 0), (1, 2, 2), (0, 1, 1)], passes: [(0, 0), (1, 1)], register: 2, lost: 0 }",
+        "RunRecord { draws: [(0, 0, 0), (1, 2, 2), (0, 1, 1)], draws2: [], passes: [(0, 0), (1, 1)], register: 2, lost: 0 }",
     ),
     (
         "quorum-record 1\nregister 0\n",
-        "RunRecord { draws: [], passes: [], register: 0, lost: 0 }",
+        "RunRecord { draws: [], draws2: [], passes: [], register: 0, lost: 0 }",
     ),
     (
         "quorum-record 1\npass 63 18446744073709551615\nregister 18446744073709551615\n",
-        "RunRecord { draws: [], passes: [(63, 18446744073709551615)], register: 18446744073709551615, lost: 0 }",
+        "RunRecord { draws: [], draws2: [], passes: [(63, 18446744073709551615)], register: 18446744073709551615, lost: 0 }",
     ),
     (
         "quorum-record 1\ndraw 63 18446744073709551615 4095\nregister 7\n",
-        "RunRecord { draws: [(63, 18446744073709551615, 4095)], passes: [], register: 7, lost: 0 }",
+        "RunRecord { draws: [(63, 18446744073709551615, 4095)], draws2: [], passes: [], register: 7, lost: 0 }",
     ),
 ];
 
@@ -148,6 +148,7 @@ fn written(alloc: Global) -> Result<String, AllocError> {
         draws: [(0u8, 0u64, 0usize), (1, 2, 2), (0, 1, 1)]
             .as_slice()
             .to_vec(alloc)?,
+        draws2: Vec::new(alloc),
         passes: [(0u8, 0u64), (1, 1)].as_slice().to_vec(alloc)?,
         register: 2,
         lost: 5,

@@ -4,6 +4,7 @@ ghost use Rattle.members.specs.Clusters.{ClusterState};
 
 use crate::clusters::{Outcome, Shut, blank_of, shown};
 use cluster::{Blank, ClusterFault, ClusterName, RunRecord, drive};
+use quorum_set::Side;
 use replay::check_record;
 use small_plans::majority_plan;
 use std::alloc::{AllocError, Global};
@@ -38,7 +39,7 @@ fn accounted(alloc: Global, record: &RunRecord) -> Option<(u64, u64)> {
     let Some(plan) = majority_plan(alloc) else {
         return None;
     };
-    match check_record(alloc, &plan, record) {
+    match check_record(alloc, &plan, Side::First, record) {
         Ok(account) => Some((account.drawn, account.busiest)),
         Err(_) => None,
     }

@@ -1,5 +1,5 @@
 -- what the code did is the step of the definition
-use Rattle.std.proofs.Common.{◌≡◌, ℕ, List, ◌++◌, map, length, set, Option, Some, None, Ok, Err, true, false, refl, sym, ap, subst, ◌∙◌}
+use Rattle.std.proofs.Common.{◌≡◌, ℕ, List, ◌++◌, map, length, set, Option, Some, None, Result, Ok, Err, true, false, refl, sym, ap, subst, ◌∙◌}
 use Rattle.std.specs.Option.{is_none}
 use Rattle.std.proofs.lemmas.Bool.{false≢true}
 use Rattle.std.specs.Global.{Vec}
@@ -17,9 +17,11 @@ use Rattle.requester.specs.declared.state.ClientState.{ClientState}
 use Rattle.requester.specs.declared.state.Seen.{Seen}
 use Rattle.requester.specs.declared.state.Seen.TheVariants.{Nothing}
 use Rattle.requester.specs.Steps as client
+use Rattle.quorum_set.specs.declared.bridge.Side.{Side}
+use Rattle.quorum_set.specs.declared.bridge.Side.TheVariants.{First, Second}
 use Rattle.world.specs.declared.fault.WorldFault.TheVariants as faults
 use Rattle.world.specs.declared.step.Stepped.{Stepped}
-use Rattle.world.specs.Steps.{WorldState, Outcome, act, after_client, after_voter, client_at, client_did, events, outcome_of, say, vote, voter_at, voter_did}
+use Rattle.world.specs.Steps.{WorldState, Outcome, act, after_client, after_voter, ask, client_at, client_did, draw, draw_of, events, outcome_of, say, vote, voter_at, voter_did}
 
 -- ---- lists that the code keeps
 
@@ -33,25 +35,49 @@ with_items-items v os ns n x is wrote = with_items_is v ns (ap (λ (l : List _).
 abbrev pub world_with_client : WorldState → List ClientState → ℕ → List ToVoter → Seen → WorldState
 world_with_client w cs c out seen = record w { clients = cs; sent = w.sent ++ map kinds.ToVoter out; visible = w.visible ++ events c seen }
 
+after_client-Ok : (v : WorldState) (os cs ds : List ClientState) (c : ℕ) (out : List ToVoter) (seen : Seen) (r : Result client.Outcome ClientFault) (s : Stepped) (u : WorldState)
+    → os ≡ v.clients → r ≡ Ok (record { out = out; seen = seen; state = client_at cs c }) → cs ≡ set os c (client_at cs c) → ds ≡ cs
+    → s.sent ≡ length out → s.seen ≡ seen → u ≡ world_with_client v ds c out seen → after_client v c r ≡ Ok (outcome_of s u)
+after_client-Ok v os cs ds c out seen r s u is step wrote same sent saw state =
+    let list : set v.clients c (client_at cs c) ≡ ds = sym (same ∙ wrote ∙ ap (λ (l : List ClientState). set l c (client_at cs c)) is) in
+    let world : world_with_client v (set v.clients c (client_at cs c)) c out seen ≡ u = ap (λ (l : List ClientState). world_with_client v l c out seen) list ∙ sym state in
+    ap (λ r. after_client v c r) step ∙ (λ i. Ok (record { sent = sym sent i; seen = sym saw i; state = world i }))
+
+-- a step of a client that the code reads from a list
+read_step : (w : WorldState) (os : List ClientState) (x : ClientState) (c : ℕ) (cause : client.Cause) (r : Result client.Outcome ClientFault)
+    → os ≡ w.clients → x ≡ client_at os c → client.step x cause ≡ r → client.step (client_at w.clients c) cause ≡ r
+read_step w os x c cause r is who step =
+    subst (λ (l : List ClientState). client.step (client_at l c) cause ≡ r) is (subst (λ (y : ClientState). client.step y cause ≡ r) who step)
+
 pub act-Ok : (w : WorldState) (os cs ds : List ClientState) (c : ℕ) (cause : client.Cause) (out : List ToVoter) (seen : Seen) (s : Stepped) (u : WorldState)
     → os ≡ w.clients → client.step (client_at os c) cause ≡ Ok (record { out = out; seen = seen; state = client_at cs c }) → cs ≡ set os c (client_at cs c) → ds ≡ cs
     → s.sent ≡ length out → s.seen ≡ seen → u ≡ world_with_client w ds c out seen → act w c cause ≡ Ok (outcome_of s u)
 act-Ok w os cs ds c cause out seen s u is step wrote same sent saw state =
-    let o : client.Outcome = record { out = out; seen = seen; state = client_at cs c } in
-    let now : client.step (client_at w.clients c) cause ≡ Ok o = subst (λ (l : List ClientState). client.step (client_at l c) cause ≡ Ok o) is step in
-    let list : set w.clients c (client_at cs c) ≡ ds = sym (same ∙ wrote ∙ ap (λ (l : List ClientState). set l c (client_at cs c)) is) in
-    let world : world_with_client w (set w.clients c (client_at cs c)) c out seen ≡ u = ap (λ (l : List ClientState). world_with_client w l c out seen) list ∙ sym state in
-    ap (λ r. after_client w c r) now ∙ (λ i. Ok (record { sent = sym sent i; seen = sym saw i; state = world i }))
+    after_client-Ok w os cs ds c out seen _ s u is (read_step w os (client_at os c) c cause _ is refl step) wrote same sent saw state
 
 pub act-Err : (w : WorldState) (os : List ClientState) (x : ClientState) (c : ℕ) (cause : client.Cause) (fault : ClientFault) → os ≡ w.clients → x ≡ client_at os c → client.step x cause ≡ Err fault → act w c cause ≡ Err (faults.Client fault)
-act-Err w os x c cause fault is who step =
-    ap (λ r. after_client w c r) (subst (λ (l : List ClientState). client.step (client_at l c) cause ≡ Err fault) is (subst (λ (y : ClientState). client.step y cause ≡ Err fault) who step))
+act-Err w os x c cause fault is who step = ap (λ r. after_client w c r) (read_step w os x c cause (Err fault) is who step)
 
 pub act-some_Ok : (w : WorldState) (os : List ClientState) (x : ClientState) (c : ℕ) (cause : client.Cause) → os ≡ w.clients → x ≡ client_at os c → (o : client.Outcome) × (client.step x cause ≡ Ok o) → (p : Outcome) × (act w c cause ≡ Ok p)
-act-some_Ok w os x c cause is who step = (
-  client_did w c step.0,
-  ap (λ r. after_client w c r) (subst (λ (l : List ClientState). client.step (client_at l c) cause ≡ Ok step.0) is (subst (λ (y : ClientState). client.step y cause ≡ Ok step.0) who step.1)),
-)
+act-some_Ok w os x c cause is who step = (client_did w c step.0, ap (λ r. after_client w c r) (read_step w os x c cause (Ok step.0) is who step.1))
+
+-- ---- a client that asks
+
+draw_of-clients : (side : Side) (w : WorldState) (c : ℕ) → (draw_of side w c).clients ≡ w.clients
+draw_of-clients First w c = refl
+draw_of-clients Second w c = refl
+
+pub ask-Ok : (w : WorldState) (os cs ds : List ClientState) (c : ℕ) (quorum : List ℕ) (out : List ToVoter) (seen : Seen) (s : Stepped) (u : WorldState)
+    → os ≡ w.clients → client.step (client_at os c) (client.Asks quorum) ≡ Ok (record { out = out; seen = seen; state = client_at cs c }) → cs ≡ set os c (client_at cs c) → ds ≡ cs
+    → s.sent ≡ length out → s.seen ≡ seen → u ≡ world_with_client (draw w c) ds c out seen → ask w c quorum ≡ Ok (outcome_of s u)
+ask-Ok w os cs ds c quorum out seen s u is step wrote same sent saw state =
+    after_client-Ok (draw w c) os cs ds c out seen _ s u (is ∙ sym (draw_of-clients w.side w c)) (read_step w os (client_at os c) c (client.Asks quorum) _ is refl step) wrote same sent saw state
+
+pub ask-Err : (w : WorldState) (os : List ClientState) (x : ClientState) (c : ℕ) (quorum : List ℕ) (fault : ClientFault) → os ≡ w.clients → x ≡ client_at os c → client.step x (client.Asks quorum) ≡ Err fault → ask w c quorum ≡ Err (faults.Client fault)
+ask-Err w os x c quorum fault is who step = ap (λ r. after_client (draw w c) c r) (read_step w os x c (client.Asks quorum) (Err fault) is who step)
+
+pub ask-some_Ok : (w : WorldState) (os : List ClientState) (x : ClientState) (c : ℕ) (quorum : List ℕ) → os ≡ w.clients → x ≡ client_at os c → (o : client.Outcome) × (client.step x (client.Asks quorum) ≡ Ok o) → (p : Outcome) × (ask w c quorum ≡ Ok p)
+ask-some_Ok w os x c quorum is who step = (client_did (draw w c) c step.0, ap (λ r. after_client (draw w c) c r) (read_step w os x c (client.Asks quorum) (Ok step.0) is who step.1))
 
 -- ---- a voter
 

@@ -1,7 +1,10 @@
--- numbers of clients and voters
-use Rattle.std.proofs.Common.{◌≡◌, ℕ, ◌<◌, ◌≤◌, true, false, Option, Some, None, Result, Ok, Err, sym, ap, ◌∙◌, arith}
+-- numbers of clients and voters, and whether a plan can be exchanged
+use Rattle.std.proofs.Common.{◌≡◌, ℕ, ◌<◌, ◌≤◌, Bool, true, false, Option, Some, None, Result, Ok, Err, sym, ap, ◌∙◌, arith}
 use Rattle.std.specs.Prelude.{IfNone, IfSome, nat_lt}
 use Rattle.std.proofs.lemmas.Bool.Decides.{nat_tests}
+use Rattle.quorum_set.specs.declared.bridge.Side.{Side}
+use Rattle.quorum_set.specs.declared.bridge.Side.TheVariants.{First, Second}
+use Rattle.requester.specs.declared.state.Seen.TheVariants.{Nothing}
 use Rattle.requester.specs.Steps.{Foretells}
 use Rattle.world.specs.declared.fault.WorldFault.{WorldFault}
 use Rattle.world.specs.declared.fault.WorldFault.TheVariants as faults
@@ -30,3 +33,16 @@ if_voter-missing v n next fault missing =
 pub Foretells-voter : (r : Option WorldFault) (v n : ℕ) (o : world.Outcome) → IfNone r (v < n) → IfSome r (λ fault. (fault ≡ faults.NoSuchVoter v) × (n ≤ v)) → Foretells r (world.if_voter (nat_lt v n) v (Ok o))
 Foretells-voter None v n o found missing = (o, if_voter-below v n (Ok o) found)
 Foretells-voter (Some fault) v n o found missing = if_voter-missing v n (Ok o) fault missing
+
+-- what an exchange does
+pub exchanged : world.WorldState → world.Outcome
+exchanged w = record { sent = 0; seen = Nothing; state = record w { side = Second } }
+
+pub exchange-first : (two : Bool) (side : Side) (w : world.WorldState) → (two ≡ true) × (side ≡ First) → world.exchange two side w ≡ Ok (exchanged w)
+unfolding exchanged
+exchange-first two side w is = ap (λ t. world.exchange t side w) is.0 ∙ ap (λ (s : Side). world.exchange true s w) is.1
+
+pub Foretells-exchange : (r : Option WorldFault) (two : Bool) (side : Side) (w : world.WorldState) → IfNone r ((two ≡ true) × (side ≡ First)) → IfSome r (λ fault. (u : world.WorldState) → world.exchange two side u ≡ Err fault)
+    → Foretells r (world.exchange two side w)
+Foretells-exchange None two side w found missing = (exchanged w, exchange-first two side w found)
+Foretells-exchange (Some fault) two side w found missing = missing w

@@ -23,12 +23,14 @@ use Rattle.requester.specs.declared.state.ClientState.{ClientState}
 use Rattle.requester.specs.RequesterContract.{Accepts, IsLive, Locks}
 use Rattle.requester.specs.Steps as client
 use Rattle.requester.specs.Words.{is_inside, held_of, holds_under}
+use Rattle.quorum_set.specs.declared.bridge.Side.{Side}
+use Rattle.quorum_set.specs.declared.bridge.Side.TheVariants.{First, Second}
 use Rattle.world.specs.declared.fault.WorldFault.{WorldFault}
 use Rattle.world.specs.declared.step.Step.{Step}
-use Rattle.world.specs.declared.step.Step.TheVariants.{Ask, Deliver, Leave, GiveUp, RemindClient, RemindVoter}
+use Rattle.world.specs.declared.step.Step.TheVariants.{Ask, Deliver, Leave, GiveUp, RemindClient, RemindVoter, Exchange}
 use Rattle.world.specs.Ranges.{IsAddressed, IsInRange, IsSound, IsWithin, TellsWithin}
 use Rattle.world.specs.Runs.{AreLimits, DrawsInOrder, after, run_of, start}
-use Rattle.world.specs.Steps.{WorldState, Outcome, after_client, after_voter, client_at, client_did, come, draw, events, if_client, if_voter, step, voter_at}
+use Rattle.world.specs.Steps.{WorldState, Dealing, Outcome, after_client, after_voter, client_at, client_did, come, draw_of, events, exchange, if_client, if_voter, next_ticket, quorum_dealt, step, voter_at}
 use Rattle.world.specs.Visible.{DealsFrom, DoMeet, IsAmong}
 use Rattle.world.proofs.Known.{ClientLaws, VoterLaws}
 use Rattle.world.proofs.Claims.{Bounds, Names, AskOk, TellOk, MessageOk, ClientOk, IsClient, VoterOk, WorldOk, AllByRecursion-get, AllByRecursion-map, put}
@@ -50,6 +52,7 @@ pub record RunOk (b : Bounds) (w : WorldState) : Type 0 where
   pub world : WorldOk b (client_at w.clients) (voter_at w.voters) w.sent
   pub walked : Walked w.visible (client_at w.clients)
   pub draws : DrawsInOrder w.draws
+  pub draws2 : DrawsInOrder w.draws2
 
 -- ---- a client's step
 
@@ -70,6 +73,7 @@ client_step b given w ok c within cause o accepts step came draws =
       world = subst (λ (W : ℕ → ClientState). WorldOk b W Y (w.sent ++ map kinds.ToVoter o.out)) (sym same) world;
       walked = subst (λ (W : ℕ → ClientState). Walked (w.visible ++ events c o.seen) W) (sym same) walked;
       draws = ok.draws;
+      draws2 = ok.draws2;
     }
 
 RunOk-after_client : (b : Bounds) → Given b → (w : WorldState) → RunOk b w → (c : ℕ) → c < length w.clients → (cause : client.Cause)
@@ -92,11 +96,14 @@ DrawsInOrder-push draws c is =
 
 RunOk-after_draw : (b : Bounds) → Given b → (w : WorldState) → RunOk b w → (c : ℕ) → c < length w.clients → (cause : client.Cause)
     → Accepts (client_at w.clients c) cause → Came b (client_at w.clients c) (voter_at w.voters) c cause → Draws b cause
-    → (r : Result client.Outcome ClientFault) → client.step (client_at w.clients c) cause ≡ r → RunOk b (after w (after_client (draw w c) c r))
-RunOk-after_draw b given w ok c within cause accepts came draws (Ok o) is =
+    → (side : Side) (r : Result client.Outcome ClientFault) → client.step (client_at w.clients c) cause ≡ r → RunOk b (after w (after_client (draw_of side w c) c r))
+RunOk-after_draw b given w ok c within cause accepts came draws First (Ok o) is =
     let k = client_step b given w ok c within cause o accepts is came draws in
-    record { clients = k.clients; voters = k.voters; world = k.world; walked = k.walked; draws = DrawsInOrder-push w.draws c ok.draws }
-RunOk-after_draw b given w ok c within cause accepts came draws (Err fault) is = ok
+    record { clients = k.clients; voters = k.voters; world = k.world; walked = k.walked; draws = DrawsInOrder-push w.draws c ok.draws; draws2 = ok.draws2 }
+RunOk-after_draw b given w ok c within cause accepts came draws Second (Ok o) is =
+    let k = client_step b given w ok c within cause o accepts is came draws in
+    record { clients = k.clients; voters = k.voters; world = k.world; walked = k.walked; draws = ok.draws; draws2 = DrawsInOrder-push w.draws2 c ok.draws2 }
+RunOk-after_draw b given w ok c within cause accepts came draws side (Err fault) is = ok
 
 -- ---- a voter's step
 
@@ -114,6 +121,7 @@ RunOk-after_voter b given w ok m range asked (Some o) is =
       world = subst (λ (Z : ℕ → VoterState). WorldOk b X Z (w.sent ++ map kinds.ToClient o.replies)) (sym same) (voter_moves given.voter b X Y w.sent ok.world m range asked o is);
       walked = ok.walked;
       draws = ok.draws;
+      draws2 = ok.draws2;
     }
 
 -- ---- the steps
@@ -164,10 +172,17 @@ comes_ok b given w ok k (Some (kinds.ToClient m)) known range =
     (came_by b (client_at w.clients m.client) (voter_at w.voters) m.voter m.client m.body within.1 within.3 (known (kinds.ToClient m) refl))
     tt _ refl
 
-step_ok : (b : Bounds) → Given b → (deal : ℕ → List ℕ) → DealsFrom b.quorums deal → (w : WorldState) → RunOk b w → (s : Step) → RunOk b (after w (step deal w s))
+-- the plan is exchanged
+RunOk-exchange : (b : Bounds) (w : WorldState) → RunOk b w → (are_two : Bool) (side : Side) → RunOk b (after w (exchange are_two side w))
+RunOk-exchange b w ok true First = record { clients = ok.clients; voters = ok.voters; world = ok.world; walked = ok.walked; draws = ok.draws; draws2 = ok.draws2 }
+RunOk-exchange b w ok true Second = ok
+RunOk-exchange b w ok false side = ok
+
+step_ok : (b : Bounds) → Given b → (deal : Dealing) → DealsFrom b.quorums deal → (w : WorldState) → RunOk b w → (s : Step) → RunOk b (after w (step deal w s))
 unfolding step
 step_ok b given deal deals w ok (Ask c) = if_one b w ok _ c _ (λ t.
-    RunOk-after_draw b given w ok c (less_than _ _ t) (client.Asks (deal (length w.draws))) (accepts_among b given.meet (deal (length w.draws)) (deals (length w.draws))) (λ v s g never. absurd never) (deals (length w.draws)) _ refl)
+    let among = deals w.side (next_ticket w) in
+    RunOk-after_draw b given w ok c (less_than _ _ t) (client.Asks (quorum_dealt deal w.side (next_ticket w))) (accepts_among b given.meet (quorum_dealt deal w.side (next_ticket w)) among) (λ v s g never. absurd never) among w.side _ refl)
 step_ok b given deal deals w ok (Deliver k) = comes_ok b given w ok k (slice_get w.sent k)
     (λ m is. AllByRecursion-get (MessageOk (client_at w.clients) (voter_at w.voters)) w.sent k m ok.world.messages is)
     (λ m is. AllByRecursion-get (IsInRange b.voters b.clients b.limit) w.sent k m ok.world.ranges is)
@@ -179,6 +194,7 @@ step_ok b given deal deals w ok (RemindClient c) = if_one b w ok _ c _ (λ t. re
   world = client_reminds given.client b given.meet (client_at w.clients) (voter_at w.voters) w.sent ok.world c (subst (λ n. c < n) ok.clients (less_than _ _ t));
   walked = ok.walked;
   draws = ok.draws;
+  draws2 = ok.draws2;
 })
 step_ok b given deal deals w ok (RemindVoter v) = if_voter_one b w ok _ v _ (λ t. record {
   clients = ok.clients;
@@ -186,9 +202,11 @@ step_ok b given deal deals w ok (RemindVoter v) = if_voter_one b w ok _ v _ (λ 
   world = voter_reminds given.voter b (client_at w.clients) (voter_at w.voters) w.sent ok.world v (subst (λ n. v < n) ok.voters (less_than _ _ t));
   walked = ok.walked;
   draws = ok.draws;
+  draws2 = ok.draws2;
 })
+step_ok b given deal deals w ok Exchange = RunOk-exchange b w ok _ w.side
 
-run_ok : (b : Bounds) → Given b → (deal : ℕ → List ℕ) → DealsFrom b.quorums deal → (steps : List Step) (w : WorldState) → RunOk b w → RunOk b (run_of deal steps w)
+run_ok : (b : Bounds) → Given b → (deal : Dealing) → DealsFrom b.quorums deal → (steps : List Step) (w : WorldState) → RunOk b w → RunOk b (run_of deal steps w)
 run_ok b given deal deals [] w ok = ok
 run_ok b given deal deals (s ∷ steps) w ok = run_ok b given deal deals steps (after w (step deal w s)) (step_ok b given deal deals w ok s)
 
@@ -305,6 +323,7 @@ start_ok b given = record {
   };
   walked = record { list = tt; inside = λ c. (fresh_at b given c).idle };
   draws = refl;
+  draws2 = refl;
 }
 
 IsAddressed-in_range : (b : Bounds) (w : WorldState) → length w.clients ≡ b.clients → length w.voters ≡ b.voters → (m : Message) → IsInRange b.voters b.clients b.limit m → IsAddressed w m
@@ -321,6 +340,7 @@ sound_by b given w ok =
       exclusive = ok.walked.list;
       in_range = ok.world.ranges;
       draws = ok.draws;
+      draws2 = ok.draws2;
       numbered = record {
         clients = λ c within. (ok.world.client_ids c (subst (λ n. c < n) ok.clients within)).id;
         voters = λ v within. ok.world.voter_ids v (subst (λ n. v < n) ok.voters within);
@@ -331,7 +351,7 @@ sound_by b given w ok =
     }
 
 -- over every list of steps
-pub every_run : ClientLaws → VoterLaws → (voters clients limit : ℕ) (quorums : List (List ℕ)) (deal : ℕ → List ℕ) (steps : List Step)
+pub every_run : ClientLaws → VoterLaws → (voters clients limit : ℕ) (quorums : List (List ℕ)) (deal : Dealing) (steps : List Step)
     → AreLimits voters clients limit → DoMeet voters quorums → DealsFrom quorums deal → IsSound voters clients limit (run_of deal steps (start voters clients limit))
 every_run cs vs voters clients limit quorums deal steps limits meets deals =
     let b : Bounds = record { voters = voters; clients = clients; limit = limit; quorums = quorums } in

@@ -53,4 +53,5 @@ pub record IsSound (voters clients limit : ℕ) (w : WorldState) : Type 0 where
   pub exclusive : IsExclusive w.visible
   pub in_range : AreInRange voters clients limit w.sent
   pub draws : DrawsInOrder w.draws
+  pub draws2 : DrawsInOrder w.draws2
   pub numbered : IsNumbered w

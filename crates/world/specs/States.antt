@@ -1,5 +1,7 @@
 -- A world as the code keeps it, and the room that a step needs.
 use Rattle.std.specs.Prelude.{◌+◌, ◌≤◌, vec_capacity, vec_len}
+use Rattle.dealer.specs.Plans.{PlanPair}
+use Rattle.world.specs.declared.cycles.Cycles.{Cycles}
 use Rattle.world.specs.declared.state.State.{State}
 use Rattle.world.specs.Steps.{WorldState}
 
@@ -10,6 +12,8 @@ shown s = record {
   voters = s.voters.items;
   sent = s.sent.items;
   draws = s.draws.items;
+  draws2 = s.draws2.items;
+  side = s.side;
   visible = s.visible.items;
 }
 
@@ -17,4 +21,9 @@ shown s = record {
 pub record HasRoom (s : State) : Type 0 where
   pub sent : vec_len s.sent + 128 ≤ vec_capacity s.sent
   pub draws : vec_len s.draws + 1 ≤ vec_capacity s.draws
+  pub draws2 : vec_len s.draws2 + 1 ≤ vec_capacity s.draws2
   pub visible : vec_len s.visible + 1 ≤ vec_capacity s.visible
+
+-- the plans of the cycles that the code keeps
+abbrev pub plans_of : Cycles → PlanPair
+plans_of c = record { first = c.first; second = c.second }

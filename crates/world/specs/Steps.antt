@@ -1,7 +1,8 @@
 -- The steps of a world: of the clients and the voters of one lock, with every message that was ever
 -- sent. A message may arrive at any time and any number of times; one that never arrives is lost
--- (Maekawa, ACM TOCS 3(2), 1985, over a network that loses, repeats and delays).
-use Rattle.std.specs.Prelude.{ℕ, ◌≡◌, nat_lt, Bool, true, false, List, [], ◌∷◌, ◌++◌, map, length, Option, Some, None, Result, Ok, Err, slice_get, slice_index_or, slice_set}
+-- (Maekawa, ACM TOCS 3(2), 1985, over a network that loses, repeats and delays). If there are two
+-- plans, the first may be exchanged for the second at any time.
+use Rattle.std.specs.Prelude.{ℕ, ◌≡◌, nat_lt, Bool, true, false, List, [], ◌∷◌, ◌++◌, map, length, Option, Some, None, is_some, option_map, unwrap_or, Result, Ok, Err, slice_get, slice_index_or, slice_set}
 use Rattle.message.specs.declared.message.ToVoter.{ToVoter}
 use Rattle.message.specs.declared.message.Message.{Message}
 use Rattle.message.specs.declared.message.Message.TheVariants as kinds
@@ -13,12 +14,15 @@ use Rattle.requester.specs.declared.state.ClientState.{ClientState}
 use Rattle.requester.specs.declared.state.Seen.{Seen}
 use Rattle.requester.specs.declared.state.Seen.TheVariants.{Nothing, Entered, Left}
 use Rattle.requester.specs.Steps as client
+use Rattle.quorum_set.specs.declared.bridge.Side.{Side}
+use Rattle.quorum_set.specs.declared.bridge.Side.TheVariants.{First, Second}
 use Rattle.certificate.specs.Certificates.{Weighted}
 use Rattle.dealer.specs.Cycles.{quorum_of_ticket}
+use Rattle.dealer.specs.Plans.{PlanPair}
 use Rattle.world.specs.declared.fault.WorldFault.{WorldFault}
 use Rattle.world.specs.declared.fault.WorldFault.TheVariants as faults
 use Rattle.world.specs.declared.step.Step.{Step}
-use Rattle.world.specs.declared.step.Step.TheVariants.{Ask, Deliver, Leave, GiveUp, RemindClient, RemindVoter}
+use Rattle.world.specs.declared.step.Step.TheVariants.{Ask, Deliver, Leave, GiveUp, RemindClient, RemindVoter, Exchange}
 use Rattle.world.specs.declared.step.Event.{Event}
 use Rattle.world.specs.declared.step.Stepped.{Stepped}
 
@@ -28,8 +32,12 @@ pub record WorldState : Type 0 where
   pub voters : List VoterState
   -- every message that was ever sent, in order; its place is its number
   pub sent : List Message
-  -- who drew a ticket, and which one, in order
+  -- who drew a ticket of the first plan, and which one, in order
   pub draws : List (ℕ × ℕ)
+  -- the same of the second plan
+  pub draws2 : List (ℕ × ℕ)
+  -- the plan in use
+  pub side : Side
   -- who entered and who left, in order
   pub visible : List Event
 
@@ -90,9 +98,34 @@ after_voter w v None = Err (faults.Voter GrantsSpent)
 abbrev pub act : WorldState → ℕ → client.Cause → Result Outcome WorldFault
 act w c cause = after_client w c (client.step (client_at w.clients c) cause)
 
--- the client draws the next ticket; tickets are drawn from 0 on
+-- the quorum that each ticket of the first plan stands for, and each of the second, if there is one
+pub record Dealing : Type 0 where
+  pub first : ℕ → List ℕ
+  pub second : Option (ℕ → List ℕ)
+
+-- The quorum that a ticket of this plan stands for. If there is no second plan, its tickets are
+-- those of the first.
+abbrev pub quorum_dealt : Dealing → Side → ℕ → List ℕ
+quorum_dealt deal First = deal.first
+quorum_dealt deal Second = unwrap_or deal.second deal.first
+
+-- the next ticket of a plan; the tickets of each are drawn from 0 on
+abbrev pub ticket_of : Side → WorldState → ℕ
+ticket_of First w = length w.draws
+ticket_of Second w = length w.draws2
+
+-- the client draws the next ticket of a plan
+abbrev pub draw_of : Side → WorldState → ℕ → WorldState
+draw_of First w c = record w { draws = w.draws ++ (c, length w.draws) ∷ [] }
+draw_of Second w c = record w { draws2 = w.draws2 ++ (c, length w.draws2) ∷ [] }
+
+-- the next ticket of the plan in use
+abbrev pub next_ticket : WorldState → ℕ
+next_ticket w = ticket_of w.side w
+
+-- the client draws the next ticket of the plan in use
 abbrev pub draw : WorldState → ℕ → WorldState
-draw w c = record w { draws = w.draws ++ (c, length w.draws) ∷ [] }
+draw w c = draw_of w.side w c
 
 -- the client draws a ticket and asks this quorum
 abbrev pub ask : WorldState → ℕ → List ℕ → Result Outcome WorldFault
@@ -112,6 +145,13 @@ come w k (Some (kinds.ToClient m)) = act w m.client (client.Takes m)
 abbrev pub say : WorldState → List Message → Outcome
 say w more = record { sent = length more; seen = Nothing; state = record w { sent = w.sent ++ more } }
 
+-- Later asks draw tickets of the second plan. A fault if there are not two plans, or the second is
+-- in use already.
+abbrev pub exchange : Bool → Side → WorldState → Result Outcome WorldFault
+exchange true First w = Ok (record { sent = 0; seen = Nothing; state = record w { side = Second } })
+exchange true Second w = Err faults.NoSecondPlan
+exchange false side w = Err faults.NoSecondPlan
+
 -- `next` if the number is a client's, else the fault
 abbrev pub if_client : Bool → ℕ → Result Outcome WorldFault → Result Outcome WorldFault
 if_client true c next = next
@@ -124,8 +164,8 @@ if_voter false v next = Err (faults.NoSuchVoter v)
 
 -- One step: its outcome, or the fault with which it is refused. `deal` gives the quorum of each
 -- ticket.
-unfoldable pub step : (ℕ → List ℕ) → WorldState → Step → Result Outcome WorldFault
-step deal w (Ask c) = if_client (nat_lt c (length w.clients)) c (ask w c (deal (length w.draws)))
+unfoldable pub step : Dealing → WorldState → Step → Result Outcome WorldFault
+step deal w (Ask c) = if_client (nat_lt c (length w.clients)) c (ask w c (quorum_dealt deal w.side (next_ticket w)))
 step deal w (Deliver k) = come w k (slice_get w.sent k)
 step deal w (Leave c) = if_client (nat_lt c (length w.clients)) c (act w c client.Leaves)
 step deal w (GiveUp c) = if_client (nat_lt c (length w.clients)) c (act w c client.GivesUp)
@@ -133,6 +173,7 @@ step deal w (RemindClient c) =
     if_client (nat_lt c (length w.clients)) c (Ok (say w (map kinds.ToVoter (client.remind (client_at w.clients c)))))
 step deal w (RemindVoter v) =
     if_voter (nat_lt v (length w.voters)) v (Ok (say w (map kinds.ToClient (voter.remind (voter_at w.voters v)))))
+step deal w Exchange = exchange (is_some deal.second) w.side w
 
 -- What a step adds: messages after those sent before, and the event, if any, of one client after
 -- those seen before.
@@ -154,18 +195,22 @@ abbrev pub Does : Result Outcome WorldFault → WorldState → Result Stepped Wo
 Does wanted old (Ok s) new = wanted ≡ Ok (outcome_of s new)
 Does wanted old (Err fault) new = (wanted ≡ Err fault) × (new ≡ old)
 
--- a world and its plan, which gives the quorum of each ticket
+-- a world and its plans, which give the quorum of each ticket
 pub record Planned : Type 0 where
-  pub plan : Weighted
+  pub plans : PlanPair
   pub state : WorldState
 
--- the quorum that a ticket stands for
+-- the quorum that a ticket of a plan stands for
 abbrev pub quorum_by : Weighted → ℕ → List ℕ
 quorum_by plan ticket = slice_index_or plan.system.quorums (quorum_of_ticket plan ticket) []
 
--- one step of a world with its plan
+-- the quorum that each ticket of these plans stands for
+abbrev pub dealing_of : PlanPair → Dealing
+dealing_of p = record { first = quorum_by p.first; second = option_map quorum_by p.second }
+
+-- one step of a world with its plans
 abbrev pub step_of : Planned → Step → Result Outcome WorldFault
-step_of w s = step (quorum_by w.plan) w.state s
+step_of w s = step (dealing_of w.plans) w.state s
 
 -- the fault is the step's own, or out of memory if the step has none
 abbrev pub Refuses : Result Outcome WorldFault → WorldFault → Type 0

@@ -3,7 +3,9 @@ use Rattle.std.specs.Prelude.{ℕ, ◌≡◌, ◌<◌, true, false, List, [], �
 use Rattle.std.specs.List.{All}
 use Rattle.numbers.specs.Sets.{IsSet}
 use Rattle.quorum_set.specs.Meetings.{AllMeet}
+use Rattle.quorum_set.specs.declared.bridge.Side.{Side}
 use Rattle.world.specs.declared.step.Event.{Event}
+use Rattle.world.specs.Steps.{Dealing, quorum_dealt}
 
 -- these events may follow while this client, or nobody, is inside
 abbrev pub GoesOn : Option ℕ → List Event → Type 0
@@ -26,6 +28,6 @@ pub record DoMeet (voters : ℕ) (quorums : List (List ℕ)) : Type 0 where
 abbrev pub IsAmong : List (List ℕ) → List ℕ → Type 0
 IsAmong quorums q = (j : ℕ) × (j < length quorums) × (q ≡ slice_index_or quorums j [])
 
--- each ticket stands for one of the quorums
-abbrev pub DealsFrom : List (List ℕ) → (ℕ → List ℕ) → Type 0
-DealsFrom quorums deal = (ticket : ℕ) → IsAmong quorums (deal ticket)
+-- each ticket of each plan stands for one of the quorums
+abbrev pub DealsFrom : List (List ℕ) → Dealing → Type 0
+DealsFrom quorums deal = (side : Side) (ticket : ℕ) → IsAmong quorums (quorum_dealt deal side ticket)

@@ -15,6 +15,9 @@ pub enum WorldFault {
     /// No voter has this number.
     #[error("U3 NoSuchVoter {0}")]
     NoSuchVoter(u8),
+    /// There is no second plan, or it is in use already.
+    #[error("U4 NoSecondPlan")]
+    NoSecondPlan,
     /// The client's call failed.
     #[error(transparent)]
     Client(ClientFault),

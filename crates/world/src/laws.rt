@@ -5,11 +5,11 @@ ghost use Rattle.message.specs.Lines.{HasLine};
 ghost use Rattle.world.specs.declared.step.Step.{Step};
 ghost use Rattle.world.specs.Ranges.{AreInRange, IsNumbered, IsSound};
 ghost use Rattle.world.specs.Runs.{AreLimits, DrawsInOrder, IsReached, run_of, start};
-ghost use Rattle.world.specs.Steps.{Adds, Outcome, Planned, WorldState, step};
+ghost use Rattle.world.specs.Steps.{Adds, Dealing, Outcome, Planned, WorldState, step};
 ghost use Rattle.world.specs.Visible.{DealsFrom, DoMeet, IsExclusive};
 
 use dealer::tickets_name_quorums;
-use quorum_set::coteries_meet;
+use quorum_set::{bridges_meet, coteries_meet};
 use requester::{requesters_meet_the_contract, requesters_stay_sound};
 use voter::{
     grants_are_numbered, replies_carry_what_was_seen, replies_tell_the_state,
@@ -18,7 +18,7 @@ use voter::{
 
 /// Every list of steps keeps a world sound, as long as any two quorums share a voter.
 fn runs_are_sound()
-    ensures { (voters clients limit : ℕ) (quorums : List (List ℕ)) (deal : ℕ → List ℕ) (steps : List Step)
+    ensures { (voters clients limit : ℕ) (quorums : List (List ℕ)) (deal : Dealing) (steps : List Step)
         → AreLimits voters clients limit → DoMeet voters quorums → DealsFrom quorums deal
         → IsSound voters clients limit (run_of deal steps (start voters clients limit)) }
 {
@@ -35,9 +35,10 @@ fn runs_are_sound()
 /// At most one client is inside at a time, whoever asks, leaves or gives up, and whether messages
 /// arrive late, repeatedly or never.
 ///
-/// This holds as long as any two quorums share a voter, whichever quorum each ticket stands for.
+/// This holds as long as any two quorums share a voter, whichever quorum each ticket stands for. If
+/// there are two plans, these are the quorums of both together, and a plan may be exchanged.
 pub fn at_most_one_is_inside()
-    ensures { (voters clients limit : ℕ) (quorums : List (List ℕ)) (deal : ℕ → List ℕ) (steps : List Step)
+    ensures { (voters clients limit : ℕ) (quorums : List (List ℕ)) (deal : Dealing) (steps : List Step)
         → AreLimits voters clients limit → DoMeet voters quorums → DealsFrom quorums deal
         → IsExclusive (run_of deal steps (start voters clients limit)).visible }
 {
@@ -47,7 +48,7 @@ pub fn at_most_one_is_inside()
 /// Every message that is ever sent names a client and a voter of the world. Its stamp and its grant
 /// are from 1 to the limit, and the highest stamp that its voter saw is at most the limit.
 pub fn messages_are_in_range()
-    ensures { (voters clients limit : ℕ) (quorums : List (List ℕ)) (deal : ℕ → List ℕ) (steps : List Step)
+    ensures { (voters clients limit : ℕ) (quorums : List (List ℕ)) (deal : Dealing) (steps : List Step)
         → AreLimits voters clients limit → DoMeet voters quorums → DealsFrom quorums deal
         → AreInRange voters clients limit (run_of deal steps (start voters clients limit)).sent }
 {
@@ -57,7 +58,7 @@ pub fn messages_are_in_range()
 /// A step keeps all messages sent and all events seen before. It adds as many messages as it
 /// reports, and the event, if any, of one client.
 pub fn steps_add()
-    ensures { (deal : ℕ → List ℕ) (w : WorldState) (s : Step) (o : Outcome) → step deal w s ≡ Ok o → Adds w o }
+    ensures { (deal : Dealing) (w : WorldState) (s : Step) (o : Outcome) → step deal w s ≡ Ok o → Adds w o }
 {}
 
 /// What holds of every world that a list of steps made from a new one.
@@ -65,9 +66,11 @@ pub(crate) fn worlds_stay_sound()
     ensures exclusive { (w : Planned) → IsReached w → IsExclusive w.state.visible }
     ensures lines { (w : Planned) → IsReached w → AllByRecursion HasLine w.state.sent }
     ensures draws { (w : Planned) → IsReached w → DrawsInOrder w.state.draws }
+    ensures draws2 { (w : Planned) → IsReached w → DrawsInOrder w.state.draws2 }
     ensures numbered { (w : Planned) → IsReached w → IsNumbered w.state }
 {
     runs_are_sound();
     coteries_meet();
+    bridges_meet();
     tickets_name_quorums();
 }

@@ -10,6 +10,11 @@
 //! that loses, repeats and delays. [`run`] runs a whole list of steps in a new world; a [`World`]
 //! runs them one by one.
 //!
+//! A world has one plan, or two over a bridge: each quorum of one has a common voter with each
+//! quorum of the other. [`Step::Exchange`] exchanges the first plan for the second, whatever is
+//! under way. Later asks draw tickets of the second plan; requests that began before it keep their
+//! quorums.
+//!
 //! # What is proved
 //!
 //! - A step is exactly the definition in `specs/Steps.antt`, which is made of the steps of `voter`
@@ -17,18 +22,20 @@
 //!   other fault applies.
 //! - **At most one client is inside**, over every list of steps: the events of [`run`] read enter
 //!   c, leave c, enter d, leave d, .. The law [`at_most_one_is_inside`] says so as long as any two
-//!   quorums share a voter, whichever quorum each ticket stands for.
+//!   quorums share a voter, whichever quorum each ticket stands for. It also holds while a plan is
+//!   exchanged.
+//! - The tickets of each plan are drawn in order, from 0 on.
 //! - Every message names a client and a voter of the world, and has its numbers in range
 //!   ([`messages_are_in_range`]). So each message has a line of text.
 //!
 //! It is not promised that anybody enters.
 //!
-//! Depends on `dealer`, whose cycle gives the quorums, and on `voter` and `requester`. It also
+//! Depends on `dealer`, whose cycles give the quorums, and on `voter` and `requester`. It also
 //! depends on `message`, `certificate`, `quorum_set` and `numbers`.
 //!
 //! ```
 //! // Two of three voters, two clients, stamps up to 1000:
-//! let mut world = World::new(alloc, plan, 2, 1000)?;
+//! let mut world = World::new(alloc, Plans::single(plan), 2, 1000)?;
 //! let stepped = world.step(Step::Ask(0))?;   // stepped.sent: 2
 //! world.message(1);                          // REQUEST with stamp 1 to voter 1
 //! world.step(Step::Deliver(1))?;             // voter 1 answers LOCKED: message 2
@@ -36,6 +43,7 @@
 //! ```
 #![tactic(auto)]
 
+mod cycles;
 mod fault;
 mod laws;
 mod lists;

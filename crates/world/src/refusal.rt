@@ -1,15 +1,16 @@
 //! Faults of a step, found before it is made. So a step fails with `OutOfMemory` only if no other
 //! fault applies.
-ghost use Rattle.std.specs.Prelude.{◌≡◌, ◌<◌, ℕ, List, length, is_none};
+ghost use Rattle.std.specs.Prelude.{◌≡◌, ◌<◌, length, is_none};
 ghost use Rattle.numbers.specs.Bounds.{max_clients};
 ghost use Rattle.requester.specs.Steps.{Foretells};
 ghost use Rattle.voter.specs.Steps as polls;
 ghost use Rattle.world.specs.declared.step.Step.TheVariants as steps;
 ghost use Rattle.world.specs.Ranges.{IsNumbered};
-ghost use Rattle.world.specs.States.{shown};
+ghost use Rattle.world.specs.States.{plans_of, shown};
 ghost use Rattle.world.specs.Steps as worlds;
-ghost use Rattle.world.specs.Steps.{voter_at};
+ghost use Rattle.world.specs.Steps.{Dealing, dealing_of, voter_at};
 
+use crate::cycles::Cycles;
 use crate::fault::WorldFault;
 use crate::moves::{client_of, voter_of};
 use crate::state::State;
@@ -29,7 +30,7 @@ fn is_refused(voters: &[Voter], message: &ToVoter) -> bool
 
 impl State {
     fn ask_fault(&self, client: u8) -> Option<WorldFault>
-        ensures { (deal : ℕ → List ℕ) → Foretells result (worlds.step deal (shown self.now) (steps.Ask client)) }
+        ensures { (deal : Dealing) → Foretells result (worlds.step deal (shown self.now) (steps.Ask client)) }
     {
         if let Some(fault) = self.client_fault(client) {
             return Some(fault);
@@ -42,7 +43,7 @@ impl State {
 
     fn deliver_fault(&self, number: u64) -> Option<WorldFault>
         requires { IsNumbered (shown self.now) }
-        ensures { (deal : ℕ → List ℕ) → Foretells result (worlds.step deal (shown self.now) (steps.Deliver number)) }
+        ensures { (deal : Dealing) → Foretells result (worlds.step deal (shown self.now) (steps.Deliver number)) }
     {
         match self.message(number) {
             None => Some(WorldFault::NoSuchMessage(number)),
@@ -58,7 +59,7 @@ impl State {
     }
 
     fn leave_fault(&self, client: u8) -> Option<WorldFault>
-        ensures { (deal : ℕ → List ℕ) → Foretells result (worlds.step deal (shown self.now) (steps.Leave client)) }
+        ensures { (deal : Dealing) → Foretells result (worlds.step deal (shown self.now) (steps.Leave client)) }
     {
         if let Some(fault) = self.client_fault(client) {
             return Some(fault);
@@ -70,7 +71,7 @@ impl State {
     }
 
     fn give_up_fault(&self, client: u8) -> Option<WorldFault>
-        ensures { (deal : ℕ → List ℕ) → Foretells result (worlds.step deal (shown self.now) (steps.GiveUp client)) }
+        ensures { (deal : Dealing) → Foretells result (worlds.step deal (shown self.now) (steps.GiveUp client)) }
     {
         if let Some(fault) = self.client_fault(client) {
             return Some(fault);
@@ -82,23 +83,23 @@ impl State {
     }
 
     fn remind_client_fault(&self, client: u8) -> Option<WorldFault>
-        ensures { (deal : ℕ → List ℕ)
+        ensures { (deal : Dealing)
             → Foretells result (worlds.step deal (shown self.now) (steps.RemindClient client)) }
     {
         self.client_fault(client)
     }
 
     fn remind_voter_fault(&self, voter: u8) -> Option<WorldFault>
-        ensures { (deal : ℕ → List ℕ) → Foretells result (worlds.step deal (shown self.now) (steps.RemindVoter voter)) }
+        ensures { (deal : Dealing) → Foretells result (worlds.step deal (shown self.now) (steps.RemindVoter voter)) }
     {
         self.voter_fault(voter)
     }
 
     /// Returns the fault that the step would have, except out of memory; `None` if it would have
     /// none.
-    pub fn refusal(&self, step: Step) -> Option<WorldFault>
+    pub fn refusal(&self, cycles: &Cycles, step: Step) -> Option<WorldFault>
         requires { IsNumbered (shown self.now) }
-        ensures { (deal : ℕ → List ℕ) → Foretells result (worlds.step deal (shown self.now) step) }
+        ensures { Foretells result (worlds.step (dealing_of (plans_of cycles.now)) (shown self.now) step) }
     {
         match step {
             Step::Ask(client) => self.ask_fault(client),
@@ -107,6 +108,7 @@ impl State {
             Step::GiveUp(client) => self.give_up_fault(client),
             Step::RemindClient(client) => self.remind_client_fault(client),
             Step::RemindVoter(voter) => self.remind_voter_fault(voter),
+            Step::Exchange => self.exchange_fault(cycles.are_two()),
         }
     }
 }

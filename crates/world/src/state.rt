@@ -1,26 +1,26 @@
 //! The state of a world, and its steps once there is room for them.
-ghost use Rattle.std.specs.Prelude.{◌≡◌, ◌<◌, ◌≤◌, ◌+◌, ◌++◌, ℕ, List, IfNone, IfSome, OnOk, length, map, slice_get, vec_capacity, vec_len};
+ghost use Rattle.std.specs.Prelude.{◌≡◌, ◌<◌, ◌≤◌, ◌+◌, ◌++◌, Err, IfNone, IfSome, OnOk, length, true, map, slice_get, vec_capacity, vec_len};
 ghost use Rattle.numbers.specs.Bounds.{max_voters, max_clients};
 ghost use Rattle.message.specs.declared.message.Message.TheVariants as kinds;
 ghost use Rattle.world.specs.declared.step.Step.TheVariants as steps;
 ghost use Rattle.requester.specs.Steps.Cause.{Takes};
 ghost use Rattle.world.specs.Ranges.{IsNumbered};
-ghost use Rattle.world.specs.States.{HasRoom, shown};
+ghost use Rattle.world.specs.States.{HasRoom, plans_of, shown};
 ghost use Rattle.world.specs.Steps as worlds;
-ghost use Rattle.world.specs.Steps.{Does, act, client_at, events, quorum_by, vote, voter_at};
+ghost use Rattle.world.specs.Steps.{Dealing, Does, WorldState, act, client_at, dealing_of, events, exchange, next_ticket, quorum_dealt, vote, voter_at};
 
+use crate::cycles::Cycles;
 use crate::fault::WorldFault;
 use crate::lists::{draw, note, send_to_clients, send_to_voters};
 use crate::moves;
 use crate::step::{Event, Step, Stepped};
-use dealer::Cycle;
 use message::{Message, ToClient, ToVoter};
-use quorum_set::QSet;
+use quorum_set::{QSet, Side};
 use requester::{Messages, Requester, Seen};
 use std::alloc::AllocError;
 use voter::{Replies, Voter};
 
-/// Everything in a world except its plan.
+/// Everything in a world except its plans.
 #[derive(Drop)]
 pub struct State {
     /// The clients, by number.
@@ -29,8 +29,12 @@ pub struct State {
     pub voters: Vec<Voter>,
     /// Every message that was ever sent, by number.
     pub sent: Vec<Message>,
-    /// Who drew a ticket, and which one, in order.
+    /// Who drew a ticket of the first plan, and which one, in order.
     pub draws: Vec<(u8, u64)>,
+    /// Who drew a ticket of the second plan, and which one, in order.
+    pub draws2: Vec<(u8, u64)>,
+    /// The plan in use.
+    pub side: Side,
     /// Who entered and who left, in order.
     pub visible: Vec<Event>,
     /// A buffer for the messages of a client's step, before they are appended to `sent`.
@@ -47,6 +51,7 @@ impl State {
     {
         self.sent.reserve(128)?;
         self.draws.reserve(1)?;
+        self.draws2.reserve(1)?;
         self.visible.reserve(1)
     }
 
@@ -55,6 +60,16 @@ impl State {
         ensures { result ≡ slice_get self.now.sent.items number }
     {
         self.sent.get(number as usize).copied()
+    }
+
+    /// Returns the next ticket of the plan in use.
+    fn next_ticket(&self) -> u64
+        ensures { result ≡ next_ticket (shown self.now) }
+    {
+        match self.side {
+            Side::First => self.draws.len() as u64,
+            Side::Second => self.draws2.len() as u64,
+        }
     }
 
     /// Returns `NoSuchClient` if no client has this number, else `None`.
@@ -83,6 +98,18 @@ impl State {
         }
     }
 
+    /// Returns `NoSecondPlan` if there are not two plans, or the second is in use already, else
+    /// `None`.
+    pub fn exchange_fault(&self, are_two: bool) -> Option<WorldFault>
+        ensures found { IfNone result ((are_two ≡ true) × (self.now.side ≡ Side.First)) }
+        ensures missing { IfSome result (λ fault. (w : WorldState) → exchange are_two self.now.side w ≡ Err fault) }
+    {
+        match (are_two, self.side) {
+            (true, Side::First) => None,
+            _ => Some(WorldFault::NoSecondPlan),
+        }
+    }
+
     /// Records the step of a client whose messages are in `out`, and returns what the step did.
     fn tell(&mut self, client: u8, seen: Seen) -> Stepped
         requires sent { vec_len self.old.sent + max_voters ≤ vec_capacity self.old.sent }
@@ -105,7 +132,8 @@ impl State {
     fn ask(&mut self, client: u8, quorum: &QSet) -> Result<Stepped, WorldFault>
         requires room { HasRoom self.old }
         requires quorum { 1 ≤ length quorum.now }
-        ensures { (deal : ℕ → List ℕ) → deal (length self.old.draws.items) ≡ quorum.now
+        ensures { (deal : Dealing)
+            → quorum_dealt deal self.old.side (next_ticket (shown self.old)) ≡ quorum.now
             → Does (worlds.step deal (shown self.old) (steps.Ask client)) (shown self.old) result (shown self.new) }
     {
         if let Some(fault) = self.client_fault(client) {
@@ -113,7 +141,10 @@ impl State {
         }
         match moves::ask(&mut self.clients, client, quorum, &mut self.out) {
             Ok(seen) => {
-                draw(&mut self.draws, client);
+                match self.side {
+                    Side::First => draw(&mut self.draws, client),
+                    Side::Second => draw(&mut self.draws2, client),
+                }
                 Ok(self.tell(client, seen))
             }
             Err(fault) => Err(WorldFault::Client(fault)),
@@ -122,7 +153,7 @@ impl State {
 
     fn leave(&mut self, client: u8) -> Result<Stepped, WorldFault>
         requires room { HasRoom self.old }
-        ensures { (deal : ℕ → List ℕ)
+        ensures { (deal : Dealing)
             → Does (worlds.step deal (shown self.old) (steps.Leave client)) (shown self.old) result (shown self.new) }
     {
         if let Some(fault) = self.client_fault(client) {
@@ -136,7 +167,7 @@ impl State {
 
     fn give_up(&mut self, client: u8) -> Result<Stepped, WorldFault>
         requires room { HasRoom self.old }
-        ensures { (deal : ℕ → List ℕ)
+        ensures { (deal : Dealing)
             → Does (worlds.step deal (shown self.old) (steps.GiveUp client)) (shown self.old) result (shown self.new) }
     {
         if let Some(fault) = self.client_fault(client) {
@@ -182,7 +213,7 @@ impl State {
     fn deliver(&mut self, number: u64) -> Result<Stepped, WorldFault>
         requires room { HasRoom self.old }
         requires numbered { IsNumbered (shown self.old) }
-        ensures { (deal : ℕ → List ℕ)
+        ensures { (deal : Dealing)
             → Does (worlds.step deal (shown self.old) (steps.Deliver number)) (shown self.old) result (shown self.new) }
     {
         match self.message(number) {
@@ -194,7 +225,7 @@ impl State {
 
     fn remind_client(&mut self, client: u8) -> Result<Stepped, WorldFault>
         requires room { HasRoom self.old }
-        ensures { (deal : ℕ → List ℕ)
+        ensures { (deal : Dealing)
             → Does (worlds.step deal (shown self.old) (steps.RemindClient client))
             (shown self.old) result (shown self.new) }
     {
@@ -211,7 +242,7 @@ impl State {
 
     fn remind_voter(&mut self, voter: u8) -> Result<Stepped, WorldFault>
         requires room { HasRoom self.old }
-        ensures { (deal : ℕ → List ℕ)
+        ensures { (deal : Dealing)
             → Does (worlds.step deal (shown self.old) (steps.RemindVoter voter))
             (shown self.old) result (shown self.new) }
     {
@@ -226,17 +257,29 @@ impl State {
         })
     }
 
+    fn exchange(&mut self, are_two: bool) -> Result<Stepped, WorldFault>
+        ensures { Does (exchange are_two self.old.side (shown self.old)) (shown self.old) result (shown self.new) }
+    {
+        if let Some(fault) = self.exchange_fault(are_two) {
+            return Err(fault);
+        }
+        self.side = Side::Second;
+        Ok(Stepped {
+            sent: 0,
+            seen: Seen::Nothing,
+        })
+    }
+
     /// Makes one step. There has to be room for it.
-    pub fn act(&mut self, cycle: &Cycle, step: Step) -> Result<Stepped, WorldFault>
+    pub fn act(&mut self, cycles: &Cycles, step: Step) -> Result<Stepped, WorldFault>
         requires room { HasRoom self.old }
         requires numbered { IsNumbered (shown self.old) }
-        ensures { Does (worlds.step (quorum_by cycle.now) (shown self.old) step)
+        ensures { Does (worlds.step (dealing_of (plans_of cycles.now)) (shown self.old) step)
             (shown self.old) result (shown self.new) }
     {
         match step {
             Step::Ask(client) => {
-                let ticket = self.draws.len() as u64;
-                let quorum = cycle.plan().coterie().quorum(cycle.quorum_at(ticket));
+                let quorum = cycles.quorum(self.side, self.next_ticket());
                 self.ask(client, quorum)
             }
             Step::Deliver(number) => self.deliver(number),
@@ -244,6 +287,7 @@ impl State {
             Step::GiveUp(client) => self.give_up(client),
             Step::RemindClient(client) => self.remind_client(client),
             Step::RemindVoter(voter) => self.remind_voter(voter),
+            Step::Exchange => self.exchange(cycles.are_two()),
         }
     }
 }

@@ -4,7 +4,8 @@ use requester::Seen;
 /// A step of a world.
 #[derive(Clone, Copy, Debug, PartialEq, Eq)]
 pub enum Step {
-    /// This client draws the next ticket, and asks the quorum that the ticket stands for.
+    /// This client draws the next ticket of the plan in use, and asks the quorum that the ticket
+    /// stands for.
     Ask(u8),
     /// The message with this number arrives. It may have arrived before.
     Deliver(u64),
@@ -16,6 +17,8 @@ pub enum Step {
     RemindClient(u8),
     /// This voter sends its reminder: it repeats what it sent to the holder of its vote.
     RemindVoter(u8),
+    /// The plan is exchanged. Later asks draw tickets of the second plan, from 0 on.
+    Exchange,
 }
 
 /// A client that entered or left.

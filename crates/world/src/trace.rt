@@ -5,13 +5,13 @@ ghost use Rattle.world.specs.declared.fault.WorldFault.TheVariants.{OutOfMemory}
 ghost use Rattle.std.specs.List.{AllByRecursion};
 ghost use Rattle.message.specs.Lines.{HasLine};
 ghost use Rattle.world.specs.Runs.{DrawsInOrder, refusals_of, run_by, start_by};
-ghost use Rattle.world.specs.Steps.{quorum_by};
+ghost use Rattle.world.specs.Steps.{dealing_of};
 ghost use Rattle.world.specs.Visible.{IsExclusive};
 
 use crate::fault::WorldFault;
 use crate::step::{Event, Step};
 use crate::world::World;
-use certificate::Plan;
+use dealer::Plans;
 use message::Message;
 use std::alloc::{AllocError, Global};
 
@@ -20,15 +20,17 @@ use std::alloc::{AllocError, Global};
 pub struct Trace {
     /// Who entered and who left, in order.
     pub visible: Vec<Event>,
-    /// Who drew a ticket, and which one, in order: tickets 0, 1, 2, ..
+    /// Who drew a ticket of the first plan, and which one, in order: tickets 0, 1, 2, ..
     pub draws: Vec<(u8, u64)>,
+    /// Who drew a ticket of the second plan, and which one, in order: tickets 0, 1, 2, ..
+    pub draws2: Vec<(u8, u64)>,
     /// Every message that was sent, by number.
     pub messages: Vec<Message>,
     /// The steps that were refused, with the reason. Places in the list of steps count from 0.
     pub refused: Vec<(usize, WorldFault)>,
 }
 
-/// Runs a list of steps in a new world of this plan, and returns what they did.
+/// Runs a list of steps in a new world of these plans, and returns what they did.
 ///
 /// The world has 1 to 64 clients. Stamps and grants go from 1 to the limit, which is 1 to 2^40. A
 /// step that is refused changes nothing, and the run goes on. At most one client is inside at a
@@ -37,7 +39,7 @@ pub struct Trace {
 /// Fails only if it runs out of memory.
 pub fn run(
     alloc: Global,
-    plan: Plan,
+    plans: Plans,
     clients: u8,
     limit: u64,
     steps: &[Step],
@@ -46,16 +48,18 @@ pub fn run(
     requires few { clients ≤ max_clients }
     requires least { 1 ≤ limit }
     requires most { limit ≤ max_stamp }
-    ensures visible { IfOk result (λ trace. trace.visible.items ≡ (run_by plan clients limit steps.now).visible) }
-    ensures draws { IfOk result (λ trace. trace.draws.items ≡ (run_by plan clients limit steps.now).draws) }
-    ensures messages { IfOk result (λ trace. trace.messages.items ≡ (run_by plan clients limit steps.now).sent) }
+    ensures visible { IfOk result (λ trace. trace.visible.items ≡ (run_by plans clients limit steps.now).visible) }
+    ensures draws { IfOk result (λ trace. trace.draws.items ≡ (run_by plans clients limit steps.now).draws) }
+    ensures draws2 { IfOk result (λ trace. trace.draws2.items ≡ (run_by plans clients limit steps.now).draws2) }
+    ensures messages { IfOk result (λ trace. trace.messages.items ≡ (run_by plans clients limit steps.now).sent) }
     ensures refused { IfOk result (λ trace.
-        trace.refused.items ≡ refusals_of (quorum_by plan) 0 steps.now (start_by plan clients limit)) }
+        trace.refused.items ≡ refusals_of (dealing_of plans) 0 steps.now (start_by plans clients limit)) }
     ensures exclusive { IfOk result (λ trace. IsExclusive trace.visible.items) }
     ensures lines { IfOk result (λ trace. AllByRecursion HasLine trace.messages.items) }
     ensures tickets { IfOk result (λ trace. DrawsInOrder trace.draws.items) }
+    ensures tickets2 { IfOk result (λ trace. DrawsInOrder trace.draws2.items) }
 {
-    let mut world = World::new(alloc, plan, clients, limit)?;
+    let mut world = World::new(alloc, plans, clients, limit)?;
     let mut refused = Vec::new(alloc);
     for (place, step) in steps.iter().enumerate() {
         match world.step(*step) {

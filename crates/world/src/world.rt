@@ -9,15 +9,16 @@ ghost use Rattle.world.specs.Runs.{DrawsInOrder, start_by};
 ghost use Rattle.world.specs.Steps.{Refuses, outcome_of, step_of};
 ghost use Rattle.world.specs.Visible.{IsExclusive};
 
+use crate::cycles::Cycles;
 use crate::fault::WorldFault;
 use crate::laws::worlds_stay_sound;
 use crate::state::State;
 use crate::step::{Event, Step, Stepped};
 use crate::trace::Trace;
 use arrayvec::ArrayVec;
-use certificate::Plan;
-use dealer::Cycle;
+use dealer::Plans;
 use message::Message;
+use quorum_set::Side;
 use requester::Requester;
 use std::alloc::{AllocError, Global};
 use std::marker::Model;
@@ -25,17 +26,17 @@ use voter::Voter;
 
 /// The clients and the voters of one lock, and every message that was ever sent.
 ///
-/// Contracts see it as a `Planned`: the plan, which gives the quorum of each ticket, and a
+/// Contracts see it as a `Planned`: the plans, which give the quorum of each ticket, and a
 /// `WorldState`.
 #[derive(Drop)]
 pub struct World {
-    cycle: Cycle,
+    cycles: Cycles,
     state: State,
 }
 
 impl Model for World {
     ghost use Rattle.world.specs.Runs.{IsReached};
-    ghost use Rattle.world.specs.States.{shown};
+    ghost use Rattle.world.specs.States.{plans_of, shown};
     ghost use Rattle.std.specs.Coded.{codes};
     ghost use Rattle.voter.specs.contracts.state.VoterState as known;
     ghost use Rattle.world.specs.Steps.{Planned};
@@ -44,40 +45,39 @@ impl Model for World {
 
     ghost coded = { Prim.hlevel (codes, known.the_row.coded) };
 
-    ghost view = { λ a. record { plan = a.cycle; state = shown a.state } };
+    ghost view = { λ a. record { plans = plans_of a.cycles; state = shown a.state } };
 
-    ghost invariant = { λ a. IsReached (record { plan = a.cycle; state = shown a.state }) };
+    ghost invariant = { λ a. IsReached (record { plans = plans_of a.cycles; state = shown a.state }) };
 }
 
 impl World {
-    /// Returns a new world, with a new voter for each voter of the plan and 1 to 64 new clients.
+    /// Returns a new world, with a new voter for each voter of the plans and 1 to 64 new clients.
     /// Stamps and grants go from 1 to the limit, which is 1 to 2^40. Fails only if it runs out of
     /// memory.
-    pub fn new(alloc: Global, plan: Plan, clients: u8, limit: u64) -> Result<World, AllocError>
+    pub fn new(alloc: Global, plans: Plans, clients: u8, limit: u64) -> Result<World, AllocError>
         requires some { 1 ≤ clients }
         requires few { clients ≤ max_clients }
         requires least { 1 ≤ limit }
         requires most { limit ≤ max_stamp }
-        ensures { IfOk result (λ world. world ≡ record { plan = plan; state = start_by plan clients limit }) }
+        ensures { IfOk result (λ world. world ≡ record { plans = plans; state = start_by plans clients limit }) }
     {
-        let _ = plan.cycle_len();
-        let voters = new_voters(alloc, plan.coterie().voters(), limit)?;
+        let cycles = Cycles::of(alloc, plans)?;
+        let voters = new_voters(alloc, cycles.voters(), limit)?;
         let clients = new_clients(alloc, clients, limit)?;
-        match Cycle::of(alloc, plan) {
-            Ok(cycle) => Ok(World {
-                cycle,
-                state: State {
-                    clients,
-                    voters,
-                    sent: Vec::new(alloc),
-                    draws: Vec::new(alloc),
-                    visible: Vec::new(alloc),
-                    out: ArrayVec::new(),
-                    replies: ArrayVec::new(),
-                },
-            }),
-            Err((_, error)) => Err(error),
-        }
+        Ok(World {
+            cycles,
+            state: State {
+                clients,
+                voters,
+                sent: Vec::new(alloc),
+                draws: Vec::new(alloc),
+                draws2: Vec::new(alloc),
+                side: Side::First,
+                visible: Vec::new(alloc),
+                out: ArrayVec::new(),
+                replies: ArrayVec::new(),
+            },
+        })
     }
 
     /// Makes one step, and returns what it did. A step that fails changes nothing.
@@ -85,6 +85,7 @@ impl World {
     /// Fails with the first of these that applies:
     ///
     /// - U1 to U3 if no message, client or voter has the step's number;
+    /// - U4 if the step exchanges the plan, and there is no second one or it is in use already;
     /// - C1 to C4 if the client's call fails;
     /// - V1 if the voter refuses the message;
     /// - O1 if out of memory.
@@ -92,17 +93,17 @@ impl World {
         ensures stepped { IfOk result (λ s. step_of self.old step ≡ Ok (outcome_of s self.new.state)) }
         ensures refused { IfErr result (Refuses (step_of self.old step)) }
         ensures unchanged { OnErr result (self.new ≡ self.old) }
-        ensures plan { self.new.plan ≡ self.old.plan }
+        ensures plans { self.new.plans ≡ self.old.plans }
         ensures exclusive { IsExclusive self.new.state.visible }
     {
         worlds_stay_sound();
-        if let Some(fault) = self.state.refusal(step) {
+        if let Some(fault) = self.state.refusal(&self.cycles, step) {
             return Err(fault);
         }
         if self.state.make_room().is_err() {
             return Err(WorldFault::OutOfMemory);
         }
-        self.state.act(&self.cycle, step)
+        self.state.act(&self.cycles, step)
     }
 
     /// Returns how many messages were sent.
@@ -136,17 +137,20 @@ impl World {
     pub(crate) fn into_trace(self, refused: Vec<(usize, WorldFault)>) -> Trace
         ensures visible { result.visible.items ≡ self.state.visible }
         ensures draws { result.draws.items ≡ self.state.draws }
+        ensures draws2 { result.draws2.items ≡ self.state.draws2 }
         ensures messages { result.messages.items ≡ self.state.sent }
         ensures refused { result.refused ≡ refused }
         ensures exclusive { IsExclusive result.visible.items }
         ensures lines { AllByRecursion HasLine result.messages.items }
         ensures tickets { DrawsInOrder result.draws.items }
+        ensures tickets2 { DrawsInOrder result.draws2.items }
     {
         worlds_stay_sound();
         let state = self.state;
         Trace {
             visible: state.visible,
             draws: state.draws,
+            draws2: state.draws2,
             messages: state.sent,
             refused,
         }

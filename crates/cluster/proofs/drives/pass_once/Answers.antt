@@ -2,13 +2,20 @@ use Rattle.std.proofs.Common.{ap, ◌∙◌}
 use Rattle.requester.specs.declared.state.ClientState.{ClientState}
 use Rattle.cluster.specs.Drives.{KeepsWork}
 use Rattle.members.specs.Members.{MemberState}
-use Rattle.cluster.proofs.DriveLemmas.{Worked-draw, Stops-refused_pass}
+use Rattle.cluster.proofs.DriveLemmas.{Worked-draw, Worked-pass, Stops-refused_pass}
 use Rattle.cluster.proofs.drives.pass_once.Goals as goal
+
+pub returns-in_default-clause-stopped : goal.returns-in_default-clause-stopped
+returns-in_default-clause-stopped g c =
+    let told = c.in_ok-ask.ensures in
+    let one = Worked-draw c.args.member.now c.ask.new.self c.enter.new.member c.in_ok-ask.field-0 told.may.2 told.client told.receipt told.seat c.enter.ensures.kept in
+    (one.0, one.1, (c.client-client.ensures.value, told.may.2))
 
 pub returns-in_default-wait_at-clause-stopped : goal.returns-in_default-wait_at-clause-stopped
 returns-in_default-wait_at-clause-stopped g c =
     let told = c.in_ok-ask.ensures in
-    (Worked-draw c.args.member.now c.ask.new.self c.enter.new.member c.in_ok-ask.field-0 told.may.2 told.client told.receipt told.seat c.enter.ensures.kept, (c.client-client.ensures.value, told.may.2))
+    let one = Worked-draw c.args.member.now c.ask.new.self c.enter.new.member c.in_ok-ask.field-0 told.may.2 told.client told.receipt told.seat c.enter.ensures.kept in
+    (one.0, one.1, (c.client-client.ensures.value, told.may.2))
 
 pub returns-in-Err-clause-stopped : goal.returns-in-Err-clause-stopped
 returns-in-Err-clause-stopped g c =
@@ -17,9 +24,19 @@ returns-in-Err-clause-stopped g c =
     let stays = c.in-Err.ensures in
     let after : KeepsWork c.ask.new.self c.pass.new.self = record {
       client = ap (λ (x : ClientState). x.id) stays.requester ∙ kept.client;
-      clerk = stays.clerk ∙ kept.clerk;
+      clerks = stays.clerks ∙ kept.clerks;
       passes = ap (λ (m : MemberState). m.seat.passes) stays.kept ∙ kept.passes;
       fault = stays.fault ∙ kept.fault;
     } in
-    let drawn = Worked-draw c.args.member.now c.ask.new.self c.pass.new.self c.in_ok-ask.field-0 told.may.2 told.client told.receipt told.seat after in
-    Stops-refused_pass c.args.member.now c.enter.new.member c.pass.new.self c.in-Err.fault told.may.2 drawn c.in-Some.ensures.entered.1 stays.refused
+    let one = Worked-draw c.args.member.now c.ask.new.self c.pass.new.self c.in_ok-ask.field-0 told.may.2 told.client told.receipt told.seat after in
+    Stops-refused_pass c.args.member.now c.enter.new.member c.pass.new.self c.in-Err.fault told.may.2 one c.in-Some.ensures.entered.1 stays.refused
+
+pub returns-clause-passed : goal.returns-clause-passed
+returns-clause-passed g c =
+    let told = c.in_ok-ask.ensures in
+    let passed = c.in-Ok.ensures in
+    let left = c.in-Ok-leave.ensures in
+    let one = Worked-draw c.args.member.now c.ask.new.self c.enter.new.member c.in_ok-ask.field-0 told.may.2 told.client told.receipt told.seat c.enter.ensures.kept in
+    let all = Worked-pass c.args.member.now c.enter.new.member c.leave.new.self c.in-Ok.field-0 one
+    (left.client ∙ ap (λ (x : ClientState). x.id) passed.requester) (left.clerks ∙ passed.clerks) (left.passes ∙ ap (λ (m : MemberState). m.seat.passes) passed.passed) in
+    (all.0, all.1, left.idle)

@@ -1,23 +1,20 @@
-use Rattle.std.proofs.Common.{◌+◌, sym, subst, arith}
-use Rattle.members.specs.Members.{MemberState}
-use Rattle.cluster.specs.Drives.{TookTurns, WasLet, wasted}
-use Rattle.cluster.proofs.DriveLemmas.{IsBack-stopped, Worked-stopped, TookTurns-Worked, WasLet-Worked}
+use Rattle.cluster.proofs.DriveLemmas.{IsBack-early, IsBack-then, TookTurns-then, WasLet-then}
 use Rattle.cluster.proofs.drives.serve.Goals as goal
 
-pub returns-in-Err-clause-back : goal.returns-in-Err-clause-back
-returns-in-Err-clause-back g c =
-    IsBack-stopped c.args.passes c.loop.counter c.args.member.now c.loop.member c.pass_once.new.member c.end.new.member c.ends_by-in-Err.new.self c.in-Err.fault
-    c.loop.invariant.0 c.loop-test.true c.in-Err.ensures.stopped c.end.ensures.kept c.end.ensures.idle c.ends_by-in-Err.ensures
+pub returns-in_default-clause-back : goal.returns-in_default-clause-back
+returns-in_default-clause-back g c = IsBack-early c.args.passes c.args.member.now c.serve_on.new.member c.in_default.ensures.ended
 
-pub returns-in-Err-clause-let_pass : goal.returns-in-Err-clause-let_pass
-returns-in-Err-clause-let_pass g c =
-    let fault = c.in-Err.fault in
-    let worked = Worked-stopped c.loop.counter c.args.member.now c.loop.member c.pass_once.new.member c.end.new.member fault c.loop.invariant.0 c.in-Err.ensures.stopped c.end.ensures.kept in
-    let lets = g.G.Gate.lets c.args.gate.now in
-    subst (λ (m : MemberState). WasLet lets c.args.member.now m) (sym c.ends_by-in-Err.ensures) (WasLet-Worked lets (c.loop.counter + wasted fault) c.loop.counter c.args.member.now _ worked c.loop.invariant.2)
+pub returns-clause-back : goal.returns-clause-back
+returns-clause-back g c =
+    IsBack-then c.args.passes c.args.member.now c.serve_on.new.member c.exchange.new.member c.serve_on-2.new.member c.serve_on-2.result
+    c.in-Some.ensures.served c.exchange.ensures c.serve_on-2.ensures.served c.serve_on-2.ensures.ended
 
-pub returns-in-Err-clause-in_turns : goal.returns-in-Err-clause-in_turns
-returns-in-Err-clause-in_turns g c =
-    let fault = c.in-Err.fault in
-    let worked = Worked-stopped c.loop.counter c.args.member.now c.loop.member c.pass_once.new.member c.end.new.member fault c.loop.invariant.0 c.in-Err.ensures.stopped c.end.ensures.kept in
-    subst (λ (m : MemberState). TookTurns c.args.turns c.args.member.now m) (sym c.ends_by-in-Err.ensures) (TookTurns-Worked c.args.turns (c.loop.counter + wasted fault) c.loop.counter c.args.member.now _ worked (omega (arith, c.loop.invariant.1)))
+pub returns-clause-let_pass : goal.returns-clause-let_pass
+returns-clause-let_pass g c =
+    WasLet-then (g.G.Gate.lets c.args.gate.now) c.args.member.now c.serve_on.new.member c.exchange.new.member c.serve_on-2.new.member
+    c.serve_on.ensures.let_pass c.exchange.ensures c.serve_on-2.ensures.client c.serve_on-2.ensures.let_pass
+
+pub returns-clause-in_turns : goal.returns-clause-in_turns
+returns-clause-in_turns g c =
+    TookTurns-then c.args.turns c.in-Some.left _ c.args.member.now c.serve_on.new.member c.exchange.new.member c.serve_on-2.new.member
+    c.in-Some.ensures.served c.exchange.ensures c.in-Some.ensures.left c.serve_on-2.ensures.in_turns

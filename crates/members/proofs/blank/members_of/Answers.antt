@@ -1,11 +1,19 @@
-use Rattle.std.proofs.Common.{◌≡◌, ℕ, ◌-◌, ◌<◌, [], ◌∷◌, ◌++◌, false, get_or, sym, ap, ◌∙◌, arith}
+use Rattle.std.proofs.Common.{◌≡◌, ◌-◌, ◌<◌, ◌≤◌, IfSome, subst, [], ◌∷◌, ◌++◌, false, get_or, sym, ap, ◌∙◌, arith}
 use Rattle.std.proofs.lemmas.List.{get_or-set_other}
 use Rattle.std.proofs.lemmas.List.FromFn.{map-range_with_len_more}
 use Rattle.board.specs.Seats.{RootState}
-use Rattle.dealer.specs.Offices.{ClerkState}
+use Rattle.members.specs.Clerks.{ClerksState, fresh_clerks, less_each}
+use Rattle.members.specs.Clusters.{names_in}
+use Rattle.members.proofs.ClerkLemmas.{less_each-fresh, rest-fresh}
 use Rattle.members.specs.Members.{fresh_member}
-use Rattle.members.proofs.BlankLemmas.{mul-less_one}
+use Rattle.members.proofs.BlankLemmas.{le-quotas_left, mul-less_one}
 use Rattle.members.proofs.blank.members_of.Goals as goal
+
+pub split-part-requires-clause-second : goal.split-part-requires-clause-second
+split-part-requires-clause-second g c =
+    let quota = c.args.quota in
+    subst (λ (k : ClerksState). IfSome k.second (λ x. quota ≤ x.rest)) (sym c.loop-client.invariant.clerks)
+    (rest-fresh (names_in g.N.ClusterName.cluster) _ quota (le-quotas_left c.args.clients c.loop-client.client quota c.loop-client-test.true))
 
 pub loop-client-preserved : goal.loop-client-preserved
 loop-client-preserved g c =
@@ -15,6 +23,7 @@ loop-client-preserved g c =
     let less : i < n = c.loop-client-test.true in
     let left = c.client-seat.ensures.left in
     let cluster = g.N.ClusterName.cluster in
+    let names = names_in cluster in
     let kept = c.split-part.ensures.kept in
     let made : c.new.result ≡ fresh_member cluster i = c.new.ensures ∙ ap (fresh_member cluster) (ap (λ s. s.client) c.client-seat.ensures.given) in
     record {
@@ -25,7 +34,7 @@ loop-client-preserved g c =
           ap (λ (r : RootState). get_or r.clients k false) left
           ∙ get_or-set_other c.loop-client.root.clients i k false false (λ e. absurd (omega (arith, above, e)))
           ∙ inv.there k (omega (arith, above));
-      clerk = kept ∙ ap (λ (k : ClerkState). record { office = k.office; rest = k.rest - c.args.quota; receipts = k.receipts }) inv.clerk
-          ∙ ap (λ (r : ℕ). record { office = c.args.office.now.name; rest = r; receipts = [] }) (mul-less_one n i c.args.quota less);
+      clerks = kept ∙ ap (λ (k : ClerksState). less_each k c.args.quota) inv.clerks ∙ less_each-fresh names _ c.args.quota
+          ∙ ap (fresh_clerks names) (mul-less_one n i c.args.quota less);
       members = c.in_ok-push.ensures.items ∙ (λ j. inv.members j ++ made j ∷ []) ∙ sym (map-range_with_len_more (fresh_member cluster) 0 i i (omega arith));
     }

@@ -1,4 +1,4 @@
-use Rattle.std.proofs.Common.{◌≡◌, ◌<◌, ap, sym, ◌∙◌, subst, arith}
+use Rattle.std.proofs.Common.{ap, sym, ◌∙◌, arith}
 use Rattle.dealer.specs.Offices.{ClerkState, share_of}
 use Rattle.qlock_cli.proofs.DealingLemmas.{after_draws-more, share_of-after_draws}
 use Rattle.qlock_cli.proofs.dealing.draw_all.Goals as goal

@@ -1,5 +1,8 @@
-use Rattle.replay.proofs.RunLemmas.{IsSoundRecord-run}
+use Rattle.replay.proofs.RunLemmas.{IsSoundRecord-first, IsSoundRecord-second}
 use Rattle.replay.proofs.laws.records_of_runs_are_sound.Goals as goal
 
-pub returns : goal.returns
-returns c = IsSoundRecord-run
+pub returns-clause-first : goal.returns-clause-first
+returns-clause-first c = IsSoundRecord-first
+
+pub returns-clause-second : goal.returns-clause-second
+returns-clause-second c = IsSoundRecord-second

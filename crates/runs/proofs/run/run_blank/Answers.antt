@@ -1,4 +1,4 @@
-use Rattle.std.proofs.Common.{◌≤◌, sym, subst}
+use Rattle.std.proofs.Common.{◌≤◌, ◌∙◌, ap, sym, subst}
 use Rattle.members.specs.Clusters.{ClusterState, IsCluster}
 use Rattle.certificate.specs.Certificates.{IsCertificate}
 use Rattle.members.specs.Closes.{RefusesClose}
@@ -9,8 +9,9 @@ use Rattle.runs.proofs.run.run_blank.Goals as goal
 pub returns-in-Err-clause-ended : goal.returns-in-Err-clause-ended
 returns-in-Err-clause-ended g c =
     let cluster = g.N.ClusterName.cluster in
+    let alone = ap (λ (x : ClusterState). x.second) (sym c.requires.name) ∙ c.requires.alone in
     let quota = subst (λ (x : ClusterState). c.args.passes ≤ x.quota) c.requires.name c.requires.quota in
-    let ended = EndsRun-driven cluster c.args.passes c.in-Ok.members.items c.in-Err.driven.members.items c.in-Err.driven.fault c.in-Ok.ensures.members quota c.in-Err.ensures.back c.in-Err.ensures.least in
+    let ended = EndsRun-driven cluster c.args.passes c.in-Ok.members.items c.in-Err.driven.members.items c.in-Err.driven.fault alone c.in-Ok.ensures.members quota c.in-Err.ensures.back c.in-Err.ensures.least in
     subst (λ (x : ClusterState). EndsRun x.board.clients c.from.result) (sym c.requires.name) (subst (EndsRun cluster.board.clients) (sym c.from.ensures) ended)
 
 pub returns-in-Ok-close-clause-run : goal.returns-in-Ok-close-clause-run
@@ -20,12 +21,13 @@ returns-in-Ok-close-clause-run g c =
     let run = c.in-Ok-close.run' in
     let is = c.in-Ok-close.ensures.record in
     let served = c.in-Ok-drive.ensures.served in
+    let alone = ap (λ (x : ClusterState). x.second) (sym c.requires.name) ∙ c.requires.alone in
     let whole : IsCluster cluster = subst IsCluster c.requires.name c.requires.cluster in
     let plan : IsCertificate cluster.office.cycle = subst (λ (x : ClusterState). IsCertificate x.office.cycle) c.requires.name c.requires.plan in
-    let made = run_of cluster c.args.passes c.in-Ok.members.items after run c.in-Ok.ensures.members served whole.quorums is
-    (c.records_of_runs_are_sound.ensures cluster after run is)
+    let made = run_of cluster c.args.passes c.in-Ok.members.items after run alone c.in-Ok.ensures.members served whole.firsts is
+    (c.records_of_runs_are_sound.ensures.first cluster after run is)
     (c.records_count_passes.ensures.draws cluster after run is)
-    (c.records_count_passes.ensures.evenly cluster after run c.args.passes is (All-passed cluster c.args.passes c.in-Ok.members.items after c.in-Ok.ensures.members served))
+    (c.records_count_passes.ensures.evenly cluster after run c.args.passes is (All-passed cluster c.args.passes c.in-Ok.members.items after alone c.in-Ok.ensures.members served))
     (c.records_are_in_range.ensures.quorums cluster after run whole plan is) in
     subst (λ (x : ClusterState). IsRun x.office.cycle x.board.clients c.args.passes run) (sym c.requires.name) made
 

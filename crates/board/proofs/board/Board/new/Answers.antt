@@ -1,58 +1,8 @@
-use Rattle.std.proofs.Common.{◌≡◌, length, ◌+◌, ◌<◌, ℕ, true, false, get_or, List, [], ◌∷◌, sym, ap, ◌∙◌, subst, arith}
-use Rattle.std.proofs.lemmas.List.{length-replicate}
-use Rattle.atomic_table.specs.Table.{Me}
-use Rattle.atomic_table.specs.Seated.{TableId}
-use Rattle.board.specs.declared.table.View.{View}
+use Rattle.std.proofs.Common.{ℕ, List, sym, subst}
 use Rattle.quorum_set.specs.Meetings.{AllMeet}
-use Rattle.board.specs.Roots.{IsRoot}
-use Rattle.board.specs.Rule.{IsKept}
-use Rattle.board.specs.Seats.{Setting}
-use Rattle.board.specs.Views.{root_view}
-use Rattle.board.proofs.Ends.{IsKept-start}
-use Rattle.board.proofs.RootFields.{IsRoot-fresh, lt-from_nat_lt}
 use Rattle.board.proofs.board.Board.new.Goals as goal
 
-pub of_words-requires : goal.of_words-requires
-of_words-requires c =
-    let setting : Setting = record { voters = c.voters-voters.result; quorums = c.in_ok-quorums_of.field-0.items; clients = c.args.clients; limit = c.args.limit } in
-    let few = c.voters-voters.ensures.coterie.few_voters in
-    let is = c.as_slice.ensures.value ∙ c.in_ok-words.ensures in
-    subst (λ l. IsKept setting l (root_view c.voters-voters.result c.args.clients ∷ [])) (sym is)
-    (IsKept-start setting (omega (arith, few, c.voters-voters.ensures.value)) c.requires.few_clients c.requires.limit)
-
-pub invariant_of-board : goal.invariant_of-board
-invariant_of-board c =
-    let made = c.in_ok-table.ensures in
-    let voters = c.voters-voters.ensures.value in
-    let is_coterie = c.voters-voters.ensures.coterie in
-    let long : length c.as_slice.result.now ≡ c.voters-voters.result + 1 = ap length (c.as_slice.ensures.value ∙ c.in_ok-words.ensures) ∙ length-replicate (c.voters-voters.result + 1) 0 in
-    record {
-      same_sheet = made.5;
-      words = made.0 ∙ long;
-      no_slots = made.1;
-      some_limit = c.requires.some_number;
-      limit = c.requires.limit;
-      some_client = c.requires.some_client;
-      few_clients = c.requires.few_clients;
-      some_voter = omega (arith, voters, is_coterie.some_voter);
-      few_voters = omega (arith, voters, is_coterie.few_voters);
-      meet = subst (λ (x : ℕ × List (List ℕ)). AllMeet x.0 x.1) (λ i. (sym voters i, sym c.in_ok-quorums_of.ensures i)) (c.coteries_meet.ensures c.args.coterie.now is_coterie);
-    }
-
-pub invariant_of-root : goal.invariant_of-root
-invariant_of-root c =
-    let made = c.in_ok-table.ensures in
-    let few = c.voters-voters.ensures.coterie.few_voters in
-    let clients : c.from.result ≡ c.args.clients = c.from.ensures in
-    let view = root_view c.voters-voters.result c.args.clients in
-    let long : length c.as_slice.result.now ≡ c.voters-voters.result + 1 = ap length (c.as_slice.ensures.value ∙ c.in_ok-words.ensures) ∙ length-replicate (c.voters-voters.result + 1) 0 in
-    let on_below : (v : ℕ) → get_or c.first.result v false ≡ true → v < c.voters-voters.result = λ v on. lt-from_nat_lt v c.voters-voters.result (sym (c.first.ensures.first v) ∙ on) in
-    record {
-      no_slots = ap (λ (m : Me (Unit {0}) View). m.1) made.4;
-      root = subst (λ (x : View × List (ℕ × ℕ)). IsRoot x.0 (c.voters-voters.result + c.from.result) c.first.result c.first-2.result x.1) (λ i. (sym (ap (λ (m : Me (Unit {0}) View). m.0) made.4) i, sym c.new.ensures.items i))
-          (IsRoot-fresh c.voters-voters.result c.args.clients (c.voters-voters.result + c.from.result) c.first.result c.first-2.result
-          (omega arith)
-          (omega (arith, c.first.ensures.sum, c.first-2.ensures.sum, c.from-2.ensures))
-          (λ v on. omega (arith, on_below v on, c.voters-voters.ensures.value)));
-      on_table = λ v on. omega (arith, on_below v on, made.0, ap (λ (z : TableId). z.words) made.2);
-    }
+pub over-requires-clause-meet : goal.over-requires-clause-meet
+over-requires-clause-meet c =
+    let voters = c.voters-voters.ensures in
+    subst (λ (x : ℕ × List (List ℕ)). AllMeet x.0 x.1) (λ i. (sym voters.value i, sym c.in_ok-quorums.ensures i)) (c.coteries_meet.ensures c.args.coterie.now voters.coterie)

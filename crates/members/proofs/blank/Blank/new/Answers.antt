@@ -1,31 +1,45 @@
-use Rattle.std.proofs.Common.{◌≡◌, ℕ, ◌+◌, ◌*◌, ◌≤◌, [], nat_lt, sym, ap, ◌∙◌, subst}
+use Rattle.std.proofs.Common.{◌≡◌, ◌+◌, ◌*◌, ◌≤◌, ◌++◌, Option, length, nat_lt, sym, ap, ◌∙◌, subst}
+use Rattle.std.specs.Prelude.{option_map}
 use Rattle.quorum_set.specs.Coteries.{QuorumSystem}
 use Rattle.certificate.specs.Certificates.{Weighted}
+use Rattle.dealer.specs.Offices.{OfficeName}
+use Rattle.members.specs.Clerks.{fresh_clerks, office_names, offices_with, plan_quorums}
+use Rattle.members.proofs.BlankLemmas.{cycles_of-names, same_voters}
 use Rattle.members.proofs.blank.Blank.new.Goals as goal
+
+joint : {a b : Weighted} {x y : Option Weighted} → a ≡ b → x ≡ y → a.system.quorums ++ plan_quorums x ≡ b.system.quorums ++ plan_quorums y
+joint e f = λ i. (e i).system.quorums ++ plan_quorums (f i)
 
 pub invariant_of-result : goal.invariant_of-result
 invariant_of-result c =
     let made = c.in_ok-board.ensures in
-    let office = c.in-Ok-new.made.0 in
-    let is_plan : office.name.cycle ≡ c.args.plan = c.in-Ok-new.ensures.cycle ∙ c.in-Ok.ensures.ok in
-    let system : c.coterie-2.result.now ≡ office.name.cycle.system = c.coterie-2.ensures.value ∙ sym (ap (λ (w : Weighted). w.system) is_plan) in
-    let voters : c.voters-voters.result ≡ c.coterie-2.result.now.voters = c.voters-voters.ensures.value ∙ ap (λ (s : QuorumSystem). s.voters) (c.coterie.ensures.value ∙ sym c.coterie-2.ensures.value) in
-    let same : c.voters-voters.result ≡ c.in_ok-board.board.voters = voters ∙ sym made.coterie.0 in
+    let offices = c.in_ok-offices.offices in
+    let opened = c.in_ok-offices.ensures in
+    let parts = c.into_parts-first.ensures in
+    let is_first : offices.first.name.cycle ≡ c.into_parts-first.result.0 = opened.first in
+    let is_second : option_map (λ (o : OfficeName). o.cycle) (office_names offices).1 ≡ c.plan_of.result = cycles_of-names offices.second ∙ opened.second in
+    let voters : c.voters-voters.result ≡ c.into_parts-first.result.0.system.voters = c.voters-voters.ensures.value ∙ ap (λ (s : QuorumSystem). s.voters) c.coterie.ensures.value in
+    let same : c.voters-voters.result ≡ c.in_ok-board.board.voters = voters ∙ sym made.voters in
     let few : c.coterie.result.now.voters ≤ 64 = c.voters-voters.ensures.coterie.few_voters in
+    let quota = ap (λ n. n * c.args.quota) (c.from.ensures ∙ sym made.clients) in
+    let names = office_names offices in
     record {
       cluster = record {
-        voters = made.coterie.0 ∙ ap (λ (s : QuorumSystem). s.voters) system;
-        quorums = made.coterie.1 ∙ ap (λ (s : QuorumSystem). s.quorums) system;
+        voters = made.voters ∙ ap (λ (w : Weighted). w.system.voters) (sym is_first);
+        quorums = made.quorums
+            ∙ joint (sym is_first) (sym (is_second ∙ c.plan_of.ensures));
+        firsts = made.firsts ∙ ap (λ (w : Weighted). length w.system.quorums) (sym is_first);
+        same_voters = same_voters c.args.plans parts.plans names.1 (is_second ∙ c.plan_of.ensures ∙ parts.second) c.in_ok-board.board.voters (made.voters ∙ ap (λ (w : Weighted). w.system.voters) parts.first);
         few_voters = subst (λ n. n ≤ 64) (sym c.voters-voters.ensures.value ∙ same) few;
         some_client = subst (λ n. 1 ≤ n) (sym made.clients) c.requires.some_client;
         clients = subst (λ n. n ≤ 64) (sym made.clients) c.requires.few_clients;
         limit = made.limit;
       };
-      office_is = c.in-Ok-new.ensures.quota ∙ ap (λ n. n * c.args.quota) (c.from.ensures ∙ sym made.clients);
+      offices_are = opened.quota ∙ ap (offices_with names) quota;
       voters_are = same;
       clients_are = sym made.clients;
       root_is = (made.root.0, made.root.1 ∙ ap (λ n. n + c.args.clients) (sym voters), made.root.2);
       voter_seats = λ v. made.voter_seats v ∙ ap (nat_lt v) (sym voters);
       client_seats = made.client_seats;
-      clerk_is = c.in-Ok-new.ensures.clerk ∙ ap (λ (n : ℕ). record { office = office.name; rest = n * c.args.quota; receipts = [] }) (c.from.ensures ∙ sym made.clients);
+      clerks_are = opened.clerks ∙ ap (fresh_clerks names) quota;
     }

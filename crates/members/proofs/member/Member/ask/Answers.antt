@@ -1,7 +1,10 @@
-use Rattle.std.proofs.Common.{◌≡◌, true, false, [], refl, sym, ◌∙◌, subst, rules}
+use Rattle.std.proofs.Common.{◌≡◌, true, false, [], refl, sym, ap, ◌∙◌, subst, rules}
+use Rattle.quorum_set.specs.declared.bridge.Side.{Side}
+use Rattle.board.specs.Quorums.{place_of, quorum_at}
 use Rattle.requester.specs.Steps.{ask}
 use Rattle.requester.specs.Words.{is_idle, is_spent}
 use Rattle.dealer.specs.Offices.{RefusesTicket}
+use Rattle.members.specs.Clerks.{rest_of}
 use Rattle.members.specs.Members.{MayAsk, MemberState, RefusesStart}
 use Rattle.members.proofs.MemberLemmas.{IsMember-asked, Ok-not_Err, RefusesStart-ask, RefusesAsk-ticket, ask-Ok}
 use Rattle.members.proofs.member.Member.ask.Goals as goal
@@ -15,7 +18,7 @@ returns-in-Err-clause-refused g c =
     let asked = c.in_default.ensures [] in
     RefusesAsk-ticket c.args.self.now c.in-Err.fault
     (subst (λ (m : MemberState). (is_idle m.requester.phase ≡ true) × (is_spent m.requester ≡ false)) c.self.view_is (ask-Ok c.self.inside.requester [] asked.0 asked.1))
-    (subst (λ (m : MemberState). RefusesTicket m.clerk.rest c.in-Err.fault) c.self.view_is c.in-Err.ensures.err)
+    (subst (λ (m : MemberState). RefusesTicket (rest_of m.clerks m.clerks.side) c.in-Err.fault) c.self.view_is c.in-Err.ensures.err)
 
 pub unreachable-requires : goal.unreachable-requires
 unreachable-requires g c =
@@ -26,17 +29,19 @@ pub send-lost-requires : goal.send-lost-requires
 send-lost-requires g c =
     let quorum = c.quorum-quorum.ensures in
     let drawn = c.in-Ok.ensures in
-    record { held = (IsMember-asked _ _ _ _ _ c.self.invariant c.clients_keep_their_laws.ensures _ _ c.in-Ok-ask_into.ensures.asked quorum.set quorum.some c.draw.new.clerk c.in-Ok.receipt drawn.kept drawn.some quorum.in_range quorum.value).held }
+    record { held = (IsMember-asked _ _ _ _ _ _ c.self.invariant c.clients_keep_their_laws.ensures _ _ c.in-Ok-ask_into.ensures.asked quorum.set quorum.some c.draw.new.self c.in-Ok.receipt drawn.kept drawn.some _ quorum.in_range quorum.value).held }
 
 pub invariant_of-self-2 : goal.invariant_of-self-2
 invariant_of-self-2 g c =
     let quorum = c.quorum-quorum.ensures in
     let drawn = c.in-Ok.ensures in
-    IsMember-asked _ _ _ _ _ c.self.invariant c.clients_keep_their_laws.ensures _ _ c.in-Ok-ask_into.ensures.asked quorum.set quorum.some c.draw.new.clerk c.in-Ok.receipt drawn.kept drawn.some quorum.in_range quorum.value
+    IsMember-asked _ _ _ _ _ _ c.self.invariant c.clients_keep_their_laws.ensures _ _ c.in-Ok-ask_into.ensures.asked quorum.set quorum.some c.draw.new.self c.in-Ok.receipt drawn.kept drawn.some _ quorum.in_range quorum.value
 
 pub returns-clause-asked : goal.returns-clause-asked
 returns-clause-asked g c =
-    let quorum = c.quorum-quorum.ensures.value in
+    let board = g.N.ClusterName.cluster.board in
+    let plan = c.side-side.ensures ∙ ap (λ (m : MemberState). m.clerks.side) c.self.view_is in
+    let quorum = c.quorum-quorum.ensures.value ∙ ap (λ (s : Side). quorum_at board.quorums (place_of board.firsts s c.in-Ok.receipt.quorum)) plan in
     (_, sym (λ i. ask (c.self.view_is i).requester (quorum i)) ∙ c.in-Ok-ask_into.ensures.asked, (refl, search rules))
 
 pub returns-clause-may : goal.returns-clause-may

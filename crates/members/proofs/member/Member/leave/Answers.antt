@@ -11,7 +11,7 @@ returns-in_default-clause-refused g c =
 
 pub finish-lost-requires-clause-places : goal.finish-lost-requires-clause-places
 finish-lost-requires-clause-places g c =
-    length-both_held _ _ _ _ _ c.self.invariant _ (Ended-leave c.clients_keep_their_laws.ensures _ _ c.self.invariant.sound c.in-Ok.ensures.left).sound
+    length-both_held _ _ _ _ _ _ c.self.invariant _ (Ended-leave c.clients_keep_their_laws.ensures _ _ c.self.invariant.sound c.in-Ok.ensures.left).sound
 
 pub finish-lost-requires-clause-fewer : goal.finish-lost-requires-clause-fewer
 finish-lost-requires-clause-fewer g c = HoldsFewer-HoldsNothing c.leave_into.new.self _ (Ended-leave c.clients_keep_their_laws.ensures _ _ c.self.invariant.sound c.in-Ok.ensures.left).nothing
@@ -19,7 +19,7 @@ finish-lost-requires-clause-fewer g c = HoldsFewer-HoldsNothing c.leave_into.new
 pub invariant_of-self-2 : goal.invariant_of-self-2
 invariant_of-self-2 g c =
     let same = c.finish-lost.ensures.same in
-    IsMember-ended _ _ _ _ _ c.self.invariant _ (Ended-leave c.clients_keep_their_laws.ensures _ _ c.self.invariant.sound c.in-Ok.ensures.left) c.finish-lost.new.seat same.0 same.1 c.finish-lost.ensures.held c.finish-lost.ensures.within
+    IsMember-ended _ _ _ _ _ _ c.self.invariant _ (Ended-leave c.clients_keep_their_laws.ensures _ _ c.self.invariant.sound c.in-Ok.ensures.left) c.finish-lost.new.seat same.0 same.1 c.finish-lost.ensures.held c.finish-lost.ensures.within
 
 pub returns-clause-idle : goal.returns-clause-idle
 returns-clause-idle g c = (Ended-leave c.clients_keep_their_laws.ensures _ _ c.self.invariant.sound c.in-Ok.ensures.left).idle

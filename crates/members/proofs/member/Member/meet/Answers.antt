@@ -10,7 +10,7 @@ use Rattle.members.proofs.member.Member.meet.Goals as goal
 pub finish-lost-requires-clause-places : goal.finish-lost-requires-clause-places
 finish-lost-requires-clause-places g c =
     let t = Took-from_take c.clients_keep_their_laws.ensures _ _ _ _ _ c.self.invariant.sound c.requires.mail (sym (ap (λ (m : MemberState). m.requester.id) c.self.view_is)) c.cluster.invariant.cluster.few_voters c.take_into-seen.ensures.taken in
-    let both = length-both_held _ _ _ _ _ c.self.invariant _ t.sound in
+    let both = length-both_held _ _ _ _ _ _ c.self.invariant _ t.sound in
     (c.if-not-accept.ensures.len ∙ both.0, both.1)
 
 pub invariant_of-self-2 : goal.invariant_of-self-2
@@ -18,7 +18,7 @@ invariant_of-self-2 g c =
     let t = Took-from_take c.clients_keep_their_laws.ensures _ _ _ _ _ c.self.invariant.sound c.requires.mail (sym (ap (λ (m : MemberState). m.requester.id) c.self.view_is)) c.cluster.invariant.cluster.few_voters c.take_into-seen.ensures.taken in
     let same = c.finish-lost.ensures.same in
     let kept = c.if-not-accept.ensures.same in
-    IsMember-took _ _ _ _ _ c.self.invariant _ _ t c.finish-lost.new.seat
+    IsMember-took _ _ _ _ _ _ c.self.invariant _ _ t c.finish-lost.new.seat
     (same.0 ∙ ap (λ (s : SeatState). s.table) kept) (same.1 ∙ ap (λ (s : SeatState). s.client) kept) c.finish-lost.ensures.held c.finish-lost.ensures.within
 
 pub returns-clause-entered : goal.returns-clause-entered

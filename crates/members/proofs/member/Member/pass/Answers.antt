@@ -1,4 +1,5 @@
 use Rattle.std.proofs.Common.{◌≡◌, ℕ, Option, Some, IfSome, refl, sym, ap, ◌∙◌, subst}
+use Rattle.board.specs.Quorums.{place_of}
 use Rattle.board.specs.Seats.{BoardState, ClientSeatState as SeatState}
 use Rattle.members.proofs.MemberLemmas.{Board-injective, full_or_not, not_refused}
 use Rattle.members.proofs.member.Member.pass.Goals.{in-Ok, in-Err}
@@ -13,7 +14,8 @@ returns-clause-full g c = λ e.
       | in-Err w ↦
           let full = subst (λ (r : Option (ℕ × ℕ)). IfSome r (λ p. p.1 ≡ limit)) read (w.in-Err.ensures.full (Board-injective _ _ _ w.result-is e)) in
           let number = full ∙ ap (λ (b : BoardState). b.limit) c.cluster.invariant.board_is in
-          (c.self.inside.quorum, ap (λ (s : SeatState). s.reading) w.in-Err.ensures.kept ∙ read ∙ (λ i. Some (c.self.inside.quorum, number i)))
+          let place = place_of c.cluster.inside.board.firsts c.self.inside.side c.self.inside.quorum in
+          (place, ap (λ (s : SeatState). s.reading) w.in-Err.ensures.kept ∙ read ∙ (λ i. Some (place, number i)))
     ]
 
 pub returns-clause-room : goal.returns-clause-room
@@ -23,7 +25,7 @@ returns-clause-room g c = λ e.
     elim c.match-write_register.branch [
       | in-Ok w ↦ absurd (not_refused _ _ _ w.result-is e)
       | in-Err w ↦ (
-        c.self.inside.quorum,
+        place_of c.cluster.inside.board.firsts c.self.inside.side c.self.inside.quorum,
         c.read_register.result,
         ap (λ (s : SeatState). s.reading) w.in-Err.ensures.kept ∙ read,
         λ same.

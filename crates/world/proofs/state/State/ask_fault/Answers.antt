@@ -1,9 +1,8 @@
-use Rattle.std.proofs.Common.{◌∙◌, length}
+use Rattle.std.proofs.Common.{◌∙◌, length, List, ℕ}
 use Rattle.requester.specs.Steps as client
-use Rattle.requester.specs.Steps.{Asks}
 use Rattle.world.specs.States.{shown}
-use Rattle.world.specs.Steps.{draw, step}
-use Rattle.world.proofs.Acts.{act-some_Ok, act-Err}
+use Rattle.world.specs.Steps.{next_ticket, quorum_dealt, step}
+use Rattle.world.proofs.Acts.{ask-Err, ask-some_Ok}
 use Rattle.world.proofs.Foretold.{if_client-below, if_client-missing}
 use Rattle.world.proofs.state.State.ask_fault.Goals as goal
 
@@ -14,11 +13,13 @@ returns-in-Some c = λ deal. if_client-missing c.args.client (length c.args.self
 pub returns-in-Some-ask_fault : goal.returns-in-Some-ask_fault
 unfolding step client.step
 returns-in-Some-ask_fault c = λ deal.
+    let quorum : List ℕ = quorum_dealt deal c.args.self.now.side (next_ticket (shown c.args.self.now)) in
     if_client-below c.args.client (length c.args.self.now.clients.items) _ c.in_default.ensures.found
-    ∙ act-Err (draw (shown c.args.self.now) c.args.client) c.deref.result.now c.client_of.result.now c.args.client (Asks (deal (length c.args.self.now.draws.items))) c.in-Some-ask_fault.fault c.deref.ensures.value c.client_of.ensures (c.in-Some-ask_fault.ensures (deal (length c.args.self.now.draws.items)))
+    ∙ ask-Err (shown c.args.self.now) c.deref.result.now c.client_of.result.now c.args.client quorum c.in-Some-ask_fault.fault c.deref.ensures.value c.client_of.ensures (c.in-Some-ask_fault.ensures quorum)
 
 pub returns-in-None : goal.returns-in-None
 unfolding step client.step
 returns-in-None c = λ deal.
-    let p = act-some_Ok (draw (shown c.args.self.now) c.args.client) c.deref.result.now c.client_of.result.now c.args.client (Asks (deal (length c.args.self.now.draws.items))) c.deref.ensures.value c.client_of.ensures (c.in-None.ensures (deal (length c.args.self.now.draws.items))) in
+    let quorum : List ℕ = quorum_dealt deal c.args.self.now.side (next_ticket (shown c.args.self.now)) in
+    let p = ask-some_Ok (shown c.args.self.now) c.deref.result.now c.client_of.result.now c.args.client quorum c.deref.ensures.value c.client_of.ensures (c.in-None.ensures quorum) in
     (p.0, if_client-below c.args.client (length c.args.self.now.clients.items) _ c.in_default.ensures.found ∙ p.1)

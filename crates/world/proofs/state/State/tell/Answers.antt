@@ -9,5 +9,7 @@ returns-clause-state c = λ i. record {
   voters = c.args.self.now.voters.items;
   sent = (c.send_to_voters.ensures ∙ ap (λ (l : List ToVoter). c.args.self.now.sent.items ++ map kinds.ToVoter l) c.as_slice.ensures.value) i;
   draws = c.args.self.now.draws.items;
+  draws2 = c.args.self.now.draws2.items;
+  side = c.args.self.now.side;
   visible = c.note.ensures i;
 }

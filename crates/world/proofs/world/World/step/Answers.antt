@@ -1,25 +1,25 @@
 use Rattle.std.proofs.Common.{sym, subst}
 use Rattle.world.specs.Ranges.{IsNumbered}
-use Rattle.world.specs.States.{shown}
+use Rattle.world.specs.States.{plans_of, shown}
 use Rattle.world.specs.Steps.{WorldState}
 use Rattle.world.specs.Visible.{IsExclusive}
 use Rattle.world.proofs.Plans.{IsReached-does}
 use Rattle.world.proofs.world.World.step.Goals as goal
 
 pub refusal-requires : goal.refusal-requires
-refusal-requires c = c.worlds_stay_sound.ensures.numbered (record { plan = c.self.inside.cycle; state = shown c.self.inside.state }) c.self.invariant
+refusal-requires c = c.worlds_stay_sound.ensures.numbered (record { plans = plans_of c.self.inside.cycles; state = shown c.self.inside.state }) c.self.invariant
 
 pub returns-then-is_err-clause-exclusive : goal.returns-then-is_err-clause-exclusive
 returns-then-is_err-clause-exclusive c =
-    subst (λ (u : WorldState). IsExclusive u.visible) (sym c.make_room.ensures.same) (c.worlds_stay_sound.ensures.exclusive (record { plan = c.self.inside.cycle; state = shown c.self.inside.state }) c.self.invariant)
+    subst (λ (u : WorldState). IsExclusive u.visible) (sym c.make_room.ensures.same) (c.worlds_stay_sound.ensures.exclusive (record { plans = plans_of c.self.inside.cycles; state = shown c.self.inside.state }) c.self.invariant)
 
 pub act-requires-clause-numbered : goal.act-requires-clause-numbered
-act-requires-clause-numbered c = subst (λ (u : WorldState). IsNumbered u) (sym c.make_room.ensures.same) (c.worlds_stay_sound.ensures.numbered (record { plan = c.self.inside.cycle; state = shown c.self.inside.state }) c.self.invariant)
+act-requires-clause-numbered c = subst (λ (u : WorldState). IsNumbered u) (sym c.make_room.ensures.same) (c.worlds_stay_sound.ensures.numbered (record { plans = plans_of c.self.inside.cycles; state = shown c.self.inside.state }) c.self.invariant)
 
 pub invariant_of-self-2 : goal.invariant_of-self-2
-invariant_of-self-2 c = IsReached-does (record { plan = c.self.inside.cycle; state = shown c.self.inside.state }) c.self.invariant c.args.step (shown c.make_room.new.self) c.act.result (shown c.act.new.self) c.make_room.ensures.same c.act.ensures
+invariant_of-self-2 c = IsReached-does (record { plans = plans_of c.self.inside.cycles; state = shown c.self.inside.state }) c.self.invariant c.args.step (shown c.make_room.new.self) c.act.result (shown c.act.new.self) c.make_room.ensures.same c.act.ensures
 
 pub returns-clause-exclusive : goal.returns-clause-exclusive
 returns-clause-exclusive c =
-    c.worlds_stay_sound.ensures.exclusive (record { plan = c.self.inside.cycle; state = shown c.act.new.self })
-    (IsReached-does (record { plan = c.self.inside.cycle; state = shown c.self.inside.state }) c.self.invariant c.args.step (shown c.make_room.new.self) c.act.result (shown c.act.new.self) c.make_room.ensures.same c.act.ensures)
+    c.worlds_stay_sound.ensures.exclusive (record { plans = plans_of c.self.inside.cycles; state = shown c.act.new.self })
+    (IsReached-does (record { plans = plans_of c.self.inside.cycles; state = shown c.self.inside.state }) c.self.invariant c.args.step (shown c.make_room.new.self) c.act.result (shown c.act.new.self) c.make_room.ensures.same c.act.ensures)

@@ -1,6 +1,0 @@
-use Rattle.std.specs.Prelude.{◌≡◌, ◌+◌, ◌*◌, ◌<◌, ◌≤◌, true}
-use Rattle.cluster.specs.Drives.{HasServed}
-use Rattle.cluster.proofs.drives.serve.Given as goal
-
-abbrev pub invariant-loop : goal.invariant-loop
-invariant-loop g l = HasServed l.counter l.fn.member l.member × (l.left + 2 * l.counter ≤ l.fn.turns) × (0 < l.counter → g.G.Gate.lets l.fn.gate l.fn.member.requester.id ≡ true)

@@ -1,0 +1,12 @@
+use Rattle.std.proofs.Common.{Bool, sym, subst}
+use Rattle.world.specs.declared.step.Step.{Step}
+use Rattle.world.specs.States.{plans_of, shown}
+use Rattle.world.specs.Steps.{Does, dealing_of, exchange, step}
+use Rattle.world.proofs.state.State.act.Goals as goal
+
+pub returns-in-Exchange : goal.returns-in-Exchange
+unfolding step
+returns-in-Exchange c =
+    let w = shown c.args.self.now in
+    subst (λ (s : Step). Does (step (dealing_of (plans_of c.args.cycles.now)) w s) w c.exchange.result (shown c.exchange.new.self)) (sym c.in-Exchange.is)
+    (subst (λ (two : Bool). Does (exchange two c.args.self.now.side w) w c.exchange.result (shown c.exchange.new.self)) c.are_two.ensures c.exchange.ensures)
