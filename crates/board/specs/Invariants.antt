@@ -11,8 +11,8 @@ use Rattle.board.specs.Roots.{IsRoot, AreWithin, AreOnBoard, IsCurrent}
 use Rattle.board.specs.Views.{voter_view, client_view}
 
 -- The table has one word for each voter and one for the register, and was made with the board's
--- sheet. The sheet's numbers are in range, and any two of its quorums meet. The first coterie's
--- quorums are among them. A coterie has at most 4096 quorums, and there are at most two coteries.
+-- sheet. The sheet's numbers are in range, and any two of its quorums meet. The first coterie has
+-- no more quorums than the sheet. A coterie has at most 4096 quorums, and there are at most two coteries.
 pub record IsBoard (key : Setting) (table : TableId) (sheet : Setting) (firsts : ℕ) : Type 0 where
   pub same_sheet : key ≡ sheet
   pub words : table.words ≡ sheet.voters + 1

@@ -15,7 +15,7 @@ use Rattle.members.specs.Members.{MemberState}
 abbrev pub HasMore : {A : Type 0} → ℕ → List A → List A → Type 0
 HasMore {A} n before after = (more : List A) × (after ≡ before ++ more) × (length more ≡ n)
 
--- how many tickets of a plan n requests draw while the first of these sides is in use
+-- `on used side n`: how many tickets of the plan `side` n requests draw while the plan `used` is in use
 abbrev pub on : Side → Side → ℕ → ℕ
 on First First n = n
 on First Second n = 0

@@ -20,7 +20,9 @@
 //! - A drive returns all members, in order and idle.
 //! - A member without a fault drew a ticket for each of its passes, and made them all.
 //! - A member with a fault made fewer passes, and drew at most one ticket more than it made passes.
-//! - A member's tickets run out only if it passed once for each that it had.
+//! - A member's tickets of the plan in use run out only if it passed once for each that it had.
+//! - If there are two plans, a member that uses the first one exchanges it after half of its passes,
+//!   rounded down.
 //! - A client that the gate never lets pass makes no pass.
 //! - Each pass takes at least two of the client's turns.
 //!

@@ -56,6 +56,11 @@
 //! Not proved: in which order threads draw, and that there is memory for a receipt. If there is
 //! none, no ticket is taken.
 //!
+//! # Two plans
+//!
+//! [`Plans`] is one plan, or two with a bridge between their coteries: the one in use, and the one
+//! that it may be exchanged for.
+//!
 //! Depends on `certificate`, whose [`Plan`](certificate::Plan) it takes, on `quorum_set`, `divisor`
 //! and `numbers`, and on `atomic_table`. Everything that draws quorums depends on this crate.
 #![tactic(auto)]

@@ -1,6 +1,7 @@
 //! One plan, or two between which a plan is exchanged while clients run.
-ghost use Rattle.std.specs.Prelude.{◌≡◌, Ok, Err, IfOk, IfErr, IfSome, option_map};
-ghost use Rattle.quorum_set.specs.Bridges.{bridge_of, is_out_of_memory};
+ghost use Rattle.std.specs.Prelude.{◌≡◌, None, Ok, Err, IfOk, IfErr, IfSome, option_map};
+ghost use Rattle.quorum_set.specs.Bridges.{bridge_of, first_apart, is_out_of_memory};
+ghost use Rattle.quorum_set.specs.declared.fault.BridgeFault.TheVariants.{OutOfMemory};
 ghost use Rattle.numbers.specs.Results.{RefusesUnless};
 ghost use Rattle.dealer.specs.Plans.{ArePlans, both, coteries_of, single};
 
@@ -54,6 +55,8 @@ impl Plans {
         ensures kept { IfErr result (λ refusal. (refusal.0 ≡ old) × (refusal.1 ≡ new)) }
         ensures refused { IfErr result (λ refusal.
             RefusesUnless is_out_of_memory refusal.2 (bridge_of old.system new.system)) }
+        ensures memory { IfErr result (λ refusal. refusal.2 ≡ OutOfMemory
+            → first_apart 0 old.system.quorums new.system.quorums ≡ None) }
     {
         match Bridge::of(alloc, old.coterie(), new.coterie()) {
             Ok(bridge) => Ok(Plans {

@@ -141,7 +141,7 @@ fn by_number(mut passes: Vec<(u8, u64)>) -> Vec<(u8, u64)>
     passes
 }
 
-/// Joins a member's clerk to the last clerk, and its seat to the root.
+/// Joins a member's clerks to the last clerks, and its seat to the root.
 fn join_member<N: ClusterName>(
     board: &Board,
     offices: &Offices,

@@ -15,8 +15,8 @@ use dealer::tickets_name_quorums;
 use requester::{phases_tell_votes, requesters_meet_the_contract, requesters_stay_sound};
 
 /// States how many entries a record has. For each plan, the number of its draws is that of its
-/// members' receipts. The register is the number of their passes. If each member passed n times, the register is n
-/// times the number of members.
+/// members' receipts. The register is the number of their passes. If each member passed n times,
+/// the register is n times the number of members.
 pub fn records_count_passes()
     ensures draws { (c : ClusterState) (members : List MemberState) (r : RunRecord) → IsRecordOf c members r →
         length r.draws.items ≡ sum_by (λ m. length (receipts_of m.clerks First)) members }

@@ -165,13 +165,6 @@ impl<N: ClusterName> Member<N> {
         self.clerks.receipts(side)
     }
 
-    /// Returns the plan that its next request uses.
-    pub fn side(&self) -> Side
-        ensures { result ≡ self.now.clerks.side }
-    {
-        self.clerks.side()
-    }
-
     /// Exchanges the plan: its requests from here on use the second plan. A request that runs goes
     /// on with its quorum. Neither waits nor takes memory.
     ///

@@ -222,7 +222,7 @@ draw 0 0
 }
 
 #[test]
-fn plan_is_exchanged_while_a_client_is_inside(rt: HostRuntime) -> Result<(), Fail> {
+fn plan_is_exchanged_while_a_client_asks(rt: HostRuntime) -> Result<(), Fail> {
     let alloc = rt.alloc();
     let mut steps = Vec::new(alloc);
     for step in [Step::Ask(0), Step::Exchange, Step::Ask(1)] {

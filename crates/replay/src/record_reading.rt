@@ -277,7 +277,8 @@ fn behind_title(text: &[u8]) -> Option<&[u8]>
 /// Fails with `BadLine` for the first line that is missing, malformed or out of place, or has no
 /// newline. A line after the register's is out of place too. Memory may run out at any point.
 ///
-/// The record has no draws of a second plan, and its number of lost messages is 0. The time is that of one pass over the text.
+/// The record has no draws of a second plan, and its number of lost messages is 0. The time is that
+/// of one pass over the text.
 pub fn read_record(alloc: Global, text: &[u8]) -> Result<RunRecord, ReplayFault>
     // What is read has this text.
     ensures spelled { IfOk result (λ run. HasText (entries_of run) × (text.now ≡ record_text (entries_of run))) }

@@ -30,7 +30,8 @@ fn driven<N: ClusterName + Send + Sync, R: Threads + Wait + Sync>(
     }
 }
 
-/// Returns whether the record is accepted for the draws of one plan, and its account is this one.
+/// Returns whether the record is accepted for the draws of one plan, and its account is this one:
+/// how many tickets were drawn, how often each quorum and each voter was used, and the busiest.
 fn has_account(
     alloc: Global,
     plan: Option<Plan>,
@@ -38,13 +39,17 @@ fn has_account(
     record: &RunRecord,
     quorums: &[u64],
     voters: &[u64],
+    counts: (u64, u64),
 ) -> bool {
     let Some(plan) = plan else {
         return false;
     };
     match check_record(alloc, &plan, side, record) {
         Ok(account) => {
-            (account.quorums.as_slice() == quorums) & (account.voters.as_slice() == voters)
+            (account.quorums.as_slice() == quorums)
+                & (account.voters.as_slice() == voters)
+                & (account.drawn == counts.0)
+                & (account.busiest == counts.1)
         }
         Err(_) => false,
     }
@@ -62,8 +67,28 @@ fn half_of_the_passes_use_each_plan(rt: HostRuntime) -> Result<(), Fail> {
     };
     assert_eq!(rt; record.register, 20);
     let (old, new) = (majority_plan(alloc), whole_plan(alloc));
-    assert!(rt; has_account(alloc, old, Side::First, &record, &[4, 3, 3], &[7, 7, 6]));
-    assert!(rt; has_account(alloc, new, Side::Second, &record, &[10], &[10, 10, 10]));
+    assert!(rt;
+        has_account(
+            alloc,
+            old,
+            Side::First,
+            &record,
+            &[4, 3, 3],
+            &[7, 7, 6],
+            (10, 7)
+        )
+    );
+    assert!(rt;
+        has_account(
+            alloc,
+            new,
+            Side::Second,
+            &record,
+            &[10],
+            &[10, 10, 10],
+            (10, 10)
+        )
+    );
     Ok(())
 }
 
@@ -87,7 +112,8 @@ fn whole_cycles_of_both_plans_are_even(rt: HostRuntime) -> Result<(), Fail> {
             Side::First,
             &record,
             &shares,
-            &[150, 150, 150, 150]
+            &[150, 150, 150, 150],
+            (200, 150)
         )
     );
     let shares = [40, 40, 40, 80];
@@ -98,7 +124,8 @@ fn whole_cycles_of_both_plans_are_even(rt: HostRuntime) -> Result<(), Fail> {
             Side::Second,
             &record,
             &shares,
-            &[120, 120, 120, 120]
+            &[120, 120, 120, 120],
+            (200, 120)
         )
     );
     Ok(())
