@@ -1,5 +1,5 @@
 #!/bin/sh
-# Runs every benchmark in turn: steps of the automata, sets of voters, cycles, draws of tickets, a world's script, members
+# Runs every benchmark in turn: the table beside plain Rust where rustc is found, steps of the automata, sets of voters, cycles, draws of tickets, a world's script, members
 # in threads, the longest inputs where GNU time is found, and plans where glpsol is found. bench/soak.sh is apart, since it takes
 # minutes.
 #
@@ -10,6 +10,10 @@ set -eu
 bench=$(CDPATH= cd -- "$(dirname -- "$0")" && pwd)
 
 printf '%s processors, %s\n' "$(getconf _NPROCESSORS_ONLN)" "$(uptime | sed 's/.*\(load average\)/\1/')"
+if command -v rustc > /dev/null; then
+    printf '\n== table\n'
+    "$bench/table.sh"
+fi
 for name in steps sets cycles draws world run; do
     printf '\n== %s\n' "$name"
     "$bench/$name.sh"

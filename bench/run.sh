@@ -1,6 +1,6 @@
 #!/usr/bin/env bash
 # Times `qlock run` with 1, 2, 4 and 8 clients of 1000 passes each, on three coteries, beside a counter behind a plain lock
-# (mutex_counter.rs, where rustc is found).
+# (bench/twin, where rustc is found).
 #
 #     bench/run.sh [REPEATS]      (5 where none is given; the best of them is printed)
 #
@@ -12,12 +12,7 @@ root=$(CDPATH= cd -- "$(dirname -- "$0")/.." && pwd)
 work=$(mktemp -d)
 trap 'rm -rf "$work"' EXIT
 
-# builds the program where it has to be, so that no figure has that in it
-"$root/qlock" make wheel 3 > /dev/null
-plain=
-if command -v rustc > /dev/null && rustc -O -o "$work/plain" "$root/bench/mutex_counter.rs"; then
-    plain=$work/plain
-fi
+. "$root/bench/twin.sh" "$work"
 
 # the least nanoseconds of several calls of a command on an input; the last line of its output has to be this register
 fastest() {
@@ -43,7 +38,7 @@ for shape in 'majority 3' 'grid 2 2' 'cyclic 7 0 1 3'; do
         passes=$((clients * 1000))
         took=$(fastest "$work/input" "$passes" "$root/build/qlock" run "$clients" 1000 1000000000000)
         beside=0
-        [ -z "$plain" ] || beside=$(fastest /dev/null "$passes" "$plain" "$clients" 1000)
+        [ -z "$twin" ] || beside=$(fastest /dev/null "$passes" "$twin" counter "$clients" 1000)
         awk -v shape="$(echo "$shape" | cut -d' ' -f1,2)" -v clients="$clients" -v n="$passes" -v ours="$took" -v plain="$beside" 'BEGIN {
             printf "%-12s %8s %10s %12.0f", shape, clients, n, n * 1e9 / ours
             if (plain > 0) printf " %12.0f %8.1f\n", n * 1e9 / plain, ours / plain; else printf " %12s %8s\n", "-", "-"

@@ -1,5 +1,5 @@
 #!/bin/sh
-# Times steps of the voter and of clients, and beside them the same automata in plain Rust (steps_twin.rs) where rustc is
+# Times steps of the voter and of clients, and beside them the same automata in plain Rust (bench/twin) where rustc is
 # found: two clients take turns at the lock of one voter, 11 steps a round.
 #
 #     bench/steps.sh [ROUNDS]      (1000000 rounds, 11 million steps, where none is given)
@@ -15,7 +15,9 @@ trap 'rm -rf "$work"' EXIT
 (cd "$root/crates/bench_steps" && rt run -- 3 > /dev/null 2>&1) || { echo "steps.sh: crates/bench_steps does not build" >&2; exit 1; }
 cp "$root/crates/bench_steps/out/bench_steps" "$work/proved"
 if command -v rustc > /dev/null; then
-    rustc --edition 2021 -O -o "$work/plain" "$root/bench/steps_twin.rs"
+    rustc --edition 2021 -O -o "$work/twin" "$root/bench/twin/main.rs"
+    printf '#!/bin/sh\nexec "%s" steps "$1"\n' "$work/twin" > "$work/plain"
+    chmod +x "$work/plain"
 fi
 
 "$work/proved" "$rounds"

@@ -4,7 +4,7 @@ ghost use Rattle.std.specs.Int.{IsGcd};
 ghost use Rattle.numbers.specs.Bounds.{max_capacity, max_cycle};
 ghost use Rattle.numbers.specs.Counts.{greatest_below};
 ghost use Rattle.quorum_set.specs.Capacities.{AreCapacities, are_unit};
-ghost use Rattle.certificate.specs.Certificates.{IsCertificate, IsOptimal, IsUnitOptimal, AnswersPlan, cycle_len, cycle_ratio, busiest_count, load_of, unit_load};
+ghost use Rattle.certificate.specs.Certificates.{IsCertificate, IsOptimal, IsUnitOptimal, AnswersPlan, capacity_total, cycle_count, cycle_len, cycle_ratio, busiest_count, lightest_quorum, load_of, unit_load};
 ghost use Rattle.certificate.specs.Loads.{weight_on};
 ghost use Rattle.certificate.specs.Ratios.{greatest_ratio};
 
@@ -269,6 +269,33 @@ impl Plan {
         ensures certificate { IsCertificate self.now }
     {
         self.voter_weights[usize::from(voter)]
+    }
+
+    /// Returns how often a cycle uses a voter: the sum of the weights of the quorums with that
+    /// voter.
+    pub fn count(&self, voter: u8) -> u64
+        ensures value { result ≡ cycle_count self.now voter }
+        ensures certificate { IsCertificate self.now }
+    {
+        weight_on(&self.coterie, &self.quorum_weights, voter)
+    }
+
+    /// Returns the sum of the voters' weights in the certificate, each times the voter's capacity:
+    /// 1 to 1,000,000,000.
+    pub fn capacity_total(&self) -> u64
+        ensures value { result ≡ capacity_total self.now }
+        ensures certificate { IsCertificate self.now }
+    {
+        capacity_total(&self.capacities, &self.voter_weights)
+    }
+
+    /// Returns the weight of the lightest quorum in the certificate: the smallest sum, over the
+    /// quorums, of the weights of a quorum's members.
+    pub fn lightest_quorum(&self) -> u64
+        ensures value { result ≡ lightest_quorum self.now }
+        ensures certificate { IsCertificate self.now }
+    {
+        lightest_quorum(&self.coterie, &self.voter_weights)
     }
 
     /// Returns the weight of each quorum.

@@ -15,6 +15,10 @@ use std::thread::Threads;
 /// The number of empty pumps in a row after which a member yields its thread at each further one.
 const EMPTY_BEFORE_YIELD: u64 = 16;
 
+/// The number of empty pumps in a row after which a member sleeps at each further one, if another
+/// member is awake.
+const EMPTY_BEFORE_SLEEP: u64 = 64;
+
 /// The number of empty pumps in a row at which a member reminds, and counts anew.
 const EMPTY_BEFORE_REMINDER: u64 = 1_000;
 
@@ -27,8 +31,15 @@ pub struct Driven<N: ClusterName> {
     pub fault: ClusterFault,
 }
 
-/// Does what a member does at an empty pump: nothing, or it yields its thread, or it reminds. Takes
-/// and returns how many empty pumps count.
+/// Has a member sleep until a message may have come, or yield its thread if it has to stay awake.
+fn doze<N: ClusterName>(rt: &impl Wait, cluster: &Cluster<N>, member: &Member<N>) {
+    if !member.sleep(rt, cluster) {
+        thread::yield_now();
+    }
+}
+
+/// Does what a member does at an empty pump: nothing, or it yields its thread or sleeps, or it
+/// reminds. Takes and returns how many empty pumps count.
 fn bide<N: ClusterName>(
     rt: &impl Wait,
     cluster: &Cluster<N>,
@@ -40,7 +51,9 @@ fn bide<N: ClusterName>(
     ensures same { member.new ≡ record member.old { lost = member.new.lost } }
 {
     let empty = empty + 1;
-    if empty > EMPTY_BEFORE_YIELD {
+    if empty > EMPTY_BEFORE_SLEEP {
+        doze(rt, cluster, member);
+    } else if empty > EMPTY_BEFORE_YIELD {
         thread::yield_now();
     }
     if empty < EMPTY_BEFORE_REMINDER {
@@ -264,7 +277,11 @@ fn serve_all<N: ClusterName + Send + Sync, R: Threads + Wait + Sync, G: Gate>(
             ensures back { IsBack passes member.old member.new }
             ensures let_pass { WasLet (G.lets gate.entry.now) member.old member.new }
             ensures in_turns { TookTurns turns member.old member.new }
-        { serve(rt, cluster, member, passes, turns, gate) },
+        {
+            cluster.begin_work();
+            serve(rt, cluster, member, passes, turns, gate);
+            cluster.end_work(rt);
+        },
     );
 }
 
@@ -280,7 +297,8 @@ fn serve_all<N: ClusterName + Send + Sync, R: Threads + Wait + Sync, G: Gate>(
 ///
 /// Each pump and each question to the gate whether the member may pass is a turn. Each member has
 /// `turns` turns for all its passes, and a pass takes at least two. At each empty pump beyond 16 in
-/// a row a member yields its thread. At 1,000 it reminds and counts anew.
+/// a row a member yields its thread. Beyond 64 it sleeps until a message comes, unless all others
+/// sleep or ended, or it lost a message. At 1,000 it reminds and counts anew.
 ///
 /// If its turns are spent or one of its calls fails, a member ends its work: it leaves or gives up,
 /// and keeps the fault ([`Member::fault`]).

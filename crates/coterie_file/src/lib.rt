@@ -34,6 +34,7 @@ pub use laws::{
     lists_are_arrays_of_strings, names_have_no_fault, quorums_have_the_listed_voters,
     texts_read_as_coteries,
 };
+pub use lists::NameLists;
 pub use named::Named;
 pub use reading::read_coterie;
 pub use writing::write_coterie;

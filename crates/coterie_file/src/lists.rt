@@ -13,12 +13,15 @@ use std::alloc::{AllocError, Global};
 use toml::{Table, Value};
 
 /// The names and the capacities of the voters, and for each quorum the names of its members, in the
-/// order of the text.
+/// order of the text. They need not describe a coterie.
 #[derive(Drop)]
-pub(crate) struct NameLists {
-    pub(crate) names: Vec<String>,
-    pub(crate) quorums: Vec<Vec<String>>,
-    pub(crate) capacities: Vec<u64>,
+pub struct NameLists {
+    /// The names of the voters.
+    pub names: Vec<String>,
+    /// For each quorum the names of its members.
+    pub quorums: Vec<Vec<String>>,
+    /// The capacities of the voters, 0 for a negative number.
+    pub capacities: Vec<u64>,
 }
 
 /// Returns the table that a text describes.
@@ -172,8 +175,9 @@ fn lists_in(alloc: Global, table: &Table) -> Result<NameLists, FileFault>
 }
 
 impl NameLists {
-    /// Returns the lists that a text describes.
-    pub(crate) fn of(alloc: Global, text: &str) -> Result<NameLists, FileFault>
+    /// Returns the lists that a text describes, whether or not they describe a coterie. Fails with
+    /// `NotToml` or `Keys` if there are no such lists, or with `OutOfMemory`.
+    pub fn of(alloc: Global, text: &str) -> Result<NameLists, FileFault>
         ensures exact { Gives (λ l. listed l.names.items l.quorums.items l.capacities.items) result
             (lists_at text.now) }
         ensures blank { IsBlank text.now → result ≡ Err Keys }

@@ -47,6 +47,11 @@ abbrev pub RefusesTicket : ℕ → DealFault → Type 0
 RefusesTicket rest QuotaSpent = rest ≡ 0
 RefusesTicket rest NoRoom = 0 < rest
 
+-- the fault says by how much the clerk's share is short of the office's quota
+abbrev pub AreOut : ℕ → ℕ → OfficeFault → Type 0
+AreOut quota share (ClerksOut q) = (0 < q) × (share + q ≡ quota)
+AreOut quota share OutOfMemory = ⊥
+
 -- when a close may fail with this fault, by the office's quota and the clerk's share of it
 abbrev pub RefusesAccount : ℕ → ℕ → OfficeFault → Type 0
 RefusesAccount quota share (ClerksOut q) = (0 < q) × (share + q ≡ quota)

@@ -6,7 +6,7 @@ ghost use Rattle.numbers.specs.Sums.{AreAllBelow};
 ghost use Rattle.quorum_set.specs.Capacities.{are_unit};
 ghost use Rattle.certificate.specs.Certificates.{busiest_count, cycle_len};
 ghost use Rattle.dealer.specs.Accounts.{account_of, ratio_of_cycles, IsLeastBusiest, IsLeastRatio};
-ghost use Rattle.dealer.specs.Offices.{receipt_of, tickets_of, share_of, AreByCycle, RefusesTicket, RefusesAccount};
+ghost use Rattle.dealer.specs.Offices.{receipt_of, tickets_of, share_of, AreByCycle, RefusesTicket, RefusesAccount, AreOut};
 
 use crate::account::Account;
 use crate::clerk::Clerk;
@@ -148,6 +148,41 @@ impl Office {
         Ok(receipt)
     }
 
+    /// Ends the office with its last clerk, and returns the cycle and the clerk's receipts, which are
+    /// those of all tickets. Takes no memory.
+    ///
+    /// Fails with `ClerksOut` if and only if the clerk's receipts and its rest are short of the
+    /// quota: then another clerk has a share or had one. If it fails, the receipts come back.
+    pub fn end(self, clerk: Clerk) -> Result<(Cycle, Vec<Receipt>), Unclosed>
+        requires { clerk.office ≡ self.name }
+        ensures cycle { IfOk result (λ ended. ended.0 ≡ self.name.cycle) }
+        ensures receipts { IfOk result (λ ended. ended.1.items ≡ clerk.receipts) }
+        ensures share { IfOk result (λ _. share_of clerk ≡ self.quota) }
+
+        // The tickets are the numbers from 0 on, each once, and each receipt has the quorum at its
+        // ticket's place.
+        ensures tickets { IfOk result (λ _.
+            AreAllBelow (tickets_of clerk.receipts) (length clerk.receipts)) }
+        ensures quorums { IfOk result (λ _. AreByCycle self.name.cycle clerk.receipts) }
+
+        ensures err { IfErr result (λ unclosed. AreOut self.quota (share_of clerk) unclosed.fault) }
+        ensures returned { IfErr result (λ unclosed. unclosed.receipts.items ≡ clerk.receipts) }
+    {
+        let Office { table, sheet } = self;
+        let Clerk {
+            seat,
+            rest,
+            receipts,
+        } = clerk;
+        end(table, seat);
+        let out = sheet.quota - (receipts.len() as u64 + rest);
+        if out > 0 {
+            let fault = OfficeFault::ClerksOut(out);
+            return Err(Unclosed { receipts, fault });
+        }
+        Ok((sheet.cycle, receipts))
+    }
+
     /// Closes the office with its last clerk, and returns the account of all tickets and the
     /// clerk's receipts.
     ///
@@ -190,19 +225,11 @@ impl Office {
             RefusesAccount self.quota (share_of clerk) unclosed.fault) }
         ensures returned { IfErr result (λ unclosed. unclosed.receipts.items ≡ clerk.receipts) }
     {
-        let Office { table, sheet } = self;
-        let Clerk {
-            seat,
-            rest,
-            receipts,
-        } = clerk;
-        end(table, seat);
-        let out = sheet.quota - (receipts.len() as u64 + rest);
-        if out > 0 {
-            let fault = OfficeFault::ClerksOut(out);
-            return Err(Unclosed { receipts, fault });
-        }
-        match account_of_all(alloc, &sheet.cycle, &receipts) {
+        let (cycle, receipts) = match self.end(clerk) {
+            Ok(ended) => ended,
+            Err(unclosed) => return Err(unclosed),
+        };
+        match account_of_all(alloc, &cycle, &receipts) {
             Ok(account) => Ok((account, receipts)),
             Err(_) => Err(Unclosed {
                 receipts,

@@ -14,7 +14,7 @@ use crate::member::Member;
 use board::{Board, BoardRoot};
 use certificate::Plan;
 use dealer::Plans;
-use node::{ClusterName, Mailbox, Node};
+use node::{Awake, ClusterName, Node, Postbox};
 use numbers::MAX_TICKETS;
 use quorum_set::Bridge;
 use std::alloc::{AllocError, Global};
@@ -83,15 +83,12 @@ fn nodes_of<N: ClusterName>(
 }
 
 /// Creates a mailbox for each client.
-fn mailboxes_of<N: ClusterName>(
-    alloc: Global,
-    clients: u8,
-) -> Result<Vec<Mutex<Mailbox<N>>>, AllocError>
+fn mailboxes_of<N: ClusterName>(alloc: Global, clients: u8) -> Result<Vec<Postbox<N>>, AllocError>
     ensures { IfOk result (λ mailboxes. length mailboxes.items ≡ clients) }
 {
     let mut mailboxes = Vec::with_capacity(alloc, usize::from(clients))?;
     for client in 0..clients {
-        mailboxes.push(Mutex::new(Mailbox::new(alloc, client)))?;
+        mailboxes.push(Postbox::new(alloc, client))?;
     }
     Ok(mailboxes)
 }
@@ -242,6 +239,7 @@ impl Blank {
             offices,
             nodes,
             mailboxes,
+            awake: Awake::new(),
             left: Mutex::new(left),
         };
         Ok((cluster, members))

@@ -7,9 +7,8 @@ ghost use Rattle.dealer.specs.Offices.{ClerkState, OfficeState, OfficeName, Refu
 ghost use Rattle.members.specs.Clerks.{ClerksState, OfficesState, AreDealt, AreWhole, IsDealt, IsDealtBy, IsThere, IsWholeIn, drawn, exchanged, fresh_clerk, fresh_clerks, joined_each, joined_second, less_each, may_exchange, names_of, office_names, offices_with, quorums_in, quorums_of, receipts_in, receipts_of, rest_in, rest_of, with_less, with_receipt};
 ghost use Rattle.quorum_set.specs.declared.bridge.Side.TheVariants as sides;
 
-use board::BoardFault;
 use certificate::Plan;
-use dealer::{Clerk, Cycle, DealFault, Office, OfficeFault, Receipt};
+use dealer::{Clerk, Cycle, DealFault, Office, Receipt};
 use quorum_set::{QSet, Side};
 use std::alloc::{AllocError, Global};
 use std::marker::Model;
@@ -103,36 +102,27 @@ pub(crate) fn open_offices(
     ))
 }
 
-/// Closes an office with a clerk that has all its tickets, drawn or left.
-fn close_office(alloc: Global, office: Office, clerk: Clerk) -> Result<(), BoardFault>
+/// Ends an office with a clerk that has all its tickets, drawn or left.
+fn end_office(office: Office, clerk: Clerk)
     requires office { clerk.office ≡ office.name }
     requires whole { office.quota ≤ share_of clerk }
-    ensures tickets { IfOk result (λ _. AreAllBelow (tickets_of clerk.receipts) (length clerk.receipts)) }
-    ensures memory { IfErr result (λ fault. fault ≡ BoardFault.OutOfMemory) }
+    ensures { AreAllBelow (tickets_of clerk.receipts) (length clerk.receipts) }
 {
-    match office.close(alloc, clerk) {
-        Ok(_) => Ok(()),
-        Err(unclosed) => match unclosed.fault {
-            OfficeFault::OutOfMemory => Err(BoardFault::OutOfMemory),
-            OfficeFault::ClerksOut(_) => unreachable!(),
-        },
+    match office.end(clerk) {
+        Ok(_) => {}
+        Err(_) => unreachable!(),
     }
 }
 
-/// Closes the office of the second plan, if there is one.
-fn close_second(
-    alloc: Global,
-    office: Option<Office>,
-    clerk: Option<Clerk>,
-) -> Result<(), BoardFault>
+/// Ends the office of the second plan, if there is one.
+fn end_second(office: Option<Office>, clerk: Option<Clerk>)
     requires office { option_map (λ k. k.office) clerk ≡ option_map (λ o. o.name) office }
     requires whole { IsWholeIn office clerk }
-    ensures tickets { IfOk result (λ _. AreAllBelow (tickets_of (receipts_in clerk)) (length (receipts_in clerk))) }
-    ensures memory { IfErr result (λ fault. fault ≡ BoardFault.OutOfMemory) }
+    ensures { AreAllBelow (tickets_of (receipts_in clerk)) (length (receipts_in clerk)) }
 {
     match (office, clerk) {
-        (Some(office), Some(clerk)) => close_office(alloc, office, clerk),
-        (None, None) => Ok(()),
+        (Some(office), Some(clerk)) => end_office(office, clerk),
+        (None, None) => {}
         _ => unreachable!(),
     }
 }
@@ -152,18 +142,16 @@ impl Offices {
         }
     }
 
-    /// Closes the offices with clerks that have all their tickets, drawn or left.
-    pub(crate) fn close(self, alloc: Global, clerks: Clerks) -> Result<(), BoardFault>
+    /// Ends the offices with clerks that have all their tickets, drawn or left.
+    pub(crate) fn end(self, clerks: Clerks)
         requires names { names_of clerks ≡ office_names self }
         requires whole { AreWhole self clerks }
-        ensures first { IfOk result (λ _. AreAllBelow (tickets_of clerks.first.receipts) (length clerks.first.receipts)) }
-        ensures second { IfOk result (λ _.
-            AreAllBelow (tickets_of (receipts_in clerks.second)) (length (receipts_in clerks.second))) }
-        ensures memory { IfErr result (λ fault. fault ≡ BoardFault.OutOfMemory) }
+        ensures first { AreAllBelow (tickets_of clerks.first.receipts) (length clerks.first.receipts) }
+        ensures second { AreAllBelow (tickets_of (receipts_in clerks.second)) (length (receipts_in clerks.second)) }
     {
         let Offices { first, second } = self;
-        close_office(alloc, first, clerks.first)?;
-        close_second(alloc, second, clerks.second)
+        end_office(first, clerks.first);
+        end_second(second, clerks.second);
     }
 }
 

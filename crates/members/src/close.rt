@@ -281,6 +281,7 @@ impl<N: ClusterName> Cluster<N> {
             offices,
             nodes,
             mailboxes: _,
+            awake: _,
             left,
         } = self;
         let Left {
@@ -290,7 +291,7 @@ impl<N: ClusterName> Cluster<N> {
         } = left.into_inner();
         join_members(&board, &offices, &mut root, &mut clerks, members)?;
         join_nodes(&board, &mut root, nodes)?;
-        offices.close(alloc, clerks)?;
+        offices.end(clerks);
         let Ok(total) = board.close(root) else {
             unreachable!()
         };

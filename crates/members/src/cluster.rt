@@ -11,7 +11,7 @@ ghost use Rattle.node.specs.Mail.{IsMail};
 use crate::clerks::{Clerks, Offices};
 use board::{Board, BoardRoot, ClientSeat};
 use message::{ToClient, ToVoter};
-use node::{ClusterName, Mailbox, Node};
+use node::{Awake, ClusterName, Node, Postbox};
 use quorum_set::{QSet, Side};
 use requester::Requester;
 use std::marker::{Model, PhantomData};
@@ -25,7 +25,9 @@ pub struct Cluster<N: ClusterName> {
     pub(crate) board: Board,
     pub(crate) offices: Offices,
     pub(crate) nodes: Vec<Mutex<Node<N>>>,
-    pub(crate) mailboxes: Vec<Mutex<Mailbox<N>>>,
+    pub(crate) mailboxes: Vec<Postbox<N>>,
+    /// How many of the members at work are awake.
+    pub(crate) awake: Awake,
     /// Unused until `close`. The lock lets threads share the cluster.
     pub(crate) left: Mutex<Left<N>>,
 }
@@ -83,7 +85,7 @@ impl<N: ClusterName> Cluster<N> {
         let Some(mailbox) = self.mailboxes.get(usize::from(message.client)) else {
             return false;
         };
-        mailbox.lock(rt).put(message, self.nodes.len()) == Ok(true)
+        mailbox.put(rt, message, self.nodes.len())
     }
 
     /// Puts each of these messages into its client's mailbox, in order, and returns how many are
@@ -172,6 +174,29 @@ impl<N: ClusterName> Cluster<N> {
         ensures { IfSome result (IsMail N.cluster.board client) }
     {
         let mailbox = self.mailboxes.get(usize::from(client))?;
-        mailbox.lock(rt).take(client)
+        mailbox.take(rt, client)
+    }
+
+    /// Has a client's thread sleep until a message comes for the client, or until a member ends its
+    /// work. Returns at once if a message waits. Returns `false` at once if no other member at work
+    /// is awake.
+    pub(crate) fn sleep(&self, rt: &impl Wait, client: u8) -> bool {
+        match self.mailboxes.get(usize::from(client)) {
+            Some(mailbox) => mailbox.sleep(rt, &self.awake),
+            None => false,
+        }
+    }
+
+    /// Says that a member begins its work: until it ends it or sleeps, others may sleep.
+    pub fn begin_work(&self) {
+        self.awake.begin();
+    }
+
+    /// Says that a member ended its work, and wakes those that sleep, so that one stays awake.
+    pub fn end_work(&self, rt: &impl Wait) {
+        self.awake.end();
+        for mailbox in &self.mailboxes {
+            mailbox.ring(rt);
+        }
     }
 }

@@ -181,7 +181,7 @@ fn seen_of<N: ClusterName>(
     let (Some(mailbox), Some(member)) = (cluster.mailboxes.first(), members.first_mut()) else {
         return Ok(None);
     };
-    let put = mailbox.lock(rt).put(message, voters)?;
+    let put = mailbox.put(rt, message, voters);
     if !put || voters < 2 || member.ask(rt, &cluster).is_err() {
         return Ok(None);
     }

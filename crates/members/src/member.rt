@@ -286,6 +286,16 @@ impl<N: ClusterName> Member<N> {
         seen
     }
 
+    /// Sleeps until a message comes or a member of the cluster ends its work ([`Cluster::end_work`]).
+    /// Returns at once if a message waits, and returns `false` at once if it has to stay awake: it
+    /// lost a message, so that it has to remind, or no other member at work is awake.
+    ///
+    /// Whoever calls this has called [`Cluster::begin_work`] and goes on to call
+    /// [`Cluster::end_work`].
+    pub fn sleep(&self, rt: &impl Wait, cluster: &Cluster<N>) -> bool {
+        self.lost == 0 && cluster.sleep(rt, self.requester.id())
+    }
+
     /// Leaves: gives each vote back, and then sends RELEASE to each member of its quorum. Fails if
     /// and only if it is not inside, and then changes nothing.
     pub fn leave(&mut self, rt: &impl Wait, cluster: &Cluster<N>) -> Result<(), ClusterFault>

@@ -38,4 +38,4 @@ pub use laws::lines_end;
 pub use message::{ClientBody, Message, ToClient, ToVoter, VoterBody};
 pub use reading::read_message;
 pub use request::Request;
-pub use writing::write_message;
+pub use writing::{push_message, write_message};

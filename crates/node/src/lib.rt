@@ -37,9 +37,11 @@
 mod mailbox;
 mod name;
 mod node;
+mod postbox;
 mod votes;
 
 pub use mailbox::Mailbox;
 pub use name::ClusterName;
 pub use node::Node;
+pub use postbox::{Awake, Postbox};
 pub use votes::{accept, give_back};

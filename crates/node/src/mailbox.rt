@@ -81,6 +81,13 @@ impl<N: ClusterName> Mailbox<N> {
         Ok(true)
     }
 
+    /// Returns whether no message waits.
+    pub fn is_empty(&self) -> bool
+        ensures { IsTrue result ↔ (self.now.messages ≡ []) }
+    {
+        self.messages.is_empty()
+    }
+
     /// Removes the first message and returns it, if the mailbox is this client's. Returns `None` if
     /// and only if the mailbox is another client's or is empty; then nothing changes.
     pub fn take(&mut self, client: u8) -> Option<ToClient>

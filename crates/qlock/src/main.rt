@@ -7,27 +7,16 @@
 
 ghost use Rattle.std.specs.Prelude.{◌≡◌};
 ghost use Rattle.qlock_cli.specs.Commands.{IsInRange};
-ghost use Rattle.qlock.specs.Statuses.{status_of, usage_status};
+ghost use Rattle.qlock_cli.specs.Statuses.{usage_status};
 
 use qlock_cli::{
-    Command, DeviceFault, Fault, NoGate, Usage, Watched, execute, execute_run,
-    named_commands_are_in_range, read_words,
+    Command, Fault, NoGate, Usage, Watched, execute, execute_run, named_commands_are_in_range,
+    read_words, status_of, usage_status,
 };
 use std::process::ExitCode;
 use std::sync::Wait;
 use std::thread::Threads;
 use std::{env, io};
-
-/// Returns the exit status of a fault: 3 if a read or a write failed, 4 if memory ran out, else 1.
-fn status_of(fault: &Fault) -> u8
-    ensures { result ≡ status_of fault.now }
-{
-    match fault {
-        Fault::Device(DeviceFault::ReadFault | DeviceFault::WriteFault) => 3,
-        Fault::OutOfMemory => 4,
-        _ => 1,
-    }
-}
 
 /// Prints why the words name no command. Returns the exit status: 2, or 4 if memory ran out.
 fn refuse_words(rt: &HostRuntime, usage: &Usage) -> u8
@@ -36,17 +25,15 @@ fn refuse_words(rt: &HostRuntime, usage: &Usage) -> u8
     match usage {
         Usage::Refused(error) => {
             let _ = rt.eprint(error);
-            2
         }
         Usage::Arguments => {
             let _ = rt.eprintln("I5 Arguments");
-            2
         }
         Usage::OutOfMemory => {
             let _ = rt.eprintln(&Fault::OutOfMemory);
-            4
         }
     }
+    usage_status(usage)
 }
 
 /// Serves the command over standard input and output. Returns the exit status. `threads` is the

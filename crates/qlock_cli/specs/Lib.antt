@@ -3,3 +3,4 @@ pub mod Dealing
 pub mod Devices
 pub mod Faults
 pub mod Parts
+pub mod Statuses

@@ -25,8 +25,8 @@ use quorum_set::{Coterie, Side};
 use replay::{ReplayFault, check_record, read_record, run_script};
 use std::alloc::{AllocError, Global};
 
-/// Returns the coterie that a part describes.
-fn coterie_of(alloc: Global, part: &[u8]) -> Result<Named, Fault>
+/// Returns the coterie that a part describes. A part that is not UTF-8 fails with `NotToml`.
+pub fn coterie_of(alloc: Global, part: &[u8]) -> Result<Named, Fault>
     ensures exact { Gives (λ n. n) result (coterie_part part.now) }
     ensures own { IfErr result IsOwn }
     ensures file { IfErr result IsOfFile }
@@ -96,7 +96,7 @@ pub fn planned_of(alloc: Global, input: &[u8]) -> Result<Planned, Fault>
 
 /// Returns what an input of three parts describes: a coterie, a plan of it, and a text after them.
 #[tactic(auto, unfolding(crate::specs::Commands::staged_in))]
-fn staged_of(alloc: Global, input: &[u8]) -> Result<(Planned, &[u8]), Fault>
+pub fn staged_of(alloc: Global, input: &[u8]) -> Result<(Planned, &[u8]), Fault>
     ensures exact { Gives (λ x. (x.0, x.1.now)) result (staged_in input.now) }
     ensures own { IfErr result IsOwn }
     ensures before { IfErr result IsBeforeScript }
@@ -136,9 +136,9 @@ fn deal_text_of(alloc: Global, planned: Planned, count: u64) -> Result<String, A
     let (account, receipts) = dealt(alloc, plan, count)?;
     let _ = named.coterie();
     let mut text = String::new(alloc);
-    push_receipts(alloc, &mut text, &receipts)?;
-    push_account(alloc, &mut text, &named, &account)?;
-    push_ratio(alloc, &mut text, named.capacities(), &account)?;
+    push_receipts(&mut text, &receipts)?;
+    push_account(&mut text, &named, &account)?;
+    push_ratio(&mut text, named.capacities(), &account)?;
     Ok(text)
 }
 

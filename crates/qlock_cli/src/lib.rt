@@ -16,7 +16,9 @@
 //! or if memory ran out. A fault other than a failed write writes nothing. After a failed write a
 //! beginning of the output was written.
 //!
-//! The program `qlock` calls this crate, and other programs can embed it:
+//! The program `qlock` calls this crate, and other programs can embed it. Programs that show more
+//! of the same inputs read them by [`coterie_of`], [`planned_of`], [`staged_of`] and
+//! [`split_part`], and deal by [`dealt`].
 //!
 //! ```
 //! let command = read_words(alloc, words)?; // of `qlock plan`: Command::Plan
@@ -34,11 +36,17 @@ mod lines;
 mod parts;
 mod running;
 mod serving;
+mod statuses;
 
+pub use answer::{Planned, coterie_of, planned_of, staged_of};
 pub use cluster::{Gate, NoGate};
 pub use command_line::{Command, Shape, Usage, read_words};
+pub use dealing::dealt;
 pub use fault::Fault;
 pub use laws::named_commands_are_in_range;
+pub use lines::{push_account, push_ratio};
+pub use parts::split_part;
 pub use running::execute_run;
 pub use serving::execute;
+pub use statuses::{status_of, usage_status};
 pub use whole_io::{DeviceFault, Watched};

@@ -13,24 +13,20 @@ use crate::reading::read_script;
 use crate::script::Script;
 use certificate::Plan;
 use dealer::Plans;
-use message::{Message, write_message};
+use message::{Message, push_message};
 use requester::ClientFault;
 use std::alloc::{AllocError, Global};
 use voter::VoterFault;
 use world::{Event, Step, World, WorldFault};
 
 /// Writes `m NUMBER MESSAGE`.
-fn push_message(
-    alloc: Global,
-    text: &mut String,
-    number: usize,
-    message: &Message,
-) -> Result<(), AllocError>
+fn push_sent(text: &mut String, number: usize, message: &Message) -> Result<(), AllocError>
     requires { HasLine message.now }
     ensures { OnOk result (string_bytes text.new ≡ string_bytes text.old ++ sent_line number message.now) }
 {
-    let line = write_message(alloc, message)?;
-    write!(text, "m {number} {line}\n")
+    write!(text, "m {number} ")?;
+    push_message(text, message)?;
+    text.push('\n')
 }
 
 /// Writes `enter CLIENT` or `leave CLIENT`.
@@ -80,17 +76,12 @@ pub(crate) fn push_refusal(text: &mut String, fault: WorldFault) -> Result<(), A
 }
 
 /// Writes the messages of a world from this number on.
-fn push_messages(
-    alloc: Global,
-    text: &mut String,
-    world: &World,
-    first: usize,
-) -> Result<(), AllocError>
+fn push_messages(text: &mut String, world: &World, first: usize) -> Result<(), AllocError>
     ensures { OnOk result
         (string_bytes text.new ≡ string_bytes text.old ++ sent_lines first (drop first world.now.state.sent)) }
 {
     for number in first..world.sent() {
-        push_message(alloc, text, number, &world.message(number))?;
+        push_sent(text, number, &world.message(number))?;
     }
     Ok(())
 }
@@ -116,12 +107,7 @@ fn events_from(events: &[Event], first: usize) -> &[Event]
 }
 
 /// Takes a step, and writes what it did.
-fn push_step(
-    alloc: Global,
-    text: &mut String,
-    world: &mut World,
-    step: Step,
-) -> Result<(), ReplayFault>
+fn push_step(text: &mut String, world: &mut World, step: Step) -> Result<(), ReplayFault>
     ensures text { OnOk result
         (string_bytes text.new ≡ string_bytes text.old ++ step_output world.old.state (step_of world.old step)) }
     ensures world { OnOk result (world.new.state ≡ after world.old.state (step_of world.old step)) }
@@ -132,7 +118,7 @@ fn push_step(
     let events = world.visible().len();
     match world.step(step) {
         Ok(_) => {
-            push_messages(alloc, text, world, messages)?;
+            push_messages(text, world, messages)?;
             push_events(text, events_from(world.visible(), events))?;
             Ok(())
         }
@@ -153,7 +139,7 @@ fn output_of(alloc: Global, plan: Plan, script: &Script, room: usize) -> Result<
     let plans = Plans::single(plan);
     let mut world = World::new(alloc, plans, script.clients(), script.limit())?;
     for step in script.steps() {
-        match push_step(alloc, &mut text, &mut world, *step) {
+        match push_step(&mut text, &mut world, *step) {
             Ok(()) => {}
             Err(fault) => return Err(fault),
         }

@@ -1,5 +1,5 @@
 //! Worlds, which make steps one by one.
-ghost use Rattle.std.specs.Prelude.{◌≡◌, ◌<◌, ◌≤◌, IfErr, IfOk, Ok, OnErr, Some, length, map, slice_get};
+ghost use Rattle.std.specs.Prelude.{◌≡◌, ◌<◌, ◌≤◌, IfErr, IfOk, Ok, OnErr, Some, length, map, option_map, slice_get};
 ghost use Rattle.std.specs.List.{AllByRecursion, range_with_len};
 ghost use Rattle.numbers.specs.Bounds.{max_voters, max_clients, max_stamp};
 ghost use Rattle.requester.specs.Steps as requesters;
@@ -122,6 +122,20 @@ impl World {
     {
         worlds_stay_sound();
         self.state.sent[number]
+    }
+
+    /// Returns the client with this number, if there is one.
+    pub fn client(&self, number: u8) -> Option<&Requester>
+        ensures { option_map (λ c. c.now) result ≡ slice_get self.now.state.clients number }
+    {
+        self.state.clients.get(usize::from(number))
+    }
+
+    /// Returns the voter with this number, if there is one.
+    pub fn voter(&self, number: u8) -> Option<&Voter>
+        ensures { option_map (λ v. v.now) result ≡ slice_get self.now.state.voters number }
+    {
+        self.state.voters.get(usize::from(number))
     }
 
     /// Returns who entered and who left, in order. At most one client is inside at a time.

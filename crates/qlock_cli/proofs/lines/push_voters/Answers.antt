@@ -11,9 +11,8 @@ loop-i-preserved c =
     let names = c.args.named.now.names in
     let counts = c.args.counts.now in
     let name = get_or_from_slice_get names c.loop-i.i c.name.result.now [] c.name.ensures.value in
-    flat_map-more_lines (λ i. voter_line (name_at names i) (slice_index counts i)) c.loop-i.i (string_bytes c.args.text.now) (string_bytes c.loop-i.text) (string_bytes c.push_str.new.self) c.loop-i.invariant
-    (c.in_ok-push_str.ensures.bytes ∙ ap (λ t. string_bytes c.loop-i.text ++ t)
-    (c.deref.ensures ∙ c.in_ok-line.ensures ∙ ap (λ n. voter_line n (slice_index counts c.loop-i.i)) (sym name)))
+    flat_map-more_lines (λ i. voter_line (name_at names i) (slice_index counts i)) c.loop-i.i (string_bytes c.args.text.now) (string_bytes c.loop-i.text) (string_bytes c.push_voter.new.text) c.loop-i.invariant
+    (c.in_ok-push_voter.ensures ∙ ap (λ n. string_bytes c.loop-i.text ++ voter_line n (slice_index counts c.loop-i.i)) (sym name))
 
 pub returns : goal.returns
 returns c =

@@ -15,8 +15,8 @@ use Rattle.members.proofs.ClerkLemmas.{AreWhole-HasShare, HasShare-fresh, names_
 use Rattle.members.proofs.RecordLemmas.{AreDrawsOf-from, record_of}
 use Rattle.members.proofs.cluster.Cluster.end.Goals as goal
 
-pub close-requires-clause-whole : goal.close-requires-clause-whole
-close-requires-clause-whole g c =
+pub end-requires-clause-whole : goal.end-requires-clause-whole
+end-requires-clause-whole g c =
     let cluster = g.N.ClusterName.cluster in
     let names = names_in cluster in
     let left = c.into_inner-root.result.left in
@@ -45,12 +45,12 @@ returns-clause-record g c =
     (subst (λ (l : List Draw). IsPermutation l c.by_ticket.result.items) draws c.by_ticket.ensures.same)
     c.by_ticket.ensures.ascending
     (subst (All (IsDraw cluster First)) draws c.in-Ok.ensures.each)
-    (subst (λ (l : List Receipt). AreAllBelow (tickets_of l) (length l)) (receipts First) c.in_ok-close.ensures.first))
+    (subst (λ (l : List Receipt). AreAllBelow (tickets_of l) (length l)) (receipts First) c.end.ensures.first))
     (AreDrawsOf-from cluster Second members c.by_ticket-2.result.items
     (subst (λ (l : List Draw). IsPermutation l c.by_ticket-2.result.items) draws2 c.by_ticket-2.ensures.same)
     c.by_ticket-2.ensures.ascending
     (subst (All (IsDraw cluster Second)) draws2 c.in-Ok-collect_draws.ensures.each)
-    (subst (λ (l : List Receipt). AreAllBelow (tickets_of l) (length l)) (receipts Second) c.in_ok-close.ensures.second))
+    (subst (λ (l : List Receipt). AreAllBelow (tickets_of l) (length l)) (receipts Second) c.end.ensures.second))
     (subst (λ (l : List Pass). IsPermutation l c.by_number.result.items) all c.by_number.ensures.same)
     c.by_number.ensures.ascending
     c.in_ok-join_members.ensures.each

@@ -1,54 +1,48 @@
-//! The automata again in plain Rust, with nothing proved: `bench/steps.sh` times them beside `crates/bench_steps`.
-//!
-//! `steps_twin ROUNDS`: two clients take turns at the lock of one voter, 11 steps a round. The rules are those of
-//! `docs/protocol.md`; what is sent goes into a `Vec` that the caller keeps.
-
-use std::env;
-use std::process::ExitCode;
+//! Voters and clients: the automata of `docs/protocol.md`. What is sent goes into a `Vec` that the caller keeps.
 
 #[derive(Clone, Copy)]
-enum VoterBody {
+pub enum VoterBody {
     Request { stamp: u64 },
     Relinquish { grant: u64 },
     Release { stamp: u64 },
 }
 
 #[derive(Clone, Copy)]
-struct ToVoter {
-    client: u8,
-    voter: u8,
-    body: VoterBody,
+pub struct ToVoter {
+    pub client: u8,
+    pub voter: u8,
+    pub body: VoterBody,
 }
 
 #[derive(Clone, Copy)]
-enum ClientBody {
+pub enum ClientBody {
     Locked { stamp: u64, grant: u64 },
     Fail { stamp: u64 },
     Inquire { grant: u64 },
 }
 
 #[derive(Clone, Copy)]
-struct ToClient {
-    voter: u8,
-    client: u8,
-    seen: u64,
-    body: ClientBody,
+pub struct ToClient {
+    pub voter: u8,
+    pub client: u8,
+    pub seen: u64,
+    pub body: ClientBody,
 }
 
 /// A request that waits. The lesser precedes.
 #[derive(Clone, Copy, PartialEq, Eq, PartialOrd, Ord)]
-struct Request {
+pub struct Request {
     stamp: u64,
     client: u8,
 }
 
 #[derive(Clone, Copy)]
-struct Grant {
+pub struct Grant {
     request: Request,
     number: u64,
 }
 
-struct Voter {
+pub struct Voter {
     id: u8,
     limit: u64,
     held: Option<Grant>,
@@ -60,7 +54,7 @@ struct Voter {
 }
 
 impl Voter {
-    fn new(id: u8, limit: u64) -> Voter {
+    pub fn new(id: u8, limit: u64) -> Voter {
         Voter {
             id,
             limit,
@@ -193,8 +187,19 @@ impl Voter {
         }
     }
 
+    /// What to send to the holder again.
+    pub fn remind(&self, replies: &mut Vec<ToClient>) {
+        replies.clear();
+        if let Some(Grant { request, number }) = self.held {
+            self.reply(request.client, ClientBody::Locked { stamp: request.stamp, grant: number }, replies);
+            if self.inquiring {
+                self.reply(request.client, ClientBody::Inquire { grant: number }, replies);
+            }
+        }
+    }
+
     /// Whether the message is taken.
-    fn take(&mut self, message: &ToVoter, replies: &mut Vec<ToClient>) -> bool {
+    pub fn take(&mut self, message: &ToVoter, replies: &mut Vec<ToClient>) -> bool {
         replies.clear();
         if self.granted >= self.limit && self.needs_grant(message) {
             return false;
@@ -216,7 +221,7 @@ impl Voter {
 }
 
 #[derive(Clone, Copy, PartialEq)]
-enum Phase {
+pub enum Phase {
     Idle,
     Asking,
     Inside,
@@ -224,7 +229,7 @@ enum Phase {
 
 /// A set of numbers below 64.
 #[derive(Clone, Copy)]
-struct Set(u64);
+pub struct Set(u64);
 
 impl Set {
     fn has(&self, i: u8) -> bool {
@@ -240,7 +245,7 @@ impl Set {
     }
 }
 
-struct Requester {
+pub struct Requester {
     id: u8,
     limit: u64,
     clock: u64,
@@ -255,7 +260,7 @@ struct Requester {
 }
 
 impl Requester {
-    fn new(id: u8, limit: u64) -> Requester {
+    pub fn new(id: u8, limit: u64) -> Requester {
         Requester {
             id,
             limit,
@@ -269,6 +274,10 @@ impl Requester {
             relinquished: Set(0),
             inquired: Set(0),
         }
+    }
+
+    pub fn is_idle(&self) -> bool {
+        self.phase == Phase::Idle
     }
 
     fn tell(&self, voter: u8, body: VoterBody, out: &mut Vec<ToVoter>) {
@@ -287,7 +296,7 @@ impl Requester {
     }
 
     /// Whether the client asks.
-    fn ask(&mut self, quorum: &[u8], out: &mut Vec<ToVoter>) -> bool {
+    pub fn ask(&mut self, quorum: &[u8], out: &mut Vec<ToVoter>) -> bool {
         out.clear();
         if self.phase != Phase::Idle || self.clock >= self.limit {
             return false;
@@ -303,7 +312,7 @@ impl Requester {
     }
 
     /// Whether the client leaves.
-    fn leave(&mut self, out: &mut Vec<ToVoter>) -> bool {
+    pub fn leave(&mut self, out: &mut Vec<ToVoter>) -> bool {
         out.clear();
         if self.phase != Phase::Inside {
             return false;
@@ -312,6 +321,34 @@ impl Requester {
         self.clear();
         self.phase = Phase::Idle;
         true
+    }
+
+    /// Whether the client gives up.
+    pub fn give_up(&mut self, out: &mut Vec<ToVoter>) -> bool {
+        out.clear();
+        if self.phase != Phase::Asking {
+            return false;
+        }
+        self.tell_members(VoterBody::Release { stamp: self.stamp }, out);
+        self.clear();
+        self.phase = Phase::Idle;
+        true
+    }
+
+    /// Asks each member again whose vote is missing.
+    pub fn remind(&self, out: &mut Vec<ToVoter>) {
+        out.clear();
+        if self.phase == Phase::Asking {
+            for &voter in &self.quorum {
+                let place = voter as usize;
+                if self.held[place] == 0 {
+                    if self.relinquished.has(voter) {
+                        self.tell(voter, VoterBody::Relinquish { grant: self.last[place] }, out);
+                    }
+                    self.tell(voter, VoterBody::Request { stamp: self.stamp }, out);
+                }
+            }
+        }
     }
 
     fn relinquish(&mut self, voter: u8, out: &mut Vec<ToVoter>) {
@@ -374,7 +411,7 @@ impl Requester {
     }
 
     /// Whether the client enters.
-    fn take(&mut self, message: &ToClient, out: &mut Vec<ToVoter>) -> bool {
+    pub fn take(&mut self, message: &ToClient, out: &mut Vec<ToVoter>) -> bool {
         out.clear();
         self.clock = self.clock.max(message.seen);
         match message.body {
@@ -384,73 +421,4 @@ impl Requester {
         }
         false
     }
-}
-
-struct Lock {
-    voter: Voter,
-    clients: [Requester; 2],
-    answers: Vec<ToVoter>,
-    steps: u64,
-    entered: u64,
-}
-
-impl Lock {
-    fn tell_client(&mut self, message: &ToClient) {
-        if message.voter == 0 && message.client < 2 {
-            let entered = self.clients[message.client as usize].take(message, &mut self.answers);
-            self.steps += 1;
-            self.entered += u64::from(entered);
-        }
-    }
-
-    fn tell_voter(&mut self, message: &ToVoter, replies: &mut Vec<ToClient>) {
-        if message.voter == 0 && message.client < 2 && self.voter.take(message, replies) {
-            self.steps += 1;
-            for reply in replies.iter() {
-                self.tell_client(reply);
-            }
-        }
-    }
-
-    fn send(&mut self, called: bool, sent: &[ToVoter], replies: &mut Vec<ToClient>) {
-        if called {
-            self.steps += 1;
-            for message in sent {
-                self.tell_voter(message, replies);
-            }
-        }
-    }
-
-    fn round(&mut self, quorum: &[u8], out: &mut Vec<ToVoter>, replies: &mut Vec<ToClient>) {
-        for client in 0..2 {
-            let called = self.clients[client].ask(quorum, out);
-            self.send(called, out, replies);
-        }
-        for client in 0..2 {
-            let called = self.clients[client].leave(out);
-            self.send(called, out, replies);
-        }
-    }
-}
-
-fn main() -> ExitCode {
-    let Some(rounds) = env::args().nth(1).and_then(|word| word.parse::<u32>().ok()) else {
-        eprintln!("steps_twin: how many rounds?");
-        return ExitCode::from(2);
-    };
-    let limit = 1 << 40;
-    let mut lock = Lock {
-        voter: Voter::new(0, limit),
-        clients: [Requester::new(0, limit), Requester::new(1, limit)],
-        answers: Vec::new(),
-        steps: 0,
-        entered: 0,
-    };
-    let mut out = Vec::new();
-    let mut replies = Vec::new();
-    for _ in 0..rounds {
-        lock.round(&[0], &mut out, &mut replies);
-    }
-    println!("steps {} entered {}", lock.steps, lock.entered);
-    ExitCode::SUCCESS
 }

@@ -1,0 +1,124 @@
+//! The program again in plain Rust, with nothing proved: what `bench/all.sh` times beside `qlock`. It reads the same inputs and
+//! writes the same outputs, except that it has no faults: what it can't read ends it with status 1.
+//!
+//!     rustc --edition 2021 -O -o twin bench/twin/main.rs
+//!
+//! - `make majority N`, `make wheel N`, `plan`, `check`, `deal N`, `world`, `run CLIENTS PASSES TURNS`, as `qlock`;
+//! - `steps ROUNDS`, as `crates/bench_steps`;
+//! - `passes CLIENTS PASSES`, as `crates/bench_passes`;
+//! - `counter THREADS PASSES`: a counter behind a plain lock.
+mod automata;
+mod coterie;
+mod plan;
+mod run;
+mod steps;
+mod world;
+
+use coterie::{members, Coterie};
+use plan::Plan;
+use std::fmt::Write as _;
+use std::io::{Read, Write};
+use std::process::ExitCode;
+use std::sync::Mutex;
+use std::{env, io, thread};
+
+fn input() -> Option<String> {
+    let mut text = String::new();
+    io::stdin().read_to_string(&mut text).ok()?;
+    Some(text)
+}
+
+fn planned(text: &str) -> Option<(Coterie, Plan, &str)> {
+    let (coterie, rest) = text.split_once("%%\n")?;
+    let coterie = Coterie::read(coterie)?;
+    let (plan, rest) = rest.split_once("%%\n").unwrap_or((rest, ""));
+    let plan = Plan::read(&coterie, plan)?;
+    Some((coterie, plan, rest))
+}
+
+fn deal(coterie: &Coterie, plan: &Plan, count: usize) -> String {
+    let places = plan.places();
+    let mut text = String::new();
+    let mut counts = vec![0u64; coterie.quorums.len()];
+    for ticket in 0..count {
+        let quorum = places[ticket % places.len()];
+        counts[quorum] += 1;
+        let _ = writeln!(text, "{ticket} {quorum}");
+    }
+    let mut voters = vec![0; coterie.names.len()];
+    for (quorum, count) in coterie.quorums.iter().zip(counts) {
+        for voter in members(*quorum) {
+            voters[voter] += count;
+        }
+    }
+    for (name, count) in coterie.names.iter().zip(&voters) {
+        let _ = writeln!(text, "voter {name} {count}");
+    }
+    let _ = writeln!(text, "busiest {}", voters.iter().max().unwrap_or(&0));
+    text
+}
+
+fn counter(threads: u64, passes: u64) -> String {
+    let register = Mutex::new(0u64);
+    thread::scope(|scope| {
+        for _ in 0..threads {
+            scope.spawn(|| {
+                for _ in 0..passes {
+                    *register.lock().unwrap() += 1;
+                }
+            });
+        }
+    });
+    let count = register.into_inner().unwrap();
+    format!("register {count}\n")
+}
+
+fn answer(words: &[&str]) -> Option<String> {
+    Some(match words {
+        ["make", "majority", voters] => Coterie::majority(voters.parse().ok()?)?.write(),
+        ["make", "wheel", rims] => Coterie::wheel(rims.parse().ok()?)?.write(),
+        ["plan"] => Plan::of(&Coterie::read(&input()?)?)?.write(),
+        ["check"] => {
+            let text = input()?;
+            let (_, plan, _) = planned(&text)?;
+            let (p, q) = plan.load();
+            format!("load {p}/{q} cycle {}\n", plan.cycle)
+        }
+        ["deal", count] => {
+            let text = input()?;
+            let (coterie, plan, _) = planned(&text)?;
+            deal(&coterie, &plan, count.parse().ok()?)
+        }
+        ["world"] => {
+            let text = input()?;
+            let (coterie, plan, script) = planned(&text)?;
+            world::run(&coterie, &plan, script)?
+        }
+        ["run", clients, passes, turns] => {
+            let text = input()?;
+            let (coterie, plan, _) = planned(&text)?;
+            run::run(&coterie, &plan, clients.parse().ok()?, passes.parse().ok()?, turns.parse().ok()?)
+        }
+        ["passes", clients, passes] => {
+            let coterie = Coterie::majority(3)?;
+            let plan = Plan::of(&coterie)?;
+            let record = run::run(&coterie, &plan, clients.parse().ok()?, passes.parse().ok()?, u64::MAX);
+            format!("{}\n", record.lines().last()?)
+        }
+        ["steps", rounds] => steps::run(rounds.parse().ok()?),
+        ["counter", threads, passes] => counter(threads.parse().ok()?, passes.parse().ok()?),
+        _ => return None,
+    })
+}
+
+fn main() -> ExitCode {
+    let words: Vec<String> = env::args().skip(1).collect();
+    let words: Vec<&str> = words.iter().map(String::as_str).collect();
+    match answer(&words) {
+        Some(text) => match io::stdout().write_all(text.as_bytes()) {
+            Ok(()) => ExitCode::SUCCESS,
+            Err(_) => ExitCode::from(3),
+        },
+        None => ExitCode::from(1),
+    }
+}

@@ -1,0 +1,151 @@
+//! Members in threads, who take turns at the lock: each asks, pumps its mailbox until it is inside, passes and leaves.
+use crate::automata::{Requester, ToClient, ToVoter, Voter};
+use crate::coterie::{members, Coterie};
+use crate::plan::Plan;
+use std::collections::VecDeque;
+use std::fmt::Write;
+use std::sync::atomic::{AtomicU64, AtomicUsize, Ordering};
+use std::sync::Mutex;
+use std::thread;
+
+/// Empty pumps in a row after which a member yields its thread at each further one.
+const EMPTY_BEFORE_YIELD: u64 = 16;
+/// Empty pumps in a row at which a member reminds, and counts anew.
+const EMPTY_BEFORE_REMINDER: u64 = 1_000;
+const LIMIT: u64 = 1 << 40;
+
+struct Lock {
+    voters: Vec<Mutex<Voter>>,
+    mailboxes: Vec<Mutex<VecDeque<ToClient>>>,
+    quorums: Vec<Vec<u8>>,
+    places: Vec<usize>,
+    tickets: AtomicUsize,
+    register: AtomicU64,
+}
+
+struct Member {
+    client: u8,
+    requester: Requester,
+    out: Vec<ToVoter>,
+    replies: Vec<ToClient>,
+    draws: Vec<(usize, usize)>,
+    passes: Vec<u64>,
+}
+
+impl Lock {
+    fn deliver(&self, replies: &[ToClient]) {
+        for reply in replies {
+            self.mailboxes[reply.client as usize].lock().unwrap().push_back(*reply);
+        }
+    }
+
+    fn send(&self, messages: &[ToVoter], replies: &mut Vec<ToClient>) {
+        for message in messages {
+            self.voters[message.voter as usize].lock().unwrap().take(message, replies);
+            self.deliver(replies);
+        }
+    }
+
+    fn remind(&self, voter: u8, replies: &mut Vec<ToClient>) {
+        self.voters[voter as usize].lock().unwrap().remind(replies);
+        self.deliver(replies);
+    }
+}
+
+impl Member {
+    /// Whether it entered; `None` if the mailbox is empty.
+    fn pump(&mut self, lock: &Lock) -> Option<bool> {
+        let message = lock.mailboxes[self.client as usize].lock().unwrap().pop_front()?;
+        let entered = self.requester.take(&message, &mut self.out);
+        lock.send(&self.out, &mut self.replies);
+        Some(entered)
+    }
+
+    fn enter(&mut self, lock: &Lock, quorum: &[u8], turns: &mut u64) -> bool {
+        let mut empty = 0;
+        while *turns > 0 {
+            *turns -= 1;
+            match self.pump(lock) {
+                Some(true) => return true,
+                Some(false) => empty = 0,
+                None => {
+                    empty += 1;
+                    if empty > EMPTY_BEFORE_YIELD {
+                        thread::yield_now();
+                    }
+                    if empty == EMPTY_BEFORE_REMINDER {
+                        self.requester.remind(&mut self.out);
+                        lock.send(&self.out, &mut self.replies);
+                        for voter in quorum {
+                            lock.remind(*voter, &mut self.replies);
+                        }
+                        empty = 0;
+                    }
+                }
+            }
+        }
+        false
+    }
+
+    fn serve(&mut self, lock: &Lock, passes: u64, mut turns: u64) {
+        for _ in 0..passes {
+            let ticket = lock.tickets.fetch_add(1, Ordering::Relaxed);
+            let number = lock.places[ticket % lock.places.len()];
+            self.draws.push((ticket, number));
+            let quorum = &lock.quorums[number];
+            self.requester.ask(quorum, &mut self.out);
+            lock.send(&self.out, &mut self.replies);
+            if !self.enter(lock, quorum, &mut turns) {
+                self.requester.give_up(&mut self.out);
+                lock.send(&self.out, &mut self.replies);
+                return;
+            }
+            // two steps, as only the client inside counts
+            let read = lock.register.load(Ordering::Relaxed);
+            self.passes.push(read);
+            lock.register.store(read + 1, Ordering::Relaxed);
+            self.requester.leave(&mut self.out);
+            lock.send(&self.out, &mut self.replies);
+        }
+    }
+}
+
+/// The record of a run.
+pub fn run(coterie: &Coterie, plan: &Plan, clients: u8, passes: u64, turns: u64) -> String {
+    let lock = Lock {
+        voters: (0..coterie.names.len()).map(|voter| Mutex::new(Voter::new(voter as u8, LIMIT))).collect(),
+        mailboxes: (0..clients).map(|_| Mutex::new(VecDeque::new())).collect(),
+        quorums: coterie.quorums.iter().map(|quorum| members(*quorum).map(|voter| voter as u8).collect()).collect(),
+        places: plan.places(),
+        tickets: AtomicUsize::new(0),
+        register: AtomicU64::new(0),
+    };
+    let mut members: Vec<Member> = (0..clients)
+        .map(|client| Member {
+            client,
+            requester: Requester::new(client, LIMIT),
+            out: Vec::new(),
+            replies: Vec::new(),
+            draws: Vec::new(),
+            passes: Vec::new(),
+        })
+        .collect();
+    thread::scope(|scope| {
+        for member in &mut members {
+            scope.spawn(|| member.serve(&lock, passes, turns));
+        }
+    });
+    let mut draws: Vec<_> = members.iter().flat_map(|m| m.draws.iter().map(|d| (d.0, m.client, d.1))).collect();
+    let mut passed: Vec<_> = members.iter().flat_map(|m| m.passes.iter().map(|n| (*n, m.client))).collect();
+    draws.sort_unstable();
+    passed.sort_unstable();
+    let mut text = String::from("quorum-record 1\n");
+    for (ticket, client, quorum) in draws {
+        let _ = writeln!(text, "draw {client} {ticket} {quorum}");
+    }
+    for (number, client) in passed {
+        let _ = writeln!(text, "pass {client} {number}");
+    }
+    let _ = writeln!(text, "register {}", lock.register.load(Ordering::Relaxed));
+    text
+}
