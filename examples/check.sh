@@ -1,12 +1,15 @@
 #!/bin/sh
 # Runs every example and compares what it prints with what stands in expected/: the output in NAME.out, or for an example
-# that is refused its one line in NAME.err.
+# that is refused its one line in NAME.err. Draws the pictures of docs/pictures/ and compares them too; where xmllint is found
+# (Debian: libxml2-utils), each has to be well-formed XML.
 #
 #     examples/check.sh            says which examples differ, and ends with status 1 where one does
 #     examples/check.sh --write    writes expected/ anew
 set -eu
 here=$(CDPATH= cd -- "$(dirname -- "$0")" && pwd)
 qlock=$here/../qlock
+show=$here/../qlock-show
+pictures=$here/../docs/pictures
 write=${1:-}
 work=$(mktemp -d)
 trap 'rm -rf "$work"' EXIT
@@ -42,6 +45,19 @@ example() {
         failed=$((failed + 1))
     else
         compare "$work/err" "$name.err"
+    fi
+}
+
+# shown NAME INPUT WORDS..: the same of qlock-show, which does not refuse these
+shown() {
+    name=$1
+    input=$2
+    shift 2
+    if "$show" "$@" < "$input" > "$work/out" 2> "$work/err"; then
+        compare "$work/out" "show-$name.out"
+    else
+        echo "show-$name: $(cat "$work/err")" >&2
+        failed=$((failed + 1))
     fi
 }
 
@@ -120,6 +136,42 @@ example no-plan-at-all wheel-3.toml 1 check
 example no-turns wheel-3-planned.txt 1 run 2 1 0
 example wheel-of-1-rim /dev/null 1 make wheel 1
 example grid-of-one-number /dev/null 2 make grid 2
+
+# pages for people: plans, tickets, stories, explanations, and where an input has its fault
+for coterie in grid-3-3 majority-5 wheel-3 wheel-3-fast-hub cyclic-7 tree-2 three-racks weighted-votes; do
+    "$qlock" plan < "$coterie.toml" > "$work/plan" || true
+    parts "$coterie.toml" "$work/plan" > "$work/input"
+    shown "plan-$coterie" "$work/input" plan
+done
+shown deal-wheel-3 wheel-3-planned.txt deal 5
+shown deal-wheel-3-fast-hub wheel-3-fast-hub-planned.txt deal 7
+for world in race late-message withdrawal; do
+    shown "world-$world" "world-$world.txt" world
+done
+shown explain-disjoint /dev/null explain E7
+shown fault-disjoint refused-disjoint.toml fault plan
+shown fault-plan refused-plan.txt fault check
+shown fault-capacity refused-capacity.txt fault check
+shown fault-record refused-record.txt fault replay
+shown fault-script refused-script.txt fault world
+shown fault-missing-part wheel-3.toml fault check
+shown fault-none wheel-3-planned.txt fault deal 5
+
+# pictures
+mkdir "$work/pictures"
+"$pictures/make.sh" "$work/pictures"
+for picture in "$work"/pictures/*.svg; do
+    name=$(basename "$picture")
+    if command -v xmllint > /dev/null && ! xmllint --noout "$picture"; then
+        failed=$((failed + 1))
+    elif [ "$write" = --write ]; then
+        cp "$picture" "$pictures/$name"
+    elif cmp "$pictures/$name" "$picture"; then
+        passed=$((passed + 1))
+    else
+        failed=$((failed + 1))
+    fi
+done
 
 [ "$write" = --write ] || echo "$passed examples print what they should, $failed do not"
 [ "$failed" -eq 0 ]

@@ -1,5 +1,5 @@
 #!/usr/bin/env bash
-# Runs the program as it is built where memory is refused and devices fail, and looks at what it prints and how it ends.
+# Runs the programs as they are built where memory is refused and devices fail, and looks at what it prints and how it ends.
 #
 #     hostile/run.sh [WORD]      (tries the cases alone whose label has the word, where one is given)
 #
@@ -149,6 +149,16 @@ try 'world majority' '' "$work/script" world
 try 'run 2 2 100000 grid' 4 "$work/grid" run 2 2 100000
 try 'replay grid' '' "$work/run" replay
 try 'replay majority' '' "$work/record" replay
+
+# the same of the second program
+"$root/qlock-show" explain E7 > /dev/null
+program=$root/build/qlock_show
+try 'show plan majority' '' "$work/majority" plan
+try 'show deal 3 majority' '' "$work/majority" deal 3
+try 'show world majority' '' "$work/script" world
+try 'show picture load majority' '' "$work/majority" picture load
+try 'show fault check' '' "$root/examples/refused-plan.txt" fault check
+try 'show explain E7' '' /dev/null explain E7
 
 # whether the member said this, and nothing else
 said() {

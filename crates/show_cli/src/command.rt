@@ -1,0 +1,31 @@
+//! The commands of the program.
+use explanations::Explanation;
+use qlock_cli::Command;
+
+/// What a picture shows.
+#[derive(Clone, Copy, Debug, PartialEq, Eq)]
+pub enum Picture {
+    /// How often a plan uses each voter and each quorum.
+    Load,
+    /// The first cycle of a plan, and how evenly it uses the voters.
+    Cycle,
+    /// The messages of a script.
+    World,
+}
+
+/// A command, with the words and numbers from the command line.
+#[derive(Drop)]
+pub enum ShowCommand {
+    /// Show a plan: whom to ask how often, and why no plan is better.
+    Plan,
+    /// Deal this many tickets, 0 to 100,000, with the names of the voters to ask.
+    Deal(u32),
+    /// Tell a script's run in words.
+    World,
+    /// Explain a fault.
+    Explain(&'static Explanation),
+    /// Show where an input has the fault for which this command of `qlock` refuses it.
+    Fault(Command),
+    /// Draw a picture.
+    Picture(Picture),
+}

@@ -1,0 +1,221 @@
+//! Where an input has its fault, and with which names.
+ghost use Rattle.std.specs.Prelude.{◌≡◌};
+ghost use Rattle.qlock_cli.specs.Commands.{IsInRange};
+
+use crate::excerpt::{line_of, push_line};
+use crate::input_parts::{lines_before, part_in, part_name};
+use crate::text_faults::push_file_fault;
+use certificate::PlanFault;
+use planner::{Cause, PlannerFault};
+use qlock_cli::{Command, Fault, Watched, execute, planned_of};
+use replay::ReplayFault;
+use std::alloc::{AllocError, Global};
+
+/// Returns the fault with which a command of `qlock` refuses an input, if it refuses it. For `run`
+/// the input is only read.
+fn fault_in(alloc: Global, command: &Command, input: &[u8]) -> Option<Fault>
+    requires { IsInRange command.now }
+{
+    let outcome = match command {
+        Command::Run { .. } => match planned_of(alloc, input) {
+            Ok(_) => Ok(()),
+            Err(fault) => Err(fault),
+        },
+        _ => {
+            let mut written = Vec::new(alloc);
+            let mut reader = Watched::of(input);
+            let mut writer = Watched::of(&mut written);
+            execute(alloc, command, &mut reader, &mut writer)
+        }
+    };
+    outcome.err()
+}
+
+/// The input that a command refused.
+#[derive(Clone, Copy)]
+struct Refused<'a> {
+    command: &'a Command,
+    input: &'a [u8],
+}
+
+/// Appends the place of a part.
+fn push_part(text: &mut String, refused: &Refused, number: usize) -> Result<(), AllocError> {
+    let name = part_name(refused.command, number);
+    let line = lines_before(refused.input, number).saturating_add(1);
+    write!(
+        text,
+        "  in part {number}, {name}, which begins at line {line}\n"
+    )
+}
+
+/// Appends a line of a part: its number in the whole input, and its text.
+fn push_bad_line(
+    text: &mut String,
+    refused: &Refused,
+    number: usize,
+    line: usize,
+) -> Result<(), AllocError> {
+    let name = part_name(refused.command, number);
+    let whole = lines_before(refused.input, number).saturating_add(line);
+    write!(
+        text,
+        "  at line {whole} of the input, line {line} of {name}: "
+    )?;
+    match line_of(part_in(refused.command, refused.input, number), line) {
+        Some(found) => {
+            push_line(text, found)?;
+            text.push('\n')
+        }
+        None => text.push_str("there is no such line, or it has no newline\n"),
+    }
+}
+
+/// Appends what is wrong with a plan.
+fn push_plan_fault(
+    text: &mut String,
+    refused: &Refused,
+    fault: PlanFault,
+) -> Result<(), AllocError> {
+    if let PlanFault::BadText { line } = fault {
+        return push_bad_line(text, refused, 2, line);
+    }
+    push_part(text, refused, 2)?;
+    match fault {
+        PlanFault::NotOptimal {
+            busiest_count,
+            voter_total,
+            lightest_quorum,
+            cycle_len,
+        } => write!(
+            text,
+            "  a cycle of {cycle_len} uses its busiest voter {busiest_count} times; by the voters' weights that has to be {cycle_len} * {lightest_quorum} / {voter_total} times\n"
+        ),
+        PlanFault::WrongLength => text.push_str(
+            "  there has to be one weight for each quorum, and one for each voter of the coterie\n",
+        ),
+        PlanFault::WrongCapacity => {
+            text.push_str("  the plan is for other capacities than those of the coterie\n")
+        }
+        _ => Ok(()),
+    }
+}
+
+/// Appends why no plan was found.
+fn push_planner_fault(text: &mut String, fault: PlannerFault) -> Result<(), AllocError> {
+    match fault {
+        PlannerFault::NoPlan(Cause::Overflow) => {
+            text.push_str("  a number of the simplex method did not fit into 128 bits\n")
+        }
+        PlannerFault::NoPlan(Cause::PivotLimit) => {
+            text.push_str("  the simplex method needs more than 10,000 pivots\n")
+        }
+        PlannerFault::NoPlan(Cause::TooLarge) => {
+            text.push_str("  the best weights add up to more than 1,000,000\n")
+        }
+        _ => Ok(()),
+    }
+}
+
+/// Appends what is wrong with a record that can be read.
+fn push_record_fault(text: &mut String, fault: ReplayFault) -> Result<(), AllocError> {
+    match fault {
+        ReplayFault::TicketTwice(ticket) => {
+            write!(text, "  two lines `draw` have ticket {ticket}\n")
+        }
+        ReplayFault::TicketMissing(ticket) => {
+            write!(text, "  no line `draw` has ticket {ticket}\n")
+        }
+        ReplayFault::WrongQuorum(ticket) => write!(
+            text,
+            "  ticket {ticket} stands for another quorum of the plan's cycle\n"
+        ),
+        ReplayFault::PassTwice(number) => write!(text, "  two lines `pass` have number {number}\n"),
+        ReplayFault::PassMissing(number) => {
+            write!(text, "  no line `pass` has number {number}\n")
+        }
+        ReplayFault::WrongRegister(count) => {
+            write!(
+                text,
+                "  there are {count} lines `pass`, so the register has to be {count}\n"
+            )
+        }
+        ReplayFault::BadLine(_) | ReplayFault::OutOfMemory => Ok(()),
+    }
+}
+
+/// Appends what is wrong with a script or a record.
+fn push_replay_fault(
+    text: &mut String,
+    refused: &Refused,
+    fault: ReplayFault,
+) -> Result<(), AllocError> {
+    match fault {
+        ReplayFault::BadLine(line) => push_bad_line(text, refused, 3, line),
+        _ => {
+            push_part(text, refused, 3)?;
+            push_record_fault(text, fault)
+        }
+    }
+}
+
+/// Appends where the fault is, and with which names.
+fn push_place(
+    alloc: Global,
+    text: &mut String,
+    refused: &Refused,
+    fault: Fault,
+) -> Result<(), AllocError> {
+    match fault {
+        Fault::MissingPart(number) => {
+            let name = part_name(refused.command, number);
+            write!(
+                text,
+                "  part {number}, {name}, has to follow a line that is exactly %%\n"
+            )
+        }
+        Fault::File(fault) => {
+            push_part(text, refused, 1)?;
+            text.push_str("  ")?;
+            let part = part_in(refused.command, refused.input, 1);
+            push_file_fault(alloc, text, part, fault)?;
+            text.push('\n')
+        }
+        Fault::Plan(fault) => push_plan_fault(text, refused, fault),
+        Fault::Planner(fault) => push_planner_fault(text, fault),
+        Fault::Replay(fault) => push_replay_fault(text, refused, fault),
+        Fault::Device(_) | Fault::Construct(_) | Fault::Cluster(_) | Fault::OutOfMemory => Ok(()),
+    }
+}
+
+/// Appends a fault's line, where the fault is, and which command explains it.
+fn push_fault(
+    alloc: Global,
+    text: &mut String,
+    refused: &Refused,
+    fault: Fault,
+) -> Result<(), AllocError> {
+    let line = fault.to_string(alloc)?;
+    text.push_str(&line)?;
+    text.push('\n')?;
+    push_place(alloc, text, refused, fault)?;
+    let code = line.split(' ').next().unwrap_or("");
+    write!(text, "  more: qlock-show explain {code}\n")
+}
+
+/// Returns the page about the fault with which a command of `qlock` refuses an input. Fails only if
+/// memory runs out.
+pub(crate) fn fault_page(
+    alloc: Global,
+    command: &Command,
+    input: &[u8],
+) -> Result<String, AllocError>
+    requires { IsInRange command.now }
+{
+    let mut text = String::new(alloc);
+    match fault_in(alloc, command, input) {
+        Some(Fault::OutOfMemory) => return Err(AllocError),
+        Some(fault) => push_fault(alloc, &mut text, &Refused { command, input }, fault)?,
+        None => text.push_str("qlock does not refuse this input\n")?,
+    }
+    Ok(text)
+}

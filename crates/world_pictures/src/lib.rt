@@ -1,0 +1,27 @@
+//! Pictures of scripts, as SVG 1.1 texts.
+//!
+//! [`world_picture`] shows a script's run as a sequence chart: who sends what to whom, and when it
+//! arrives. There is a column for each client and each voter that sends or receives something, and
+//! a row for each step, 200 at most. A message that is delivered twice has two arrows, and one that
+//! is not delivered in these rows ends in a cross. Arrows have titles with exact figures, which a
+//! browser shows under the pointer.
+//!
+//! The picture is one document with no script and no outside file. Only safety is claimed of it:
+//! the call returns, and fails only if memory runs out. The messages are those of `world`.
+//!
+//! Depends on `svg` for the texts, on `shown` for the story of the script, and on `coterie_file` for
+//! names.
+//!
+//! ```
+//! let text = world_picture(alloc, &named, plan, &script)?; // <svg xmlns=..
+//! ```
+#![tactic(auto)]
+
+mod arrows;
+mod chart;
+mod kinds;
+mod lanes;
+mod rows;
+mod worlds;
+
+pub use worlds::world_picture;
