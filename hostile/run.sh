@@ -1,5 +1,5 @@
 #!/usr/bin/env bash
-# Runs the programs as they are built where memory is refused and devices fail, and looks at what it prints and how it ends.
+# Runs the programs as they are built where memory is refused and devices fail, and looks at what they print and how they end.
 #
 #     hostile/run.sh [WORD]      (tries the cases alone whose label has the word, where one is given)
 #
