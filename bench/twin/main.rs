@@ -97,13 +97,14 @@ fn answer(words: &[&str]) -> Option<String> {
         ["run", clients, passes, turns] => {
             let text = input()?;
             let (coterie, plan, _) = planned(&text)?;
-            run::run(&coterie, &plan, clients.parse().ok()?, passes.parse().ok()?, turns.parse().ok()?)
+            let record = run::run(&coterie, &plan, clients.parse().ok()?, passes.parse().ok()?, turns.parse().ok()?);
+            run::text_of(&record)
         }
         ["passes", clients, passes] => {
             let coterie = Coterie::majority(3)?;
             let plan = Plan::of(&coterie)?;
             let record = run::run(&coterie, &plan, clients.parse().ok()?, passes.parse().ok()?, u64::MAX);
-            format!("{}\n", record.lines().last()?)
+            format!("register {}\n", record.register)
         }
         ["steps", rounds] => steps::run(rounds.parse().ok()?),
         ["counter", threads, passes] => counter(threads.parse().ok()?, passes.parse().ok()?),

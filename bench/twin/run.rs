@@ -110,8 +110,15 @@ impl Member {
     }
 }
 
+/// What a run did: draws by ticket, passes by number, and the register.
+pub struct Record {
+    draws: Vec<(usize, u8, usize)>,
+    passes: Vec<(u64, u8)>,
+    pub register: u64,
+}
+
 /// The record of a run.
-pub fn run(coterie: &Coterie, plan: &Plan, clients: u8, passes: u64, turns: u64) -> String {
+pub fn run(coterie: &Coterie, plan: &Plan, clients: u8, passes: u64, turns: u64) -> Record {
     let lock = Lock {
         voters: (0..coterie.names.len()).map(|voter| Mutex::new(Voter::new(voter as u8, LIMIT))).collect(),
         mailboxes: (0..clients).map(|_| Mutex::new(VecDeque::new())).collect(),
@@ -139,13 +146,18 @@ pub fn run(coterie: &Coterie, plan: &Plan, clients: u8, passes: u64, turns: u64)
     let mut passed: Vec<_> = members.iter().flat_map(|m| m.passes.iter().map(|n| (*n, m.client))).collect();
     draws.sort_unstable();
     passed.sort_unstable();
+    Record { draws, passes: passed, register: lock.register.load(Ordering::Relaxed) }
+}
+
+/// The text of a record.
+pub fn text_of(record: &Record) -> String {
     let mut text = String::from("quorum-record 1\n");
-    for (ticket, client, quorum) in draws {
+    for (ticket, client, quorum) in &record.draws {
         let _ = writeln!(text, "draw {client} {ticket} {quorum}");
     }
-    for (number, client) in passed {
+    for (number, client) in &record.passes {
         let _ = writeln!(text, "pass {client} {number}");
     }
-    let _ = writeln!(text, "register {}", lock.register.load(Ordering::Relaxed));
+    let _ = writeln!(text, "register {}", record.register);
     text
 }
