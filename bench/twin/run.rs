@@ -5,18 +5,75 @@ use crate::plan::Plan;
 use std::collections::VecDeque;
 use std::fmt::Write;
 use std::sync::atomic::{AtomicU64, AtomicUsize, Ordering};
-use std::sync::Mutex;
+use std::sync::{Condvar, Mutex};
 use std::thread;
+use std::time::Instant;
 
 /// Empty pumps in a row after which a member yields its thread at each further one.
 const EMPTY_BEFORE_YIELD: u64 = 16;
+/// Empty pumps in a row after which a member sleeps at each further one, if another member is awake.
+const EMPTY_BEFORE_SLEEP: u64 = 500;
 /// Empty pumps in a row at which a member reminds, and counts anew.
 const EMPTY_BEFORE_REMINDER: u64 = 1_000;
+/// Microseconds after which a yield was long: other programs want the processors.
+const KEPT_WAITING: u128 = 500;
+/// How many sleeps follow after a long yield.
+const SLEEPS: u64 = 100;
 const LIMIT: u64 = 1 << 40;
+
+/// A mailbox, and whether its client's thread sleeps.
+struct Postbox {
+    slot: Mutex<(VecDeque<ToClient>, bool)>,
+    bell: Condvar,
+}
+
+impl Postbox {
+    fn new() -> Postbox {
+        Postbox { slot: Mutex::new((VecDeque::new(), false)), bell: Condvar::new() }
+    }
+
+    fn put(&self, message: ToClient) {
+        let mut slot = self.slot.lock().unwrap();
+        slot.0.push_back(message);
+        let sleeps = std::mem::replace(&mut slot.1, false);
+        drop(slot);
+        if sleeps {
+            self.bell.notify_one();
+        }
+    }
+
+    fn take(&self) -> Option<ToClient> {
+        self.slot.lock().unwrap().0.pop_front()
+    }
+
+    /// Whether it may have slept: not if no other member is awake.
+    fn sleep(&self, awake: &AtomicU64) -> bool {
+        let one_less = |count| if count > 1 { Some(count - 1) } else { None };
+        if awake.fetch_update(Ordering::SeqCst, Ordering::SeqCst, one_less).is_err() {
+            return false;
+        }
+        let mut slot = self.slot.lock().unwrap();
+        if slot.0.is_empty() && awake.load(Ordering::SeqCst) > 0 {
+            slot.1 = true;
+            drop(self.bell.wait(slot).unwrap());
+        }
+        awake.fetch_add(1, Ordering::SeqCst);
+        true
+    }
+
+    fn ring(&self) {
+        let _slot = self.slot.lock().unwrap();
+        self.bell.notify_all();
+    }
+}
 
 struct Lock {
     voters: Vec<Mutex<Voter>>,
-    mailboxes: Vec<Mutex<VecDeque<ToClient>>>,
+    /// For each voter a lock that is held from a message to it until the replies are posted.
+    lines: Vec<Mutex<()>>,
+    mailboxes: Vec<Postbox>,
+    awake: AtomicU64,
+    crowd: AtomicU64,
     quorums: Vec<Vec<u8>>,
     places: Vec<usize>,
     tickets: AtomicUsize,
@@ -35,18 +92,20 @@ struct Member {
 impl Lock {
     fn deliver(&self, replies: &[ToClient]) {
         for reply in replies {
-            self.mailboxes[reply.client as usize].lock().unwrap().push_back(*reply);
+            self.mailboxes[reply.client as usize].put(*reply);
         }
     }
 
     fn send(&self, messages: &[ToVoter], replies: &mut Vec<ToClient>) {
         for message in messages {
+            let _line = self.lines[message.voter as usize].lock().unwrap();
             self.voters[message.voter as usize].lock().unwrap().take(message, replies);
             self.deliver(replies);
         }
     }
 
     fn remind(&self, voter: u8, replies: &mut Vec<ToClient>) {
+        let _line = self.lines[voter as usize].lock().unwrap();
         self.voters[voter as usize].lock().unwrap().remind(replies);
         self.deliver(replies);
     }
@@ -55,10 +114,25 @@ impl Lock {
 impl Member {
     /// Whether it entered; `None` if the mailbox is empty.
     fn pump(&mut self, lock: &Lock) -> Option<bool> {
-        let message = lock.mailboxes[self.client as usize].lock().unwrap().pop_front()?;
+        let message = lock.mailboxes[self.client as usize].take()?;
         let entered = self.requester.take(&message, &mut self.out);
         lock.send(&self.out, &mut self.replies);
         Some(entered)
+    }
+
+    /// Sleeps or yields at an empty mailbox.
+    fn rest(&self, lock: &Lock, empty: u64) {
+        if empty > EMPTY_BEFORE_SLEEP || lock.crowd.load(Ordering::SeqCst) > 0 {
+            let _ = lock.crowd.fetch_update(Ordering::SeqCst, Ordering::SeqCst, |left| left.checked_sub(1));
+            if lock.mailboxes[self.client as usize].sleep(&lock.awake) {
+                return;
+            }
+        }
+        let before = Instant::now();
+        thread::yield_now();
+        if before.elapsed().as_micros() > KEPT_WAITING {
+            lock.crowd.store(SLEEPS, Ordering::SeqCst);
+        }
     }
 
     fn enter(&mut self, lock: &Lock, quorum: &[u8], turns: &mut u64) -> bool {
@@ -71,7 +145,7 @@ impl Member {
                 None => {
                     empty += 1;
                     if empty > EMPTY_BEFORE_YIELD {
-                        thread::yield_now();
+                        self.rest(lock, empty);
                     }
                     if empty == EMPTY_BEFORE_REMINDER {
                         self.requester.remind(&mut self.out);
@@ -85,6 +159,15 @@ impl Member {
             }
         }
         false
+    }
+
+    fn work(&mut self, lock: &Lock, passes: u64, turns: u64) {
+        lock.awake.fetch_add(1, Ordering::SeqCst);
+        self.serve(lock, passes, turns);
+        lock.awake.fetch_sub(1, Ordering::SeqCst);
+        for mailbox in &lock.mailboxes {
+            mailbox.ring();
+        }
     }
 
     fn serve(&mut self, lock: &Lock, passes: u64, mut turns: u64) {
@@ -121,7 +204,10 @@ pub struct Record {
 pub fn run(coterie: &Coterie, plan: &Plan, clients: u8, passes: u64, turns: u64) -> Record {
     let lock = Lock {
         voters: (0..coterie.names.len()).map(|voter| Mutex::new(Voter::new(voter as u8, LIMIT))).collect(),
-        mailboxes: (0..clients).map(|_| Mutex::new(VecDeque::new())).collect(),
+        lines: coterie.names.iter().map(|_| Mutex::new(())).collect(),
+        mailboxes: (0..clients).map(|_| Postbox::new()).collect(),
+        awake: AtomicU64::new(0),
+        crowd: AtomicU64::new(0),
         quorums: coterie.quorums.iter().map(|quorum| members(*quorum).map(|voter| voter as u8).collect()).collect(),
         places: plan.places(),
         tickets: AtomicUsize::new(0),
@@ -139,7 +225,7 @@ pub fn run(coterie: &Coterie, plan: &Plan, clients: u8, passes: u64, turns: u64)
         .collect();
     thread::scope(|scope| {
         for member in &mut members {
-            scope.spawn(|| member.serve(&lock, passes, turns));
+            scope.spawn(|| member.work(&lock, passes, turns));
         }
     });
     let mut draws: Vec<_> = members.iter().flat_map(|m| m.draws.iter().map(|d| (d.0, m.client, d.1))).collect();

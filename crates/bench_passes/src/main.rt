@@ -17,6 +17,7 @@ use std::env;
 use std::process::ExitCode;
 use std::sync::Wait;
 use std::thread::Threads;
+use std::time::Clock;
 
 /// How many turns each client has: more than any run takes.
 const TURNS: u64 = 1_000_000_000_000_000;
@@ -38,7 +39,7 @@ fn sizes_of(rt: &HostRuntime) -> Option<(u8, u32)>
 }
 
 /// Runs the lock, and returns the register.
-fn register_of<T: Threads + Wait + Sync>(
+fn register_of<T: Threads + Wait + Clock + Sync>(
     rt: &T,
     alloc: Global,
     clients: u8,

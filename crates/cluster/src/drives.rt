@@ -11,16 +11,21 @@ use requester::{Phase, Seen};
 use std::sync::Wait;
 use std::thread;
 use std::thread::Threads;
+use std::time::{Clock, Instant};
 
 /// The number of empty pumps in a row after which a member yields its thread at each further one.
 const EMPTY_BEFORE_YIELD: u64 = 16;
 
 /// The number of empty pumps in a row after which a member sleeps at each further one, if another
 /// member is awake.
-const EMPTY_BEFORE_SLEEP: u64 = 64;
+const EMPTY_BEFORE_SLEEP: u64 = 500;
 
 /// The number of empty pumps in a row at which a member reminds, and counts anew.
 const EMPTY_BEFORE_REMINDER: u64 = 1_000;
+
+/// A thread that yielded was kept waiting by other programs if it runs again after more microseconds
+/// than this. Members that take turns with it give it back within some ten.
+const KEPT_WAITING: u128 = 500;
 
 /// All members of a drive, and the fault of one whose work ended early.
 #[derive(Drop)]
@@ -31,17 +36,45 @@ pub struct Driven<N: ClusterName> {
     pub fault: ClusterFault,
 }
 
-/// Has a member sleep until a message may have come, or yield its thread if it has to stay awake.
-fn doze<N: ClusterName>(rt: &impl Wait, cluster: &Cluster<N>, member: &Member<N>) {
-    if !member.sleep(rt, cluster) {
-        thread::yield_now();
+/// Yields the thread. Returns whether it was kept waiting by other programs, as far as the clock can
+/// show.
+fn yields_long(rt: &impl Clock) -> bool {
+    let before = Instant::now(rt);
+    thread::yield_now();
+    match before {
+        Ok(before) => match before.elapsed(rt) {
+            Ok(time) => time.as_micros() > KEPT_WAITING,
+            Err(_) => false,
+        },
+        Err(_) => false,
     }
 }
 
-/// Does what a member does at an empty pump: nothing, or it yields its thread or sleeps, or it
-/// reminds. Takes and returns how many empty pumps count.
+/// Has a member yield its thread.
+fn give_way<N: ClusterName>(rt: &impl Clock, cluster: &Cluster<N>) {
+    if yields_long(rt) {
+        cluster.was_kept_waiting();
+    }
+}
+
+/// Has a member sleep until a message may have come, or yield its thread. It sleeps if it waited
+/// long, or if other programs want the processors, unless it has to stay awake.
+fn rest<N: ClusterName>(
+    rt: &(impl Wait + Clock),
+    cluster: &Cluster<N>,
+    member: &Member<N>,
+    empty: u64,
+) {
+    let is_long = empty > EMPTY_BEFORE_SLEEP || cluster.is_crowded();
+    if !is_long || !member.sleep(rt, cluster) {
+        give_way(rt, cluster);
+    }
+}
+
+/// Does what a member does at an empty pump: nothing, or it rests, or it reminds. Takes and returns
+/// how many empty pumps count.
 fn bide<N: ClusterName>(
-    rt: &impl Wait,
+    rt: &(impl Wait + Clock),
     cluster: &Cluster<N>,
     member: &mut Member<N>,
     empty: u64,
@@ -51,10 +84,8 @@ fn bide<N: ClusterName>(
     ensures same { member.new ≡ record member.old { lost = member.new.lost } }
 {
     let empty = empty + 1;
-    if empty > EMPTY_BEFORE_SLEEP {
-        doze(rt, cluster, member);
-    } else if empty > EMPTY_BEFORE_YIELD {
-        thread::yield_now();
+    if empty > EMPTY_BEFORE_YIELD {
+        rest(rt, cluster, member, empty);
     }
     if empty < EMPTY_BEFORE_REMINDER {
         return empty;
@@ -66,7 +97,7 @@ fn bide<N: ClusterName>(
 /// Has a member pump until it is inside, at one turn for each pump. Returns how many turns are
 /// left, or `None` if they were spent before.
 fn enter<N: ClusterName>(
-    rt: &impl Wait,
+    rt: &(impl Wait + Clock),
     cluster: &Cluster<N>,
     member: &mut Member<N>,
     turns: u64,
@@ -102,7 +133,7 @@ fn wait_at<G: Gate>(gate: &G, client: u8, turns: u64) -> Option<u64>
 
 /// Has a member ask, pass and leave once, or get as far as it can. Returns how many turns are left.
 fn pass_once<N: ClusterName, G: Gate>(
-    rt: &impl Wait,
+    rt: &(impl Wait + Clock),
     cluster: &Cluster<N>,
     member: &mut Member<N>,
     turns: u64,
@@ -155,7 +186,7 @@ fn end<N: ClusterName>(rt: &impl Wait, cluster: &Cluster<N>, member: &mut Member
 /// Has a member make `passes` passes by the plan in use. Returns how many turns are left. If its work
 /// ends early, the member keeps the fault, and this returns `None`.
 fn serve_on<N: ClusterName, G: Gate>(
-    rt: &impl Wait,
+    rt: &(impl Wait + Clock),
     cluster: &Cluster<N>,
     member: &mut Member<N>,
     passes: u64,
@@ -198,7 +229,7 @@ fn exchange<N: ClusterName>(member: &mut Member<N>)
 /// Has a member make `passes` passes. If there is another plan, the member exchanges its plan after
 /// half of them. If its work ends early, the member keeps the fault.
 fn serve<N: ClusterName, G: Gate>(
-    rt: &impl Wait,
+    rt: &(impl Wait + Clock),
     cluster: &Cluster<N>,
     member: &mut Member<N>,
     passes: u64,
@@ -250,7 +281,7 @@ fn least_of<N: ClusterName>(members: &[Member<N>]) -> Option<(u8, ClusterFault)>
 }
 
 /// Has each member make `passes` passes, in a thread of its own if the system gives one.
-fn serve_all<N: ClusterName + Send + Sync, R: Threads + Wait + Sync, G: Gate>(
+fn serve_all<N: ClusterName + Send + Sync, R: Threads + Wait + Clock + Sync, G: Gate>(
     rt: &R,
     cluster: &Cluster<N>,
     members: &mut [Member<N>],
@@ -297,8 +328,10 @@ fn serve_all<N: ClusterName + Send + Sync, R: Threads + Wait + Sync, G: Gate>(
 ///
 /// Each pump and each question to the gate whether the member may pass is a turn. Each member has
 /// `turns` turns for all its passes, and a pass takes at least two. At each empty pump beyond 16 in
-/// a row a member yields its thread. Beyond 64 it sleeps until a message comes, unless all others
-/// sleep or ended, or it lost a message. At 1,000 it reminds and counts anew.
+/// a row a member yields its thread. If other programs keep a thread that yielded waiting, members
+/// sleep for a while in place of yielding; the clock is read for this. They sleep, too, beyond 500
+/// empty pumps. A member that sleeps wakes when a message comes. It stays awake if all others sleep
+/// or ended, or if it lost a message. At 1,000 it reminds and counts anew.
 ///
 /// If its turns are spent or one of its calls fails, a member ends its work: it leaves or gives up,
 /// and keeps the fault ([`Member::fault`]).
@@ -306,7 +339,7 @@ fn serve_all<N: ClusterName + Send + Sync, R: Threads + Wait + Sync, G: Gate>(
 /// Returns all members, in order and idle. If the work of some ended early, returns them in
 /// [`Driven`], with the fault of the smallest such client. A client that the gate never lets pass
 /// makes no pass.
-pub fn drive<N: ClusterName + Send + Sync, R: Threads + Wait + Sync, G: Gate>(
+pub fn drive<N: ClusterName + Send + Sync, R: Threads + Wait + Clock + Sync, G: Gate>(
     rt: &R,
     cluster: &Cluster<N>,
     mut members: Vec<Member<N>>,

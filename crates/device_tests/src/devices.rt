@@ -11,6 +11,7 @@ use std::io;
 use std::io::{Read, Write};
 use std::sync::Wait;
 use std::thread::Threads;
+use std::time::Clock;
 
 /// More reads or writes than any of these commands makes.
 const MANY: usize = 100_000;
@@ -177,7 +178,7 @@ struct Trial<'a, T> {
     wanted: Wanted<'a>,
 }
 
-impl<'a, T: Threads + Wait + Sync> Trial<'a, T> {
+impl<'a, T: Threads + Wait + Clock + Sync> Trial<'a, T> {
     /// Runs the command once over devices.
     fn served(&self, reads: Device, writes: Device) -> Outcome
         requires { IsInRange self.now.command.now }
@@ -268,7 +269,7 @@ impl<'a, T: Threads + Wait + Sync> Trial<'a, T> {
 
 /// Returns whether a command line has the right result over devices that move single bytes, and
 /// over those that move larger pieces.
-fn holds_out<T: Threads + Wait + Sync>(
+fn holds_out<T: Threads + Wait + Clock + Sync>(
     rt: &T,
     alloc: Global,
     line: &str,
@@ -289,7 +290,7 @@ fn holds_out<T: Threads + Wait + Sync>(
 }
 
 /// Returns whether each row has the right result.
-fn all_hold_out<T: Threads + Wait + Sync>(
+fn all_hold_out<T: Threads + Wait + Clock + Sync>(
     rt: &T,
     alloc: Global,
     rows: &[Row],

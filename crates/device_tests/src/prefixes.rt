@@ -9,9 +9,10 @@ use std::alloc::{AllocError, Global};
 use std::sync::Wait;
 use std::test::Fail;
 use std::thread::Threads;
+use std::time::Clock;
 
 /// Returns how many beginnings of a plan, without the whole of it, are refused as bad texts.
-fn refused_beginnings<T: Threads + Wait + Sync>(
+fn refused_beginnings<T: Threads + Wait + Clock + Sync>(
     rt: &T,
     alloc: Global,
     coterie: &str,
@@ -43,7 +44,7 @@ fn no_prefix_of_a_plan_is_one(rt: HostRuntime) -> Result<(), Fail> {
 
 /// Returns of how many beginnings of the majorities a plan is found, and how many are refused
 /// because they are no TOML or have other keys.
-fn planned_beginnings<T: Threads + Wait + Sync>(
+fn planned_beginnings<T: Threads + Wait + Clock + Sync>(
     rt: &T,
     alloc: Global,
 ) -> Result<(usize, usize), AllocError> {

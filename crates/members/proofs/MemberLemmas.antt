@@ -23,7 +23,7 @@ use Rattle.board.specs.Words.{nobody}
 use Rattle.board.specs.declared.fault.BoardFault.{BoardFault}
 use Rattle.board.specs.declared.fault.BoardFault.TheVariants.{OutOfMemory, RegisterFull}
 use Rattle.dealer.specs.declared.receipt.Receipt.{Receipt}
-use Rattle.numbers.specs.Sets.{IsSet}
+use Rattle.numbers.specs.Sets.{has, IsSet}
 use Rattle.node.specs.Mail.{IsMail}
 use Rattle.members.specs.declared.fault.ClusterFault.{ClusterFault}
 use Rattle.members.specs.declared.fault.ClusterFault.TheVariants as refuses
@@ -34,7 +34,7 @@ use Rattle.quorum_set.specs.declared.bridge.Side.{Side}
 use Rattle.members.specs.Clerks.{ClerksState, HasShare, IsThere, drawn, names_of, rest_of}
 use Rattle.members.proofs.ClerkLemmas.{HasShare-drawn, IsThere-drawn, names_of-drawn}
 use Rattle.members.specs.Clusters.{ClusterState}
-use Rattle.node.specs.Votes.{HoldsWithin, HoldsFewer}
+use Rattle.node.specs.Votes.{HoldsWithin, HoldsFewer, HoldsOnly}
 use Rattle.members.specs.Members.{IsMember, MemberState, RefusesAsk, RefusesStart}
 
 -- Steps
@@ -218,6 +218,7 @@ Took-from_take laws board x m o id sound mail is few e =
 pub record Ended (x : ClientState) (o : Outcome) : Type 0 where
   pub sound : IsSound o.state
   pub id : o.state.id ≡ x.id
+  pub quorum : members o.state ≡ members x
   pub idle : is_idle o.state.phase ≡ true
   pub nothing : HoldsNothing o.state
 
@@ -225,13 +226,13 @@ pub Ended-leave : AreClientLaws → (x : ClientState) (o : Outcome) → IsSound 
 Ended-leave laws x o sound e =
     let s = of_leave x o e in
     let meets = laws.meets x Leaves o sound tt s in
-    record { sound = laws.sound x Leaves o sound tt s; id = meets.id; idle = meets.quorum.1; nothing = laws.left x o e }
+    record { sound = laws.sound x Leaves o sound tt s; id = meets.id; quorum = meets.quorum.0; idle = meets.quorum.1; nothing = laws.left x o e }
 
 pub Ended-give_up : AreClientLaws → (x : ClientState) (o : Outcome) → IsSound x → give_up x ≡ Ok o → Ended x o
 Ended-give_up laws x o sound e =
     let s = of_give_up x o e in
     let meets = laws.meets x GivesUp o sound tt s in
-    record { sound = laws.sound x GivesUp o sound tt s; id = meets.id; idle = meets.quorum.1; nothing = laws.given_up x o e }
+    record { sound = laws.sound x GivesUp o sound tt s; id = meets.id; quorum = meets.quorum.0; idle = meets.quorum.1; nothing = laws.given_up x o e }
 
 -- Votes
 
@@ -249,6 +250,11 @@ HoldsWithin-nobody voters held e = λ v some. absurd (some (ap (λ l. slice_inde
 
 pub HoldsFewer-HoldsNothing : (y : ClientState) (seat : List ℕ) → HoldsNothing y → HoldsFewer y.held seat
 HoldsFewer-HoldsNothing y seat nothing = λ v. inr (nothing v)
+
+-- a seat that holds the client's votes holds only votes of its quorum
+pub HoldsOnly-same_votes : AreClientLaws → (x y : ClientState) (seat : List ℕ) → IsSound x → seat ≡ x.held → members y ≡ members x → HoldsOnly (members y) seat
+HoldsOnly-same_votes laws x y seat sound same quorum =
+    λ v out. ap (λ l. slice_index l v) same ∙ laws.of_members x sound v (ap (λ q. has q v) (sym quorum) ∙ out)
 
 -- The member after a step of its client
 

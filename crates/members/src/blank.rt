@@ -10,6 +10,7 @@ ghost use Rattle.members.specs.Members.{AreIdle, fresh_member};
 
 use crate::clerks::{Clerks, Offices, open_offices};
 use crate::cluster::{Cluster, Left};
+use crate::crowd::Crowd;
 use crate::member::Member;
 use board::{Board, BoardRoot};
 use certificate::Plan;
@@ -80,6 +81,15 @@ fn nodes_of<N: ClusterName>(
         nodes.push(Mutex::new(Node::new(alloc, seat)))?;
     }
     Ok(nodes)
+}
+
+/// Creates a lock for each voter, under which its replies are posted.
+fn lines_of(alloc: Global, voters: u8) -> Result<Vec<Mutex<()>>, AllocError> {
+    let mut lines = Vec::with_capacity(alloc, usize::from(voters))?;
+    for _ in 0..voters {
+        lines.push(Mutex::new(()))?;
+    }
+    Ok(lines)
 }
 
 /// Creates a mailbox for each client.
@@ -219,6 +229,7 @@ impl Blank {
             quota,
         } = self;
         let nodes = nodes_of(alloc, &board, &mut root, voters)?;
+        let lines = lines_of(alloc, voters)?;
         let mailboxes = mailboxes_of(alloc, clients)?;
         let members = members_of(
             alloc,
@@ -238,8 +249,10 @@ impl Blank {
             board,
             offices,
             nodes,
+            lines,
             mailboxes,
             awake: Awake::new(),
+            crowd: Crowd::new(),
             left: Mutex::new(left),
         };
         Ok((cluster, members))

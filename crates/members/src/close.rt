@@ -280,8 +280,10 @@ impl<N: ClusterName> Cluster<N> {
             board,
             offices,
             nodes,
+            lines: _,
             mailboxes: _,
             awake: _,
+            crowd: _,
             left,
         } = self;
         let Left {

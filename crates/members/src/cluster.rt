@@ -9,13 +9,14 @@ ghost use Rattle.members.specs.Losses.{is_stray, is_stray_reply, most_lost};
 ghost use Rattle.node.specs.Mail.{IsMail};
 
 use crate::clerks::{Clerks, Offices};
+use crate::crowd::Crowd;
 use board::{Board, BoardRoot, ClientSeat};
 use message::{ToClient, ToVoter};
 use node::{Awake, ClusterName, Node, Postbox};
 use quorum_set::{QSet, Side};
 use requester::Requester;
 use std::marker::{Model, PhantomData};
-use std::sync::{Mutex, Wait};
+use std::sync::{Mutex, MutexGuard, Wait};
 use voter::Replies;
 
 /// A running cluster: its board, its offices, a node for each voter and a mailbox for each client.
@@ -25,9 +26,14 @@ pub struct Cluster<N: ClusterName> {
     pub(crate) board: Board,
     pub(crate) offices: Offices,
     pub(crate) nodes: Vec<Mutex<Node<N>>>,
+    /// For each voter a lock that is held from a message to it until the replies are posted. So its
+    /// replies get into a mailbox in the order in which it made them. Nothing is proved about this.
+    pub(crate) lines: Vec<Mutex<()>>,
     pub(crate) mailboxes: Vec<Postbox<N>>,
     /// How many of the members at work are awake.
     pub(crate) awake: Awake,
+    /// Whether other programs want the processors.
+    pub(crate) crowd: Crowd,
     /// Unused until `close`. The lock lets threads share the cluster.
     pub(crate) left: Mutex<Left<N>>,
 }
@@ -67,6 +73,12 @@ impl<N: ClusterName> Cluster<N> {
             return None;
         }
         node.take(&self.board, message).unwrap_or(None)
+    }
+
+    /// Waits until the replies of a voter to earlier messages are posted, and keeps other messages to
+    /// it waiting until the guard is dropped. Returns `None` if the cluster doesn't have the voter.
+    fn line(&self, rt: &impl Wait, voter: u8) -> Option<MutexGuard<'_, ()>> {
+        Some(self.lines.get(usize::from(voter))?.lock(rt))
     }
 
     /// Returns the reminders of a voter's node, or `None` if the cluster doesn't have the voter.
@@ -117,7 +129,9 @@ impl<N: ClusterName> Cluster<N> {
     }
 
     /// Gives each of these messages of a client to its voter, in order, and the voter's replies to
-    /// their clients. A node's lock is released before a mailbox is locked.
+    /// their clients. A node's lock is released before a mailbox is locked. Of one voter, earlier
+    /// replies are posted before later ones: if an INQUIRE overtook its LOCKED, the client would
+    /// drop it, and all would wait for a reminder.
     ///
     /// Returns how many are lost: each message that a node did not take, and each reply that did
     /// not get into a mailbox.
@@ -137,8 +151,10 @@ impl<N: ClusterName> Cluster<N> {
     {
         let mut lost: u64 = 0;
         for message in messages {
+            let line = self.line(rt, message.voter);
             let replies = self.tell(rt, message);
             lost = lost.saturating_add(self.post_all(rt, replies));
+            drop(line);
         }
         lost
     }
@@ -151,8 +167,10 @@ impl<N: ClusterName> Cluster<N> {
     {
         let mut lost: u64 = 0;
         for voter in voters {
+            let line = self.line(rt, *voter);
             let replies = self.reminders(rt, *voter);
             lost = lost.saturating_add(self.post_all(rt, replies));
+            drop(line);
         }
         lost
     }
@@ -181,10 +199,23 @@ impl<N: ClusterName> Cluster<N> {
     /// work. Returns at once if a message waits. Returns `false` at once if no other member at work
     /// is awake.
     pub(crate) fn sleep(&self, rt: &impl Wait, client: u8) -> bool {
+        self.crowd.lessens();
         match self.mailboxes.get(usize::from(client)) {
             Some(mailbox) => mailbox.sleep(rt, &self.awake),
             None => false,
         }
+    }
+
+    /// Returns whether other programs want the processors, as far as is known from
+    /// [`Cluster::was_kept_waiting`]. Nothing is proved about it.
+    pub fn is_crowded(&self) -> bool {
+        self.crowd.is_there()
+    }
+
+    /// Says that a member's thread yielded and was kept waiting long. So other programs want the
+    /// processors: the next hundred times a member had better sleep than yield.
+    pub fn was_kept_waiting(&self) {
+        self.crowd.comes();
     }
 
     /// Says that a member begins its work: until it ends it or sleeps, others may sleep.

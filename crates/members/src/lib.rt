@@ -83,6 +83,7 @@ mod blank;
 mod clerks;
 mod close;
 mod cluster;
+mod crowd;
 mod fault;
 #[cfg(test)]
 mod forged_tests;

@@ -13,7 +13,7 @@ ghost use Rattle.members.specs.Clusters.{ClusterState, names_in};
 ghost use Rattle.members.specs.Losses.{LosesAtMost, most_lost};
 ghost use Rattle.members.specs.Members.{MemberState, MayAsk, Asked, HasLeft, GaveUp, Met, Pumped, RefusesAsk, RefusesPass, fresh_member, place_in, with_pass};
 ghost use Rattle.node.specs.Mail.{IsMail};
-ghost use Rattle.node.specs.Votes.{HoldsFewer, HoldsWithin};
+ghost use Rattle.node.specs.Votes.{HoldsFewer, HoldsOnly, HoldsWithin};
 
 use crate::clerks::Clerks;
 use crate::cluster::Cluster;
@@ -83,6 +83,7 @@ fn finish<N: ClusterName>(
     requires places { (length seat.old.held ≡ max_voters) × (length requester.now.held ≡ max_voters) }
     requires within { HoldsWithin N.cluster.board.voters seat.old.held }
     requires fewer { HoldsFewer requester.now.held seat.old.held }
+    requires of_members { HoldsOnly (members requester.now) seat.old.held }
     ensures held { seat.new.held ≡ requester.now.held }
     ensures few { result ≤ most_lost (length out.now.items) }
     ensures within { HoldsWithin N.cluster.board.voters seat.new.held }

@@ -50,10 +50,17 @@ impl Awake {
     }
 }
 
+/// A client's mailbox, and whether its thread sleeps until the bell rings.
+#[derive(Drop)]
+struct Slot<N: ClusterName> {
+    mailbox: Mailbox<N>,
+    sleeps: bool,
+}
+
 /// A client's mailbox behind a lock, with a bell that rings when a message comes.
 #[derive(Drop)]
 pub struct Postbox<N: ClusterName> {
-    mailbox: Mutex<Mailbox<N>>,
+    slot: Mutex<Slot<N>>,
     bell: Condvar,
 }
 
@@ -61,20 +68,30 @@ impl<N: ClusterName> Postbox<N> {
     /// Creates the empty mailbox of a client.
     pub fn new(alloc: Global, client: u8) -> Postbox<N> {
         Postbox {
-            mailbox: Mutex::new(Mailbox::new(alloc, client)),
+            slot: Mutex::new(Slot {
+                mailbox: Mailbox::new(alloc, client),
+                sleeps: false,
+            }),
             bell: Condvar::new(),
         }
     }
 
-    /// Appends a message if it belongs in this mailbox, and rings. Returns `false` if the message is
-    /// lost: memory ran out, or it does not belong here. It rings for such a message too, so that the
-    /// client may remind. `voters` is the number of the board's voters.
+    /// Appends a message if it belongs in this mailbox, and rings if the client's thread sleeps.
+    /// Returns `false` if the message is lost: memory ran out, or it does not belong here. It rings
+    /// for such a message too, so that the client may remind. `voters` is the number of the board's
+    /// voters.
     pub fn put(&self, rt: &impl Wait, message: ToClient, voters: usize) -> bool
         requires { voters ≡ N.cluster.board.voters }
         ensures { IsTrue result → IsMail N.cluster.board message.client message }
     {
-        let put = self.mailbox.lock(rt).put(message, voters) == Ok(true);
-        self.bell.notify_one();
+        let mut slot = self.slot.lock(rt);
+        let put = slot.mailbox.put(message, voters) == Ok(true);
+        let sleeps = slot.sleeps;
+        slot.sleeps = false;
+        drop(slot);
+        if sleeps {
+            self.bell.notify_one();
+        }
         put
     }
 
@@ -82,7 +99,7 @@ impl<N: ClusterName> Postbox<N> {
     pub fn take(&self, rt: &impl Wait, client: u8) -> Option<ToClient>
         ensures { IfSome result (IsMail N.cluster.board client) }
     {
-        self.mailbox.lock(rt).take(client)
+        self.slot.lock(rt).mailbox.take(client)
     }
 
     /// Sleeps until the bell rings, unless a message waits or no other thread is awake. Returns
@@ -91,9 +108,10 @@ impl<N: ClusterName> Postbox<N> {
         if !awake.leave() {
             return false;
         }
-        let mailbox = self.mailbox.lock(rt);
-        if mailbox.is_empty() && awake.is_any() {
-            let _ = self.bell.wait(rt, mailbox);
+        let mut slot = self.slot.lock(rt);
+        if slot.mailbox.is_empty() && awake.is_any() {
+            slot.sleeps = true;
+            let _ = self.bell.wait(rt, slot);
         }
         awake.begin();
         true
@@ -102,8 +120,8 @@ impl<N: ClusterName> Postbox<N> {
     /// Rings, so that a thread that sleeps here looks whether it may still sleep.
     pub fn ring(&self, rt: &impl Wait) {
         // Whoever has the lock now, and is about to sleep, sleeps before it rings.
-        let mailbox = self.mailbox.lock(rt);
+        let slot = self.slot.lock(rt);
         self.bell.notify_all();
-        drop(mailbox);
+        drop(slot);
     }
 }

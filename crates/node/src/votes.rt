@@ -4,18 +4,18 @@ ghost use Rattle.numbers.specs.Bounds.{max_voters};
 ghost use Rattle.board.specs.Seats.{BoardState, ClientSeatState};
 ghost use Rattle.requester.specs.Soundness.{IsSound};
 ghost use Rattle.requester.specs.Steps.{take, would_hold};
-ghost use Rattle.requester.specs.Words.{held_of};
+ghost use Rattle.requester.specs.Words.{held_of, members};
 ghost use Rattle.node.specs.Mail.{IsMail, has_grant};
-ghost use Rattle.node.specs.Votes.{HoldsWithin, HoldsLocked, HoldsFewer};
+ghost use Rattle.node.specs.Votes.{HoldsWithin, HoldsLocked, HoldsFewer, HoldsOnly};
 
 use board::{Board, ClientSeat};
 use message::{ClientBody, ToClient};
-use requester::{Requester, messages_move_votes};
+use requester::{Requester, messages_move_votes, phases_tell_votes};
 
 /// Gives a vote back if the seat holds it.
+#[tactic(auto, using(crate::proofs::VoteLemmas::dropped_is_0))]
 fn drop_vote(seat: &mut ClientSeat, board: &Board, voter: u8)
     requires table { seat.old.table ≡ board.now.table }
-    requires voter { voter < length seat.old.held }
     requires within { HoldsWithin board.now.voters seat.old.held }
     ensures dropped { slice_index seat.new.held voter ≡ 0 }
     ensures others { (v : ℕ) → v ≢ voter → slice_index seat.new.held v ≡ slice_index seat.old.held v }
@@ -33,7 +33,6 @@ fn drop_vote(seat: &mut ClientSeat, board: &Board, voter: u8)
 /// Gives a vote back if the seat holds it and the client no longer holds it.
 fn keep_vote(seat: &mut ClientSeat, board: &Board, requester: &Requester, voter: u8)
     requires table { seat.old.table ≡ board.now.table }
-    requires voter { (voter < max_voters) × (length seat.old.held ≡ max_voters) }
     requires within { HoldsWithin board.now.voters seat.old.held }
     requires fewer { HoldsFewer requester.now.held seat.old.held }
     ensures kept { slice_index seat.new.held voter ≡ slice_index requester.now.held voter }
@@ -54,12 +53,13 @@ fn keep_vote(seat: &mut ClientSeat, board: &Board, requester: &Requester, voter:
 /// the same votes.
 ///
 /// If a vote is given back, a reading of the register no longer counts. Otherwise nothing changes.
-/// The seat must be of this board.
+/// The seat must be of this board, and must hold only votes of members of the client's quorum.
 pub fn give_back(seat: &mut ClientSeat, board: &Board, requester: &Requester)
     requires table { seat.old.table ≡ board.now.table }
     requires places { (length seat.old.held ≡ max_voters) × (length requester.now.held ≡ max_voters) }
     requires within { HoldsWithin board.now.voters seat.old.held }
     requires fewer { HoldsFewer requester.now.held seat.old.held }
+    requires of_members { HoldsOnly (members requester.now) seat.old.held }
     ensures held { seat.new.held ≡ requester.now.held }
     ensures within { HoldsWithin board.now.voters seat.new.held }
     ensures same { (seat.new.table ≡ seat.old.table) × (seat.new.client ≡ seat.old.client)
@@ -67,8 +67,8 @@ pub fn give_back(seat: &mut ClientSeat, board: &Board, requester: &Requester)
     ensures idle { seat.old.held ≡ requester.now.held → seat.new ≡ seat.old }
     ensures reading { (seat.new ≡ seat.old) ⊎ (seat.new.reading ≡ None) }
 {
-    for voter in 0..64u8 {
-        keep_vote(seat, board, requester, voter);
+    for voter in requester.quorum() {
+        keep_vote(seat, board, requester, *voter);
     }
 }
 
@@ -92,9 +92,9 @@ fn hold(seat: &mut ClientSeat, board: &Board, message: &ToClient) -> bool
 /// Returns `false` and changes nothing if the vote can't be taken, since the board no longer offers
 /// it to this client.
 ///
-/// If it returns `true`, the seat holds at least the votes that the client will hold. A message by
-/// which the client would hold no vote changes nothing. The seat must be of this board, and must
-/// hold the client's votes.
+/// If it returns `true`, the seat holds at least the votes that the client will hold, and all of
+/// them are votes of its quorum. A message by which the client would hold no vote changes nothing.
+/// The seat must be of this board, and must hold the client's votes.
 pub fn accept(
     seat: &mut ClientSeat,
     board: &Board,
@@ -109,6 +109,7 @@ pub fn accept(
     requires within { HoldsWithin board.now.voters seat.old.held }
     ensures fewer { result ≡ true → HoldsFewer (take requester.now message.now).state.held seat.new.held }
     ensures within { HoldsWithin board.now.voters seat.new.held }
+    ensures of_members { HoldsOnly (members requester.now) seat.new.held }
     ensures len { length seat.new.held ≡ length seat.old.held }
     ensures same { seat.new ≡ record seat.old { held = seat.new.held } }
     ensures taken { result ≡ true → would_hold requester.now message.now ≡ true
@@ -117,6 +118,7 @@ pub fn accept(
     ensures lost { result ≡ false → (seat.new ≡ seat.old) × (would_hold requester.now message.now ≡ true) }
 {
     messages_move_votes();
+    phases_tell_votes();
     if !requester.would_hold(message) {
         return true;
     }

@@ -10,6 +10,7 @@ use std::alloc::{AllocError, Global};
 use std::io::{Read, Write};
 use std::sync::Wait;
 use std::thread::Threads;
+use std::time::Clock;
 
 /// Returns the words of a command line, with the program's name in front.
 fn words_of(alloc: Global, line: &str) -> Result<Vec<String>, AllocError> {
@@ -41,7 +42,7 @@ pub fn command_of(alloc: Global, line: &str) -> Result<Option<Command>, AllocErr
 }
 
 /// Runs a command.
-pub fn serve<T: Threads + Wait + Sync, R: Read, W: Write, G: Gate>(
+pub fn serve<T: Threads + Wait + Clock + Sync, R: Read, W: Write, G: Gate>(
     rt: &T,
     alloc: Global,
     command: &Command,
@@ -61,7 +62,7 @@ pub fn serve<T: Threads + Wait + Sync, R: Read, W: Write, G: Gate>(
 
 /// Returns what the command line writes for an input of bytes, or the text of its fault. The gate
 /// holds up the clients of a run.
-pub fn answer_at<T: Threads + Wait + Sync, G: Gate>(
+pub fn answer_at<T: Threads + Wait + Clock + Sync, G: Gate>(
     rt: &T,
     alloc: Global,
     line: &str,
@@ -84,7 +85,7 @@ pub fn answer_at<T: Threads + Wait + Sync, G: Gate>(
 }
 
 /// Does the same without a gate.
-pub fn answer<T: Threads + Wait + Sync>(
+pub fn answer<T: Threads + Wait + Clock + Sync>(
     rt: &T,
     alloc: Global,
     line: &str,
@@ -94,7 +95,7 @@ pub fn answer<T: Threads + Wait + Sync>(
 }
 
 /// Returns what the command line writes for an input of two parts, or the text of its fault.
-pub fn answer_planned<T: Threads + Wait + Sync>(
+pub fn answer_planned<T: Threads + Wait + Clock + Sync>(
     rt: &T,
     alloc: Global,
     line: &str,
@@ -123,7 +124,7 @@ pub fn joined(alloc: Global, parts: &[&str]) -> Result<String, AllocError> {
 
 /// Returns the place of the first row whose command line writes something else, or `None` if there
 /// is none.
-pub fn first_wrong<T: Threads + Wait + Sync>(
+pub fn first_wrong<T: Threads + Wait + Clock + Sync>(
     rt: &T,
     alloc: Global,
     rows: &[Row],

@@ -16,6 +16,7 @@ use qlock_cli::{
 use std::process::ExitCode;
 use std::sync::Wait;
 use std::thread::Threads;
+use std::time::Clock;
 use std::{env, io};
 
 /// Prints why the words name no command. Returns the exit status: 2, or 4 if memory ran out.
@@ -38,7 +39,7 @@ fn refuse_words(rt: &HostRuntime, usage: &Usage) -> u8
 
 /// Serves the command over standard input and output. Returns the exit status. `threads` is the
 /// runtime again: it starts the threads.
-fn serve<T: Threads + Wait + Sync>(rt: &HostRuntime, threads: &T, command: &Command) -> u8
+fn serve<T: Threads + Wait + Clock + Sync>(rt: &HostRuntime, threads: &T, command: &Command) -> u8
     requires in_range { IsInRange command.now }
 {
     let mut reader = Watched::of(rt.reader());
@@ -75,7 +76,7 @@ fn words_of(rt: &HostRuntime) -> Result<Vec<String>, Usage> {
 }
 
 /// Serves the command that the words of the command line name. Returns the exit status.
-fn run<T: Threads + Wait + Sync>(rt: &HostRuntime, threads: &T) -> Result<u8, Usage> {
+fn run<T: Threads + Wait + Clock + Sync>(rt: &HostRuntime, threads: &T) -> Result<u8, Usage> {
     named_commands_are_in_range();
     let words = words_of(rt)?;
     let command = read_words(rt.alloc(), words.as_slice())?;

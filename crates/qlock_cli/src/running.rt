@@ -17,11 +17,12 @@ use std::alloc::Global;
 use std::io::{Read, Write};
 use std::sync::Wait;
 use std::thread::Threads;
+use std::time::Clock;
 use whole_io::Watched;
 
 /// Returns what `run` writes for an input: the text of the record of a run.
 #[tactic(auto, using(crate::proofs::CommandLemmas::run_told))]
-fn run_answer<T: Threads + Wait + Sync, G: Gate>(
+fn run_answer<T: Threads + Wait + Clock + Sync, G: Gate>(
     rt: &T,
     alloc: Global,
     command: &Command,
@@ -61,7 +62,7 @@ fn run_answer<T: Threads + Wait + Sync, G: Gate>(
 ///
 /// Faults come in the same order as those of `execute`. If a run ends early, the fault is that of
 /// the smallest client whose work ended early.
-pub fn execute_run<T: Threads + Wait + Sync, R: Read, W: Write, G: Gate>(
+pub fn execute_run<T: Threads + Wait + Clock + Sync, R: Read, W: Write, G: Gate>(
     rt: &T,
     alloc: Global,
     command: &Command,

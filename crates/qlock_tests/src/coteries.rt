@@ -7,6 +7,7 @@ use std::alloc::{AllocError, Global};
 use std::sync::Wait;
 use std::test::Fail;
 use std::thread::Threads;
+use std::time::Clock;
 
 /// What `make` writes or refuses. It reads no input.
 const MADE: [Row; 8] = [
@@ -39,7 +40,7 @@ const LINES: [(&str, usize); 7] = [
 
 /// Returns whether a shape's text has this number of lines, and is written again as it was once it
 /// is read.
-fn reads_back<T: Threads + Wait + Sync>(
+fn reads_back<T: Threads + Wait + Clock + Sync>(
     rt: &T,
     alloc: Global,
     line: &str,
@@ -93,7 +94,7 @@ const CERTIFICATES: [(&str, &str, &str); 3] = [
 ];
 
 /// Returns what `check` writes for the coterie of a shape and this plan.
-fn checked<T: Threads + Wait + Sync>(
+fn checked<T: Threads + Wait + Clock + Sync>(
     rt: &T,
     alloc: Global,
     shape: &str,
@@ -125,7 +126,7 @@ const LETTERS: [(&str, &str, &str); 6] = [
 ];
 
 /// Returns what `deal` writes for a coterie of letters.
-fn dealt<T: Threads + Wait + Sync>(
+fn dealt<T: Threads + Wait + Clock + Sync>(
     rt: &T,
     alloc: Global,
     voters: &str,

@@ -7,6 +7,7 @@ use std::sync::Wait;
 use std::sync::atomic::{AtomicU64, Ordering};
 use std::test::Fail;
 use std::thread::Threads;
+use std::time::Clock;
 
 /// How often a gate was called at one place for each of two clients.
 #[derive(Drop)]
@@ -83,7 +84,7 @@ impl Gate for Counted {
 }
 
 /// Returns how a run of two clients under a gate ends: whether its record ends with this line.
-fn ends_with<T: Threads + Wait + Sync, G: Gate>(
+fn ends_with<T: Threads + Wait + Clock + Sync, G: Gate>(
     rt: &T,
     alloc: Global,
     line: &str,

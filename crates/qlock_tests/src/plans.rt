@@ -6,6 +6,7 @@ use std::alloc::{AllocError, Global};
 use std::sync::Wait;
 use std::test::Fail;
 use std::thread::Threads;
+use std::time::Clock;
 
 const CHECKED: [Row; 13] = [
     (
@@ -91,7 +92,7 @@ const FOUND: [(&str, &str); 6] = [
 ];
 
 /// Returns the plan that is found for the coterie of a shape.
-fn found<T: Threads + Wait + Sync>(
+fn found<T: Threads + Wait + Clock + Sync>(
     rt: &T,
     alloc: Global,
     shape: &str,
@@ -143,7 +144,7 @@ const LOADS: [(&str, &str); 14] = [
 ];
 
 /// Returns what `check` writes for a coterie and the plan that `plan` finds.
-fn checked<T: Threads + Wait + Sync>(
+fn checked<T: Threads + Wait + Clock + Sync>(
     rt: &T,
     alloc: Global,
     coterie: &str,

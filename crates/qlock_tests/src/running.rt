@@ -6,6 +6,7 @@ use std::alloc::{AllocError, Global};
 use std::sync::Wait;
 use std::test::Fail;
 use std::thread::Threads;
+use std::time::Clock;
 
 const RUNS: [Row; 5] = [
     (
@@ -46,7 +47,7 @@ const REPLAYS: [(&str, &str, &str, &str); 2] = [
 ];
 
 /// Returns what `replay` writes for the record of a run.
-fn replayed<T: Threads + Wait + Sync>(
+fn replayed<T: Threads + Wait + Clock + Sync>(
     rt: &T,
     alloc: Global,
     line: &str,

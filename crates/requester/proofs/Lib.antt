@@ -1,5 +1,6 @@
 pub mod Calls
 pub mod ContractLemmas
+pub mod Dropping
 pub mod Giving
 pub mod Members
 pub mod RangeLemmas

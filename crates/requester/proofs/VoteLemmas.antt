@@ -73,7 +73,7 @@ IsKeptOrGiven-take x m s e v = IsKeptOrGiven-take_body (see x m.seen) m.voter m.
 
 -- Phases
 
-held_of-not_held : (b : Bool) (x : ClientState) (v : ℕ) → holds x v ≡ b → b ≡ false → held_of x v ≡ 0
+pub held_of-not_held : (b : Bool) (x : ClientState) (v : ℕ) → holds x v ≡ b → b ≡ false → held_of x v ≡ 0
 held_of-not_held b x v e f = let none : holds x v ≡ false = e ∙ f in grind (arith, nat_tests)
 
 holds-idle : (b : Bool) (x : ClientState) (v : ℕ) → IsSound x → is_idle x.phase ≡ true → holds x v ≡ b → b ≡ false

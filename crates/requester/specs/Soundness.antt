@@ -17,6 +17,10 @@ pub record HasPlaces (x : ClientState) : Type 0 where
   pub held : length x.held ≡ max_voters
   pub last : length x.last ≡ max_voters
 
+-- only votes of members of its quorum are held
+abbrev pub HoldsOfMembers : ClientState → Type 0
+HoldsOfMembers x = (v : ℕ) → is_member x v ≡ false → held_of x v ≡ 0
+
 -- what holds of a client after any steps
 pub record IsSound (x : ClientState) : Type 0 where
   pub id : x.id < max_clients

@@ -5,7 +5,7 @@ ghost use Rattle.message.specs.declared.message.ToClient.{ToClient};
 ghost use Rattle.requester.specs.declared.state.ClientState.{ClientState};
 ghost use Rattle.requester.specs.Held.{HoldsBesides, HoldsNothing, IsKeptOrGiven};
 ghost use Rattle.requester.specs.RequesterContract.{Accepts, AllInRange, AllRepeat, ComesInRange, MeetsContract, RemindersInRange};
-ghost use Rattle.requester.specs.Soundness.{IsSound};
+ghost use Rattle.requester.specs.Soundness.{HoldsOfMembers, IsSound};
 ghost use Rattle.requester.specs.Steps.{Cause, Outcome, ask, asked, give_up, leave, released, remind, start, step, take, would_hold};
 ghost use Rattle.requester.specs.Words.{holds, is_asking, is_idle, is_inside, is_member, is_spent};
 
@@ -56,8 +56,10 @@ pub fn messages_move_votes()
         → IsKeptOrGiven x (take x m) v }
 {}
 
-/// A client that is idle holds nothing. A client that is inside holds the vote of each member.
+/// A client holds only votes of members of its quorum. While it is idle it holds nothing, and while
+/// it is inside it holds the vote of each member.
 pub fn phases_tell_votes()
+    ensures of_members { (x : ClientState) → IsSound x → HoldsOfMembers x }
     ensures idle { (x : ClientState) → IsSound x → is_idle x.phase ≡ true → HoldsNothing x }
     ensures inside { (x : ClientState) (v : ℕ) → IsSound x → is_inside x.phase ≡ true → is_member x v ≡ true
         → holds x v ≡ true }

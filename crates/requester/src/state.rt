@@ -1,10 +1,11 @@
 //! What a client knows, and its steps.
-ghost use Rattle.std.specs.Prelude.{◌≡◌, ◌<◌, ◌≤◌, ◌+◌, ◌^◌, ◌++◌, [], ℕ, List, eqb, Err, IfErr, IfNone, IfOk, Ok};
+ghost use Rattle.std.specs.Prelude.{◌≡◌, ◌<◌, ◌≤◌, ◌+◌, ◌^◌, ◌++◌, [], true, ℕ, List, eqb, Err, IfErr, IfNone, IfOk, Ok, length, replicate};
 ghost use Rattle.std.specs.List.{AllByRecursion, IsDistinct};
 ghost use Rattle.numbers.specs.Bounds.{max_voters};
 ghost use Rattle.arrayvec.specs.ArrayVec.{array_vec_len};
 ghost use Rattle.numbers.specs.Sets.{IsSet};
-ghost use Rattle.requester.specs.Words.{held_of, holds, holds_under, is_covered, is_current, is_hindered, is_member, last_of};
+ghost use Rattle.requester.specs.Words.{held_of, holds, holds_under, is_covered, is_current, is_hindered, is_idle, is_member, last_of};
+ghost use Rattle.requester.specs.Soundness.{HoldsOfMembers};
 ghost use Rattle.requester.specs.Steps.{Foretells, ask, cleared, failed, give_up, hold, inquired, is_fresh, leave, locked, relinquish, relinquish_inquired, relinquish_marked, remind, remind_member, take, take_body, tell, tell_members, would_hold};
 
 use crate::fault::ClientFault;
@@ -173,11 +174,23 @@ impl ClientState {
         false
     }
 
-    /// Forgets all held votes and all marks of voters.
-    fn clear(&mut self)
-        ensures { self.new ≡ cleared self.old }
+    /// Forgets all held votes. They are votes of members, so only those are looked at.
+    fn drop_votes(&mut self)
+        requires places { length self.old.held ≡ max_voters }
+        requires of_members { HoldsOfMembers self.old }
+        requires voters { AllByRecursion (λ v. v < max_voters) self.old.quorum.items }
+        ensures { self.new ≡ record self.old { held = replicate max_voters 0 } }
     {
-        self.held = [0; MAX_VOTERS];
+        for i in 0..self.quorum.len() {
+            let voter = self.quorum[i];
+            self.held[voter as usize] = 0;
+        }
+    }
+
+    /// Forgets all marks of voters.
+    fn unmark(&mut self)
+        ensures { self.new ≡ record self.old { failed = []; relinquished = []; inquired = [] } }
+    {
         self.failed = QSet::empty();
         self.relinquished = QSet::empty();
         self.inquired = QSet::empty();
@@ -196,10 +209,11 @@ impl ClientState {
         }
     }
 
-    /// Starts a new request for this quorum, under the next stamp.
+    /// Starts a new request for this quorum, under the next stamp. An idle client holds no vote.
     #[tactic(auto, unfolding(crate::specs::Steps::ask))]
     pub fn ask(&mut self, quorum: &QSet, out: &mut Messages) -> Result<Seen, ClientFault>
         requires few { self.old.limit < 2 ^ 63 }
+        requires idle { is_idle self.old.phase ≡ true → self.old.held ≡ replicate max_voters 0 }
         requires room { out.old.items ≡ [] }
         ensures asked { IfOk result (λ seen. ask self.old quorum.now
             ≡ Ok (record { out = out.new.items; seen = seen; state = self.new })) }
@@ -210,7 +224,7 @@ impl ClientState {
         if let Some(fault) = self.ask_fault() {
             return Err(fault);
         }
-        self.clear();
+        self.unmark();
         self.clock += 1;
         self.stamp = self.clock;
         self.phase = Phase::Asking;
@@ -388,12 +402,16 @@ impl ClientState {
     /// Ends the request: sends RELEASE to each member.
     fn release(&mut self, out: &mut Messages)
         requires few { array_vec_len self.old.quorum ≤ max_voters }
+        requires places { length self.old.held ≡ max_voters }
+        requires of_members { HoldsOfMembers self.old }
+        requires voters { AllByRecursion (λ v. v < max_voters) self.old.quorum.items }
         requires room { out.old.items ≡ [] }
         ensures state { self.new ≡ record (cleared self.old) { phase = Phase.Idle } }
         ensures out { out.new.items ≡ tell_members self.old (VoterBody.Release self.old.stamp) }
     {
         self.tell_members(VoterBody::Release { stamp: self.stamp }, out);
-        self.clear();
+        self.drop_votes();
+        self.unmark();
         self.phase = Phase::Idle;
     }
 
@@ -412,6 +430,9 @@ impl ClientState {
     #[tactic(auto, unfolding(crate::specs::Steps::leave))]
     pub fn leave(&mut self, out: &mut Messages) -> Result<Seen, ClientFault>
         requires few { array_vec_len self.old.quorum ≤ max_voters }
+        requires places { length self.old.held ≡ max_voters }
+        requires of_members { HoldsOfMembers self.old }
+        requires voters { AllByRecursion (λ v. v < max_voters) self.old.quorum.items }
         requires room { out.old.items ≡ [] }
         ensures left { IfOk result (λ seen. leave self.old
             ≡ Ok (record { out = out.new.items; seen = seen; state = self.new })) }
@@ -440,6 +461,9 @@ impl ClientState {
     #[tactic(auto, unfolding(crate::specs::Steps::give_up))]
     pub fn give_up(&mut self, out: &mut Messages) -> Result<Seen, ClientFault>
         requires few { array_vec_len self.old.quorum ≤ max_voters }
+        requires places { length self.old.held ≡ max_voters }
+        requires of_members { HoldsOfMembers self.old }
+        requires voters { AllByRecursion (λ v. v < max_voters) self.old.quorum.items }
         requires room { out.old.items ≡ [] }
         ensures given_up { IfOk result (λ seen. give_up self.old
             ≡ Ok (record { out = out.new.items; seen = seen; state = self.new })) }

@@ -17,10 +17,11 @@ use std::alloc::Global;
 use std::marker::Brand;
 use std::sync::Wait;
 use std::thread::Threads;
+use std::time::Clock;
 
 /// Opens a cluster of one plan, has each of its members make `passes` passes, closes it, and returns
 /// the record.
-fn run_blank<N: ClusterName + Send + Sync, R: Threads + Wait + Sync, G: Gate>(
+fn run_blank<N: ClusterName + Send + Sync, R: Threads + Wait + Clock + Sync, G: Gate>(
     rt: &R,
     alloc: Global,
     blank: Blank,
@@ -64,7 +65,7 @@ fn run_blank<N: ClusterName + Send + Sync, R: Threads + Wait + Sync, G: Gate>(
 /// If a client's work ends early, for instance because its turns are spent, returns the fault of
 /// the smallest such client. There is no record of a pass if the gate never lets one of the clients
 /// pass, or with fewer than two turns for each pass.
-pub fn record_of_run<R: Threads + Wait + Sync, G: Gate>(
+pub fn record_of_run<R: Threads + Wait + Clock + Sync, G: Gate>(
     rt: &R,
     alloc: Global,
     plan: Plan,

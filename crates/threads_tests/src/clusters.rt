@@ -11,6 +11,7 @@ use std::alloc::{AllocError, Global};
 use std::marker::Brand;
 use std::sync::Wait;
 use std::thread::Threads;
+use std::time::Clock;
 
 /// A number of turns that no test uses up.
 pub(crate) const MANY: u64 = 1_000_000_000_000;
@@ -110,7 +111,7 @@ pub(crate) fn shown<N: ClusterName>(members: &[Member<N>], fault: Option<Cluster
 }
 
 /// Drives all members of a cluster once, and returns the result.
-fn driven_by_name<N: ClusterName + Send + Sync, R: Threads + Wait + Sync, G: Gate>(
+fn driven_by_name<N: ClusterName + Send + Sync, R: Threads + Wait + Clock + Sync, G: Gate>(
     rt: &R,
     alloc: Global,
     blank: Blank,
@@ -133,7 +134,7 @@ pub(crate) type Size = (u8, u64, u64, u64);
 
 /// Drives all members of a cluster of a plan once, and returns the result; `None` if there is no
 /// cluster.
-pub(crate) fn driven<R: Threads + Wait + Sync, G: Gate>(
+pub(crate) fn driven<R: Threads + Wait + Clock + Sync, G: Gate>(
     rt: &R,
     alloc: Global,
     plan: Option<Plan>,

@@ -12,6 +12,7 @@ use std::marker::Brand;
 use std::sync::Wait;
 use std::test::Fail;
 use std::thread::Threads;
+use std::time::Clock;
 
 #[test]
 fn two_members_run_at_once(rt: HostRuntime) -> Result<(), Fail> {
@@ -77,7 +78,7 @@ fn first_fault<N: ClusterName>(members: &[Member<N>]) -> Option<ClusterFault> {
 }
 
 /// Returns how many members come back from a drive of none.
-fn nobody<N: ClusterName + Send + Sync, R: Threads + Wait + Sync>(
+fn nobody<N: ClusterName + Send + Sync, R: Threads + Wait + Clock + Sync>(
     rt: &R,
     alloc: Global,
     cluster: &Cluster<N>,
@@ -89,7 +90,7 @@ fn nobody<N: ClusterName + Send + Sync, R: Threads + Wait + Sync>(
 }
 
 /// Drives a cluster's members twice. Returns `None` unless only the second drive succeeds.
-fn driven_again<N: ClusterName + Send + Sync, R: Threads + Wait + Sync>(
+fn driven_again<N: ClusterName + Send + Sync, R: Threads + Wait + Clock + Sync>(
     rt: &R,
     alloc: Global,
     blank: Blank,

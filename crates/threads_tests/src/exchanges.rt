@@ -13,9 +13,10 @@ use std::marker::Brand;
 use std::sync::Wait;
 use std::test::Fail;
 use std::thread::Threads;
+use std::time::Clock;
 
 /// Returns the record of a drive with this number of passes of each member.
-fn driven<N: ClusterName + Send + Sync, R: Threads + Wait + Sync>(
+fn driven<N: ClusterName + Send + Sync, R: Threads + Wait + Clock + Sync>(
     rt: &R,
     alloc: Global,
     blank: Blank,

@@ -7,6 +7,7 @@ use std::sync::Wait;
 use std::sync::atomic::{AtomicU64, Ordering};
 use std::test::Fail;
 use std::thread::Threads;
+use std::time::Clock;
 
 /// How often a gate was called for a client: before the client asks, once it has asked, and whether
 /// it may pass.
@@ -83,7 +84,7 @@ type Driven = (Option<Outcome>, Calls);
 
 /// Returns what one client on majorities of three voters does in `turns` turns at a gate that opens
 /// at this question.
-fn alone<R: Threads + Wait + Sync>(
+fn alone<R: Threads + Wait + Clock + Sync>(
     rt: &R,
     alloc: Global,
     question: u64,

@@ -12,6 +12,7 @@ use std::marker::Brand;
 use std::sync::Wait;
 use std::test::Fail;
 use std::thread::Threads;
+use std::time::Clock;
 
 /// Returns the record of members that enter, pass and leave, one after the other.
 fn recorded<N: ClusterName>(
@@ -61,7 +62,7 @@ fn the_record_of_a_cluster_is_accepted(rt: HostRuntime) -> Result<(), Fail> {
 
 /// Drives one pass of each client at a gate that is shut for client 0, and then closes the cluster.
 /// Returns what the members have done, and the record.
-fn shut_out<N: ClusterName + Send + Sync, R: Threads + Wait + Sync>(
+fn shut_out<N: ClusterName + Send + Sync, R: Threads + Wait + Clock + Sync>(
     rt: &R,
     alloc: Global,
     blank: Blank,

@@ -306,7 +306,7 @@ impl VoterState {
     pub fn is_refused(&self, message: &ToVoter) -> bool
         ensures { result ≡ is_refused self.now message.now }
     {
-        self.needs_grant(message) && self.granted >= self.limit
+        self.granted >= self.limit && self.needs_grant(message)
     }
 
     /// Returns whether a message ends the current grant.

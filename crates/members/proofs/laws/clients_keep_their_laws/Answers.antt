@@ -4,6 +4,7 @@ pub returns : goal.returns
 returns c = record {
   sound = c.requesters_stay_sound.ensures.steps;
   meets = c.requesters_meet_the_contract.ensures.steps;
+  of_members = c.phases_tell_votes.ensures.of_members;
   idle = c.phases_tell_votes.ensures.idle;
   asked = c.phases_tell_votes.ensures.asked;
   left = c.phases_tell_votes.ensures.left;

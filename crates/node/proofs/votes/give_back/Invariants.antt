@@ -1,10 +1,12 @@
-use Rattle.std.proofs.Common.{◌≡◌, ◌⊎◌, None}
+use Rattle.std.proofs.Common.{◌≡◌, ◌⊎◌, None, drop}
+use Rattle.requester.specs.Words.{members}
 use Rattle.node.proofs.VoteLemmas.{Compared}
 use Rattle.node.proofs.votes.give_back.Given as goal
 
 abbrev pub invariant-loop-voter : goal.invariant-loop-voter
 invariant-loop-voter l = record {
-  compared : Compared l.board.voters l.voter l.requester.held l.seat.held;
+  items : l.voter-items ≡ members l.requester;
+  compared : Compared l.board.voters (drop l.voter-index l.voter-items) l.requester.held l.seat.held;
   table : l.seat.table ≡ l.initial.seat.table;
   client : l.seat.client ≡ l.initial.seat.client;
   passes : l.seat.passes ≡ l.initial.seat.passes;

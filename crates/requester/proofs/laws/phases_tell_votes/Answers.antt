@@ -1,5 +1,9 @@
+use Rattle.requester.proofs.Dropping.{HoldsOfMembers-sound}
 use Rattle.requester.proofs.VoteLemmas.{HoldsNothing-ask, HoldsNothing-give_up, HoldsNothing-idle, holds-inside, HoldsNothing-leave}
 use Rattle.requester.proofs.laws.phases_tell_votes.Goals as goal
+
+pub returns-clause-of_members : goal.returns-clause-of_members
+returns-clause-of_members c = HoldsOfMembers-sound
 
 pub returns-clause-idle : goal.returns-clause-idle
 returns-clause-idle c = HoldsNothing-idle

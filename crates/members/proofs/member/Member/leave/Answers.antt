@@ -2,7 +2,7 @@ use Rattle.std.proofs.Common.{◌≡◌, true, false, refl, sym, ap, ◌∙◌, 
 use Rattle.requester.specs.Steps.{leave}
 use Rattle.requester.specs.Words.{is_inside}
 use Rattle.members.specs.Members.{MemberState}
-use Rattle.members.proofs.MemberLemmas.{length-both_held, Ended-leave, IsMember-ended, HoldsFewer-HoldsNothing, is_inside-leave, not_left}
+use Rattle.members.proofs.MemberLemmas.{length-both_held, Ended-leave, IsMember-ended, HoldsFewer-HoldsNothing, HoldsOnly-same_votes, is_inside-leave, not_left}
 use Rattle.members.proofs.member.Member.leave.Goals as goal
 
 pub returns-in_default-clause-refused : goal.returns-in_default-clause-refused
@@ -15,6 +15,12 @@ finish-lost-requires-clause-places g c =
 
 pub finish-lost-requires-clause-fewer : goal.finish-lost-requires-clause-fewer
 finish-lost-requires-clause-fewer g c = HoldsFewer-HoldsNothing c.leave_into.new.self _ (Ended-leave c.clients_keep_their_laws.ensures _ _ c.self.invariant.sound c.in-Ok.ensures.left).nothing
+
+pub finish-lost-requires-clause-of_members : goal.finish-lost-requires-clause-of_members
+finish-lost-requires-clause-of_members g c =
+    let laws = c.clients_keep_their_laws.ensures in
+    let x = c.self.invariant in
+    HoldsOnly-same_votes laws _ c.leave_into.new.self _ x.sound x.held (Ended-leave laws _ _ x.sound c.in-Ok.ensures.left).quorum
 
 pub invariant_of-self-2 : goal.invariant_of-self-2
 invariant_of-self-2 g c =

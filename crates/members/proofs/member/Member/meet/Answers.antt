@@ -1,8 +1,9 @@
-use Rattle.std.proofs.Common.{◌≡◌, false, sym, ap, ◌∙◌, subst}
+use Rattle.std.proofs.Common.{◌≡◌, ℕ, List, false, sym, ap, ◌∙◌, subst}
 use Rattle.requester.specs.declared.state.Seen.{Seen}
 use Rattle.requester.specs.RequesterContract.{Sees}
 use Rattle.requester.specs.Words.{is_idle, is_inside}
 use Rattle.board.specs.Seats.{ClientSeatState as SeatState}
+use Rattle.node.specs.Votes.{HoldsOnly}
 use Rattle.members.specs.Members.{MemberState}
 use Rattle.members.proofs.MemberLemmas.{length-both_held, Took-from_take, IsMember-took}
 use Rattle.members.proofs.member.Member.meet.Goals as goal
@@ -12,6 +13,11 @@ finish-lost-requires-clause-places g c =
     let t = Took-from_take c.clients_keep_their_laws.ensures _ _ _ _ _ c.self.invariant.sound c.requires.mail (sym (ap (λ (m : MemberState). m.requester.id) c.self.view_is)) c.cluster.invariant.cluster.few_voters c.take_into-seen.ensures.taken in
     let both = length-both_held _ _ _ _ _ _ c.self.invariant _ t.sound in
     (c.if-not-accept.ensures.len ∙ both.0, both.1)
+
+pub finish-lost-requires-clause-of_members : goal.finish-lost-requires-clause-of_members
+finish-lost-requires-clause-of_members g c =
+    let t = Took-from_take c.clients_keep_their_laws.ensures _ _ _ _ _ c.self.invariant.sound c.requires.mail (sym (ap (λ (m : MemberState). m.requester.id) c.self.view_is)) c.cluster.invariant.cluster.few_voters c.take_into-seen.ensures.taken in
+    subst (λ (q : List ℕ). HoldsOnly q c.accept.new.seat.held) (sym t.quorum.0) c.if-not-accept.ensures.of_members
 
 pub invariant_of-self-2 : goal.invariant_of-self-2
 invariant_of-self-2 g c =
