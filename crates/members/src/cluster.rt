@@ -59,20 +59,23 @@ impl<N: ClusterName> Model for Cluster<N> {
 }
 
 impl<N: ClusterName> Cluster<N> {
-    /// Gives a message to its voter's node, and returns the replies. Returns `None` if the message
-    /// is lost: the node dropped it, or had no memory, or the cluster doesn't have the voter or the
-    /// client.
-    pub(crate) fn tell(&self, rt: &impl Wait, message: &ToVoter) -> Option<Replies>
-        ensures stray { is_stray N.cluster.board message.now ≡ true → result ≡ None }
+    /// Gives a message to its voter's node, with the replies in `replies` in place of what was there.
+    /// Returns `false` if the message is lost: the node dropped it, or had no memory, or the cluster
+    /// doesn't have the voter or the client.
+    pub(crate) fn tell(&self, rt: &impl Wait, message: &ToVoter, replies: &mut Replies) -> bool
+        ensures stray { is_stray N.cluster.board message.now ≡ true → result ≡ false }
     {
         if usize::from(message.client) >= self.mailboxes.len() {
-            return None;
+            return false;
         }
-        let mut node = self.nodes.get(usize::from(message.voter))?.lock(rt);
+        let Some(node) = self.nodes.get(usize::from(message.voter)) else {
+            return false;
+        };
+        let mut node = node.lock(rt);
         if node.number() != message.voter {
-            return None;
+            return false;
         }
-        node.take(&self.board, message).unwrap_or(None)
+        node.take_into(&self.board, message, replies) == Ok(true)
     }
 
     /// Waits until the replies of a voter to earlier messages are posted, and keeps other messages to
@@ -115,14 +118,27 @@ impl<N: ClusterName> Cluster<N> {
         lost
     }
 
-    /// Posts the replies to a message, and returns how many are lost. `None` means that the message
-    /// itself is lost.
-    pub(crate) fn post_all(&self, rt: &impl Wait, replies: Option<Replies>) -> u64
+    /// Gives a message to its voter, and the voter's replies to their clients. Returns how many are
+    /// lost. `replies` is room for the replies.
+    pub(crate) fn deliver(&self, rt: &impl Wait, message: &ToVoter, replies: &mut Replies) -> u64
         ensures few { result ≤ most_lost 1 }
-        ensures none { replies ≡ None → result ≡ 1 }
-        ensures strays { IfSome replies (λ r. count_by (is_stray_reply N.cluster.board) r.items ≤ result) }
+        ensures stray { is_stray N.cluster.board message.now ≡ true → result ≡ 1 }
     {
-        match replies {
+        let _line = self.line(rt, message.voter);
+        if !self.tell(rt, message, replies) {
+            return 1;
+        }
+        self.post_each(rt, replies.as_slice())
+    }
+
+    /// Posts the reminders of a voter, and returns how many are lost. If the cluster doesn't have the
+    /// voter, that counts as one.
+    fn remind_holder(&self, rt: &impl Wait, voter: u8) -> u64
+        ensures few { result ≤ most_lost 1 }
+        ensures stray { N.cluster.board.voters ≤ voter → result ≡ 1 }
+    {
+        let _line = self.line(rt, voter);
+        match self.reminders(rt, voter) {
             Some(replies) => self.post_each(rt, replies.as_slice()),
             None => 1,
         }
@@ -149,12 +165,10 @@ impl<N: ClusterName> Cluster<N> {
         ensures few { result ≤ most_lost (length messages.now) }
         ensures strays { count_by (is_stray N.cluster.board) messages.now ≤ result }
     {
+        let mut replies = Replies::new();
         let mut lost: u64 = 0;
         for message in messages {
-            let line = self.line(rt, message.voter);
-            let replies = self.tell(rt, message);
-            lost = lost.saturating_add(self.post_all(rt, replies));
-            drop(line);
+            lost = lost.saturating_add(self.deliver(rt, message, &mut replies));
         }
         lost
     }
@@ -167,10 +181,7 @@ impl<N: ClusterName> Cluster<N> {
     {
         let mut lost: u64 = 0;
         for voter in voters {
-            let line = self.line(rt, *voter);
-            let replies = self.reminders(rt, *voter);
-            lost = lost.saturating_add(self.post_all(rt, replies));
-            drop(line);
+            lost = lost.saturating_add(self.remind_holder(rt, *voter));
         }
         lost
     }

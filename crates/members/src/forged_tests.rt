@@ -14,6 +14,7 @@ use std::sync::Wait;
 use std::test::Fail;
 use std::thread;
 use std::thread::Threads;
+use voter::Replies;
 
 /// How many passes each member tries to make.
 const PASSES: u32 = 40;
@@ -80,8 +81,7 @@ fn forge_to_voter<N: ClusterName>(
             voter,
             body,
         };
-        let replies = cluster.tell(rt, &message);
-        cluster.post_all(rt, replies);
+        cluster.deliver(rt, &message, &mut Replies::new());
     }
 }
 

@@ -113,21 +113,49 @@ impl<N: ClusterName> Node<N> {
         ensures refused { IfErr result (λ _. self.new ≡ self.old) }
         ensures number { self.new.number ≡ self.old.number }
     {
+        let mut replies = Replies::new();
+        if self.take_into(board, message, &mut replies)? {
+            Ok(Some(replies))
+        } else {
+            Ok(None)
+        }
+    }
+
+    /// Does what [`Node::take`] does, with the replies in `replies` in place of what was there.
+    /// Returns whether it took the message. If not, or if it fails, `replies` is empty.
+    pub fn take_into(
+        &mut self,
+        board: &Board,
+        message: &ToVoter,
+        replies: &mut Replies,
+    ) -> Result<bool, AllocError>
+        requires board { board.now ≡ N.cluster.board }
+        requires message { IsFor N.cluster.board self.old.number message.now }
+        ensures taken { IfOk result (λ taken. taken ≡ true →
+            step self.old.voter message.now ≡ Some (record { replies = replies.new.items; state = self.new.voter })) }
+        ensures logged { IfOk result (λ taken. taken ≡ true → self.new.log ≡ self.old.log ++ message.now ∷ []) }
+        ensures dropped { IfOk result (λ taken. taken ≡ false → (self.new ≡ self.old) × (replies.new.items ≡ [])
+            × (((effect_of self.old.voter message.now).refused ≡ true)
+            ⊎ ((effect_of self.old.voter message.now).frees ≡ true))) }
+        ensures refused { IfErr result (λ _. (self.new ≡ self.old) × (replies.new.items ≡ [])) }
+        ensures number { self.new.number ≡ self.old.number }
+    {
         grants_are_numbered();
         voters_meet_the_contract();
         voters_stay_sound();
         replies_carry_what_was_seen();
+        replies.clear();
         self.log.reserve(1)?;
         let effect = self.voter.effect(message);
         if effect.refused || !settle(&mut self.seat, board, effect.frees) {
-            return Ok(None);
+            return Ok(false);
         }
-        let Ok(replies) = self.voter.take(message) else {
+        let Ok(()) = self.voter.take_into(message, replies) else {
             unreachable!()
         };
         self.log.push_reserved(*message);
         offer(&mut self.seat, board, self.voter.held());
-        Ok(Some(replies))
+        Ok(true)
     }
 
     /// Returns the node's seat on the board. Settles the current grant first, unless its vote is

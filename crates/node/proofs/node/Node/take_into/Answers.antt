@@ -5,9 +5,9 @@ use Rattle.voter.specs.Steps.{Outcome, effect_of}
 use Rattle.board.specs.Seats.{BoardState, VoterSeatState as SeatState}
 use Rattle.node.specs.Nodes.{NodeState, IsFor, IsNode, offered, settled}
 use Rattle.node.proofs.NodeLemmas.{Took, held-from_frees, not_refused, may_offer, IsNode-offered}
-use Rattle.node.proofs.node.Node.take.Given.{Over}
-use Rattle.node.proofs.node.Node.take.Goals.{After-held}
-use Rattle.node.proofs.node.Node.take.Goals as goal
+use Rattle.node.proofs.node.Node.take_into.Given.{Over}
+use Rattle.node.proofs.node.Node.take_into.Goals.{After-held}
+use Rattle.node.proofs.node.Node.take_into.Goals as goal
 
 pub settle-requires-clause-current : goal.settle-requires-clause-current
 settle-requires-clause-current g c = λ e.
@@ -20,11 +20,11 @@ unreachable-requires g c =
 -- what the voter's step is known for, and the seat after the settling
 took : (g : Over) (c : After-held g)
     → Took g.N.ClusterName.cluster.board c.self.inside.voter c.self.inside.log.items c.self.inside.seat c.args.message.now
-    (record { replies = c.in-Ok.replies.items; state = c.take.new.self })
+    (record { replies = c.take_into.new.replies.items; state = c.take_into.new.self })
 took g c =
     let v = c.self.inside.voter in
     let m = c.args.message.now in
-    let o : Outcome = record { replies = c.in-Ok.replies.items; state = c.take.new.self } in
+    let o : Outcome = record { replies = c.take_into.new.replies.items; state = c.take_into.new.self } in
     let s = c.in-Ok.ensures.taken in
     let sound = c.self.invariant.sound in
     record {
@@ -56,8 +56,8 @@ invariant_of-self-2 g c =
     let m = c.args.message.now in
     let log = c.self.inside.log.items in
     let board = g.N.ClusterName.cluster.board in
-    let after : c.offer.new.seat ≡ offered c.take.new.self.held (settled (effect_of c.self.inside.voter m).frees c.self.inside.seat) =
+    let after : c.offer.new.seat ≡ offered c.take_into.new.self.held (settled (effect_of c.self.inside.voter m).frees c.self.inside.seat) =
     c.offer.ensures ∙ (λ i. offered (c.held.ensures i) (seat_settled g at i)) in
     let pushed : c.push_reserved.new.self.items ≡ log ++ m ∷ [] = c.push_reserved.ensures.items ∙ ap (λ (l : List ToVoter). l ++ m ∷ []) c.in_ok-reserve.ensures.items in
-    subst (λ (p : List ToVoter × SeatState). IsNode board c.take.new.self p.0 p.1) (λ i. (sym pushed i, sym after i))
+    subst (λ (p : List ToVoter × SeatState). IsNode board c.take_into.new.self p.0 p.1) (λ i. (sym pushed i, sym after i))
     (IsNode-offered board c.self.inside.voter log c.self.inside.seat m _ (took g at))
