@@ -7,7 +7,7 @@ use Rattle.std.proofs.lemmas.List.{at_drop_all, get_or-set_other, get_or-set_sam
 use Rattle.numbers.specs.Sets.{has}
 use Rattle.numbers.proofs.SetLemmas.{has-tail}
 use Rattle.requester.specs.declared.state.ClientState.{ClientState}
-use Rattle.requester.specs.Words.{holds, held_of, is_idle, is_member}
+use Rattle.requester.specs.Words.{holds, is_idle, is_member}
 use Rattle.requester.specs.Soundness.{HoldsOfMembers, IsSound}
 use Rattle.requester.proofs.Members.{absurd-true_false, get_or-zeros}
 use Rattle.requester.proofs.VoteLemmas.{HoldsNothing-idle, held_of-not_held}

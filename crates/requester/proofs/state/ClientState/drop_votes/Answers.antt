@@ -1,5 +1,4 @@
 use Rattle.std.proofs.Common.{ℕ, List, ◌∙◌, ap, arith}
-use Rattle.requester.specs.declared.state.ClientState.{ClientState}
 use Rattle.requester.proofs.Dropping.{held-dropped}
 use Rattle.requester.proofs.state.ClientState.drop_votes.Goals as goal
 
