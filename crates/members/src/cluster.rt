@@ -61,7 +61,7 @@ impl<N: ClusterName> Model for Cluster<N> {
 impl<N: ClusterName> Cluster<N> {
     /// Gives a message to its voter's node, with the replies in `replies` in place of what was there.
     /// Returns `false` if the message is lost: the node dropped it, or had no memory, or the cluster
-    /// doesn't have the voter or the client.
+    /// doesn't have the voter or the client. Then `replies` says nothing.
     pub(crate) fn tell(&self, rt: &impl Wait, message: &ToVoter, replies: &mut Replies) -> bool
         ensures stray { is_stray N.cluster.board message.now ≡ true → result ≡ false }
     {
