@@ -1,7 +1,7 @@
 #!/bin/sh
-# Tries the wrong bodies in crates/NAME/more-must-fail: the prover has to refuse each. They are
-# second wrong bodies of a function, or bodies of private functions. `rt ci` tries those in must-fail alone, which has
-# one at least for each public function: all of them together would take it too long.
+# Tries the wrong bodies in crates/NAME/more-must-fail: the prover has to refuse each. `rt ci` tries those in must-fail
+# alone, the ten or so of a crate that tell most: all of them together would take it too long. Run this before each
+# version; docs/proving.md says when it last ran.
 #
 #     crates/more-must-fail.sh             all crates: an hour on four cores
 #     crates/more-must-fail.sh NAME..      these crates

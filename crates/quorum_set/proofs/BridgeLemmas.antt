@@ -1,5 +1,5 @@
 -- Lemmas on bridges: the first pair that is apart, and that the quorums of both coteries meet.
-use Rattle.std.proofs.Common.{◌≡◌, ℕ, ◌+◌, ◌-◌, ◌<◌, ◌≤◌, ◌⊎◌, true, false, List, [], ◌∷◌, ◌++◌, length, get_or, zero, suc, sym, refl, ap, subst, ◌∙◌, inl, inr, arith, Option, None, Some}
+use Rattle.std.proofs.Common.{◌≡◌, ℕ, ◌+◌, ◌<◌, ◌≤◌, ◌⊎◌, true, false, List, [], ◌∷◌, ◌++◌, length, get_or, zero, suc, sym, refl, ap, subst, ◌∙◌, inl, inr, arith, Option, None, Some}
 use Rattle.std.proofs.lemmas.Bool.{cases_lt, true≢false, not-false, not-true, not_from_true}
 use Rattle.std.proofs.lemmas.List.Elements.{All-nil, All-cons, All-head, All-tail}
 use Rattle.std.proofs.lemmas.List.Quantifiers.{position-Some}

@@ -9,7 +9,7 @@ use Rattle.std.proofs.lemmas.Nat.Bits.{bit_at-zero, bit_at_and, bit_at_or, bit_a
 use Rattle.std.proofs.lemmas.List.Folds.{list_any_at, Any-from_list_any}
 use Rattle.std.proofs.lemmas.List.Sums.{AllPass-from_list_all, list_all-from_AllPass}
 use Rattle.numbers.specs.Sets.{has, meet, within, union, IsSet, Ascends, set_where, members_of}
-use Rattle.quorum_set.specs.Words.{below, last_of, below-more, low_more}
+use Rattle.quorum_set.specs.Words.{below, last_of, below-more, low_more, word_of, word_of-members_of}
 use Rattle.numbers.proofs.SetLemmas.{has-set_where, has-above, has-tail, has-head, Ascends-unique, length-Ascends, IsSet-set_where, is_set_where}
 
 -- a word shows a set
@@ -305,3 +305,9 @@ join_by_word a b s t is_s is_t fits_a fits_b = union-members_of a b fits_a fits_
 
 pub len_by_word : (m : ℕ) (s : List ℕ) → members_of m ≡ s → m < 2 ^ 64 → count_ones m ≡ length s
 len_by_word m s is fits = length-members_of m fits ∙ ap length is
+
+pub bits_by_word : (m : ℕ) (s : List ℕ) → members_of m ≡ s → m < 2 ^ 64 → m ≡ word_of s
+bits_by_word m s is fits = sym (word_of-members_of m fits) ∙ ap word_of is
+
+pub set_of_word : (m : ℕ) → IsSet (members_of m)
+set_of_word = IsSet-members_of
