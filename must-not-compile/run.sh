@@ -16,7 +16,7 @@ root=$(dirname -- "$here")
 work=$(mktemp -d)
 trap 'rm -rf "$work"' EXIT
 # the crates that it depends on, in the order of crates.txt; those without a folder are the kit's
-below=$(cut -d: -f1 "$root/crates.txt" | grep -xF -e "$("$root/crates/below.sh" dealer; "$root/crates/below.sh" board)")
+below=$(cut -d: -f1 "$root/crates.txt" | grep -xF -e "$("$root/tools/below.sh" dealer; "$root/tools/below.sh" board)")
 cases=0
 wrong=0
 

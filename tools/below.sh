@@ -2,7 +2,7 @@
 # Prints the crates that a crate depends on, with itself, one a line: those to copy for its use in another repository. Names
 # without a folder here are the kit's.
 #
-#     crates/below.sh CRATE
+#     tools/below.sh CRATE
 set -eu
 [ "$#" -eq 1 ] || { echo "below.sh: one crate's name" >&2; exit 2; }
 awk -F: -v crate="$1" '

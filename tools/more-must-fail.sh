@@ -3,8 +3,8 @@
 # alone, the ten or so of a crate that tell most: all of them together would take it too long. Run this before each
 # version; docs/proving.md says when it last ran.
 #
-#     crates/more-must-fail.sh             all crates: an hour on four cores
-#     crates/more-must-fail.sh NAME..      these crates
+#     tools/more-must-fail.sh             all crates: an hour on four cores
+#     tools/more-must-fail.sh NAME..      these crates
 set -eu
 root=$(CDPATH= cd -- "$(dirname -- "$0")/.." && pwd)
 work=$(mktemp -d)
