@@ -178,6 +178,34 @@ capacities_at version text =
     if version == 1 then Ok (None, text)
     else line_at 4 read_capacities text >>= λ x. Ok (Some x.0, x.1)
 
+-- whether there is a number, and the test holds for it
+abbrev pub option_holds : (ℕ → Bool) → Option ℕ → Bool
+option_holds test None = false
+option_holds test (Some n) = test n
+
+-- whether the word is a number from `least` to `most`
+abbrev pub is_within : ℕ → ℕ → List ℕ → Bool
+is_within least most word = option_holds (λ n. nat_le least n && nat_le n most) (number_of 7 word)
+
+-- whether each word is a number from `least` to `most`
+abbrev pub are_within : ℕ → ℕ → List (List ℕ) → Bool
+are_within least most words = list_all (λ word. is_within least most word) words
+
+-- the numbers, or none
+abbrev pub or_none : Option (List ℕ) → List ℕ
+or_none None = []
+or_none (Some numbers) = numbers
+
+-- the weights in the first line of a text, after this word; none if they are not there
+abbrev pub first_weights : List ℕ → List ℕ → List ℕ
+first_weights word text = or_none (option_and_then (λ cut. read_weights word cut.0) (cut_at 10 text))
+
+-- the capacities in the first line of a text of version 2; none if they are not there
+abbrev pub first_capacities : ℕ → List ℕ → Option (List ℕ)
+first_capacities version text =
+    if version == 1 then None
+    else Some (or_none (option_and_then (λ cut. read_capacities cut.0) (cut_at 10 text)))
+
 -- the values of a text, or its first bad line
 unfoldable pub telling_at : List ℕ → Result Telling PlanFault
 telling_at text = do
@@ -196,15 +224,6 @@ telling_at text = do
         voter_weights = voters.0;
       })
       else Err (BadText (5 + title.0))
-
--- the version, the load and the cycle's length in the first three lines, and the rest of the text;
--- or the first of these lines that is bad
-unfoldable pub head_at : List ℕ → Result (ℕ × (ℕ × ℕ) × ℕ × List ℕ) PlanFault
-head_at text = do
-  title ← line_at 1 read_title text
-  load ← line_at 2 (read_load (load_digits title.0)) title.1
-  cycle ← line_at 3 read_cycle load.1
-  Ok (title.0, load.0, cycle.0, cycle.1)
 
 -- the first fault of the load and the cycle's length that a text gives for a plan
 abbrev pub head_fault : Weighted → ℕ × ℕ → ℕ → Option PlanFault

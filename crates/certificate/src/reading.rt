@@ -1,9 +1,9 @@
 //! Reading the text of a plan.
-ghost use Rattle.std.specs.Prelude.{◌≡◌, ◌<◌, ◌≤◌, ◌==◌, IfOk, option_map};
+ghost use Rattle.std.specs.Prelude.{◌≡◌, ◌<◌, ◌≤◌, ◌==◌, true, IfOk, IfErr, option_map, is_some, is_ok};
 ghost use Rattle.std.specs.List.{slice_split};
 ghost use Rattle.quorum_set.specs.Capacities.{AreCapacities};
 ghost use Rattle.certificate.specs.Certificates.{Weighted, IsCertificate, IsOptimal};
-ghost use Rattle.certificate.specs.PlanTexts.{plan_text, number_of, numbers_of, behind, are_given, are_in_range, are_told, capacities_at, load_digits, read_title, read_pair, read_load, read_cycle, read_capacities, read_weights, line_at, telling_at, head_at, head_fault, plan_at, Answers, Gives, MemoryAside, RefusesAs};
+ghost use Rattle.certificate.specs.PlanTexts.{plan_text, number_of, numbers_of, behind, are_given, are_in_range, are_told, capacities_at, load_digits, read_title, read_pair, read_load, read_cycle, read_capacities, read_weights, line_at, is_within, are_within, first_weights, first_capacities, telling_at, head_fault, plan_at, Answers, Gives, MemoryAside, RefusesAs};
 
 use crate::fault::PlanFault;
 use crate::plan::{Plan, check};
@@ -14,6 +14,9 @@ use texts::cut_at;
 
 /// The most digits of a number, except in the load of a text of version 2.
 const DIGITS: u32 = 7;
+
+/// The greatest number of 7 digits.
+const MOST: u64 = 9_999_999;
 
 /// The values in the lines of a text, before they are checked.
 #[derive(Drop)]
@@ -223,17 +226,104 @@ fn capacity_lines(
     Ok((Some(capacities), rest))
 }
 
+/// Returns whether the word is a number from `least` to `most`.
+fn is_within(word: &[u8], least: u64, most: u64) -> bool
+    ensures { result ≡ is_within least most word.now }
+{
+    match number(word, DIGITS) {
+        Some(value) => least <= value && value <= most,
+        None => false,
+    }
+}
+
+/// Returns whether each word between the spaces is a number from `least` to `most`.
+fn are_within(text: &[u8], least: u64, most: u64) -> bool
+    ensures { result ≡ are_within least most (slice_split (λ b. b == 32) text.now) }
+{
+    let mut rest = text;
+    'words: while let Some((word, after)) = cut_at(rest, b' ') {
+        if !is_within(word, least, most) {
+            return false;
+        }
+        rest = after;
+    }
+    is_within(rest, least, most)
+}
+
+/// Returns whether the line is a line of weights after this word.
+fn is_weights_line(word: &[u8], line: &[u8]) -> bool
+    ensures { result ≡ is_some (read_weights word.now line.now) }
+{
+    match behind(word, line) {
+        Some(rest) => are_within(rest, 0, MOST),
+        None => false,
+    }
+}
+
+/// Returns whether the line is a line of capacities, not all of them 1.
+fn is_capacity_line(line: &[u8]) -> bool
+    ensures { result ≡ is_some (read_capacities line.now) }
+{
+    match behind(b"capacity ", line) {
+        Some(rest) => are_within(rest, 1, MAX_CAPACITY) && !are_within(rest, 1, 1),
+        None => false,
+    }
+}
+
+/// Returns the text after its line of weights.
+fn after_weights<'a>(number: usize, word: &[u8], text: &'a [u8]) -> Result<&'a [u8], PlanFault>
+    ensures { Answers (λ rest. (first_weights word.now text.now, rest.now)) result
+        (line_at number (read_weights word.now) text.now) }
+{
+    match cut_at(text, b'\n') {
+        Some((line, rest)) if is_weights_line(word, line) => Ok(rest),
+        _ => Err(PlanFault::BadText { line: number }),
+    }
+}
+
+/// Returns the text after its line of capacities, which a text of version 1 does not have.
+fn after_capacities(version: usize, text: &[u8]) -> Result<&[u8], PlanFault>
+    ensures { Answers (λ rest. (first_capacities version text.now, rest.now)) result
+        (capacities_at version text.now) }
+{
+    if version == 1 {
+        return Ok(text);
+    }
+    match cut_at(text, b'\n') {
+        Some((line, rest)) if is_capacity_line(line) => Ok(rest),
+        _ => Err(PlanFault::BadText { line: 4 }),
+    }
+}
+
+/// Finds the first bad line, without memory.
+#[tactic(auto, unfolding(crate::specs::PlanTexts::telling_at))]
+fn check_lines(text: &[u8]) -> Result<(), PlanFault>
+    ensures good { IfOk result (λ done. is_ok (telling_at text.now) ≡ true) }
+    ensures bad { IfErr result (λ fault. telling_at text.now ≡ Err fault) }
+{
+    let (version, rest) = title_line(text)?;
+    let (_, rest) = load_line(rest, load_digits(version))?;
+    let (_, rest) = cycle_line(rest)?;
+    let rest = after_capacities(version, rest)?;
+    let rest = after_weights(3 + version, b"quorum ", rest)?;
+    let rest = after_weights(4 + version, b"voter ", rest)?;
+    if rest.is_empty() {
+        Ok(())
+    } else {
+        Err(PlanFault::BadText { line: 5 + version })
+    }
+}
+
 /// Returns the values of the lines, or the first bad line.
-#[tactic(auto, unfolding(crate::specs::PlanTexts::telling_at, crate::specs::PlanTexts::head_at))]
-fn read_lines(alloc: Global, text: &[u8]) -> Result<LinesTold, PlanFault>
-    ensures exact { Gives (λ t. record {
+#[tactic(auto, unfolding(crate::specs::PlanTexts::telling_at))]
+fn tell_lines(alloc: Global, text: &[u8]) -> Result<LinesTold, PlanFault>
+    ensures { Gives (λ t. record {
       load = t.load;
       cycle = t.cycle;
       capacities = option_map (λ v. v.items) t.capacities;
       quorum_weights = t.quorum_weights.items;
       voter_weights = t.voter_weights.items;
     }) result (telling_at text.now) }
-    ensures head { RefusesAs (head_at text.now) result }
 {
     let (version, rest) = title_line(text)?;
     let (load, rest) = load_line(rest, load_digits(version))?;
@@ -251,6 +341,22 @@ fn read_lines(alloc: Global, text: &[u8]) -> Result<LinesTold, PlanFault>
         quorum_weights,
         voter_weights,
     })
+}
+
+/// Returns the values of the lines, or the first bad line. Only a text without a bad line takes
+/// memory.
+fn read_lines(alloc: Global, text: &[u8]) -> Result<LinesTold, PlanFault>
+    ensures exact { Gives (λ t. record {
+      load = t.load;
+      cycle = t.cycle;
+      capacities = option_map (λ v. v.items) t.capacities;
+      quorum_weights = t.quorum_weights.items;
+      voter_weights = t.voter_weights.items;
+    }) result (telling_at text.now) }
+    ensures format { RefusesAs (telling_at text.now) result }
+{
+    check_lines(text)?;
+    tell_lines(alloc, text)
 }
 
 /// Returns whether a text with these capacities, or with none, gives the voters' capacities.
@@ -286,7 +392,7 @@ fn plan_of_text(
 ) -> Result<Plan, PlanFault>
     requires capacities { AreCapacities capacities.now coterie.now.voters }
     ensures exact { MemoryAside result (plan_at coterie.now capacities.now text.now) }
-    ensures head { RefusesAs (head_at text.now) result }
+    ensures format { RefusesAs (telling_at text.now) result }
     ensures certificate { IfOk result IsCertificate }
 {
     let told = read_lines(alloc, text)?;
@@ -340,7 +446,7 @@ fn plan_of_text(
 /// - `WrongLoad` if the load is not the weights' load in lowest terms;
 /// - `WrongCycle` if the cycle's length is not the sum of the quorums' weights.
 ///
-/// It may run out of memory at any point after the third line.
+/// It may run out of memory only if the text is in the format: `BadText` never needs memory.
 pub fn read_plan(
     alloc: Global,
     coterie: &Coterie,
@@ -356,9 +462,8 @@ pub fn read_plan(
         → text.now ≡ plan_text w → MemoryAside result (Ok w) }
     // The result is the plan or the first fault, by the definition.
     ensures exact { MemoryAside result (plan_at coterie.now capacities.now text.now) }
-    // A fault of the first three lines is found before anything is allocated.
-    ensures head { RefusesAs (head_at text.now) result }
-
+    // A text that is not in the format is refused before anything is allocated.
+    ensures format { RefusesAs (telling_at text.now) result }
     ensures certificate { IfOk result IsCertificate }
     ensures optimal { IfOk result IsOptimal }
 {
