@@ -1,7 +1,6 @@
 //! What the steps of a script did, one after the other.
-ghost use Rattle.std.specs.Prelude.{◌≡◌, IfOk, map};
-ghost use Rattle.dealer.specs.Plans.{single};
-ghost use Rattle.world.specs.Runs.{run_by};
+ghost use Rattle.std.specs.Prelude.{◌≡◌, IfOk};
+ghost use Rattle.shown.specs.Stories.{steps_of};
 
 use certificate::Plan;
 use dealer::Plans;
@@ -63,11 +62,15 @@ pub fn happening_of(world: &mut World, step: Step) -> Option<Happening> {
     }
 }
 
-/// Plays a script by a plan. Fails only if memory runs out.
-pub fn story_of(alloc: Global, plan: Plan, script: &Script) -> Result<Story, AllocError> {
+/// Plays a script by a plan. Returns a moment for each step, in order. Fails only if memory runs
+/// out.
+pub fn story_of(alloc: Global, plan: Plan, script: &Script) -> Result<Story, AllocError>
+    ensures moments { IfOk result (λ story. steps_of story.moments.items ≡ script.now.steps) }
+{
     let mut world = world_of(alloc, plan, script)?;
     let mut moments = Vec::new(alloc);
-    for step in script.steps() {
+    let steps = script.steps();
+    for step in steps {
         let Some(happening) = happening_of(&mut world, *step) else {
             return Err(AllocError);
         };
