@@ -9,5 +9,6 @@ pub mod Known
 pub mod Places
 pub mod Plans
 pub mod Reached
+pub mod Restarts
 pub mod Traces
 pub mod VoterMoves

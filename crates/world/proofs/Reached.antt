@@ -126,7 +126,7 @@ RunOk-after_voter b given w ok m range asked (Some o) is =
 
 -- ---- the steps
 
-less_than : (a b : ℕ) → nat_lt a b ≡ true → a < b
+pub less_than : (a b : ℕ) → nat_lt a b ≡ true → a < b
 less_than a b h = grind (arith, nat_tests)
 
 if_one : (b : Bounds) (w : WorldState) → RunOk b w → (t : Bool) (c : ℕ) (next : Result Outcome WorldFault) → (t ≡ true → RunOk b (after w next)) → RunOk b (after w (if_client t c next))
@@ -141,12 +141,12 @@ not_empty : (q : List ℕ) (v : ℕ) → has q v ≡ true → 1 ≤ length q
 not_empty [] v is = absurd (false≢true is)
 not_empty (x ∷ xs) v is = omega arith
 
-accepts_among : (b : Bounds) → DoMeet b.voters b.quorums → (q : List ℕ) → IsAmong b.quorums q → IsSet q × (1 ≤ length q)
+pub accepts_among : (b : Bounds) → DoMeet b.voters b.quorums → (q : List ℕ) → IsAmong b.quorums q → IsSet q × (1 ≤ length q)
 accepts_among b meets q among =
     let self = meets.meets among.0 among.0 among.1 among.1 in
     subst (λ (s : List ℕ). IsSet s × (1 ≤ length s)) (sym among.2) (meets.sets among.0 [] among.1, not_empty _ self.0 self.2)
 
-came_by : (b : Bounds) (x : ClientState) (Y : ℕ → VoterState) (sender c : ℕ) (body : ClientBody) → sender < b.voters → TellsWithin b.limit body → TellOk x (Y sender).held sender c body
+pub came_by : (b : Bounds) (x : ClientState) (Y : ℕ → VoterState) (sender c : ℕ) (body : ClientBody) → sender < b.voters → TellsWithin b.limit body → TellOk x (Y sender).held sender c body
     → (v s g : ℕ) → Locks sender body v s g → (v < b.voters) × IsWithin b.limit s × (s ≤ x.stamp) × (IsLive x v s g → Names (Y v).held c s g)
 came_by b x Y sender c (tells.Locked stamp grant) within numbers ok v s g locks = (
   subst (λ n. n < b.voters) (sym locks.0) within,
@@ -212,7 +212,7 @@ run_ok b given deal deals (s ∷ steps) w ok = run_ok b given deal deals steps (
 
 -- ---- the first world
 
-slice_index-replicate_zero : (n v : ℕ) → slice_index (replicate n 0) v ≡ 0
+pub slice_index-replicate_zero : (n v : ℕ) → slice_index (replicate n 0) v ≡ 0
 slice_index-replicate_zero zero v = refl
 slice_index-replicate_zero (suc n) zero = refl
 slice_index-replicate_zero (suc n) (suc v) = slice_index-replicate_zero n v
@@ -307,7 +307,7 @@ unused_at b given v = elim (below_or v b.voters) [
 none_held : (x : ClientState) (v g : ℕ) → held_of x v ≡ 0 → holds_under x v g ≡ true → ⊥
 none_held x v g none is = grind (arith, nat_tests)
 
-start_ok : (b : Bounds) → Given b → RunOk b (start b.voters b.clients b.limit)
+pub start_ok : (b : Bounds) → Given b → RunOk b (start b.voters b.clients b.limit)
 unfolding new_clients new_voters
 start_ok b given = record {
   clients = length-map-range_with_len (λ c. client.start c b.limit) 0 b.clients;

@@ -1,4 +1,5 @@
 pub mod Ranges
+pub mod Restarts
 pub mod Runs
 pub mod States
 pub mod Steps

@@ -4,6 +4,7 @@ ghost use Rattle.std.specs.List.{AllByRecursion};
 ghost use Rattle.message.specs.Lines.{HasLine};
 ghost use Rattle.world.specs.declared.step.Step.{Step};
 ghost use Rattle.world.specs.Ranges.{AreInRange, IsNumbered, IsSound};
+ghost use Rattle.world.specs.Restarts.{Happening, all_happen, begin};
 ghost use Rattle.world.specs.Runs.{AreLimits, DrawsInOrder, IsReached, run_of, start};
 ghost use Rattle.world.specs.Steps.{Adds, Dealing, Outcome, Planned, WorldState, step};
 ghost use Rattle.world.specs.Visible.{DealsFrom, DoMeet, IsExclusive};
@@ -43,6 +44,29 @@ pub fn at_most_one_is_inside()
         → IsExclusive (run_of deal steps (start voters clients limit)).visible }
 {
     runs_are_sound();
+}
+
+/// At most one client is inside at a time, also if clients and voters crash at any time and restart
+/// from what they saved.
+///
+/// - Save, then send: a step that sends a message, or lets a client enter or leave, is saved before
+///   its messages are sent. Other steps need not be saved.
+/// - Of a voter's saved state only its grant and the number of its grants have to survive.
+/// - Of a client's saved state only its clock, its last stamp and the last grants that it gave back
+///   have to survive. It is then idle. If it was inside, it left by its crash.
+pub fn at_most_one_is_inside_with_restarts()
+    ensures { (voters clients limit : ℕ) (quorums : List (List ℕ)) (deal : Dealing) (happenings : List Happening)
+        → AreLimits voters clients limit → DoMeet voters quorums → DealsFrom quorums deal
+        → IsExclusive (all_happen deal happenings (begin voters clients limit)).live.visible }
+{
+    requesters_meet_the_contract();
+    requesters_stay_sound();
+    requester::messages_are_in_range();
+    voters_meet_the_contract();
+    voters_stay_sound();
+    replies_tell_the_state();
+    replies_carry_what_was_seen();
+    grants_are_numbered();
 }
 
 /// Every message that is ever sent names a client and a voter of the world. Its stamp and its grant

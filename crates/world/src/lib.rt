@@ -55,7 +55,9 @@ mod trace;
 mod world;
 
 pub use fault::WorldFault;
-pub use laws::{at_most_one_is_inside, messages_are_in_range, steps_add};
+pub use laws::{
+    at_most_one_is_inside, at_most_one_is_inside_with_restarts, messages_are_in_range, steps_add,
+};
 pub use step::{Event, Step, Stepped};
 pub use trace::{Trace, run};
 pub use world::World;

@@ -1,0 +1,779 @@
+-- every run with restarts: what holds of a world holds of every mix of saved and live states
+use Rattle.std.proofs.Common.{
+  ◌≡◌,
+  ◌≢◌,
+  ℕ,
+  ◌<◌,
+  ◌≤◌,
+  Bool,
+  true,
+  false,
+  cond,
+  List,
+  [],
+  ◌∷◌,
+  ◌++◌,
+  map,
+  length,
+  Option,
+  Some,
+  None,
+  Result,
+  Ok,
+  Err,
+  refl,
+  sym,
+  ap,
+  subst,
+  ◌∙◌,
+  ◌⊎◌,
+  inl,
+  inr,
+  arith,
+  eqb,
+  ltb,
+}
+use Rattle.std.specs.Prelude.{◌==◌, ◌&&◌, nat_lt, replicate, slice_get, slice_index, slice_set}
+use Rattle.std.specs.FinMap as fin
+use Rattle.std.specs.Ordering.{nat_cmp}
+use Rattle.std.proofs.lemmas.Option.{none-some}
+use Rattle.std.proofs.lemmas.Bool.{false≢true}
+use Rattle.std.proofs.lemmas.Bool.Decides.{nat_tests}
+use Rattle.std.proofs.lemmas.List.{length-set, append-nil, set_past, length-replicate}
+use Rattle.message.specs.declared.message.ToVoter.{ToVoter}
+use Rattle.message.specs.declared.message.Message.{Message}
+use Rattle.message.specs.declared.message.Message.TheVariants as kinds
+use Rattle.voter.specs.declared.state.VoterState.{VoterState}
+use Rattle.voter.specs.Steps as voter
+use Rattle.requester.specs.declared.fault.ClientFault.{ClientFault}
+use Rattle.requester.specs.declared.state.ClientState.{ClientState}
+use Rattle.requester.specs.declared.state.Seen.{Seen}
+use Rattle.requester.specs.declared.state.Seen.TheVariants.{Nothing, Entered, Left}
+use Rattle.requester.specs.declared.state.Phase.{Phase}
+use Rattle.requester.specs.declared.state.Phase.TheVariants.{Idle, Asking, Inside}
+use Rattle.requester.specs.RequesterContract.{Accepts, IsLater, Sees}
+use Rattle.requester.specs.Soundness as sound
+use Rattle.requester.specs.Steps as client
+use Rattle.requester.specs.Words.{is_inside, holds_under}
+use Rattle.quorum_set.specs.declared.bridge.Side.{Side}
+use Rattle.quorum_set.specs.declared.bridge.Side.TheVariants.{First, Second}
+use Rattle.world.specs.declared.fault.WorldFault.{WorldFault}
+use Rattle.world.specs.declared.step.Step.TheVariants.{Ask, Deliver, Leave, GiveUp, RemindClient, RemindVoter, Exchange}
+use Rattle.world.specs.Ranges.{IsInRange}
+use Rattle.world.specs.Restarts.{Node, OneClient, OneVoter, Nobody, Saved, Happening, Goes, Saves, Forgets, Restarts, least_client, least_voter, forget, crash_seen, come_back, if_there, receiver, save, restart, is_silent, save_unless, gone, happens, all_happen, begin}
+use Rattle.world.specs.Runs.{AreLimits, start}
+use Rattle.world.specs.Steps.{Dealing, Outcome, after_client, after_voter, client_at, client_did, come, draw_of, events, exchange, if_client, if_voter, next_ticket, quorum_dealt, say, step, voter_at, voter_did}
+use Rattle.world.specs.Visible.{DealsFrom, DoMeet, IsExclusive}
+use Rattle.world.proofs.Known.{ClientLaws, VoterLaws}
+use Rattle.world.proofs.Claims.{Bounds, Names, AskOk, TellOk, MessageOk, ClientOk, IsClient, VoterOk, WorldOk, IsLater-self, VoterOk-later, AllByRecursion-get, AllByRecursion-map, MessageOk-later, put, put-each, put-same}
+use Rattle.world.proofs.ClientMoves.{Came, Draws, client_moves, client_reminds}
+use Rattle.world.proofs.VoterMoves.{voter_moves, voter_reminds}
+use Rattle.world.proofs.Exclusion.{Walked, one_inside, Walked-step}
+use Rattle.world.proofs.Places.{client_at-set, voter_at-set}
+use Rattle.world.proofs.Reached.{Given, slice_index-replicate_zero, start_ok, came_by, accepts_among, less_than}
+
+-- ---- mixes
+
+-- at each number one of the two
+abbrev Mix : {A : Type 0} → (ℕ → A) → (ℕ → A) → (ℕ → A) → Type 0
+Mix L K X = (q : ℕ) → (X q ≡ L q) ⊎ (X q ≡ K q)
+
+-- the same at each number but one
+abbrev MixBut : {A : Type 0} → ℕ → (ℕ → A) → (ℕ → A) → (ℕ → A) → Type 0
+MixBut c L K X = (q : ℕ) → q ≢ c → (X q ≡ L q) ⊎ (X q ≡ K q)
+
+abbrev Mixes : Bounds → (ℕ → ClientState) → (ℕ → ClientState) → (ℕ → VoterState) → (ℕ → VoterState) → List Message → Type 0
+Mixes b L K M N sent = (X : ℕ → ClientState) (Y : ℕ → VoterState) → Mix L K X → Mix M N Y → WorldOk b X Y sent
+
+put-other : {A : Type 0} (X : ℕ → A) (c : ℕ) (x : A) (q : ℕ) → q ≢ c → put X c x q ≡ X q
+put-other X c x q other = elim (eqb q c) as (λ b. eqb q c ≡ b → cond b x (X q) ≡ X q) [
+  | true ↦ λ e. absurd (other (grind (arith, nat_tests)))
+  | false ↦ λ _. refl
+] refl
+
+by_number : {A : Type 0} (P : A → Type 0) (X : ℕ → A) (c : ℕ) (x : A) (q : ℕ) → (q ≡ c → P x) → (q ≢ c → P (X q)) → P (put X c x q)
+by_number P X c x q here there = elim (eqb q c) as (λ b. eqb q c ≡ b → P (cond b x (X q))) [
+  | true ↦ λ e. here (grind (arith, nat_tests))
+  | false ↦ λ e. there (λ same. grind (arith, nat_tests))
+] refl
+
+unput : {A : Type 0} (X : ℕ → A) (c : ℕ) (x y : A) → X c ≡ y → put (put X c x) c y ≡ X
+unput X c x y is = λ i q. by_number (λ z. z ≡ X q) (put X c x) c y q (λ same. sym is ∙ ap X (sym same)) (λ other. put-other X c x q other) i
+
+Mix-back : {A : Type 0} (L K X : ℕ → A) (c : ℕ) → MixBut c L K X → Mix L K (put X c (L c))
+Mix-back L K X c others q = by_number (λ z. (z ≡ L q) ⊎ (z ≡ K q)) X c (L c) q (λ same. inl (ap L (sym same))) (others q)
+
+MixBut-put : {A : Type 0} (L K X : ℕ → A) (c : ℕ) (x y : A) → Mix (put L c x) (put K c y) X → MixBut c L K X
+MixBut-put L K X c x y mix q other = elim (mix q) [ inl e ↦ inl (e ∙ put-other L c x q other) | inr e ↦ inr (e ∙ put-other K c y q other) ]
+
+MixBut-put_left : {A : Type 0} (L K X : ℕ → A) (c : ℕ) (x : A) → Mix (put L c x) K X → MixBut c L K X
+MixBut-put_left L K X c x mix q other = elim (mix q) [ inl e ↦ inl (e ∙ put-other L c x q other) | inr e ↦ inr e ]
+
+MixBut-put_right : {A : Type 0} (L K X : ℕ → A) (c : ℕ) (x : A) → Mix L (put K c x) X → MixBut c L K X
+MixBut-put_right L K X c x mix q other = elim (mix q) [ inl e ↦ inl e | inr e ↦ inr (e ∙ put-other K c x q other) ]
+
+decide : (q c : ℕ) → (q ≡ c) ⊎ (q ≢ c)
+decide q c = elim (eqb q c) as (λ b. eqb q c ≡ b → (q ≡ c) ⊎ (q ≢ c)) [
+  | true ↦ λ e. inl (grind (arith, nat_tests))
+  | false ↦ λ e. inr (λ same. grind (arith, nat_tests))
+] refl
+
+Mix-with : {A : Type 0} (L K X : ℕ → A) (c : ℕ) → MixBut c L K X → (X c ≡ L c) ⊎ (X c ≡ K c) → Mix L K X
+Mix-with L K X c others at q = elim (decide q c) [
+  | inl same ↦ subst (λ n. (X n ≡ L n) ⊎ (X n ≡ K n)) (sym same) at
+  | inr other ↦ others q other
+]
+
+put-both : {A : Type 0} (L K X : ℕ → A) (c : ℕ) (x : A) → Mix (put L c x) (put K c x) X → X c ≡ x
+put-both L K X c x mix = elim (mix c) [ inl e ↦ e ∙ put-same L c x | inr e ↦ e ∙ put-same K c x ]
+
+-- ---- a client's step
+
+-- what came is so in each mix
+abbrev CameAll : Bounds → (ℕ → ClientState) → List Message → ℕ → client.Cause → Type 0
+CameAll b L sent c cause = (X : ℕ → ClientState) (Y : ℕ → VoterState) → WorldOk b X Y sent → Came b (X c) Y c cause
+
+record Acts (b : Bounds) (L K : ℕ → ClientState) (M N : ℕ → VoterState) (sent : List Message) (c : ℕ) (cause : client.Cause) (o : client.Outcome) : Type 0 where
+  within : c < b.clients
+  accepts : Accepts (L c) cause
+  step : client.step (L c) cause ≡ Ok o
+  came : CameAll b L sent c cause
+  draws : Draws b cause
+
+client_mix : ClientLaws → (b : Bounds) → DoMeet b.voters b.quorums → (L K : ℕ → ClientState) (M N : ℕ → VoterState) (sent : List Message) → Mixes b L K M N sent
+    → (c : ℕ) (cause : client.Cause) (o : client.Outcome) → Acts b L K M N sent c cause o
+    → (X : ℕ → ClientState) (Y : ℕ → VoterState) → X c ≡ o.state → MixBut c L K X → Mix M N Y → WorldOk b X Y (sent ++ map kinds.ToVoter o.out)
+client_mix laws b meet L K M N sent all c cause o act X Y here others mix =
+    let Z = put X c (L c) in
+    let at : L c ≡ Z c = sym (put-same X c (L c)) in
+    let world = all Z Y (Mix-back L K X c others) mix in
+    subst (λ (W : ℕ → ClientState). WorldOk b W Y (sent ++ map kinds.ToVoter o.out)) (unput X c (L c) o.state here)
+    (client_moves laws b meet Z Y sent world c act.within cause o (subst (λ (x : ClientState). Accepts x cause) at act.accepts)
+    (subst (λ (x : ClientState). client.step x cause ≡ Ok o) at act.step) (act.came Z Y world) act.draws)
+
+client_loud : ClientLaws → (b : Bounds) → DoMeet b.voters b.quorums → (L K : ℕ → ClientState) (M N : ℕ → VoterState) (sent : List Message) → Mixes b L K M N sent
+    → (c : ℕ) (cause : client.Cause) (o : client.Outcome) → Acts b L K M N sent c cause o
+    → Mixes b (put L c o.state) (put K c o.state) M N (sent ++ map kinds.ToVoter o.out)
+client_loud laws b meet L K M N sent all c cause o act X Y mix other =
+    client_mix laws b meet L K M N sent all c cause o act X Y (put-both L K X c o.state mix) (MixBut-put L K X c o.state o.state mix) other
+
+client_quiet : ClientLaws → (b : Bounds) → DoMeet b.voters b.quorums → (L K : ℕ → ClientState) (M N : ℕ → VoterState) (sent : List Message) → Mixes b L K M N sent
+    → (c : ℕ) (cause : client.Cause) (o : client.Outcome) → Acts b L K M N sent c cause o → sent ≡ sent ++ map kinds.ToVoter o.out
+    → Mixes b (put L c o.state) K M N (sent ++ map kinds.ToVoter o.out)
+client_quiet laws b meet L K M N sent all c cause o act none X Y mix other = elim (mix c) [
+  | inl e ↦ client_mix laws b meet L K M N sent all c cause o act X Y (e ∙ put-same L c o.state) (MixBut-put_left L K X c o.state mix) other
+  | inr e ↦ subst (λ (ms : List Message). WorldOk b X Y ms) none (all X Y (Mix-with L K X c (MixBut-put_left L K X c o.state mix) (inr e)) other)
+]
+
+-- ---- a voter's step
+
+record Votes (b : Bounds) (M : ℕ → VoterState) (sent : List Message) (m : ToVoter) (o : voter.Outcome) : Type 0 where
+  range : IsInRange b.voters b.clients b.limit (kinds.ToVoter m)
+  asked : (X : ℕ → ClientState) (Y : ℕ → VoterState) → WorldOk b X Y sent → AskOk (X m.client) m.voter m.body
+  step : voter.step (M m.voter) m ≡ Some o
+
+voter_mix : VoterLaws → (b : Bounds) (L K : ℕ → ClientState) (M N : ℕ → VoterState) (sent : List Message) → Mixes b L K M N sent
+    → (m : ToVoter) (o : voter.Outcome) → Votes b M sent m o
+    → (X : ℕ → ClientState) (Y : ℕ → VoterState) → Mix L K X → Y m.voter ≡ o.state → MixBut m.voter M N Y → WorldOk b X Y (sent ++ map kinds.ToClient o.replies)
+voter_mix laws b L K M N sent all m o act X Y mix here others =
+    let Z = put Y m.voter (M m.voter) in
+    let at : M m.voter ≡ Z m.voter = sym (put-same Y m.voter (M m.voter)) in
+    let world = all X Z mix (Mix-back M N Y m.voter others) in
+    subst (λ (W : ℕ → VoterState). WorldOk b X W (sent ++ map kinds.ToClient o.replies)) (unput Y m.voter (M m.voter) o.state here)
+    (voter_moves laws b X Z sent world m act.range (act.asked X Z world) o (subst (λ (y : VoterState). voter.step y m ≡ Some o) at act.step))
+
+voter_loud : VoterLaws → (b : Bounds) (L K : ℕ → ClientState) (M N : ℕ → VoterState) (sent : List Message) → Mixes b L K M N sent
+    → (m : ToVoter) (o : voter.Outcome) → Votes b M sent m o → Mixes b L K (put M m.voter o.state) (put N m.voter o.state) (sent ++ map kinds.ToClient o.replies)
+voter_loud laws b L K M N sent all m o act X Y other mix =
+    voter_mix laws b L K M N sent all m o act X Y other (put-both M N Y m.voter o.state mix) (MixBut-put M N Y m.voter o.state o.state mix)
+
+voter_quiet : VoterLaws → (b : Bounds) (L K : ℕ → ClientState) (M N : ℕ → VoterState) (sent : List Message) → Mixes b L K M N sent
+    → (m : ToVoter) (o : voter.Outcome) → Votes b M sent m o → sent ≡ sent ++ map kinds.ToClient o.replies → Mixes b L K (put M m.voter o.state) N (sent ++ map kinds.ToClient o.replies)
+voter_quiet laws b L K M N sent all m o act none X Y other mix = elim (mix m.voter) [
+  | inl e ↦ voter_mix laws b L K M N sent all m o act X Y other (e ∙ put-same M m.voter o.state) (MixBut-put_left M N Y m.voter o.state mix)
+  | inr e ↦ subst (λ (ms : List Message). WorldOk b X Y ms) none (all X Y other (Mix-with M N Y m.voter (MixBut-put_left M N Y m.voter o.state mix) (inr e)))
+]
+
+-- ---- somebody saves itself, or comes back
+
+Mixes-fewer : (b : Bounds) (L K P R : ℕ → ClientState) (M N S T : ℕ → VoterState) (sent : List Message) → Mixes b L K M N sent
+    → ((X : ℕ → ClientState) → Mix P R X → Mix L K X) → ((Y : ℕ → VoterState) → Mix S T Y → Mix M N Y) → Mixes b P R S T sent
+Mixes-fewer b L K P R M N S T sent all clients voters X Y mix other = all X Y (clients X mix) (voters Y other)
+
+-- with the saved one at c made the live one
+Mix-saved : {A : Type 0} (L K : ℕ → A) (c : ℕ) (X : ℕ → A) → Mix L (put K c (L c)) X → Mix L K X
+Mix-saved L K c X mix = Mix-with L K X c (MixBut-put_right L K X c (L c) mix) (elim (mix c) [ inl e ↦ inl e | inr e ↦ inl (e ∙ put-same K c (L c)) ])
+
+-- with the live one at c made the saved one
+Mix-restarted : {A : Type 0} (L K : ℕ → A) (c : ℕ) (X : ℕ → A) → Mix (put L c (K c)) K X → Mix L K X
+Mix-restarted L K c X mix = Mix-with L K X c (MixBut-put_left L K X c (K c) mix) (elim (mix c) [ inl e ↦ inr (e ∙ put-same L c (K c)) | inr e ↦ inr e ])
+
+-- ---- a world whose nodes are saved
+
+pub record SavedOk (b : Bounds) (s : Saved) : Type 0 where
+  pub live_clients : length s.live.clients ≡ b.clients
+  pub live_voters : length s.live.voters ≡ b.voters
+  pub clients : length s.clients ≡ b.clients
+  pub voters : length s.voters ≡ b.voters
+  pub mixes : Mixes b (client_at s.live.clients) (client_at s.clients) (voter_at s.live.voters) (voter_at s.voters) s.live.sent
+  pub walked : Walked s.live.visible (client_at s.live.clients)
+  pub insides : (c : ℕ) → is_inside (client_at s.clients c).phase ≡ true → is_inside (client_at s.live.clients c).phase ≡ true
+
+-- the live world is one of the mixes
+live_ok : (b : Bounds) (s : Saved) → SavedOk b s → WorldOk b (client_at s.live.clients) (voter_at s.live.voters) s.live.sent
+live_ok b s ok = ok.mixes (client_at s.live.clients) (voter_at s.live.voters) (λ q. inl refl) (λ q. inl refl)
+
+-- who was saved inside is inside
+abbrev Behind : (ℕ → ClientState) → (ℕ → ClientState) → Type 0
+Behind K L = (q : ℕ) → is_inside (K q).phase ≡ true → is_inside (L q).phase ≡ true
+
+Behind-both : (K L : ℕ → ClientState) (c : ℕ) (x : ClientState) → Behind K L → Behind (put K c x) (put L c x)
+Behind-both K L c x behind q = elim (eqb q c) as (λ b. is_inside (cond b x (K q)).phase ≡ true → is_inside (cond b x (L q)).phase ≡ true) [ true ↦ λ e. e | false ↦ behind q ]
+
+Behind-live : (K L : ℕ → ClientState) (c : ℕ) (x : ClientState) → Behind K L → (is_inside (K c).phase ≡ true → is_inside x.phase ≡ true) → Behind K (put L c x)
+Behind-live K L c x behind here q = by_number (λ y. is_inside (K q).phase ≡ true → is_inside y.phase ≡ true) L c x q (λ same e. here (ap (λ n. is_inside (K n).phase) (sym same) ∙ e)) (λ _. behind q)
+
+Behind-kept : (K L : ℕ → ClientState) (c : ℕ) → Behind K L → Behind (put K c (L c)) L
+Behind-kept K L c behind q = by_number (λ y. is_inside y.phase ≡ true → is_inside (L q).phase ≡ true) K c (L c) q (λ same e. ap (λ n. is_inside (L n).phase) same ∙ e) (λ _. behind q)
+
+Behind-out : (K L : ℕ → ClientState) (c : ℕ) (x : ClientState) → is_inside x.phase ≡ false → Behind K L → Behind (put K c x) L
+Behind-out K L c x out behind q = by_number (λ y. is_inside y.phase ≡ true → is_inside (L q).phase ≡ true) K c x q (λ same e. absurd (false≢true (sym out ∙ e))) (λ _. behind q)
+
+silent_parts : (n : ℕ) (seen : Seen) → is_silent n seen ≡ true → (n ≡ 0) × (seen ≡ Nothing)
+silent_parts n Nothing e = (grind (arith, nat_tests), refl)
+silent_parts n Entered e = absurd (false≢true e)
+silent_parts n Left e = absurd (false≢true e)
+
+none_of : {A : Type 0} (f : A → Message) (sent : List Message) (out : List A) → length out ≡ 0 → sent ≡ sent ++ map f out
+none_of f sent [] e = sym (append-nil sent)
+none_of f sent (x ∷ xs) e = absurd (omega arith)
+
+nothing_more : (sent more : List Message) → length more ≡ 0 → sent ≡ sent ++ more
+nothing_more sent [] e = sym (append-nil sent)
+nothing_more sent (x ∷ xs) e = absurd (omega arith)
+
+-- ---- a client's step, in the lists
+
+client_walks : (b : Bounds) → Given b → (s : Saved) → SavedOk b s → (c : ℕ) (cause : client.Cause) (o : client.Outcome)
+    → Acts b (client_at s.live.clients) (client_at s.clients) (voter_at s.live.voters) (voter_at s.voters) s.live.sent c cause o
+    → Walked (s.live.visible ++ events c o.seen) (put (client_at s.live.clients) c o.state)
+client_walks b given s ok c cause o act =
+    let L = client_at s.live.clients in
+    let M = voter_at s.live.voters in
+    let world = client_moves given.client b given.meet L M s.live.sent (live_ok b s ok) c act.within cause o act.accepts act.step (act.came L M (live_ok b s ok)) act.draws in
+    let sees = (given.client.meets (L c) cause o ((live_ok b s ok).clients c).sound act.accepts act.step).seen in
+    Walked-step s.live.visible L c o.state o.seen ok.walked sees (λ d in_c in_d. one_inside b given.meet (put L c o.state) M _ world c d in_c in_d)
+
+-- what a client did, saved or not
+client_gone : (b : Bounds) → Given b → (s : Saved) → SavedOk b s → (c : ℕ) (cause : client.Cause) (o : client.Outcome)
+    → Acts b (client_at s.live.clients) (client_at s.clients) (voter_at s.live.voters) (voter_at s.voters) s.live.sent c cause o
+    → (silent : Bool) → is_silent (length o.out) o.seen ≡ silent → SavedOk b (save_unless silent (OneClient c) (record s { live = (client_did s.live c o).state }))
+client_gone b given s ok c cause o act false is =
+    let L = client_at s.live.clients in
+    let K = client_at s.clients in
+    let within : c < length s.live.clients = subst (λ n. c < n) (sym ok.live_clients) act.within in
+    let within_saved : c < length s.clients = subst (λ n. c < n) (sym ok.clients) act.within in
+    let now = slice_set s.live.clients c o.state in
+    let same : put L c o.state ≡ client_at now = sym (client_at-set s.live.clients c o.state within) in
+    let there : client_at now c ≡ o.state = ap (λ (f : ℕ → ClientState). f c) (sym same) ∙ put-same L c o.state in
+    let kept : put K c o.state ≡ client_at (slice_set s.clients c (client_at now c)) = sym (client_at-set s.clients c (client_at now c) within_saved ∙ ap (λ x. put K c x) there) in
+    record {
+      live_clients = length-set s.live.clients c o.state ∙ ok.live_clients;
+      live_voters = ok.live_voters;
+      clients = length-set s.clients c (client_at now c) ∙ ok.clients;
+      voters = ok.voters;
+      mixes =
+          subst (λ (W : ℕ → ClientState). Mixes b W (client_at (slice_set s.clients c (client_at now c))) (voter_at s.live.voters) (voter_at s.voters) (s.live.sent ++ map kinds.ToVoter o.out)) same
+          (subst (λ (W : ℕ → ClientState). Mixes b (put L c o.state) W (voter_at s.live.voters) (voter_at s.voters) (s.live.sent ++ map kinds.ToVoter o.out)) kept
+          (client_loud given.client b given.meet L K (voter_at s.live.voters) (voter_at s.voters) s.live.sent ok.mixes c cause o act));
+      walked = subst (λ (W : ℕ → ClientState). Walked (s.live.visible ++ events c o.seen) W) same (client_walks b given s ok c cause o act);
+      insides = subst (λ (W : ℕ → ClientState). Behind (client_at (slice_set s.clients c (client_at now c))) W) same
+          (subst (λ (W : ℕ → ClientState). Behind W (put L c o.state)) kept (Behind-both K L c o.state ok.insides));
+    }
+client_gone b given s ok c cause o act true is =
+    let L = client_at s.live.clients in
+    let K = client_at s.clients in
+    let within : c < length s.live.clients = subst (λ n. c < n) (sym ok.live_clients) act.within in
+    let same : put L c o.state ≡ client_at (slice_set s.live.clients c o.state) = sym (client_at-set s.live.clients c o.state within) in
+    let parts = silent_parts (length o.out) o.seen is in
+    let sees = (given.client.meets (L c) cause o ((live_ok b s ok).clients c).sound act.accepts act.step).seen in
+    let alike : is_inside (L c).phase ≡ is_inside o.state.phase = subst (λ (seen : Seen). Sees (L c).phase seen o.state.phase) parts.1 sees in
+    record {
+      live_clients = length-set s.live.clients c o.state ∙ ok.live_clients;
+      live_voters = ok.live_voters;
+      clients = ok.clients;
+      voters = ok.voters;
+      mixes = subst (λ (W : ℕ → ClientState). Mixes b W K (voter_at s.live.voters) (voter_at s.voters) (s.live.sent ++ map kinds.ToVoter o.out)) same
+          (client_quiet given.client b given.meet L K (voter_at s.live.voters) (voter_at s.voters) s.live.sent ok.mixes c cause o act (none_of kinds.ToVoter s.live.sent o.out parts.0));
+      walked = subst (λ (W : ℕ → ClientState). Walked (s.live.visible ++ events c o.seen) W) same (client_walks b given s ok c cause o act);
+      insides = subst (λ (W : ℕ → ClientState). Behind K W) same (Behind-live K L c o.state ok.insides (λ e. sym alike ∙ ok.insides c e));
+    }
+
+client_tried : (b : Bounds) → Given b → (s : Saved) → SavedOk b s → (c : ℕ) → c < length s.live.clients → (cause : client.Cause)
+    → Accepts (client_at s.live.clients c) cause → CameAll b (client_at s.live.clients) s.live.sent c cause → Draws b cause
+    → (r : Result client.Outcome ClientFault) → client.step (client_at s.live.clients c) cause ≡ r → SavedOk b (gone s (OneClient c) (after_client s.live c r))
+client_tried b given s ok c within cause accepts came draws (Ok o) is =
+    client_gone b given s ok c cause o (record { within = subst (λ n. c < n) ok.live_clients within; accepts = accepts; step = is; came = came; draws = draws }) _ refl
+client_tried b given s ok c within cause accepts came draws (Err fault) is = ok
+
+-- the same with a ticket that is drawn
+client_drew : (b : Bounds) → Given b → (s : Saved) → SavedOk b s → (c : ℕ) → c < length s.live.clients → (cause : client.Cause)
+    → Accepts (client_at s.live.clients c) cause → CameAll b (client_at s.live.clients) s.live.sent c cause → Draws b cause
+    → (side : Side) (r : Result client.Outcome ClientFault) → client.step (client_at s.live.clients c) cause ≡ r → SavedOk b (gone s (OneClient c) (after_client (draw_of side s.live c) c r))
+client_drew b given s ok c within cause accepts came draws First (Ok o) is =
+    client_gone b given (record s { live = draw_of First s.live c })
+    (record { live_clients = ok.live_clients; live_voters = ok.live_voters; clients = ok.clients; voters = ok.voters; mixes = ok.mixes; walked = ok.walked; insides = ok.insides }) c cause o
+    (record { within = subst (λ n. c < n) ok.live_clients within; accepts = accepts; step = is; came = came; draws = draws }) _ refl
+client_drew b given s ok c within cause accepts came draws Second (Ok o) is =
+    client_gone b given (record s { live = draw_of Second s.live c })
+    (record { live_clients = ok.live_clients; live_voters = ok.live_voters; clients = ok.clients; voters = ok.voters; mixes = ok.mixes; walked = ok.walked; insides = ok.insides }) c cause o
+    (record { within = subst (λ n. c < n) ok.live_clients within; accepts = accepts; step = is; came = came; draws = draws }) _ refl
+client_drew b given s ok c within cause accepts came draws side (Err fault) is = ok
+
+-- ---- a voter's step, in the lists
+
+voter_gone : (b : Bounds) → Given b → (s : Saved) → SavedOk b s → (m : ToVoter) (o : voter.Outcome) → Votes b (voter_at s.live.voters) s.live.sent m o
+    → (silent : Bool) → is_silent (length o.replies) Nothing ≡ silent → SavedOk b (save_unless silent (OneVoter m.voter) (record s { live = (voter_did s.live m.voter o).state }))
+voter_gone b given s ok m o act false is =
+    let M = voter_at s.live.voters in
+    let N = voter_at s.voters in
+    let v = m.voter in
+    let within : v < length s.live.voters = subst (λ n. v < n) (sym ok.live_voters) act.range.1 in
+    let within_saved : v < length s.voters = subst (λ n. v < n) (sym ok.voters) act.range.1 in
+    let now = slice_set s.live.voters v o.state in
+    let same : put M v o.state ≡ voter_at now = sym (voter_at-set s.live.voters v o.state within) in
+    let there : voter_at now v ≡ o.state = ap (λ (f : ℕ → VoterState). f v) (sym same) ∙ put-same M v o.state in
+    let kept : put N v o.state ≡ voter_at (slice_set s.voters v (voter_at now v)) = sym (voter_at-set s.voters v (voter_at now v) within_saved ∙ ap (λ x. put N v x) there) in
+    record {
+      live_clients = ok.live_clients;
+      live_voters = length-set s.live.voters v o.state ∙ ok.live_voters;
+      clients = ok.clients;
+      voters = length-set s.voters v (voter_at now v) ∙ ok.voters;
+      mixes =
+          subst (λ (W : ℕ → VoterState). Mixes b (client_at s.live.clients) (client_at s.clients) W (voter_at (slice_set s.voters v (voter_at now v)))
+          (s.live.sent ++ map kinds.ToClient o.replies)) same
+          (subst (λ (W : ℕ → VoterState). Mixes b (client_at s.live.clients) (client_at s.clients) (put M v o.state) W (s.live.sent ++ map kinds.ToClient o.replies)) kept
+          (voter_loud given.voter b (client_at s.live.clients) (client_at s.clients) M N s.live.sent ok.mixes m o act));
+      walked = ok.walked;
+      insides = ok.insides;
+    }
+voter_gone b given s ok m o act true is =
+    let M = voter_at s.live.voters in
+    let N = voter_at s.voters in
+    let v = m.voter in
+    let within : v < length s.live.voters = subst (λ n. v < n) (sym ok.live_voters) act.range.1 in
+    let same : put M v o.state ≡ voter_at (slice_set s.live.voters v o.state) = sym (voter_at-set s.live.voters v o.state within) in
+    record {
+      live_clients = ok.live_clients;
+      live_voters = length-set s.live.voters v o.state ∙ ok.live_voters;
+      clients = ok.clients;
+      voters = ok.voters;
+      mixes = subst (λ (W : ℕ → VoterState). Mixes b (client_at s.live.clients) (client_at s.clients) W N (s.live.sent ++ map kinds.ToClient o.replies)) same
+          (voter_quiet given.voter b (client_at s.live.clients) (client_at s.clients) M N s.live.sent ok.mixes m o act
+          (none_of kinds.ToClient s.live.sent o.replies (silent_parts (length o.replies) Nothing is).0));
+      walked = ok.walked;
+      insides = ok.insides;
+    }
+
+voter_tried : (b : Bounds) → Given b → (s : Saved) → SavedOk b s → (m : ToVoter) → IsInRange b.voters b.clients b.limit (kinds.ToVoter m)
+    → ((X : ℕ → ClientState) (Y : ℕ → VoterState) → WorldOk b X Y s.live.sent → AskOk (X m.client) m.voter m.body)
+    → (r : Option voter.Outcome) → voter.step (voter_at s.live.voters m.voter) m ≡ r → SavedOk b (gone s (OneVoter m.voter) (after_voter s.live m.voter r))
+voter_tried b given s ok m range asked (Some o) is = voter_gone b given s ok m o (record { range = range; asked = asked; step = is }) _ refl
+voter_tried b given s ok m range asked None is = ok
+
+-- ---- saves and restarts
+
+within_or : {A : Type 0} (xs : List A) (n : ℕ) → (n < length xs) ⊎ (length xs ≤ n)
+within_or xs n = elim (ltb n (length xs)) as (λ t. ltb n (length xs) ≡ t → (n < length xs) ⊎ (length xs ≤ n)) [
+  | true ↦ λ t. inl (grind (arith, nat_tests))
+  | false ↦ λ t. inr (grind (arith, nat_tests))
+] refl
+
+save_ok : (b : Bounds) (who : Node) (s : Saved) → SavedOk b s → SavedOk b (save who s)
+save_ok b Nobody s ok = ok
+save_ok b (OneClient c) s ok = elim (within_or s.clients c) [
+  | inl within ↦
+      let L = client_at s.live.clients in
+      let K = client_at s.clients in
+      let kept : put K c (L c) ≡ client_at (slice_set s.clients c (L c)) = sym (client_at-set s.clients c (L c) within) in
+      record {
+        live_clients = ok.live_clients;
+        live_voters = ok.live_voters;
+        clients = length-set s.clients c (L c) ∙ ok.clients;
+        voters = ok.voters;
+        mixes = subst (λ (W : ℕ → ClientState). Mixes b L W (voter_at s.live.voters) (voter_at s.voters) s.live.sent) kept
+            (Mixes-fewer b L K L (put K c (L c)) (voter_at s.live.voters) (voter_at s.voters) (voter_at s.live.voters) (voter_at s.voters) s.live.sent ok.mixes
+            (λ X mix. Mix-saved L K c X mix) (λ Y mix. mix));
+        walked = ok.walked;
+        insides = subst (λ (W : ℕ → ClientState). Behind W L) kept (Behind-kept K L c ok.insides);
+      }
+  | inr past ↦ subst (λ (l : List ClientState). SavedOk b (record s { clients = l })) (sym (set_past s.clients c (client_at s.live.clients c) past)) ok
+]
+save_ok b (OneVoter v) s ok = elim (within_or s.voters v) [
+  | inl within ↦
+      let M = voter_at s.live.voters in
+      let N = voter_at s.voters in
+      let kept : put N v (M v) ≡ voter_at (slice_set s.voters v (M v)) = sym (voter_at-set s.voters v (M v) within) in
+      record {
+        live_clients = ok.live_clients;
+        live_voters = ok.live_voters;
+        clients = ok.clients;
+        voters = length-set s.voters v (M v) ∙ ok.voters;
+        mixes = subst (λ (W : ℕ → VoterState). Mixes b (client_at s.live.clients) (client_at s.clients) M W s.live.sent) kept
+            (Mixes-fewer b (client_at s.live.clients) (client_at s.clients) (client_at s.live.clients) (client_at s.clients) M N M (put N v (M v)) s.live.sent ok.mixes
+            (λ X mix. mix) (λ Y mix. Mix-saved M N v Y mix));
+        walked = ok.walked;
+        insides = ok.insides;
+      }
+  | inr past ↦ subst (λ (l : List VoterState). SavedOk b (record s { voters = l })) (sym (set_past s.voters v (voter_at s.live.voters v) past)) ok
+]
+
+sees_crash : (p q : Phase) → (is_inside q ≡ true → is_inside p ≡ true) → Sees p (crash_seen (is_inside p) (is_inside q)) q
+sees_crash Idle Idle h = refl
+sees_crash Idle Asking h = refl
+sees_crash Idle Inside h = h refl
+sees_crash Asking Idle h = refl
+sees_crash Asking Asking h = refl
+sees_crash Asking Inside h = h refl
+sees_crash Inside Idle h = (refl, refl)
+sees_crash Inside Asking h = (refl, refl)
+sees_crash Inside Inside h = refl
+
+Mix-one : {A : Type 0} (L K : ℕ → A) (c : ℕ) → Mix L K (put L c (K c))
+Mix-one L K c q = by_number (λ z. (z ≡ L q) ⊎ (z ≡ K q)) L c (K c) q (λ same. inr (ap K (sym same))) (λ _. inl refl)
+
+come_back_ok : (b : Bounds) → Given b → (s : Saved) → SavedOk b s → (c : ℕ) → c < length s.live.clients → SavedOk b (come_back s c (client_at s.clients c))
+come_back_ok b given s ok c within =
+    let L = client_at s.live.clients in
+    let K = client_at s.clients in
+    let seen = crash_seen (is_inside (L c).phase) (is_inside (K c).phase) in
+    let same : put L c (K c) ≡ client_at (slice_set s.live.clients c (K c)) = sym (client_at-set s.live.clients c (K c) within) in
+    let world = ok.mixes (put L c (K c)) (voter_at s.live.voters) (Mix-one L K c) (λ q. inl refl) in
+    record {
+      live_clients = length-set s.live.clients c (K c) ∙ ok.live_clients;
+      live_voters = ok.live_voters;
+      clients = ok.clients;
+      voters = ok.voters;
+      mixes = subst (λ (W : ℕ → ClientState). Mixes b W K (voter_at s.live.voters) (voter_at s.voters) s.live.sent) same
+          (Mixes-fewer b L K (put L c (K c)) K (voter_at s.live.voters) (voter_at s.voters) (voter_at s.live.voters) (voter_at s.voters) s.live.sent ok.mixes
+          (λ X mix. Mix-restarted L K c X mix) (λ Y mix. mix));
+      walked = subst (λ (W : ℕ → ClientState). Walked (s.live.visible ++ events c seen) W) same
+          (Walked-step s.live.visible L c (K c) seen ok.walked (sees_crash (L c).phase (K c).phase (ok.insides c))
+          (λ d in_c in_d. one_inside b given.meet (put L c (K c)) (voter_at s.live.voters) _ world c d in_c in_d));
+      insides = subst (λ (W : ℕ → ClientState). Behind K W) same (Behind-live K L c (K c) ok.insides (λ e. e));
+    }
+
+there : (b : Bounds) (s : Saved) → SavedOk b s → (t : Bool) (u : Saved) → (t ≡ true → SavedOk b u) → SavedOk b (if_there t u s)
+there b s ok true u then = then refl
+there b s ok false u then = ok
+
+restart_ok : (b : Bounds) → Given b → (who : Node) (s : Saved) → SavedOk b s → SavedOk b (restart who s)
+restart_ok b given Nobody s ok = ok
+restart_ok b given (OneClient c) s ok = there b s ok _ _ (λ t. come_back_ok b given s ok c (less_than _ _ t))
+restart_ok b given (OneVoter v) s ok = elim (within_or s.live.voters v) [
+  | inl within ↦
+      let M = voter_at s.live.voters in
+      let N = voter_at s.voters in
+      let same : put M v (N v) ≡ voter_at (slice_set s.live.voters v (N v)) = sym (voter_at-set s.live.voters v (N v) within) in
+      record {
+        live_clients = ok.live_clients;
+        live_voters = length-set s.live.voters v (N v) ∙ ok.live_voters;
+        clients = ok.clients;
+        voters = ok.voters;
+        mixes = subst (λ (W : ℕ → VoterState). Mixes b (client_at s.live.clients) (client_at s.clients) W N s.live.sent) same
+            (Mixes-fewer b (client_at s.live.clients) (client_at s.clients) (client_at s.live.clients) (client_at s.clients) M N (put M v (N v)) N s.live.sent ok.mixes
+            (λ X mix. mix) (λ Y mix. Mix-restarted M N v Y mix));
+        walked = ok.walked;
+        insides = ok.insides;
+      }
+  | inr past ↦ subst (λ (l : List VoterState). SavedOk b (record s { live = record s.live { voters = l } })) (sym (set_past s.live.voters v (voter_at s.voters v) past)) ok
+]
+
+-- ---- all but the least is lost
+
+nothing_held : (v : ℕ) → nat_lt 0 (slice_index (replicate 64 0) v) ≡ true → ⊥
+nothing_held v is = let none = slice_index-replicate_zero 64 v in grind (arith, nat_tests)
+
+nothing_held_under : (v g : ℕ) → (nat_lt 0 (slice_index (replicate 64 0) v) && (slice_index (replicate 64 0) v == g)) ≡ true → ⊥
+nothing_held_under v g is = let none = slice_index-replicate_zero 64 v in grind (arith, nat_tests)
+
+told_same : (X : ℕ → ClientState) (Y Z : ℕ → VoterState) → ((q : ℕ) → (Y q).held ≡ (Z q).held) → (m : Message) → MessageOk X Y m → MessageOk X Z m
+told_same X Y Z same (kinds.ToVoter m) ok = ok
+told_same X Y Z same (kinds.ToClient m) ok = subst (λ held. TellOk (X m.client) held m.voter m.client m.body) (same m.voter) ok
+
+least_voter_ok : (b : Bounds) (X : ℕ → ClientState) (y : VoterState) → VoterOk b X y → VoterOk b X (least_voter y)
+least_voter_ok b X y ok = record {
+  sound = record {
+    limit = ok.sound.limit;
+    granted = ok.sound.granted;
+    numbered = ok.sound.numbered;
+    apart = λ g held. fin.get-empty nat_cmp g.client;
+    free = λ held c. fin.get-empty nat_cmp c;
+  };
+  entries = λ c s is. elim is [
+    | inl held ↦ ok.entries c s (inl held)
+    | inr waits ↦ absurd (none-some s (sym (fin.get-empty nat_cmp c) ∙ waits))
+  ];
+  numbered = ok.numbered;
+  limit = ok.limit;
+  seen = omega arith;
+}
+
+voter_less : (b : Bounds) (X : ℕ → ClientState) (Y : ℕ → VoterState) (sent : List Message) (v : ℕ) → WorldOk b X Y sent → WorldOk b X (put Y v (least_voter (Y v))) sent
+voter_less b X Y sent v ok =
+    let Z = put Y v (least_voter (Y v)) in
+    let same : (q : ℕ) → (Y q).held ≡ (Z q).held = λ q. by_number (λ z. (Y q).held ≡ z.held) Y v (least_voter (Y v)) q (λ is. ap (λ n. (Y n).held) is) (λ _. refl) in
+    record {
+      messages = AllByRecursion-map (MessageOk X Y) (MessageOk X Z) (told_same X Y Z same) sent ok.messages;
+      ranges = ok.ranges;
+      held = λ c q g is. sym (same q) ∙ ok.held c q g is;
+      clients = ok.clients;
+      voters = put-each (λ q z. VoterOk b X z) Y v (least_voter (Y v)) (least_voter_ok b X (Y v) (ok.voters v)) ok.voters;
+      client_ids = ok.client_ids;
+      voter_ids = put-each (λ q z. q < b.voters → z.id ≡ q) Y v (least_voter (Y v)) (ok.voter_ids v) ok.voter_ids;
+    }
+
+least_client_sound : (x : ClientState) → sound.IsSound x → sound.IsSound (least_client x)
+least_client_sound x ok = record {
+  id = ok.id;
+  some = ok.some;
+  limit = ok.limit;
+  places = record { held = length-replicate {A = ℕ} 64 0; last = ok.places.last };
+  stamp = ok.stamp;
+  clock = ok.clock;
+  stamped = λ busy. absurd (false≢true (sym busy));
+  quorum = tt;
+  asked = λ busy. absurd (false≢true (sym busy));
+  held = λ v is. absurd (nothing_held v is);
+  inside = λ is. absurd (false≢true is);
+  inquired = λ v is. absurd (false≢true is);
+  relinquished = λ v is. absurd (false≢true is);
+}
+
+least_is_later : (x : ClientState) → IsLater x (least_client x)
+least_is_later x = record { stamp = omega arith; last = λ v. omega arith; idle = λ _ _. refl }
+
+client_less : (b : Bounds) (X : ℕ → ClientState) (Y : ℕ → VoterState) (sent : List Message) (c : ℕ) → WorldOk b X Y sent → WorldOk b (put X c (least_client (X c))) Y sent
+client_less b X Y sent c ok =
+    let W = put X c (least_client (X c)) in
+    let later : (q : ℕ) → IsLater (X q) (W q) = put-each (λ q y. IsLater (X q) y) X c (least_client (X c)) (least_is_later (X c)) (λ q. IsLater-self (X q)) in
+    record {
+      messages = MessageOk-later X W Y later sent ok.messages;
+      ranges = ok.ranges;
+      held = put-each (λ q y. (v g : ℕ) → holds_under y v g ≡ true → Names (Y v).held q y.stamp g) X c (least_client (X c)) (λ v g is. absurd (nothing_held_under v g is)) ok.held;
+      clients = put-each (λ q y. ClientOk b y) X c (least_client (X c)) (record { sound = least_client_sound (X c) (ok.clients c).sound; last = (ok.clients c).last; quorum = inl refl }) ok.clients;
+      voters = λ v. VoterOk-later b X W later (Y v) (ok.voters v);
+      client_ids = put-each (λ q y. q < b.clients → IsClient q b.limit y) X c (least_client (X c))
+          (λ within. record { id = (ok.client_ids c within).id; limit = (ok.client_ids c within).limit }) ok.client_ids;
+      voter_ids = ok.voter_ids;
+    }
+
+Mix-other : {A : Type 0} (L K X : ℕ → A) (c : ℕ) → MixBut c L K X → Mix L K (put X c (K c))
+Mix-other L K X c others q = by_number (λ z. (z ≡ L q) ⊎ (z ≡ K q)) X c (K c) q (λ same. inr (ap K (sym same))) (others q)
+
+client_forgets : (b : Bounds) (L K : ℕ → ClientState) (M N : ℕ → VoterState) (sent : List Message) (c : ℕ) → Mixes b L K M N sent → Mixes b L (put K c (least_client (K c))) M N sent
+client_forgets b L K M N sent c all X Y mix other =
+    let others = MixBut-put_right L K X c (least_client (K c)) mix in
+    elim (mix c) [
+      | inl e ↦ all X Y (Mix-with L K X c others (inl e)) other
+      | inr e ↦
+          let Z = put X c (K c) in
+          subst (λ (W : ℕ → ClientState). WorldOk b W Y sent) (unput X c (K c) (least_client (Z c)) (e ∙ put-same K c (least_client (K c)) ∙ ap (λ x. least_client x) (sym (put-same X c (K c)))))
+          (client_less b Z Y sent c (all Z Y (Mix-other L K X c others) other))
+    ]
+
+voter_forgets : (b : Bounds) (L K : ℕ → ClientState) (M N : ℕ → VoterState) (sent : List Message) (v : ℕ) → Mixes b L K M N sent → Mixes b L K M (put N v (least_voter (N v))) sent
+voter_forgets b L K M N sent v all X Y other mix =
+    let others = MixBut-put_right M N Y v (least_voter (N v)) mix in
+    elim (mix v) [
+      | inl e ↦ all X Y other (Mix-with M N Y v others (inl e))
+      | inr e ↦
+          let Z = put Y v (N v) in
+          subst (λ (W : ℕ → VoterState). WorldOk b X W sent) (unput Y v (N v) (least_voter (Z v)) (e ∙ put-same N v (least_voter (N v)) ∙ ap (λ y. least_voter y) (sym (put-same Y v (N v)))))
+          (voter_less b X Z sent v (all X Z other (Mix-other M N Y v others)))
+    ]
+
+forget_ok : (b : Bounds) (who : Node) (s : Saved) → SavedOk b s → SavedOk b (forget who s)
+forget_ok b Nobody s ok = ok
+forget_ok b (OneClient c) s ok = elim (within_or s.clients c) [
+  | inl within ↦
+      let L = client_at s.live.clients in
+      let K = client_at s.clients in
+      let kept : put K c (least_client (K c)) ≡ client_at (slice_set s.clients c (least_client (K c))) = sym (client_at-set s.clients c (least_client (K c)) within) in
+      record {
+        live_clients = ok.live_clients;
+        live_voters = ok.live_voters;
+        clients = length-set s.clients c (least_client (K c)) ∙ ok.clients;
+        voters = ok.voters;
+        mixes = subst (λ (W : ℕ → ClientState). Mixes b L W (voter_at s.live.voters) (voter_at s.voters) s.live.sent) kept
+            (client_forgets b L K (voter_at s.live.voters) (voter_at s.voters) s.live.sent c ok.mixes);
+        walked = ok.walked;
+        insides = subst (λ (W : ℕ → ClientState). Behind W L) kept (Behind-out K L c (least_client (K c)) refl ok.insides);
+      }
+  | inr past ↦ subst (λ (l : List ClientState). SavedOk b (record s { clients = l })) (sym (set_past s.clients c (least_client (client_at s.clients c)) past)) ok
+]
+forget_ok b (OneVoter v) s ok = elim (within_or s.voters v) [
+  | inl within ↦
+      let M = voter_at s.live.voters in
+      let N = voter_at s.voters in
+      let kept : put N v (least_voter (N v)) ≡ voter_at (slice_set s.voters v (least_voter (N v))) = sym (voter_at-set s.voters v (least_voter (N v)) within) in
+      record {
+        live_clients = ok.live_clients;
+        live_voters = ok.live_voters;
+        clients = ok.clients;
+        voters = length-set s.voters v (least_voter (N v)) ∙ ok.voters;
+        mixes = subst (λ (W : ℕ → VoterState). Mixes b (client_at s.live.clients) (client_at s.clients) M W s.live.sent) kept
+            (voter_forgets b (client_at s.live.clients) (client_at s.clients) M N s.live.sent v ok.mixes);
+        walked = ok.walked;
+        insides = ok.insides;
+      }
+  | inr past ↦ subst (λ (l : List VoterState). SavedOk b (record s { voters = l })) (sym (set_past s.voters v (least_voter (voter_at s.voters v)) past)) ok
+]
+
+-- ---- reminders
+
+client_said : (b : Bounds) → Given b → (s : Saved) → SavedOk b s → (c : ℕ) → c < length s.live.clients
+    → (silent : Bool) → is_silent (length (map kinds.ToVoter (client.remind (client_at s.live.clients c)))) Nothing ≡ silent
+    → SavedOk b (save_unless silent (OneClient c) (record s { live = (say s.live (map kinds.ToVoter (client.remind (client_at s.live.clients c)))).state }))
+client_said b given s ok c within false is =
+    let L = client_at s.live.clients in
+    let kept = save_ok b (OneClient c) s ok in
+    let K = client_at (slice_set s.clients c (L c)) in
+    let out = map kinds.ToVoter (client.remind (L c)) in
+    let number : c < b.clients = subst (λ n. c < n) ok.live_clients within in
+    let here : (X : ℕ → ClientState) → Mix L K X → X c ≡ L c = λ X mix. elim (mix c) [
+      | inl e ↦ e
+      | inr e ↦ e ∙ ap (λ (f : ℕ → ClientState). f c) (client_at-set s.clients c (L c) (subst (λ n. c < n) (sym ok.clients) number)) ∙ put-same (client_at s.clients) c (L c)
+    ] in
+    record {
+      live_clients = kept.live_clients;
+      live_voters = kept.live_voters;
+      clients = kept.clients;
+      voters = kept.voters;
+      mixes = λ X Y mix other. subst (λ (x : ClientState). WorldOk b X Y (s.live.sent ++ map kinds.ToVoter (client.remind x))) (here X mix)
+          (client_reminds given.client b given.meet X Y s.live.sent (kept.mixes X Y mix other) c number);
+      walked = kept.walked;
+      insides = kept.insides;
+    }
+client_said b given s ok c within true is =
+    subst (λ (ms : List Message). SavedOk b (record s { live = record s.live { sent = ms } }))
+    (nothing_more s.live.sent (map kinds.ToVoter (client.remind (client_at s.live.clients c))) (silent_parts _ Nothing is).0) ok
+
+voter_said : (b : Bounds) → Given b → (s : Saved) → SavedOk b s → (v : ℕ) → v < length s.live.voters
+    → (silent : Bool) → is_silent (length (map kinds.ToClient (voter.remind (voter_at s.live.voters v)))) Nothing ≡ silent
+    → SavedOk b (save_unless silent (OneVoter v) (record s { live = (say s.live (map kinds.ToClient (voter.remind (voter_at s.live.voters v)))).state }))
+voter_said b given s ok v within false is =
+    let M = voter_at s.live.voters in
+    let kept = save_ok b (OneVoter v) s ok in
+    let N = voter_at (slice_set s.voters v (M v)) in
+    let number : v < b.voters = subst (λ n. v < n) ok.live_voters within in
+    let here : (Y : ℕ → VoterState) → Mix M N Y → Y v ≡ M v = λ Y mix. elim (mix v) [
+      | inl e ↦ e
+      | inr e ↦ e ∙ ap (λ (f : ℕ → VoterState). f v) (voter_at-set s.voters v (M v) (subst (λ n. v < n) (sym ok.voters) number)) ∙ put-same (voter_at s.voters) v (M v)
+    ] in
+    record {
+      live_clients = kept.live_clients;
+      live_voters = kept.live_voters;
+      clients = kept.clients;
+      voters = kept.voters;
+      mixes = λ X Y other mix. subst (λ (y : VoterState). WorldOk b X Y (s.live.sent ++ map kinds.ToClient (voter.remind y))) (here Y mix)
+          (voter_reminds given.voter b X Y s.live.sent (kept.mixes X Y other mix) v number);
+      walked = kept.walked;
+      insides = kept.insides;
+    }
+voter_said b given s ok v within true is =
+    subst (λ (ms : List Message). SavedOk b (record s { live = record s.live { sent = ms } }))
+    (nothing_more s.live.sent (map kinds.ToClient (voter.remind (voter_at s.live.voters v))) (silent_parts _ Nothing is).0) ok
+
+-- ---- all that may happen
+
+if_one : (b : Bounds) (s : Saved) → SavedOk b s → (who : Node) (t : Bool) (c : ℕ) (next : Result Outcome WorldFault) → (t ≡ true → SavedOk b (gone s who next)) → SavedOk b
+    (gone s who (if_client t c next))
+if_one b s ok who true c next then = then refl
+if_one b s ok who false c next then = ok
+
+if_voter_one : (b : Bounds) (s : Saved) → SavedOk b s → (who : Node) (t : Bool) (v : ℕ) (next : Result Outcome WorldFault) → (t ≡ true → SavedOk b (gone s who next)) → SavedOk b
+    (gone s who (if_voter t v next))
+if_voter_one b s ok who true v next then = then refl
+if_voter_one b s ok who false v next then = ok
+
+exchange_ok : (b : Bounds) (s : Saved) → SavedOk b s → (are_two : Bool) (side : Side) → SavedOk b (gone s Nobody (exchange are_two side s.live))
+exchange_ok b s ok true First = record {
+  live_clients = ok.live_clients;
+  live_voters = ok.live_voters;
+  clients = ok.clients;
+  voters = ok.voters;
+  mixes = ok.mixes;
+  walked =
+      ok.walked;
+  insides = ok.insides;
+}
+exchange_ok b s ok true Second = ok
+exchange_ok b s ok false side = ok
+
+comes_ok : (b : Bounds) → Given b → (s : Saved) → SavedOk b s → (k : ℕ) (o : Option Message)
+    → ((X : ℕ → ClientState) (Y : ℕ → VoterState) → WorldOk b X Y s.live.sent → (m : Message) → o ≡ Some m → MessageOk X Y m)
+    → ((m : Message) → o ≡ Some m → IsInRange b.voters b.clients b.limit m) → SavedOk b (gone s (receiver o) (come s.live k o))
+comes_ok b given s ok k None known range = ok
+comes_ok b given s ok k (Some (kinds.ToVoter m)) known range =
+    voter_tried b given s ok m (range (kinds.ToVoter m) refl) (λ X Y world. known X Y world (kinds.ToVoter m) refl) _ refl
+comes_ok b given s ok k (Some (kinds.ToClient m)) known range =
+    let within = range (kinds.ToClient m) refl in
+    let few = given.limits.few_voters in
+    let least = within.1 in
+    client_tried b given s ok m.client (subst (λ n. m.client < n) (sym ok.live_clients) within.0) (client.Takes m)
+    (sym ((live_ok b s ok).client_ids m.client within.0).id, omega arith)
+    (λ X Y world. came_by b (X m.client) Y m.voter m.client m.body within.1 within.3 (known X Y world (kinds.ToClient m) refl))
+    tt _ refl
+
+happens_ok : (b : Bounds) → Given b → (deal : Dealing) → DealsFrom b.quorums deal → (s : Saved) → SavedOk b s → (h : Happening) → SavedOk b (happens deal s h)
+unfolding step
+happens_ok b given deal deals s ok (Goes (Ask c)) = if_one b s ok (OneClient c) _ c _ (λ t.
+    let among = deals s.live.side (next_ticket s.live) in
+    client_drew b given s ok c (less_than _ _ t) (client.Asks (quorum_dealt deal s.live.side (next_ticket s.live)))
+    (accepts_among b given.meet (quorum_dealt deal s.live.side (next_ticket s.live)) among) (λ X Y world v t g never. absurd never) among s.live.side _ refl)
+happens_ok b given deal deals s ok (Goes (Deliver k)) = comes_ok b given s ok k (slice_get s.live.sent k)
+    (λ X Y world m is. AllByRecursion-get (MessageOk X Y) s.live.sent k m world.messages is)
+    (λ m is. AllByRecursion-get (IsInRange b.voters b.clients b.limit) s.live.sent k m (live_ok b s ok).ranges is)
+happens_ok b given deal deals s ok (Goes (Leave c)) = if_one b s ok (OneClient c) _ c _
+    (λ t. client_tried b given s ok c (less_than _ _ t) client.Leaves tt (λ X Y world v t g never. absurd never) tt _ refl)
+happens_ok b given deal deals s ok (Goes (GiveUp c)) = if_one b s ok (OneClient c) _ c _
+    (λ t. client_tried b given s ok c (less_than _ _ t) client.GivesUp tt (λ X Y world v t g never. absurd never) tt _ refl)
+happens_ok b given deal deals s ok (Goes (RemindClient c)) = if_one b s ok (OneClient c) _ c _ (λ t. client_said b given s ok c (less_than _ _ t) _ refl)
+happens_ok b given deal deals s ok (Goes (RemindVoter v)) = if_voter_one b s ok (OneVoter v) _ v _ (λ t. voter_said b given s ok v (less_than _ _ t) _ refl)
+happens_ok b given deal deals s ok (Goes Exchange) = exchange_ok b s ok _ s.live.side
+happens_ok b given deal deals s ok (Saves who) = save_ok b who s ok
+happens_ok b given deal deals s ok (Forgets who) = forget_ok b who s ok
+happens_ok b given deal deals s ok (Restarts who) = restart_ok b given who s ok
+
+all_ok : (b : Bounds) → Given b → (deal : Dealing) → DealsFrom b.quorums deal → (hs : List Happening) (s : Saved) → SavedOk b s → SavedOk b (all_happen deal hs s)
+all_ok b given deal deals [] s ok = ok
+all_ok b given deal deals (h ∷ hs) s ok = all_ok b given deal deals hs (happens deal s h) (happens_ok b given deal deals s ok h)
+
+-- ---- the first world
+
+Mix-same : {A : Type 0} (L X : ℕ → A) → Mix L L X → L ≡ X
+Mix-same L X mix = λ i q. sym (elim (mix q) [ inl e ↦ e | inr e ↦ e ]) i
+
+begin_ok : (b : Bounds) → Given b → SavedOk b (begin b.voters b.clients b.limit)
+begin_ok b given =
+    let w = start b.voters b.clients b.limit in
+    let ok = start_ok b given in
+    record {
+      live_clients = ok.clients;
+      live_voters = ok.voters;
+      clients = ok.clients;
+      voters = ok.voters;
+      mixes = λ X Y mix other. subst (λ (V : ℕ → ClientState). WorldOk b V Y w.sent) (Mix-same (client_at w.clients) X mix)
+          (subst (λ (V : ℕ → VoterState). WorldOk b (client_at w.clients) V w.sent) (Mix-same (voter_at w.voters) Y other) ok.world);
+      walked = ok.walked;
+      insides = λ c e. e;
+    }
+
+-- over every list of happenings
+pub every_restart : ClientLaws → VoterLaws → (voters clients limit : ℕ) (quorums : List (List ℕ)) (deal : Dealing) (hs : List Happening)
+    → AreLimits voters clients limit → DoMeet voters quorums → DealsFrom quorums deal → IsExclusive (all_happen deal hs (begin voters clients limit)).live.visible
+every_restart cs vs voters clients limit quorums deal hs limits meets deals =
+    let b : Bounds = record { voters = voters; clients = clients; limit = limit; quorums = quorums } in
+    let given : Given b = record { client = cs; voter = vs; limits = limits; meet = meets } in
+    (all_ok b given deal deals hs (begin voters clients limit) (begin_ok b given)).walked.list

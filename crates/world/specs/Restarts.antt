@@ -1,0 +1,144 @@
+-- Worlds whose clients and voters crash and restart. Beside its live state, each client and each
+-- voter has a saved state. A step that sends a message, or lets a client enter or leave, saves the
+-- state of the client or voter that made it, before any message is sent. Other steps need not be
+-- saved. A client or voter that restarts has its saved state again. All but the least of a saved state
+-- may be lost.
+use Rattle.std.specs.Prelude.{ℕ, ◌==◌, nat_lt, Bool, true, false, List, [], ◌∷◌, ◌++◌, Option, Some, None, Result, Ok, Err, slice_get, slice_set, length}
+use Rattle.message.specs.declared.message.Message.{Message}
+use Rattle.message.specs.declared.message.Message.TheVariants as kinds
+use Rattle.voter.specs.declared.state.VoterState.{VoterState}
+use Rattle.voter.specs.Steps as voter
+use Rattle.requester.specs.declared.state.ClientState.{ClientState}
+use Rattle.requester.specs.declared.state.Seen.{Seen}
+use Rattle.requester.specs.declared.state.Seen.TheVariants.{Nothing, Entered, Left}
+use Rattle.requester.specs.Steps as client
+use Rattle.requester.specs.Words.{is_inside}
+use Rattle.world.specs.declared.fault.WorldFault.{WorldFault}
+use Rattle.world.specs.declared.step.Step.{Step}
+use Rattle.world.specs.declared.step.Step.TheVariants.{Ask, Deliver, Leave, GiveUp, RemindClient, RemindVoter, Exchange}
+use Rattle.world.specs.Runs.{start}
+use Rattle.world.specs.Steps.{WorldState, Outcome, Dealing, client_at, voter_at, events, step}
+
+-- a client, a voter, or nobody
+pub data Node : Type 0 where
+  OneClient : ℕ → Node
+  OneVoter : ℕ → Node
+  Nobody : Node
+
+-- a world, and the saved state of each client and each voter
+pub record Saved : Type 0 where
+  pub live : WorldState
+  pub clients : List ClientState
+  pub voters : List VoterState
+
+-- what may happen, at any time
+pub data Happening : Type 0 where
+  -- a step of the world
+  Goes : Step → Happening
+  -- a client or voter saves its state
+  Saves : Node → Happening
+  -- all but the least of a saved state is lost
+  Forgets : Node → Happening
+  -- a client or voter crashes, and restarts from its saved state
+  Restarts : Node → Happening
+
+-- who receives a message
+abbrev pub receiver : Option Message → Node
+receiver None = Nobody
+receiver (Some (kinds.ToVoter m)) = OneVoter m.voter
+receiver (Some (kinds.ToClient m)) = OneClient m.client
+
+-- who makes a step
+abbrev pub maker : WorldState → Step → Node
+maker w (Ask c) = OneClient c
+maker w (Deliver k) = receiver (slice_get w.sent k)
+maker w (Leave c) = OneClient c
+maker w (GiveUp c) = OneClient c
+maker w (RemindClient c) = OneClient c
+maker w (RemindVoter v) = OneVoter v
+maker w Exchange = Nobody
+
+-- the live state of a client or voter is saved
+abbrev pub save : Node → Saved → Saved
+save (OneClient c) s = record s { clients = slice_set s.clients c (client_at s.live.clients c) }
+save (OneVoter v) s = record s { voters = slice_set s.voters v (voter_at s.live.voters v) }
+save Nobody s = s
+
+-- The least of a voter: its grant, and the number of grants that it gave. Its number and its limit
+-- stay the same.
+abbrev pub least_voter : VoterState → VoterState
+least_voter y = record (voter.start y.id y.limit) { held = y.held; granted = y.granted }
+
+-- The least of a client: its clock, its last stamp, and the last grant of each voter that it gave
+-- back. It is idle. Its number and its limit stay the same.
+abbrev pub least_client : ClientState → ClientState
+least_client x = record (client.start x.id x.limit) { clock = x.clock; stamp = x.stamp; last = x.last }
+
+-- all but the least of a saved state is lost
+abbrev pub forget : Node → Saved → Saved
+forget (OneClient c) s = record s { clients = slice_set s.clients c (least_client (client_at s.clients c)) }
+forget (OneVoter v) s = record s { voters = slice_set s.voters v (least_voter (voter_at s.voters v)) }
+forget Nobody s = s
+
+-- a client that was inside, and is not inside after its restart, left by its crash
+abbrev pub crash_seen : Bool → Bool → Seen
+crash_seen true true = Nothing
+crash_seen true false = Left
+crash_seen false inside = Nothing
+
+-- the live client has this state
+abbrev pub come_back : Saved → ℕ → ClientState → Saved
+come_back s c x = record s {
+  live = record s.live {
+    clients = slice_set s.live.clients c x;
+    visible = s.live.visible ++ events c (crash_seen (is_inside (client_at s.live.clients c).phase) (is_inside x.phase));
+  };
+}
+
+-- only a client of this world restarts
+abbrev pub if_there : Bool → Saved → Saved → Saved
+if_there true t s = t
+if_there false t s = s
+
+-- a client or voter crashes, and restarts from its saved state
+abbrev pub restart : Node → Saved → Saved
+restart (OneClient c) s = if_there (nat_lt c (length s.live.clients)) (come_back s c (client_at s.clients c)) s
+restart (OneVoter v) s = record s { live = record s.live { voters = slice_set s.live.voters v (voter_at s.voters v) } }
+restart Nobody s = s
+
+-- no message was sent, and no client entered or left
+abbrev pub is_silent : ℕ → Seen → Bool
+is_silent sent Nothing = sent == 0
+is_silent sent Entered = false
+is_silent sent Left = false
+
+-- the live state is saved, unless the step was silent
+abbrev pub save_unless : Bool → Node → Saved → Saved
+save_unless true who s = s
+save_unless false who s = save who s
+
+-- Save, then send: a step that isn't silent is saved before its messages can arrive. A refused step
+-- changes nothing.
+abbrev pub gone : Saved → Node → Result Outcome WorldFault → Saved
+gone s who (Ok o) = save_unless (is_silent o.sent o.seen) who (record s { live = o.state })
+gone s who (Err fault) = s
+
+-- the world after one of these happens
+abbrev pub happens : Dealing → Saved → Happening → Saved
+happens deal s (Goes st) = gone s (maker s.live st) (step deal s.live st)
+happens deal s (Saves who) = save who s
+happens deal s (Forgets who) = forget who s
+happens deal s (Restarts who) = restart who s
+
+-- the world after all of these happen, in order
+abbrev pub all_happen : Dealing → List Happening → Saved → Saved
+all_happen deal [] s = s
+all_happen deal (h ∷ hs) s = all_happen deal hs (happens deal s h)
+
+-- a new world; the saved state of each client and each voter is its first state
+abbrev pub begin : ℕ → ℕ → ℕ → Saved
+begin voters clients limit = record {
+  live = start voters clients limit;
+  clients = (start voters clients limit).clients;
+  voters = (start voters clients limit).voters;
+}
