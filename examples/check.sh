@@ -143,9 +143,11 @@ for coterie in grid-3-3 majority-5 wheel-3 wheel-3-fast-hub cyclic-7 tree-2 thre
     parts "$coterie.toml" "$work/plan" > "$work/input"
     shown "plan-$coterie" "$work/input" plan
 done
+shown plan-one-of-three one-of-three-planned.txt plan
 shown deal-wheel-3 wheel-3-planned.txt deal 5
+shown deal-fast-majority fast-majority-planned.txt deal 1
 shown deal-wheel-3-fast-hub wheel-3-fast-hub-planned.txt deal 7
-for world in race late-message withdrawal; do
+for world in race late-message withdrawal refusals; do
     shown "world-$world" "world-$world.txt" world
 done
 shown explain-disjoint /dev/null explain E7
@@ -156,6 +158,14 @@ shown fault-record refused-record.txt fault replay
 shown fault-script refused-script.txt fault world
 shown fault-missing-part wheel-3.toml fault check
 shown fault-none wheel-3-planned.txt fault deal 5
+
+# an input for each fault that a text can have: faults/CODE.COMMAND is refused by this command with this code
+for input in faults/*; do
+    name=$(basename "$input")
+    echo "== $name"
+    "$show" fault "${name#*.}" < "$input"
+done > "$work/faults"
+compare "$work/faults" show-faults.out
 
 # pictures
 mkdir "$work/pictures"
