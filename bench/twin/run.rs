@@ -7,14 +7,16 @@ use std::fmt::Write;
 use std::sync::atomic::{AtomicU64, AtomicUsize, Ordering};
 use std::sync::{Condvar, Mutex};
 use std::thread;
-use std::time::Instant;
+use std::time::{Duration, Instant};
 
-/// Empty pumps in a row after which a member yields its thread at each further one.
+/// Empty looks in a row after which a member yields its thread before each further one.
 const EMPTY_BEFORE_YIELD: u64 = 16;
-/// Empty pumps in a row after which a member sleeps at each further one, if another member is awake.
+/// Empty looks in a row after which a member sleeps before each further one.
 const EMPTY_BEFORE_SLEEP: u64 = 500;
-/// Empty pumps in a row at which a member reminds, and counts anew.
+/// Empty looks in a row after which a member reminds, and counts anew.
 const EMPTY_BEFORE_REMINDER: u64 = 1_000;
+/// The longest sleep before a look, in milliseconds.
+const LONGEST_SLEEP: u64 = 1;
 /// Microseconds after which a yield was long: other programs want the processors.
 const KEPT_WAITING: u128 = 500;
 /// How many sleeps follow after a long yield.
@@ -46,25 +48,21 @@ impl Postbox {
         self.slot.lock().unwrap().0.pop_front()
     }
 
-    /// Whether it may have slept: not if no other member is awake.
-    fn sleep(&self, awake: &AtomicU64) -> bool {
-        let one_less = |count| if count > 1 { Some(count - 1) } else { None };
-        if awake.fetch_update(Ordering::SeqCst, Ordering::SeqCst, one_less).is_err() {
-            return false;
-        }
+    /// Sleeps until a message comes or the time is over.
+    fn sleep(&self, time: Duration) {
         let mut slot = self.slot.lock().unwrap();
-        if slot.0.is_empty() && awake.load(Ordering::SeqCst) > 0 {
+        if slot.0.is_empty() {
             slot.1 = true;
-            drop(self.bell.wait(slot).unwrap());
+            slot = self.bell.wait_timeout(slot, time).unwrap().0;
+            slot.1 = false;
         }
-        awake.fetch_add(1, Ordering::SeqCst);
-        true
     }
+}
 
-    fn ring(&self) {
-        let _slot = self.slot.lock().unwrap();
-        self.bell.notify_all();
-    }
+/// What a member knows when it waits: how many looks in a row found nothing, and before how many more it sleeps in place of yielding.
+struct Patience {
+    empty: u64,
+    sleeps: u64,
 }
 
 struct Lock {
@@ -72,8 +70,6 @@ struct Lock {
     /// For each voter a lock that is held from a message to it until the replies are posted.
     lines: Vec<Mutex<()>>,
     mailboxes: Vec<Postbox>,
-    awake: AtomicU64,
-    crowd: AtomicU64,
     quorums: Vec<Vec<u8>>,
     places: Vec<usize>,
     tickets: AtomicUsize,
@@ -120,57 +116,52 @@ impl Member {
         Some(entered)
     }
 
-    /// Sleeps or yields at an empty mailbox.
-    fn rest(&self, lock: &Lock, empty: u64) {
-        if empty > EMPTY_BEFORE_SLEEP || lock.crowd.load(Ordering::SeqCst) > 0 {
-            let _ = lock.crowd.fetch_update(Ordering::SeqCst, Ordering::SeqCst, |left| left.checked_sub(1));
-            if lock.mailboxes[self.client as usize].sleep(&lock.awake) {
-                return;
-            }
+    /// Yields, or sleeps until a message comes or a millisecond is over.
+    fn rest(&self, lock: &Lock, patience: &mut Patience) {
+        if patience.sleeps > 0 || patience.empty > EMPTY_BEFORE_SLEEP {
+            patience.sleeps = patience.sleeps.saturating_sub(1);
+            lock.mailboxes[self.client as usize].sleep(Duration::from_millis(LONGEST_SLEEP));
+            return;
         }
         let before = Instant::now();
         thread::yield_now();
         if before.elapsed().as_micros() > KEPT_WAITING {
-            lock.crowd.store(SLEEPS, Ordering::SeqCst);
+            patience.sleeps = SLEEPS;
         }
     }
 
-    fn enter(&mut self, lock: &Lock, quorum: &[u8], turns: &mut u64) -> bool {
-        let mut empty = 0;
+    /// What a member does before its next look: nothing, or it rests, or it reminds.
+    fn wait(&mut self, lock: &Lock, quorum: &[u8], patience: &mut Patience) {
+        if patience.empty >= EMPTY_BEFORE_REMINDER {
+            patience.empty = 0;
+            self.requester.remind(&mut self.out);
+            lock.send(&self.out, &mut self.replies);
+            for voter in quorum {
+                lock.remind(*voter, &mut self.replies);
+            }
+        } else if patience.empty > EMPTY_BEFORE_YIELD {
+            self.rest(lock, patience);
+        }
+    }
+
+    fn enter(&mut self, lock: &Lock, quorum: &[u8], turns: &mut u64, patience: &mut Patience) -> bool {
         while *turns > 0 {
             *turns -= 1;
+            self.wait(lock, quorum, patience);
             match self.pump(lock) {
-                Some(true) => return true,
-                Some(false) => empty = 0,
-                None => {
-                    empty += 1;
-                    if empty > EMPTY_BEFORE_YIELD {
-                        self.rest(lock, empty);
-                    }
-                    if empty == EMPTY_BEFORE_REMINDER {
-                        self.requester.remind(&mut self.out);
-                        lock.send(&self.out, &mut self.replies);
-                        for voter in quorum {
-                            lock.remind(*voter, &mut self.replies);
-                        }
-                        empty = 0;
-                    }
+                Some(true) => {
+                    patience.empty = 0;
+                    return true;
                 }
+                Some(false) => patience.empty = 0,
+                None => patience.empty += 1,
             }
         }
         false
     }
 
-    fn work(&mut self, lock: &Lock, passes: u64, turns: u64) {
-        lock.awake.fetch_add(1, Ordering::SeqCst);
-        self.serve(lock, passes, turns);
-        lock.awake.fetch_sub(1, Ordering::SeqCst);
-        for mailbox in &lock.mailboxes {
-            mailbox.ring();
-        }
-    }
-
     fn serve(&mut self, lock: &Lock, passes: u64, mut turns: u64) {
+        let mut patience = Patience { empty: 0, sleeps: 0 };
         for _ in 0..passes {
             let ticket = lock.tickets.fetch_add(1, Ordering::Relaxed);
             let number = lock.places[ticket % lock.places.len()];
@@ -178,7 +169,7 @@ impl Member {
             let quorum = &lock.quorums[number];
             self.requester.ask(quorum, &mut self.out);
             lock.send(&self.out, &mut self.replies);
-            if !self.enter(lock, quorum, &mut turns) {
+            if !self.enter(lock, quorum, &mut turns, &mut patience) {
                 self.requester.give_up(&mut self.out);
                 lock.send(&self.out, &mut self.replies);
                 return;
@@ -206,8 +197,6 @@ pub fn run(coterie: &Coterie, plan: &Plan, clients: u8, passes: u64, turns: u64)
         voters: (0..coterie.names.len()).map(|voter| Mutex::new(Voter::new(voter as u8, LIMIT))).collect(),
         lines: coterie.names.iter().map(|_| Mutex::new(())).collect(),
         mailboxes: (0..clients).map(|_| Postbox::new()).collect(),
-        awake: AtomicU64::new(0),
-        crowd: AtomicU64::new(0),
         quorums: coterie.quorums.iter().map(|quorum| members(*quorum).map(|voter| voter as u8).collect()).collect(),
         places: plan.places(),
         tickets: AtomicUsize::new(0),
@@ -225,7 +214,7 @@ pub fn run(coterie: &Coterie, plan: &Plan, clients: u8, passes: u64, turns: u64)
         .collect();
     thread::scope(|scope| {
         for member in &mut members {
-            scope.spawn(|| member.work(&lock, passes, turns));
+            scope.spawn(|| member.serve(&lock, passes, turns));
         }
     });
     let mut draws: Vec<_> = members.iter().flat_map(|m| m.draws.iter().map(|d| (d.0, m.client, d.1))).collect();

@@ -1,6 +1,6 @@
 -- What becomes of members that are driven.
 use Rattle.std.proofs.Common.{◌≡◌, inl, inr, ℕ, zero, suc, ◌+◌, ◌-◌, ◌*◌, ◌/◌, ◌<◌, ◌≤◌, Bool, true, false, true≢false, ◌&&◌, cond, is_some, nat_le, Option, None, Some, List, [], ◌∷◌, ◌++◌, refl, sym, ap, ◌∙◌, subst, length, add-zero, arith}
-use Rattle.std.specs.Prelude.{All, IfNone, IfSome, option_map, slice_index_or}
+use Rattle.std.specs.Prelude.{All, IfOk, IfErr, Result, Ok, Err, option_map, slice_index_or}
 use Rattle.std.proofs.Math.Nat.{le-add_right, min-eq_left, min-eq_right}
 use Rattle.std.proofs.lemmas.Bool.{cases_lt}
 use Rattle.std.proofs.lemmas.Bool.Decides.{nat_tests}
@@ -19,7 +19,7 @@ use Rattle.members.specs.Clerks.{ClerksState, drawn, drawn_by, may_exchange, may
 use Rattle.members.specs.declared.fault.ClusterFault.{ClusterFault}
 use Rattle.members.specs.declared.fault.ClusterFault.TheVariants as ends
 use Rattle.members.specs.Members.{AreIdle, MemberState, RefusesAsk, RefusesPass}
-use Rattle.cluster.specs.Drives.{EndsWork, HasMore, HasServed, HasServedOn, IsBack, IsBackBy, IsEndedOn, KeepsWork, Stops, TookTurns, WasLet, Worked, draws_by, draws_if, next_plan, on, side_after, side_if, wasted}
+use Rattle.cluster.specs.Drives.{EndsWork, HasMore, HasServed, HasServedOn, IsBack, IsBackBy, HasEndedOn, KeepsWork, LeavesTurns, Stops, TookTurns, WasLet, Worked, draws_by, draws_if, next_plan, on, side_after, side_if, wasted}
 
 -- More of a list
 
@@ -101,6 +101,23 @@ Stops-refused_ask a b fault idle same r = subst (λ (m : MemberState). Stops a m
     stops ends.NotInside r = absurd r
     stops (ends.TurnsSpent c) r = absurd r
     stops ends.NoSecondPlan r = absurd r
+
+-- who may not ask, or not pass, has turns left or not
+pub LeavesTurns-refused_ask : (a : MemberState) (left : ℕ) (fault : ClusterFault) → RefusesAsk a fault → LeavesTurns left fault
+LeavesTurns-refused_ask a left (ends.Client e) r = tt
+LeavesTurns-refused_ask a left (ends.Deal e) r = tt
+LeavesTurns-refused_ask a left (ends.Board e) r = absurd r
+LeavesTurns-refused_ask a left ends.NotInside r = absurd r
+LeavesTurns-refused_ask a left (ends.TurnsSpent c) r = absurd r
+LeavesTurns-refused_ask a left ends.NoSecondPlan r = absurd r
+
+pub LeavesTurns-refused_pass : (a : MemberState) (left : ℕ) (fault : ClusterFault) → RefusesPass a fault → LeavesTurns left fault
+LeavesTurns-refused_pass a left (ends.Client e) r = absurd r
+LeavesTurns-refused_pass a left (ends.Deal e) r = absurd r
+LeavesTurns-refused_pass a left (ends.Board e) r = tt
+LeavesTurns-refused_pass a left ends.NotInside r = tt
+LeavesTurns-refused_pass a left (ends.TurnsSpent c) r = absurd r
+LeavesTurns-refused_pass a left ends.NoSecondPlan r = absurd r
 
 -- who drew and is inside is refused a pass only by what ends its work
 pub Stops-refused_pass : (a b c : MemberState) (fault : ClusterFault) → 0 < rest_of a.clerks a.clerks.side → Worked (λ plan. on a.clerks.side plan 1) 0 a c × (c.clerks.side ≡ a.clerks.side)
@@ -210,23 +227,22 @@ Worked-stopped n a b c d fault r stops kept =
       second = ap (λ (x : ClerksState). is_some x.second) kept.clerks ∙ stops.0.second;
     }
 
-pub IsEndedOn-stopped : (passes n : ℕ) (a b c d e : MemberState) (fault : ClusterFault) → HasServedOn n a b → n < passes → Stops b c fault → KeepsWork c d → is_idle d.requester.phase ≡ true → e ≡ record d { fault = Some fault }
-    → IsEndedOn passes a e
-IsEndedOn-stopped passes n a b c d e fault r less stops kept idle told =
-    subst (IsEndedOn passes a) (sym told) (
-      fault,
-      record {
-        passed = n;
-        fewer = less;
-        worked = Worked-stopped n a b c d fault r stops kept;
-        side = ap (λ (x : ClerksState). x.side) kept.clerks ∙ stops.1 ∙ r.side;
-        idle = idle;
-        keeps = refl;
-        ends = subst (λ k. EndsWork d.requester.id (rest_of a.clerks a.clerks.side) k fault) (add-zero n)
-            (later_ends d.requester.id (rest_of a.clerks a.clerks.side) (rest_of b.clerks a.clerks.side) n 0 fault left
-            (subst (λ k. EndsWork k (rest_of b.clerks a.clerks.side) 0 fault) (sym (kept.client ∙ stops.0.client))
-            (subst (λ (s : Side). EndsWork b.requester.id (rest_of b.clerks s) 0 fault) r.side stops.2)));
-      },
+pub HasEndedOn-stopped : (passes n : ℕ) (a b c d e : MemberState) (fault : ClusterFault) → HasServedOn n a b → n < passes → Stops b c fault → KeepsWork c d → is_idle d.requester.phase ≡ true → e ≡ record d { fault = Some fault }
+    → HasEndedOn passes fault a e
+HasEndedOn-stopped passes n a b c d e fault r less stops kept idle told =
+    subst (HasEndedOn passes fault a) (sym told) (
+    record {
+      passed = n;
+      fewer = less;
+      worked = Worked-stopped n a b c d fault r stops kept;
+      side = ap (λ (x : ClerksState). x.side) kept.clerks ∙ stops.1 ∙ r.side;
+      idle = idle;
+      keeps = refl;
+      ends = subst (λ k. EndsWork d.requester.id (rest_of a.clerks a.clerks.side) k fault) (add-zero n)
+          (later_ends d.requester.id (rest_of a.clerks a.clerks.side) (rest_of b.clerks a.clerks.side) n 0 fault left
+          (subst (λ k. EndsWork k (rest_of b.clerks a.clerks.side) 0 fault) (sym (kept.client ∙ stops.0.client))
+          (subst (λ (s : Side). EndsWork b.requester.id (rest_of b.clerks s) 0 fault) r.side stops.2)));
+    }
     )
   where
     left : rest_of b.clerks a.clerks.side + n ≡ rest_of a.clerks a.clerks.side
@@ -291,10 +307,8 @@ few_wasted (ends.TurnsSpent k) = omega arith
 few_wasted ends.NoSecondPlan = omega arith
 
 -- the work ended before the exchange
-pub IsBack-early : (passes : ℕ) (a b : MemberState) → IsEndedOn (passes / 2) a b → IsBack passes a b
-IsBack-early passes a b ended =
-    let fault = ended.0 in
-    let r = ended.1 in
+pub IsBack-early : (passes : ℕ) (a b : MemberState) (fault : ClusterFault) → HasEndedOn (passes / 2) fault a b → IsBack passes a b
+IsBack-early passes a b fault r =
     let half = passes / 2 in
     let k = a.clerks in
     subst (λ f. IsBackBy passes f a b) (sym r.keeps) (record {
@@ -374,10 +388,8 @@ pub IsBack-both : (passes : ℕ) (a b d : MemberState) → HasServedOn (passes /
 IsBack-both passes a b d r s = subst (λ f. IsBackBy passes f a d) (sym s.fault) (HasServed-both passes a b d r s)
 
 -- the work ended after the exchange
-pub IsBack-late : (passes : ℕ) (a b d : MemberState) → HasServedOn (passes / 2) a b → IsEndedOn (passes - passes / 2) (exchanged_member b) d → IsBack passes a d
-IsBack-late passes a b d r ended =
-    let fault = ended.0 in
-    let s = ended.1 in
+pub IsBack-late : (passes : ℕ) (a b d : MemberState) (fault : ClusterFault) → HasServedOn (passes / 2) a b → HasEndedOn (passes - passes / 2) fault (exchanged_member b) d → IsBack passes a d
+IsBack-late passes a b d fault r s =
     let half = passes / 2 in
     let all : half + (s.passed + wasted fault) ≡ half + s.passed + wasted fault = omega arith in
     subst (λ f. IsBackBy passes f a d) (sym s.keeps) (record {
@@ -391,10 +403,10 @@ IsBack-late passes a b d r ended =
     })
 
 -- the work came to its end after the exchange
-pub IsBack-then : (passes : ℕ) (a b c d : MemberState) (left : Option ℕ) → HasServedOn (passes / 2) a b → c ≡ exchanged_member b
-    → IfSome left (λ _. HasServedOn (passes - passes / 2) c d) → IfNone left (IsEndedOn (passes - passes / 2) c d) → IsBack passes a d
-IsBack-then passes a b c d None r is served ended = IsBack-late passes a b d r (subst (λ (m : MemberState). IsEndedOn (passes - passes / 2) m d) is ended)
-IsBack-then passes a b c d (Some left) r is served ended = IsBack-both passes a b d r (subst (λ (m : MemberState). HasServedOn (passes - passes / 2) m d) is served)
+pub IsBack-then : (passes : ℕ) (a b c d : MemberState) (result : Result (Unit {0}) ClusterFault) → HasServedOn (passes / 2) a b → c ≡ exchanged_member b
+    → IfOk result (λ _. HasServedOn (passes - passes / 2) c d) → IfErr result (λ fault. HasEndedOn (passes - passes / 2) fault c d) → IsBack passes a d
+IsBack-then passes a b c d (Err fault) r is served ended = IsBack-late passes a b d fault r (subst (λ (m : MemberState). HasEndedOn (passes - passes / 2) fault m d) is ended)
+IsBack-then passes a b c d (Ok tt) r is served ended = IsBack-both passes a b d r (subst (λ (m : MemberState). HasServedOn (passes - passes / 2) m d) is served)
 
 -- who was let pass each time
 pub WasLet-Worked : (lets : ℕ → Bool) (drawn : Side → ℕ) (n : ℕ) (a b : MemberState) → Worked drawn n a b → (0 < n → lets a.requester.id ≡ true) → WasLet lets a b

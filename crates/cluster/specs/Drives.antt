@@ -90,6 +90,16 @@ EndsWork client tickets passed ends.NotInside = ⊥
 EndsWork client tickets passed (ends.TurnsSpent c) = (c ≡ client) × (passed < tickets)
 EndsWork client tickets passed ends.NoSecondPlan = ⊥
 
+-- The work that ended by this fault left this many turns. It ends by `TurnsSpent` only with no turn
+-- left.
+abbrev pub LeavesTurns : ℕ → ClusterFault → Type 0
+LeavesTurns left (ends.Client e) = Unit {0}
+LeavesTurns left (ends.Deal e) = Unit {0}
+LeavesTurns left (ends.Board e) = Unit {0}
+LeavesTurns left ends.NotInside = Unit {0}
+LeavesTurns left (ends.TurnsSpent c) = left ≡ 0
+LeavesTurns left ends.NoSecondPlan = Unit {0}
+
 -- how many tickets this fault leaves without a pass: 1 if it came after the draw
 abbrev pub wasted : ClusterFault → ℕ
 wasted (ends.Client e) = 0
@@ -128,10 +138,6 @@ pub record HasEndedOn (n : ℕ) (fault : ClusterFault) (before after : MemberSta
   pub idle : is_idle after.requester.phase ≡ true
   pub keeps : after.fault ≡ Some fault
   pub ends : EndsWork after.requester.id (rest_of before.clerks before.clerks.side) passed fault
-
--- the member's work by the plan in use ended early, before n passes
-abbrev pub IsEndedOn : ℕ → MemberState → MemberState → Type 0
-IsEndedOn n before after = (fault : ClusterFault) × HasEndedOn n fault before after
 
 -- the clerks after the member exchanged the plan, if there is another one
 abbrev pub next_plan : ClerksState → ClerksState

@@ -3,29 +3,17 @@ ghost use Rattle.std.specs.Prelude.{◌≡◌, ◌+◌, ◌*◌, ◌<◌, ◌≤
 ghost use Rattle.std.specs.List.{AllZip};
 ghost use Rattle.requester.specs.Words.{is_idle, is_inside};
 ghost use Rattle.members.specs.Members.{AreIdle, MemberState};
-ghost use Rattle.cluster.specs.Drives.{HasServed, HasServedOn, IsBack, IsEndedOn, IsLeastFault, IsLeastOf, KeepsWork, next_plan, on, Stops, TookTurns, WasLet, Worked};
+ghost use Rattle.cluster.specs.Drives.{HasEndedOn, HasServed, HasServedOn, IsBack, IsLeastFault, IsLeastOf, KeepsWork, LeavesTurns, next_plan, on, Stops, TookTurns, WasLet, Worked};
 
 use crate::gate::Gate;
+use crate::patience::Patience;
+use crate::turns::Turns;
 use members::{Cluster, ClusterFault, ClusterName, Member};
 use requester::{Phase, Seen};
 use std::sync::Wait;
 use std::thread;
 use std::thread::Threads;
-use std::time::{Clock, Instant};
-
-/// The number of empty pumps in a row after which a member yields its thread at each further one.
-const EMPTY_BEFORE_YIELD: u64 = 16;
-
-/// The number of empty pumps in a row after which a member sleeps at each further one, if another
-/// member is awake.
-const EMPTY_BEFORE_SLEEP: u64 = 500;
-
-/// The number of empty pumps in a row at which a member reminds, and counts anew.
-const EMPTY_BEFORE_REMINDER: u64 = 1_000;
-
-/// A thread that yielded was kept waiting by other programs if it runs again after more microseconds
-/// than this. Members that take turns with it give it back within some ten.
-const KEPT_WAITING: u128 = 500;
+use std::time::Clock;
 
 /// All members of a drive, and the fault of one whose work ended early.
 #[derive(Drop)]
@@ -36,133 +24,83 @@ pub struct Driven<N: ClusterName> {
     pub fault: ClusterFault,
 }
 
-/// Yields the thread. Returns whether it was kept waiting by other programs, as far as the clock can
-/// show.
-fn yields_long(rt: &impl Clock) -> bool {
-    let before = Instant::now(rt);
-    thread::yield_now();
-    match before {
-        Ok(before) => match before.elapsed(rt) {
-            Ok(time) => time.as_micros() > KEPT_WAITING,
-            Err(_) => false,
-        },
-        Err(_) => false,
-    }
-}
-
-/// Has a member yield its thread.
-fn give_way<N: ClusterName>(rt: &impl Clock, cluster: &Cluster<N>) {
-    if yields_long(rt) {
-        cluster.was_kept_waiting();
-    }
-}
-
-/// Has a member sleep until a message may have come, or yield its thread. It sleeps if it waited
-/// long, or if other programs want the processors, unless it has to stay awake.
-fn rest<N: ClusterName>(
-    rt: &(impl Wait + Clock),
-    cluster: &Cluster<N>,
-    member: &Member<N>,
-    empty: u64,
-) {
-    let is_long = empty > EMPTY_BEFORE_SLEEP || cluster.is_crowded();
-    if !is_long || !member.sleep(rt, cluster) {
-        give_way(rt, cluster);
-    }
-}
-
-/// Does what a member does at an empty pump: nothing, or it rests, or it reminds. Takes and returns
-/// how many empty pumps count.
-fn bide<N: ClusterName>(
-    rt: &(impl Wait + Clock),
+/// Has a member pump until it is inside, at one turn for each pump. Fails if and only if its turns are
+/// spent before.
+fn enter<N: ClusterName, R: Wait + Clock>(
+    rt: &R,
     cluster: &Cluster<N>,
     member: &mut Member<N>,
-    empty: u64,
-) -> u64
-    requires few { empty < 1000 }
-    ensures few { result < 1000 }
-    ensures same { member.new ≡ record member.old { lost = member.new.lost } }
-{
-    let empty = empty + 1;
-    if empty > EMPTY_BEFORE_YIELD {
-        rest(rt, cluster, member, empty);
-    }
-    if empty < EMPTY_BEFORE_REMINDER {
-        return empty;
-    }
-    member.remind(rt, cluster);
-    0
-}
-
-/// Has a member pump until it is inside, at one turn for each pump. Returns how many turns are
-/// left, or `None` if they were spent before.
-fn enter<N: ClusterName>(
-    rt: &(impl Wait + Clock),
-    cluster: &Cluster<N>,
-    member: &mut Member<N>,
-    turns: u64,
-) -> Option<u64>
-    ensures entered { IfSome result (λ left. (left < turns) × (is_inside member.new.requester.phase ≡ true)) }
+    turns: &mut Turns,
+    patience: &mut Patience,
+) -> Result<(), ClusterFault>
+    ensures entered { IfOk result (λ _. is_inside member.new.requester.phase ≡ true) }
+    ensures fewer { IfOk result (λ _. turns.new < turns.old) }
+    ensures spent { IfErr result (λ fault.
+        (fault ≡ ClusterFault.TurnsSpent member.old.requester.id) × (turns.new ≡ 0)) }
     ensures kept { KeepsWork member.old member.new }
 {
-    let mut empty: u64 = 0;
-    for turn in 0..turns {
+    'looks: while turns.take() {
+        patience.wait(rt, cluster, member);
         match member.pump(rt, cluster) {
-            Some(Seen::Entered) => return Some(turns - turn - 1),
-            Some(_) => empty = 0,
-            None => empty = bide(rt, cluster, member, empty),
+            Some(Seen::Entered) => {
+                patience.found();
+                return Ok(());
+            }
+            Some(_) => patience.found(),
+            None => patience.found_nothing(),
         }
     }
-    None
+    Err(ClusterFault::TurnsSpent(member.client()))
 }
 
-/// Asks the gate until the client may pass, at one turn for each question. Returns how many turns
-/// are left, or `None` if they were spent before.
-fn wait_at<G: Gate>(gate: &G, client: u8, turns: u64) -> Option<u64>
-    ensures fewer { IfSome result (λ left. left < turns) }
-    ensures let_pass { IfSome result (λ _. G.lets gate.now client ≡ true) }
+/// Asks the gate until the client may pass, at one turn for each question. Fails if and only if its
+/// turns are spent before.
+fn wait_at<G: Gate>(gate: &G, client: u8, turns: &mut Turns) -> Result<(), ClusterFault>
+    ensures let_pass { IfOk result (λ _. G.lets gate.now client ≡ true) }
+    ensures fewer { IfOk result (λ _. turns.new < turns.old) }
+    ensures spent { IfErr result (λ fault. (fault ≡ ClusterFault.TurnsSpent client) × (turns.new ≡ 0)) }
 {
-    for turn in 0..turns {
+    'questions: while turns.take() {
         if gate.may_pass(client) {
-            return Some(turns - turn - 1);
+            return Ok(());
         }
         thread::yield_now();
     }
-    None
+    Err(ClusterFault::TurnsSpent(client))
 }
 
-/// Has a member ask, pass and leave once, or get as far as it can. Returns how many turns are left.
-fn pass_once<N: ClusterName, G: Gate>(
-    rt: &(impl Wait + Clock),
+/// Has a member ask, pass and leave once, or get as far as it can. Fails by a fault of one of its
+/// calls, or if its turns are spent.
+fn pass_once<N: ClusterName, R: Wait + Clock, G: Gate>(
+    rt: &R,
     cluster: &Cluster<N>,
     member: &mut Member<N>,
-    turns: u64,
+    turns: &mut Turns,
+    patience: &mut Patience,
     gate: &G,
-) -> Result<u64, ClusterFault>
+) -> Result<(), ClusterFault>
     requires idle { is_idle member.old.requester.phase ≡ true }
     ensures passed { IfOk result (λ _. Worked (λ plan. on member.old.clerks.side plan 1) 1 member.old member.new
         × (member.new.clerks.side ≡ member.old.clerks.side) × (is_idle member.new.requester.phase ≡ true)) }
     ensures stopped { IfErr result (Stops member.old member.new) }
     ensures let_pass { IfOk result (λ _. G.lets gate.now member.old.requester.id ≡ true) }
-    ensures in_turns { IfOk result (λ left. left + 2 ≤ turns) }
+    ensures in_turns { IfOk result (λ _. turns.new + 2 ≤ turns.old) }
+    ensures fewer { turns.new ≤ turns.old }
+    ensures spent { IfErr result (LeavesTurns turns.new) }
     ensures fault { member.new.fault ≡ member.old.fault }
 {
     let client = member.client();
     gate.before(client);
     member.ask(rt, cluster)?;
     gate.drawn(client);
-    let Some(turns) = enter(rt, cluster, member, turns) else {
-        return Err(ClusterFault::TurnsSpent(client));
-    };
-    let Some(turns) = wait_at(gate, client, turns) else {
-        return Err(ClusterFault::TurnsSpent(client));
-    };
+    enter(rt, cluster, member, turns, patience)?;
+    wait_at(gate, client, turns)?;
     match member.pass(cluster) {
         Ok(_) => {}
         Err(fault) => return Err(fault),
     }
     match member.leave(rt, cluster) {
-        Ok(()) => Ok(turns),
+        Ok(()) => Ok(()),
         Err(_) => unreachable!(),
     }
 }
@@ -183,37 +121,38 @@ fn end<N: ClusterName>(rt: &impl Wait, cluster: &Cluster<N>, member: &mut Member
     }
 }
 
-/// Has a member make `passes` passes by the plan in use. Returns how many turns are left. If its work
-/// ends early, the member keeps the fault, and this returns `None`.
-fn serve_on<N: ClusterName, G: Gate>(
-    rt: &(impl Wait + Clock),
+/// Has a member make `passes` passes by the plan in use. If its work ends early, the member keeps the
+/// fault, and this fails by it.
+fn serve_on<N: ClusterName, R: Wait + Clock, G: Gate>(
+    rt: &R,
     cluster: &Cluster<N>,
     member: &mut Member<N>,
     passes: u64,
-    turns: u64,
+    turns: &mut Turns,
+    patience: &mut Patience,
     gate: &G,
-) -> Option<u64>
+) -> Result<(), ClusterFault>
     requires idle { is_idle member.old.requester.phase ≡ true }
-    ensures served { IfSome result (λ _. HasServedOn passes member.old member.new) }
-    ensures ended { IfNone result (IsEndedOn passes member.old member.new) }
+    ensures served { IfOk result (λ _. HasServedOn passes member.old member.new) }
+    ensures ended { IfErr result (λ fault. HasEndedOn passes fault member.old member.new) }
     ensures client { member.new.requester.id ≡ member.old.requester.id }
-    ensures left { IfSome result (λ left. left + 2 * passes ≤ turns) }
+    ensures left { IfOk result (λ _. turns.new + 2 * passes ≤ turns.old) }
+    ensures spent { IfErr result (LeavesTurns turns.new) }
     ensures let_pass { WasLet (G.lets gate.now) member.old member.new }
-    ensures in_turns { TookTurns turns member.old member.new }
+    ensures in_turns { TookTurns turns.old member.old member.new }
 {
     member.ends_by(None);
-    let mut left = turns;
     for _ in 0..passes {
-        match pass_once(rt, cluster, member, left, gate) {
-            Ok(rest) => left = rest,
+        match pass_once(rt, cluster, member, turns, patience, gate) {
+            Ok(()) => {}
             Err(fault) => {
                 end(rt, cluster, member);
                 member.ends_by(Some(fault));
-                return None;
+                return Err(fault);
             }
         }
     }
-    Some(left)
+    Ok(())
 }
 
 /// Exchanges a member's plan, if there is another one that it does not use yet.
@@ -228,8 +167,8 @@ fn exchange<N: ClusterName>(member: &mut Member<N>)
 
 /// Has a member make `passes` passes. If there is another plan, the member exchanges its plan after
 /// half of them. If its work ends early, the member keeps the fault.
-fn serve<N: ClusterName, G: Gate>(
-    rt: &(impl Wait + Clock),
+fn serve<N: ClusterName, R: Wait + Clock, G: Gate>(
+    rt: &R,
     cluster: &Cluster<N>,
     member: &mut Member<N>,
     passes: u64,
@@ -242,11 +181,22 @@ fn serve<N: ClusterName, G: Gate>(
     ensures in_turns { TookTurns turns member.old member.new }
 {
     let half = passes / 2;
-    let Some(left) = serve_on(rt, cluster, member, half, turns, gate) else {
-        return;
-    };
+    let mut turns = Turns::new(turns);
+    let mut patience = Patience::new();
+    match serve_on(rt, cluster, member, half, &mut turns, &mut patience, gate) {
+        Ok(()) => {}
+        Err(_) => return,
+    }
     exchange(member);
-    let _ = serve_on(rt, cluster, member, passes - half, left, gate);
+    let _ = serve_on(
+        rt,
+        cluster,
+        member,
+        passes - half,
+        &mut turns,
+        &mut patience,
+        gate,
+    );
 }
 
 /// Returns the smallest client whose work ended early and its fault, taking one more member into
@@ -309,9 +259,7 @@ fn serve_all<N: ClusterName + Send + Sync, R: Threads + Wait + Clock + Sync, G: 
             ensures let_pass { WasLet (G.lets gate.entry.now) member.old member.new }
             ensures in_turns { TookTurns turns member.old member.new }
         {
-            cluster.begin_work();
             serve(rt, cluster, member, passes, turns, gate);
-            cluster.end_work(rt);
         },
     );
 }
@@ -327,11 +275,11 @@ fn serve_all<N: ClusterName + Send + Sync, R: Threads + Wait + Clock + Sync, G: 
 /// second.
 ///
 /// Each pump and each question to the gate whether the member may pass is a turn. Each member has
-/// `turns` turns for all its passes, and a pass takes at least two. At each empty pump beyond 16 in
-/// a row a member yields its thread. If other programs keep a thread that yielded waiting, members
-/// sleep for a while in place of yielding; the clock is read for this. They sleep, too, beyond 500
-/// empty pumps. A member that sleeps wakes when a message comes. It stays awake if all others sleep
-/// or ended, or if it lost a message. At 1,000 it reminds and counts anew.
+/// `turns` turns for all its passes, and a pass takes at least two. After 16 empty pumps in a row a
+/// member yields its thread before each further one, and after 500 it sleeps. It sleeps sooner if
+/// other programs kept it waiting when it yielded; the clock is read for this. A sleep ends when a
+/// message comes, or after a millisecond. After 1,000 empty pumps in a row a member reminds, and
+/// counts anew.
 ///
 /// If its turns are spent or one of its calls fails, a member ends its work: it leaves or gives up,
 /// and keeps the fault ([`Member::fault`]).

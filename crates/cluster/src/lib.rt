@@ -25,16 +25,19 @@
 //!   rounded down.
 //! - A client that the gate never lets pass makes no pass.
 //! - Each pass takes at least two of the client's turns.
+//! - A member fails with `TurnsSpent` only with no turn left, and with another fault only if one of
+//!   its calls fails by it. The steps of a drive say so; [`drive`] itself does not show the turns.
 //!
-//! It is only tested that a member fails with `TurnsSpent` only after it used all its turns, and
-//! that the gate is asked before each pass.
-//! When a drive's threads run is neither proved nor tested.
+//! It is only tested that a member looks, or asks the gate, at each turn, and that the gate is asked
+//! before each pass. Nothing is proved about when threads run, yield or sleep.
 //!
 //! This crate depends on `members`, and makes only its public calls.
 #![tactic(auto)]
 
 mod drives;
 mod gate;
+mod patience;
+mod turns;
 
 pub use drives::{Driven, drive};
 pub use gate::{Gate, NoGate};

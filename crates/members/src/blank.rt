@@ -10,12 +10,11 @@ ghost use Rattle.members.specs.Members.{AreIdle, fresh_member};
 
 use crate::clerks::{Clerks, Offices, open_offices};
 use crate::cluster::{Cluster, Left};
-use crate::crowd::Crowd;
 use crate::member::Member;
 use board::{Board, BoardRoot};
 use certificate::Plan;
 use dealer::Plans;
-use node::{Awake, ClusterName, Node, Postbox};
+use node::{ClusterName, Node, Postbox};
 use numbers::MAX_TICKETS;
 use quorum_set::Bridge;
 use std::alloc::{AllocError, Global};
@@ -251,8 +250,6 @@ impl Blank {
             nodes,
             lines,
             mailboxes,
-            awake: Awake::new(),
-            crowd: Crowd::new(),
             left: Mutex::new(left),
         };
         Ok((cluster, members))

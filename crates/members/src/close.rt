@@ -282,8 +282,6 @@ impl<N: ClusterName> Cluster<N> {
             nodes,
             lines: _,
             mailboxes: _,
-            awake: _,
-            crowd: _,
             left,
         } = self;
         let Left {

@@ -9,14 +9,14 @@ ghost use Rattle.members.specs.Losses.{is_stray, is_stray_reply, most_lost};
 ghost use Rattle.node.specs.Mail.{IsMail};
 
 use crate::clerks::{Clerks, Offices};
-use crate::crowd::Crowd;
 use board::{Board, BoardRoot, ClientSeat};
 use message::{ToClient, ToVoter};
-use node::{Awake, ClusterName, Node, Postbox};
+use node::{ClusterName, Node, Postbox};
 use quorum_set::{QSet, Side};
 use requester::Requester;
 use std::marker::{Model, PhantomData};
 use std::sync::{Mutex, MutexGuard, Wait};
+use std::time::{Clock, Duration};
 use voter::Replies;
 
 /// A running cluster: its board, its offices, a node for each voter and a mailbox for each client.
@@ -30,10 +30,6 @@ pub struct Cluster<N: ClusterName> {
     /// replies get into a mailbox in the order in which it made them. Nothing is proved about this.
     pub(crate) lines: Vec<Mutex<()>>,
     pub(crate) mailboxes: Vec<Postbox<N>>,
-    /// How many of the members at work are awake.
-    pub(crate) awake: Awake,
-    /// Whether other programs want the processors.
-    pub(crate) crowd: Crowd,
     /// Unused until `close`. The lock lets threads share the cluster.
     pub(crate) left: Mutex<Left<N>>,
 }
@@ -206,39 +202,11 @@ impl<N: ClusterName> Cluster<N> {
         mailbox.take(rt, client)
     }
 
-    /// Has a client's thread sleep until a message comes for the client, or until a member ends its
-    /// work. Returns at once if a message waits. Returns `false` at once if no other member at work
-    /// is awake.
-    pub(crate) fn sleep(&self, rt: &impl Wait, client: u8) -> bool {
-        self.crowd.lessens();
-        match self.mailboxes.get(usize::from(client)) {
-            Some(mailbox) => mailbox.sleep(rt, &self.awake),
-            None => false,
-        }
-    }
-
-    /// Returns whether other programs want the processors, as far as is known from
-    /// [`Cluster::was_kept_waiting`]. Nothing is proved about it.
-    pub fn is_crowded(&self) -> bool {
-        self.crowd.is_there()
-    }
-
-    /// Says that a member's thread yielded and was kept waiting long. So other programs want the
-    /// processors: the next hundred times a member had better sleep than yield.
-    pub fn was_kept_waiting(&self) {
-        self.crowd.comes();
-    }
-
-    /// Says that a member begins its work: until it ends it or sleeps, others may sleep.
-    pub fn begin_work(&self) {
-        self.awake.begin();
-    }
-
-    /// Says that a member ended its work, and wakes those that sleep, so that one stays awake.
-    pub fn end_work(&self, rt: &impl Wait) {
-        self.awake.end();
-        for mailbox in &self.mailboxes {
-            mailbox.ring(rt);
+    /// Has a client's thread sleep until a message comes for the client or the time is over. Returns
+    /// at once if a message waits.
+    pub(crate) fn sleep<R: Wait + Clock>(&self, rt: &R, client: u8, time: Duration) {
+        if let Some(mailbox) = self.mailboxes.get(usize::from(client)) {
+            mailbox.sleep(rt, time);
         }
     }
 }

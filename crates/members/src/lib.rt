@@ -83,7 +83,6 @@ mod blank;
 mod clerks;
 mod close;
 mod cluster;
-mod crowd;
 mod fault;
 #[cfg(test)]
 mod forged_tests;

@@ -29,6 +29,7 @@ use quorum_set::Side;
 use requester::{ClientFault, Messages, Phase, Requester, Seen, requesters_stay_sound};
 use std::marker::{Model, PhantomData};
 use std::sync::Wait;
+use std::time::{Clock, Duration};
 
 /// A client of a cluster with its seat on the board and its clerks. It may be moved to a thread,
 /// which drives it. Whenever no call runs, the client holds the votes that the seat holds.
@@ -287,14 +288,9 @@ impl<N: ClusterName> Member<N> {
         seen
     }
 
-    /// Sleeps until a message comes or a member of the cluster ends its work ([`Cluster::end_work`]).
-    /// Returns at once if a message waits, and returns `false` at once if it has to stay awake: it
-    /// lost a message, so that it has to remind, or no other member at work is awake.
-    ///
-    /// Whoever calls this has called [`Cluster::begin_work`] and goes on to call
-    /// [`Cluster::end_work`].
-    pub fn sleep(&self, rt: &impl Wait, cluster: &Cluster<N>) -> bool {
-        self.lost == 0 && cluster.sleep(rt, self.requester.id())
+    /// Sleeps until a message comes or the time is over. Returns at once if a message waits.
+    pub fn sleep<R: Wait + Clock>(&self, rt: &R, cluster: &Cluster<N>, time: Duration) {
+        cluster.sleep(rt, self.requester.id(), time);
     }
 
     /// Leaves: gives each vote back, and then sends RELEASE to each member of its quorum. Fails if

@@ -43,5 +43,5 @@ mod votes;
 pub use mailbox::Mailbox;
 pub use name::ClusterName;
 pub use node::Node;
-pub use postbox::{Awake, Postbox};
+pub use postbox::Postbox;
 pub use votes::{accept, give_back};

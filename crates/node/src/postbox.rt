@@ -6,51 +6,10 @@ use crate::mailbox::Mailbox;
 use crate::name::ClusterName;
 use message::ToClient;
 use std::alloc::Global;
-use std::sync::atomic::{AtomicU64, Ordering};
-use std::sync::{Condvar, Mutex, Wait};
+use std::sync::{Condvar, CondvarTimeouts, Mutex, Wait};
+use std::time::{Clock, Duration};
 
-/// Counts which of some threads are awake, so that not all of them sleep. Nothing is proved about
-/// the count.
-#[derive(Drop)]
-pub struct Awake {
-    count: AtomicU64,
-}
-
-impl Awake {
-    /// Counts no thread.
-    pub fn new() -> Awake {
-        Awake {
-            count: AtomicU64::new(0),
-        }
-    }
-
-    /// Counts one thread more, which begins its work or wakes.
-    pub fn begin(&self) {
-        self.count.fetch_add(1, Ordering::SeqCst);
-    }
-
-    /// Counts one thread less, which ends its work.
-    pub fn end(&self) {
-        self.count.fetch_sub(1, Ordering::SeqCst);
-    }
-
-    /// Returns whether a thread is awake.
-    fn is_any(&self) -> bool {
-        self.count.load(Ordering::SeqCst) > 0
-    }
-
-    /// Counts one thread less, if another one stays awake. Returns whether it did.
-    fn leave(&self) -> bool {
-        let counted = self
-            .count
-            .fetch_update(Ordering::SeqCst, Ordering::SeqCst, |count| {
-                if count > 1 { Some(count - 1) } else { None }
-            });
-        counted.is_ok()
-    }
-}
-
-/// A client's mailbox, and whether its thread sleeps until the bell rings.
+/// A client's mailbox, and whether its thread sleeps until the bell rings or a time is over.
 #[derive(Drop)]
 struct Slot<N: ClusterName> {
     mailbox: Mailbox<N>,
@@ -78,8 +37,7 @@ impl<N: ClusterName> Postbox<N> {
 
     /// Appends a message if it belongs in this mailbox, and rings if the client's thread sleeps.
     /// Returns `false` if the message is lost: memory ran out, or it does not belong here. It rings
-    /// for such a message too, so that the client may remind. `voters` is the number of the board's
-    /// voters.
+    /// for such a message too. `voters` is the number of the board's voters.
     pub fn put(&self, rt: &impl Wait, message: ToClient, voters: usize) -> bool
         requires { voters ≡ N.cluster.board.voters }
         ensures { IsTrue result → IsMail N.cluster.board message.client message }
@@ -102,26 +60,13 @@ impl<N: ClusterName> Postbox<N> {
         self.slot.lock(rt).mailbox.take(client)
     }
 
-    /// Sleeps until the bell rings, unless a message waits or no other thread is awake. Returns
-    /// whether it may have slept.
-    pub fn sleep(&self, rt: &impl Wait, awake: &Awake) -> bool {
-        if !awake.leave() {
-            return false;
-        }
+    /// Sleeps until a message comes or the time is over. Returns at once if a message waits.
+    pub fn sleep<R: Wait + Clock>(&self, rt: &R, time: Duration) {
         let mut slot = self.slot.lock(rt);
-        if slot.mailbox.is_empty() && awake.is_any() {
+        if slot.mailbox.is_empty() {
             slot.sleeps = true;
-            let _ = self.bell.wait(rt, slot);
+            let (mut slot, _) = self.bell.wait_timeout(rt, slot, time);
+            slot.sleeps = false;
         }
-        awake.begin();
-        true
-    }
-
-    /// Rings, so that a thread that sleeps here looks whether it may still sleep.
-    pub fn ring(&self, rt: &impl Wait) {
-        // Whoever has the lock now, and is about to sleep, sleeps before it rings.
-        let slot = self.slot.lock(rt);
-        self.bell.notify_all();
-        drop(slot);
     }
 }

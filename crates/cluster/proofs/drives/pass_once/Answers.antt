@@ -1,3 +1,6 @@
+use Rattle.std.proofs.Common.{◌≡◌, Err, IfErr, sym, subst, rules}
+use Rattle.members.specs.declared.fault.ClusterFault.TheVariants as ends
+use Rattle.cluster.specs.Drives.{Stops}
 use Rattle.std.proofs.Common.{ap, ◌∙◌}
 use Rattle.requester.specs.declared.state.ClientState.{ClientState}
 use Rattle.cluster.specs.Drives.{KeepsWork}
@@ -5,17 +8,19 @@ use Rattle.members.specs.Members.{MemberState}
 use Rattle.cluster.proofs.DriveLemmas.{Worked-draw, Worked-pass, Stops-refused_pass}
 use Rattle.cluster.proofs.drives.pass_once.Goals as goal
 
-pub returns-in_default-clause-stopped : goal.returns-in_default-clause-stopped
-returns-in_default-clause-stopped g c =
+pub returns-in_err-enter-clause-stopped : goal.returns-in_err-enter-clause-stopped
+returns-in_err-enter-clause-stopped g c =
     let told = c.in_ok-ask.ensures in
     let one = Worked-draw c.args.member.now c.ask.new.self c.enter.new.member c.in_ok-ask.field-0 told.may.2 told.client told.receipt told.seat c.enter.ensures.kept in
-    (one.0, one.1, (c.client-client.ensures.value, told.may.2))
+    let is : c.from_residual-in_err-enter.result ≡ Err (ends.TurnsSpent c.ask.new.self.requester.id) = search rules in
+    subst (λ r. IfErr r (Stops c.args.member.now c.enter.new.member)) (sym is) (one.0, one.1, (told.client, told.may.2))
 
-pub returns-in_default-wait_at-clause-stopped : goal.returns-in_default-wait_at-clause-stopped
-returns-in_default-wait_at-clause-stopped g c =
+pub returns-in_err-wait_at-clause-stopped : goal.returns-in_err-wait_at-clause-stopped
+returns-in_err-wait_at-clause-stopped g c =
     let told = c.in_ok-ask.ensures in
     let one = Worked-draw c.args.member.now c.ask.new.self c.enter.new.member c.in_ok-ask.field-0 told.may.2 told.client told.receipt told.seat c.enter.ensures.kept in
-    (one.0, one.1, (c.client-client.ensures.value, told.may.2))
+    let is : c.from_residual-in_err-wait_at.result ≡ Err (ends.TurnsSpent c.client-client.result) = search rules in
+    subst (λ r. IfErr r (Stops c.args.member.now c.enter.new.member)) (sym is) (one.0, one.1, (c.client-client.ensures.value, told.may.2))
 
 pub returns-in-Err-clause-stopped : goal.returns-in-Err-clause-stopped
 returns-in-Err-clause-stopped g c =
@@ -29,7 +34,7 @@ returns-in-Err-clause-stopped g c =
       fault = stays.fault ∙ kept.fault;
     } in
     let one = Worked-draw c.args.member.now c.ask.new.self c.pass.new.self c.in_ok-ask.field-0 told.may.2 told.client told.receipt told.seat after in
-    Stops-refused_pass c.args.member.now c.enter.new.member c.pass.new.self c.in-Err.fault told.may.2 one c.in-Some.ensures.entered.1 stays.refused
+    Stops-refused_pass c.args.member.now c.enter.new.member c.pass.new.self c.in-Err.fault told.may.2 one c.in_ok-enter.ensures.entered stays.refused
 
 pub returns-clause-passed : goal.returns-clause-passed
 returns-clause-passed g c =

@@ -1,7 +1,7 @@
 use Rattle.std.proofs.Common.{◌≡◌, ℕ, true, sym, subst, arith}
 use Rattle.members.specs.Members.{MemberState}
 use Rattle.cluster.specs.Drives.{TookTurns, WasLet}
-use Rattle.cluster.proofs.DriveLemmas.{HasServedOn-next, IsEndedOn-stopped, Worked-stopped, TookTurns-Worked, WasLet-Worked}
+use Rattle.cluster.proofs.DriveLemmas.{HasServedOn-next, HasEndedOn-stopped, Worked-stopped, TookTurns-Worked, WasLet-Worked}
 use Rattle.cluster.proofs.drives.serve_on.Goals as goal
 
 pub loop-preserved : goal.loop-preserved
@@ -16,7 +16,7 @@ loop-preserved g c =
 
 pub returns-in-Err-clause-ended : goal.returns-in-Err-clause-ended
 returns-in-Err-clause-ended g c =
-    IsEndedOn-stopped c.args.passes c.loop.counter c.args.member.now c.loop.member c.pass_once.new.member c.end.new.member c.ends_by-in-Err.new.self c.in-Err.fault
+    HasEndedOn-stopped c.args.passes c.loop.counter c.args.member.now c.loop.member c.pass_once.new.member c.end.new.member c.ends_by-in-Err.new.self c.in-Err.fault
     c.loop.invariant.0 c.loop-test.true c.in-Err.ensures.stopped c.end.ensures.kept c.end.ensures.idle c.ends_by-in-Err.ensures
 
 pub returns-in-Err-clause-let_pass : goal.returns-in-Err-clause-let_pass
@@ -30,4 +30,4 @@ pub returns-in-Err-clause-in_turns : goal.returns-in-Err-clause-in_turns
 returns-in-Err-clause-in_turns g c =
     let fault = c.in-Err.fault in
     let worked = Worked-stopped c.loop.counter c.args.member.now c.loop.member c.pass_once.new.member c.end.new.member fault c.loop.invariant.0 c.in-Err.ensures.stopped c.end.ensures.kept in
-    subst (λ (m : MemberState). TookTurns c.args.turns c.args.member.now m) (sym c.ends_by-in-Err.ensures) (TookTurns-Worked c.args.turns _ c.loop.counter c.args.member.now _ worked (omega (arith, c.loop.invariant.1)))
+    subst (λ (m : MemberState). TookTurns c.args.turns.now c.args.member.now m) (sym c.ends_by-in-Err.ensures) (TookTurns-Worked c.args.turns.now _ c.loop.counter c.args.member.now _ worked (omega (arith, c.loop.invariant.1)))

@@ -3,4 +3,4 @@ use Rattle.cluster.specs.Drives.{HasServedOn}
 use Rattle.cluster.proofs.drives.serve_on.Given as goal
 
 abbrev pub invariant-loop : goal.invariant-loop
-invariant-loop g l = HasServedOn l.counter l.fn.member l.member × (l.left + 2 * l.counter ≤ l.fn.turns) × (0 < l.counter → g.G.Gate.lets l.fn.gate l.fn.member.requester.id ≡ true)
+invariant-loop g l = HasServedOn l.counter l.fn.member l.member × (l.turns + 2 * l.counter ≤ l.initial.turns) × (0 < l.counter → g.G.Gate.lets l.fn.gate l.fn.member.requester.id ≡ true)
