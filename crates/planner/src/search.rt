@@ -1,10 +1,11 @@
 //! The search for a plan.
-ghost use Rattle.std.specs.Prelude.{◌≡◌, ◌≢◌, ◌<◌, ◌/◌, length, vec_len, map, sum, IfOk, IfErr, IsOkUnless};
+ghost use Rattle.std.specs.Prelude.{◌≡◌, ◌≢◌, ◌<◌, ◌≤◌, ◌/◌, true, length, vec_len, map, sum, IfOk, IfErr, IsOkUnless};
 ghost use Rattle.quorum_set.specs.Capacities.{AreCapacities};
 ghost use Rattle.certificate.specs.Certificates.{IsCertificate, IsOptimal};
 ghost use Rattle.planner.specs.Uniform.{AreEqual, IsUniform, IsWarranted, all_ones};
 ghost use Rattle.planner.specs.Weights.{HaveNoCommonDivisor, IsGreatestDivisor};
-ghost use Rattle.planner.specs.Causes.{CanCome};
+ghost use Rattle.planner.specs.Causes.{CanCome, grew_too_large, most_pivots};
+ghost use Rattle.simplex.specs.Pivots.{NamesAtMost};
 
 use crate::fault::PlannerFault;
 use crate::laws::ones_certify_uniform_coteries;
@@ -16,13 +17,22 @@ use std::alloc::Global;
 /// The number of pivots that the simplex method may make, over both rules.
 const PIVOTS: u32 = 10_000;
 
+/// A plan that a rule found.
+#[derive(Drop)]
+struct Found {
+    plan: Plan,
+    /// How many pivots were made.
+    spent: u32,
+}
+
 /// Why a rule found no plan.
 #[derive(Clone, Copy)]
 struct Miss {
     fault: PlannerFault,
-    /// If the numbers grew too large, so that another rule may find a plan: how many pivots it may
-    /// make.
-    left: Option<u32>,
+    /// The rule that found none.
+    rule: Rule,
+    /// At most how many pivots were made.
+    spent: u32,
 }
 
 /// Returns the greatest common divisor of the weights; 0 if all are 0.
@@ -75,38 +85,49 @@ fn even(alloc: Global, coterie: &Coterie, capacities: &[u64]) -> Result<Plan, Pl
     check(alloc, coterie, capacities, quorum_weights, voter_weights)
 }
 
-/// Returns the plan of a candidate's weights, in lowest terms.
+/// Returns the plan of a candidate's weights, in lowest terms. The rule is the one that found them.
 fn checked(
     alloc: Global,
     coterie: &Coterie,
     capacities: &[u64],
+    rule: Rule,
     candidate: Candidate,
-    left: u32,
-) -> Result<Plan, Miss>
+) -> Result<Found, Miss>
     requires capacities { AreCapacities capacities.now coterie.now.voters }
     requires quorums { vec_len candidate.quorum_weights ≡ length coterie.now.quorums }
     requires voters { vec_len candidate.voter_weights ≡ coterie.now.voters }
-    ensures coterie { IfOk result (λ p. p.system ≡ coterie.now) }
-    ensures capacities { IfOk result (λ p. p.capacities ≡ capacities.now) }
-    ensures certificate { IfOk result IsCertificate }
-    ensures optimal { IfOk result IsOptimal }
-    ensures lowest { IfOk result (λ p. HaveNoCommonDivisor p.quorum_weights × HaveNoCommonDivisor p.voter_weights) }
+    ensures coterie { IfOk result (λ f. f.plan.system ≡ coterie.now) }
+    ensures capacities { IfOk result (λ f. f.plan.capacities ≡ capacities.now) }
+    ensures certificate { IfOk result (λ f. IsCertificate f.plan) }
+    ensures optimal { IfOk result (λ f. IsOptimal f.plan) }
+    ensures lowest { IfOk result (λ f.
+        HaveNoCommonDivisor f.plan.quorum_weights × HaveNoCommonDivisor f.plan.voter_weights) }
     ensures unreachable { IfErr result (λ miss. CanCome capacities.now miss.fault) }
+    ensures spent { IfOk result (λ f. f.spent ≡ candidate.pivots) }
+    ensures missed { IfErr result (λ miss. (miss.rule ≡ rule) × (miss.spent ≡ candidate.pivots)) }
 {
+    let spent = candidate.pivots;
     let mut quorum_weights = candidate.quorum_weights;
     let mut voter_weights = candidate.voter_weights;
     divide(&mut quorum_weights);
     divide(&mut voter_weights);
     match check(alloc, coterie, capacities, quorum_weights, voter_weights) {
-        Ok(plan) => Ok(plan),
-        Err(fault) => Err(Miss {
-            fault: PlannerFault::of_check(fault),
-            left: if fault == PlanFault::TooLarge {
-                Some(left)
-            } else {
-                None
-            },
-        }),
+        Ok(plan) => Ok(Found { plan, spent }),
+        Err(fault) => {
+            let fault = PlannerFault::of_check(fault);
+            Err(Miss { fault, rule, spent })
+        }
+    }
+}
+
+/// Returns at most how many pivots were made before this fault, if so many were allowed.
+fn spent_before(fault: SimplexFault, pivots: u32) -> u32
+    requires { NamesAtMost pivots fault }
+    ensures { result ≤ pivots }
+{
+    match fault {
+        SimplexFault::Overflow { pivots: made } => made,
+        _ => pivots,
     }
 }
 
@@ -117,50 +138,91 @@ fn attempt(
     capacities: &[u64],
     rule: Rule,
     pivots: u32,
-) -> Result<Plan, Miss>
+) -> Result<Found, Miss>
     requires capacities { AreCapacities capacities.now coterie.now.voters }
-    ensures coterie { IfOk result (λ p. p.system ≡ coterie.now) }
-    ensures capacities { IfOk result (λ p. p.capacities ≡ capacities.now) }
-    ensures certificate { IfOk result IsCertificate }
-    ensures optimal { IfOk result IsOptimal }
-    ensures lowest { IfOk result (λ p. HaveNoCommonDivisor p.quorum_weights × HaveNoCommonDivisor p.voter_weights) }
+    ensures coterie { IfOk result (λ f. f.plan.system ≡ coterie.now) }
+    ensures capacities { IfOk result (λ f. f.plan.capacities ≡ capacities.now) }
+    ensures certificate { IfOk result (λ f. IsCertificate f.plan) }
+    ensures optimal { IfOk result (λ f. IsOptimal f.plan) }
+    ensures lowest { IfOk result (λ f.
+        HaveNoCommonDivisor f.plan.quorum_weights × HaveNoCommonDivisor f.plan.voter_weights) }
     ensures unreachable { IfErr result (λ miss. CanCome capacities.now miss.fault) }
+    ensures spent { IfOk result (λ f. f.spent ≤ pivots) }
+    ensures missed { IfErr result (λ miss. (miss.rule ≡ rule) × (miss.spent ≤ pivots)) }
 {
     match solve_by(alloc, coterie, capacities, rule, pivots) {
-        Ok(candidate) => {
-            let left = pivots - candidate.pivots;
-            checked(alloc, coterie, capacities, candidate, left)
+        Ok(candidate) => checked(alloc, coterie, capacities, rule, candidate),
+        Err(simplex_fault) => {
+            let spent = spent_before(simplex_fault, pivots);
+            let fault = PlannerFault::of_simplex(simplex_fault);
+            Err(Miss { fault, rule, spent })
         }
-        Err(fault) => Err(Miss {
-            fault: PlannerFault::of_simplex(fault),
-            left: match fault {
-                SimplexFault::Overflow { pivots: made } => Some(pivots - made),
-                _ => None,
-            },
+    }
+}
+
+/// Returns the plan that the simplex method finds by the second rule, after the first one missed.
+fn second_attempt(
+    alloc: Global,
+    coterie: &Coterie,
+    capacities: &[u64],
+    first: Miss,
+) -> Result<Found, Miss>
+    requires capacities { AreCapacities capacities.now coterie.now.voters }
+    requires first { first.spent ≤ most_pivots }
+    ensures coterie { IfOk result (λ f. f.plan.system ≡ coterie.now) }
+    ensures capacities { IfOk result (λ f. f.plan.capacities ≡ capacities.now) }
+    ensures certificate { IfOk result (λ f. IsCertificate f.plan) }
+    ensures optimal { IfOk result (λ f. IsOptimal f.plan) }
+    ensures lowest { IfOk result (λ f.
+        HaveNoCommonDivisor f.plan.quorum_weights × HaveNoCommonDivisor f.plan.voter_weights) }
+    ensures unreachable { IfErr result (λ miss. CanCome capacities.now miss.fault) }
+    ensures spent { IfOk result (λ f. (first.spent ≤ f.spent) × (f.spent ≤ most_pivots)) }
+    ensures missed { IfErr result (λ miss. (first.spent ≤ miss.spent) × (miss.spent ≤ most_pivots)) }
+    ensures rule { IfErr result (λ miss. miss.rule ≡ Rule.LeastPivot) }
+{
+    match attempt(
+        alloc,
+        coterie,
+        capacities,
+        Rule::LeastPivot,
+        PIVOTS - first.spent,
+    ) {
+        Ok(found) => Ok(Found {
+            plan: found.plan,
+            spent: first.spent + found.spent,
+        }),
+        Err(miss) => Err(Miss {
+            fault: miss.fault,
+            rule: miss.rule,
+            spent: first.spent + miss.spent,
         }),
     }
 }
 
 /// Returns the plan that the simplex method finds, by one rule or the other.
-fn found(alloc: Global, coterie: &Coterie, capacities: &[u64]) -> Result<Plan, PlannerFault>
+fn search(alloc: Global, coterie: &Coterie, capacities: &[u64]) -> Result<Found, Miss>
     requires capacities { AreCapacities capacities.now coterie.now.voters }
-    ensures coterie { IfOk result (λ p. p.system ≡ coterie.now) }
-    ensures capacities { IfOk result (λ p. p.capacities ≡ capacities.now) }
-    ensures certificate { IfOk result IsCertificate }
-    ensures optimal { IfOk result IsOptimal }
-    ensures lowest { IfOk result (λ p. HaveNoCommonDivisor p.quorum_weights × HaveNoCommonDivisor p.voter_weights) }
-    ensures unreachable { IfErr result (CanCome capacities.now) }
+    ensures coterie { IfOk result (λ f. f.plan.system ≡ coterie.now) }
+    ensures capacities { IfOk result (λ f. f.plan.capacities ≡ capacities.now) }
+    ensures certificate { IfOk result (λ f. IsCertificate f.plan) }
+    ensures optimal { IfOk result (λ f. IsOptimal f.plan) }
+    ensures lowest { IfOk result (λ f.
+        HaveNoCommonDivisor f.plan.quorum_weights × HaveNoCommonDivisor f.plan.voter_weights) }
+    ensures unreachable { IfErr result (λ miss. CanCome capacities.now miss.fault) }
+    // Both rules together make at most 10,000 pivots.
+    ensures spent { IfOk result (λ f. f.spent ≤ most_pivots) }
+    ensures limit { IfErr result (λ miss. miss.spent ≤ most_pivots) }
+    // If numbers grew too large, the second rule was tried, and the cause is its own.
+    ensures last { IfErr result (λ miss. grew_too_large miss.fault ≡ true → miss.rule ≡ Rule.LeastPivot) }
 {
-    let miss = match attempt(alloc, coterie, capacities, Rule::Dantzig, PIVOTS) {
-        Ok(plan) => return Ok(plan),
+    let first = match attempt(alloc, coterie, capacities, Rule::Dantzig, PIVOTS) {
+        Ok(found) => return Ok(found),
         Err(miss) => miss,
     };
-    let Some(left) = miss.left else {
-        return Err(miss.fault);
-    };
-    match attempt(alloc, coterie, capacities, Rule::LeastPivot, left) {
-        Ok(plan) => Ok(plan),
-        Err(miss) => Err(miss.fault),
+    if first.fault.grew_too_large() {
+        second_attempt(alloc, coterie, capacities, first)
+    } else {
+        Err(first)
     }
 }
 
@@ -174,8 +236,8 @@ fn found(alloc: Global, coterie: &Coterie, capacities: &[u64]) -> Result<Plan, P
 /// at most 10,000 pivots. In each case no number above 1 divides all weights of the quorums, or all
 /// weights of the voters.
 ///
-/// Fails with `NoPlan` if neither rule finds a plan, with the cause of the last attempt, and with
-/// `OutOfMemory` at any point.
+/// Fails with `NoPlan` if neither rule finds a plan, with the cause of the last attempt. That all
+/// weights 1 are a certificate excludes this. It may run out of memory at any point.
 pub fn plan(alloc: Global, coterie: &Coterie, capacities: &[u64]) -> Result<Plan, PlannerFault>
     requires capacities { AreCapacities capacities.now coterie.now.voters }
     ensures coterie { IfOk result (λ p. p.system ≡ coterie.now) }
@@ -184,6 +246,9 @@ pub fn plan(alloc: Global, coterie: &Coterie, capacities: &[u64]) -> Result<Plan
     ensures optimal { IfOk result IsOptimal }
     // A uniform coterie whose voters have the same capacity gets a plan, unless memory runs out.
     ensures uniform { IfErr result (IsWarranted coterie.now capacities.now) }
+    // If all weights 1 are a certificate, there is a plan, unless memory runs out.
+    ensures certified { IsCertificate (all_ones coterie.now capacities.now)
+        → IsOkUnless result PlannerFault.OutOfMemory }
     // All weights are 1 if these are a certificate.
     ensures ones { IfOk result (λ p.
         IsCertificate (all_ones coterie.now capacities.now) → p ≡ all_ones coterie.now capacities.now) }
@@ -195,6 +260,9 @@ pub fn plan(alloc: Global, coterie: &Coterie, capacities: &[u64]) -> Result<Plan
     match even(alloc, coterie, capacities) {
         Ok(plan) => Ok(plan),
         Err(PlanFault::OutOfMemory) => Err(PlannerFault::OutOfMemory),
-        Err(_) => found(alloc, coterie, capacities),
+        Err(_) => match search(alloc, coterie, capacities) {
+            Ok(found) => Ok(found.plan),
+            Err(miss) => Err(miss.fault),
+        },
     }
 }
