@@ -23,12 +23,14 @@ pub record IsCluster (c : ClusterState) : Type 0 where
   pub clients : c.board.clients ≤ max_clients
   pub limit : c.board.limit ≡ max_tickets
 
--- a running cluster: its board and its offices, a node for each voter and a mailbox for each client
-pub record Runs (c : ClusterState) (board : BoardState) (offices : OfficesState) (nodes mailboxes : ℕ) : Type 0 where
+-- a running cluster: its board and its offices, a node and a line for each voter, and a mailbox for
+-- each client
+pub record Runs (c : ClusterState) (board : BoardState) (offices : OfficesState) (nodes lines mailboxes : ℕ) : Type 0 where
   pub cluster : IsCluster c
   pub board_is : board ≡ c.board
   pub offices_are : offices ≡ offices_with (names_in c) (c.board.clients * c.quota)
   pub nodes_are : nodes ≡ c.board.voters
+  pub lines_are : lines ≡ c.board.voters
   pub mailboxes_are : mailboxes ≡ c.board.clients
 
 -- the rights that are left after each node and each member got its own: all seats and all tickets

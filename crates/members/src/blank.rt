@@ -83,7 +83,9 @@ fn nodes_of<N: ClusterName>(
 }
 
 /// Creates a lock for each voter, under which its replies are posted.
-fn lines_of(alloc: Global, voters: u8) -> Result<Vec<Mutex<()>>, AllocError> {
+fn lines_of(alloc: Global, voters: u8) -> Result<Vec<Mutex<()>>, AllocError>
+    ensures { IfOk result (λ lines. length lines.items ≡ voters) }
+{
     let mut lines = Vec::with_capacity(alloc, usize::from(voters))?;
     for _ in 0..voters {
         lines.push(Mutex::new(()))?;

@@ -219,7 +219,7 @@ fn join_nodes<N: ClusterName>(
     ensures seats { IfOk result (λ _. root.new.seats ≡ root.old.seats + length nodes.items) }
     ensures passes { IfOk result (λ _. root.new.passes ≡ root.old.passes) }
     ensures table { root.new.table ≡ root.old.table }
-    ensures lost { IfErr result (IsLoss N.cluster) }
+    ensures out { IfErr result (λ fault. (v : ℕ) × (fault ≡ BoardFault.VoteOut v) × (v < N.cluster.board.voters)) }
 {
     for node in nodes {
         let seat = node.into_inner().into_seat(board);

@@ -1,5 +1,5 @@
 //! A running cluster: its nodes and mailboxes, which all members share.
-ghost use Rattle.std.specs.Prelude.{◌≡◌, ◌<◌, ◌≤◌, true, false, None, IfSome, length, nat_le};
+ghost use Rattle.std.specs.Prelude.{◌≡◌, ◌⊎◌, ◌+◌, ◌<◌, ◌≤◌, true, false, None, IfNone, IfSome, length, nat_le};
 ghost use Rattle.std.specs.List.{count_by};
 ghost use Rattle.numbers.specs.Sets.{IsSet};
 ghost use Rattle.board.specs.Quorums.{HasQuorum, place_of, quorum_at};
@@ -27,7 +27,8 @@ pub struct Cluster<N: ClusterName> {
     pub(crate) offices: Offices,
     pub(crate) nodes: Vec<Mutex<Node<N>>>,
     /// For each voter a lock that is held from a message to it until the replies are posted. So its
-    /// replies get into a mailbox in the order in which it made them. Nothing is proved about this.
+    /// replies get into a mailbox in the order in which it made them. Posting needs the guard of such
+    /// a lock; that it is the voter's own is not proved.
     pub(crate) lines: Vec<Mutex<()>>,
     pub(crate) mailboxes: Vec<Postbox<N>>,
     /// Unused until `close`. The lock lets threads share the cluster.
@@ -51,7 +52,17 @@ impl<N: ClusterName> Model for Cluster<N> {
 
     ghost view = { λ c. N.cluster };
 
-    ghost invariant = { λ c. Runs N.cluster c.board c.offices (length c.nodes.items) (length c.mailboxes.items) };
+    ghost invariant = { λ c. Runs N.cluster c.board c.offices (length c.nodes.items) (length c.lines.items)
+        (length c.mailboxes.items) };
+}
+
+/// What became of a voter's replies.
+#[derive(Clone, Copy)]
+pub(crate) struct Posted {
+    /// How many got into a mailbox.
+    pub(crate) posted: u64,
+    /// How many messages are lost.
+    pub(crate) lost: u64,
 }
 
 impl<N: ClusterName> Cluster<N> {
@@ -76,7 +87,9 @@ impl<N: ClusterName> Cluster<N> {
 
     /// Waits until the replies of a voter to earlier messages are posted, and keeps other messages to
     /// it waiting until the guard is dropped. Returns `None` if the cluster doesn't have the voter.
-    fn line(&self, rt: &impl Wait, voter: u8) -> Option<MutexGuard<'_, ()>> {
+    fn line(&self, rt: &impl Wait, voter: u8) -> Option<MutexGuard<'_, ()>>
+        ensures missing { IfNone result (N.cluster.board.voters ≤ voter) }
+    {
         Some(self.lines.get(usize::from(voter))?.lock(rt))
     }
 
@@ -99,32 +112,41 @@ impl<N: ClusterName> Cluster<N> {
         mailbox.put(rt, message, self.nodes.len())
     }
 
-    /// Puts each of these messages into its client's mailbox, in order, and returns how many are
-    /// lost.
-    fn post_each(&self, rt: &impl Wait, replies: &[ToClient]) -> u64
-        ensures few { result ≤ length replies.now }
-        ensures strays { count_by (is_stray_reply N.cluster.board) replies.now ≤ result }
+    /// Puts each of these messages into its client's mailbox, in order, while the voter's line is
+    /// held. Each of them is posted or lost.
+    fn post_each(&self, rt: &impl Wait, _line: &MutexGuard<'_, ()>, replies: &[ToClient]) -> Posted
+        ensures each { result.posted + result.lost ≡ length replies.now }
+        ensures strays { count_by (is_stray_reply N.cluster.board) replies.now ≤ result.lost }
     {
+        let mut posted: u64 = 0;
         let mut lost: u64 = 0;
         for reply in replies {
-            if !self.post(rt, *reply) {
+            if self.post(rt, *reply) {
+                posted += 1;
+            } else {
                 lost += 1;
             }
         }
-        lost
+        Posted { posted, lost }
     }
 
-    /// Gives a message to its voter, and the voter's replies to their clients. Returns how many are
-    /// lost. `replies` is room for the replies.
-    pub(crate) fn deliver(&self, rt: &impl Wait, message: &ToVoter, replies: &mut Replies) -> u64
-        ensures few { result ≤ most_lost 1 }
-        ensures stray { is_stray N.cluster.board message.now ≡ true → result ≡ 1 }
+    /// Gives a message to its voter, and the voter's replies to their clients. Each reply is posted
+    /// or lost. If the message itself is lost, nothing is posted and that counts as one. `replies`
+    /// gets the replies.
+    pub(crate) fn deliver(&self, rt: &impl Wait, message: &ToVoter, replies: &mut Replies) -> Posted
+        ensures few { result.lost ≤ most_lost 1 }
+        ensures stray { is_stray N.cluster.board message.now ≡ true → result.lost ≡ 1 }
+        ensures each { (result ≡ record { posted = 0; lost = 1 })
+            ⊎ (result.posted + result.lost ≡ length replies.new.items) }
     {
-        let _line = self.line(rt, message.voter);
+        let none = Posted { posted: 0, lost: 1 };
+        let Some(line) = self.line(rt, message.voter) else {
+            return none;
+        };
         if !self.tell(rt, message, replies) {
-            return 1;
+            return none;
         }
-        self.post_each(rt, replies.as_slice())
+        self.post_each(rt, &line, replies.as_slice())
     }
 
     /// Posts the reminders of a voter, and returns how many are lost. If the cluster doesn't have the
@@ -133,9 +155,11 @@ impl<N: ClusterName> Cluster<N> {
         ensures few { result ≤ most_lost 1 }
         ensures stray { N.cluster.board.voters ≤ voter → result ≡ 1 }
     {
-        let _line = self.line(rt, voter);
+        let Some(line) = self.line(rt, voter) else {
+            return 1;
+        };
         match self.reminders(rt, voter) {
-            Some(replies) => self.post_each(rt, replies.as_slice()),
+            Some(replies) => self.post_each(rt, &line, replies.as_slice()).lost,
             None => 1,
         }
     }
@@ -164,7 +188,7 @@ impl<N: ClusterName> Cluster<N> {
         let mut replies = Replies::new();
         let mut lost: u64 = 0;
         for message in messages {
-            lost = lost.saturating_add(self.deliver(rt, message, &mut replies));
+            lost = lost.saturating_add(self.deliver(rt, message, &mut replies).lost);
         }
         lost
     }

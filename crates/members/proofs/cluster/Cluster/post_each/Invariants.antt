@@ -1,7 +1,7 @@
-use Rattle.std.proofs.Common.{◌≤◌, take}
+use Rattle.std.proofs.Common.{◌≡◌, ◌+◌, ◌≤◌, take}
 use Rattle.std.specs.List.{count_by}
 use Rattle.members.specs.Losses.{is_stray_reply}
 use Rattle.members.proofs.cluster.Cluster.post_each.Given as goal
 
 abbrev pub invariant-loop-reply : goal.invariant-loop-reply
-invariant-loop-reply g l = (l.lost ≤ l.reply-index) × (count_by (is_stray_reply g.N.ClusterName.cluster.board) (take l.reply-index l.replies) ≤ l.lost)
+invariant-loop-reply g l = (l.posted + l.lost ≡ l.reply-index) × (count_by (is_stray_reply g.N.ClusterName.cluster.board) (take l.reply-index l.replies) ≤ l.lost)
