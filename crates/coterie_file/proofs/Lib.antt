@@ -7,6 +7,7 @@ pub mod NameLemmas
 pub mod QuorumLemmas
 pub mod ReadingLaws
 pub mod ReadingLemmas
+pub mod StrayLaws
 pub mod StringLaws
 pub mod TableLemmas
 pub mod WritingLemmas

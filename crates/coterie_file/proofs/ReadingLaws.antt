@@ -47,7 +47,7 @@ number_of-at names i differ lt =
     ] refl
 
 -- a voter is a member where its name is listed
-listed_voters : (names members : List (List ℕ)) (i : ℕ) → has (quorum_of names members) i ≡ true → (i < length names) × Contains members (name_at names i)
+pub listed_voters : (names members : List (List ℕ)) (i : ℕ) → has (quorum_of names members) i ≡ true → (i < length names) × Contains members (name_at names i)
 listed_voters names members i e =
     let test = λ (name : List ℕ). is_number (number_of names name) i in
     let passes = λ (j : ℕ). list_any (λ name. is_number (number_of names name) j) members in
@@ -74,7 +74,7 @@ quorum_of-means names members i differ few = (
 abbrev pub CoterieLaw : Type 0
 CoterieLaw = (n : ℕ) (sets : List (List ℕ)) → All IsSet sets → (first_fault n sets ≡ None) ↔ IsCoterie (record { voters = n; quorums = sets })
 
-all_sets : (lists : NameLists) → All IsSet (system_of lists).quorums
+pub all_sets : (lists : NameLists) → All IsSet (system_of lists).quorums
 all_sets lists = All-map IsSet (quorum_of lists.names) lists.quorums (λ k d lt. IsSet-set_where (λ i. list_any (λ name. is_number (number_of lists.names name) i) (get_or lists.quorums k d)))
 
 is_some-none : {A : Type 0} (o : Option A) → is_some o ≡ false → o ≡ None

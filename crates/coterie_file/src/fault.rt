@@ -38,7 +38,8 @@ pub enum FileFault {
     /// The quorums are no coterie.
     #[error(transparent)]
     Coterie(CoterieFault),
-    /// Memory ran out. This may happen at any point.
+    /// Memory ran out. `read_coterie` may fail with it for any text that is not blank. `Named::of` and
+    /// `Named::with_capacities` never do.
     #[error("O1 OutOfMemory")]
     OutOfMemory,
 }

@@ -1,10 +1,12 @@
 //! Laws about names, capacities, lists and the coteries of texts.
-ghost use Rattle.std.specs.Prelude.{◌≡◌, ◌<◌, ◌≤◌, ◌↔◌, ℕ, List, All, [], length, map, true, None, Some, Ok, Contains, MatchOption};
+ghost use Rattle.std.specs.Prelude.{◌≡◌, ◌≢◌, ◌<◌, ◌≤◌, ◌↔◌, ℕ, List, All, [], length, map, true, None, Some, Ok, Err, Contains, MatchOption};
 ghost use Rattle.numbers.specs.Bounds.{max_voters};
 ghost use Rattle.numbers.specs.Sets.{has};
 ghost use Rattle.quorum_set.specs.Capacities.{IsCapacity, AreCapacities};
+ghost use Rattle.quorum_set.specs.declared.fault.CoterieFault.TheVariants.{VoterOutOfRange};
 ghost use Rattle.toml.specs.Data.{Items, array};
 ghost use Rattle.toml.specs.View.{items_of};
+ghost use Rattle.coterie_file.specs.declared.fault.FileFault.TheVariants.{Coterie};
 ghost use Rattle.coterie_file.specs.Capacities.{is_capacity, capacities_fault};
 ghost use Rattle.coterie_file.specs.Lists.{NameLists, texts_of, text_lists_of, numbers_of, strings, integers};
 ghost use Rattle.coterie_file.specs.Named.{NamedSystem, IsNamed};
@@ -57,4 +59,12 @@ pub fn texts_read_as_coteries()
     ensures named { (text : List ℕ) (n : NamedSystem) → coterie_at text ≡ Ok n → IsNamed n }
 {
     quorum_set::coteries_have_no_fault();
+}
+
+/// `VoterOutOfRange` never comes from a text: a quorum of a text has only voters of that text.
+pub fn texts_have_no_stray_voter()
+    ensures { (text : List ℕ) (quorum voter : ℕ)
+        → coterie_at text ≢ Err (Coterie (VoterOutOfRange quorum voter)) }
+{
+    quorum_set::found_stray_is_least();
 }

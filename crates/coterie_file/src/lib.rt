@@ -32,7 +32,7 @@ pub use fault::FileFault;
 pub use laws::{
     capacities_are_arrays_of_integers, capacities_have_no_fault, first_repeat_is_least,
     lists_are_arrays_of_strings, names_have_no_fault, quorums_have_the_listed_voters,
-    texts_read_as_coteries,
+    texts_have_no_stray_voter, texts_read_as_coteries,
 };
 pub use lists::NameLists;
 pub use named::Named;
