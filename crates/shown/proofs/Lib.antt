@@ -1,1 +1,2 @@
 mod FigureLemmas
+mod LineLemmas

@@ -1,2 +1,5 @@
 pub mod Figures
+pub mod Lines
+pub mod Plans
 pub mod Stories
+pub mod Worlds

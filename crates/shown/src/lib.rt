@@ -8,9 +8,15 @@
 //! # What is proved
 //!
 //! The figures are those of the definitions in `certificate`: each quorum that a cycle uses is
-//! there, with its weight, the most used first, and each voter with its count and its capacity.
-//! The words are only tested, but each number in them is one of these figures, or what a call of
-//! `certificate`, `world`, `requester` or `voter` returns.
+//! there, with its weight, the most used first, of equally used ones the smaller number first. Each
+//! voter is there with its count and its capacity.
+//!
+//! The page of [`plan_words`] begins with the load and the tables of quorums and voters, letter by
+//! letter as `specs/Plans.antt` defines them from the plan, the figures and the names. The
+//! paragraphs behind them, why no plan has a smaller load, are only tested.
+//!
+//! A story has a moment for each step of the script, in order. What a moment says of its step is
+//! only tested, and so is the page of [`world_words`], except that it has the heading of its end.
 //!
 //! Depends on `certificate` for plans, on `coterie_file` for names, on `replay` for scripts, and on
 //! `world`, which plays them.

@@ -1,4 +1,7 @@
 //! A script's run in words: who asks whom, who gets which vote, and who waits for whom.
+ghost use Rattle.std.specs.Prelude.{IfOk, string_bytes};
+ghost use Rattle.shown.specs.Worlds.{IsWorldPage};
+
 use crate::names::{name_of, push_names};
 use crate::story::{Happening, happening_of, world_of};
 use certificate::Plan;
@@ -236,21 +239,35 @@ fn push_client(
     }
 }
 
-/// Appends what each client does at the end.
-fn push_end(
-    text: &mut String,
+/// Returns a line for each step of a script, and for each message that it sends. Makes the steps.
+fn steps_words(
+    alloc: Global,
+    named: &Named,
+    world: &mut World,
+    steps: &[Step],
+) -> Result<String, AllocError> {
+    let mut text = String::new(alloc);
+    for (place, step) in steps.iter().enumerate() {
+        push_moment(&mut text, named, world, place.saturating_add(1), *step)?;
+    }
+    Ok(text)
+}
+
+/// Returns what each client does at the end.
+fn clients_words(
+    alloc: Global,
     named: &Named,
     world: &World,
     clients: u8,
-) -> Result<(), AllocError> {
-    text.push_str("\nAt the end:\n")?;
+) -> Result<String, AllocError> {
+    let mut text = String::new(alloc);
     for number in 0..clients {
         match world.client(number) {
-            Some(client) => push_client(text, named, world, client)?,
+            Some(client) => push_client(&mut text, named, world, client)?,
             None => {}
         }
     }
-    Ok(())
+    Ok(text)
 }
 
 /// Returns a script's run in words: a line for each step, a line for each message that it sends,
@@ -261,12 +278,12 @@ pub fn world_words(
     named: &Named,
     plan: Plan,
     script: &Script,
-) -> Result<String, AllocError> {
-    let mut text = String::new(alloc);
+) -> Result<String, AllocError>
+    ensures { IfOk result (λ page. IsWorldPage (string_bytes page)) }
+{
     let mut world = world_of(alloc, plan, script)?;
-    for (place, step) in script.steps().iter().enumerate() {
-        push_moment(&mut text, named, &mut world, place.saturating_add(1), *step)?;
-    }
-    push_end(&mut text, named, &world, script.clients())?;
-    Ok(text)
+    let steps = steps_words(alloc, named, &mut world, script.steps())?;
+    let clients = clients_words(alloc, named, &world, script.clients())?;
+    let page = format!(in alloc; "{steps}\nAt the end:\n{clients}")?;
+    Ok(page)
 }
