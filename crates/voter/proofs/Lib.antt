@@ -2,7 +2,9 @@ pub mod Contract
 pub mod Effects
 pub mod Front
 pub mod Grants
+pub mod KeptLemmas
 pub mod Moves
 pub mod Queues
 pub mod ReplyLemmas
+pub mod SavedLemmas
 pub mod Soundness

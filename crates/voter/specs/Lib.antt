@@ -1,4 +1,5 @@
 pub mod Replies
+pub mod Saved
 pub mod Steps
 pub mod VoteMoves
 pub mod VoterContract

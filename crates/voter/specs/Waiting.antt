@@ -1,8 +1,8 @@
 -- The waiting requests of a voter: a map from each waiting client to its stamp.
-use Rattle.std.specs.Prelude.{ℕ, ◌≡◌, ◌≢◌, ◌<◌, ◌==◌, nat_lt, Bool, true, not, ◌&&◌, ◌||◌, List, [], ◌∷◌, map, Option, Some, None, if◌then◌else◌}
+use Rattle.std.specs.Prelude.{ℕ, ◌≡◌, ◌≢◌, ◌<◌, ◌==◌, nat_lt, Bool, true, not, ◌&&◌, ◌||◌, List, [], ◌∷◌, map, Option, Some, None, if◌then◌else◌, unwrap_or}
 use Rattle.std.specs.Ordering.{nat_cmp}
-use Rattle.std.specs.List.{AllByRecursion, filter}
-use Rattle.std.specs.FinMap.{FinMap, entries, from_entries}
+use Rattle.std.specs.List.{AllByRecursion, filter, range_with_len}
+use Rattle.std.specs.FinMap.{FinMap, entries, from_entries, get}
 use Rattle.numbers.specs.Bounds.{max_clients}
 use Rattle.message.specs.declared.request.Request.{Request}
 
@@ -39,6 +39,10 @@ entry r = (r.client, r.stamp)
 -- the map of the requests in the code's list
 unfoldable pub waiting_of : List Request → Waiting
 waiting_of rs = from_entries (map entry rs)
+
+-- for each client the stamp of its waiting request, 0 if it doesn't wait
+abbrev pub waiting_words : Waiting → List ℕ
+waiting_words w = map (λ c. unwrap_or (get w c) 0) (range_with_len 0 max_clients)
 
 -- the first request precedes the second, and they are of two clients
 pub record Follows (r q : Request) : Type 0 where

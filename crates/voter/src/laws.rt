@@ -1,9 +1,11 @@
 //! Laws: what is proved about the definitions.
-ghost use Rattle.std.specs.Prelude.{◌≡◌, ◌≤◌, ℕ, Some};
-ghost use Rattle.numbers.specs.Bounds.{max_stamp};
+ghost use Rattle.std.specs.Prelude.{◌≡◌, ◌<◌, ◌≤◌, ℕ, Some, length};
+ghost use Rattle.numbers.specs.Bounds.{max_clients, max_stamp, max_voters};
 ghost use Rattle.message.specs.declared.message.ToVoter.{ToVoter};
+ghost use Rattle.message.specs.Lines.{voter_number};
 ghost use Rattle.voter.specs.declared.state.VoterState.{VoterState};
 ghost use Rattle.voter.specs.Replies.{AllCarry, AllTellPlace, AreAnswers, CarrySeen};
+ghost use Rattle.voter.specs.Saved.{IsKept, least_voter};
 ghost use Rattle.voter.specs.Steps.{IsSound, Outcome, effect_of, remind, start, step};
 ghost use Rattle.voter.specs.VoteMoves.{VoteMoves};
 ghost use Rattle.voter.specs.VoterContract.{AllTell, MeetsContract};
@@ -34,6 +36,15 @@ pub fn grants_are_numbered()
 pub fn voters_stay_sound()
     ensures first { (id limit : ℕ) → limit ≤ max_stamp → IsSound (start id limit) }
     ensures steps { (v : VoterState) (m : ToVoter) (o : Outcome) → IsSound v → step v m ≡ Some o → IsSound o.state }
+{}
+
+/// A new voter can be saved and restored. It still can after any message of a client below 64 whose
+/// stamp or grant is not 0, and after all but the least of it is lost.
+pub fn voters_stay_kept()
+    ensures first { (id limit : ℕ) → id < max_voters → limit ≤ max_stamp → IsKept (start id limit) }
+    ensures steps { (v : VoterState) (m : ToVoter) (o : Outcome) → IsKept v → m.client < max_clients
+        → 1 ≤ voter_number m.body → step v m ≡ Some o → length o.state.finished ≡ max_clients → IsKept o.state }
+    ensures least { (v : VoterState) → IsKept v → IsKept (least_voter v) }
 {}
 
 /// A message causes at most three replies, and at most one of them is LOCKED. Each FAIL goes to a

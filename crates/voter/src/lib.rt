@@ -18,8 +18,10 @@
 //!
 //! A [`Voter`] is a pure machine: it has no clock, no socket and no thread.
 //!
-//! - Give each message to [`Voter::take`], one at a time, and send the replies in order. If the
-//!   voter has to survive a crash, log the message before you send them.
+//! - Give each message to [`Voter::take`], one at a time, and send the replies in order.
+//! - A voter that has to survive a crash is saved before its replies are sent: [`Voter::save`] writes
+//!   it as numbers, and [`Voter::restore`] reads them. [`Voter::forget`] leaves only what has to
+//!   survive.
 //! - A message that is refused changes nothing.
 //! - [`Voter::effect`] returns beforehand whether a message would end the current grant. A board of
 //!   votes has to settle the grant first.
@@ -36,6 +38,9 @@
 //! - the finished stamps;
 //! - the number of grants given, and the highest stamp seen.
 //!
+//! A saved voter is restored as it was, each state has one text, and what is restored is sound
+//! whatever the numbers are (`specs/Saved.antt`).
+//!
 //! The laws on this page are what proofs about many voters and clients may use.
 //!
 //! Depends on `message` and `numbers`. A world of voters and clients, and threads that run one,
@@ -51,13 +56,15 @@
 mod fault;
 mod laws;
 mod queue;
+mod saved;
 mod state;
 mod voter;
 
 pub use fault::VoterFault;
 pub use laws::{
     grants_are_numbered, replies_carry_what_was_seen, replies_tell_the_state,
-    voters_meet_the_contract, voters_stay_sound,
+    voters_meet_the_contract, voters_stay_kept, voters_stay_sound,
 };
+pub use saved::{SAVED_WORDS, SavedWords};
 pub use state::{Effect, Grant, Replies};
 pub use voter::Voter;

@@ -1,9 +1,13 @@
-ghost use Rattle.std.specs.Prelude.{◌≡◌, ◌<◌, ◌≤◌, [], IfErr, IfOk, OnErr, OnOk, None, Option, Result, Some};
+ghost use Rattle.std.specs.Prelude.{◌≡◌, ◌<◌, ◌≤◌, [], IfErr, IfOk, IfSome, OnErr, OnOk, None, Option, Result, Some};
+ghost use Rattle.arrayvec.specs.ArrayVec.{array_vec_len};
 ghost use Rattle.numbers.specs.Bounds.{max_voters, max_clients, max_stamp};
 ghost use Rattle.voter.specs.Steps.{IsSound, effect_of, remind, start, step};
+ghost use Rattle.voter.specs.declared.state.VoterState.{VoterState};
+ghost use Rattle.voter.specs.Saved.{IsKept, least_voter, words_of};
 
 use crate::fault::VoterFault;
 use crate::queue::Queue;
+use crate::saved::SavedWords;
 use crate::state::{Effect, Grant, Replies, VoterState};
 use arrayvec::ArrayVec;
 use message::ToVoter;
@@ -53,6 +57,46 @@ impl Voter {
                 seen: 0,
             },
         }
+    }
+
+    /// Returns the voter's number.
+    pub fn id(&self) -> u8
+        ensures { result ≡ self.now.id }
+    {
+        self.state.id
+    }
+
+    /// Writes the voter's state as numbers, in place of what was there. Restored from them, it is the
+    /// same voter.
+    pub fn save(&self, words: &mut SavedWords)
+        ensures words { words.new.items ≡ words_of self.now }
+        ensures len { array_vec_len words.new ≡ 138 }
+    {
+        self.state.save(words);
+    }
+
+    /// Returns the voter that was saved as these numbers. `None` if they are not those of a sound
+    /// voter, whatever they are.
+    pub fn restore(words: &[u64]) -> Option<Voter>
+        // A restored voter is sound, whatever the numbers are.
+        ensures kept { IfSome result IsKept }
+        // It is saved as exactly these numbers.
+        ensures text { IfSome result (λ v. words.now ≡ words_of v) }
+        // A saved voter is restored as it was.
+        ensures read { (v : VoterState) → IsKept v → words.now ≡ words_of v → result ≡ Some v }
+    {
+        let state = VoterState::restore(words)?;
+        Some(Voter { state })
+    }
+
+    /// Forgets all but the least that has to survive a crash: the grant that holds the vote, and the
+    /// number of grants given.
+    ///
+    /// The clients' reminders bring the waiting requests back.
+    pub fn forget(&mut self)
+        ensures { self.new ≡ least_voter self.old }
+    {
+        self.state.forget();
     }
 
     /// Returns the grant that holds the vote, or `None` if the vote is free.

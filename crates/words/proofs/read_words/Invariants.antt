@@ -1,0 +1,10 @@
+use Rattle.std.proofs.Common.{◌≡◌, ◌*◌, take}
+use Rattle.arrayvec.specs.ArrayVec.{array_vec_len}
+use Rattle.words.specs.WordBytes.{bytes_of}
+use Rattle.words.proofs.read_words.Given as goal
+
+abbrev pub invariant-loop-i : goal.invariant-loop-i
+invariant-loop-i g l = record {
+  told : bytes_of l.words.items ≡ take (8 * l.i) l.bytes;
+  len : array_vec_len l.words ≡ l.i;
+}

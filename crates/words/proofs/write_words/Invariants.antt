@@ -1,0 +1,9 @@
+use Rattle.std.proofs.Common.{◌≡◌, ◌*◌, length, take}
+use Rattle.words.specs.WordBytes.{bytes_of}
+use Rattle.words.proofs.write_words.Given as goal
+
+abbrev pub invariant-loop-i : goal.invariant-loop-i
+invariant-loop-i l = record {
+  told : take (8 * l.i) l.bytes ≡ bytes_of (take l.i l.words);
+  len : length l.bytes ≡ length l.fn.bytes;
+}
