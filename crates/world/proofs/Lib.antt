@@ -4,6 +4,7 @@ pub mod Addressed
 pub mod Claims
 pub mod ClientMoves
 pub mod Exclusion
+pub mod Fences
 pub mod Foretold
 pub mod Known
 pub mod Places

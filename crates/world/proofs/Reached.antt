@@ -231,12 +231,12 @@ Fresh-start b given id limit few least most = record {
 }
 
 -- a voter that was told nothing
-record Unused (b : Bounds) (y : VoterState) : Type 0 where
-  sound : voter.IsSound y
-  held : y.held ≡ None
-  waiting : (c : ℕ) → fin.get y.waiting c ≡ None
-  limit : y.limit ≤ b.limit
-  seen : y.seen ≤ b.limit
+pub record Unused (b : Bounds) (y : VoterState) : Type 0 where
+  pub sound : voter.IsSound y
+  pub held : y.held ≡ None
+  pub waiting : (c : ℕ) → fin.get y.waiting c ≡ None
+  pub limit : y.limit ≤ b.limit
+  pub seen : y.seen ≤ b.limit
 
 Unused-start : (b : Bounds) → Given b → (id limit : ℕ) → limit ≤ 2 ^ 40 → limit ≤ b.limit → Unused b (voter.start id limit)
 Unused-start b given id limit most below = record {
@@ -303,6 +303,11 @@ unused_at b given v = elim (below_or v b.voters) [
   | inl within ↦ subst (λ (y : VoterState). Unused b y) (sym (voter_new b.voters b.limit v within)) (Unused-start b given v b.limit given.limits.few_stamps (omega arith))
   | inr beyond ↦ subst (λ (y : VoterState). Unused b y) (sym (voter_past b.voters b.limit v beyond)) (Unused-start b given 0 1 (omega arith) given.limits.some_stamp)
 ]
+
+-- no voter of the first world was told anything
+pub start_unused : (b : Bounds) → Given b → (v : ℕ) → Unused b (voter_at (start b.voters b.clients b.limit).voters v)
+unfolding new_voters
+start_unused b given v = unused_at b given v
 
 none_held : (x : ClientState) (v g : ℕ) → held_of x v ≡ 0 → holds_under x v g ≡ true → ⊥
 none_held x v g none is = grind (arith, nat_tests)

@@ -220,7 +220,7 @@ pub record SavedOk (b : Bounds) (s : Saved) : Type 0 where
   pub insides : (c : ℕ) → is_inside (client_at s.clients c).phase ≡ true → is_inside (client_at s.live.clients c).phase ≡ true
 
 -- the live world is one of the mixes
-live_ok : (b : Bounds) (s : Saved) → SavedOk b s → WorldOk b (client_at s.live.clients) (voter_at s.live.voters) s.live.sent
+pub live_ok : (b : Bounds) (s : Saved) → SavedOk b s → WorldOk b (client_at s.live.clients) (voter_at s.live.voters) s.live.sent
 live_ok b s ok = ok.mixes (client_at s.live.clients) (voter_at s.live.voters) (λ q. inl refl) (λ q. inl refl)
 
 -- who was saved inside is inside
@@ -383,7 +383,7 @@ voter_tried b given s ok m range asked None is = ok
 
 -- ---- saves and restarts
 
-within_or : {A : Type 0} (xs : List A) (n : ℕ) → (n < length xs) ⊎ (length xs ≤ n)
+pub within_or : {A : Type 0} (xs : List A) (n : ℕ) → (n < length xs) ⊎ (length xs ≤ n)
 within_or xs n = elim (ltb n (length xs)) as (λ t. ltb n (length xs) ≡ t → (n < length xs) ⊎ (length xs ≤ n)) [
   | true ↦ λ t. inl (grind (arith, nat_tests))
   | false ↦ λ t. inr (grind (arith, nat_tests))
@@ -726,7 +726,7 @@ comes_ok b given s ok k (Some (kinds.ToClient m)) known range =
     (λ X Y world. came_by b (X m.client) Y m.voter m.client m.body within.1 within.3 (known X Y world (kinds.ToClient m) refl))
     tt _ refl
 
-happens_ok : (b : Bounds) → Given b → (deal : Dealing) → DealsFrom b.quorums deal → (s : Saved) → SavedOk b s → (h : Happening) → SavedOk b (happens deal s h)
+pub happens_ok : (b : Bounds) → Given b → (deal : Dealing) → DealsFrom b.quorums deal → (s : Saved) → SavedOk b s → (h : Happening) → SavedOk b (happens deal s h)
 unfolding step
 happens_ok b given deal deals s ok (Goes (Ask c)) = if_one b s ok (OneClient c) _ c _ (λ t.
     let among = deals s.live.side (next_ticket s.live) in
@@ -746,7 +746,7 @@ happens_ok b given deal deals s ok (Saves who) = save_ok b who s ok
 happens_ok b given deal deals s ok (Forgets who) = forget_ok b who s ok
 happens_ok b given deal deals s ok (Restarts who) = restart_ok b given who s ok
 
-all_ok : (b : Bounds) → Given b → (deal : Dealing) → DealsFrom b.quorums deal → (hs : List Happening) (s : Saved) → SavedOk b s → SavedOk b (all_happen deal hs s)
+pub all_ok : (b : Bounds) → Given b → (deal : Dealing) → DealsFrom b.quorums deal → (hs : List Happening) (s : Saved) → SavedOk b s → SavedOk b (all_happen deal hs s)
 all_ok b given deal deals [] s ok = ok
 all_ok b given deal deals (h ∷ hs) s ok = all_ok b given deal deals hs (happens deal s h) (happens_ok b given deal deals s ok h)
 
@@ -755,7 +755,7 @@ all_ok b given deal deals (h ∷ hs) s ok = all_ok b given deal deals hs (happen
 Mix-same : {A : Type 0} (L X : ℕ → A) → Mix L L X → L ≡ X
 Mix-same L X mix = λ i q. sym (elim (mix q) [ inl e ↦ e | inr e ↦ e ]) i
 
-begin_ok : (b : Bounds) → Given b → SavedOk b (begin b.voters b.clients b.limit)
+pub begin_ok : (b : Bounds) → Given b → SavedOk b (begin b.voters b.clients b.limit)
 begin_ok b given =
     let w = start b.voters b.clients b.limit in
     let ok = start_ok b given in

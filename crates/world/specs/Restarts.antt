@@ -3,7 +3,7 @@
 -- state of the client or voter that made it, before any message is sent. Other steps need not be
 -- saved. A client or voter that restarts has its saved state again. All but the least of a saved state
 -- may be lost.
-use Rattle.std.specs.Prelude.{ℕ, ◌==◌, nat_lt, Bool, true, false, List, [], ◌∷◌, ◌++◌, Option, Some, None, Result, Ok, Err, slice_get, slice_set, length}
+use Rattle.std.specs.Prelude.{ℕ, ◌≡◌, ◌==◌, nat_lt, Bool, true, false, List, [], ◌∷◌, ◌++◌, Option, Some, None, Result, Ok, Err, slice_get, slice_set, length}
 use Rattle.message.specs.declared.message.Message.{Message}
 use Rattle.message.specs.declared.message.Message.TheVariants as kinds
 use Rattle.voter.specs.declared.state.VoterState.{VoterState}
@@ -12,7 +12,7 @@ use Rattle.requester.specs.declared.state.ClientState.{ClientState}
 use Rattle.requester.specs.declared.state.Seen.{Seen}
 use Rattle.requester.specs.declared.state.Seen.TheVariants.{Nothing, Entered, Left}
 use Rattle.requester.specs.Steps as client
-use Rattle.requester.specs.Words.{is_inside}
+use Rattle.requester.specs.Words.{holds_under, is_inside}
 use Rattle.world.specs.declared.fault.WorldFault.{WorldFault}
 use Rattle.world.specs.declared.step.Step.{Step}
 use Rattle.world.specs.declared.step.Step.TheVariants.{Ask, Deliver, Leave, GiveUp, RemindClient, RemindVoter, Exchange}
@@ -142,3 +142,11 @@ begin voters clients limit = record {
   clients = (start voters clients limit).clients;
   voters = (start voters clients limit).voters;
 }
+
+-- this client has the vote of a voter, by the grant with this number
+abbrev pub HasVote : Saved → ℕ → ℕ → ℕ → Type 0
+HasVote s client voter grant = holds_under (client_at s.live.clients client) voter grant ≡ true
+
+-- the stamp of a client's last request
+abbrev pub stamp_of : Saved → ℕ → ℕ
+stamp_of s client = (client_at s.live.clients client).stamp

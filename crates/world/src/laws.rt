@@ -1,10 +1,10 @@
 //! Laws: what is proved about the definitions.
-ghost use Rattle.std.specs.Prelude.{◌≡◌, ℕ, List, Ok};
+ghost use Rattle.std.specs.Prelude.{◌≡◌, ◌<◌, ◌⊎◌, ℕ, List, Ok};
 ghost use Rattle.std.specs.List.{AllByRecursion};
 ghost use Rattle.message.specs.Lines.{HasLine};
 ghost use Rattle.world.specs.declared.step.Step.{Step};
 ghost use Rattle.world.specs.Ranges.{AreInRange, IsNumbered, IsSound};
-ghost use Rattle.world.specs.Restarts.{Happening, all_happen, begin};
+ghost use Rattle.world.specs.Restarts.{Happening, HasVote, all_happen, begin, stamp_of};
 ghost use Rattle.world.specs.Runs.{AreLimits, DrawsInOrder, IsReached, run_of, start};
 ghost use Rattle.world.specs.Steps.{Adds, Dealing, Outcome, Planned, WorldState, step};
 ghost use Rattle.world.specs.Visible.{DealsFrom, DoMeet, IsExclusive};
@@ -58,6 +58,34 @@ pub fn at_most_one_is_inside_with_restarts()
     ensures { (voters clients limit : ℕ) (quorums : List (List ℕ)) (deal : Dealing) (happenings : List Happening)
         → AreLimits voters clients limit → DoMeet voters quorums → DealsFrom quorums deal
         → IsExclusive (all_happen deal happenings (begin voters clients limit)).live.visible }
+{
+    requesters_meet_the_contract();
+    requesters_stay_sound();
+    requester::messages_are_in_range();
+    voters_meet_the_contract();
+    voters_stay_sound();
+    replies_tell_the_state();
+    replies_carry_what_was_seen();
+    grants_are_numbered();
+}
+
+/// Of two clients that have the vote of one voter, one after the other, the later one has it by a
+/// greater grant number. Only the same request of one client has it by the same number. This holds
+/// also if clients and voters crash at any time and restart from what they saved.
+///
+/// Any two quorums share a voter. So of two passes, the later one shows a greater number for some
+/// voter, and a smaller one for none: grant numbers are fencing tokens.
+pub fn later_votes_have_greater_numbers()
+    ensures { (voters clients limit : ℕ) (quorums : List (List ℕ)) (deal : Dealing) (before after : List Happening)
+        (first second voter number later : ℕ)
+        → AreLimits voters clients limit → DoMeet voters quorums → DealsFrom quorums deal
+        → HasVote (all_happen deal before (begin voters clients limit)) first voter number
+        → HasVote (all_happen deal after (all_happen deal before (begin voters clients limit))) second voter later
+        → (number < later)
+        ⊎ ((first ≡ second)
+        × (stamp_of (all_happen deal before (begin voters clients limit)) first
+        ≡ stamp_of (all_happen deal after (all_happen deal before (begin voters clients limit))) second)
+        × (number ≡ later)) }
 {
     requesters_meet_the_contract();
     requesters_stay_sound();

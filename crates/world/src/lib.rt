@@ -56,7 +56,8 @@ mod world;
 
 pub use fault::WorldFault;
 pub use laws::{
-    at_most_one_is_inside, at_most_one_is_inside_with_restarts, messages_are_in_range, steps_add,
+    at_most_one_is_inside, at_most_one_is_inside_with_restarts, later_votes_have_greater_numbers,
+    messages_are_in_range, steps_add,
 };
 pub use step::{Event, Step, Stepped};
 pub use trace::{Trace, run};
