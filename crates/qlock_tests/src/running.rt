@@ -8,7 +8,7 @@ use std::test::Fail;
 use std::thread::Threads;
 use std::time::Clock;
 
-const RUNS: [Row; 5] = [
+const RUNS: [Row; 7] = [
     (
         "run 2 0 5",
         &[GRID, GRID_PLAN],
@@ -17,6 +17,16 @@ const RUNS: [Row; 5] = [
     ("run 2 1 0", &[GRID, GRID_PLAN], "K2 TurnsSpent 0"),
     ("run 64 1000 0", &[GRID, GRID_PLAN], "K2 TurnsSpent 0"),
     ("run 2 1 5", &[MAJORITY], "I1 MissingPart 2"),
+    (
+        "run 1 2 6",
+        &[MAJORITY, MAJORITY_PLAN],
+        "quorum-record 1\ndraw 0 0 0\ndraw 0 1 1\npass 0 0\npass 0 1\nregister 2\n",
+    ),
+    (
+        "run 1 2 5",
+        &[MAJORITY, MAJORITY_PLAN],
+        "K2 TurnsSpent 0",
+    ),
     (
         "run 1 2 1000000000000",
         &[MAJORITY, MAJORITY_PLAN],

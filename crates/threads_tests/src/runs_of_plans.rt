@@ -1,7 +1,7 @@
 //! Runs: four clients, and one that has no turns.
 use cluster::{ClusterFault, NoGate, RunRecord};
 use runs::{RunFault, record_of_run};
-use small_plans::grid_plan;
+use small_plans::{grid_plan, majority_plan};
 use std::test::Fail;
 
 /// Returns how many draws and passes a run has, and the register, or the fault.
@@ -31,6 +31,19 @@ fn turns_are_spent(rt: HostRuntime) {
     };
     let run = record_of_run(&rt, rt.alloc(), plan, 3, 1, 0, &NoGate);
     assert!(rt; counts(run) == Err(SPENT));
+}
+
+/// One client on majorities takes three turns for a pass: two pumps and a question. So a run of two
+/// passes needs six.
+#[test]
+fn six_turns_are_enough_and_five_are_not(rt: HostRuntime) {
+    for (turns, wanted) in [(6, Ok((2, 2, 2))), (5, Err(SPENT))] {
+        let Some(plan) = majority_plan(rt.alloc()) else {
+            panic!(rt; "no plan")
+        };
+        let run = record_of_run(&rt, rt.alloc(), plan, 1, 2, turns, &NoGate);
+        assert!(rt; counts(run) == wanted, "{turns} turns");
+    }
 }
 
 #[test]
