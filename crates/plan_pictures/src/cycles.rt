@@ -1,4 +1,7 @@
 //! The picture of the first cycle.
+ghost use Rattle.std.specs.Prelude.{IfOk, string_bytes};
+ghost use Rattle.svg.specs.Pictures.{IsEnded};
+
 use crate::growth::Growth;
 use crate::strip::Strip;
 use certificate::Plan;
@@ -47,7 +50,9 @@ fn push_heading(out: &mut String) -> Result<(), AllocError> {
 /// Returns a picture of the first cycle of a plan: a column for each ticket, filled in the rows of
 /// its quorum's voters, and below it how the count of the busiest voter grows beside the least that
 /// is possible. The plan is one of the named coterie. Fails only if memory runs out.
-pub fn cycle_picture(alloc: Global, named: &Named, plan: &Plan) -> Result<String, AllocError> {
+pub fn cycle_picture(alloc: Global, named: &Named, plan: &Plan) -> Result<String, AllocError>
+    ensures { IfOk result (λ page. IsEnded (string_bytes page)) }
+{
     let voters = voter_figures(alloc, plan)?;
     let cycle = cycle_of(alloc, plan)?;
     let strip = Strip::of(named, &voters, plan.cycle_len());

@@ -10,9 +10,11 @@
 //!
 //! # What is proved
 //!
-//! Of the pictures only safety is claimed: each call returns, and fails only if memory runs out.
-//! The radius of a dot is exactly the square root of its area, rounded down. The numbers in titles
-//! are figures of `shown`, or what a call of `certificate` or `dealer` returns.
+//! Each call returns, fails only if memory runs out, and its text ends with `</svg>`. Nothing else is
+//! proved of what a picture shows. The private helper of the dots is a square root, rounded down.
+//! The drawn radius is clamped, and nothing is proved of it. The numbers in titles are computed from
+//! figures of `shown`, and from what calls of `certificate` and `dealer` return; that they are in
+//! their places is only tested.
 //!
 //! Depends on `svg` for the texts, on `shown` for figures, on `dealer` for cycles, and on
 //! `coterie_file` for names.

@@ -1,4 +1,7 @@
 //! The picture of the load.
+ghost use Rattle.std.specs.Prelude.{IfOk, string_bytes};
+ghost use Rattle.svg.specs.Pictures.{IsEnded};
+
 use crate::bars::{Bars, ROOM};
 use crate::columns::Columns;
 use crate::dots::Dots;
@@ -51,7 +54,9 @@ fn width_of(columns: &Columns) -> u64 {
 /// Returns a picture of how much a plan uses each voter: a bar for each voter's load, the line
 /// below which no plan can go, and the quorums that a cycle uses as rows of dots, the most used
 /// first. The plan is one of the named coterie. Fails only if memory runs out.
-pub fn load_picture(alloc: Global, named: &Named, plan: &Plan) -> Result<String, AllocError> {
+pub fn load_picture(alloc: Global, named: &Named, plan: &Plan) -> Result<String, AllocError>
+    ensures { IfOk result (λ page. IsEnded (string_bytes page)) }
+{
     let voters = voter_figures(alloc, plan)?;
     let quorums = quorum_figures(alloc, plan)?;
     let columns = Columns::of(named, &voters);

@@ -5,7 +5,8 @@
 //! pointer, is opened by [`open_titled`], [`close_title`] after the title's text, and ended by
 //! [`close_group`]. Texts of a caller go through [`push_escaped`].
 //!
-//! Only safety is claimed: each call returns, and fails only if memory runs out.
+//! It is proved that each call returns and fails only if memory runs out, and that [`close_picture`]
+//! appends the last line of a picture.
 //!
 //! This crate depends on no other.
 //!
