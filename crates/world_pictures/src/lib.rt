@@ -6,8 +6,9 @@
 //! is not delivered in these rows ends in a cross. Arrows have titles with exact figures, which a
 //! browser shows under the pointer.
 //!
-//! The picture is one document with no script and no outside file. Only safety is claimed of it:
-//! the call returns, and fails only if memory runs out. The messages are those of `world`.
+//! The picture is one document with no script and no outside file. It is proved that the call
+//! returns, fails only if memory runs out, and that its text ends with `</svg>`. That the picture
+//! shows the messages of `world` is only tested.
 //!
 //! Depends on `svg` for the texts, on `shown` for the story of the script, and on `coterie_file` for
 //! names.

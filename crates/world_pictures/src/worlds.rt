@@ -1,4 +1,7 @@
 //! The picture of a script's run.
+ghost use Rattle.std.specs.Prelude.{IfOk, string_bytes};
+ghost use Rattle.svg.specs.Pictures.{IsEnded};
+
 use crate::arrows::{push_all_lost, push_arrows, push_labels};
 use crate::chart::{Chart, shown_moments};
 use crate::kinds::{Kind, lost, push_heads, push_kinds};
@@ -108,7 +111,9 @@ pub fn world_picture(
     named: &Named,
     plan: Plan,
     script: &Script,
-) -> Result<String, AllocError> {
+) -> Result<String, AllocError>
+    ensures { IfOk result (λ page. IsEnded (string_bytes page)) }
+{
     let story = story_of(alloc, plan, script)?;
     let chart = Chart::of(alloc, named, &story, HEADING)?;
     let width = chart.lanes.right().saturating_add(LABELS).max(LEAST_WIDTH);
