@@ -6,5 +6,6 @@ pub mod Members
 pub mod RangeLemmas
 pub mod Refusals
 pub mod Rest
+pub mod SavedLemmas
 pub mod SoundSteps
 pub mod VoteLemmas

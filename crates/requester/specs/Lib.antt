@@ -1,5 +1,6 @@
 pub mod Held
 pub mod RequesterContract
+pub mod Saved
 pub mod Soundness
 pub mod Steps
 pub mod Words

@@ -27,6 +27,9 @@
 //! - `Entered` says that the client has the lock, until [`Requester::leave`].
 //! - A request that takes too long may be given up ([`Requester::give_up`]).
 //! - [`Requester::remind`] may be sent at any time.
+//! - A client that has to survive a crash is saved before its messages are sent, and before its work
+//!   begins: [`Requester::save`] writes it as numbers, and [`Requester::restore`] reads them.
+//!   [`Requester::forget`] leaves only what has to survive.
 //! - [`Requester::ask_fault`] and so on return beforehand why a call would fail.
 //!
 //! Some callers keep the votes elsewhere too, as on a board between threads. They call
@@ -66,6 +69,7 @@
 mod fault;
 mod laws;
 mod requester;
+mod saved;
 mod state;
 
 pub use fault::ClientFault;
@@ -74,4 +78,5 @@ pub use laws::{
     requesters_meet_the_contract, requesters_stay_sound,
 };
 pub use requester::Requester;
+pub use saved::{SAVED_WORDS, SavedWords};
 pub use state::{Members, Messages, Phase, Reminders, Reply, Seen};

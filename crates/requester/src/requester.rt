@@ -1,10 +1,14 @@
-ghost use Rattle.std.specs.Prelude.{◌≡◌, ◌<◌, ◌≤◌, ◌^◌, ℕ, List, [], IfErr, IfOk, Err, Ok, length};
+ghost use Rattle.std.specs.Prelude.{◌≡◌, ◌<◌, ◌≤◌, ◌^◌, ℕ, List, [], IfErr, IfOk, IfSome, Err, Ok, Some, length};
 ghost use Rattle.numbers.specs.Bounds.{max_clients, max_voters, max_stamp};
+ghost use Rattle.arrayvec.specs.ArrayVec.{array_vec_len};
+ghost use Rattle.requester.specs.declared.state.ClientState.{ClientState};
+ghost use Rattle.requester.specs.Saved.{IsKept, least_client, words_of};
 ghost use Rattle.requester.specs.Soundness.{IsSound};
 ghost use Rattle.requester.specs.Words.{grant_of, is_spent};
 ghost use Rattle.requester.specs.Steps.{Foretells, ask, give_up, leave, remind, start, take, would_hold};
 
 use crate::fault::ClientFault;
+use crate::saved::SavedWords;
 use crate::state::{ClientState, Messages, Phase, Reminders, Reply, Seen};
 use arrayvec::ArrayVec;
 use message::ToClient;
@@ -58,6 +62,42 @@ impl Requester {
                 inquired: QSet::empty(),
             },
         }
+    }
+
+    /// Writes the client's state as numbers, in place of what was there. Restored from them, it is
+    /// the same client.
+    pub fn save(&self, words: &mut SavedWords)
+        ensures words { words.new.items ≡ words_of self.now }
+        ensures len { array_vec_len words.new ≡ 138 }
+        // So it can be restored, whatever calls led to it.
+        ensures kept { IsKept self.now }
+    {
+        self.state.save(words);
+    }
+
+    /// Returns the client that was saved as these numbers. `None` if they are not those of a sound
+    /// client, whatever they are.
+    pub fn restore(words: &[u64]) -> Option<Requester>
+        // A restored client is sound, whatever the numbers are.
+        ensures kept { IfSome result IsKept }
+        // It is saved as exactly these numbers.
+        ensures text { IfSome result (λ x. words.now ≡ words_of x) }
+        // A saved client is restored as it was.
+        ensures read { (x : ClientState) → IsKept x → words.now ≡ words_of x → result ≡ Some x }
+    {
+        let state = ClientState::restore(words)?;
+        Some(Requester { state })
+    }
+
+    /// Forgets all but the least that has to survive a crash: the clock, the last stamp, and the
+    /// last grants that were given back. The client is then idle.
+    ///
+    /// If it was inside, this opens the lock, so its work has to be done or undone. Its votes come
+    /// back by the voters' reminders.
+    pub fn forget(&mut self)
+        ensures { self.new ≡ least_client self.old }
+    {
+        self.state.forget();
     }
 
     /// Returns the client's number.

@@ -102,7 +102,7 @@ impl ClientState {
         }
     }
 
-    fn is_member(&self, voter: u8) -> bool
+    pub fn is_member(&self, voter: u8) -> bool
         ensures { result ≡ is_member self.now voter }
     {
         self.quorum.as_slice().contains(&voter)
@@ -125,7 +125,7 @@ impl ClientState {
     }
 
     /// Returns the last grant of a voter that was given back, or 0.
-    fn last_of(&self, voter: u8) -> u64
+    pub fn last_of(&self, voter: u8) -> u64
         ensures { result ≡ last_of self.now voter }
     {
         match self.last.get(usize::from(voter)) {
@@ -134,7 +134,7 @@ impl ClientState {
         }
     }
 
-    fn holds(&self, voter: u8) -> bool
+    pub fn holds(&self, voter: u8) -> bool
         ensures { result ≡ holds self.now voter }
     {
         self.held_of(voter) > 0
@@ -152,7 +152,7 @@ impl ClientState {
         self.is_member(voter) && !self.holds(voter) && grant > self.last_of(voter)
     }
 
-    fn is_covered(&self) -> bool
+    pub fn is_covered(&self) -> bool
         ensures { result ≡ is_covered self.now }
     {
         for v in self.quorum.as_slice() {
