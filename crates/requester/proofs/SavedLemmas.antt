@@ -1,5 +1,6 @@
 -- A client as numbers.
-use Rattle.std.proofs.Common.{◌≡◌, ℕ, get_or, zero, suc, ◌+◌, ◌^◌, ◌<◌, ◌≤◌, Bool, true, false, ◌&&◌, ◌||◌, not, cond, eqb, ltb, List, [], ◌∷◌, ◌++◌, length, take, drop, Option, Some, None, refl, sym, ap, subst, ◌∙◌, arith, take-append-drop, length-append}
+use Rattle.std.proofs.Common.{◌≡◌, ℕ, get_or, zero, suc, ◌+◌, ◌^◌, ◌<◌, ◌≤◌, Bool, true, false, ◌&&◌, ◌||◌, not, cond, eqb, ltb, List,
+    [], ◌∷◌, ◌++◌, length, take, drop, Option, Some, None, refl, sym, ap, subst, ◌∙◌, arith, take-append-drop, length-append}
 use Rattle.std.specs.Prelude.{IfSome, nat_le, nat_lt, replicate, slice_index}
 use Rattle.std.specs.Int.{bit_at}
 use Rattle.std.specs.List.{AllByRecursion}
@@ -194,7 +195,8 @@ asked_held : (x : ClientState) (v : ℕ) → is_vote_sound x v ≡ true → is_i
 asked_held x v e is = has_asked (holds x v) (is_idle x.phase) (is_member x v) (nat_lt (last_of x v) (held_of x v)) (is_inquired x v) (is_relinquished x v) (nat_lt 0 (last_of x v)) e is
 
 given_last : (x : ClientState) (v : ℕ) → is_vote_sound x v ≡ true → is_relinquished x v ≡ true → 1 ≤ last_of x v
-given_last x v e is = less_from 0 (last_of x v) (has_given (holds x v) (is_idle x.phase) (is_member x v) (nat_lt (last_of x v) (held_of x v)) (is_inquired x v) (is_relinquished x v) (nat_lt 0 (last_of x v)) e is)
+given_last x v e is = less_from 0 (last_of x v)
+    (has_given (holds x v) (is_idle x.phase) (is_member x v) (nat_lt (last_of x v) (held_of x v)) (is_inquired x v) (is_relinquished x v) (nat_lt 0 (last_of x v)) e is)
 
 pub IsSound-from : (x : ClientState) → x.id < 64 → HasPlaces x → IsSet (members x) → HasSets x → has_sound_numbers x ≡ true
     → (is_inside x.phase ≡ true → is_covered x ≡ true) → ((v : ℕ) → v < 64 → is_vote_sound x v ≡ true) → IsSound x

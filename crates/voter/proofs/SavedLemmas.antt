@@ -1,5 +1,6 @@
 -- a voter as numbers
-use Rattle.std.proofs.Common.{◌≡◌, ◌≢◌, ℕ, ◌+◌, ◌<◌, ◌≤◌, Bool, true, false, cond, List, [], ◌∷◌, ◌++◌, length, map, take, drop, Option, Some, None, refl, sym, ap, subst, ◌∙◌, arith, eqb, ltb, take-append-drop, length-append}
+use Rattle.std.proofs.Common.{◌≡◌, ◌≢◌, ℕ, ◌+◌, ◌<◌, ◌≤◌, Bool, true, false, cond, List,
+    [], ◌∷◌, ◌++◌, length, map, take, drop, Option, Some, None, refl, sym, ap, subst, ◌∙◌, arith, eqb, ltb, take-append-drop, length-append}
 use Rattle.std.specs.Prelude.{replicate, slice_index, slice_index_or, slice_set, unwrap_or, zero, suc, not, is_some, IsTrue, IfSome}
 use Rattle.std.specs.List.{AllByRecursion, range_with_len}
 use Rattle.std.specs.Ordering.{nat_cmp}
@@ -37,7 +38,8 @@ Fills-insert w f n s h is c = get-inserted w n s c ∙ step_cases c n s (get w c
 
 skip_cases : (c n : ℕ) (o p : Option ℕ) → o ≡ cond (ltb c n) p None → (c ≡ n → p ≡ None) → o ≡ cond (ltb c (n + 1)) p None
 skip_cases c n o p was none = elim (eqb c n) as (λ b. eqb c n ≡ b → o ≡ cond (ltb c (n + 1)) p None) [
-  | true ↦ λ e. let here : c ≡ n = grind (arith, nat_tests) in let t : ltb c (n + 1) ≡ true = grind (arith, nat_tests) in let u : ltb c n ≡ false = grind (arith, nat_tests) in rw t ((rw u at was) ∙ sym (none here))
+  | true ↦ λ e. let here : c ≡ n = grind (arith, nat_tests) in let t : ltb c (n + 1) ≡ true = grind (arith, nat_tests) in let u : ltb c n ≡ false =
+      grind (arith, nat_tests) in rw t ((rw u at was) ∙ sym (none here))
   | false ↦ λ e. let t : ltb c (n + 1) ≡ ltb c n = grind (arith, nat_tests) in rw t was
 ] refl
 
@@ -68,7 +70,8 @@ Fills-end w words len h c = h c ∙ elim (ltb c 64) as (λ b. ltb c 64 ≡ b →
 pub Fills-step : (w u : Waiting) (words : List ℕ) (n s : ℕ) → Fills w (λ c. stamp_of_word (slice_index words c)) n → s ≡ slice_index words n
     → (0 < s → u ≡ insert w n s) → (s ≡ 0 → u ≡ w) → Fills u (λ c. stamp_of_word (slice_index words c)) (n + 1)
 Fills-step w u words n zero h is some none = subst (λ (v : Waiting). Fills v (λ c. stamp_of_word (slice_index words c)) (n + 1)) (sym (none refl)) (Fills-none w words n zero h is refl)
-Fills-step w u words n (suc s) h is some none = subst (λ (v : Waiting). Fills v (λ c. stamp_of_word (slice_index words c)) (n + 1)) (sym (some (omega arith))) (Fills-more w words n (suc s) h is (omega arith))
+Fills-step w u words n (suc s) h is some none = subst (λ (v : Waiting). Fills v (λ c. stamp_of_word (slice_index words c)) (n + 1)) (sym (some (omega arith)))
+    (Fills-more w words n (suc s) h is (omega arith))
 
 none_of : (o : Option Request) (b : Bool) → is_some o ≡ not b → IsTrue b → o ≡ None
 none_of None b e t = refl
@@ -79,7 +82,8 @@ nobody_waits w o p b is same e t c = get-no_front w (sym is ∙ sym same ∙ non
 
 -- ---- the numbers from the queue
 
-pub waiting_words-more : (w : Waiting) (before items after : List ℕ) (n word : ℕ) → items ≡ before ++ map (λ c. unwrap_or (get w c) 0) (range_with_len 0 n) → word ≡ unwrap_or (get w n) 0 → after ≡ items ++ word ∷ []
+pub waiting_words-more : (w : Waiting) (before items after : List ℕ) (n word : ℕ) → items ≡ before ++ map (λ c. unwrap_or (get w c) 0) (range_with_len 0 n) → word ≡ unwrap_or
+    (get w n) 0 → after ≡ items ++ word ∷ []
     → after ≡ before ++ map (λ c. unwrap_or (get w c) 0) (range_with_len 0 (n + 1))
 waiting_words-more w before items after n word h is e =
     let f : ℕ → ℕ = λ c. unwrap_or (get w c) 0 in
@@ -101,7 +105,8 @@ words_of-parts v words head lists waiting finished front back first last h w f =
     sym (take-append-drop 10 words) ∙ (λ i. sym front i ++ sym back i) ∙ ap (λ l. head ++ l) (sym (take-append-drop 64 lists) ∙ (λ i. sym first i ++ sym last i))
     ∙ (λ i. h i ++ (w i ++ sym f i))
 
-pub words_of-if : (o : Option VoterState) (words head lists waiting finished : List ℕ) (q : Waiting) → head ≡ take 10 words → lists ≡ drop 10 words → waiting ≡ take 64 lists → finished ≡ drop 64 lists
+pub words_of-if : (o : Option VoterState) (words head lists waiting finished : List ℕ) (q : Waiting) → head ≡ take 10 words → lists ≡ drop 10 words → waiting ≡ take 64 lists
+    → finished ≡ drop 64 lists
     → length waiting ≡ 64 → ((c : ℕ) → get q c ≡ stamp_of_word (slice_index waiting c))
     → IfSome o (λ v. head ≡ head_words v) → IfSome o (λ v. v.waiting ≡ q) → IfSome o (λ v. v.finished ≡ finished) → IfSome o (λ v. words ≡ words_of v)
 words_of-if None words head lists waiting finished q front back first last len is h w f = tt

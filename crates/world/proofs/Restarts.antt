@@ -54,13 +54,15 @@ use Rattle.requester.specs.declared.state.Phase.TheVariants.{Idle, Asking, Insid
 use Rattle.requester.specs.RequesterContract.{Accepts, IsLater, Sees}
 use Rattle.requester.specs.Soundness as sound
 use Rattle.requester.specs.Steps as client
+use Rattle.requester.specs.Saved.{least_client}
+use Rattle.voter.specs.Saved.{least_voter}
 use Rattle.requester.specs.Words.{is_inside, holds_under}
 use Rattle.quorum_set.specs.declared.bridge.Side.{Side}
 use Rattle.quorum_set.specs.declared.bridge.Side.TheVariants.{First, Second}
 use Rattle.world.specs.declared.fault.WorldFault.{WorldFault}
 use Rattle.world.specs.declared.step.Step.TheVariants.{Ask, Deliver, Leave, GiveUp, RemindClient, RemindVoter, Exchange}
 use Rattle.world.specs.Ranges.{IsInRange}
-use Rattle.world.specs.Restarts.{Node, OneClient, OneVoter, Nobody, Saved, Happening, Goes, Saves, Forgets, Restarts, least_client, least_voter, forget, crash_seen, come_back, if_there, receiver, save, restart, is_silent, save_unless, gone, happens, all_happen, begin}
+use Rattle.world.specs.Restarts.{Node, OneClient, OneVoter, Nobody, Saved, Happening, Goes, Saves, Forgets, Restarts, forget, crash_seen, come_back, if_there, receiver, save, restart, is_silent, save_unless, gone, happens, all_happen, begin}
 use Rattle.world.specs.Runs.{AreLimits, start}
 use Rattle.world.specs.Steps.{Dealing, Outcome, after_client, after_voter, client_at, client_did, come, draw_of, events, exchange, if_client, if_voter, next_ticket, quorum_dealt, say, step, voter_at, voter_did}
 use Rattle.world.specs.Visible.{DealsFrom, DoMeet, IsExclusive}

@@ -7,11 +7,11 @@ use Rattle.std.specs.Prelude.{ℕ, ◌≡◌, ◌==◌, nat_lt, Bool, true, fals
 use Rattle.message.specs.declared.message.Message.{Message}
 use Rattle.message.specs.declared.message.Message.TheVariants as kinds
 use Rattle.voter.specs.declared.state.VoterState.{VoterState}
-use Rattle.voter.specs.Steps as voter
+use Rattle.voter.specs.Saved.{least_voter}
 use Rattle.requester.specs.declared.state.ClientState.{ClientState}
 use Rattle.requester.specs.declared.state.Seen.{Seen}
 use Rattle.requester.specs.declared.state.Seen.TheVariants.{Nothing, Entered, Left}
-use Rattle.requester.specs.Steps as client
+use Rattle.requester.specs.Saved.{least_client}
 use Rattle.requester.specs.Words.{holds_under, is_inside}
 use Rattle.world.specs.declared.fault.WorldFault.{WorldFault}
 use Rattle.world.specs.declared.step.Step.{Step}
@@ -63,16 +63,6 @@ abbrev pub save : Node → Saved → Saved
 save (OneClient c) s = record s { clients = slice_set s.clients c (client_at s.live.clients c) }
 save (OneVoter v) s = record s { voters = slice_set s.voters v (voter_at s.live.voters v) }
 save Nobody s = s
-
--- The least of a voter: its grant, and the number of grants that it gave. Its number and its limit
--- stay the same.
-abbrev pub least_voter : VoterState → VoterState
-least_voter y = record (voter.start y.id y.limit) { held = y.held; granted = y.granted }
-
--- The least of a client: its clock, its last stamp, and the last grant of each voter that it gave
--- back. It is idle. Its number and its limit stay the same.
-abbrev pub least_client : ClientState → ClientState
-least_client x = record (client.start x.id x.limit) { clock = x.clock; stamp = x.stamp; last = x.last }
 
 -- all but the least of a saved state is lost
 abbrev pub forget : Node → Saved → Saved
