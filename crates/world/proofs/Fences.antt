@@ -9,6 +9,7 @@ use Rattle.message.specs.declared.message.Message.{Message}
 use Rattle.message.specs.declared.message.Message.TheVariants as kinds
 use Rattle.voter.specs.declared.state.Grant.{Grant}
 use Rattle.voter.specs.declared.state.VoterState.{VoterState}
+use Rattle.voter.specs.Saved.{least_voter}
 use Rattle.voter.specs.Steps as voter
 use Rattle.voter.specs.VoteMoves.{VoteMoves, GrantIsNew}
 use Rattle.requester.specs.declared.fault.ClientFault.{ClientFault}
@@ -19,7 +20,7 @@ use Rattle.quorum_set.specs.declared.bridge.Side.TheVariants.{First, Second}
 use Rattle.world.specs.declared.fault.WorldFault.{WorldFault}
 use Rattle.world.specs.declared.step.Step.{Step}
 use Rattle.world.specs.declared.step.Step.TheVariants.{Ask, Deliver, Leave, GiveUp, RemindClient, RemindVoter, Exchange}
-use Rattle.world.specs.Restarts.{Node, OneClient, OneVoter, Nobody, Saved, Happening, Goes, Saves, Forgets, Restarts, HasVote, stamp_of, least_voter, forget, come_back, if_there, is_silent, maker, save, restart, save_unless, gone, happens, all_happen, begin}
+use Rattle.world.specs.Restarts.{Node, OneClient, OneVoter, Nobody, Saved, Happening, Goes, Saves, Forgets, Restarts, HasVote, stamp_of, forget, come_back, if_there, is_silent, maker, save, restart, save_unless, gone, happens, all_happen, begin}
 use Rattle.world.specs.Runs.{AreLimits, start}
 use Rattle.world.specs.Steps.{Dealing, Outcome, WorldState, act, after_client, ask, next_ticket, quorum_dealt, say, after_voter, client_at, come, draw_of, exchange, if_client, if_voter, step, voter_at}
 use Rattle.world.specs.Visible.{DealsFrom, DoMeet}
