@@ -165,12 +165,10 @@ deal_text p n =
     let account = account_of p.plan (range_with_len 0 n) in
     ticket_lines p.plan n ++ (account_text p.named.names account ++ ratio_part p.named.capacities account)
 
--- the lines of a record: how many tickets were drawn, their account, the register, and the account's
--- ratio if some capacity is not 1
+-- the lines of a record: how many tickets were drawn, their account, and the register
 abbrev pub record_lines : NamedSystem → Account → ℕ → List ℕ
 record_lines named account register =
-    drawn_line account.drawn
-    ++ (account_text named.names account ++ (register_line register ++ ratio_part named.capacities account))
+    drawn_line account.drawn ++ (account_text named.names account ++ register_line register)
 
 -- the lines of a record's entries: of the tickets that were drawn, and of the register
 abbrev pub replay_text : Planned → Entries → List ℕ

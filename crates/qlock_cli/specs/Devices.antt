@@ -1,5 +1,6 @@
 -- The faults of devices, as faults of a command.
 use Rattle.std.specs.Prelude.{◌≡◌, ℕ, ◌<◌, length, IfSome, Bool, true, false, List, Option, Result, Ok, Err, ⊤}
+use Rattle.std.specs.Io.KnownBytes.{Consumes}
 use Rattle.whole_io.specs.declared.fault.DeviceFault.TheVariants.{ReadFault, TooLong, WriteFault}
 use Rattle.qlock_cli.specs.declared.fault.Fault.{Fault}
 use Rattle.qlock_cli.specs.declared.fault.Fault.TheVariants.{Device, OutOfMemory}
@@ -18,6 +19,12 @@ IsOfReading bytes (Device TooLong) = IfSome bytes (λ input. 16777216 < length i
 IsOfReading bytes (Device ReadFault) = ⊤
 IsOfReading bytes OutOfMemory = ⊤
 IsOfReading bytes fault = ⊥
+
+-- What a fault leaves unread of these bytes. After `TooLong`, all except the first 16,777,217: one
+-- byte more than the longest input has. Nothing is said of other faults.
+abbrev pub LeavesUnread : Option (List ℕ) → Option (List ℕ) → Fault → Type 0
+LeavesUnread old new (Device TooLong) = (taken : List ℕ) × (length taken ≡ 16777217) × Consumes old new taken
+LeavesUnread old new fault = ⊤
 
 -- a fault of the command itself: not of a device
 abbrev pub IsOwn : Fault → Type 0

@@ -104,8 +104,7 @@ pub fn push_ratio(
     write!(text, "ratio {count}/{capacity}\n")
 }
 
-/// Returns the lines of a record: how many tickets were drawn, their account, the register, and the
-/// account's ratio if some capacity is not 1.
+/// Returns the lines of a record: how many tickets were drawn, their account, and the register.
 pub fn record_lines_of(
     alloc: Global,
     named: &Named,
@@ -120,6 +119,5 @@ pub fn record_lines_of(
     push_drawn(&mut text, account.drawn)?;
     push_account(&mut text, named, account)?;
     push_register(&mut text, register)?;
-    push_ratio(&mut text, named.capacities(), account)?;
     Ok(text)
 }

@@ -1,7 +1,7 @@
 //! The command `run`: clients in threads that share the lock of a plan, and the record of what they
 //! did.
 ghost use Rattle.std.specs.Prelude.{◌≡◌, ◌≤◌, false, IfErr, IfSome, OnOk, string_bytes};
-ghost use Rattle.qlock_cli.specs.Devices.{FailsAs, IsOwn};
+ghost use Rattle.qlock_cli.specs.Devices.{FailsAs, IsOwn, LeavesUnread};
 ghost use Rattle.qlock_cli.specs.Commands.{Answers, ComesOf, HasTurns, IsAnswered, IsRunnable, LeavesWritten, LetsAll};
 ghost use Rattle.std.specs.Io.KnownBytes.{IsAtEnd};
 ghost use Rattle.runs.specs.Runs.{IsRun};
@@ -80,6 +80,9 @@ pub fn execute_run<T: Threads + Wait + Clock + Sync, R: Read, W: Write, G: Gate>
 
     // All input was read.
     ensures end { OnOk result (IsAtEnd (R.remaining reader.new.inner)) }
+
+    // An input that is too long is read no further than one byte after the longest input.
+    ensures too_long { IfErr result (LeavesUnread (R.remaining reader.old.inner) (R.remaining reader.new.inner)) }
 
     // The gate lets each client pass, and there are at least two turns for each pass.
     ensures let_pass { OnOk result (LetsAll (G.lets gate.now) command.now) }

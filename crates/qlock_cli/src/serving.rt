@@ -3,7 +3,7 @@ ghost use Rattle.std.specs.Prelude.{◌≡◌, true, false, IfErr, IfOk, IfSome,
 ghost use Rattle.std.specs.Io.KnownBytes.{Appends};
 ghost use Rattle.whole_io.specs.Devices.{AppendsBeginning};
 ghost use Rattle.whole_io.specs.declared.fault.DeviceFault.TheVariants.{WriteFault};
-ghost use Rattle.qlock_cli.specs.Devices.{FailsAs, IsOfReading};
+ghost use Rattle.qlock_cli.specs.Devices.{FailsAs, IsOfReading, LeavesUnread};
 ghost use Rattle.qlock_cli.specs.declared.fault.Fault.TheVariants.{Device};
 ghost use Rattle.qlock_cli.specs.Commands.{Answers, ComesOf, EndsAfter, IsServed, IsShortFor, LeavesWritten, reads_input};
 
@@ -27,6 +27,7 @@ pub fn input_for<R: Read>(
     ensures short { IfOk result (λ v. IsShortFor command.now v.items) }
     ensures refused { IfErr result (λ fault.
         (reads_input command.now ≡ true) × IsOfReading (R.remaining reader.old.inner) fault) }
+    ensures too_long { IfErr result (LeavesUnread (R.remaining reader.old.inner) (R.remaining reader.new.inner)) }
     ensures failed { FailsAs reader.new.failed false result }
     ensures unread { reads_input command.now ≡ false → reader.new ≡ reader.old }
 {
@@ -69,7 +70,8 @@ pub fn write_answer<W: Write>(writer: &mut Watched<W>, answer: &[u8]) -> Result<
 /// - the faults of the parts, from the first part to the last;
 /// - a failed write.
 ///
-/// It may run out of memory at any point before the first write. A fault other than a failed write
+/// No byte after the 16,777,217th is read. It may run out of memory at any point before the first
+/// write. A fault other than a failed write
 /// writes nothing. After a failed write a beginning of the output was written.
 pub fn execute<R: Read, W: Write>(
     alloc: Global,
@@ -98,6 +100,9 @@ pub fn execute<R: Read, W: Write>(
     ensures left { IfErr result (λ fault.
         LeavesWritten command.now (R.remaining reader.old.inner) fault
         (W.contents writer.old.inner) (W.contents writer.new.inner)) }
+
+    // An input that is too long is read no further than one byte after the longest input.
+    ensures too_long { IfErr result (LeavesUnread (R.remaining reader.old.inner) (R.remaining reader.new.inner)) }
 
     // What a command does not read is left in the reader.
     ensures unread { reads_input command.now ≡ false → reader.new ≡ reader.old }

@@ -204,7 +204,7 @@ const RECORD: &str = "quorum-record 1\ndraw 0 0 0\npass 0 0\nregister 1\n";
 const REPLAYED: [Row; 1] = [(
     "replay",
     &[FAST_HUB, FAST_HUB_PLAN, RECORD],
-    "drawn 1\nvoter v0 1\nvoter v1 1\nvoter v2 0\nvoter v3 0\nbusiest 1\nregister 1\nratio 1/1\n",
+    "drawn 1\nvoter v0 1\nvoter v1 1\nvoter v2 0\nvoter v3 0\nbusiest 1\nregister 1\n",
 )];
 
 #[test]
