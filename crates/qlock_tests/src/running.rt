@@ -22,11 +22,7 @@ const RUNS: [Row; 7] = [
         &[MAJORITY, MAJORITY_PLAN],
         "quorum-record 1\ndraw 0 0 0\ndraw 0 1 1\npass 0 0\npass 0 1\nregister 2\n",
     ),
-    (
-        "run 1 2 5",
-        &[MAJORITY, MAJORITY_PLAN],
-        "K2 TurnsSpent 0",
-    ),
+    ("run 1 2 5", &[MAJORITY, MAJORITY_PLAN], "K2 TurnsSpent 0"),
     (
         "run 1 2 1000000000000",
         &[MAJORITY, MAJORITY_PLAN],
