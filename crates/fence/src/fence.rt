@@ -1,0 +1,70 @@
+//! The guard.
+ghost use Rattle.std.specs.Prelude.{◌≡◌, ◌<◌, ◌≤◌, ℕ, IsTrue, false, replicate, slice_index, true};
+ghost use Rattle.numbers.specs.Bounds.{max_voters};
+ghost use Rattle.fence.specs.Passes.{is_not_older, raised};
+
+use numbers::MAX_VOTERS;
+
+/// For each voter the highest grant number that it saw.
+#[derive(Drop)]
+pub struct Fence {
+    /// The highest grant of each voter that was shown, 0 for none.
+    pub seen: [u64; MAX_VOTERS],
+}
+
+impl Fence {
+    /// Returns a guard that saw no grant.
+    pub fn new() -> Self
+        ensures { result.seen ≡ replicate max_voters 0 }
+    {
+        Fence {
+            seen: [0; MAX_VOTERS],
+        }
+    }
+
+    /// Admits a pass with these grants, one for each voter and 0 for none. Returns whether it is
+    /// admitted.
+    ///
+    /// It is refused if and only if it shows an older grant of some voter than was shown before.
+    /// The guard is then unchanged.
+    pub fn admit(&mut self, grants: &[u64; MAX_VOTERS]) -> bool
+        ensures new { IsTrue result → (v : ℕ) → v < max_voters → is_not_older self.old.seen grants.now v ≡ true }
+        ensures admitted { ((v : ℕ) → v < max_voters → is_not_older self.old.seen grants.now v ≡ true) → IsTrue result }
+        ensures seen { IsTrue result → (v : ℕ) → v < max_voters
+            → slice_index self.new.seen v ≡ raised self.old.seen grants.now v }
+        ensures unchanged { result ≡ false → self.new ≡ self.old }
+    {
+        if !self.are_new(grants) {
+            return false;
+        }
+        self.raise(grants);
+        true
+    }
+
+    fn is_new(&self, grants: &[u64; MAX_VOTERS], voter: usize) -> bool
+        requires { voter < max_voters }
+        ensures { result ≡ is_not_older self.now.seen grants.now voter }
+    {
+        grants[voter] == 0 || self.seen[voter] <= grants[voter]
+    }
+
+    fn are_new(&self, grants: &[u64; MAX_VOTERS]) -> bool
+        ensures new { IsTrue result → (v : ℕ) → v < max_voters → is_not_older self.now.seen grants.now v ≡ true }
+        ensures admitted { ((v : ℕ) → v < max_voters → is_not_older self.now.seen grants.now v ≡ true) → IsTrue result }
+    {
+        for v in 0..MAX_VOTERS {
+            if !self.is_new(grants, v) {
+                return false;
+            }
+        }
+        true
+    }
+
+    fn raise(&mut self, grants: &[u64; MAX_VOTERS])
+        ensures { (v : ℕ) → v < max_voters → slice_index self.new.seen v ≡ raised self.old.seen grants.now v }
+    {
+        for v in 0..MAX_VOTERS {
+            self.seen[v] = self.seen[v].max(grants[v]);
+        }
+    }
+}

@@ -1,0 +1,22 @@
+//! A guard for what the lock protects: it refuses whoever shows an older grant than it saw before.
+//!
+//! A client that is inside holds a grant of each voter of its quorum. Two quorums share a voter, and
+//! a voter numbers its grants 1, 2, 3 and so on. So a client that lost the lock without noticing it,
+//! and comes late, shows an older grant at some voter than the one that came after it. A stamp is no
+//! such number: a later client may enter under a smaller stamp.
+//!
+//! The place that the lock protects keeps a [`Fence`]. Whoever writes there shows its grants to
+//! [`Fence::admit`] first. No call takes memory.
+//!
+//! That a later pass is never refused, and an earlier one is, rests on the law
+//! `later_votes_have_greater_numbers` of `world`, which holds over every list of steps, crashes and
+//! restarts. It depends on each voter's number of grants, which has to survive a crash.
+//!
+//! Depends on `numbers`.
+#![tactic(auto)]
+
+mod fence;
+#[cfg(test)]
+mod tests;
+
+pub use fence::Fence;
