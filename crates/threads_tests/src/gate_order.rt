@@ -6,32 +6,30 @@ use small_plans::majority_plan;
 use std::sync::atomic::{AtomicBool, Ordering};
 use std::test::Fail;
 use std::thread;
-use std::time::{Clock, Duration};
 
-/// How long client 1 is held up at each of its calls, in milliseconds.
-const HELD_UP: u64 = 200;
+/// How many times client 1 yields its thread at each of its calls.
+const YIELDS: u32 = 20_000;
 
 /// A gate that has client 1 draw before client 0: client 0 asks only once client 1 has drawn. Client
 /// 1 is held up before it asks and once it has drawn, so that client 0 would come first if it did
 /// not wait, or if it were let go too early.
 #[derive(Drop)]
-struct OneFirst<'a, C: Clock + Sync> {
-    clock: &'a C,
+struct OneFirst {
     drew: AtomicBool,
     asked_early: AtomicBool,
 }
 
-impl<'a, C: Clock + Sync> OneFirst<'a, C> {
-    /// Holds client 1 up.
-    fn hold(&self) {
-        thread::sleep(self.clock, Duration::from_millis(HELD_UP));
+/// Holds client 1 up.
+fn hold() {
+    for _ in 0..YIELDS {
+        thread::yield_now();
     }
 }
 
-impl<'a, C: Clock + Sync> Gate for OneFirst<'a, C> {
+impl Gate for OneFirst {
     fn before(&self, client: u8) {
         if client == 1 {
-            self.hold();
+            hold();
             return;
         }
         for _ in 0..1_000_000_000u64 {
@@ -45,7 +43,7 @@ impl<'a, C: Clock + Sync> Gate for OneFirst<'a, C> {
     fn drawn(&self, client: u8) {
         if client == 1 {
             self.drew.store(true, Ordering::SeqCst);
-            self.hold();
+            hold();
         }
     }
 
@@ -71,7 +69,6 @@ fn who_drew(run: &Result<RunRecord, RunFault>) -> Option<(u8, u8)> {
 #[test]
 fn a_client_draws_between_two_calls_of_the_gate(rt: HostRuntime) -> Result<(), Fail> {
     let gate = OneFirst {
-        clock: &rt,
         drew: AtomicBool::new(false),
         asked_early: AtomicBool::new(false),
     };

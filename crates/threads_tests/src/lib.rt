@@ -1,9 +1,8 @@
 //! Tests of running threads and of their records through public calls. This crate has nothing but
 //! tests.
 //!
-//! - `clusters` makes clusters for `drives`, `gates`, `held` and `exchanges`. In `held` a gate holds a
-//!   member up, and in `exchanges` the members' plan is exchanged for another. `gate_order` looks when
-//!   a gate is called.
+//! - `clusters` makes clusters for `drives`, `gates` and `exchanges`, in which the members' plan is
+//!   exchanged for another. `gate_order` looks when a gate is called.
 //! - `record_texts` reads records, `record_checks` checks them, and `records_of_runs` and
 //!   `runs_of_plans` make them.
 //!
@@ -21,8 +20,6 @@ mod exchanges;
 mod gate_order;
 #[cfg(test)]
 mod gates;
-#[cfg(test)]
-mod held;
 #[cfg(test)]
 mod record_checks;
 #[cfg(test)]
