@@ -9,8 +9,8 @@
 //! # What is proved
 //!
 //! The whole page is made before the first byte is written. So nothing is written on a fault,
-//! except that a failed write may leave a beginning of the page. The numbers on a page come from
-//! calls whose contracts say what they are (`shown`, `qlock_cli`). The sentences are only tested.
+//! except that a failed write may leave something behind. Which page is written for an input, and
+//! that it is one at all, is only tested. (`shown` and `explanations` say what their own texts are.)
 //!
 //! ```
 //! let command = read_show_words(alloc, words)?; // of `qlock-show plan`: ShowCommand::Plan
