@@ -1,6 +1,7 @@
 //! Where an input has its fault, and with which names.
-ghost use Rattle.std.specs.Prelude.{◌≡◌};
+ghost use Rattle.std.specs.Prelude.{◌≡◌, IfOk, OnOk, string_bytes};
 ghost use Rattle.qlock_cli.specs.Commands.{IsInRange};
+ghost use Rattle.show_cli.specs.Pages.{IsFaultPage, NamesCode};
 
 use crate::excerpt::{line_of, push_line};
 use crate::input_parts::{lines_before, part_in, part_name};
@@ -193,13 +194,25 @@ fn push_fault(
     text: &mut String,
     refused: &Refused,
     fault: Fault,
-) -> Result<(), AllocError> {
+) -> Result<(), AllocError>
+    ensures { OnOk result (NamesCode (string_bytes text.new)) }
+{
     let line = fault.to_string(alloc)?;
     text.push_str(&line)?;
     text.push('\n')?;
     push_place(alloc, text, refused, fault)?;
     let code = line.split(' ').next().unwrap_or("");
-    write!(text, "  more: qlock-show explain {code}\n")
+    write!(text, "  more: qlock-show explain {code}\n")?;
+    Ok(())
+}
+
+/// Returns the page about a fault.
+fn fault_words(alloc: Global, refused: &Refused, fault: Fault) -> Result<String, AllocError>
+    ensures { IfOk result (λ page. NamesCode (string_bytes page)) }
+{
+    let mut text = String::new(alloc);
+    push_fault(alloc, &mut text, refused, fault)?;
+    Ok(text)
 }
 
 /// Returns the page about the fault with which a command of `qlock` refuses an input. Fails only if
@@ -210,12 +223,11 @@ pub(crate) fn fault_page(
     input: &[u8],
 ) -> Result<String, AllocError>
     requires { IsInRange command.now }
+    ensures { IfOk result (λ page. IsFaultPage (string_bytes page)) }
 {
-    let mut text = String::new(alloc);
     match fault_in(alloc, command, input) {
-        Some(Fault::OutOfMemory) => return Err(AllocError),
-        Some(fault) => push_fault(alloc, &mut text, &Refused { command, input }, fault)?,
-        None => text.push_str("qlock does not refuse this input\n")?,
+        Some(Fault::OutOfMemory) => Err(AllocError),
+        Some(fault) => fault_words(alloc, &Refused { command, input }, fault),
+        None => String::from_str(alloc, "qlock does not refuse this input\n"),
     }
-    Ok(text)
 }

@@ -8,9 +8,17 @@
 //!
 //! # What is proved
 //!
-//! The whole page is made before the first byte is written. So nothing is written on a fault,
-//! except that a failed write may leave something behind. Which page is written for an input, and
-//! that it is one at all, is only tested. (`shown` and `explanations` say what their own texts are.)
+//! The input is read to its end, and what is written is a page of the command for what was read:
+//!
+//! - of `deal` and `explain` the whole page is determined;
+//! - of `plan` the load line and the tables of quorums and voters are, from the plan and the names in
+//!   the input; the paragraphs behind them are only tested;
+//! - for `world` and the pictures the input has the parts that it has to have; a page of `world` ends
+//!   with the clients, and a picture as a picture does; a `fault` page names a code, or says that there
+//!   is no fault. What else these say is only tested.
+//!
+//! A fault comes only for an input with this fault, and then nothing is written. A failed write may
+//! leave a beginning of such a page.
 //!
 //! ```
 //! let command = read_show_words(alloc, words)?; // of `qlock-show plan`: ShowCommand::Plan

@@ -1,66 +1,144 @@
 //! What each command writes for its input.
-ghost use Rattle.std.specs.Prelude.{◌≡◌, ◌≤◌, IfErr, IfOk};
+ghost use Rattle.std.specs.Prelude.{◌≡◌, ◌≤◌, ◌++◌, IfErr, IfOk, Ok, OnOk, codes, string_bytes};
+ghost use Rattle.std.specs.List.{flat_map};
+ghost use Rattle.explanations.specs.Texts.{text_of};
+ghost use Rattle.replay.specs.Scripts.{IsScript, script_text};
+ghost use Rattle.shown.specs.Lines.{names_text};
+ghost use Rattle.qlock_cli.specs.Commands.{IsInRange, IsRefusedBy, staged_in};
 ghost use Rattle.qlock_cli.specs.Devices.{IsOwn};
 ghost use Rattle.show_cli.specs.Commands.{IsShown};
+ghost use Rattle.show_cli.specs.Pages.{IsFaultPage, IsShownBy, deal_page_text, members_of, named_receipt_line};
 
 use crate::command::{Picture, ShowCommand};
 use crate::faults::fault_page;
-use certificate::Plan;
 use coterie_file::Named;
 use dealer::Receipt;
-use explanations::explanation_text;
+use explanations::{Explanation, explanation_text};
 use plan_pictures::{cycle_picture, load_picture};
-use qlock_cli::{Fault, Planned, dealt, planned_of, push_account, push_ratio, staged_of};
+use qlock_cli::{Command, Fault, Planned, dealt, planned_of, push_account, push_ratio, staged_of};
 use replay::{Script, read_script};
 use shown::{plan_words, push_members, world_words};
 use std::alloc::{AllocError, Global};
 use world_pictures::world_picture;
 
-/// Appends the line of a ticket: its number, its quorum, and the names of the voters to ask.
-fn push_ticket(text: &mut String, named: &Named, receipt: &Receipt) -> Result<(), AllocError> {
-    let ticket = receipt.ticket;
-    let quorum = receipt.quorum;
-    write!(text, "{ticket} {quorum}")?;
+/// Appends the names of a quorum's members, if there is a quorum of this number.
+fn push_asked(text: &mut String, named: &Named, quorum: usize) -> Result<(), AllocError>
+    ensures { OnOk result (string_bytes text.new
+        ≡ string_bytes text.old ++ names_text named.now.names (codes " ") (members_of named.now quorum)) }
+{
     if quorum < named.coterie().count() {
-        text.push(' ')?;
-        push_members(text, named, named.coterie().quorum(quorum), " ")?;
+        push_members(text, named, named.coterie().quorum(quorum), " ")
+    } else {
+        Ok(())
     }
-    text.push('\n')
 }
 
-/// Returns the page of dealt tickets.
-fn deal_words(alloc: Global, planned: Planned, count: u32) -> Result<String, AllocError>
+/// Appends the line of a ticket: its number, its quorum, and the names of the voters to ask.
+fn push_ticket(text: &mut String, named: &Named, receipt: &Receipt) -> Result<(), AllocError>
+    ensures { OnOk result (string_bytes text.new
+        ≡ string_bytes text.old ++ named_receipt_line named.now receipt.now) }
+{
+    let ticket = receipt.ticket;
+    let quorum = receipt.quorum;
+    write!(text, "{ticket} {quorum} ")?;
+    push_asked(text, named, quorum)?;
+    text.push_str("\n")
+}
+
+/// Appends a line for each of these tickets.
+fn push_tickets(text: &mut String, named: &Named, receipts: &[Receipt]) -> Result<(), AllocError>
+    ensures { OnOk result (string_bytes text.new
+        ≡ string_bytes text.old ++ flat_map (named_receipt_line named.now) receipts.now) }
+{
+    for receipt in receipts {
+        push_ticket(text, named, receipt)?;
+    }
+    Ok(())
+}
+
+/// Returns the page of the tickets below `count`.
+fn deal_words(alloc: Global, planned: Planned, count: u64) -> Result<String, AllocError>
     requires same { planned.plan.system ≡ planned.named.system }
     requires count { count ≤ 100000 }
+    ensures { IfOk result (λ page. string_bytes page ≡ deal_page_text planned count) }
 {
     let Planned { named, plan } = planned;
-    let (account, receipts) = dealt(alloc, plan, u64::from(count))?;
+    let (account, receipts) = dealt(alloc, plan, count)?;
     let _ = named.coterie();
     let mut text = String::new(alloc);
-    for receipt in receipts.as_slice() {
-        push_ticket(&mut text, &named, receipt)?;
-    }
+    push_tickets(&mut text, &named, &receipts)?;
     push_account(&mut text, &named, &account)?;
     push_ratio(&mut text, named.capacities(), &account)?;
     Ok(text)
 }
 
-/// Returns what a picture of a plan or its words say.
-fn plan_page(
-    alloc: Global,
-    named: &Named,
-    plan: &Plan,
-    command: &ShowCommand,
-) -> Result<String, AllocError> {
-    match command {
-        ShowCommand::Picture(Picture::Cycle) => cycle_picture(alloc, named, plan),
-        ShowCommand::Picture(_) => load_picture(alloc, named, plan),
-        _ => plan_words(alloc, named, plan),
+/// Returns the page of dealt tickets for an input.
+fn deal_page(alloc: Global, input: &[u8], count: u32) -> Result<String, Fault>
+    requires { count ≤ 100000 }
+    ensures shown { IsShownBy string_bytes (ShowCommand.Deal count) input.now result }
+    ensures own { IfErr result IsOwn }
+{
+    let planned = match planned_of(alloc, input) {
+        Ok(planned) => planned,
+        Err(fault) => return Err(fault),
+    };
+    match deal_words(alloc, planned, u64::from(count)) {
+        Ok(page) => Ok(page),
+        Err(_) => Err(Fault::OutOfMemory),
+    }
+}
+
+/// Returns the page of a plan for an input.
+fn plan_page(alloc: Global, input: &[u8]) -> Result<String, Fault>
+    ensures shown { IsShownBy string_bytes ShowCommand.Plan input.now result }
+    ensures own { IfErr result IsOwn }
+{
+    let planned = match planned_of(alloc, input) {
+        Ok(planned) => planned,
+        Err(fault) => return Err(fault),
+    };
+    match plan_words(alloc, &planned.named, &planned.plan) {
+        Ok(page) => Ok(page),
+        Err(_) => Err(Fault::OutOfMemory),
+    }
+}
+
+/// Returns the picture of the load for an input.
+fn load_page(alloc: Global, input: &[u8]) -> Result<String, Fault>
+    ensures shown { IsShownBy string_bytes (ShowCommand.Picture Picture.Load) input.now result }
+    ensures own { IfErr result IsOwn }
+{
+    let planned = match planned_of(alloc, input) {
+        Ok(planned) => planned,
+        Err(fault) => return Err(fault),
+    };
+    match load_picture(alloc, &planned.named, &planned.plan) {
+        Ok(page) => Ok(page),
+        Err(_) => Err(Fault::OutOfMemory),
+    }
+}
+
+/// Returns the picture of the first cycle for an input.
+fn cycle_page(alloc: Global, input: &[u8]) -> Result<String, Fault>
+    ensures shown { IsShownBy string_bytes (ShowCommand.Picture Picture.Cycle) input.now result }
+    ensures own { IfErr result IsOwn }
+{
+    let planned = match planned_of(alloc, input) {
+        Ok(planned) => planned,
+        Err(fault) => return Err(fault),
+    };
+    match cycle_picture(alloc, &planned.named, &planned.plan) {
+        Ok(page) => Ok(page),
+        Err(_) => Err(Fault::OutOfMemory),
     }
 }
 
 /// Returns a script, its coterie and its plan.
+#[tactic(auto, using(crate::proofs::ShowLemmas::script_refused))]
 fn script_of(alloc: Global, input: &[u8]) -> Result<(Planned, Script), Fault>
+    ensures parts { IfOk result (λ read. staged_in input.now ≡ Ok (read.0, script_text read.1)) }
+    ensures script { IfOk result (λ read. IsScript read.1) }
+    ensures refused { IfErr result (IsRefusedBy Command.World input.now) }
     ensures own { IfErr result IsOwn }
 {
     let (planned, text) = match staged_of(alloc, input) {
@@ -73,50 +151,56 @@ fn script_of(alloc: Global, input: &[u8]) -> Result<(Planned, Script), Fault>
     }
 }
 
-/// Returns the page of a script, in words or as a picture.
-fn script_page(alloc: Global, input: &[u8], is_picture: bool) -> Result<String, Fault>
-    ensures { IfErr result IsOwn }
+/// Returns the page of a script in words.
+fn world_page(alloc: Global, input: &[u8]) -> Result<String, Fault>
+    ensures shown { IsShownBy string_bytes ShowCommand.World input.now result }
+    ensures own { IfErr result IsOwn }
 {
     let (planned, script) = match script_of(alloc, input) {
         Ok(read) => read,
         Err(fault) => return Err(fault),
     };
     let Planned { named, plan } = planned;
-    made(if is_picture {
-        world_picture(alloc, &named, plan, &script)
-    } else {
-        world_words(alloc, &named, plan, &script)
-    })
+    match world_words(alloc, &named, plan, &script) {
+        Ok(page) => Ok(page),
+        Err(_) => Err(Fault::OutOfMemory),
+    }
 }
 
-/// Returns the page of dealt tickets for an input.
-fn deal_page(alloc: Global, input: &[u8], count: u32) -> Result<String, Fault>
-    requires { count ≤ 100000 }
-    ensures { IfErr result IsOwn }
+/// Returns the picture of a script.
+fn script_picture(alloc: Global, input: &[u8]) -> Result<String, Fault>
+    ensures shown { IsShownBy string_bytes (ShowCommand.Picture Picture.World) input.now result }
+    ensures own { IfErr result IsOwn }
 {
-    let planned = match planned_of(alloc, input) {
-        Ok(planned) => planned,
+    let (planned, script) = match script_of(alloc, input) {
+        Ok(read) => read,
         Err(fault) => return Err(fault),
     };
-    made(deal_words(alloc, planned, count))
+    let Planned { named, plan } = planned;
+    match world_picture(alloc, &named, plan, &script) {
+        Ok(page) => Ok(page),
+        Err(_) => Err(Fault::OutOfMemory),
+    }
 }
 
-/// Returns the page of a plan for an input.
-fn planned_page(alloc: Global, input: &[u8], command: &ShowCommand) -> Result<String, Fault>
-    ensures { IfErr result IsOwn }
+/// Returns the page of an explanation.
+fn explain_page(alloc: Global, explanation: &Explanation) -> Result<String, Fault>
+    ensures page { IfOk result (λ page. string_bytes page ≡ text_of explanation.now) }
+    ensures memory { IfErr result (λ fault. fault ≡ Fault.OutOfMemory) }
 {
-    let planned = match planned_of(alloc, input) {
-        Ok(planned) => planned,
-        Err(fault) => return Err(fault),
-    };
-    made(plan_page(alloc, &planned.named, &planned.plan, command))
+    match explanation_text(alloc, explanation) {
+        Ok(page) => Ok(page),
+        Err(_) => Err(Fault::OutOfMemory),
+    }
 }
 
-/// Returns a page that was made, unless memory ran out.
-fn made(page: Result<String, AllocError>) -> Result<String, Fault>
-    ensures { IfErr result IsOwn }
+/// Returns the page about the fault for which a command of `qlock` refuses an input.
+fn refusal_page(alloc: Global, command: &Command, input: &[u8]) -> Result<String, Fault>
+    requires { IsInRange command.now }
+    ensures page { IfOk result (λ page. IsFaultPage (string_bytes page)) }
+    ensures memory { IfErr result (λ fault. fault ≡ Fault.OutOfMemory) }
 {
-    match page {
+    match fault_page(alloc, command, input) {
         Ok(page) => Ok(page),
         Err(_) => Err(Fault::OutOfMemory),
     }
@@ -125,16 +209,17 @@ fn made(page: Result<String, AllocError>) -> Result<String, Fault>
 /// Returns what the command writes for an input.
 pub(crate) fn page_of(alloc: Global, command: &ShowCommand, input: &[u8]) -> Result<String, Fault>
     requires { IsShown command.now }
-    ensures { IfErr result IsOwn }
+    ensures shown { IsShownBy string_bytes command.now input.now result }
+    ensures own { IfErr result IsOwn }
 {
     match command {
-        ShowCommand::Plan
-        | ShowCommand::Picture(Picture::Load)
-        | ShowCommand::Picture(Picture::Cycle) => planned_page(alloc, input, command),
+        ShowCommand::Plan => plan_page(alloc, input),
+        ShowCommand::Picture(Picture::Load) => load_page(alloc, input),
+        ShowCommand::Picture(Picture::Cycle) => cycle_page(alloc, input),
         ShowCommand::Deal(count) => deal_page(alloc, input, *count),
-        ShowCommand::World => script_page(alloc, input, false),
-        ShowCommand::Picture(Picture::World) => script_page(alloc, input, true),
-        ShowCommand::Explain(explanation) => made(explanation_text(alloc, explanation)),
-        ShowCommand::Fault(command) => made(fault_page(alloc, command, input)),
+        ShowCommand::World => world_page(alloc, input),
+        ShowCommand::Picture(Picture::World) => script_picture(alloc, input),
+        ShowCommand::Explain(explanation) => explain_page(alloc, explanation),
+        ShowCommand::Fault(command) => refusal_page(alloc, command, input),
     }
 }

@@ -1,8 +1,13 @@
 //! Serving a command: reads the whole input, makes the whole page, and then writes it.
-ghost use Rattle.std.specs.Prelude.{◌≡◌, true, false, IfErr, IfOk, IfSome, OnErr, OnOk};
+ghost use Rattle.std.specs.Prelude.{◌≡◌, ◌≤◌, [], true, false, length, IfErr, IfOk, IfSome, OnErr, OnOk};
+ghost use Rattle.std.specs.Io.KnownBytes.{Appends};
+ghost use Rattle.whole_io.specs.Devices.{AppendsBeginning};
+ghost use Rattle.whole_io.specs.declared.fault.DeviceFault.TheVariants.{WriteFault};
+ghost use Rattle.qlock_cli.specs.Commands.{reads_input};
 ghost use Rattle.qlock_cli.specs.Devices.{FailsAs, IsOfReading};
+ghost use Rattle.qlock_cli.specs.declared.fault.Fault.TheVariants.{Device};
 ghost use Rattle.show_cli.specs.Commands.{IsShown};
-ghost use Rattle.show_cli.specs.Writing.{LeavesShown};
+ghost use Rattle.show_cli.specs.Pages.{ComesOfShowing, EndsAfterPage, LeavesShown, OfRead, Shows, reads_page_input};
 
 use crate::command::ShowCommand;
 use crate::pages::page_of;
@@ -11,11 +16,30 @@ use std::alloc::Global;
 use std::io::{Read, Write};
 use whole_io::{read_input, write_output};
 
-/// Returns whether a command reads its input.
-fn reads_input(command: &ShowCommand) -> bool {
+/// Returns whether a command of `qlock` reads its input.
+fn reads_qlock_input(command: &Command) -> bool
+    ensures { result ≡ reads_input command.now }
+{
     match command {
-        ShowCommand::Explain(_) | ShowCommand::Fault(Command::Make(_)) => false,
-        _ => true,
+        Command::Make(_) => false,
+        Command::Plan
+        | Command::Check
+        | Command::Deal(_)
+        | Command::World
+        | Command::Run { .. }
+        | Command::Replay => true,
+    }
+}
+
+/// Returns whether a command reads its input.
+fn reads_page_input(command: &ShowCommand) -> bool
+    ensures { result ≡ reads_page_input command.now }
+{
+    match command {
+        ShowCommand::Explain(_) => false,
+        ShowCommand::Fault(command) => reads_qlock_input(command),
+        ShowCommand::Plan | ShowCommand::Deal(_) | ShowCommand::World | ShowCommand::Picture(_) =>
+            true,
     }
 }
 
@@ -26,10 +50,17 @@ fn input_for<R: Read>(
     reader: &mut Watched<R>,
 ) -> Result<Vec<u8>, Fault>
     requires { reader.old.failed ≡ false }
+    ensures all { IfOk result (λ v. reads_page_input command.now ≡ true
+        → IfSome (R.remaining reader.old.inner) (λ bytes. v.items ≡ bytes)) }
+    ensures nothing { IfOk result (λ v. reads_page_input command.now ≡ false → v.items ≡ []) }
+    ensures end { OnOk result (EndsAfterPage command.now (R.remaining reader.new.inner)) }
+    ensures short { IfOk result (λ v. length v.items ≤ 16777216) }
     ensures refused { IfErr result (IsOfReading (R.remaining reader.old.inner)) }
+    ensures reads { OnErr result (reads_page_input command.now ≡ true) }
     ensures failed { FailsAs reader.new.failed false result }
+    ensures unread { reads_page_input command.now ≡ false → reader.new ≡ reader.old }
 {
-    if !reads_input(command) {
+    if !reads_page_input(command) {
         return Ok(Vec::new(alloc));
     }
     match read_input(alloc, reader) {
@@ -38,10 +69,26 @@ fn input_for<R: Read>(
     }
 }
 
+/// Writes a whole page.
+fn write_page<W: Write>(writer: &mut Watched<W>, page: &[u8]) -> Result<(), Fault>
+    requires { writer.old.failed ≡ false }
+    ensures ok { OnOk result (Appends (W.contents writer.old.inner) (W.contents writer.new.inner) page.now) }
+    ensures begun { OnErr result
+        (AppendsBeginning (W.contents writer.old.inner) (W.contents writer.new.inner) page.now) }
+    ensures refused { IfErr result (λ fault. fault ≡ Device WriteFault) }
+    ensures failed { FailsAs false writer.new.failed result }
+{
+    match write_output(writer, page) {
+        Ok(()) => Ok(()),
+        Err(fault) => Err(Fault::from(fault)),
+    }
+}
+
 /// Serves a command: reads the input to its end, and writes the command's page and nothing else.
 ///
 /// Faults come in the same order as those of `qlock_cli::execute`. A fault other than a failed write
 /// writes nothing. After a failed write a beginning of the page was written.
+#[tactic(auto, using(crate::proofs::ShowLemmas::page_shown, crate::proofs::ShowLemmas::page_begun, crate::proofs::ShowLemmas::write_fault_comes))]
 pub fn show<R: Read, W: Write>(
     alloc: Global,
     command: &ShowCommand,
@@ -52,9 +99,25 @@ pub fn show<R: Read, W: Write>(
     requires unread { reader.old.failed ≡ false }
     requires unwritten { writer.old.failed ≡ false }
 
-    // A fault other than a failed write writes nothing.
+    // What is written is a page of the command for what is read.
+    ensures written { OnOk result (OfRead command.now (R.remaining reader.old.inner)
+        (Shows command.now (W.contents writer.old.inner) (W.contents writer.new.inner))) }
+
+    // A command that reads its input reads all of it.
+    ensures end { OnOk result (EndsAfterPage command.now (R.remaining reader.new.inner)) }
+
+    // A fault comes only for an input with this fault, or from a device or memory.
+    ensures refused { IfErr result (λ fault.
+        OfRead command.now (R.remaining reader.old.inner) (ComesOfShowing command.now fault)) }
+
+    // A fault other than a failed write writes nothing. After a failed write a beginning of the page
+    // was written.
     ensures left { IfErr result (λ fault.
-        LeavesShown fault (W.contents writer.old.inner) (W.contents writer.new.inner)) }
+        LeavesShown command.now (R.remaining reader.old.inner) fault
+        (W.contents writer.old.inner) (W.contents writer.new.inner)) }
+
+    // What a command does not read is left in the reader.
+    ensures unread { reads_page_input command.now ≡ false → reader.new ≡ reader.old }
 
     // A read fault or a write fault is returned if and only if that device failed.
     ensures devices { FailsAs reader.new.failed writer.new.failed result }
@@ -67,8 +130,5 @@ pub fn show<R: Read, W: Write>(
         Ok(page) => page,
         Err(fault) => return Err(fault),
     };
-    match write_output(writer, page.as_bytes()) {
-        Ok(()) => Ok(()),
-        Err(fault) => Err(Fault::from(fault)),
-    }
+    write_page(writer, page.as_bytes())
 }
