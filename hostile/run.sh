@@ -12,7 +12,7 @@
 #   of the answer with `I4 WriteFault` and status 3;
 # - each read and each write moves one byte, once: the command has to write what it always writes.
 #
-# After these comes a program of its own, `crates/hostile_member`, in which one member of a running cluster goes through the lock. A
+# After these comes a program of its own, `crates/demo_hostile`, in which one member of a running cluster goes through the lock. A
 # growth that is refused once has to end it with `O1 OutOfMemory`, or to change nothing, or to lose exactly one message, which the
 # member makes up for by a reminder. The last has to happen in three runs, since the logs of two nodes and a mailbox grow.
 #
@@ -170,10 +170,10 @@ try_member() {
     label='a member of a cluster' passes='' input=/dev/null words=()
     case "$label" in *"$word"*) ;; *) return 0 ;; esac
     local before=$runs losses=0 n=1
-    program=$root/crates/hostile_member/out/hostile_member
+    program=$root/crates/demo_hostile/out/demo_hostile
     # what `rt ci` has proved and built is taken as it is
     if [ ! -x "$program" ] || [ -n "$(find "$root/crates.txt" "$root"/crates/*/src -newer "$program" -print -quit)" ]; then
-        (cd "$root/crates/hostile_member" && rt run > /dev/null 2>&1) || { echo "hostile/run.sh: crates/hostile_member does not build" >&2; exit 1; }
+        (cd "$root/crates/demo_hostile" && rt run > /dev/null 2>&1) || { echo "hostile/run.sh: crates/demo_hostile does not build" >&2; exit 1; }
     fi
     met=1
     while [ -n "$met" ]; do

@@ -3,8 +3,8 @@
 use certificate::{Plan, check};
 use dealer::Cycle;
 use quorum_set::{Coterie, QSet};
-use small_plans::unit_capacities;
 use std::alloc::{AllocError, Global};
+use test_plans::unit_capacities;
 
 /// What to time.
 #[derive(Clone, Copy, Drop)]

@@ -11,13 +11,13 @@ ghost use Rattle.numbers.specs.Bounds.{max_clients};
 use cluster::NoGate;
 use numbers::MAX_CLIENTS;
 use runs::record_of_run;
-use small_plans::majority_plan;
 use std::alloc::Global;
 use std::env;
 use std::process::ExitCode;
 use std::sync::Wait;
 use std::thread::Threads;
 use std::time::Clock;
+use test_plans::majority_plan;
 
 /// How many turns each client has: more than any run takes.
 const TURNS: u64 = 1_000_000_000_000_000;

@@ -159,10 +159,7 @@ fn serve_on<N: ClusterName, R: Wait + Clock, G: Gate>(
 fn exchange<N: ClusterName>(member: &mut Member<N>)
     ensures { member.new ≡ record member.old { clerks = next_plan member.old.clerks } }
 {
-    match member.exchange() {
-        Ok(()) => {}
-        Err(_) => {}
-    }
+    let _ = member.exchange();
 }
 
 /// Has a member make `passes` passes. If there is another plan, the member exchanges its plan after

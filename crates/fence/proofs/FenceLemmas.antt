@@ -1,10 +1,11 @@
 -- The grants that were seen, one voter at a time.
 use Rattle.std.proofs.Common.{◌≡◌, ◌≢◌, ℕ, ◌+◌, ◌<◌, ◌≤◌, Bool, true, false, eqb, List, length, refl, sym, ap, ◌∙◌, arith}
 use Rattle.std.specs.Prelude.{max, slice_index, slice_set}
+use Rattle.std.proofs.Math.Nat.{le-max_left, le-max_right}
 use Rattle.std.proofs.lemmas.Bool.Decides.{nat_tests}
 use Rattle.std.proofs.lemmas.Grind.{get_or-set_at}
 use Rattle.std.proofs.lemmas.List.{get_or-set_other, length-set}
-use Rattle.fence.specs.Passes.{raised}
+use Rattle.fence.specs.Passes.{HasSeen, SeesAlso, raised}
 
 pub below_next : (f : ℕ → Bool) (n : ℕ) → ((u : ℕ) → u < n → f u ≡ true) → f n ≡ true → (u : ℕ) → u < n + 1 → f u ≡ true
 below_next f n h here u lt = elim (eqb u n) as (λ b. eqb u n ≡ b → f u ≡ true) [
@@ -36,3 +37,18 @@ Raised-more old shown seen n m few r is = record {
   ] refl;
   left = λ v le. get_or-set_other seen n v m 0 (λ same. omega arith) ∙ r.left v (omega arith);
 }
+
+-- ---- what was seen stays seen
+
+pub seen_now : (seen pass after : List ℕ) → SeesAlso seen pass after → HasSeen after pass
+seen_now seen pass after sees v few =
+    let is = sees v few in
+    let more = le-max_right (slice_index seen v) (slice_index pass v) in
+    omega arith
+
+pub seen_still : (seen pass after other : List ℕ) → SeesAlso seen pass after → HasSeen seen other → HasSeen after other
+seen_still seen pass after other sees has v few =
+    let is = sees v few in
+    let more = le-max_left (slice_index seen v) (slice_index pass v) in
+    let before = has v few in
+    omega arith

@@ -1,7 +1,7 @@
 //! The guard.
-ghost use Rattle.std.specs.Prelude.{◌≡◌, ◌<◌, ◌≤◌, ℕ, IsTrue, false, replicate, slice_index, true};
+ghost use Rattle.std.specs.Prelude.{◌≡◌, ◌<◌, IsTrue, false, replicate};
 ghost use Rattle.numbers.specs.Bounds.{max_voters};
-ghost use Rattle.fence.specs.Passes.{is_not_older, raised};
+ghost use Rattle.fence.specs.Passes.{Admits, Refuses, SeesAlso, is_not_older};
 
 use numbers::MAX_VOTERS;
 
@@ -28,10 +28,10 @@ impl Fence {
     /// It is refused if and only if it shows an older grant of some voter than was shown before.
     /// The guard is then unchanged.
     pub fn admit(&mut self, grants: &[u64; MAX_VOTERS]) -> bool
-        ensures new { IsTrue result → (v : ℕ) → v < max_voters → is_not_older self.old.seen grants.now v ≡ true }
-        ensures admitted { ((v : ℕ) → v < max_voters → is_not_older self.old.seen grants.now v ≡ true) → IsTrue result }
-        ensures seen { IsTrue result → (v : ℕ) → v < max_voters
-            → slice_index self.new.seen v ≡ raised self.old.seen grants.now v }
+        ensures new { IsTrue result → Admits self.old.seen grants.now }
+        ensures admitted { Admits self.old.seen grants.now → IsTrue result }
+        ensures refused { Refuses self.old.seen grants.now → result ≡ false }
+        ensures seen { IsTrue result → SeesAlso self.old.seen grants.now self.new.seen }
         ensures unchanged { result ≡ false → self.new ≡ self.old }
     {
         if !self.are_new(grants) {
@@ -49,8 +49,8 @@ impl Fence {
     }
 
     fn are_new(&self, grants: &[u64; MAX_VOTERS]) -> bool
-        ensures new { IsTrue result → (v : ℕ) → v < max_voters → is_not_older self.now.seen grants.now v ≡ true }
-        ensures admitted { ((v : ℕ) → v < max_voters → is_not_older self.now.seen grants.now v ≡ true) → IsTrue result }
+        ensures new { IsTrue result → Admits self.now.seen grants.now }
+        ensures admitted { Admits self.now.seen grants.now → IsTrue result }
     {
         for v in 0..MAX_VOTERS {
             if !self.is_new(grants, v) {
@@ -61,7 +61,7 @@ impl Fence {
     }
 
     fn raise(&mut self, grants: &[u64; MAX_VOTERS])
-        ensures { (v : ℕ) → v < max_voters → slice_index self.new.seen v ≡ raised self.old.seen grants.now v }
+        ensures { SeesAlso self.old.seen grants.now self.new.seen }
     {
         for v in 0..MAX_VOTERS {
             self.seen[v] = self.seen[v].max(grants[v]);

@@ -8,15 +8,17 @@
 //! The place that the lock protects keeps a [`Fence`]. Whoever writes there shows its grants to
 //! [`Fence::admit`] first. No call takes memory.
 //!
-//! That a later pass is never refused, and an earlier one is, rests on the law
-//! `later_votes_have_greater_numbers` of `world`, which holds over every list of steps, crashes and
-//! restarts. It depends on each voter's number of grants, which has to survive a crash.
+//! A guard never refuses a pass that comes in order, and refuses one that comes late. The crate
+//! `fencing` proves this, over every list of steps, crashes and restarts. It depends on each voter's
+//! number of grants, which has to survive a crash.
 //!
 //! Depends on `numbers`.
 #![tactic(auto)]
 
 mod fence;
+mod laws;
 #[cfg(test)]
 mod tests;
 
 pub use fence::Fence;
+pub use laws::admitted_passes_stay_seen;

@@ -7,6 +7,7 @@ ghost use Rattle.quorum_set.specs.declared.bridge.Side.{Side};
 ghost use Rattle.members.specs.Clerks.{HasShare, joined_each, names_of, office_names, receipts_of};
 ghost use Rattle.members.specs.Clusters.{ClusterState, names_in};
 ghost use Rattle.members.specs.Closes.{RefusesClose};
+ghost use Rattle.members.specs.declared.close.CloseFault.{CloseFault};
 ghost use Rattle.members.specs.Records.{IsDraw, IsLoss, IsRecordOf, all_draws, all_passes, all_receipts, draws_of, idle_count, passes_of};
 
 use crate::clerks::{Clerks, Offices};
@@ -231,6 +232,14 @@ fn join_nodes<N: ClusterName>(
     Ok(())
 }
 
+/// Returns the fault of a close that lost cluster and members by this fault of the board: a vote that
+/// is out stays a vote that is out.
+fn lost_by_board<N: ClusterName>(fault: BoardFault) -> CloseFault<N>
+    ensures { result ≡ CloseFault.Lost (ClusterFault.Board fault) }
+{
+    CloseFault::Lost(ClusterFault::Board(fault))
+}
+
 impl<N: ClusterName> Cluster<N> {
     /// Closes the cluster with its members, and returns the record of its run:
     ///
@@ -257,7 +266,7 @@ impl<N: ClusterName> Cluster<N> {
         }
         match self.end(alloc, members) {
             Ok(record) => Ok(record),
-            Err(fault) => Err(CloseFault::Lost(ClusterFault::Board(fault))),
+            Err(fault) => Err(lost_by_board(fault)),
         }
     }
 

@@ -58,18 +58,18 @@ impl<N: ClusterName> Model for Cluster<N> {
 
 /// What became of a voter's replies.
 #[derive(Clone, Copy)]
-pub(crate) struct Posted {
+struct Posted {
     /// How many got into a mailbox.
-    pub(crate) posted: u64,
+    posted: u64,
     /// How many messages are lost.
-    pub(crate) lost: u64,
+    lost: u64,
 }
 
 impl<N: ClusterName> Cluster<N> {
     /// Gives a message to its voter's node, with the replies in `replies` in place of what was there.
     /// Returns `false` if the message is lost: the node dropped it, or had no memory, or the cluster
     /// doesn't have the voter or the client. Then `replies` says nothing.
-    pub(crate) fn tell(&self, rt: &impl Wait, message: &ToVoter, replies: &mut Replies) -> bool
+    fn tell(&self, rt: &impl Wait, message: &ToVoter, replies: &mut Replies) -> bool
         ensures stray { is_stray N.cluster.board message.now ≡ true → result ≡ false }
     {
         if usize::from(message.client) >= self.mailboxes.len() {
@@ -101,9 +101,15 @@ impl<N: ClusterName> Cluster<N> {
         Some(node.remind())
     }
 
-    /// Puts a message into its client's mailbox. Returns `false` if it is lost: memory ran out, or
-    /// it doesn't belong there.
-    pub(crate) fn post(&self, rt: &impl Wait, message: ToClient) -> bool
+    /// Puts a message into its client's mailbox, as if its voter sent it. Returns `false` if the
+    /// message is lost: memory ran out, or it doesn't belong there. It belongs there if the cluster
+    /// has its voter and its client; a LOCKED also needs a grant from 1 to 2^40.
+    ///
+    /// Voters' replies are posted by the calls of members. This call is for a message that comes in
+    /// another way, as one that is repeated, or that a test makes up. Whatever is posted, no two
+    /// members are inside at once: a client takes each vote on the board.
+    pub fn post(&self, rt: &impl Wait, message: ToClient) -> bool
+        ensures mail { result ≡ true → IsMail N.cluster.board message.client message }
         ensures stray { is_stray_reply N.cluster.board message ≡ true → result ≡ false }
     {
         let Some(mailbox) = self.mailboxes.get(usize::from(message.client)) else {
@@ -133,7 +139,7 @@ impl<N: ClusterName> Cluster<N> {
     /// Gives a message to its voter, and the voter's replies to their clients. Each reply is posted
     /// or lost. If the message itself is lost, nothing is posted and that counts as one. `replies`
     /// gets the replies.
-    pub(crate) fn deliver(&self, rt: &impl Wait, message: &ToVoter, replies: &mut Replies) -> Posted
+    fn deliver_into(&self, rt: &impl Wait, message: &ToVoter, replies: &mut Replies) -> Posted
         ensures few { result.lost ≤ most_lost 1 }
         ensures stray { is_stray N.cluster.board message.now ≡ true → result.lost ≡ 1 }
         ensures each { (result ≡ record { posted = 0; lost = 1 })
@@ -147,6 +153,23 @@ impl<N: ClusterName> Cluster<N> {
             return none;
         }
         self.post_each(rt, &line, replies.as_slice())
+    }
+
+    /// Gives a message to its voter, as if its client sent it, and the voter's replies to their
+    /// clients. Returns how many messages are lost: 1 if the voter does not take the message, and
+    /// otherwise the number of its replies that do not get into a mailbox.
+    ///
+    /// The voter does not take a message if the cluster has no such voter or client, if memory runs
+    /// out, or if the message would free a vote that is taken on the board.
+    ///
+    /// Members send their messages themselves. This call is for a message that comes in another
+    /// way, as one that is repeated, or that a test makes up. Whatever is delivered, no two members
+    /// are inside at once.
+    pub fn deliver(&self, rt: &impl Wait, message: &ToVoter) -> u64
+        ensures few { result ≤ most_lost 1 }
+        ensures stray { is_stray N.cluster.board message.now ≡ true → result ≡ 1 }
+    {
+        self.deliver_into(rt, message, &mut Replies::new()).lost
     }
 
     /// Posts the reminders of a voter, and returns how many are lost. If the cluster doesn't have the
@@ -188,7 +211,7 @@ impl<N: ClusterName> Cluster<N> {
         let mut replies = Replies::new();
         let mut lost: u64 = 0;
         for message in messages {
-            lost = lost.saturating_add(self.deliver(rt, message, &mut replies).lost);
+            lost = lost.saturating_add(self.deliver_into(rt, message, &mut replies).lost);
         }
         lost
     }

@@ -84,11 +84,7 @@ mod clerks;
 mod close;
 mod cluster;
 mod fault;
-#[cfg(test)]
-mod forged_tests;
 mod laws;
-#[cfg(test)]
-mod loss_tests;
 mod member;
 mod record;
 

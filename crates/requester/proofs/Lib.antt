@@ -1,7 +1,9 @@
 pub mod Calls
+pub mod Clocks
 pub mod ContractLemmas
 pub mod Dropping
 pub mod Giving
+pub mod Hindered
 pub mod Members
 pub mod RangeLemmas
 pub mod Refusals

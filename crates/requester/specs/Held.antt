@@ -5,7 +5,7 @@ use Rattle.message.specs.declared.message.ClientBody.{ClientBody}
 use Rattle.message.specs.declared.message.ClientBody.TheVariants as tells
 use Rattle.message.specs.declared.message.VoterBody.TheVariants as asks
 use Rattle.requester.specs.declared.state.ClientState.{ClientState}
-use Rattle.requester.specs.Words.{held_of, holds}
+use Rattle.requester.specs.Words.{held_of, holds, is_relinquished, last_of}
 use Rattle.requester.specs.Steps.{Outcome, tell}
 
 -- the vote of the LOCKED is added to the held ones, and no other is
@@ -27,3 +27,12 @@ IsKeptOrGiven x o voter = (held_of o.state voter ≡ held_of x voter) ⊎ IsGive
 -- no vote is held
 abbrev pub HoldsNothing : ClientState → Type 0
 HoldsNothing x = (v : ℕ) → held_of x v ≡ 0
+
+-- What becomes of the mark of a vote that was given back. Its last grant is as before, and a mark
+-- stays unless the vote is held afterwards. Or the vote was held: its grant is now the last one given
+-- back, and the vote is marked.
+abbrev pub KeepsMark : ClientState → ClientState → ℕ → Type 0
+KeepsMark x y voter =
+    ((last_of y voter ≡ last_of x voter)
+    × (is_relinquished x voter ≡ true → (is_relinquished y voter ≡ true) ⊎ (holds y voter ≡ true)))
+    ⊎ ((holds x voter ≡ true) × (last_of y voter ≡ held_of x voter) × (is_relinquished y voter ≡ true))

@@ -1,3 +1,4 @@
+pub mod Clocks
 pub mod Held
 pub mod RequesterContract
 pub mod Saved

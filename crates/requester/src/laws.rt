@@ -1,13 +1,17 @@
 //! Laws: what is proved about the definitions.
-ghost use Rattle.std.specs.Prelude.{◌≡◌, ◌<◌, ◌≤◌, ◌^◌, ℕ, Err, Ok, List, true, false};
-ghost use Rattle.numbers.specs.Bounds.{max_clients, max_stamp};
+ghost use Rattle.std.specs.List.{Contains};
+ghost use Rattle.std.specs.Prelude.{◌≡◌, ◌<◌, ◌≤◌, ◌^◌, ◌∷◌, ℕ, Err, Ok, List, [], true, false};
+ghost use Rattle.numbers.specs.Bounds.{max_clients, max_stamp, max_voters};
+ghost use Rattle.message.specs.declared.message.ClientBody.TheVariants as tells;
 ghost use Rattle.message.specs.declared.message.ToClient.{ToClient};
+ghost use Rattle.message.specs.declared.message.VoterBody.TheVariants as asks;
 ghost use Rattle.requester.specs.declared.state.ClientState.{ClientState};
-ghost use Rattle.requester.specs.Held.{HoldsBesides, HoldsNothing, IsKeptOrGiven};
+ghost use Rattle.requester.specs.Clocks.{KeepsTime};
+ghost use Rattle.requester.specs.Held.{HoldsBesides, HoldsNothing, IsGivenBack, IsKeptOrGiven, KeepsMark};
 ghost use Rattle.requester.specs.RequesterContract.{Accepts, AllInRange, AllRepeat, ComesInRange, MeetsContract, RemindersInRange};
 ghost use Rattle.requester.specs.Soundness.{HoldsOfMembers, IsSound};
-ghost use Rattle.requester.specs.Steps.{Cause, Outcome, ask, asked, give_up, leave, released, remind, start, step, take, would_hold};
-ghost use Rattle.requester.specs.Words.{holds, is_asking, is_idle, is_inside, is_member, is_spent};
+ghost use Rattle.requester.specs.Steps.{Cause, Outcome, ask, asked, give_up, leave, released, remind, see, start, step, take, tell, would_hold};
+ghost use Rattle.requester.specs.Words.{held_of, holds, is_asking, is_current, is_hindered, is_idle, is_inside, is_member, is_relinquished, is_spent, last_of};
 
 use crate::fault::ClientFault;
 use crate::state::Seen;
@@ -80,4 +84,44 @@ pub fn phases_tell_refusals()
     ensures left { (x : ClientState) → is_inside x.phase ≡ true → leave x ≡ Ok (released x Seen.Left) }
     ensures not_asking { (x : ClientState) → is_asking x.phase ≡ false → give_up x ≡ Err ClientFault.NotAsking }
     ensures given_up { (x : ClientState) → is_asking x.phase ≡ true → give_up x ≡ Ok (released x Seen.Nothing) }
+{}
+
+/// The clock never falls, and it isn't behind the highest stamp that a message's voter saw. The stamp
+/// of a new request is greater than the clock was.
+pub fn clocks_never_fall()
+    ensures { (x : ClientState) (cause : Cause) (o : Outcome) → IsSound x → step x cause ≡ Ok o
+        → KeepsTime x cause o.state }
+{}
+
+/// A vote for a request that is over goes back by RELEASE, and nothing else changes but the clock.
+pub fn old_votes_go_back()
+    ensures { (x : ClientState) (m : ToClient) (stamp grant : ℕ) → m.body ≡ tells.Locked stamp grant
+        → is_current x stamp ≡ false
+        → take x m ≡ record { out = tell x m.voter (asks.Release stamp) ∷ []; seen = Seen.Nothing; state = see x m.seen } }
+{}
+
+/// A vote that was given back stays marked until it is held again, and its grant is the last one given
+/// back.
+pub fn votes_given_back_are_marked()
+    ensures { (x : ClientState) (m : ToClient) (v : ℕ) → IsSound x → v < max_voters → KeepsMark x (take x m).state v }
+{}
+
+/// A FAIL of a member whose vote is not held hinders the request that runs. A client that is hindered
+/// gives a vote back when its voter asks for it.
+pub fn hindered_clients_give_votes_back()
+    ensures hinders { (x : ClientState) (m : ToClient) → IsSound x → is_asking x.phase ≡ true
+        → is_member x m.voter ≡ true → holds x m.voter ≡ false → m.body ≡ tells.Fail x.stamp
+        → is_hindered (take x m).state ≡ true }
+    ensures gives { (x : ClientState) (m : ToClient) → IsSound x → is_asking x.phase ≡ true → holds x m.voter ≡ true
+        → is_hindered x ≡ true → m.voter < max_voters → m.body ≡ tells.Inquire (held_of x m.voter)
+        → IsGivenBack x (take x m) m.voter × (is_relinquished (take x m).state m.voter ≡ true) }
+{}
+
+/// A reminder asks each member again whose vote is not held. If the vote was given back, it gives it
+/// back again.
+pub fn reminders_ask_again()
+    ensures asks { (x : ClientState) (v : ℕ) → is_asking x.phase ≡ true → is_member x v ≡ true → holds x v ≡ false
+        → Contains (remind x) (tell x v (asks.Request x.stamp)) }
+    ensures gives { (x : ClientState) (v : ℕ) → is_asking x.phase ≡ true → is_member x v ≡ true → holds x v ≡ false
+        → is_relinquished x v ≡ true → Contains (remind x) (tell x v (asks.Relinquish (last_of x v))) }
 {}

@@ -74,8 +74,10 @@ mod state;
 
 pub use fault::ClientFault;
 pub use laws::{
-    messages_are_in_range, messages_move_votes, phases_tell_refusals, phases_tell_votes,
-    requesters_meet_the_contract, requesters_stay_sound,
+    clocks_never_fall, hindered_clients_give_votes_back, messages_are_in_range,
+    messages_move_votes, old_votes_go_back, phases_tell_refusals, phases_tell_votes,
+    reminders_ask_again, requesters_meet_the_contract, requesters_stay_sound,
+    votes_given_back_are_marked,
 };
 pub use requester::Requester;
 pub use saved::{SAVED_WORDS, SavedWords};

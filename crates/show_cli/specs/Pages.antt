@@ -6,12 +6,12 @@ use Rattle.coterie_file.specs.Named.{NamedSystem}
 use Rattle.dealer.specs.Accounts.{account_of}
 use Rattle.dealer.specs.Offices.{receipt_of}
 use Rattle.dealer.specs.declared.receipt.Receipt.{Receipt}
-use Rattle.explanations.specs.Texts.{text_of}
+use Rattle.show_faults.specs.Texts.{text_of}
 use Rattle.replay.specs.Scripts.{IsScript, Script, script_text}
-use Rattle.shown.specs.Lines.{names_text}
-use Rattle.shown.specs.Plans.{IsPlanPage}
-use Rattle.shown.specs.Worlds.{IsWorldPage}
-use Rattle.svg.specs.Pictures.{IsEnded}
+use Rattle.show_words.specs.Lines.{names_text}
+use Rattle.show_words.specs.Plans.{IsPlanPage}
+use Rattle.show_words.specs.Worlds.{IsWorldPage}
+use Rattle.show_svg.specs.Pictures.{IsEnded}
 use Rattle.qlock_cli.specs.Commands.{IsRefusedBy, Refuses, account_text, planned_in, ratio_part, reads_input, staged_in}
 use Rattle.qlock_cli.specs.declared.answer.Planned.{Planned}
 use Rattle.qlock_cli.specs.declared.fault.Fault.{Fault}

@@ -1,6 +1,6 @@
 //! The commands of the program.
-use explanations::Explanation;
 use qlock_cli::Command;
+use show_faults::Explanation;
 
 /// What a picture shows.
 #[derive(Clone, Copy, Debug, PartialEq, Eq)]

@@ -1,9 +1,9 @@
 //! What each command writes for its input.
 ghost use Rattle.std.specs.Prelude.{◌≡◌, ◌≤◌, ◌++◌, IfErr, IfOk, Ok, OnOk, codes, string_bytes};
 ghost use Rattle.std.specs.List.{flat_map};
-ghost use Rattle.explanations.specs.Texts.{text_of};
+ghost use Rattle.show_faults.specs.Texts.{text_of};
 ghost use Rattle.replay.specs.Scripts.{IsScript, script_text};
-ghost use Rattle.shown.specs.Lines.{names_text};
+ghost use Rattle.show_words.specs.Lines.{names_text};
 ghost use Rattle.qlock_cli.specs.Commands.{IsInRange, IsRefusedBy, staged_in};
 ghost use Rattle.qlock_cli.specs.Devices.{IsOwn};
 ghost use Rattle.show_cli.specs.Commands.{IsShown};
@@ -13,13 +13,13 @@ use crate::command::{Picture, ShowCommand};
 use crate::faults::fault_page;
 use coterie_file::Named;
 use dealer::Receipt;
-use explanations::{Explanation, explanation_text};
-use plan_pictures::{cycle_picture, load_picture};
 use qlock_cli::{Command, Fault, Planned, dealt, planned_of, push_account, push_ratio, staged_of};
 use replay::{Script, read_script};
-use shown::{plan_words, push_members, world_words};
+use show_faults::{Explanation, explanation_text};
+use show_plans::{cycle_picture, load_picture};
+use show_words::{plan_words, push_members, world_words};
+use show_worlds::world_picture;
 use std::alloc::{AllocError, Global};
-use world_pictures::world_picture;
 
 /// Appends the names of a quorum's members, if there is a quorum of this number.
 fn push_asked(text: &mut String, named: &Named, quorum: usize) -> Result<(), AllocError>

@@ -6,8 +6,8 @@ ghost use Rattle.qlock_cli.specs.Commands.{IsInRange};
 use crate::command::{Picture, ShowCommand};
 use clap::builder::ValueParser;
 use clap::{Arg, ArgMatches};
-use explanations::explanation_of;
 use qlock_cli::{Command, Usage, named_commands_are_in_range, read_words};
+use show_faults::explanation_of;
 use std::alloc::{AllocError, Global};
 
 /// The greatest number of tickets that one call deals.

@@ -1,14 +1,25 @@
-//! Two wrong rules of a voting lock, and for each a history in which two clients are inside at once.
+//! Wrong rules of a voting lock, and for each a history that a law of `world` or `progress` excludes.
 //! This crate has nothing but tests.
 //!
 //! A wrong rule inside `voter` or `requester` is refused by the prover in those crates. These tests
-//! show that exclusion itself depends on the rules: `world`'s theorem has no place for an automaton
-//! with another rule. They play the proved automata, and change what these receive:
+//! show that the laws themselves depend on the rules: they have no place for an automaton with another
+//! rule. The tests play the proved automata, and change what these receive. With two wrong rules, two
+//! clients are inside at once:
 //!
 //! - a voter that frees its vote on any RELEASE of the client that has it, whatever the stamp;
 //! - a client that counts a repeated LOCKED of a vote that it gave back.
 //!
-//! With the right rules each history has one client inside at most.
+//! With a third one, a client enters three times before a request that every voter of its quorum
+//! knows:
+//!
+//! - a client whose clock does not follow the stamps that its voters saw.
+//!
+//! With a fourth one, a vote whose RELEASE was lost does not come back by reminders:
+//!
+//! - a client that takes no messages while it is idle.
+//!
+//! With the right rules each history has one client inside at most, and two entries before such a
+//! request, and the vote comes back.
 #![tactic(auto)]
 
 #[cfg(test)]

@@ -19,6 +19,10 @@ pub(crate) enum Rule {
     AnyReleaseFrees,
     /// A repeated LOCKED of a vote that was given back counts.
     VoteGivenBackCounts,
+    /// A client's clock does not follow the stamps that its voters saw.
+    ClockIgnoresVoters,
+    /// A client that is idle takes no messages.
+    IdleClientIsDeaf,
 }
 
 /// A step of the world. Clients and messages are numbered from 0.
@@ -32,6 +36,8 @@ pub(crate) enum Step {
     Leave(u8),
     /// A client gives up.
     GiveUp(u8),
+    /// A voter is reminded.
+    RemindVoter(u8),
 }
 
 /// Three voters, three clients, and all messages that were sent.
@@ -77,6 +83,9 @@ fn for_client(rule: Rule, client: &Requester, message: ToClient) -> ToClient
     ensures voter { result.voter ≡ message.voter }
     ensures client { result.client ≡ message.client }
 {
+    if rule == Rule::ClockIgnoresVoters {
+        return ToClient { seen: 0, ..message };
+    }
     match message.body {
         ClientBody::Locked { stamp, grant }
             if rule == Rule::VoteGivenBackCounts && !client.would_hold(&message) => {
@@ -112,6 +121,14 @@ fn tell_voter(
     Ok(())
 }
 
+/// Keeps what a voter sends again.
+fn remind(voter: &Voter, sent: &mut Vec<Message>) -> Result<(), AllocError> {
+    for reply in voter.remind().as_slice() {
+        sent.push(Message::ToClient(*reply))?;
+    }
+    Ok(())
+}
+
 /// Keeps what a client sends.
 fn keep(reply: &Reply, sent: &mut Vec<Message>) -> Result<(), AllocError> {
     for message in reply.out.as_slice() {
@@ -131,6 +148,9 @@ fn tell_client(
     requires voter { message.voter < 64 }
     ensures id { client.new.id ≡ client.old.id }
 {
+    if rule == Rule::IdleClientIsDeaf && client.phase() == Phase::Idle {
+        return Ok(());
+    }
     let message = for_client(rule, client, message);
     let reply = client.take(&message);
     keep(&reply, sent)
@@ -154,7 +174,7 @@ fn call(client: &mut Requester, step: Step, sent: &mut Vec<Message>) -> Result<(
         }
         Step::Leave(_) => client.leave(),
         Step::GiveUp(_) => client.give_up(),
-        Step::Deliver(_) => return Ok(()),
+        Step::Deliver(_) | Step::RemindVoter(_) => return Ok(()),
     };
     match called {
         Ok(reply) => keep(&reply, sent),
@@ -229,6 +249,15 @@ impl Play {
         }
     }
 
+    fn remind_voter(&mut self, voter: u8) -> Result<(), AllocError> {
+        match voter {
+            0 => remind(&self.voter_0, &mut self.sent),
+            1 => remind(&self.voter_1, &mut self.sent),
+            2 => remind(&self.voter_2, &mut self.sent),
+            _ => Ok(()),
+        }
+    }
+
     fn call(&mut self, client: u8, step: Step) -> Result<(), AllocError> {
         match client {
             0 => call(&mut self.client_0, step, &mut self.sent),
@@ -245,6 +274,7 @@ impl Play {
                 self.call(client, step)
             }
             Step::Deliver(number) => self.deliver(number),
+            Step::RemindVoter(voter) => self.remind_voter(voter),
         }
     }
 
@@ -255,5 +285,26 @@ impl Play {
             self.most_inside = self.most_inside.max(self.inside());
         }
         Ok(self.most_inside)
+    }
+
+    /// Makes these steps in order, and returns how often client 0 entered.
+    pub(crate) fn entries_of_0(&mut self, steps: &[Step]) -> Result<usize, AllocError> {
+        let mut entries: usize = 0;
+        for step in steps {
+            let before = self.client_0.phase();
+            self.step(*step)?;
+            if before != Phase::Inside && self.client_0.phase() == Phase::Inside {
+                entries = entries.saturating_add(1);
+            }
+        }
+        Ok(entries)
+    }
+
+    /// Makes these steps in order, and returns whether client 1 is inside afterwards.
+    pub(crate) fn lets_1_in(&mut self, steps: &[Step]) -> Result<bool, AllocError> {
+        for step in steps {
+            self.step(*step)?;
+        }
+        Ok(self.client_1.phase() == Phase::Inside)
     }
 }

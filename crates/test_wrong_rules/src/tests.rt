@@ -1,5 +1,5 @@
-//! Two histories, each with the right rules and with a wrong one.
-use crate::play::Step::{Ask, Deliver, GiveUp, Leave};
+//! Histories, each with the right rules and with a wrong one.
+use crate::play::Step::{Ask, Deliver, GiveUp, Leave, RemindVoter};
 use crate::play::{Play, Rule, Step};
 use std::alloc::{AllocError, Global};
 use std::test::Fail;
@@ -52,6 +52,89 @@ const LATE_VOTE: [Step; 18] = [
     Deliver(5),
 ];
 
+/// Client 1 asks and gives up three times, and asks with stamp 4. Client 0 gets both votes with stamp 1
+/// (messages 16 and 17). Then both voters know client 1's request.
+const KNOWN_EVERYWHERE: [Step; 12] = [
+    Ask(1, 0, 1),
+    GiveUp(1),
+    Ask(1, 0, 1),
+    GiveUp(1),
+    Ask(1, 0, 1),
+    GiveUp(1),
+    Ask(1, 0, 1),
+    Ask(0, 0, 1),
+    Deliver(14),
+    Deliver(15),
+    Deliver(12),
+    Deliver(13),
+];
+
+/// Client 0 enters and leaves, and asks again at once, while client 1 waits. Both voters give client 1
+/// their votes (messages 22 and 23, then 34 and 35), ask for them back, and get them back.
+const OVERTAKEN: [Step; 32] = [
+    Deliver(16),
+    Deliver(17),
+    Deliver(18),
+    Deliver(19),
+    Leave(0),
+    Deliver(20),
+    Deliver(21),
+    Ask(0, 0, 1),
+    Deliver(24),
+    Deliver(25),
+    Deliver(22),
+    Deliver(26),
+    Deliver(28),
+    Deliver(23),
+    Deliver(27),
+    Deliver(30),
+    Deliver(29),
+    Deliver(31),
+    Leave(0),
+    Deliver(32),
+    Deliver(33),
+    Ask(0, 0, 1),
+    Deliver(36),
+    Deliver(37),
+    Deliver(34),
+    Deliver(38),
+    Deliver(40),
+    Deliver(35),
+    Deliver(39),
+    Deliver(42),
+    Deliver(41),
+    Deliver(43),
+];
+
+/// Client 0 enters and leaves, and its RELEASEs (messages 4 and 5) are lost. Client 1 asks. The voters
+/// are reminded: the answers to their LOCKEDs (messages 10 and 11) are the RELEASEs 12 and 13.
+const LOST_RELEASES: [Step; 17] = [
+    Ask(0, 0, 1),
+    Deliver(0),
+    Deliver(1),
+    Deliver(2),
+    Deliver(3),
+    Leave(0),
+    Ask(1, 0, 1),
+    Deliver(6),
+    Deliver(7),
+    RemindVoter(0),
+    RemindVoter(1),
+    Deliver(10),
+    Deliver(11),
+    Deliver(12),
+    Deliver(13),
+    Deliver(14),
+    Deliver(15),
+];
+
+/// Returns how often client 0 enters while both voters know client 1's request.
+fn overtakes(alloc: Global, rule: Rule) -> Result<usize, AllocError> {
+    let mut play = Play::new(alloc, rule);
+    play.most_inside(&KNOWN_EVERYWHERE)?;
+    play.entries_of_0(&OVERTAKEN)
+}
+
 /// Returns the most clients that are inside at once.
 fn most_inside(alloc: Global, rule: Rule, steps: &[Step]) -> Result<usize, AllocError> {
     Play::new(alloc, rule).most_inside(steps)
@@ -74,5 +157,23 @@ fn a_client_that_counts_a_vote_given_back_gets_in_beside_another(
     let sound = most_inside(rt.alloc(), Rule::Sound, &LATE_VOTE)?;
     let wrong = most_inside(rt.alloc(), Rule::VoteGivenBackCounts, &LATE_VOTE)?;
     assert!(rt; (sound == 1) & (wrong == 2));
+    Ok(())
+}
+
+#[test]
+fn a_client_whose_clock_ignores_its_voters_overtakes_three_times(
+    rt: HostRuntime,
+) -> Result<(), Fail> {
+    let sound = overtakes(rt.alloc(), Rule::Sound)?;
+    let wrong = overtakes(rt.alloc(), Rule::ClockIgnoresVoters)?;
+    assert!(rt; (sound == 2) & (wrong == 3));
+    Ok(())
+}
+
+#[test]
+fn an_idle_client_that_takes_no_messages_keeps_another_out(rt: HostRuntime) -> Result<(), Fail> {
+    let sound = Play::new(rt.alloc(), Rule::Sound).lets_1_in(&LOST_RELEASES)?;
+    let wrong = Play::new(rt.alloc(), Rule::IdleClientIsDeaf).lets_1_in(&LOST_RELEASES)?;
+    assert!(rt; sound & !wrong);
     Ok(())
 }

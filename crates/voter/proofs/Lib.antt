@@ -1,5 +1,8 @@
+pub mod AskedBack
 pub mod Contract
 pub mod Effects
+pub mod Finished
+pub mod Freeing
 pub mod Front
 pub mod Grants
 pub mod KeptLemmas
@@ -8,3 +11,5 @@ pub mod Queues
 pub mod ReplyLemmas
 pub mod SavedLemmas
 pub mod Soundness
+pub mod Standing
+pub mod Staying

@@ -69,7 +69,7 @@ orderly-released_by false true v c s h = record {
 }
 orderly-released_by false false v c s h = record { numbered = h.numbered; apart = h.apart; free = h.free }
 
-orderly-released : (v : VoterState) (c s : ℕ) → IsOrderly v → IsOrderly (released v c s).state
+pub orderly-released : (v : VoterState) (c s : ℕ) → IsOrderly v → IsOrderly (released v c s).state
 unfolding released
 orderly-released v c s h = orderly-released_by _ _ v c s h
 

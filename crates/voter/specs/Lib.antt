@@ -1,3 +1,4 @@
+pub mod Entries
 pub mod Replies
 pub mod Saved
 pub mod Steps

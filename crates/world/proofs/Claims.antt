@@ -18,7 +18,8 @@ use Rattle.voter.specs.VoterContract.{Ends, IsEntry}
 use Rattle.requester.specs.declared.state.ClientState.{ClientState}
 use Rattle.requester.specs.RequesterContract.{IsLater, IsLive}
 use Rattle.requester.specs.Soundness as sound
-use Rattle.requester.specs.Words.{is_idle, members, holds_under, last_of}
+use Rattle.requester.specs.Words.{is_idle, members, last_of}
+pub use Rattle.world.specs.Coherence.{Names, AskOk, TellOk, MessageOk, HeldOk}
 use Rattle.world.specs.Ranges.{AreInRange, IsWithin}
 use Rattle.world.specs.Visible.{IsAmong}
 
@@ -28,29 +29,6 @@ pub record Bounds : Type 0 where
   pub clients : ℕ
   pub limit : ℕ
   pub quorums : List (List ℕ)
-
-abbrev pub Names : Option Grant → ℕ → ℕ → ℕ → Type 0
-Names held client stamp grant = held ≡ Some (record { client = client; stamp = stamp; grant = grant })
-
--- what is so of a message to a voter, by the client that sent it
-abbrev pub AskOk : ClientState → ℕ → VoterBody → Type 0
-AskOk x voter (asks.Request stamp) = stamp ≤ x.stamp
-AskOk x voter (asks.Relinquish grant) = grant ≤ last_of x voter
-AskOk x voter (asks.Release stamp) = (stamp ≤ x.stamp) × (is_idle x.phase ≡ false → stamp < x.stamp)
-
--- what is so of a message to a client, by the client and the voter's vote
-abbrev pub TellOk : ClientState → Option Grant → ℕ → ℕ → ClientBody → Type 0
-TellOk x held voter client (tells.Locked stamp grant) = (stamp ≤ x.stamp) × (IsLive x voter stamp grant → Names held client stamp grant)
-TellOk x held voter client (tells.Fail stamp) = Unit {0}
-TellOk x held voter client (tells.Inquire grant) = Unit {0}
-
-abbrev pub MessageOk : (ℕ → ClientState) → (ℕ → VoterState) → Message → Type 0
-MessageOk X Y (kinds.ToVoter m) = AskOk (X m.client) m.voter m.body
-MessageOk X Y (kinds.ToClient m) = TellOk (X m.client) (Y m.voter).held m.voter m.client m.body
-
--- a held vote is the voter's
-abbrev pub HeldOk : (ℕ → ClientState) → (ℕ → VoterState) → Type 0
-HeldOk X Y = (c v g : ℕ) → holds_under (X c) v g ≡ true → Names (Y v).held c (X c).stamp g
 
 pub record ClientOk (b : Bounds) (x : ClientState) : Type 0 where
   pub sound : sound.IsSound x

@@ -77,7 +77,7 @@ has_below n (x ∷ xs) v all is = elim (eqb x v) as (λ b. eqb x v ≡ b → (b 
   | false ↦ λ _ rest. has_below n xs v all.1 rest
 ] refl is
 
-member_below : (b : Bounds) → DoMeet b.voters b.quorums → (x : ClientState) → (members x ≡ []) ⊎ IsAmong b.quorums (members x) → (v : ℕ) → is_member x v ≡ true → v < b.voters
+pub member_below : (b : Bounds) → DoMeet b.voters b.quorums → (x : ClientState) → (members x ≡ []) ⊎ IsAmong b.quorums (members x) → (v : ℕ) → is_member x v ≡ true → v < b.voters
 member_below b meet x quorum v is = elim quorum [
   | inl none ↦ absurd (false≢true (ap (λ (q : List ℕ). has q v) (sym none) ∙ is))
   | inr j ↦ has_below b.voters (members x) v (recursion_from_All (λ i. i < b.voters) (members x) (subst (λ (q : List ℕ). All (λ i. i < b.voters) q) (sym j.2) (meet.in_range j.0 [] j.1))) is

@@ -1,5 +1,5 @@
 -- what is seen of clients that step one at a time
-use Rattle.std.proofs.Common.{◌≡◌, ℕ, Bool, true, false, cond, List, [], ◌∷◌, ◌++◌, length, Option, Some, None, refl, sym, ap, subst, ◌∙◌, inl, inr, arith, eqb}
+use Rattle.std.proofs.Common.{◌≡◌, ℕ, ◌<◌, Bool, true, false, cond, List, [], ◌∷◌, ◌++◌, length, Option, Some, None, refl, sym, ap, subst, ◌∙◌, inl, inr, arith, eqb}
 use Rattle.std.specs.Prelude.{◌||◌}
 use Rattle.std.specs.List.{list_all}
 use Rattle.std.proofs.lemmas.Bool.{false≢true}
@@ -30,7 +30,7 @@ list_all-holds x (u ∷ us) v all is = elim (eqb u v) as (λ b. eqb u v ≡ b �
   | false ↦ λ _ rest. list_all-holds x us v (grind (arith, nat_tests)) rest
 ] refl is
 
-held_under : (x : ClientState) (v : ℕ) → holds x v ≡ true → holds_under x v (held_of x v) ≡ true
+pub held_under : (x : ClientState) (v : ℕ) → holds x v ≡ true → holds_under x v (held_of x v) ≡ true
 held_under x v is = grind (arith, nat_tests)
 
 pub is_idle-inside : (p : Phase) → is_inside p ≡ true → is_idle p ≡ false
@@ -44,19 +44,29 @@ quorum_inside b x ok inside = elim ok.quorum [
   | inr among ↦ among
 ]
 
+-- two clients that are inside, perhaps at different times, have the vote of one voter
+pub common_vote : (b : Bounds) → DoMeet b.voters b.quorums → (x y : ClientState) → ClientOk b x → ClientOk b y → is_inside x.phase ≡ true → is_inside y.phase ≡ true
+    → (v : ℕ) × (v < b.voters) × (holds x v ≡ true) × (holds y v ≡ true)
+common_vote b meet x y ok_x ok_y in_x in_y =
+    let j = quorum_inside b x ok_x in_x in
+    let k = quorum_inside b y ok_y in_y in
+    let both = meet.meets j.0 k.0 j.1 k.1 in
+    let v = both.0 in (
+      v,
+      both.1,
+      list_all-holds x (members x) v (ok_x.sound.inside in_x) (ap (λ (q : List ℕ). has q v) j.2 ∙ both.2),
+      list_all-holds y (members y) v (ok_y.sound.inside in_y) (ap (λ (q : List ℕ). has q v) k.2 ∙ both.3),
+    )
+
 same_holder : (held : Option Grant) (c d s t g h : ℕ) → Names held c s g → Names held d t h → c ≡ d
 same_holder held c d s t g h a b = ap (λ (k : Grant). k.client) (same_Some _ _ (sym a ∙ b))
 
 pub one_inside : (b : Bounds) → DoMeet b.voters b.quorums → (X : ℕ → ClientState) (Y : ℕ → VoterState) (sent : List Message) → WorldOk b X Y sent
     → (c d : ℕ) → is_inside (X c).phase ≡ true → is_inside (X d).phase ≡ true → c ≡ d
 one_inside b meet X Y sent ok c d in_c in_d =
-    let j = quorum_inside b (X c) (ok.clients c) in_c in
-    let k = quorum_inside b (X d) (ok.clients d) in_d in
-    let both = meet.meets j.0 k.0 j.1 k.1 in
+    let both = common_vote b meet (X c) (X d) (ok.clients c) (ok.clients d) in_c in_d in
     let v = both.0 in
-    let holds_c = list_all-holds (X c) (members (X c)) v ((ok.clients c).sound.inside in_c) (ap (λ (q : List ℕ). has q v) j.2 ∙ both.2) in
-    let holds_d = list_all-holds (X d) (members (X d)) v ((ok.clients d).sound.inside in_d) (ap (λ (q : List ℕ). has q v) k.2 ∙ both.3) in
-    same_holder (Y v).held c d _ _ _ _ (ok.held c v _ (held_under (X c) v holds_c)) (ok.held d v _ (held_under (X d) v holds_d))
+    same_holder (Y v).held c d _ _ _ _ (ok.held c v _ (held_under (X c) v both.2)) (ok.held d v _ (held_under (X d) v both.3))
 
 -- ---- the visible list
 

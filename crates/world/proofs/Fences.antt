@@ -1,7 +1,8 @@
 -- The numbers of a voter's grants rise, also over restarts. So whoever has a vote later has it by a
 -- greater number, unless it is the same request of the same client.
-use Rattle.std.proofs.Common.{◌≡◌, ℕ, ◌+◌, ◌<◌, Bool, true, false, List, [], ◌∷◌, map, Option, Some, None, Result, Ok, Err, refl, sym, ap, subst, ◌∙◌, ◌⊎◌, inl, inr, arith}
+use Rattle.std.proofs.Common.{◌≡◌, ℕ, ◌+◌, ◌<◌, ◌≤◌, Bool, true, false, List, [], ◌∷◌, map, Option, Some, None, Result, Ok, Err, refl, sym, ap, subst, ◌∙◌, ◌⊎◌, inl, inr, arith}
 use Rattle.std.specs.Prelude.{is_some, length, nat_lt, slice_get, slice_set}
+use Rattle.std.proofs.lemmas.Bool.Decides.{nat_tests}
 use Rattle.std.proofs.lemmas.Option.{none-some, same_Some}
 use Rattle.std.proofs.lemmas.List.{set_past}
 use Rattle.message.specs.declared.message.ToVoter.{ToVoter}
@@ -14,18 +15,20 @@ use Rattle.voter.specs.Steps as voter
 use Rattle.voter.specs.VoteMoves.{VoteMoves, GrantIsNew}
 use Rattle.requester.specs.declared.fault.ClientFault.{ClientFault}
 use Rattle.requester.specs.Steps as client
-use Rattle.requester.specs.Words.{holds_under}
+use Rattle.requester.specs.declared.state.ClientState.{ClientState}
+use Rattle.requester.specs.Words.{held_of, holds, holds_under}
 use Rattle.quorum_set.specs.declared.bridge.Side.{Side}
 use Rattle.quorum_set.specs.declared.bridge.Side.TheVariants.{First, Second}
 use Rattle.world.specs.declared.fault.WorldFault.{WorldFault}
 use Rattle.world.specs.declared.step.Step.{Step}
 use Rattle.world.specs.declared.step.Step.TheVariants.{Ask, Deliver, Leave, GiveUp, RemindClient, RemindVoter, Exchange}
-use Rattle.world.specs.Restarts.{Node, OneClient, OneVoter, Nobody, Saved, Happening, Goes, Saves, Forgets, Restarts, HasVote, stamp_of, forget, come_back, if_there, is_silent, maker, save, restart, save_unless, gone, happens, all_happen, begin}
+use Rattle.world.specs.Restarts.{Node, OneClient, OneVoter, Nobody, Saved, Happening, Goes, Saves, Forgets, Restarts, HasVote, IsIn, IsNewer, IsSameRequest, pass_of, stamp_of, forget, come_back, if_there, is_silent, maker, save, restart, save_unless, gone, happens, all_happen, begin}
 use Rattle.world.specs.Runs.{AreLimits, start}
 use Rattle.world.specs.Steps.{Dealing, Outcome, WorldState, act, after_client, ask, next_ticket, quorum_dealt, say, after_voter, client_at, come, draw_of, exchange, if_client, if_voter, step, voter_at}
 use Rattle.world.specs.Visible.{DealsFrom, DoMeet}
 use Rattle.world.proofs.Known.{ClientLaws, VoterLaws}
 use Rattle.world.proofs.Claims.{Bounds, Names, put-each}
+use Rattle.world.proofs.Exclusion.{common_vote, held_under}
 use Rattle.world.proofs.Places.{voter_at-set}
 use Rattle.world.proofs.Reached.{Given, start_unused}
 use Rattle.world.proofs.Restarts.{SavedOk, all_ok, begin_ok, happens_ok, live_ok, within_or}
@@ -228,3 +231,32 @@ later_votes cs vs voters clients limit quorums deal before after c d v g n limit
     let was_after = lasts_over_all (WasGivenBy v held) (given_lasts vs v held) b given deal deals after s ok was in
     let named_after : Names (voter_at t.live.voters v).held d (stamp_of t d) n = (live_ok b t ok_after).held d v n second in
     later_or_same c (stamp_of s c) g d (stamp_of t d) n (voter_at t.live.voters v) (was_after.0 v refl) named_after (latest_after.0 v (grant_of d (stamp_of t d) n) named_after)
+
+-- ---- two passes
+
+has_grant : (x : ClientState) (v : ℕ) → holds x v ≡ true → 1 ≤ held_of x v
+has_grant x v is = grind (arith, nat_tests)
+
+pub later_passes : ClientLaws → VoterLaws → (voters clients limit : ℕ) (quorums : List (List ℕ)) (deal : Dealing) (before after : List Happening) (c d : ℕ)
+    → AreLimits voters clients limit → DoMeet voters quorums → DealsFrom quorums deal
+    → IsIn (all_happen deal before (begin voters clients limit)) c
+    → IsIn (all_happen deal after (all_happen deal before (begin voters clients limit))) d
+    → IsSameRequest (all_happen deal before (begin voters clients limit)) c (all_happen deal after (all_happen deal before (begin voters clients limit))) d
+    ⊎ IsNewer (pass_of (all_happen deal before (begin voters clients limit)) c) (pass_of (all_happen deal after (all_happen deal before (begin voters clients limit))) d)
+later_passes cs vs voters clients limit quorums deal before after c d limits meets deals in_c in_d =
+    let b : Bounds = record { voters = voters; clients = clients; limit = limit; quorums = quorums } in
+    let given : Given b = record { client = cs; voter = vs; limits = limits; meet = meets } in
+    let s = all_happen deal before (begin voters clients limit) in
+    let t = all_happen deal after s in
+    let ok = all_ok b given deal deals before (begin voters clients limit) (begin_ok b given) in
+    let ok_after = all_ok b given deal deals after s ok in
+    let x = client_at s.live.clients c in
+    let y = client_at t.live.clients d in
+    let both = common_vote b meets x y ((live_ok b s ok).clients c) ((live_ok b t ok_after).clients d) in_c in_d in
+    let v = both.0 in
+    let within : v < voters = both.1 in
+    let few = limits.few_voters in
+    elim (later_votes cs vs voters clients limit quorums deal before after c d v (held_of x v) (held_of y v) limits meets deals (held_under x v both.2) (held_under y v both.3)) [
+      | inl less ↦ inr (v, omega arith, has_grant x v both.2, less)
+      | inr same ↦ inl (same.0, same.1)
+    ]

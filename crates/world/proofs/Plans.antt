@@ -18,6 +18,7 @@ use Rattle.certificate.specs.Certificates.{Weighted, IsCertificate}
 use Rattle.dealer.specs.Cycles.{quorum_of_ticket}
 use Rattle.dealer.specs.Plans.{coteries_of}
 use Rattle.world.specs.declared.step.Step.{Step}
+use Rattle.world.specs.Coherence.{IsCoherent}
 use Rattle.world.specs.Ranges.{IsInRange, IsSound, IsWithin, TellsWithin}
 use Rattle.world.specs.Runs.{AreLimits, IsReached, after, run_of, start, start_by}
 use Rattle.world.specs.declared.fault.WorldFault.{WorldFault}
@@ -125,6 +126,17 @@ IsSound-reached laws w r =
     (laws.sound voters r.clients r.limit (quorums_of w.plans.first w.plans.second) (dealing_of w.plans) r.steps r.limits
     (plans_meet laws.meet laws.bridges w.plans.first r.plans.first w.plans.second r.plans.second)
     (plans_deal laws.name w.plans.first r.plans.first w.plans.second r.plans.second))
+
+abbrev pub AllCoherent : Type 0
+AllCoherent = (voters clients limit : ℕ) (quorums : List (List ℕ)) (deal : Dealing) (steps : List Step) → AreLimits voters clients limit → DoMeet voters quorums → DealsFrom quorums deal
+    → IsCoherent (run_of deal steps (start voters clients limit))
+
+pub IsCoherent-reached : AllCoherent → AllCoteriesMeet → AllBridgesMeet → AllNameQuorums → (w : Planned) → IsReached w → IsCoherent w.state
+IsCoherent-reached coherent meet bridges name w r =
+    subst (λ (u : WorldState). IsCoherent u) (sym r.state)
+    (coherent w.plans.first.system.voters r.clients r.limit (quorums_of w.plans.first w.plans.second) (dealing_of w.plans) r.steps r.limits
+    (plans_meet meet bridges w.plans.first r.plans.first w.plans.second r.plans.second)
+    (plans_deal name w.plans.first r.plans.first w.plans.second r.plans.second))
 
 pub HasLine-reached : WorldLaws → (w : Planned) → IsReached w → AllByRecursion HasLine w.state.sent
 HasLine-reached laws w r =

@@ -22,7 +22,7 @@ use Rattle.requester.specs.declared.fault.ClientFault.{ClientFault}
 use Rattle.requester.specs.declared.state.ClientState.{ClientState}
 use Rattle.requester.specs.RequesterContract.{Accepts, IsLive, Locks}
 use Rattle.requester.specs.Steps as client
-use Rattle.requester.specs.Words.{is_inside, held_of, holds_under}
+use Rattle.requester.specs.Words.{is_idle, is_inside, held_of, holds_under, members}
 use Rattle.quorum_set.specs.declared.bridge.Side.{Side}
 use Rattle.quorum_set.specs.declared.bridge.Side.TheVariants.{First, Second}
 use Rattle.world.specs.declared.fault.WorldFault.{WorldFault}
@@ -33,8 +33,9 @@ use Rattle.world.specs.Runs.{AreLimits, DrawsInOrder, after, run_of, start}
 use Rattle.world.specs.Steps.{WorldState, Dealing, Outcome, after_client, after_voter, client_at, client_did, come, draw_of, events, exchange, if_client, if_voter, next_ticket, quorum_dealt, step, voter_at}
 use Rattle.world.specs.Visible.{DealsFrom, DoMeet, IsAmong}
 use Rattle.world.proofs.Known.{ClientLaws, VoterLaws}
+use Rattle.world.specs.Coherence.{IsCoherent}
 use Rattle.world.proofs.Claims.{Bounds, Names, AskOk, TellOk, MessageOk, ClientOk, IsClient, VoterOk, WorldOk, AllByRecursion-get, AllByRecursion-map, put}
-use Rattle.world.proofs.ClientMoves.{Came, Draws, client_moves, client_reminds}
+use Rattle.world.proofs.ClientMoves.{Came, Draws, client_moves, client_reminds, member_below}
 use Rattle.world.proofs.VoterMoves.{voter_moves, voter_reminds}
 use Rattle.world.proofs.Exclusion.{Walked, one_inside, Walked-step}
 use Rattle.world.proofs.Places.{client_at-set, voter_at-set}
@@ -362,3 +363,41 @@ every_run cs vs voters clients limit quorums deal steps limits meets deals =
     let b : Bounds = record { voters = voters; clients = clients; limit = limit; quorums = quorums } in
     let given : Given b = record { client = cs; voter = vs; limits = limits; meet = meets } in
     sound_by b given (run_of deal steps (start voters clients limit)) (run_ok b given deal deals steps (start voters clients limit) (start_ok b given))
+
+-- ---- what fits together
+
+quorum_busy : (b : Bounds) (x : ClientState) → ClientOk b x → is_idle x.phase ≡ false → IsAmong b.quorums (members x)
+quorum_busy b x ok busy = elim ok.quorum [
+  | inl none ↦ let some = ok.sound.asked busy in let len = ap (λ (q : List ℕ). length q) none in absurd (omega arith)
+  | inr among ↦ among
+]
+
+coherent_by : (b : Bounds) → Given b → (w : WorldState) → RunOk b w → IsCoherent w
+coherent_by b given w ok = record {
+  numbered = (sound_by b given w ok).numbered;
+  clients = λ c. (ok.world.clients c).sound;
+  voters = λ v. (ok.world.voters v).sound;
+  messages = ok.world.messages;
+  held = ok.world.held;
+  made = λ v c s is.
+      let e = (ok.world.voters v).entries c s is in
+      record { client = subst (λ n. c < n) (sym ok.clients) e.client; some = e.stamp.0; reached = e.reached };
+  members = λ c v is. subst (λ n. v < n) (sym ok.voters) (member_below b given.meet (client_at w.clients c) (ok.world.clients c).quorum v is);
+  common = λ c d busy_c busy_d.
+      let j = quorum_busy b (client_at w.clients c) (ok.world.clients c) busy_c in
+      let k = quorum_busy b (client_at w.clients d) (ok.world.clients d) busy_d in
+      let both = given.meet.meets j.0 k.0 j.1 k.1 in
+      record {
+        voter = both.0;
+        first = ap (λ (q : List ℕ). has q both.0) j.2 ∙ both.2;
+        second = ap (λ (q : List ℕ). has q both.0) k.2 ∙ both.3;
+      };
+}
+
+-- over every list of steps
+pub every_run_coherent : ClientLaws → VoterLaws → (voters clients limit : ℕ) (quorums : List (List ℕ)) (deal : Dealing) (steps : List Step)
+    → AreLimits voters clients limit → DoMeet voters quorums → DealsFrom quorums deal → IsCoherent (run_of deal steps (start voters clients limit))
+every_run_coherent cs vs voters clients limit quorums deal steps limits meets deals =
+    let b : Bounds = record { voters = voters; clients = clients; limit = limit; quorums = quorums } in
+    let given : Given b = record { client = cs; voter = vs; limits = limits; meet = meets } in
+    coherent_by b given (run_of deal steps (start voters clients limit)) (run_ok b given deal deals steps (start voters clients limit) (start_ok b given))

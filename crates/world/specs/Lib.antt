@@ -1,3 +1,4 @@
+pub mod Coherence
 pub mod Ranges
 pub mod Restarts
 pub mod Runs

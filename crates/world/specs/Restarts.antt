@@ -3,7 +3,8 @@
 -- state of the client or voter that made it, before any message is sent. Other steps need not be
 -- saved. A client or voter that restarts has its saved state again. All but the least of a saved state
 -- may be lost.
-use Rattle.std.specs.Prelude.{ℕ, ◌≡◌, ◌==◌, nat_lt, Bool, true, false, List, [], ◌∷◌, ◌++◌, Option, Some, None, Result, Ok, Err, slice_get, slice_set, length}
+use Rattle.std.specs.Prelude.{ℕ, ◌≡◌, ◌<◌, ◌≤◌, ◌==◌, nat_lt, Bool, true, false, List, [], ◌∷◌, ◌++◌, Option, Some, None, Result, Ok, Err, slice_get, slice_index, slice_set, length}
+use Rattle.numbers.specs.Bounds.{max_voters}
 use Rattle.message.specs.declared.message.Message.{Message}
 use Rattle.message.specs.declared.message.Message.TheVariants as kinds
 use Rattle.voter.specs.declared.state.VoterState.{VoterState}
@@ -140,3 +141,20 @@ HasVote s client voter grant = holds_under (client_at s.live.clients client) vot
 -- the stamp of a client's last request
 abbrev pub stamp_of : Saved → ℕ → ℕ
 stamp_of s client = (client_at s.live.clients client).stamp
+
+-- this client is inside
+abbrev pub IsIn : Saved → ℕ → Type 0
+IsIn s client = is_inside (client_at s.live.clients client).phase ≡ true
+
+-- What a client shows to a guard: for each voter the number of the grant by which it has the vote, 0
+-- for none. Of a client that is inside this is its pass.
+abbrev pub pass_of : Saved → ℕ → List ℕ
+pass_of s client = (client_at s.live.clients client).held
+
+-- a client at one time, and a client at another: it is the same client, in the same request
+abbrev pub IsSameRequest : Saved → ℕ → Saved → ℕ → Type 0
+IsSameRequest s first t second = (first ≡ second) × (stamp_of s first ≡ stamp_of t second)
+
+-- both passes have a grant of some voter, and the second one's is newer
+abbrev pub IsNewer : List ℕ → List ℕ → Type 0
+IsNewer first second = (voter : ℕ) × (voter < max_voters) × (1 ≤ slice_index first voter) × (slice_index first voter < slice_index second voter)

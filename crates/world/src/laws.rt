@@ -3,8 +3,9 @@ ghost use Rattle.std.specs.Prelude.{◌≡◌, ◌<◌, ◌⊎◌, ℕ, List, Ok
 ghost use Rattle.std.specs.List.{AllByRecursion};
 ghost use Rattle.message.specs.Lines.{HasLine};
 ghost use Rattle.world.specs.declared.step.Step.{Step};
+ghost use Rattle.world.specs.Coherence.{IsCoherent};
 ghost use Rattle.world.specs.Ranges.{AreInRange, IsNumbered, IsSound};
-ghost use Rattle.world.specs.Restarts.{Happening, HasVote, all_happen, begin, stamp_of};
+ghost use Rattle.world.specs.Restarts.{Happening, HasVote, IsIn, IsNewer, IsSameRequest, all_happen, begin, pass_of, stamp_of};
 ghost use Rattle.world.specs.Runs.{AreLimits, DrawsInOrder, IsReached, run_of, start};
 ghost use Rattle.world.specs.Steps.{Adds, Dealing, Outcome, Planned, WorldState, step};
 ghost use Rattle.world.specs.Visible.{DealsFrom, DoMeet, IsExclusive};
@@ -22,6 +23,22 @@ fn runs_are_sound()
     ensures { (voters clients limit : ℕ) (quorums : List (List ℕ)) (deal : Dealing) (steps : List Step)
         → AreLimits voters clients limit → DoMeet voters quorums → DealsFrom quorums deal
         → IsSound voters clients limit (run_of deal steps (start voters clients limit)) }
+{
+    requesters_meet_the_contract();
+    requesters_stay_sound();
+    requester::messages_are_in_range();
+    voters_meet_the_contract();
+    voters_stay_sound();
+    replies_tell_the_state();
+    replies_carry_what_was_seen();
+    grants_are_numbered();
+}
+
+/// Every list of steps keeps a world coherent, as long as any two quorums share a voter.
+fn runs_are_coherent()
+    ensures { (voters clients limit : ℕ) (quorums : List (List ℕ)) (deal : Dealing) (steps : List Step)
+        → AreLimits voters clients limit → DoMeet voters quorums → DealsFrom quorums deal
+        → IsCoherent (run_of deal steps (start voters clients limit)) }
 {
     requesters_meet_the_contract();
     requesters_stay_sound();
@@ -73,8 +90,8 @@ pub fn at_most_one_is_inside_with_restarts()
 /// greater grant number. Only the same request of one client has it by the same number. This holds
 /// also if clients and voters crash at any time and restart from what they saved.
 ///
-/// Any two quorums share a voter. So of two passes, the later one shows a greater number for some
-/// voter, and a smaller one for none: grant numbers are fencing tokens.
+/// So a client that shows its grants later shows no smaller number of any voter: grant numbers are
+/// fencing tokens.
 pub fn later_votes_have_greater_numbers()
     ensures { (voters clients limit : ℕ) (quorums : List (List ℕ)) (deal : Dealing) (before after : List Happening)
         (first second voter number later : ℕ)
@@ -86,6 +103,30 @@ pub fn later_votes_have_greater_numbers()
         × (stamp_of (all_happen deal before (begin voters clients limit)) first
         ≡ stamp_of (all_happen deal after (all_happen deal before (begin voters clients limit))) second)
         × (number ≡ later)) }
+{
+    requesters_meet_the_contract();
+    requesters_stay_sound();
+    requester::messages_are_in_range();
+    voters_meet_the_contract();
+    voters_stay_sound();
+    replies_tell_the_state();
+    replies_carry_what_was_seen();
+    grants_are_numbered();
+}
+
+/// Of two clients that are inside, one after the other, the later one has a greater grant number of
+/// some voter of which both have the vote, unless it is the same client in the same request. This
+/// holds also if clients and voters crash at any time and restart from what they saved.
+pub fn later_passes_are_newer()
+    ensures { (voters clients limit : ℕ) (quorums : List (List ℕ)) (deal : Dealing) (before after : List Happening)
+        (first second : ℕ)
+        → AreLimits voters clients limit → DoMeet voters quorums → DealsFrom quorums deal
+        → IsIn (all_happen deal before (begin voters clients limit)) first
+        → IsIn (all_happen deal after (all_happen deal before (begin voters clients limit))) second
+        → IsSameRequest (all_happen deal before (begin voters clients limit)) first
+        (all_happen deal after (all_happen deal before (begin voters clients limit))) second
+        ⊎ IsNewer (pass_of (all_happen deal before (begin voters clients limit)) first)
+        (pass_of (all_happen deal after (all_happen deal before (begin voters clients limit))) second) }
 {
     requesters_meet_the_contract();
     requesters_stay_sound();
@@ -122,6 +163,22 @@ pub(crate) fn worlds_stay_sound()
     ensures numbered { (w : Planned) → IsReached w → IsNumbered w.state }
 {
     runs_are_sound();
+    coteries_meet();
+    bridges_meet();
+    tickets_name_quorums();
+}
+
+/// What fits together in every world that a list of steps made from a new one:
+///
+/// - each client and each voter is sound;
+/// - each vote that a client holds is granted to its request;
+/// - each request that a voter knows was made by its client;
+/// - a message that may still count says what is so;
+/// - any two requests that run have a voter in both quorums.
+pub fn worlds_stay_coherent()
+    ensures { (w : Planned) → IsReached w → IsCoherent w.state }
+{
+    runs_are_coherent();
     coteries_meet();
     bridges_meet();
     tickets_name_quorums();

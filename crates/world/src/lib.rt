@@ -24,6 +24,9 @@
 //!   c, leave c, enter d, leave d, .. The law [`at_most_one_is_inside`] says so as long as any two
 //!   quorums share a voter, whichever quorum each ticket stands for. It also holds while a plan is
 //!   exchanged.
+//! - The same holds if clients and voters crash and restart from what they saved
+//!   ([`at_most_one_is_inside_with_restarts`]). Who has a vote later has it by a greater grant number
+//!   ([`later_votes_have_greater_numbers`], [`later_passes_are_newer`]).
 //! - The tickets of each plan are drawn in order, from 0 on.
 //! - Every message names a client and a voter of the world, and has its numbers in range
 //!   ([`messages_are_in_range`]). So each message has a line of text.
@@ -56,8 +59,8 @@ mod world;
 
 pub use fault::WorldFault;
 pub use laws::{
-    at_most_one_is_inside, at_most_one_is_inside_with_restarts, later_votes_have_greater_numbers,
-    messages_are_in_range, steps_add,
+    at_most_one_is_inside, at_most_one_is_inside_with_restarts, later_passes_are_newer,
+    later_votes_have_greater_numbers, messages_are_in_range, steps_add, worlds_stay_coherent,
 };
 pub use step::{Event, Step, Stepped};
 pub use trace::{Trace, run};

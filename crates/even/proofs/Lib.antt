@@ -1,0 +1,6 @@
+mod StrideLemmas
+mod PlaceLemmas
+mod LeadLemmas
+mod WindowLemmas
+mod SlackLemmas
+mod KeptLemmas

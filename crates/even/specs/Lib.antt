@@ -1,0 +1,4 @@
+pub mod EvenCycles
+pub mod Strides
+pub mod Slacks
+pub mod Leads

@@ -1,0 +1,123 @@
+//! The even cycle of a plan.
+ghost use Rattle.std.specs.Prelude.{◌≡◌, ◌<◌, ◌≤◌, length, IfOk, IfErr};
+ghost use Rattle.std.specs.List.{Contains};
+ghost use Rattle.numbers.specs.Bounds.{max_cycle};
+ghost use Rattle.certificate.specs.Certificates.{IsCertificate, IsOptimal, cycle_len};
+ghost use Rattle.even.specs.EvenCycles.{even_quorum, IsFair};
+ghost use Rattle.even.specs.Slacks.{IsExcess, IsSlack};
+ghost use Rattle.even.specs.Strides.{ends_of, strides_of, with_stride, IsBestOf};
+
+use crate::places::{ends_of, quorum_of_place};
+use crate::slack::{Slack, unit_of};
+use crate::strides::{Choice, best_of};
+use certificate::Plan;
+use std::alloc::{AllocError, Global};
+use std::marker::Model;
+
+/// A plan, and an even order of its cycle. Contracts see the plan and the stride.
+#[derive(Drop)]
+pub struct EvenCycle {
+    plan: Plan,
+    /// Where the places of each quorum end.
+    ends: Vec<u64>,
+    stride: u64,
+    /// The smallest number that the slack may have as its numerator.
+    excess: u64,
+}
+
+impl Model for EvenCycle {
+    ghost use Rattle.even.specs.EvenCycles.{EvenOrder};
+    ghost use Rattle.even.specs.Strides.{IsEvenCycle};
+
+    ghost Value = { EvenOrder };
+
+    ghost view = { λ c. record { plan = c.plan; stride = c.stride } };
+
+    ghost invariant = { λ c. IsEvenCycle (record { plan = c.plan; stride = c.stride }) c.ends.items c.excess };
+}
+
+/// Returns where the places of each quorum end, and the stride of smallest excess.
+fn chosen(alloc: Global, plan: &Plan) -> Result<(Vec<u64>, Choice), AllocError>
+    ensures ends { IfOk result (λ kept. kept.0.items ≡ ends_of plan.now.quorum_weights) }
+    ensures short { IfOk result (λ kept. kept.1.stride ≤ max_cycle) }
+    ensures tried { IfOk result (λ kept. Contains (strides_of (cycle_len plan.now)) kept.1.stride) }
+    ensures fair { IfOk result (λ kept. IsFair (with_stride plan.now kept.1.stride)) }
+    ensures excess { IfOk result (λ kept. IsExcess (with_stride plan.now kept.1.stride) kept.1.excess) }
+    ensures best { IfOk result (λ kept.
+        IsBestOf (strides_of (cycle_len plan.now)) (with_stride plan.now kept.1.stride)) }
+{
+    let ends = ends_of(alloc, plan)?;
+    let choice = best_of(alloc, plan, &ends)?;
+    Ok((ends, choice))
+}
+
+impl EvenCycle {
+    /// Returns the even cycle of a plan. It keeps one number for each quorum.
+    ///
+    /// Tries stride 1 and the strides next to 0.618 times the cycle's length that have no divisor in
+    /// common with it: 12 if the length is at most 250,000, and fewer, but at least 2, if it is
+    /// longer. For each it goes twice along one cycle with each voter, and keeps the stride of
+    /// smallest slack.
+    ///
+    /// Fails only if it runs out of memory, and then returns the plan. While it runs, it needs memory
+    /// for one number for each place of the cycle.
+    pub fn of(alloc: Global, plan: Plan) -> Result<EvenCycle, (Plan, AllocError)>
+        ensures plan { IfOk result (λ cycle. cycle.plan ≡ plan) }
+        ensures tried { IfOk result (λ cycle. Contains (strides_of (cycle_len plan)) cycle.stride) }
+        // None of the strides that were tried has a smaller slack.
+        ensures best { IfOk result (IsBestOf (strides_of (cycle_len plan))) }
+        ensures fair { IfOk result IsFair }
+        ensures certificate { IfOk result (λ cycle. IsCertificate cycle.plan) }
+        ensures err { IfErr result (λ refusal. refusal.0 ≡ plan) }
+    {
+        // Called for its contract alone, which says what is proved of every plan.
+        let _ = plan.ratio();
+        match chosen(alloc, &plan) {
+            Ok((ends, choice)) => Ok(EvenCycle {
+                plan,
+                ends,
+                stride: choice.stride,
+                excess: choice.excess,
+            }),
+            Err(error) => Err((plan, error)),
+        }
+    }
+
+    /// Returns the plan.
+    pub fn plan(&self) -> &Plan
+        ensures value { result.now ≡ self.now.plan }
+        ensures certificate { IsCertificate self.now.plan }
+        ensures optimal { IsOptimal self.now.plan }
+    {
+        &self.plan
+    }
+
+    /// Returns the stride. It has no divisor in common with the length of a cycle.
+    pub fn stride(&self) -> u64
+        ensures value { result ≡ self.now.stride }
+        ensures fair { IsFair self.now }
+    {
+        self.stride
+    }
+
+    /// Returns the number of the quorum that a ticket stands for, by binary search. Takes no memory.
+    pub fn quorum_at(&self, ticket: u64) -> usize
+        ensures value { result ≡ even_quorum self.now ticket }
+        ensures in_range { result < length self.now.plan.system.quorums }
+        ensures certificate { IsCertificate self.now.plan }
+    {
+        let len = self.plan.cycle_len();
+        quorum_of_place(&self.ends, ticket % len * self.stride % len)
+    }
+
+    /// Returns the slack: any n tickets in a row use no voter more often than n times the load plus
+    /// the slack, times the voter's capacity. No smaller numerator has this property.
+    pub fn slack(&self) -> Slack
+        ensures { IsSlack self.now result }
+    {
+        Slack {
+            excess: self.excess,
+            unit: unit_of(&self.plan),
+        }
+    }
+}

@@ -1,4 +1,0 @@
-use Rattle.explanations.proofs.text.explanation_text.Goals as goal
-
-pub returns : goal.returns
-returns c = record { layout = rw (c.in_ok-title.ensures, c.in_ok-example.ensures, c.in_ok-mistakes.ensures) at c.format.ensures.ok }

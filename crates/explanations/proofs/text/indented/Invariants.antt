@@ -1,6 +1,0 @@
-use Rattle.std.proofs.Common.{◌≡◌, map, flat_map, string_bytes}
-use Rattle.explanations.specs.Texts.{indented_line}
-use Rattle.explanations.proofs.text.indented.Given as goal
-
-abbrev pub invariant-loop-line : goal.invariant-loop-line
-invariant-loop-line l = string_bytes l.out ≡ flat_map indented_line (map (λ x. x.now) l.yielded)

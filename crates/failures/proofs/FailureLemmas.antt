@@ -1,0 +1,242 @@
+-- Sets that meet every quorum.
+use Rattle.std.proofs.Common.{◌≡◌, ◌≢◌, ℕ, zero, suc, ◌+◌, ◌<◌, ◌≤◌, Bool, true, false, true≢false, not, cond, ◌==◌, ◌||◌, ◌&&◌, List, [], ◌∷◌, ◌++◌, length, filter, get_or, sym, refl, ap, subst, ◌∙◌, arith, None, Err, inl, inr, ne_eqb}
+use Rattle.std.proofs.lemmas.Bool.{cases_eq}
+use Rattle.std.specs.Prelude.{◌↔◌, All, nat_lt}
+use Rattle.std.proofs.lemmas.Bool.Decides.{nat_tests}
+use Rattle.std.proofs.lemmas.List.Elements.{All-filter, All-from_get_or, filter-append}
+use Rattle.std.proofs.lemmas.List.Kept.{AllPairs-filter}
+use Rattle.std.proofs.lemmas.List.Sums.{length-filter, count_by-le-length}
+use Rattle.std.proofs.Math.Bool.{or-true}
+use Rattle.numbers.specs.Sets.{has, meet, within, Ascends, IsSet}
+use Rattle.numbers.proofs.SetLemmas.{has-head, has-tail, has-below, has-at}
+use Rattle.numbers.proofs.Members.{All-has}
+use Rattle.quorum_set.specs.declared.fault.CoterieFault.{CoterieFault}
+use Rattle.quorum_set.specs.Coteries.{QuorumSystem, IsCoterie, are_disjoint, coterie_of, coterie_or, first_fault}
+use Rattle.quorum_set.specs.Meetings.{AllMeet}
+use Rattle.std.specs.Prelude.{Some, slice_get, take}
+use Rattle.std.proofs.lemmas.List.{take_more}
+use Rattle.std.proofs.lemmas.Option.{get_or_from_slice_get}
+use Rattle.failures.specs.Failures.{MeetsEach, IsTransversal, IsSmallestWith, system_without}
+
+-- by cases on a test
+by_test : {P : Type 0} (b : Bool) → (b ≡ true → P) → (b ≡ false → P) → P
+by_test {P = P} b h g = elim b as (λ c. b ≡ c → P) [
+  | true ↦ λ e. h e
+  | false ↦ λ e. g e
+] refl
+
+-- what holds of each member of a list holds of all
+pub All-from_has : (P : ℕ → Type 0) (s : List ℕ) → ((i : ℕ) → has s i ≡ true → P i) → All P s
+All-from_has P s h = All-from_get_or P s 0 (λ k lt. h (get_or s k 0) (has-at s k (get_or s k 0) lt refl))
+
+-- a member of a list with another number in front is that number or a member
+tail_has : (x : ℕ) (xs : List ℕ) (i : ℕ) → has xs i ≡ true → has (x ∷ xs) i ≡ true
+tail_has x xs i e = ap (λ b. (x == i) || b) e ∙ or-true (x == i)
+
+-- who is within the set is a member
+pub has-within : (s t : List ℕ) (i : ℕ) → within s t ≡ true → has s i ≡ true → has t i ≡ true
+has-within [] t i w e = absurd (true≢false (sym e))
+has-within (x ∷ xs) t i w e = by_test (has t x)
+    (λ here. elim (cases_eq x i) as (λ _. has t i ≡ true) [
+      | inl same ↦ ap (has t) (sym same) ∙ here
+      | inr far ↦ has-within xs t i (sym (ap (λ b. b && within xs t) here) ∙ w) (sym (has-tail x xs i far) ∙ e)
+    ])
+    (λ out. absurd (true≢false (sym w ∙ ap (λ b. b && within xs t) out)))
+
+-- a set is within another one if its members are members of that
+pub within-from : (s t : List ℕ) → ((i : ℕ) → has s i ≡ true → has t i ≡ true) → within s t ≡ true
+within-from [] t h = refl
+within-from (x ∷ xs) t h =
+    ap (λ b. b && within xs t) (h x (has-head x xs)) ∙ within-from xs t (λ i e. h i (tail_has x xs i e))
+
+-- sets with a common member meet
+pub meet-from : (s t : List ℕ) (i : ℕ) → has s i ≡ true → has t i ≡ true → meet s t ≡ true
+meet-from [] t i e f = absurd (true≢false (sym e))
+meet-from (x ∷ xs) t i e f = elim (cases_eq x i) as (λ _. meet (x ∷ xs) t ≡ true) [
+  | inl same ↦ ap (λ b. b || meet xs t) (ap (has t) same ∙ f)
+  | inr far ↦ ap (λ b. has t x || b) (meet-from xs t i (sym (has-tail x xs i far) ∙ e) f) ∙ or-true (has t x)
+]
+
+-- a common member of two sets
+pub record Common (s t : List ℕ) : Type 0 where
+  pub member : ℕ
+  pub first : has s member ≡ true
+  pub second : has t member ≡ true
+
+pub meet-has : (s t : List ℕ) → meet s t ≡ true → Common s t
+meet-has [] t e = absurd (true≢false (sym e))
+meet-has (x ∷ xs) t e = by_test (has t x)
+    (λ here. record { member = x; first = has-head x xs; second = here })
+    (λ out.
+    let rest = meet-has xs t (sym (ap (λ b. b || meet xs t) out) ∙ e) in
+    record { member = rest.member; first = tail_has x xs rest.member rest.first; second = rest.second })
+
+-- a member is at least the lower bound
+has-low : (low high : ℕ) (s : List ℕ) (i : ℕ) → Ascends low high s → has s i ≡ true → low ≤ i
+has-low low high s i up e = by_test (nat_lt i low)
+    (λ below. absurd (true≢false (sym e ∙ has-below low high s i up (grind (arith, nat_tests)))))
+    (λ above. grind (arith, nat_tests))
+
+-- a set within another one has no more members
+pub length-within : (low high : ℕ) (s t : List ℕ) → Ascends low high s → Ascends low high t → within s t ≡ true → length s ≤ length t
+length-within low high [] t up other w = omega arith
+length-within low high (x ∷ xs) [] up other w = absurd (true≢false (sym (has-within (x ∷ xs) [] x w (has-head x xs))))
+length-within low high (x ∷ xs) (y ∷ ys) up other w = elim (cases_eq y x) as (λ _. length (x ∷ xs) ≤ length (y ∷ ys)) [
+  | inl same ↦
+      let rest : within xs ys ≡ true = within-from xs ys (λ i e.
+      let far : y ≢ i = λ it. let above = has-low (x + 1) high xs i up.2 e in omega arith in
+      sym (has-tail y ys i far) ∙ has-within (x ∷ xs) (y ∷ ys) i w (tail_has x xs i e)) in
+      let more = length-within (x + 1) high xs ys up.2 (subst (λ n. Ascends (n + 1) high ys) same other.2) rest in
+      omega arith
+  | inr far ↦
+      let here : has ys x ≡ true = sym (has-tail y ys x far) ∙ has-within (x ∷ xs) (y ∷ ys) x w (has-head x xs) in
+      let above = has-low (y + 1) high ys x other.2 here in
+      let rest : within (x ∷ xs) ys ≡ true = within-from (x ∷ xs) ys (λ i e.
+      let least = has-low x high (x ∷ xs) i (omega arith, up.1, up.2) e in
+      let far_too : y ≢ i = λ it. omega arith in
+      sym (has-tail y ys i far_too) ∙ has-within (x ∷ xs) (y ∷ ys) i w e) in
+      let more = length-within (y + 1) high (x ∷ xs) ys (above, up.1, up.2) other.2 rest in
+      omega arith
+]
+
+-- Steps of the search
+
+-- a set that has no barred member meets no set of barred members alone
+pub all_barred : (barred q other : List ℕ) → All (λ i. has barred i ≡ true) q → meet other q ≡ true → meet barred other ≡ false → ⊥
+all_barred barred q other all meets apart =
+    let common = meet-has other q meets in
+    let is_barred = All-has (λ i. has barred i ≡ true) q common.member common.second all in
+    true≢false (sym (meet-from barred other common.member is_barred common.first) ∙ apart)
+
+-- the members of a set with one more voter
+abbrev pub IsWith : List ℕ → List ℕ → ℕ → Type 0
+IsWith more s v = (i : ℕ) → i < 64 → has more i ≡ ((i == v) || has s i)
+
+-- the members of a set are below its bound
+below_bound : (low high : ℕ) (s : List ℕ) (i : ℕ) → Ascends low high s → has s i ≡ true → i < high
+below_bound low high [] i up e = absurd (true≢false (sym e))
+below_bound low high (x ∷ xs) i up e = elim (cases_eq x i) as (λ _. i < high) [
+  | inl same ↦ subst (λ n. n < high) same up.1
+  | inr far ↦ below_bound (x + 1) high xs i up.2 (sym (has-tail x xs i far) ∙ e)
+]
+
+from_with : (more s : List ℕ) (v i : ℕ) → IsSet more → IsWith more s v → has more i ≡ true → ((i == v) || has s i) ≡ true
+from_with more s v i set is e = sym (is i (below_bound 0 64 more i set e)) ∙ e
+
+-- one more voter is below the same bound
+pub All-from_with : (n : ℕ) (more s : List ℕ) (v : ℕ) → IsSet more → IsWith more s v → v < n → All (λ i. i < n) s → All (λ i. i < n) more
+All-from_with n more s v set is lt all = All-from_has (λ i. i < n) more (λ i e.
+    elim (cases_eq i v) as (λ _. i < n) [
+      | inl same ↦ subst (λ k. k < n) (sym same) lt
+      | inr far ↦ All-has (λ k. k < n) s i (sym (ap (λ b. b || has s i) (ne_eqb i v far)) ∙ from_with more s v i set is e) all
+    ])
+
+-- either with the voter or without it: a set that is smallest in both cases is smallest
+pub either_way : (quorums : List (List ℕ)) (chosen barred with without first result : List ℕ) (v : ℕ)
+    → IsSet with → IsSet without → IsWith with chosen v → IsWith without barred v
+    → IsSmallestWith quorums with barred first → length result ≤ length first → IsSmallestWith quorums chosen without result
+    → IsSmallestWith quorums chosen barred result
+either_way quorums chosen barred with without first result v set_with set_without is_with is_without best shorter rest other set has_chosen no_barred meets = by_test (has other v)
+    (λ in_it.
+    let all : within with other ≡ true = within-from with other (λ i e.
+    elim (cases_eq i v) as (λ _. has other i ≡ true) [
+      | inl same ↦ ap (has other) same ∙ in_it
+      | inr far ↦ has-within chosen other i has_chosen (sym (ap (λ b. b || has chosen i) (ne_eqb i v far)) ∙ from_with with chosen v i set_with is_with e)
+    ]) in
+    let bound = best other set all no_barred meets in
+    omega arith)
+    (λ outside. rest other set has_chosen (by_test (meet without other)
+    (λ touches.
+    let common = meet-has without other touches in
+    elim (cases_eq common.member v) as (λ _. meet without other ≡ false) [
+      | inl same ↦ absurd (true≢false (sym (ap (has other) (sym same) ∙ common.second) ∙ outside))
+      | inr far ↦
+          let is_barred = sym (ap (λ b. b || has barred common.member) (ne_eqb common.member v far)) ∙ from_with without barred v common.member set_without is_without common.first in
+          absurd (true≢false (sym (meet-from barred other common.member is_barred common.second) ∙ no_barred))
+    ])
+    (λ apart. apart)) meets)
+
+-- What is left of a coterie
+
+-- a filter that leaves nothing refuses the first element and leaves nothing of the rest
+filter-nothing : {A : Type 0} (b : Bool) (x : A) (rest : List A) → cond b (x ∷ rest) rest ≡ [] → (b ≡ false) × (rest ≡ [])
+filter-nothing true x rest e = cc
+filter-nothing false x rest e = (refl, e)
+
+not-not_true : (b : Bool) → not b ≡ false → b ≡ true
+not-not_true true e = refl
+not-not_true false e = cc
+
+pub MeetsEach-from_nothing : (failed : List ℕ) (sets : List (List ℕ)) → filter (are_disjoint failed) sets ≡ [] → MeetsEach sets failed
+MeetsEach-from_nothing failed [] e j lt = absurd (omega arith)
+MeetsEach-from_nothing failed (q ∷ sets) e zero lt =
+    not-not_true (meet failed q) (filter-nothing (are_disjoint failed q) q (filter (are_disjoint failed) sets) e).0
+MeetsEach-from_nothing failed (q ∷ sets) e (suc j) lt =
+    MeetsEach-from_nothing failed sets (filter-nothing (are_disjoint failed q) q (filter (are_disjoint failed) sets) e).1 j (omega arith)
+
+-- quorums of a coterie, at least one, are a coterie
+pub IsCoterie-filter : (s : QuorumSystem) (failed : List ℕ) → IsCoterie s → 0 < length (filter (are_disjoint failed) s.quorums)
+    → IsCoterie (system_without failed s)
+IsCoterie-filter s failed is some = record {
+  some_voter = is.some_voter;
+  few_voters = is.few_voters;
+  some_quorum = some;
+  few_quorums = let few = is.few_quorums in omega (arith, length-filter (are_disjoint failed) s.quorums, count_by-le-length (are_disjoint failed) s.quorums);
+  sets = All-filter (are_disjoint failed) IsSet s.quorums is.sets;
+  not_empty = All-filter (are_disjoint failed) (λ q. 0 < length q) s.quorums is.not_empty;
+  in_range = All-filter (are_disjoint failed) (λ q. All (λ i. i < s.voters) q) s.quorums is.in_range;
+  meets = AllPairs-filter (λ q r. meet q r ≡ true) (are_disjoint failed) s.quorums is.meets;
+  apart = AllPairs-filter (λ q r. (within q r ≡ false) × (within r q ≡ false)) (are_disjoint failed) s.quorums is.apart;
+}
+
+abbrev pub CoteriesHaveNoFault : Type 0
+CoteriesHaveNoFault = (n : ℕ) (sets : List (List ℕ)) → All IsSet sets
+    → (first_fault n sets ≡ None) ↔ IsCoterie (record { voters = n; quorums = sets })
+
+-- quorums of a coterie are refused only if there are none
+pub refused-nothing : CoteriesHaveNoFault → (s : QuorumSystem) (failed : List ℕ) (e : CoterieFault) → IsCoterie s
+    → coterie_of s.voters (filter (are_disjoint failed) s.quorums) ≡ Err e → MeetsEach s.quorums failed
+refused-nothing law s failed e is refused = MeetsEach-from_nothing failed s.quorums (nothing (filter (are_disjoint failed) s.quorums) refl)
+  where
+    nothing : (left : List (List ℕ)) → filter (are_disjoint failed) s.quorums ≡ left → filter (are_disjoint failed) s.quorums ≡ []
+    nothing [] same = same
+    nothing (q ∷ left) same =
+        let some : 0 < length (filter (are_disjoint failed) s.quorums) = rw same (omega arith) in
+        let whole = IsCoterie-filter s failed is some in
+        let none = (law s.voters (filter (are_disjoint failed) s.quorums) whole.sets).1 whole in
+        let made = ap (λ f. coterie_or f (system_without failed s)) none in
+        cc
+
+-- a quorum has a common member with each quorum
+pub quorum_meets : (s : QuorumSystem) (k : ℕ) → AllMeet s.voters s.quorums → k < length s.quorums → MeetsEach s.quorums (get_or s.quorums k [])
+quorum_meets s k meets lt j here =
+    let common = meets k j lt here in
+    meet-from (get_or s.quorums k []) (get_or s.quorums j []) common.0 common.2 common.3
+
+-- a quorum that is read by its number has a common member with each quorum
+pub IsTransversal-quorum : (s : QuorumSystem) (k : ℕ) (q r : List ℕ) → AllMeet s.voters s.quorums → k < length s.quorums
+    → slice_get s.quorums k ≡ Some q → r ≡ q → IsSet q → All (λ i. i < s.voters) q → IsTransversal s r
+IsTransversal-quorum s k q r meets lt at same set voters =
+    let is : get_or s.quorums k [] ≡ q = get_or_from_slice_get s.quorums k q [] at in
+    record {
+      is_set = subst IsSet (sym same) set;
+      voters = subst (λ t. All (λ i. i < s.voters) t) (sym same) voters;
+      meets = subst (MeetsEach s.quorums) (is ∙ sym same) (quorum_meets s k meets lt);
+    }
+
+-- the members of a set are below 64
+pub below_all : (q : List ℕ) (n v : ℕ) → has q v ≡ true → All (λ i. i < n) q → n ≤ 64 → v < 64
+below_all q n v e all few = let here = All-has (λ i. i < n) q v e all in omega arith
+
+-- whoever meets each quorum meets one that is read by its number
+pub meets_at : (quorums : List (List ℕ)) (k : ℕ) (q other : List ℕ) → slice_get quorums k ≡ Some q → k < length quorums
+    → MeetsEach quorums other → meet other q ≡ true
+meets_at quorums k q other at lt meets = subst (λ t. meet other t ≡ true) (get_or_from_slice_get quorums k q [] at) (meets k lt)
+
+-- one quorum more
+pub filter_next : (p : List ℕ → Bool) (quorums left new : List (List ℕ)) (k : ℕ) (q : List ℕ) → slice_get quorums k ≡ Some q
+    → k < length quorums → left ≡ filter p (take k quorums) → new ≡ left ++ filter p (q ∷ []) → new ≡ filter p (take (k + 1) quorums)
+filter_next p quorums left new k q at lt so_far is =
+    let here : get_or quorums k [] ≡ q = get_or_from_slice_get quorums k q [] at in
+    is ∙ ap (λ t. t ++ filter p (q ∷ [])) so_far ∙ ap (λ x. filter p (take k quorums) ++ filter p (x ∷ [])) (sym here)
+    ∙ sym (filter-append p (take k quorums) (get_or quorums k [] ∷ [])) ∙ ap (filter p) (sym (take_more quorums k [] lt))

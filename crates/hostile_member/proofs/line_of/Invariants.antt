@@ -1,4 +1,0 @@
-use Rattle.hostile_member.proofs.line_of.Given as goal
-
-abbrev pub ghosts-outcome_of : goal.ghosts-outcome_of
-ghosts-outcome_of g a = record { cluster = a.blank }

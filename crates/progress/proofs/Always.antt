@@ -1,0 +1,213 @@
+-- what holds after every run, beside what `world` says
+use Rattle.std.proofs.Common.{◌≡◌, ℕ, ◌+◌, ◌≤◌, Bool, true, false, List, [], ◌∷◌, ◌++◌, map, Some, refl, sym, ap, subst, ◌∙◌, inl, inr, arith}
+use Rattle.std.specs.FinMap as fin
+use Rattle.std.specs.List.{AllByRecursion, range_with_len}
+use Rattle.std.specs.Ordering.{nat_cmp}
+use Rattle.std.proofs.lemmas.Bool.{cases_eq, cases_lt}
+use Rattle.std.proofs.lemmas.Bool.Decides.{nat_tests}
+use Rattle.std.proofs.lemmas.List.{get_or_past}
+use Rattle.std.proofs.lemmas.List.FromFn.{get_or-map-range_with_len, length-map-range_with_len}
+use Rattle.std.proofs.lemmas.Option.{none-some}
+use Rattle.message.specs.declared.message.Message.{Message}
+use Rattle.message.specs.declared.message.Message.TheVariants as kinds
+use Rattle.message.specs.declared.message.ToClient.{ToClient}
+use Rattle.message.specs.declared.message.ToVoter.{ToVoter}
+use Rattle.message.specs.declared.message.ClientBody.{ClientBody}
+use Rattle.message.specs.declared.message.ClientBody.TheVariants as tells
+use Rattle.message.specs.declared.message.VoterBody.{VoterBody}
+use Rattle.message.specs.declared.message.VoterBody.TheVariants as asks
+use Rattle.voter.specs.declared.state.VoterState.{VoterState}
+use Rattle.voter.specs.Replies.{AllCarry, seen_after}
+use Rattle.voter.specs.Steps as voter
+use Rattle.voter.specs.VoteMoves.{VoteMoves}
+use Rattle.voter.specs.VoterContract.{AllTell, Brings, IsEntry, TellsVote}
+use Rattle.world.specs.declared.step.Step.{Step}
+use Rattle.world.specs.Coherence.{IsCoherent}
+use Rattle.world.specs.Ranges.{IsAddressed}
+use Rattle.world.specs.Runs.{IsReached, after, run_of, start, start_by}
+use Rattle.world.specs.Steps.{Planned, WorldState, dealing_of, step, voter_at}
+use Rattle.progress.proofs.Known.{Laws, VoterLaws}
+use Rattle.progress.proofs.Moves.{AllByRecursion-get, ClientMoved, IsReached-after, IsReminder, Moved, Moved-step, OnlySent, VoterMoved, with_state}
+
+-- each voter has seen the stamp of each request that it knows
+abbrev pub HasSeen : List VoterState → Type 0
+HasSeen vs = (v c s : ℕ) → IsEntry (voter_at vs v) c s → s ≤ (voter_at vs v).seen
+
+-- the grant of a LOCKED is one of the first n
+abbrev pub IsUpTo : ℕ → ClientBody → Type 0
+IsUpTo n (tells.Locked stamp grant) = grant ≤ n
+IsUpTo n (tells.Fail stamp) = Unit {0}
+IsUpTo n (tells.Inquire grant) = Unit {0}
+
+-- the grant of a LOCKED was given by its voter
+abbrev pub WasGiven : List VoterState → Message → Type 0
+WasGiven vs (kinds.ToVoter m) = Unit {0}
+WasGiven vs (kinds.ToClient m) = IsUpTo (voter_at vs m.voter).granted m.body
+
+pub record Always (w : WorldState) : Type 0 where
+  pub seen : HasSeen w.voters
+  pub given : AllByRecursion (WasGiven w.voters) w.sent
+
+-- ---- lists of messages
+
+pub AllByRecursion-append : (P : Message → Type 0) (ms ns : List Message) → AllByRecursion P ms → AllByRecursion P ns → AllByRecursion P (ms ++ ns)
+AllByRecursion-append P [] ns h k = k
+AllByRecursion-append P (m ∷ ms) ns h k = (h.0, AllByRecursion-append P ms ns h.1 k)
+
+pub AllByRecursion-weaker : (P Q : Message → Type 0) → ((m : Message) → P m → Q m) → (ms : List Message) → AllByRecursion P ms → AllByRecursion Q ms
+AllByRecursion-weaker P Q f [] h = tt
+AllByRecursion-weaker P Q f (m ∷ ms) h = (f m h.0, AllByRecursion-weaker P Q f ms h.1)
+
+asks_given : (vs : List VoterState) (out : List ToVoter) → AllByRecursion (WasGiven vs) (map kinds.ToVoter out)
+asks_given vs [] = tt
+asks_given vs (m ∷ ms) = (tt, asks_given vs ms)
+
+up_to : (y : VoterState) → voter.IsSound y → (c : ℕ) (body : ClientBody) → TellsVote y.held c body → IsUpTo y.granted body
+up_to y ok c (tells.Locked s g) told = ok.numbered (record { client = c; stamp = s; grant = g }) told
+up_to y ok c (tells.Fail s) told = tt
+up_to y ok c (tells.Inquire g) told = tt
+
+replies_given : (vs : List VoterState) (v seen : ℕ) (y : VoterState) → voter_at vs v ≡ y → voter.IsSound y → (rs : List ToClient) → AllTell y.held rs → AllCarry v seen rs
+    → AllByRecursion (WasGiven vs) (map kinds.ToClient rs)
+replies_given vs v seen y is ok [] tell carry = tt
+replies_given vs v seen y is ok (r ∷ rs) tell carry = (
+  subst (λ (z : VoterState). IsUpTo z.granted r.body) (sym (ap (voter_at vs) carry.0.0 ∙ is)) (up_to y ok r.client r.body tell.0),
+  replies_given vs v seen y is ok rs tell.1 carry.1,
+)
+
+-- ---- a voter's step
+
+pub granted_rises : (frees : Bool) (y z : VoterState) → VoteMoves frees y z → y.granted ≤ z.granted
+granted_rises true y z (inl ends) = let same = ends.granted in omega arith
+granted_rises true y z (inr new) = let more = new.granted in omega arith
+granted_rises false y z (inl stays) = let same = stays.granted in omega arith
+granted_rises false y z (inr new) = let more = new.1.granted in omega arith
+
+pub granted_later : (laws : VoterLaws) (w u : WorldState) → IsCoherent w → (k : VoterMoved w u) → (v : ℕ) → (voter_at w.voters v).granted ≤ (voter_at u.voters v).granted
+granted_later laws w u ok k v = elim (cases_eq v k.message.voter) [
+  | inl same ↦
+      let rises = granted_rises _ _ k.outcome.state (laws.numbers (voter_at w.voters k.message.voter) k.message k.outcome (ok.voters k.message.voter) k.step) in
+      subst (λ n. (voter_at w.voters n).granted ≤ (voter_at u.voters n).granted) (sym same) (subst (λ (y : VoterState). (voter_at w.voters k.message.voter).granted ≤ y.granted) (sym k.here) rises)
+  | inr other ↦ let same = ap (λ (y : VoterState). y.granted) (k.others v other) in omega arith
+]
+
+still_given : (vs us : List VoterState) → ((v : ℕ) → (voter_at vs v).granted ≤ (voter_at us v).granted) → (m : Message) → WasGiven vs m → WasGiven us m
+still_given vs us later (kinds.ToVoter m) given = tt
+still_given vs us later (kinds.ToClient m) given = still_up_to (voter_at vs m.voter).granted (voter_at us m.voter).granted m.body (later m.voter) given
+  where
+    still_up_to : (a b : ℕ) (body : ClientBody) → a ≤ b → IsUpTo a body → IsUpTo b body
+    still_up_to a b (tells.Locked s g) most up = omega arith
+    still_up_to a b (tells.Fail s) most up = tt
+    still_up_to a b (tells.Inquire g) most up = tt
+
+seen_before : (seen s : ℕ) (body : VoterBody) → s ≤ seen → s ≤ seen_after seen body
+seen_before seen s (asks.Request t) most = grind (arith, nat_tests)
+seen_before seen s (asks.Relinquish g) most = most
+seen_before seen s (asks.Release t) most = grind (arith, nat_tests)
+
+seen_brought : (seen client c s : ℕ) (body : VoterBody) → Brings client body c s → s ≤ seen_after seen body
+seen_brought seen client c s (asks.Request t) brings = let same = brings.1 in grind (arith, nat_tests)
+seen_brought seen client c s (asks.Relinquish g) brings = absurd brings
+seen_brought seen client c s (asks.Release t) brings = absurd brings
+
+seen_by : (laws : VoterLaws) (y : VoterState) (m : ToVoter) (o : voter.Outcome) → voter.step y m ≡ Some o → ((c s : ℕ) → IsEntry y c s → s ≤ y.seen) → (c s : ℕ) → IsEntry o.state c s → s ≤ o.state.seen
+seen_by laws y m o step was c s entry =
+    subst (λ n. s ≤ n) (sym (laws.carries y m o step).seen) (elim ((laws.meets y m o step).entries c s entry) [
+      | inl before ↦ seen_before y.seen s m.body (was c s before)
+      | inr brings ↦ seen_brought y.seen m.client c s m.body brings
+    ])
+
+HasSeen-voter : (laws : VoterLaws) (w u : WorldState) → VoterMoved w u → HasSeen w.voters → HasSeen u.voters
+HasSeen-voter laws w u k seen v = elim (cases_eq v k.message.voter) as (λ _. (c s : ℕ) → IsEntry (voter_at u.voters v) c s → s ≤ (voter_at u.voters v).seen) [
+  | inl same ↦ subst (λ n. (c s : ℕ) → IsEntry (voter_at u.voters n) c s → s ≤ (voter_at u.voters n).seen) (sym same)
+      (subst (λ (y : VoterState). (c s : ℕ) → IsEntry y c s → s ≤ y.seen) (sym k.here) (seen_by laws _ k.message k.outcome k.step (seen k.message.voter)))
+  | inr other ↦ subst (λ (y : VoterState). (c s : ℕ) → IsEntry y c s → s ≤ y.seen) (sym (k.others v other)) (seen v)
+]
+
+-- the voter that took the message is the one that it names
+pub is_named : (w u : WorldState) → IsCoherent w → (k : VoterMoved w u) → (voter_at w.voters k.message.voter).id ≡ k.message.voter
+is_named w u ok k = ok.numbered.voters k.message.voter (AllByRecursion-get (IsAddressed w) w.sent k.place (kinds.ToVoter k.message) ok.numbered.messages k.came).1
+
+Always-voter : (laws : VoterLaws) (w u : WorldState) → IsCoherent w → IsCoherent u → VoterMoved w u → Always w → Always u
+Always-voter laws w u ok now k a =
+    let y = voter_at w.voters k.message.voter in
+    let carried = (laws.carries y k.message k.outcome k.step).carried in
+    record {
+      seen = HasSeen-voter laws w u k a.seen;
+      given = subst (λ ms. AllByRecursion (WasGiven u.voters) ms) (sym k.sent) (AllByRecursion-append (WasGiven u.voters) w.sent _
+          (AllByRecursion-weaker (WasGiven w.voters) (WasGiven u.voters) (still_given w.voters u.voters (granted_later laws w u ok k)) w.sent a.given)
+          (replies_given u.voters k.message.voter _ k.outcome.state k.here (subst voter.IsSound k.here (now.voters k.message.voter)) k.outcome.replies (laws.meets y k.message k.outcome k.step).told
+          (subst (λ i. AllCarry i (seen_after y.seen k.message.body) k.outcome.replies) (is_named w u ok k) carried)));
+    }
+
+-- ---- a client's step, and messages alone
+
+Always-client : (w u : WorldState) → ClientMoved w u → Always w → Always u
+Always-client w u k a = record {
+  seen = subst (λ (vs : List VoterState). HasSeen vs) (sym k.voters) a.seen;
+  given = subst (λ ms. AllByRecursion (WasGiven u.voters) ms) (sym k.sent) (subst (λ (vs : List VoterState). AllByRecursion (WasGiven vs) (w.sent ++ map kinds.ToVoter k.outcome.out)) (sym k.voters)
+      (AllByRecursion-append (WasGiven w.voters) w.sent _ a.given (asks_given w.voters k.outcome.out)));
+}
+
+reminder_given : (laws : VoterLaws) (w : WorldState) → IsCoherent w → (more : List Message) → IsReminder w more → AllByRecursion (WasGiven w.voters) more
+reminder_given laws w ok more said = elim said [
+  | inl out ↦ subst (λ ms. AllByRecursion (WasGiven w.voters) ms) (sym out.1) (asks_given w.voters out.0)
+  | inr v ↦
+      let y = voter_at w.voters v.0 in
+      subst (λ ms. AllByRecursion (WasGiven w.voters) ms) (sym v.2) (replies_given w.voters v.0 y.seen y refl (ok.voters v.0) (voter.remind y) (laws.repeats y)
+      (subst (λ i. AllCarry i y.seen (voter.remind y)) (ok.numbered.voters v.0 v.1) (laws.remembers y)))
+]
+
+Always-sent : (laws : VoterLaws) (w u : WorldState) → IsCoherent w → OnlySent w u → Always w → Always u
+Always-sent laws w u ok k a = record {
+  seen = subst (λ (vs : List VoterState). HasSeen vs) (sym k.voters) a.seen;
+  given = subst (λ ms. AllByRecursion (WasGiven u.voters) ms) (sym k.sent) (subst (λ (vs : List VoterState). AllByRecursion (WasGiven vs) (w.sent ++ k.more)) (sym k.voters)
+      (AllByRecursion-append (WasGiven w.voters) w.sent k.more a.given (reminder_given laws w ok k.more k.reminder)));
+}
+
+Always-moved : (laws : VoterLaws) (w u : WorldState) → IsCoherent w → IsCoherent u → Moved w u → Always w → Always u
+Always-moved laws w u ok now moved a = elim moved [
+  | inl client ↦ Always-client w u client a
+  | inr (inl voter) ↦ Always-voter laws w u ok now voter a
+  | inr (inr sent) ↦ Always-sent laws w u ok sent a
+]
+
+-- ---- every run
+
+Always-run : (laws : Laws) (w : Planned) (steps : List Step) (u : WorldState) → IsReached (with_state w u) → Always u → Always (run_of (dealing_of w.plans) steps u)
+Always-run laws w [] u r a = a
+Always-run laws w (s ∷ steps) u r a =
+    let next = IsReached-after (with_state w u) r s in
+    let ok = laws.coherent (with_state w u) r in
+    let x = after u (step (dealing_of w.plans) u s) in
+    Always-run laws w steps x next (Always-moved laws.voter u x ok (laws.coherent (with_state w x) next) (Moved-step (dealing_of w.plans) u ok.numbered s) a)
+
+unfoldable pub new_voters : ℕ → ℕ → List VoterState
+new_voters n limit = map (λ v. voter.start v limit) (range_with_len 0 n)
+
+-- each voter of a new world is a new one
+pub new_voter : (n limit v : ℕ) → (i : ℕ) × (l : ℕ) × (voter_at (new_voters n limit) v ≡ voter.start i l)
+unfolding voter_at new_voters
+new_voter n limit v = elim (cases_lt v n) [
+  | inl within ↦ (v, limit, get_or-map-range_with_len (λ i. voter.start i limit) 0 n v v (voter.start 0 1) within (omega arith))
+  | inr beyond ↦ (0, 1, get_or_past (new_voters n limit) v (voter.start 0 1) (let len = length-map-range_with_len (λ i. voter.start i limit) 0 n in omega arith))
+]
+
+none_entry : (i l c s : ℕ) → IsEntry (voter.start i l) c s → ⊥
+none_entry i l c s entry = elim entry [
+  | inl held ↦ none-some held.0 held.1
+  | inr waits ↦ none-some s (sym (fin.get-empty nat_cmp c) ∙ waits)
+]
+
+Always-start : (voters clients limit : ℕ) → Always (start voters clients limit)
+unfolding new_voters
+Always-start voters clients limit = record {
+  seen = λ v c s entry. let new = new_voter voters limit v in absurd (none_entry new.0 new.1 c s (subst (λ (y : VoterState). IsEntry y c s) new.2 entry));
+  given = tt;
+}
+
+pub Always-reached : (laws : Laws) (w : Planned) → IsReached w → Always w.state
+Always-reached laws w r =
+    let begin = start_by w.plans r.clients r.limit in
+    let first : IsReached (with_state w begin) = record { plans = r.plans; clients = r.clients; limit = r.limit; limits = r.limits; steps = []; state = refl } in
+    subst (λ (u : WorldState). Always u) (sym r.state) (Always-run laws w r.steps begin first (Always-start w.plans.first.system.voters r.clients r.limit))

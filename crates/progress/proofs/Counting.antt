@@ -1,0 +1,272 @@
+-- how often another client enters
+use Rattle.std.proofs.Common.{◌≡◌, ◌≢◌, ℕ, ◌+◌, ◌<◌, ◌≤◌, Bool, true, false, cond, List, [], ◌∷◌, ◌++◌, Ok, refl, sym, ap, subst, ◌∙◌, ◌⊎◌, inl, inr, arith, eqb, append_assoc}
+use Rattle.std.specs.Prelude.{◌==◌, ◌&&◌}
+use Rattle.std.proofs.lemmas.Bool.{cases_eq, cases_lt, false≢true}
+use Rattle.std.proofs.lemmas.Bool.Decides.{nat_tests}
+use Rattle.std.proofs.lemmas.List.{append-nil, append_cancel_left}
+use Rattle.std.proofs.lemmas.List.Sums.{sum_by-append}
+use Rattle.message.specs.declared.request.Request.{Request}
+use Rattle.voter.specs.declared.state.Grant.{Grant}
+use Rattle.voter.specs.Entries.{request_of}
+use Rattle.voter.specs.Waiting.{precedes}
+use Rattle.requester.specs.declared.state.ClientState.{ClientState}
+use Rattle.requester.specs.declared.state.Phase.{Phase}
+use Rattle.requester.specs.declared.state.Phase.TheVariants.{Idle, Asking, Inside}
+use Rattle.requester.specs.declared.state.Seen.{Seen}
+use Rattle.requester.specs.declared.state.Seen.TheVariants.{Nothing, Entered, Left}
+use Rattle.requester.specs.Clocks.{KeepsTime}
+use Rattle.requester.specs.RequesterContract.{IsLater, KeepsQuorum, Sees}
+use Rattle.requester.specs.Steps as requester
+use Rattle.requester.specs.Words.{held_of, holds, holds_under, is_asking, is_idle, is_inside, is_member}
+use Rattle.numbers.specs.Sets.{has}
+use Rattle.world.specs.declared.step.Event.{Event}
+use Rattle.world.specs.declared.step.Step.{Step}
+use Rattle.world.specs.Coherence.{IsCoherent}
+use Rattle.world.specs.Runs.{IsReached, after, run_of}
+use Rattle.world.specs.Steps.{Planned, WorldState, client_at, dealing_of, events, step, voter_at}
+use Rattle.progress.specs.Overtaking.{IsKnownEverywhere, StillRuns, entered_by}
+use Rattle.progress.proofs.Always.{Always, Always-reached}
+use Rattle.progress.proofs.Behind.{Behind, Behind-first, Behind-moved, IsLater-moved, IsLater-then, ask-Ok, meets, stamp_of, the_request}
+use Rattle.progress.proofs.Known.{ClientLaws, Laws}
+use Rattle.progress.proofs.Moves.{ClientMoved, IsReached-after, Moved, Moved-step, with_state}
+
+-- What the number of entries since the world w says of the client d: after one, it asks under a greater
+-- stamp than it had then; after two, also under a greater stamp than the request of c.
+pub record Counted (w : WorldState) (c d n : ℕ) (x : ClientState) : Type 0 where
+  pub few : n ≤ 2
+  pub once : 1 ≤ n → is_asking x.phase ≡ true → stamp_of w d < x.stamp
+  pub twice : 2 ≤ n → is_asking x.phase ≡ true → stamp_of w c < x.stamp
+  pub clock : 2 ≤ n → stamp_of w c ≤ x.clock
+
+-- a step that is no entry
+Counted-on : (w : WorldState) (c d n : ℕ) (x y : ClientState) (cause : requester.Cause) → KeepsTime x cause y → stamp_of w d ≤ x.stamp → x.stamp ≤ x.clock → Counted w c d n x → Counted w c d n y
+Counted-on w c d n x y cause time least behind h =
+    let rises = time.clock in
+    record {
+      few = h.few;
+      once = λ one asks. elim (time.asking asks) [
+        | inl same ↦ let was = h.once one same.0 in let stamp = same.1 in omega arith
+        | inr new ↦ omega arith
+      ];
+      twice = λ two asks. elim (time.asking asks) [
+        | inl same ↦ let was = h.twice two same.0 in let stamp = same.1 in omega arith
+        | inr new ↦ let high = h.clock two in omega arith
+      ];
+      clock = λ two. (let high = h.clock two in omega arith);
+    }
+
+-- what holds of a client that has entered: its stamp is the old one, or it precedes the request, of
+-- which it heard
+abbrev pub EntersBy : WorldState → ℕ → ℕ → ClientState → Type 0
+EntersBy w c d y = (y.stamp ≤ stamp_of w d) ⊎ ((y.stamp ≤ stamp_of w c) × (stamp_of w c ≤ y.clock))
+
+-- the third entry is impossible
+third : (w : WorldState) (c d n : ℕ) (x y : ClientState) → is_asking x.phase ≡ true → x.stamp ≤ y.stamp → EntersBy w c d y → Counted w c d n x → n < 2
+third w c d n x y asks later by h = elim (cases_lt n 2) [
+  | inl less ↦ less
+  | inr most ↦
+      let one = h.once (omega arith) asks in
+      let two = h.twice most asks in
+      elim by [
+        | inl old ↦ absurd (omega arith)
+        | inr new ↦ let least = new.0 in absurd (omega arith)
+      ]
+]
+
+Counted-enters : (w : WorldState) (c d n : ℕ) (x y : ClientState) → is_asking x.phase ≡ true → is_asking y.phase ≡ false → x.stamp ≤ y.stamp → EntersBy w c d y → Counted w c d n x → Counted w c d (n + 1) y
+Counted-enters w c d n x y asks not_asks later by h =
+    let less = third w c d n x y asks later by h in
+    record {
+      few = omega arith;
+      once = λ one now. absurd (false≢true (sym not_asks ∙ now));
+      twice = λ two now. absurd (false≢true (sym not_asks ∙ now));
+      clock = λ two. elim by [
+        | inl old ↦ let one = h.once (omega arith) asks in absurd (omega arith)
+        | inr new ↦ new.1
+      ];
+    }
+
+-- ---- who enters
+
+outside_asks : (p : Phase) → is_idle p ≡ false → is_inside p ≡ false → is_asking p ≡ true
+outside_asks Idle idle inside = absurd (false≢true (sym idle))
+outside_asks Asking idle inside = refl
+outside_asks Inside idle inside = absurd (false≢true (sym inside))
+
+inside_busy : (p : Phase) → is_inside p ≡ true → is_idle p ≡ false
+inside_busy Idle inside = absurd (false≢true inside)
+inside_busy Asking inside = refl
+inside_busy Inside inside = refl
+
+inside_not_asks : (p : Phase) → is_inside p ≡ true → is_asking p ≡ false
+inside_not_asks Idle inside = refl
+inside_not_asks Asking inside = absurd (false≢true inside)
+inside_not_asks Inside inside = refl
+
+asked_before : (x : ClientState) (cause : requester.Cause) (o : requester.Outcome) → requester.step x cause ≡ Ok o → KeepsQuorum x cause o.state → is_inside x.phase ≡ false → is_inside o.state.phase ≡ true → is_asking x.phase ≡ true
+asked_before x (requester.Asks q) o step keeps out now =
+    absurd (false≢true (subst (λ (p : requester.Outcome). is_inside p.state.phase ≡ true) (sym (ask-Ok x q o step)) now))
+asked_before x (requester.Takes m) o step keeps out now = outside_asks x.phase (sym keeps.1 ∙ inside_busy o.state.phase now) out
+asked_before x requester.Leaves o step keeps out now = absurd (false≢true (sym (inside_busy o.state.phase now) ∙ keeps.1))
+asked_before x requester.GivesUp o step keeps out now = absurd (false≢true (sym (inside_busy o.state.phase now) ∙ keeps.1))
+
+held_under : (x : ClientState) (v : ℕ) → holds x v ≡ true → holds_under x v (held_of x v) ≡ true
+held_under x v is = grind (arith, nat_tests)
+
+before_most : (g : Grant) (r : Request) → precedes (request_of g) r ≡ true → g.stamp ≤ r.stamp
+before_most g r before = grind (arith, nat_tests)
+
+-- a client that is inside has the vote of a voter that the request asked
+enters_by : (laws : ClientLaws) (w u : WorldState) (c d : ℕ) → IsCoherent u → Behind w c u → is_idle (client_at u.clients c).phase ≡ false → d ≢ c → is_inside (client_at u.clients d).phase ≡ true
+    → EntersBy w c d (client_at u.clients d)
+enters_by laws w u c d ok h busy other inside =
+    let y = client_at u.clients d in
+    let common = ok.common d c (inside_busy y.phase inside) busy in
+    let v = common.voter in
+    let asked : is_member (client_at w.clients c) v ≡ true = ap (λ q. has q v) (sym h.clients.quorum) ∙ common.second in
+    let holds = held_under y v (laws.inside y v (ok.clients d) inside common.first) in
+    let n = held_of y v in
+    let names = ok.held d v n holds in
+    let grant : Grant = record { client = d; stamp = y.stamp; grant = n } in
+    elim (cases_lt (voter_at w.voters v).granted n) [
+      | inl new ↦ elim (h.voters.order v grant asked names new) [
+        | inl same ↦ absurd (other same)
+        | inr before ↦ inr (before_most grant (the_request w c) before, h.clients.heard d v n asked holds new)
+      ]
+      | inr old ↦ inl (h.voters.old v grant names old)
+    ]
+
+-- ---- what is counted
+
+entered_by-append : (d : ℕ) (es fs : List Event) → entered_by d (es ++ fs) ≡ entered_by d es + entered_by d fs
+entered_by-append d es fs = sum_by-append (λ (e : Event). cond ((e.client == d) && e.entered) 1 0) es fs
+
+not_entered : (d e : ℕ) (seen : Seen) → d ≢ e → entered_by d (events e seen) ≡ 0
+not_entered d e Nothing other = refl
+not_entered d e Entered other = (let apart : eqb e d ≡ false = grind (arith, nat_tests) in ap (λ b. 0 + cond (b && true) 1 0) apart)
+not_entered d e Left other = (let apart : eqb e d ≡ false = grind (arith, nat_tests) in ap (λ b. 0 + cond (b && false) 1 0) apart)
+
+left_not_entered : (d : ℕ) → entered_by d (events d Left) ≡ 0
+left_not_entered d = (let same : eqb d d ≡ true = grind (arith, nat_tests) in ap (λ b. 0 + cond (b && false) 1 0) same)
+
+one_entered : (d : ℕ) → entered_by d (events d Entered) ≡ 1
+one_entered d = (let same : eqb d d ≡ true = grind (arith, nat_tests) in ap (λ b. 0 + cond (b && true) 1 0) same)
+
+none_more : (n m : ℕ) → m ≡ 0 → n ≡ n + m
+none_more n m none = omega arith
+
+one_more : (n m : ℕ) → m ≡ 1 → n + 1 ≡ n + m
+one_more n m one = omega arith
+
+-- the client that moved
+counted_own : (laws : ClientLaws) (w u x : WorldState) (c n : ℕ) → IsCoherent u → IsCoherent x → Behind w c u → Behind w c x → is_idle (client_at x.clients c).phase ≡ false → (k : ClientMoved u x) → k.who ≢ c
+    → (seen : Seen) → Sees (client_at u.clients k.who).phase seen k.outcome.state.phase → Counted w c k.who n (client_at u.clients k.who) → Counted w c k.who (n + entered_by k.who (events k.who seen)) k.outcome.state
+counted_own laws w u x c n ok now before h busy k other Nothing sees count =
+    subst (λ i. Counted w c k.who i k.outcome.state) (none_more n (entered_by k.who (events k.who Nothing)) refl)
+    (Counted-on w c k.who n (client_at u.clients k.who) k.outcome.state k.cause (laws.clock (client_at u.clients k.who) k.cause k.outcome (ok.clients k.who) k.step) (before.clients.later k.who) (ok.clients k.who).clock count)
+counted_own laws w u x c n ok now before h busy k other Left sees count =
+    subst (λ i. Counted w c k.who i k.outcome.state) (none_more n (entered_by k.who (events k.who Left)) (left_not_entered k.who))
+    (Counted-on w c k.who n (client_at u.clients k.who) k.outcome.state k.cause (laws.clock (client_at u.clients k.who) k.cause k.outcome (ok.clients k.who) k.step) (before.clients.later k.who) (ok.clients k.who).clock count)
+counted_own laws w u x c n ok now before h busy k other Entered sees count =
+    let contract = meets laws u x ok now k in
+    let asks = asked_before (client_at u.clients k.who) k.cause k.outcome k.step contract.quorum sees.0 sees.1 in
+    let by = subst (λ (y : ClientState). EntersBy w c k.who y) k.here (enters_by laws w x c k.who now h busy other (subst (λ (y : ClientState). is_inside y.phase ≡ true) (sym k.here) sees.1)) in
+    subst (λ i. Counted w c k.who i k.outcome.state) (one_more n (entered_by k.who (events k.who Entered)) (one_entered k.who))
+    (Counted-enters w c k.who n (client_at u.clients k.who) k.outcome.state asks (inside_not_asks k.outcome.state.phase sees.1) contract.later.stamp by count)
+
+-- the events since the world w, and what they say of the client d
+pub record Entries (w : WorldState) (c d : ℕ) (u : WorldState) : Type 0 where
+  pub more : List Event
+  pub visible : u.visible ≡ w.visible ++ more
+  pub counted : Counted w c d (entered_by d more) (client_at u.clients d)
+
+counted_client : (laws : ClientLaws) (w u x : WorldState) (c d : ℕ) → IsCoherent u → IsCoherent x → Behind w c u → Behind w c x → is_idle (client_at x.clients c).phase ≡ false → d ≢ c → (k : ClientMoved u x)
+    → (more : List Event) → Counted w c d (entered_by d more) (client_at u.clients d) → Counted w c d (entered_by d (more ++ events k.who k.outcome.seen)) (client_at x.clients d)
+counted_client laws w u x c d ok now before h busy other k more = elim (cases_eq d k.who) as (λ _. Counted w c d (entered_by d more) (client_at u.clients d) → Counted w c d (entered_by d (more ++ events k.who k.outcome.seen)) (client_at x.clients d)) [
+  | inl same ↦
+      let apart : k.who ≢ c = subst (λ i. i ≢ c) same other in
+      let own : Counted w c k.who (entered_by k.who more) (client_at u.clients k.who) → Counted w c k.who (entered_by k.who (more ++ events k.who k.outcome.seen)) (client_at x.clients k.who) =
+      λ count. subst (λ (y : ClientState). Counted w c k.who (entered_by k.who (more ++ events k.who k.outcome.seen)) y) (sym k.here)
+      (subst (λ i. Counted w c k.who i k.outcome.state) (sym (entered_by-append k.who more (events k.who k.outcome.seen)))
+      (counted_own laws w u x c (entered_by k.who more) ok now before h busy k apart k.outcome.seen (meets laws u x ok now k).seen count)) in
+      subst (λ i. Counted w c i (entered_by i more) (client_at u.clients i) → Counted w c i (entered_by i (more ++ events k.who k.outcome.seen)) (client_at x.clients i)) (sym same) own
+  | inr apart ↦ λ count. subst (λ (y : ClientState). Counted w c d (entered_by d (more ++ events k.who k.outcome.seen)) y) (sym (k.others d apart))
+      (subst (λ i. Counted w c d i (client_at u.clients d)) (none_more (entered_by d more) _ (not_entered d k.who k.outcome.seen apart) ∙ sym (entered_by-append d more (events k.who k.outcome.seen))) count)
+]
+
+Entries-client : (laws : ClientLaws) (w u x : WorldState) (c d : ℕ) → IsCoherent u → IsCoherent x → Behind w c u → Behind w c x → is_idle (client_at x.clients c).phase ≡ false → d ≢ c → ClientMoved u x → Entries w c d u → Entries w c d x
+Entries-client laws w u x c d ok now before h busy other k e = record {
+  more = e.more ++ events k.who k.outcome.seen;
+  visible = k.visible ∙ ap (λ es. es ++ events k.who k.outcome.seen) e.visible ∙ append_assoc w.visible e.more (events k.who k.outcome.seen);
+  counted = counted_client laws w u x c d ok now before h busy other k e.more e.counted;
+}
+
+Entries-same : (w u x : WorldState) (c d : ℕ) → x.clients ≡ u.clients → x.visible ≡ u.visible → Entries w c d u → Entries w c d x
+Entries-same w u x c d clients visible e = record {
+  more = e.more;
+  visible = visible ∙ e.visible;
+  counted = subst (λ (cs : List ClientState). Counted w c d (entered_by d e.more) (client_at cs d)) (sym clients) e.counted;
+}
+
+Entries-moved : (laws : ClientLaws) (w u x : WorldState) (c d : ℕ) → IsCoherent u → IsCoherent x → Behind w c u → Behind w c x → is_idle (client_at x.clients c).phase ≡ false → d ≢ c → Moved u x → Entries w c d u → Entries w c d x
+Entries-moved laws w u x c d ok now before h busy other moved e = elim moved [
+  | inl client ↦ Entries-client laws w u x c d ok now before h busy other client e
+  | inr (inl voter) ↦ Entries-same w u x c d voter.clients voter.visible e
+  | inr (inr sent) ↦ Entries-same w u x c d sent.clients sent.visible e
+]
+
+-- ---- over all steps
+
+IsLater-run : (laws : Laws) (w : Planned) (steps : List Step) (u : WorldState) → IsReached (with_state w u) → (c : ℕ) → IsLater (client_at u.clients c) (client_at (run_of (dealing_of w.plans) steps u).clients c)
+IsLater-run laws w [] u r c = record { stamp = omega arith; last = λ v. omega arith; idle = λ _ idle. idle }
+IsLater-run laws w (s ∷ steps) u r c =
+    let ok = laws.coherent (with_state w u) r in
+    let next = IsReached-after (with_state w u) r s in
+    let x = after u (step (dealing_of w.plans) u s) in
+    let now = laws.coherent (with_state w x) next in
+    IsLater-then _ (client_at x.clients c) _ (IsLater-moved laws.client u x ok now (Moved-step (dealing_of w.plans) u ok.numbered s) c) (IsLater-run laws w steps x next c)
+
+busy_by : (a b : Bool) → (a ≡ true → b ≡ true) → b ≡ false → a ≡ false
+busy_by true b goes is = absurd (false≢true (sym is ∙ goes refl))
+busy_by false b goes is = refl
+
+-- a request that still runs later runs before
+still_before : (w u z : WorldState) (c : ℕ) → stamp_of w c ≤ stamp_of u c → IsLater (client_at u.clients c) (client_at z.clients c) → StillRuns w z c → StillRuns w u c
+still_before w u z c least later runs =
+    let rises = later.stamp in
+    let stamp = runs.same in
+    let same : stamp_of u c ≡ stamp_of z c = omega arith in
+    record { runs = busy_by _ _ (later.idle same) runs.runs; same = omega arith }
+
+-- a request that runs, the steps so far, and those that are left
+Entries-run : (laws : Laws) (w : Planned) (c d : ℕ) → d ≢ c → (steps : List Step) (u : WorldState) → IsReached (with_state w u) → Always u → StillRuns w.state u c → Behind w.state c u → Entries w.state c d u
+    → StillRuns w.state (run_of (dealing_of w.plans) steps u) c → Entries w.state c d (run_of (dealing_of w.plans) steps u)
+Entries-run laws w c d other [] u r always still behind e end = e
+Entries-run laws w c d other (s ∷ steps) u r always still behind e end =
+    let ok = laws.coherent (with_state w u) r in
+    let next = IsReached-after (with_state w u) r s in
+    let x = after u (step (dealing_of w.plans) u s) in
+    let now = laws.coherent (with_state w x) next in
+    let moved = Moved-step (dealing_of w.plans) u ok.numbered s in
+    let always_x = Always-reached laws (with_state w x) next in
+    let least : stamp_of w.state c ≤ stamp_of x c = (let first = behind.clients.later c in let rises = (IsLater-moved laws.client u x ok now moved c).stamp in omega arith) in
+    let still_x = still_before w.state x (run_of (dealing_of w.plans) steps x) c least (IsLater-run laws w steps x next c) end in
+    let behind_x = Behind-moved laws w.state u x c ok now always always_x still moved behind in
+    Entries-run laws w c d other steps x next always_x still_x behind_x (Entries-moved laws.client w.state u x c d ok now behind behind_x still_x.runs other moved e) end
+
+Entries-first : (w : WorldState) (c d : ℕ) → Entries w c d w
+Entries-first w c d = record {
+  more = [];
+  visible = sym (append-nil w.visible);
+  counted = record { few = omega arith; once = λ one. absurd (omega arith); twice = λ two. absurd (omega arith); clock = λ two. absurd (omega arith) };
+}
+
+pub nobody_overtakes : Laws → (w : Planned) (c d : ℕ) (steps : List Step) (more : List Event) → IsReached w → IsKnownEverywhere w.state c → d ≢ c → StillRuns w.state (run_of (dealing_of w.plans) steps w.state) c
+    → (run_of (dealing_of w.plans) steps w.state).visible ≡ w.state.visible ++ more → entered_by d more ≤ 2
+nobody_overtakes laws w c d steps more r known other end visible =
+    let ok = laws.coherent w r in
+    let always = Always-reached laws w r in
+    let still : StillRuns w.state w.state c = record { runs = known.runs; same = refl } in
+    let e = Entries-run laws w c d other steps w.state r always still (Behind-first w.state c ok always known) (Entries-first w.state c d) end in
+    let same : more ≡ e.more = append_cancel_left w.state.visible more e.more (sym visible ∙ e.visible) in
+    subst (λ es. entered_by d es ≤ 2) (sym same) e.counted.few

@@ -1,0 +1,91 @@
+-- what is known of clients, voters and worlds
+use Rattle.std.specs.Prelude.{slice_index, ℕ, ◌≡◌, ◌<◌, ◌≤◌, ◌⊎◌, List, [], ◌∷◌, Ok, Err, Some, true, false}
+use Rattle.std.specs.FinMap.{get}
+use Rattle.std.specs.List.{Contains}
+use Rattle.message.specs.declared.message.ClientBody.TheVariants as tells
+use Rattle.message.specs.declared.message.ToClient.{ToClient}
+use Rattle.message.specs.declared.message.ToVoter.{ToVoter}
+use Rattle.message.specs.declared.message.VoterBody.TheVariants as asks
+use Rattle.voter.specs.declared.state.Grant.{Grant}
+use Rattle.voter.specs.declared.state.VoterState.{VoterState}
+use Rattle.numbers.specs.Bounds.{max_voters}
+use Rattle.voter.specs.Entries.{Finishes, FinishesBy, KnowsUpTo, request_of}
+use Rattle.voter.specs.Replies.{AllCarry, CarrySeen}
+use Rattle.voter.specs.Steps as voter
+use Rattle.voter.specs.VoteMoves.{GrantIsNew, VoteMoves}
+use Rattle.voter.specs.VoterContract as votes
+use Rattle.voter.specs.Waiting.{precedes}
+use Rattle.requester.specs.declared.fault.ClientFault.TheVariants.{Busy}
+use Rattle.requester.specs.declared.state.ClientState.{ClientState}
+use Rattle.requester.specs.declared.state.Seen.TheVariants.{Nothing}
+use Rattle.requester.specs.Clocks.{KeepsTime}
+use Rattle.requester.specs.Held.{KeepsMark}
+use Rattle.requester.specs.RequesterContract.{Accepts, MeetsContract}
+use Rattle.requester.specs.Soundness.{IsSound}
+use Rattle.requester.specs.Steps as requester
+use Rattle.requester.specs.Words.{holds, is_asking, is_current, is_idle, is_inside, is_member, is_relinquished, last_of}
+use Rattle.world.specs.Coherence.{IsCoherent}
+use Rattle.world.specs.Runs.{IsReached}
+use Rattle.world.specs.Steps.{Planned}
+
+pub record ClientLaws : Type 0 where
+  pub meets : (x : ClientState) (cause : requester.Cause) (o : requester.Outcome) → IsSound x → Accepts x cause → requester.step x cause ≡ Ok o → MeetsContract x cause o
+  pub clock : (x : ClientState) (cause : requester.Cause) (o : requester.Outcome) → IsSound x → requester.step x cause ≡ Ok o → KeepsTime x cause o.state
+  pub inside : (x : ClientState) (v : ℕ) → IsSound x → is_inside x.phase ≡ true → is_member x v ≡ true → holds x v ≡ true
+  pub busy : (x : ClientState) (quorum : List ℕ) → is_idle x.phase ≡ false → requester.ask x quorum ≡ Err Busy
+
+pub record VoterLaws : Type 0 where
+  pub meets : (v : VoterState) (m : ToVoter) (o : voter.Outcome) → voter.step v m ≡ Some o → votes.MeetsContract v m o
+  pub repeats : (v : VoterState) → votes.AllTell v.held (voter.remind v)
+  pub numbers : (v : VoterState) (m : ToVoter) (o : voter.Outcome) → voter.IsSound v → voter.step v m ≡ Some o → VoteMoves (voter.effect_of v m).frees v o.state
+  pub carries : (v : VoterState) (m : ToVoter) (o : voter.Outcome) → voter.step v m ≡ Some o → CarrySeen v m o
+  pub remembers : (v : VoterState) → AllCarry v.id v.seen (voter.remind v)
+  pub stays : (v : VoterState) (m : ToVoter) (o : voter.Outcome) (client stamp : ℕ) → voter.IsSound v → voter.step v m ≡ Some o
+      → votes.IsEntry v client stamp → votes.IsEntry o.state client stamp ⊎ Finishes m.client m.body client stamp
+  pub first : (v : VoterState) (m : ToVoter) (o : voter.Outcome) (g : Grant) (client stamp : ℕ) → voter.IsSound v → voter.step v m ≡ Some o → o.state.held ≡ Some g → v.granted < g.grant
+      → votes.IsEntry v client stamp → get o.state.waiting client ≡ Some stamp → precedes (record { stamp = stamp; client = client }) (request_of g) ≡ false
+
+pub record Laws : Type 0 where
+  pub client : ClientLaws
+  pub voter : VoterLaws
+  pub coherent : (w : Planned) → IsReached w → IsCoherent w.state
+
+-- what a vote that comes back depends on
+pub record ReturnLaws : Type 0 where
+  pub repeats : (v : VoterState) (g : Grant) → v.held ≡ Some g → voter.remind v ≡ voter.reply v g.client (tells.Locked g.stamp g.grant) ∷ voter.inquiry_again v.inquiring v g
+  pub released : (x : ClientState) (m : ToClient) (stamp grant : ℕ) → m.body ≡ tells.Locked stamp grant → is_current x stamp ≡ false
+      → requester.take x m ≡ record { out = requester.tell x m.voter (asks.Release stamp) ∷ []; seen = Nothing; state = requester.see x m.seen }
+  pub takes : (v : VoterState) (m : ToVoter) → voter.IsSound v → v.granted < v.limit → (o : voter.Outcome) × (voter.step v m ≡ Some o)
+  pub ends : (v : VoterState) (m : ToVoter) (o : voter.Outcome) (g : Grant) (stamp : ℕ) → voter.IsSound v → v.held ≡ Some g → m.client ≡ g.client → m.body ≡ asks.Release stamp → g.stamp ≤ stamp
+      → voter.step v m ≡ Some o → (s : ℕ) → votes.IsEntry o.state g.client s → ⊥
+  pub stays : (v : VoterState) (m : ToVoter) (o : voter.Outcome) (client stamp : ℕ) → voter.IsSound v → voter.step v m ≡ Some o
+      → votes.IsEntry v client stamp → votes.IsEntry o.state client stamp ⊎ Finishes m.client m.body client stamp
+  pub coherent : (w : Planned) → IsReached w → IsCoherent w.state
+
+-- what the last grants given back and the finished stamps depend on
+pub record FittingLaws : Type 0 where
+  pub marks : (x : ClientState) (m : ToClient) (v : ℕ) → IsSound x → v < max_voters → KeepsMark x (requester.take x m).state v
+  pub finishes : (v : VoterState) (m : ToVoter) (o : voter.Outcome) → voter.step v m ≡ Some o → FinishesBy v m.client m.body o.state
+  pub coherent : (w : Planned) → IsReached w → IsCoherent w.state
+  pub client : ClientLaws
+  pub voter : VoterLaws
+
+-- what a vote that goes on depends on
+pub record BackLaws : Type 0 where
+  pub takes : (v : VoterState) (m : ToVoter) → voter.IsSound v → v.granted < v.limit → (o : voter.Outcome) × (voter.step v m ≡ Some o)
+  pub stays : (v : VoterState) (m : ToVoter) (o : voter.Outcome) (client stamp : ℕ) → voter.IsSound v → voter.step v m ≡ Some o
+      → votes.IsEntry v client stamp → votes.IsEntry o.state client stamp ⊎ Finishes m.client m.body client stamp
+  pub goes_on : (v : VoterState) (m : ToVoter) (o : voter.Outcome) (g : Grant) → voter.IsSound v → v.held ≡ Some g → m.client ≡ g.client → m.body ≡ asks.Relinquish g.grant → voter.step v m ≡ Some o → GrantIsNew v o.state
+  pub gives : (x : ClientState) (v : ℕ) → is_asking x.phase ≡ true → is_member x v ≡ true → holds x v ≡ false → is_relinquished x v ≡ true
+      → Contains (requester.remind x) (requester.tell x v (asks.Relinquish (last_of x v)))
+  pub coherent : (w : Planned) → IsReached w → IsCoherent w.state
+  pub fitting : FittingLaws
+
+-- what a way in depends on
+pub record AloneLaws : Type 0 where
+  pub requests : (x : ClientState) (v : ℕ) → is_asking x.phase ≡ true → is_member x v ≡ true → holds x v ≡ false → Contains (requester.remind x) (requester.tell x v (asks.Request x.stamp))
+  pub taken_up : (v : VoterState) (m : ToVoter) (o : voter.Outcome) (stamp : ℕ) → voter.IsSound v → m.body ≡ asks.Request stamp → slice_index v.finished m.client < stamp → KnowsUpTo v m.client stamp
+      → voter.step v m ≡ Some o → votes.IsEntry o.state m.client stamp
+  pub fitting : FittingLaws
+  pub returns : ReturnLaws
+  pub back : BackLaws

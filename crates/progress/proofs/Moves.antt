@@ -1,0 +1,232 @@
+-- what one step of a world changes
+use Rattle.std.proofs.Common.{◌≡◌, ◌≢◌, ℕ, ◌<◌, Bool, true, false, List, [], ◌∷◌, ◌++◌, map, length, set, Option, Some, None, Result, Ok, Err, refl, sym, ap, subst, ◌∙◌, ◌⊎◌, inl, inr, arith}
+use Rattle.std.specs.Prelude.{zero, suc, nat_lt, slice_get}
+use Rattle.std.specs.List.{AllByRecursion}
+use Rattle.std.proofs.lemmas.Bool.Decides.{nat_tests}
+use Rattle.std.proofs.lemmas.List.{append-nil, get_or-set_same, get_or-set_other}
+use Rattle.std.proofs.lemmas.Option.{none-some, same_Some}
+use Rattle.message.specs.declared.message.Message.{Message}
+use Rattle.message.specs.declared.message.Message.TheVariants as kinds
+use Rattle.message.specs.declared.message.ToClient.{ToClient}
+use Rattle.message.specs.declared.message.ToVoter.{ToVoter}
+use Rattle.voter.specs.declared.state.VoterState.{VoterState}
+use Rattle.voter.specs.Steps as voter
+use Rattle.requester.specs.declared.fault.ClientFault.{ClientFault}
+use Rattle.requester.specs.declared.state.ClientState.{ClientState}
+use Rattle.requester.specs.Steps as requester
+use Rattle.quorum_set.specs.declared.bridge.Side.{Side}
+use Rattle.quorum_set.specs.declared.bridge.Side.TheVariants.{First, Second}
+use Rattle.world.specs.declared.fault.WorldFault.{WorldFault}
+use Rattle.world.specs.declared.step.Step.{Step}
+use Rattle.world.specs.declared.step.Step.TheVariants.{Ask, Deliver, Leave, GiveUp, RemindClient, RemindVoter, Exchange}
+use Rattle.world.specs.Ranges.{IsAddressed, IsNumbered}
+use Rattle.world.specs.Runs.{IsReached, after, run_of, start_by}
+use Rattle.world.specs.Steps.{Dealing, Outcome, Planned, WorldState, after_client, after_voter, client_at, come, dealing_of, draw_of, events, exchange, if_client, if_voter, next_ticket, quorum_dealt, say, step, voter_at}
+
+pub AllByRecursion-get : (P : Message → Type 0) (ms : List Message) (k : ℕ) (m : Message) → AllByRecursion P ms → slice_get ms k ≡ Some m → P m
+AllByRecursion-get P [] k m h is = absurd (none-some m is)
+AllByRecursion-get P (n ∷ ns) zero m h is = subst P (same_Some n m is) h.0
+AllByRecursion-get P (n ∷ ns) (suc k) m h is = AllByRecursion-get P ns k m h.1 is
+
+-- what came is a message that was sent to this client
+abbrev pub Came : WorldState → ℕ → requester.Cause → Type 0
+Came w c (requester.Asks quorum) = Unit {0}
+Came w c (requester.Takes m) = (m.client ≡ c) × (k : ℕ) × (slice_get w.sent k ≡ Some (kinds.ToClient m))
+Came w c requester.Leaves = Unit {0}
+Came w c requester.GivesUp = Unit {0}
+
+-- one client took a step
+pub record ClientMoved (w u : WorldState) : Type 0 where
+  pub who : ℕ
+  pub cause : requester.Cause
+  pub outcome : requester.Outcome
+  pub within : who < length w.clients
+  pub step : requester.step (client_at w.clients who) cause ≡ Ok outcome
+  pub came : Came w who cause
+  pub here : client_at u.clients who ≡ outcome.state
+  pub others : (q : ℕ) → q ≢ who → client_at u.clients q ≡ client_at w.clients q
+  pub voters : u.voters ≡ w.voters
+  pub sent : u.sent ≡ w.sent ++ map kinds.ToVoter outcome.out
+  pub visible : u.visible ≡ w.visible ++ events who outcome.seen
+
+-- one voter took a message
+pub record VoterMoved (w u : WorldState) : Type 0 where
+  pub message : ToVoter
+  pub outcome : voter.Outcome
+  pub place : ℕ
+  pub came : slice_get w.sent place ≡ Some (kinds.ToVoter message)
+  pub step : voter.step (voter_at w.voters message.voter) message ≡ Some outcome
+  pub here : voter_at u.voters message.voter ≡ outcome.state
+  pub others : (q : ℕ) → q ≢ message.voter → voter_at u.voters q ≡ voter_at w.voters q
+  pub clients : u.clients ≡ w.clients
+  pub sent : u.sent ≡ w.sent ++ map kinds.ToClient outcome.replies
+  pub visible : u.visible ≡ w.visible
+
+-- messages to voters, or the reminder of a voter
+abbrev pub IsReminder : WorldState → List Message → Type 0
+IsReminder w more =
+    ((out : List ToVoter) × (more ≡ map kinds.ToVoter out)) ⊎ ((v : ℕ) × (v < length w.voters) × (more ≡ map kinds.ToClient (voter.remind (voter_at w.voters v))))
+
+-- messages were sent, perhaps none, and nothing else changed
+pub record OnlySent (w u : WorldState) : Type 0 where
+  pub more : List Message
+  pub reminder : IsReminder w more
+  pub clients : u.clients ≡ w.clients
+  pub voters : u.voters ≡ w.voters
+  pub sent : u.sent ≡ w.sent ++ more
+  pub visible : u.visible ≡ w.visible
+
+abbrev pub Moved : WorldState → WorldState → Type 0
+Moved w u = ClientMoved w u ⊎ VoterMoved w u ⊎ OnlySent w u
+
+Moved-self : (w u : WorldState) → u.clients ≡ w.clients → u.voters ≡ w.voters → u.sent ≡ w.sent → u.visible ≡ w.visible → Moved w u
+Moved-self w u clients voters sent visible =
+    inr (inr (record { more = []; reminder = inl ([], refl); clients = clients; voters = voters; sent = sent ∙ sym (append-nil w.sent); visible = visible }))
+
+pub client_here : (cs : List ClientState) (c : ℕ) (x : ClientState) → c < length cs → client_at (set cs c x) c ≡ x
+unfolding client_at
+client_here cs c x within = get_or-set_same cs c x (requester.start 0 1) within
+
+pub client_others : (cs : List ClientState) (c : ℕ) (x : ClientState) (q : ℕ) → q ≢ c → client_at (set cs c x) q ≡ client_at cs q
+unfolding client_at
+client_others cs c x q other = get_or-set_other cs c q x (requester.start 0 1) other
+
+pub voter_here : (vs : List VoterState) (v : ℕ) (y : VoterState) → v < length vs → voter_at (set vs v y) v ≡ y
+unfolding voter_at
+voter_here vs v y within = get_or-set_same vs v y (voter.start 0 1) within
+
+pub voter_others : (vs : List VoterState) (v : ℕ) (y : VoterState) (q : ℕ) → q ≢ v → voter_at (set vs v y) q ≡ voter_at vs q
+unfolding voter_at
+voter_others vs v y q other = get_or-set_other vs v q y (voter.start 0 1) other
+
+Moved-after_client : (w : WorldState) (c : ℕ) (cause : requester.Cause) → c < length w.clients → Came w c cause
+    → (r : Result requester.Outcome ClientFault) → requester.step (client_at w.clients c) cause ≡ r → Moved w (after w (after_client w c r))
+Moved-after_client w c cause within came (Ok o) is = inl (record {
+  who = c;
+  cause = cause;
+  outcome = o;
+  within = within;
+  step = is;
+  came = came;
+  here = client_here w.clients c o.state within;
+  others = client_others w.clients c o.state;
+  voters = refl;
+  sent = refl;
+  visible = refl;
+})
+Moved-after_client w c cause within came (Err fault) is = Moved-self w w refl refl refl refl
+
+Moved-after_draw : (side : Side) (w : WorldState) (c : ℕ) (cause : requester.Cause) → c < length w.clients → Came w c cause
+    → (r : Result requester.Outcome ClientFault) → requester.step (client_at w.clients c) cause ≡ r → Moved w (after w (after_client (draw_of side w c) c r))
+Moved-after_draw First w c cause within came (Ok o) is = inl (record {
+  who = c;
+  cause = cause;
+  outcome = o;
+  within = within;
+  step = is;
+  came = came;
+  here = client_here w.clients c o.state within;
+  others = client_others w.clients c o.state;
+  voters = refl;
+  sent = refl;
+  visible = refl;
+})
+Moved-after_draw Second w c cause within came (Ok o) is = inl (record {
+  who = c;
+  cause = cause;
+  outcome = o;
+  within = within;
+  step = is;
+  came = came;
+  here = client_here w.clients c o.state within;
+  others = client_others w.clients c o.state;
+  voters = refl;
+  sent = refl;
+  visible = refl;
+})
+Moved-after_draw side w c cause within came (Err fault) is = Moved-self w w refl refl refl refl
+
+Moved-after_voter : (w : WorldState) (m : ToVoter) (k : ℕ) → slice_get w.sent k ≡ Some (kinds.ToVoter m) → m.voter < length w.voters
+    → (r : Option voter.Outcome) → voter.step (voter_at w.voters m.voter) m ≡ r → Moved w (after w (after_voter w m.voter r))
+Moved-after_voter w m k came within (Some o) is = inr (inl (record {
+  message = m;
+  outcome = o;
+  place = k;
+  came = came;
+  step = is;
+  here = voter_here w.voters m.voter o.state within;
+  others = voter_others w.voters m.voter o.state;
+  clients = refl;
+  sent = refl;
+  visible = refl;
+}))
+Moved-after_voter w m k came within None is = Moved-self w w refl refl refl refl
+
+Moved-come : (w : WorldState) → IsNumbered w → (k : ℕ) (o : Option Message) → slice_get w.sent k ≡ o → Moved w (after w (come w k o))
+Moved-come w ok k None is = Moved-self w w refl refl refl refl
+Moved-come w ok k (Some (kinds.ToVoter m)) is =
+    let a = AllByRecursion-get (IsAddressed w) w.sent k (kinds.ToVoter m) ok.messages is in
+    Moved-after_voter w m k is a.1 _ refl
+Moved-come w ok k (Some (kinds.ToClient m)) is =
+    let a = AllByRecursion-get (IsAddressed w) w.sent k (kinds.ToClient m) ok.messages is in
+    Moved-after_client w m.client (requester.Takes m) a.0 (refl, k, is) _ refl
+
+less_than : (a b : ℕ) → nat_lt a b ≡ true → a < b
+less_than a b h = grind (arith, nat_tests)
+
+if_one : (w : WorldState) (t : Bool) (c : ℕ) (next : Result Outcome WorldFault) → (t ≡ true → Moved w (after w next)) → Moved w (after w (if_client t c next))
+if_one w true c next then = then refl
+if_one w false c next then = Moved-self w w refl refl refl refl
+
+if_voter_one : (w : WorldState) (t : Bool) (v : ℕ) (next : Result Outcome WorldFault) → (t ≡ true → Moved w (after w next)) → Moved w (after w (if_voter t v next))
+if_voter_one w true v next then = then refl
+if_voter_one w false v next then = Moved-self w w refl refl refl refl
+
+Moved-exchange : (w : WorldState) (two : Bool) (side : Side) → Moved w (after w (exchange two side w))
+Moved-exchange w true First = Moved-self w _ refl refl refl refl
+Moved-exchange w true Second = Moved-self w w refl refl refl refl
+Moved-exchange w false side = Moved-self w w refl refl refl refl
+
+pub Moved-step : (deal : Dealing) (w : WorldState) → IsNumbered w → (s : Step) → Moved w (after w (step deal w s))
+unfolding step
+Moved-step deal w ok (Ask c) = if_one w _ c _ (λ t. Moved-after_draw w.side w c (requester.Asks (quorum_dealt deal w.side (next_ticket w))) (less_than _ _ t) tt _ refl)
+Moved-step deal w ok (Deliver k) = Moved-come w ok k (slice_get w.sent k) refl
+Moved-step deal w ok (Leave c) = if_one w _ c _ (λ t. Moved-after_client w c requester.Leaves (less_than _ _ t) tt _ refl)
+Moved-step deal w ok (GiveUp c) = if_one w _ c _ (λ t. Moved-after_client w c requester.GivesUp (less_than _ _ t) tt _ refl)
+Moved-step deal w ok (RemindClient c) = if_one w (nat_lt c (length w.clients)) c (Ok (say w (map kinds.ToVoter (requester.remind (client_at w.clients c))))) (λ t. inr (inr (record {
+  more = map kinds.ToVoter (requester.remind (client_at w.clients c));
+  reminder = inl (requester.remind (client_at w.clients c), refl);
+  clients = refl;
+  voters = refl;
+  sent = refl;
+  visible = refl;
+})))
+Moved-step deal w ok (RemindVoter v) = if_voter_one w (nat_lt v (length w.voters)) v (Ok (say w (map kinds.ToClient (voter.remind (voter_at w.voters v))))) (λ t. inr (inr (record {
+  more = map kinds.ToClient (voter.remind (voter_at w.voters v));
+  reminder = inr (v, less_than _ _ t, refl);
+  clients = refl;
+  voters = refl;
+  sent = refl;
+  visible = refl;
+})))
+Moved-step deal w ok Exchange = Moved-exchange w _ w.side
+
+-- ---- more steps of a world that is reached
+
+run_more : (deal : Dealing) (steps : List Step) (s : Step) (w : WorldState) → run_of deal (steps ++ s ∷ []) w ≡ after (run_of deal steps w) (step deal (run_of deal steps w) s)
+run_more deal [] s w = refl
+run_more deal (t ∷ steps) s w = run_more deal steps s (after w (step deal w t))
+
+-- the same plans, with this world
+abbrev pub with_state : Planned → WorldState → Planned
+with_state w u = record { plans = w.plans; state = u }
+
+pub IsReached-after : (w : Planned) → IsReached w → (s : Step) → IsReached (with_state w (after w.state (step (dealing_of w.plans) w.state s)))
+IsReached-after w r s = record {
+  plans = r.plans;
+  clients = r.clients;
+  limit = r.limit;
+  limits = r.limits;
+  steps = r.steps ++ s ∷ [];
+  state = ap (λ (v : WorldState). after v (step (dealing_of w.plans) v s)) r.state ∙ sym (run_more (dealing_of w.plans) r.steps s (start_by w.plans r.clients r.limit));
+}

@@ -1,0 +1,3 @@
+pub mod LostVotes
+pub mod Overtaking
+pub mod WayIn

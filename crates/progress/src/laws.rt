@@ -1,0 +1,117 @@
+//! Laws on progress.
+ghost use Rattle.std.specs.Prelude.{◌≡◌, ◌≢◌, ◌≤◌, ◌+◌, ◌++◌, ℕ, List, length};
+ghost use Rattle.progress.specs.LostVotes.{ComesBack, GoesOn, HasLostVote, HasReturnedVote};
+ghost use Rattle.progress.specs.Overtaking.{IsKnownEverywhere, StillRuns, entered_by};
+ghost use Rattle.progress.specs.WayIn.{AsksAlone, HasGrants, IsWayIn};
+ghost use Rattle.voter.specs.declared.state.Grant.{Grant};
+ghost use Rattle.world.specs.declared.step.Event.{Event};
+ghost use Rattle.world.specs.declared.step.Step.{Step};
+ghost use Rattle.world.specs.Runs.{IsReached, run_of};
+ghost use Rattle.world.specs.Steps.{Planned, dealing_of};
+
+use requester::{
+    clocks_never_fall, old_votes_go_back, phases_tell_refusals, phases_tell_votes,
+    reminders_ask_again, requesters_meet_the_contract, votes_given_back_are_marked,
+};
+use voter::{
+    grants_are_numbered, messages_finish_requests, releases_end_requests,
+    reminders_repeat_the_vote, replies_carry_what_was_seen, requests_are_taken_up, requests_stay,
+    voters_meet_the_contract, voters_with_grants_take_messages, votes_given_back_go_on,
+    votes_go_to_the_first,
+};
+use world::worlds_stay_coherent;
+
+/// Once every voter of its quorum knows a request, no other client enters more than twice before the
+/// request ends: until its client has left, or has given up.
+///
+/// This holds for every list of steps, whatever is lost, late or repeated, and also while a plan is
+/// exchanged.
+pub fn nobody_overtakes_often()
+    ensures { (w : Planned) (c d : ℕ) (steps : List Step) (more : List Event) → IsReached w
+        → IsKnownEverywhere w.state c → d ≢ c → StillRuns w.state (run_of (dealing_of w.plans) steps w.state) c
+        → (run_of (dealing_of w.plans) steps w.state).visible ≡ w.state.visible ++ more → entered_by d more ≤ 2 }
+{
+    requesters_meet_the_contract();
+    clocks_never_fall();
+    phases_tell_votes();
+    phases_tell_refusals();
+    voters_meet_the_contract();
+    grants_are_numbered();
+    replies_carry_what_was_seen();
+    requests_stay();
+    votes_go_to_the_first();
+    worlds_stay_coherent();
+}
+
+/// No vote is lost for good: if its request is over, it comes back by one reminder of its voter and two
+/// messages that are sent after it. These are the LOCKED of the reminder, and the RELEASE with which the
+/// client answers it.
+///
+/// So it does not matter which RELEASE was lost before. The voter has to have one grant left, since the
+/// vote goes to the next request.
+pub fn lost_votes_come_back()
+    ensures { (w : Planned) (v : ℕ) (g : Grant) → IsReached w → HasLostVote w.state v g
+        → ComesBack (dealing_of w.plans) w.state v g }
+{
+    reminders_repeat_the_vote();
+    old_votes_go_back();
+    voters_with_grants_take_messages();
+    releases_end_requests();
+    requests_stay();
+    worlds_stay_coherent();
+}
+
+/// A vote that its client gave back while it asks goes on by one reminder of that client and one message
+/// that is sent after it, the RELINQUISH of the reminder: another grant has it, under the next number.
+///
+/// So it does not matter whether the first RELINQUISH was lost. The voter has to have one grant left.
+pub fn returned_votes_go_on()
+    ensures { (w : Planned) (v : ℕ) (g : Grant) → IsReached w → HasReturnedVote w.state v g
+        → GoesOn (dealing_of w.plans) w.state v g }
+{
+    requesters_meet_the_contract();
+    clocks_never_fall();
+    phases_tell_votes();
+    phases_tell_refusals();
+    votes_given_back_are_marked();
+    reminders_ask_again();
+    voters_meet_the_contract();
+    grants_are_numbered();
+    replies_carry_what_was_seen();
+    requests_stay();
+    votes_go_to_the_first();
+    messages_finish_requests();
+    voters_with_grants_take_messages();
+    votes_given_back_go_on();
+    worlds_stay_coherent();
+}
+
+/// A client that asks while all others are idle gets in by reminders and by messages that are sent after
+/// them, whatever was lost, late or repeated before. Nobody else enters meanwhile.
+///
+/// Each voter has to have two grants more left than there are clients: one for each old request that it
+/// still knows, one for the new request, and one if the client gave its vote back.
+pub fn who_asks_alone_gets_in()
+    ensures { (w : Planned) (c : ℕ) → IsReached w → AsksAlone w.state c
+        → HasGrants (length w.state.clients + 2) w.state → (steps : List Step) × IsWayIn (dealing_of w.plans) w.state c steps }
+{
+    requesters_meet_the_contract();
+    clocks_never_fall();
+    phases_tell_votes();
+    phases_tell_refusals();
+    votes_given_back_are_marked();
+    old_votes_go_back();
+    reminders_ask_again();
+    voters_meet_the_contract();
+    grants_are_numbered();
+    replies_carry_what_was_seen();
+    requests_stay();
+    votes_go_to_the_first();
+    requests_are_taken_up();
+    messages_finish_requests();
+    releases_end_requests();
+    reminders_repeat_the_vote();
+    voters_with_grants_take_messages();
+    votes_given_back_go_on();
+    worlds_stay_coherent();
+}

@@ -1,0 +1,6 @@
+pub mod Bytes
+pub mod ClientSteps
+pub mod FenceSteps
+pub mod Lines
+pub mod Numbers
+pub mod VoterSteps

@@ -1,0 +1,131 @@
+-- how the clock goes on, and what goes back to whom
+use Rattle.std.proofs.Common.{◌≡◌, ℕ, Bool, true, false, List, [], ◌∷◌, ◌++◌, eqb, refl, sym, ap, subst, ◌∙◌, inl, inr, arith, Ok}
+use Rattle.std.specs.Prelude.{◌||◌}
+use Rattle.std.specs.List.{Contains, flat_map}
+use Rattle.std.proofs.lemmas.Bool.{false≢true}
+use Rattle.std.proofs.lemmas.Bool.Decides.{nat_tests}
+use Rattle.std.proofs.lemmas.List.Elements.{Contains-append_left, Contains-append_right}
+use Rattle.numbers.specs.Sets.{has}
+use Rattle.message.specs.declared.message.ToClient.{ToClient}
+use Rattle.message.specs.declared.message.ToVoter.{ToVoter}
+use Rattle.message.specs.declared.message.ClientBody.{ClientBody}
+use Rattle.message.specs.declared.message.ClientBody.TheVariants as tells
+use Rattle.message.specs.declared.message.VoterBody.TheVariants as asks
+use Rattle.requester.specs.declared.state.ClientState.{ClientState}
+use Rattle.requester.specs.declared.state.Phase.{Phase}
+use Rattle.requester.specs.declared.state.Phase.TheVariants.{Idle, Asking, Inside}
+use Rattle.requester.specs.declared.state.Seen.TheVariants.{Nothing}
+use Rattle.requester.specs.Clocks.{KeepsTime}
+use Rattle.requester.specs.Words.{holds, is_asking, is_current, is_member, is_relinquished, last_of, members}
+use Rattle.requester.specs.Soundness.{IsSound}
+use Rattle.requester.specs.Steps.{Outcome, Cause, Asks, Takes, Leaves, GivesUp, step, take, take_body, see, tell, locked, locked_by, enter_if, hold, failed, failed_by, inquired, inquired_by, remind, remind_in, remind_by, remind_member}
+use Rattle.requester.proofs.Giving.{GivesBack, GivesBack-relinquish}
+use Rattle.requester.proofs.SoundSteps.{GivesBack-failed_by, IsSound-see, Ok-same, ask-Ok, leave-Ok, give_up-Ok}
+
+-- ---- a message
+
+-- the clock and the stamp are as they were, and a client that asks afterwards asked before
+record Stays (x y : ClientState) : Type 0 where
+  clock : y.clock ≡ x.clock
+  stamp : y.stamp ≡ x.stamp
+  asking : is_asking y.phase ≡ true → is_asking x.phase ≡ true
+
+Stays-self : (x : ClientState) → Stays x x
+Stays-self x = record { clock = refl; stamp = refl; asking = λ a. a }
+
+Stays-enter : (b : Bool) (x : ClientState) (v g : ℕ) → Stays x (enter_if b (hold x v g)).state
+Stays-enter false x v g = record { clock = refl; stamp = refl; asking = λ a. a }
+Stays-enter true x v g = record { clock = refl; stamp = refl; asking = λ a. absurd (false≢true a) }
+
+Stays-locked_by : (current fresh : Bool) (x : ClientState) (v t g : ℕ) → Stays x (locked_by current fresh x v t g).state
+Stays-locked_by false fresh x v t g = Stays-self x
+Stays-locked_by true false x v t g = Stays-self x
+Stays-locked_by true true x v t g = Stays-enter _ x v g
+
+Stays-GivesBack : (x : ClientState) (o : Outcome) → GivesBack x o → Stays x o.state
+Stays-GivesBack x o k = record { clock = k.clock; stamp = k.stamp; asking = λ a. ap is_asking (sym k.phase) ∙ a }
+
+Stays-failed_by : (b : Bool) (x : ClientState) (v : ℕ) → IsSound x → Stays x (failed_by b x v).state
+Stays-failed_by false x v s = Stays-self x
+Stays-failed_by true x v s = Stays-GivesBack x (failed_by true x v) (GivesBack-failed_by x v s.places)
+
+Stays-inquired_by : (b hindered : Bool) (x : ClientState) (v : ℕ) → IsSound x → Stays x (inquired_by b hindered x v).state
+Stays-inquired_by false hindered x v s = Stays-self x
+Stays-inquired_by true false x v s = record { clock = refl; stamp = refl; asking = λ a. a }
+Stays-inquired_by true true x v s = Stays-GivesBack x (inquired_by true true x v) (GivesBack-relinquish x v s.places)
+
+Stays-body : (x : ClientState) (v : ℕ) (b : ClientBody) → IsSound x → Stays x (take_body x v b).state
+unfolding locked failed inquired
+Stays-body x v (tells.Locked t g) s = Stays-locked_by _ _ x v t g
+Stays-body x v (tells.Fail t) s = Stays-failed_by _ x v s
+Stays-body x v (tells.Inquire g) s = Stays-inquired_by _ _ x v s
+
+Stays-take : (x : ClientState) (m : ToClient) → IsSound x → Stays (see x m.seen) (take x m).state
+unfolding take
+Stays-take x m s = Stays-body (see x m.seen) m.voter m.body (IsSound-see x m.seen s)
+
+KeepsTime-take : (x : ClientState) (m : ToClient) → IsSound x → KeepsTime x (Takes m) (take x m).state
+KeepsTime-take x m s =
+    let k = Stays-take x m s in
+    let clock = k.clock in
+    record { clock = omega arith; heard = omega arith; asking = λ a. inl (k.asking a, k.stamp) }
+
+-- ---- a call
+
+KeepsTime-call : (x : ClientState) (cause : Cause) (o p : Outcome) → p ≡ o → KeepsTime x cause p.state → KeepsTime x cause o.state
+KeepsTime-call x cause o p same k = subst (λ (q : Outcome). KeepsTime x cause q.state) same k
+
+pub KeepsTime-step : (x : ClientState) (cause : Cause) (o : Outcome) → IsSound x → step x cause ≡ Ok o → KeepsTime x cause o.state
+unfolding step
+KeepsTime-step x (Asks q) o s e = KeepsTime-call x (Asks q) o _ (ask-Ok x q o e).2 (record { clock = omega arith; heard = tt; asking = λ _. inr (omega arith) })
+KeepsTime-step x (Takes m) o s e = KeepsTime-call x (Takes m) o _ (Ok-same (take x m) o e) (KeepsTime-take x m s)
+KeepsTime-step x Leaves o s e = KeepsTime-call x Leaves o _ (leave-Ok x o e).1 (record { clock = omega arith; heard = tt; asking = λ a. absurd (false≢true a) })
+KeepsTime-step x GivesUp o s e = KeepsTime-call x GivesUp o _ (give_up-Ok x o e).1 (record { clock = omega arith; heard = tt; asking = λ a. absurd (false≢true a) })
+
+-- ---- a vote for a request that is over
+
+old-locked_by : (b fresh : Bool) (x : ClientState) (v t g : ℕ) → b ≡ false → locked_by b fresh x v t g ≡ record { out = tell x v (asks.Release t) ∷ []; seen = Nothing; state = x }
+old-locked_by true fresh x v t g e = absurd (false≢true (sym e))
+old-locked_by false fresh x v t g e = refl
+
+old-body : (x : ClientState) (v t g : ℕ) (b : ClientBody) → b ≡ tells.Locked t g → is_current x t ≡ false → take_body x v b ≡ record { out = tell x v (asks.Release t) ∷ []; seen = Nothing; state = x }
+unfolding locked
+old-body x v t g b is over = ap (take_body x v) is ∙ old-locked_by _ _ x v t g over
+
+pub old-take : (x : ClientState) (m : ToClient) (stamp grant : ℕ) → m.body ≡ tells.Locked stamp grant → is_current x stamp ≡ false
+    → take x m ≡ record { out = tell x m.voter (asks.Release stamp) ∷ []; seen = Nothing; state = see x m.seen }
+unfolding take
+old-take x m stamp grant is over = old-body (see x m.seen) m.voter stamp grant m.body is over
+
+-- ---- reminders
+
+Contains-flat_map : (f : ℕ → List ToVoter) (vs : List ℕ) (v : ℕ) (m : ToVoter) → has vs v ≡ true → Contains (f v) m → Contains (flat_map f vs) m
+Contains-flat_map f [] v m is there = absurd (false≢true is)
+Contains-flat_map f (u ∷ us) v m is there =
+    elim (eqb u v) as (λ t. eqb u v ≡ t → (t || has us v) ≡ true → Contains (f u ++ flat_map f us) m) [
+      | true ↦ λ e _. let same : v ≡ u = grind (arith, nat_tests) in Contains-append_left (f u) (flat_map f us) m (subst (λ n. Contains (f n) m) same there)
+      | false ↦ λ _ rest. Contains-append_right (f u) (flat_map f us) m (Contains-flat_map f us v m rest there)
+    ] refl is
+
+asks_by : (held given : Bool) (x : ClientState) (v : ℕ) → held ≡ false → Contains (remind_by held given x v) (tell x v (asks.Request x.stamp))
+asks_by true given x v e = absurd (false≢true (sym e))
+asks_by false false x v e = (0, omega arith, refl)
+asks_by false true x v e = (1, omega arith, refl)
+
+gives_by : (held given : Bool) (x : ClientState) (v : ℕ) → held ≡ false → given ≡ true → Contains (remind_by held given x v) (tell x v (asks.Relinquish (last_of x v)))
+gives_by true given x v e f = absurd (false≢true (sym e))
+gives_by false false x v e f = absurd (false≢true f)
+gives_by false true x v e f = (0, omega arith, refl)
+
+reminds_in : (p : Phase) (x : ClientState) (v : ℕ) (m : ToVoter) → is_asking p ≡ true → is_member x v ≡ true → Contains (remind_member x v) m → Contains (remind_in p x) m
+reminds_in Idle x v m asking member there = absurd (false≢true asking)
+reminds_in Asking x v m asking member there = Contains-flat_map (remind_member x) (members x) v m member there
+reminds_in Inside x v m asking member there = absurd (false≢true asking)
+
+pub reminds-request : (x : ClientState) (v : ℕ) → is_asking x.phase ≡ true → is_member x v ≡ true → holds x v ≡ false → Contains (remind x) (tell x v (asks.Request x.stamp))
+unfolding remind
+reminds-request x v asking member free = reminds_in x.phase x v _ asking member (asks_by (holds x v) (is_relinquished x v) x v free)
+
+pub reminds-relinquish : (x : ClientState) (v : ℕ) → is_asking x.phase ≡ true → is_member x v ≡ true → holds x v ≡ false → is_relinquished x v ≡ true → Contains (remind x) (tell x v (asks.Relinquish (last_of x v)))
+unfolding remind
+reminds-relinquish x v asking member free marked = reminds_in x.phase x v _ asking member (gives_by (holds x v) (is_relinquished x v) x v free marked)

@@ -1,0 +1,8 @@
+use Rattle.requester.proofs.Hindered.{hinders-take, gives-take}
+use Rattle.requester.proofs.laws.hindered_clients_give_votes_back.Goals as goal
+
+pub returns-clause-hinders : goal.returns-clause-hinders
+returns-clause-hinders c = hinders-take
+
+pub returns-clause-gives : goal.returns-clause-gives
+returns-clause-gives c = gives-take

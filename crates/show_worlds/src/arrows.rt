@@ -1,0 +1,191 @@
+//! The messages of a world: an arrow for each arrival, and a cross for each that never came.
+use crate::chart::{Chart, ROW, arrival, shown_moments};
+use crate::kinds::{Kind, arrow, kind_of, lost};
+use coterie_file::Named;
+use message::Message;
+use show_svg::{Point, close_group, close_text, close_title, open_text, open_titled, push_escaped};
+use show_words::{Story, push_message_words};
+use std::alloc::{AllocError, Global};
+
+/// How far before its receiver's column the line of a message ends that never came.
+const SHORT: u64 = 14;
+
+/// The style of what is under a label, so that it can be read on a line.
+const HALO: &str =
+    "font-size=\"9\" stroke=\"#ffffff\" stroke-width=\"3\" stroke-linejoin=\"round\"";
+
+/// Appends a label, on the right or on the left of a place.
+fn push_label_once(
+    out: &mut String,
+    place: Point,
+    style: &str,
+    right: bool,
+    (kind, number): (Kind, u64),
+) -> Result<(), AllocError> {
+    let y = place.y.saturating_add(3);
+    if right {
+        open_text(out, Point::at(place.x.saturating_add(8), y), style)?;
+    } else {
+        let x = place.x.saturating_sub(8);
+        write!(
+            out,
+            "<text x=\"{x}\" y=\"{y}\" text-anchor=\"end\" {style}>"
+        )?;
+    }
+    let word = kind.word();
+    write!(out, "{word} {number}")?;
+    close_text(out)
+}
+
+/// Appends the label of a message beyond the end of its line.
+fn push_label(
+    out: &mut String,
+    from: Point,
+    to: Point,
+    message: &Message,
+) -> Result<(), AllocError> {
+    let right = from.x <= to.x;
+    let label = kind_of(message);
+    push_label_once(out, to, HALO, right, label)?;
+    push_label_once(out, to, "font-size=\"9\"", right, label)
+}
+
+/// Begins the group of a message. Its title says what the message says and when it was sent.
+fn open_message(
+    alloc: Global,
+    out: &mut String,
+    named: &Named,
+    number: usize,
+    sender: u64,
+    message: &Message,
+) -> Result<(), AllocError> {
+    let mut text = String::new(alloc);
+    push_message_words(&mut text, named, message)?;
+    open_titled(out)?;
+    write!(out, "message {number}: ")?;
+    push_escaped(out, &text)?;
+    let step = sender.saturating_add(1);
+    write!(out, "; sent in step {step}, ")
+}
+
+/// Appends the arrow of a message that came in a row.
+fn push_arrow(
+    alloc: Global,
+    out: &mut String,
+    named: &Named,
+    story: &Story,
+    chart: &Chart,
+    number: usize,
+    row: u64,
+) -> Result<(), AllocError> {
+    if number >= story.world.sent() {
+        return Ok(());
+    }
+    let message = story.world.message(number);
+    let sender = chart.sender(number);
+    let (start, end) = chart.lanes.ends(&message);
+    let from = chart.place(start, sender);
+    let to = chart.place(end, row);
+    open_message(alloc, out, named, number, sender, &message)?;
+    let step = row.saturating_add(1);
+    write!(out, "arrives in step {step}")?;
+    close_title(out)?;
+    arrow(out, from, to, kind_of(&message).0)?;
+    close_group(out)
+}
+
+/// Appends an arrow for each arrival.
+pub fn push_arrows(
+    alloc: Global,
+    out: &mut String,
+    named: &Named,
+    story: &Story,
+    chart: &Chart,
+) -> Result<(), AllocError> {
+    for (row, moment) in shown_moments(story).iter().enumerate() {
+        match arrival(moment) {
+            Some(number) => push_arrow(alloc, out, named, story, chart, number, row as u64)?,
+            None => {}
+        }
+    }
+    Ok(())
+}
+
+/// Appends the label of the message that came in a row.
+fn push_arrow_label(
+    out: &mut String,
+    story: &Story,
+    chart: &Chart,
+    number: usize,
+    row: u64,
+) -> Result<(), AllocError> {
+    if number >= story.world.sent() {
+        return Ok(());
+    }
+    let message = story.world.message(number);
+    let (start, end) = chart.lanes.ends(&message);
+    let from = chart.place(start, chart.sender(number));
+    push_label(out, from, chart.place(end, row), &message)
+}
+
+/// Appends a label for each arrival, over the arrows.
+pub fn push_labels(out: &mut String, story: &Story, chart: &Chart) -> Result<(), AllocError> {
+    for (row, moment) in shown_moments(story).iter().enumerate() {
+        match arrival(moment) {
+            Some(number) => push_arrow_label(out, story, chart, number, row as u64)?,
+            None => {}
+        }
+    }
+    Ok(())
+}
+
+/// Returns a place shortly before a column, on the way from another one.
+fn before(from: u64, to: u64) -> u64 {
+    if from <= to {
+        to.saturating_sub(SHORT)
+    } else {
+        to.saturating_add(SHORT)
+    }
+}
+
+/// Appends a message that never came.
+fn push_lost(
+    alloc: Global,
+    out: &mut String,
+    named: &Named,
+    story: &Story,
+    chart: &Chart,
+    number: usize,
+) -> Result<(), AllocError> {
+    if number >= story.world.sent() {
+        return Ok(());
+    }
+    let message = story.world.message(number);
+    let sender = chart.sender(number);
+    let (start, end) = chart.lanes.ends(&message);
+    let from = chart.place(start, sender);
+    let y = from.y.saturating_add(ROW / 2);
+    let cross = Point::at(before(start, end), y);
+    open_message(alloc, out, named, number, sender, &message)?;
+    out.push_str("never arrives")?;
+    close_title(out)?;
+    lost(out, from, cross, kind_of(&message).0)?;
+    push_label(out, from, Point::at(end, y), &message)?;
+    close_group(out)
+}
+
+/// Appends each message that never came.
+pub fn push_all_lost(
+    alloc: Global,
+    out: &mut String,
+    named: &Named,
+    story: &Story,
+    chart: &Chart,
+) -> Result<(), AllocError> {
+    for number in 0..chart.senders.len() {
+        if !chart.has_come(number) {
+            push_lost(alloc, out, named, story, chart, number)?;
+        }
+    }
+    Ok(())
+}

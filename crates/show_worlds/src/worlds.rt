@@ -1,0 +1,135 @@
+//! The picture of a script's run.
+ghost use Rattle.std.specs.Prelude.{IfOk, string_bytes};
+ghost use Rattle.show_svg.specs.Pictures.{IsEnded};
+
+use crate::arrows::{push_all_lost, push_arrows, push_labels};
+use crate::chart::{Chart, shown_moments};
+use crate::kinds::{Kind, lost, push_heads, push_kinds};
+use crate::rows::{INSIDE, MAKER, push_bars, push_makers, push_rows};
+use certificate::Plan;
+use coterie_file::Named;
+use replay::Script;
+use show_svg::{
+    Area, Point, circle, close_picture, close_text, open_picture, open_text, rect, words,
+};
+use show_words::{Story, story_of};
+use std::alloc::{AllocError, Global};
+
+/// How much room the heading takes.
+const HEADING: u64 = 96;
+
+/// How much room there is on the right of the last column, for labels.
+const LABELS: u64 = 84;
+
+/// How wide a picture is at least, for its heading.
+const LEAST_WIDTH: u64 = 790;
+
+/// Appends what the other signs are, at this height.
+fn push_signs(out: &mut String, y: u64) -> Result<(), AllocError> {
+    let area = Area {
+        x: 20,
+        y: y.saturating_sub(6),
+        width: 36,
+        height: 12,
+    };
+    let low = y.saturating_add(4);
+    rect(out, area, INSIDE)?;
+    words(out, Point::at(62, low), "", "a client is inside")?;
+    lost(out, Point::at(180, y), Point::at(206, y), Kind::Request)?;
+    words(out, Point::at(218, low), "", "never arrives")?;
+    circle(out, Point::at(328, y), 35, MAKER)?;
+    words(
+        out,
+        Point::at(340, low),
+        "",
+        "a client or a voter acts by itself: it asks, leaves, gives up or repeats",
+    )
+}
+
+/// Appends the heading, which says what the lines and bars are.
+fn push_heading(out: &mut String) -> Result<(), AllocError> {
+    words(
+        out,
+        Point::at(20, 26),
+        "font-size=\"15\" font-weight=\"bold\"",
+        "What the script does, step by step",
+    )?;
+    words(
+        out,
+        Point::at(20, 44),
+        "",
+        "Time goes down. An arrow goes from where a message was sent to where it arrives. Its number is a stamp or a grant.",
+    )?;
+    push_kinds(out, 62)?;
+    push_signs(out, 80)
+}
+
+/// Appends how many steps have no row, if some have none.
+fn push_rest(out: &mut String, story: &Story, foot: u64) -> Result<(), AllocError> {
+    let rows = shown_moments(story).len();
+    let rest = story.moments.len().saturating_sub(rows);
+    if rest == 0 {
+        return Ok(());
+    }
+    open_text(
+        out,
+        Point::at(20, foot.saturating_add(16)),
+        "font-style=\"italic\"",
+    )?;
+    write!(
+        out,
+        "and {rest} more steps, with what is sent and arrives in them"
+    )?;
+    close_text(out)
+}
+
+/// Appends the columns and the rows of a chart, with all that is in them.
+fn push_chart(
+    alloc: Global,
+    out: &mut String,
+    named: &Named,
+    story: &Story,
+    chart: &Chart,
+) -> Result<(), AllocError> {
+    let foot = chart.foot(shown_moments(story).len());
+    let heights = (chart.top, foot);
+    push_rows(out, story, chart)?;
+    chart.lanes.push_clients(alloc, out, named, heights)?;
+    chart.lanes.push_voters(out, named, heights)?;
+    push_bars(out, story, chart)?;
+    push_makers(out, story, chart)?;
+    push_all_lost(alloc, out, named, story, chart)?;
+    push_arrows(alloc, out, named, story, chart)?;
+    push_labels(out, story, chart)?;
+    push_rest(out, story, foot)
+}
+
+/// Returns a picture of a script's run as a sequence chart: a column for each client and each voter
+/// that occurs, a row for each step, an arrow for each arrival of a message, a cross for each
+/// message that never arrives, and a bar where a client is inside. The plan is one of the named
+/// coterie. Fails only if memory runs out.
+pub fn world_picture(
+    alloc: Global,
+    named: &Named,
+    plan: Plan,
+    script: &Script,
+) -> Result<String, AllocError>
+    ensures { IfOk result (λ page. IsEnded (string_bytes page)) }
+{
+    let story = story_of(alloc, plan, script)?;
+    let chart = Chart::of(alloc, named, &story, HEADING)?;
+    let width = chart.lanes.right().saturating_add(LABELS).max(LEAST_WIDTH);
+    let foot = chart.foot(shown_moments(&story).len());
+    let mut out = String::new(alloc);
+    open_picture(
+        &mut out,
+        width,
+        foot.saturating_add(30),
+        "What the script does, step by step",
+    )?;
+    push_heads(&mut out)?;
+    push_heading(&mut out)?;
+    push_chart(alloc, &mut out, named, &story, &chart)?;
+    close_picture(&mut out)?;
+    Ok(out)
+}

@@ -1,4 +1,0 @@
-use Rattle.shown.proofs.worlds.world_words.Goals as goal
-
-pub returns : goal.returns
-returns c = record { steps = _; clients = _; is = c.in_ok-page.ensures.ok }

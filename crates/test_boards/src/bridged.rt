@@ -1,0 +1,118 @@
+//! A board of two coteries: any two of three voters, and then all three.
+ghost use Rattle.std.specs.Prelude.{◌≡◌, ◌++◌, ◌≤◌, length, IfOk, IsTrue};
+ghost use Rattle.board.specs.Quorums.{HoldsAll};
+ghost use Rattle.board.specs.Seats.{BoardState, ClientSeatState, RootState};
+ghost use Rattle.quorum_set.specs.Bridges.{Bridged};
+
+use board::{Board, BoardRoot, ClientSeat};
+use quorum_set::{Bridge, QSet, Side};
+use std::alloc::Global;
+use std::test::Fail;
+use test_plans::coterie_of;
+
+/// Any two of three voters.
+const MAJORITIES: [&[u8]; 3] = [&[0, 1], &[0, 2], &[1, 2]];
+
+/// All three voters.
+const WHOLE: [&[u8]; 1] = [&[0, 1, 2]];
+
+/// Has the client take the vote of a voter, whose seat the root gives. Returns whether it did.
+fn takes(board: &Board, root: &mut BoardRoot, client: &mut ClientSeat, voter: u8) -> bool
+    requires root { root.old.table ≡ board.now.table }
+    requires client { client.old.table ≡ board.now.table }
+    ensures root { root.new.table ≡ root.old.table }
+    ensures client { client.new.table ≡ client.old.table }
+{
+    if usize::from(voter) >= board.voters() || client.held(voter).is_some() {
+        return false;
+    }
+    if !root.has_voter(voter) || client.client() >= board.clients() {
+        return false;
+    }
+    root.voter(board, voter).grant(board, client.client(), 1);
+    client.take(board, voter, 1)
+}
+
+/// Returns whether the client holds the vote of every member.
+fn covers(client: &ClientSeat, quorum: &QSet) -> bool
+    ensures { IsTrue result → HoldsAll quorum.now client.now.held }
+{
+    let members = quorum.members();
+    members.as_slice().iter().all(|v| client.held(*v).is_some())
+}
+
+/// Has a client that covers the first quorum of the first coterie read the register for it.
+/// Returns what it is then reading.
+fn reads_first(board: &Board, bridge: &Bridge, client: &mut ClientSeat) -> Option<(usize, u64)>
+    requires client { client.old.table ≡ board.now.table }
+    requires quorums { board.now.quorums ≡ bridge.now.first.quorums ++ bridge.now.second.quorums }
+    requires firsts { board.now.firsts ≡ length bridge.now.first.quorums }
+    ensures client { client.new.table ≡ client.old.table }
+{
+    if !covers(client, bridge.first().quorum(0)) {
+        return None;
+    }
+    client.read_register(board, Side::First, 0);
+    client.reading()
+}
+
+/// Has a client that covers the first quorum of the second coterie read the register for it.
+/// Returns what it is then reading.
+fn reads_second(board: &Board, bridge: &Bridge, client: &mut ClientSeat) -> Option<(usize, u64)>
+    requires client { client.old.table ≡ board.now.table }
+    requires quorums { board.now.quorums ≡ bridge.now.first.quorums ++ bridge.now.second.quorums }
+    requires firsts { board.now.firsts ≡ length bridge.now.first.quorums }
+    ensures client { client.new.table ≡ client.old.table }
+{
+    if !covers(client, bridge.second().quorum(0)) {
+        return None;
+    }
+    client.read_register(board, Side::Second, 0);
+    client.reading()
+}
+
+/// Returns whether a client reads for a quorum of each coterie as soon as it covers it, and not
+/// before.
+fn reads_for_both(
+    board: &Board,
+    bridge: &Bridge,
+    root: &mut BoardRoot,
+    mut client: ClientSeat,
+) -> bool
+    requires root { root.old.table ≡ board.now.table }
+    requires client { client.table ≡ board.now.table }
+    requires quorums { board.now.quorums ≡ bridge.now.first.quorums ++ bridge.now.second.quorums }
+    requires firsts { board.now.firsts ≡ length bridge.now.first.quorums }
+{
+    let one = takes(board, root, &mut client, 0);
+    let early = reads_first(board, bridge, &mut client);
+    let two = takes(board, root, &mut client, 1);
+    let first = reads_first(board, bridge, &mut client);
+    let soon = reads_second(board, bridge, &mut client);
+    let three = takes(board, root, &mut client, 2);
+    let second = reads_second(board, bridge, &mut client);
+    (one & two & three)
+        & (early.is_none() & soon.is_none())
+        & (first == Some((0, 0)))
+        & (second == Some((3, 0)))
+}
+
+/// Returns the bridge from any two of three voters to all three.
+fn bridge_of(alloc: Global) -> Result<Bridge, Fail> {
+    let first = coterie_of(alloc, 3, &MAJORITIES)?;
+    let second = coterie_of(alloc, 3, &WHOLE)?;
+    Ok(Bridge::of(alloc, &first, &second)?)
+}
+
+#[test]
+fn bridged_board_has_the_quorums_of_both(rt: HostRuntime) -> Result<(), Fail> {
+    let bridge = bridge_of(rt.alloc())?;
+    let (board, mut root) = Board::bridged(rt.alloc(), &bridge, 1, 1)?;
+    if !root.has_client(0) {
+        return Err(Fail::new("the root has no seat"));
+    }
+    let client = root.client(&board, 0);
+    let both = reads_for_both(&board, &bridge, &mut root, client);
+    assert!(rt; both);
+    Ok(())
+}

@@ -1,0 +1,177 @@
+//! Coteries that are made, and coteries that are refused.
+use coterie_file::{read_coterie, write_coterie};
+use std::alloc::{AllocError, Global};
+use std::sync::Wait;
+use std::test::Fail;
+use std::thread::Threads;
+use std::time::Clock;
+use test_runs::{
+    MAJORITY, Row, WHEEL, WHEEL_PLAN, answer, answer_planned, coterie_of_letters, first_wrong, plan,
+};
+
+/// What `make` writes or refuses. It reads no input.
+const MADE: [Row; 8] = [
+    ("make majority 3", &["is not read"], MAJORITY),
+    ("make wheel 3", &["is not read"], WHEEL),
+    ("make grid 1 5", &["is not read"], "G1 BadSize"),
+    ("make majority 15", &["is not read"], "G2 TooLarge"),
+    ("make tree 4", &["is not read"], "G2 TooLarge"),
+    ("make cyclic 4 0 2", &["is not read"], "E7 Disjoint 0 1"),
+    ("make cyclic 2 0 1", &["is not read"], "E8 Contained 0 1"),
+    ("make cyclic 7", &["is not read"], "G1 BadSize"),
+];
+
+#[test]
+fn shapes_are_made(rt: HostRuntime) -> Result<(), Fail> {
+    assert_eq!(rt; first_wrong(&rt, rt.alloc(), &MADE)?, None);
+    Ok(())
+}
+
+/// Shapes, and how many lines their texts have.
+const LINES: [(&str, usize); 7] = [
+    ("make grid 2 2", 7),
+    ("make grid 8 8", 67),
+    ("make majority 14", 3006),
+    ("make tree 3", 258),
+    ("make wheel 63", 67),
+    ("make cyclic 7 0 1 3", 10),
+    ("make cyclic 13 0 1 3 9", 16),
+];
+
+/// Returns whether a shape's text has this number of lines, and is written again as it was once it
+/// is read.
+fn reads_back<T: Threads + Wait + Clock + Sync>(
+    rt: &T,
+    alloc: Global,
+    line: &str,
+    lines: usize,
+) -> Result<bool, AllocError> {
+    let text = answer(rt, alloc, line, b"")?;
+    match read_coterie(alloc, text.as_str()) {
+        Ok(named) => {
+            let again = write_coterie(alloc, &named)?;
+            Ok(again.as_str() == text.as_str() && text.as_str().lines().count() == lines)
+        }
+        Err(_) => Ok(false),
+    }
+}
+
+#[test]
+fn shapes_read_back(rt: HostRuntime) -> Result<(), Fail> {
+    for (line, lines) in &LINES {
+        assert!(rt; reads_back(&rt, rt.alloc(), line, *lines)?, "{line}");
+    }
+    Ok(())
+}
+
+/// Shapes, plans of them, and what `check` writes.
+const CERTIFICATES: [(&str, &str, &str); 3] = [
+    (
+        "make grid 2 2",
+        plan!("3/4", "4", "1 1 1 1", "1 1 1 1"),
+        "load 3/4 cycle 4\n",
+    ),
+    (
+        "make tree 2",
+        plan!(
+            "1/2",
+            "12",
+            "1 1 1 1 1 1 2 0 0 0 2 0 0 0 2",
+            "2 1 1 1 1 1 1"
+        ),
+        "load 1/2 cycle 12\n",
+    ),
+    (
+        "make cyclic 13 0 1 3 9",
+        plan!(
+            "4/13",
+            "13",
+            "1 1 1 1 1 1 1 1 1 1 1 1 1",
+            "1 1 1 1 1 1 1 1 1 1 1 1 1"
+        ),
+        "load 4/13 cycle 13\n",
+    ),
+];
+
+/// Returns what `check` writes for the coterie of a shape and this plan.
+fn checked<T: Threads + Wait + Clock + Sync>(
+    rt: &T,
+    alloc: Global,
+    shape: &str,
+    plan: &str,
+) -> Result<String, AllocError> {
+    let coterie = answer(rt, alloc, shape, b"")?;
+    answer_planned(rt, alloc, "check", coterie.as_str(), plan)
+}
+
+#[test]
+fn certificates_of_shapes(rt: HostRuntime) -> Result<(), Fail> {
+    for (shape, plan, wanted) in &CERTIFICATES {
+        assert!(rt;
+            checked(&rt, rt.alloc(), shape, plan)?.as_str() == *wanted,
+            "{shape}"
+        );
+    }
+    Ok(())
+}
+
+/// Voters and quorums of letters, and how they are refused.
+const LETTERS: [(&str, &str, &str); 6] = [
+    ("abc", "ab c", "E7 Disjoint 0 1"),
+    ("abc", "ab ab", "E8 Contained 0 1"),
+    ("a", "", "E5 EmptyQuorum 0"),
+    ("aa", "a", "F4 RepeatedName 1"),
+    ("a", "z", "F5 UnknownName 0"),
+    ("a", "aa", "F6 RepeatedMember 0"),
+];
+
+/// Returns what `deal` writes for a coterie of letters.
+fn dealt<T: Threads + Wait + Clock + Sync>(
+    rt: &T,
+    alloc: Global,
+    voters: &str,
+    quorums: &str,
+) -> Result<String, AllocError> {
+    let coterie = coterie_of_letters(alloc, voters, quorums)?;
+    answer_planned(rt, alloc, "deal 5", coterie.as_str(), WHEEL_PLAN)
+}
+
+#[test]
+fn coteries_are_refused(rt: HostRuntime) -> Result<(), Fail> {
+    for (voters, quorums, wanted) in &LETTERS {
+        assert!(rt;
+            dealt(&rt, rt.alloc(), voters, quorums)?.as_str() == *wanted,
+            "{quorums}"
+        );
+    }
+    Ok(())
+}
+
+/// Texts that are no coteries.
+const TEXTS: [Row; 5] = [
+    (
+        "deal 5",
+        &["voters = [\"a\"]\nquorums = []\n", WHEEL_PLAN],
+        "E3 NoQuorums",
+    ),
+    ("deal 5", &["", WHEEL_PLAN], "F2 Keys"),
+    ("deal 5", &["voters = [\n", WHEEL_PLAN], "F1 NotToml"),
+    (
+        "deal 5",
+        &[
+            "voters = [\"a b\", \"c\"]\nquorums = [[\"c\"]]\n",
+            WHEEL_PLAN,
+        ],
+        "F3 BadName 0",
+    ),
+    ("check", &[WHEEL], "I1 MissingPart 2"),
+];
+
+#[test]
+fn texts_are_refused(rt: HostRuntime) -> Result<(), Fail> {
+    assert_eq!(rt; first_wrong(&rt, rt.alloc(), &TEXTS)?, None);
+    let unended = answer(&rt, rt.alloc(), "check", b"\xff%%\n")?;
+    let no_text = answer(&rt, rt.alloc(), "check", b"\xff\n%%\n")?;
+    assert!(rt; (unended.as_str() == "I1 MissingPart 2") & (no_text.as_str() == "F1 NotToml"));
+    Ok(())
+}

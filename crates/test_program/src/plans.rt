@@ -1,0 +1,204 @@
+//! Plans that are checked, and plans that are found.
+use std::alloc::{AllocError, Global};
+use std::sync::Wait;
+use std::test::Fail;
+use std::thread::Threads;
+use std::time::Clock;
+use test_runs::{
+    MAJORITY, Row, WHEEL, answer, answer_planned, coterie_of_letters, first_wrong, plan,
+};
+
+const CHECKED: [Row; 13] = [
+    (
+        "check",
+        &[WHEEL, plan!("3/5", "5", "1 1 1 2", "2 1 1 1")],
+        "load 3/5 cycle 5\n",
+    ),
+    (
+        "check",
+        &[WHEEL, plan!("3/5", "10", "2 2 2 4", "2 1 1 1")],
+        "load 3/5 cycle 10\n",
+    ),
+    (
+        "check",
+        &[WHEEL, plan!("3/4", "4", "1 1 1 1", "2 1 1 1")],
+        "P4 NotOptimal 3 5 3 4",
+    ),
+    (
+        "check",
+        &[WHEEL, plan!("1/1", "2", "1 1 0 0", "1 0 0 0")],
+        "P4 NotOptimal 2 1 0 2",
+    ),
+    (
+        "check",
+        &[MAJORITY, plan!("2/3", "3", "1 1 1", "1 1 0")],
+        "P4 NotOptimal 2 2 1 3",
+    ),
+    (
+        "check",
+        &[MAJORITY, plan!("2/3", "3", "1 1 1", "1 1 1")],
+        "load 2/3 cycle 3\n",
+    ),
+    (
+        "check",
+        &[WHEEL, "quorum-plan 1\nload 3/5\ncycle 5\n"],
+        "P5 BadText 4",
+    ),
+    (
+        "check",
+        &[WHEEL, plan!("0/1", "0", "0 0 0 0", "0 0 0 0")],
+        "P3 Empty",
+    ),
+    (
+        "check",
+        &[WHEEL, plan!("6/10", "5", "1 1 1 2", "2 1 1 1")],
+        "P6 WrongLoad",
+    ),
+    (
+        "check",
+        &[WHEEL, plan!("3/5", "10", "1 1 1 2", "2 1 1 1")],
+        "P7 WrongCycle",
+    ),
+    (
+        "check",
+        &[WHEEL, plan!("3/5", "5", "1 1 1", "2 1 1 1")],
+        "P1 WrongLength",
+    ),
+    (
+        "check",
+        &[WHEEL, plan!("3/5", "5", "1000001 1 1 2", "2 1 1 1")],
+        "P2 TooLarge",
+    ),
+    ("check", &[WHEEL, ""], "P5 BadText 1"),
+];
+
+#[test]
+fn plans_are_checked(rt: HostRuntime) -> Result<(), Fail> {
+    assert_eq!(rt; first_wrong(&rt, rt.alloc(), &CHECKED)?, None);
+    Ok(())
+}
+
+/// Shapes, and the plans that are found.
+const FOUND: [(&str, &str); 6] = [
+    ("make majority 3", plan!("2/3", "3", "1 1 1", "1 1 1")),
+    ("make wheel 3", plan!("3/5", "5", "1 1 1 2", "2 1 1 1")),
+    ("make wheel 4", plan!("4/7", "7", "1 1 1 1 3", "3 1 1 1 1")),
+    (
+        "make cyclic 7 0 1 3",
+        plan!("3/7", "7", "1 1 1 1 1 1 1", "1 1 1 1 1 1 1"),
+    ),
+    ("make grid 2 2", plan!("3/4", "4", "1 1 1 1", "1 1 1 1")),
+    ("make tree 0", plan!("1/1", "1", "1", "1")),
+];
+
+/// Returns the plan that is found for the coterie of a shape.
+fn found<T: Threads + Wait + Clock + Sync>(
+    rt: &T,
+    alloc: Global,
+    shape: &str,
+) -> Result<String, AllocError> {
+    let coterie = answer(rt, alloc, shape, b"")?;
+    answer(rt, alloc, "plan", coterie.as_bytes())
+}
+
+#[test]
+fn plans_are_found(rt: HostRuntime) -> Result<(), Fail> {
+    for (shape, wanted) in &FOUND {
+        assert!(rt;
+            found(&rt, rt.alloc(), shape)?.as_str() == *wanted,
+            "{shape}"
+        );
+    }
+    Ok(())
+}
+
+/// A coterie with two voters in no quorum.
+const SINGLE: [Row; 1] = [(
+    "plan",
+    &["voters = [\"a\", \"b\", \"c\"]\nquorums = [[\"a\"]]\n"],
+    plan!("1/1", "1", "1", "1 0 0"),
+)];
+
+#[test]
+fn a_voter_may_be_in_no_quorum(rt: HostRuntime) -> Result<(), Fail> {
+    assert_eq!(rt; first_wrong(&rt, rt.alloc(), &SINGLE)?, None);
+    Ok(())
+}
+
+/// Shapes, and their loads.
+const LOADS: [(&str, &str); 14] = [
+    ("make cyclic 7 0 1 3", "load 3/7 "),
+    ("make cyclic 13 0 1 3 9", "load 4/13 "),
+    ("make grid 2 2", "load 3/4 "),
+    ("make grid 3 3", "load 5/9 "),
+    ("make grid 3 5", "load 7/15 "),
+    ("make grid 8 8", "load 15/64 "),
+    ("make majority 3", "load 2/3 "),
+    ("make majority 7", "load 4/7 "),
+    ("make tree 1", "load 2/3 "),
+    ("make tree 2", "load 1/2 "),
+    ("make tree 3", "load 2/5 "),
+    ("make wheel 3", "load 3/5 "),
+    ("make wheel 7", "load 7/13 "),
+    ("make wheel 31", "load 31/61 "),
+];
+
+/// Returns what `check` writes for a coterie and the plan that `plan` finds.
+fn checked<T: Threads + Wait + Clock + Sync>(
+    rt: &T,
+    alloc: Global,
+    coterie: &str,
+) -> Result<String, AllocError> {
+    let plan = answer(rt, alloc, "plan", coterie.as_bytes())?;
+    answer_planned(rt, alloc, "check", coterie, plan.as_str())
+}
+
+#[test]
+fn plans_have_the_known_loads(rt: HostRuntime) -> Result<(), Fail> {
+    for (shape, wanted) in &LOADS {
+        let coterie = answer(&rt, rt.alloc(), shape, b"")?;
+        let text = checked(&rt, rt.alloc(), coterie.as_str())?;
+        assert!(rt; text.as_str().starts_with(*wanted), "{shape}");
+    }
+    Ok(())
+}
+
+/// A wall of rows of 1, 2 and 3; two weighted majorities; a nucleus system; majorities of
+/// majorities: voters, quorums and loads.
+const OTHERS: [(&str, &str, &str); 5] = [
+    (
+        "abcdef",
+        "abd abe abf acd ace acf bcd bce bcf def",
+        "load 1/2 ",
+    ),
+    (
+        "abcdefg",
+        "abc abd abe abf abg acde acdf acdg acef aceg acfg adef adeg adfg aefg bcdef bcdeg bcdfg bcefg bdefg",
+        "load 3/5 ",
+    ),
+    (
+        "abcdefghij",
+        "ab ac ade adf adgh adgi adgj adhij aefgh aefgi aefgj aefhij bcde bcdf bcdgh bcdgi bcdgj bcdhij bcefgh bcefgi bcefgj bcefhij",
+        "load 27/53 ",
+    ),
+    (
+        "abcdefghijklmnop",
+        "abcd abce abcf abde abdf abef acde acdf acef adef bcde bcdf bcef bdef cdef abcg abdh abei abfj acdk acel acfm aden adfo aefp bcdp bceo bcfn bdem bdfl befk cdej cdfi cefh defg",
+        "load 1/2 ",
+    ),
+    (
+        "abcdefghi",
+        "abde abdf abef acde acdf acef bcde bcdf bcef abgh abgi abhi acgh acgi achi bcgh bcgi bchi degh degi dehi dfgh dfgi dfhi efgh efgi efhi",
+        "load 4/9 ",
+    ),
+];
+
+#[test]
+fn other_families_have_the_known_loads(rt: HostRuntime) -> Result<(), Fail> {
+    for (voters, quorums, wanted) in &OTHERS {
+        let coterie = coterie_of_letters(rt.alloc(), voters, quorums)?;
+        let text = checked(&rt, rt.alloc(), coterie.as_str())?;
+        assert!(rt; text.as_str().starts_with(*wanted), "{voters}");
+    }
+    Ok(())
+}

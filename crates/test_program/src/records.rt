@@ -1,0 +1,97 @@
+//! Records that are replayed.
+use std::test::Fail;
+use test_runs::{MAJORITY, MAJORITY_PLAN, RECORD_ACCOUNT, Row, first_wrong};
+
+/// The text of a record of three draws and two passes: its second draw, its second pass and its
+/// register.
+macro_rules! record {
+    ($draw:literal, $pass:literal, $register:literal) => {
+        concat!(
+            "quorum-record 1\ndraw 0 0 0\ndraw 1 2 2\ndraw ",
+            $draw,
+            "\npass 0 0\npass ",
+            $pass,
+            "\nregister ",
+            $register,
+            "\n"
+        )
+    };
+}
+
+const REPLAYED: [Row; 8] = [
+    (
+        "replay",
+        &[MAJORITY, MAJORITY_PLAN, record!("0 1 1", "1 1", "2")],
+        RECORD_ACCOUNT,
+    ),
+    (
+        "replay",
+        &[MAJORITY, MAJORITY_PLAN, record!("0 0 0", "1 1", "2")],
+        "A1 TicketTwice 0",
+    ),
+    (
+        "replay",
+        &[MAJORITY, MAJORITY_PLAN, record!("0 3 0", "1 1", "2")],
+        "A2 TicketMissing 1",
+    ),
+    (
+        "replay",
+        &[MAJORITY, MAJORITY_PLAN, record!("0 1 2", "1 1", "2")],
+        "A3 WrongQuorum 1",
+    ),
+    (
+        "replay",
+        &[MAJORITY, MAJORITY_PLAN, record!("0 1 1", "1 0", "2")],
+        "A4 PassTwice 0",
+    ),
+    (
+        "replay",
+        &[MAJORITY, MAJORITY_PLAN, record!("0 1 1", "1 2", "2")],
+        "A5 PassMissing 1",
+    ),
+    (
+        "replay",
+        &[MAJORITY, MAJORITY_PLAN, record!("0 1 1", "1 1", "3")],
+        "A6 WrongRegister 2",
+    ),
+    (
+        "replay",
+        &[MAJORITY, MAJORITY_PLAN, record!("0 1 1", "1", "2")],
+        "A7 BadLine 6",
+    ),
+];
+
+#[test]
+fn records_are_replayed(rt: HostRuntime) -> Result<(), Fail> {
+    assert_eq!(rt; first_wrong(&rt, rt.alloc(), &REPLAYED)?, None);
+    Ok(())
+}
+
+const PARTS: [Row; 4] = [
+    (
+        "replay",
+        &[MAJORITY, MAJORITY_PLAN, "quorum-record 1\nregister 0\n"],
+        "drawn 0\nvoter v0 0\nvoter v1 0\nvoter v2 0\nbusiest 0\nregister 0\n",
+    ),
+    (
+        "replay",
+        &[MAJORITY, MAJORITY_PLAN, "register 0\n"],
+        "A7 BadLine 1",
+    ),
+    (
+        "replay",
+        &[MAJORITY, MAJORITY_PLAN, "quorum-record 1\nregister 0\n%%\n"],
+        "A7 BadLine 3",
+    ),
+    (
+        "replay",
+        &[MAJORITY, "quorum-plan 1\nquorum-record 1\nregister 0\n"],
+        "I1 MissingPart 3",
+    ),
+];
+
+#[test]
+fn records_are_looked_for_in_the_third_part(rt: HostRuntime) -> Result<(), Fail> {
+    assert_eq!(rt; first_wrong(&rt, rt.alloc(), &PARTS)?, None);
+    Ok(())
+}

@@ -1,0 +1,75 @@
+//! Runs in threads, and the replays of their records.
+use std::alloc::{AllocError, Global};
+use std::sync::Wait;
+use std::test::Fail;
+use std::thread::Threads;
+use std::time::Clock;
+use test_runs::{
+    GRID, GRID_PLAN, MAJORITY, MAJORITY_PLAN, Row, answer, answer_planned, first_wrong,
+};
+
+const RUNS: [Row; 7] = [
+    (
+        "run 2 0 5",
+        &[GRID, GRID_PLAN],
+        "quorum-record 1\nregister 0\n",
+    ),
+    ("run 2 1 0", &[GRID, GRID_PLAN], "K2 TurnsSpent 0"),
+    ("run 64 1000 0", &[GRID, GRID_PLAN], "K2 TurnsSpent 0"),
+    ("run 2 1 5", &[MAJORITY], "I1 MissingPart 2"),
+    (
+        "run 1 2 6",
+        &[MAJORITY, MAJORITY_PLAN],
+        "quorum-record 1\ndraw 0 0 0\ndraw 0 1 1\npass 0 0\npass 0 1\nregister 2\n",
+    ),
+    ("run 1 2 5", &[MAJORITY, MAJORITY_PLAN], "K2 TurnsSpent 0"),
+    (
+        "run 1 2 1000000000000",
+        &[MAJORITY, MAJORITY_PLAN],
+        "quorum-record 1\ndraw 0 0 0\ndraw 0 1 1\npass 0 0\npass 0 1\nregister 2\n",
+    ),
+];
+
+#[test]
+fn runs_write_their_records(rt: HostRuntime) -> Result<(), Fail> {
+    assert_eq!(rt; first_wrong(&rt, rt.alloc(), &RUNS)?, None);
+    Ok(())
+}
+
+/// Runs whose records differ from time to time, and what `replay` writes for them.
+const REPLAYS: [(&str, &str, &str, &str); 2] = [
+    (
+        "run 3 4 1000000000000",
+        MAJORITY,
+        MAJORITY_PLAN,
+        "drawn 12\nvoter v0 8\nvoter v1 8\nvoter v2 8\nbusiest 8\nregister 12\n",
+    ),
+    (
+        "run 4 100 1000000000000",
+        GRID,
+        GRID_PLAN,
+        "drawn 400\nvoter v0 300\nvoter v1 300\nvoter v2 300\nvoter v3 300\nbusiest 300\nregister 400\n",
+    ),
+];
+
+/// Returns what `replay` writes for the record of a run.
+fn replayed<T: Threads + Wait + Clock + Sync>(
+    rt: &T,
+    alloc: Global,
+    line: &str,
+    coterie: &str,
+    plan: &str,
+) -> Result<String, AllocError> {
+    let record = answer_planned(rt, alloc, line, coterie, plan)?;
+    let input = format!(in alloc; "{coterie}%%\n{plan}%%\n{record}")?;
+    answer(rt, alloc, "replay", input.as_bytes())
+}
+
+#[test]
+fn records_of_runs_are_replayed(rt: HostRuntime) -> Result<(), Fail> {
+    for (line, coterie, plan, wanted) in &REPLAYS {
+        let text = replayed(&rt, rt.alloc(), line, coterie, plan)?;
+        assert!(rt; text.as_str() == *wanted, "{line}");
+    }
+    Ok(())
+}

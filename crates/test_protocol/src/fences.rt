@@ -1,0 +1,65 @@
+//! A guard and the passes that clients show it.
+use crate::crashes::{ALL, Step, World};
+use fence::Fence;
+use std::test::Fail;
+
+/// Client 1 enters under stamp 2. Client 0 has asked under stamp 1, and its request is slow.
+const FIRST: &[Step] = &[
+    Step::Ask(0, &[0]),
+    Step::Ask(1, &[0]),
+    Step::GiveUp(1),
+    Step::Ask(1, &[0]),
+    Step::Deliver("request 1 0 2"),
+    Step::Deliver("locked 0 1 2 1 2"),
+];
+
+/// Client 1 leaves, and client 0 enters under stamp 1.
+const SECOND: &[Step] = &[
+    Step::Leave(1),
+    Step::Deliver("release 1 0 2"),
+    Step::Deliver("request 0 0 1"),
+    Step::Deliver("locked 0 0 1 2 2"),
+];
+
+/// Returns the pass that shows this number for voter 0.
+fn shows(number: u64) -> [u64; 64] {
+    let mut pass = [0; 64];
+    pass[0] = number;
+    pass
+}
+
+/// Returns whether each of two passes is admitted, the first one twice, and then the first one again.
+fn admitted(first: &[u64; 64], second: &[u64; 64]) -> [bool; 4] {
+    let mut fence = Fence::new();
+    [
+        fence.admit(first),
+        fence.admit(first),
+        fence.admit(second),
+        fence.admit(first),
+    ]
+}
+
+#[test]
+fn late_client_is_refused(rt: HostRuntime) -> Result<(), Fail> {
+    let mut world = World::new(rt.alloc(), ALL)?;
+    world.play(FIRST)?;
+    let (_, first) = world.pass(1);
+    world.play(SECOND)?;
+    let (_, second) = world.pass(0);
+    let found = (first == shows(1), second == shows(2));
+    assert!(rt; found == (true, true));
+    assert!(rt; admitted(&first, &second) == [true, true, true, false]);
+    Ok(())
+}
+
+#[test]
+fn stamps_are_no_fencing_numbers(rt: HostRuntime) -> Result<(), Fail> {
+    let mut world = World::new(rt.alloc(), ALL)?;
+    world.play(FIRST)?;
+    let (first, _) = world.pass(1);
+    world.play(SECOND)?;
+    let (second, _) = world.pass(0);
+    assert!(rt; (first, second) == (2, 1));
+    assert!(rt; admitted(&shows(first), &shows(second)) == [true, true, false, true]);
+    Ok(())
+}

@@ -1,0 +1,123 @@
+-- a voter with a waiting request that precedes has asked for its vote
+use Rattle.std.proofs.Common.{◌≡◌, ℕ, ◌+◌, Bool, true, false, List, Option, Some, None, refl, sym, ap, subst, ◌∙◌, ◌⊎◌, inl, inr, arith}
+use Rattle.std.specs.FinMap.{entries, entries_sorted, get, insert, remove, get-entries}
+use Rattle.std.specs.FinMap.Entries.{find}
+use Rattle.std.specs.Ordering.{nat_cmp}
+use Rattle.std.proofs.lemmas.Bool.Decides.{nat_tests}
+use Rattle.std.proofs.lemmas.Bool.{false≢true}
+use Rattle.std.proofs.lemmas.Option.{none-some, same_Some}
+use Rattle.message.specs.declared.request.Request.{Request}
+use Rattle.message.specs.declared.message.ToVoter.{ToVoter}
+use Rattle.message.specs.declared.message.VoterBody.{VoterBody}
+use Rattle.message.specs.declared.message.VoterBody.TheVariants as asks
+use Rattle.voter.specs.declared.state.Grant.{Grant}
+use Rattle.voter.specs.declared.state.VoterState.{VoterState}
+use Rattle.voter.specs.Waiting.{Waiting, precedes, least, front}
+use Rattle.voter.specs.Steps.{grant_to, grant_front, released, released_by, queued, queued_by, admitted, admitted_by, queue, freed, finish, is_before, start, standing, requested, requested_by, requested_beside, compared_by, relinquished, relinquished_by, put_back, see, outcome_of, Outcome, step}
+use Rattle.voter.specs.Entries.{AsksBack, request_of}
+use Rattle.voter.proofs.Front.{IsLeastOf, least-is, front-found}
+use Rattle.voter.proofs.Soundness.{get-removed, get-inserted}
+use Rattle.voter.proofs.Effects.{step-Some}
+
+least_first : (es : List (ℕ × ℕ)) (o : Option Request) (r : Request) → IsLeastOf es o → o ≡ Some r → (c s : ℕ) → find nat_cmp c es ≡ Some s → precedes (record { stamp = s; client = c }) r ≡ false
+unfolding IsLeastOf
+least_first es None r h is c s found = absurd (none-some r is)
+least_first es (Some q) r h is c s found = subst (λ (x : Request). precedes (record { stamp = s; client = c }) x ≡ false) (same_Some q r is) (h.first c s found)
+
+-- no request that waits precedes the front
+pub front-first : (w : Waiting) (r : Request) → front w ≡ Some r → (c s : ℕ) → get w c ≡ Some s → precedes (record { stamp = s; client = c }) r ≡ false
+unfolding front
+front-first w r is c s found = least_first (entries w) (least (entries w)) r (least-is (entries w) (entries_sorted w)) is c s (sym (get-entries w c) ∙ found)
+
+pub still_removed : (w : Waiting) (c d t : ℕ) → get (remove w c) d ≡ Some t → get w d ≡ Some t
+still_removed w c d t is = let e = get-removed w c d in grind (arith, nat_tests)
+
+pub inserted_cases : (w : Waiting) (c s d t : ℕ) → get (insert w c s) d ≡ Some t → ((d ≡ c) × (t ≡ s)) ⊎ (get w d ≡ Some t)
+inserted_cases w c s d t is = let e = get-inserted w c s d in grind (arith, nat_tests)
+
+asked-grant_to : (v : VoterState) (o : Option Request) → front v.waiting ≡ o → v.held ≡ None → AsksBack (grant_to v o).state
+asked-grant_to v None is free g d t held waits before = absurd (none-some g (sym free ∙ held))
+asked-grant_to v (Some r) is free g d t held waits before =
+    let new : Grant = record { client = r.client; stamp = r.stamp; grant = v.granted + 1 } in
+    let first = front-first v.waiting r is d t (still_removed v.waiting r.client d t waits) in
+    let same : request_of g ≡ r = sym (ap request_of (same_Some new g held)) in
+    absurd (false≢true (sym first ∙ subst (λ (x : Request). precedes (record { stamp = t; client = d }) x ≡ true) same before))
+
+asked-grant_front : (v : VoterState) → v.held ≡ None → AsksBack (grant_front v).state
+unfolding grant_front
+asked-grant_front v free = asked-grant_to v (front v.waiting) refl free
+
+asked-released_by : (holds waits : Bool) (v : VoterState) (c s : ℕ) → AsksBack v → AsksBack (released_by holds waits v c s).state
+asked-released_by true waits v c s h = asked-grant_front (freed (finish v c s)) refl
+asked-released_by false true v c s h = λ g d t held is before. h g d t held (still_removed v.waiting c d t is) before
+asked-released_by false false v c s h = h
+
+asked-released : (v : VoterState) (c s : ℕ) → AsksBack v → AsksBack (released v c s).state
+unfolding released
+asked-released v c s h = asked-released_by _ _ v c s h
+
+before_all : (o : Option Request) (r : Request) → is_before o r ≡ true → (q : Request) × (o ≡ Some q) × (precedes q r ≡ true)
+before_all None r e = absurd (false≢true e)
+before_all (Some q) r e = (q, refl, e)
+
+asked-queued_by : (waits granted : Bool) (v : VoterState) (g : Grant) (c s : ℕ) → v.held ≡ Some g → is_before (front v.waiting) (record { stamp = s; client = c }) ≡ waits → precedes (request_of g) (record { stamp = s; client = c }) ≡ granted
+    → AsksBack v → AsksBack (queued_by waits granted v g c s).state
+asked-queued_by true granted v g c s is e f h k d t held waits before = elim (inserted_cases v.waiting c s d t waits) [
+  | inl new ↦
+      let first = before_all (front v.waiting) _ e in
+      let found = front-found v.waiting first.0 first.1 in
+      let earlier : precedes first.0 (request_of k) ≡ true = (let a = first.2 in let b = new.0 in let b2 = new.1 in grind (arith, nat_tests)) in
+      h k first.0.client first.0.stamp held found earlier
+  | inr old ↦ h k d t held old before
+]
+asked-queued_by false true v g c s is e f h k d t held waits before = elim (inserted_cases v.waiting c s d t waits) [
+  | inl new ↦
+      let same : request_of g ≡ request_of k = ap request_of (same_Some g k (sym is ∙ held)) in
+      let later : precedes (request_of k) (record { stamp = s; client = c }) ≡ true = subst (λ (x : Request). precedes x (record { stamp = s; client = c }) ≡ true) same f in
+      (let b = new.0 in let b2 = new.1 in grind (arith, nat_tests))
+  | inr old ↦ h k d t held old before
+]
+asked-queued_by false false v g c s is e f h k d t held waits before = refl
+
+asked-admitted_by : (o : Option Grant) (v : VoterState) (c s : ℕ) → v.held ≡ o → AsksBack v → AsksBack (admitted_by o v c s).state
+unfolding queued
+asked-admitted_by None v c s is h = asked-grant_front (queue v c s) is
+asked-admitted_by (Some g) v c s is h = asked-queued_by _ _ v g c s is refl refl h
+
+asked-admitted : (v : VoterState) (c s : ℕ) → AsksBack v → AsksBack (admitted v c s).state
+unfolding admitted
+asked-admitted v c s h = asked-admitted_by v.held v c s refl h
+
+asked-compared_by : (less same : Bool) (v : VoterState) (c s t : ℕ) → AsksBack v → AsksBack (compared_by less same v c s t).state
+asked-compared_by true same v c s t h = h
+asked-compared_by false true v c s t h = h
+asked-compared_by false false v c s t h = asked-admitted (released v c t).state c s (asked-released v c t h)
+
+asked-beside : (v : VoterState) (c s : ℕ) (o : Option ℕ) → AsksBack v → AsksBack (requested_beside v c s o).state
+unfolding requested_beside
+asked-beside v c s None h = asked-admitted v c s h
+asked-beside v c s (Some t) h = asked-compared_by _ _ v c s t h
+
+asked-requested_by : (done : Bool) (v : VoterState) (c s : ℕ) → AsksBack v → AsksBack (requested_by done v c s).state
+asked-requested_by true v c s h = h
+asked-requested_by false v c s h = asked-beside v c s (standing v c) h
+
+asked-put_back : (o : Option Grant) (v : VoterState) → AsksBack v → AsksBack (put_back o v).state
+asked-put_back None v h = h
+asked-put_back (Some g) v h = asked-grant_front (queue (freed v) g.client g.stamp) refl
+
+asked-relinquished_by : (b : Bool) (v : VoterState) → AsksBack v → AsksBack (relinquished_by b v).state
+asked-relinquished_by true v h = asked-put_back v.held v h
+asked-relinquished_by false v h = h
+
+pub AsksBack-outcome_of : (v : VoterState) (c : ℕ) (b : VoterBody) → AsksBack v → AsksBack (outcome_of v c b).state
+unfolding relinquished requested
+AsksBack-outcome_of v c (asks.Request s) h = asked-requested_by _ (see v s) c s h
+AsksBack-outcome_of v c (asks.Relinquish n) h = asked-relinquished_by _ v h
+AsksBack-outcome_of v c (asks.Release s) h = asked-released (see v s) c s h
+
+pub AsksBack-step : (v : VoterState) (m : ToVoter) (o : Outcome) → AsksBack v → step v m ≡ Some o → AsksBack o.state
+AsksBack-step v m o h e = let t = step-Some v m o e in subst (λ (p : Outcome). AsksBack p.state) t.1 (AsksBack-outcome_of v m.client m.body h)
+
+pub AsksBack-start : (id limit : ℕ) → AsksBack (start id limit)
+AsksBack-start id limit g c s held waits before = absurd (none-some g held)

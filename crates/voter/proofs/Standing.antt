@@ -1,0 +1,125 @@
+-- a new request stands, and the others stay
+use Rattle.std.proofs.Common.{◌≡◌, ◌≢◌, ℕ, ◌+◌, ◌<◌, ◌≤◌, Bool, true, false, Option, Some, None, refl, sym, ap, subst, ◌∙◌, inl, inr, arith}
+use Rattle.std.specs.Prelude.{slice_index, nat_lt, ◌==◌}
+use Rattle.std.specs.FinMap.{get, insert, remove}
+use Rattle.std.proofs.lemmas.Bool.Decides.{nat_tests}
+use Rattle.std.proofs.lemmas.Bool.{false≢true}
+use Rattle.std.proofs.lemmas.Option.{none-some, same_Some}
+use Rattle.message.specs.declared.request.Request.{Request}
+use Rattle.message.specs.declared.message.VoterBody.TheVariants as asks
+use Rattle.voter.specs.declared.state.Grant.{Grant}
+use Rattle.voter.specs.declared.state.VoterState.{VoterState}
+use Rattle.voter.specs.Waiting.{Waiting, front}
+use Rattle.voter.specs.VoterContract.{IsEntry}
+use Rattle.voter.specs.Steps.{grant_to, grant_front, released, released_by, queued, queued_by, admitted, admitted_by, queue, freed, finish, held_stamp, is_up_to, standing, first_some, requested, requested_by, requested_beside, compared_by, see, outcome_of}
+use Rattle.voter.specs.Entries.{KnowsUpTo}
+use Rattle.voter.proofs.Front.{front-found}
+use Rattle.voter.proofs.Soundness.{IsOrderly, IsOrderly-see, get-removed, get-inserted, orderly-released}
+use Rattle.voter.proofs.Finished.{same_or_other}
+
+-- the requests of the other clients still have the vote or wait
+abbrev pub OthersStay : VoterState → ℕ → VoterState → Type 0
+OthersStay v client w = (c s : ℕ) → c ≢ client → IsEntry v c s → IsEntry w c s
+
+-- ---- the others stay
+
+pub kept_inserted : (w : Waiting) (c s d t : ℕ) → d ≢ c → get w d ≡ Some t → get (insert w c s) d ≡ Some t
+kept_inserted w c s d t other is = get-inserted w c s d ∙ grind (arith, nat_tests)
+
+pub kept_removed : (w : Waiting) (c d t : ℕ) → d ≢ c → get w d ≡ Some t → get (remove w c) d ≡ Some t
+kept_removed w c d t other is = get-removed w c d ∙ grind (arith, nat_tests)
+
+-- granting keeps every entry, where the vote is free
+entry-grant_to : (v : VoterState) (o : Option Request) → front v.waiting ≡ o → v.held ≡ None → (d t : ℕ) → get v.waiting d ≡ Some t → IsEntry (grant_to v o).state d t
+entry-grant_to v None is free d t waits = inr waits
+entry-grant_to v (Some r) is free d t waits = elim (same_or_other d r.client) [
+  | inl same ↦
+      let stamp : r.stamp ≡ t = same_Some r.stamp t (sym (front-found v.waiting r is) ∙ ap (get v.waiting) (sym same) ∙ waits) in
+      inl (record { client = r.client; stamp = r.stamp; grant = v.granted + 1 }, refl, sym same, stamp)
+  | inr other ↦ inr (kept_removed v.waiting r.client d t other waits)
+]
+
+pub entry-grant_front : (v : VoterState) → v.held ≡ None → (d t : ℕ) → get v.waiting d ≡ Some t → IsEntry (grant_front v).state d t
+unfolding grant_front
+entry-grant_front v free d t waits = entry-grant_to v (front v.waiting) refl free d t waits
+
+pub holder_of : (h : Grant) (c t : ℕ) → is_up_to (held_stamp (Some h) c) t ≡ true → h.client ≡ c
+holder_of h c t up = grind (arith, nat_tests)
+
+-- while a client holds the vote, the entries of others wait
+waits_by : (v : VoterState) (c t : ℕ) (o : Option Grant) → v.held ≡ o → is_up_to (held_stamp o c) t ≡ true → (e s : ℕ) → e ≢ c → IsEntry v e s → get v.waiting e ≡ Some s
+waits_by v c t None is up e s other entry = absurd (false≢true up)
+waits_by v c t (Some h) is up e s other entry = elim entry [
+  | inl held ↦ absurd (other (sym held.2 ∙ ap (λ (k : Grant). k.client) (same_Some held.0 h (sym held.1 ∙ is)) ∙ holder_of h c t up))
+  | inr waits ↦ waits
+]
+
+pub others-released_by : (holds waits : Bool) (v : VoterState) (c t : ℕ) → is_up_to (held_stamp v.held c) t ≡ holds → OthersStay v c (released_by holds waits v c t).state
+others-released_by true waits v c t up d s other entry = entry-grant_front (freed (finish v c t)) refl d s (waits_by v c t v.held refl up d s other entry)
+others-released_by false true v c t up d s other entry = elim entry [ inl held ↦ inl held | inr waits ↦ inr (kept_removed v.waiting c d s other waits) ]
+others-released_by false false v c t up d s other entry = entry
+
+pub OthersStay-released : (v : VoterState) (c t : ℕ) → OthersStay v c (released v c t).state
+unfolding released
+OthersStay-released v c t = others-released_by _ _ v c t refl
+
+queue_entry : (v : VoterState) (c s d t : ℕ) → d ≢ c → IsEntry v d t → IsEntry (queue v c s) d t
+queue_entry v c s d t other entry = elim entry [ inl held ↦ inl held | inr waits ↦ inr (kept_inserted v.waiting c s d t other waits) ]
+
+-- ---- the new request stands
+
+pub here_inserted : (w : Waiting) (c s : ℕ) → get (insert w c s) c ≡ Some s
+here_inserted w c s = get-inserted w c s c ∙ grind (arith, nat_tests)
+
+stands-queued_by : (waits granted : Bool) (v : VoterState) (g : Grant) (c s : ℕ) → IsEntry (queued_by waits granted v g c s).state c s × OthersStay v c (queued_by waits granted v g c s).state
+stands-queued_by true granted v g c s = (inr (here_inserted v.waiting c s), λ d t other entry. queue_entry v c s d t other entry)
+stands-queued_by false true v g c s = (inr (here_inserted v.waiting c s), λ d t other entry. queue_entry v c s d t other entry)
+stands-queued_by false false v g c s = (inr (here_inserted v.waiting c s), λ d t other entry. queue_entry v c s d t other entry)
+
+pub no_entry : (v : VoterState) → v.held ≡ None → IsOrderly v → (d t : ℕ) → IsEntry v d t → ⊥
+no_entry v free ok d t entry = elim entry [
+  | inl held ↦ none-some held.0 (sym free ∙ held.1)
+  | inr waits ↦ none-some t (sym (ok.free free d) ∙ waits)
+]
+
+stands-admitted_by : (o : Option Grant) (v : VoterState) (c s : ℕ) → v.held ≡ o → IsOrderly v → IsEntry (admitted_by o v c s).state c s × OthersStay v c (admitted_by o v c s).state
+unfolding queued
+stands-admitted_by None v c s is ok = (entry-grant_front (queue v c s) is c s (here_inserted v.waiting c s), λ d t other entry. absurd (no_entry v is ok d t entry))
+stands-admitted_by (Some g) v c s is ok = stands-queued_by _ _ v g c s
+
+pub stands-admitted : (v : VoterState) (c s : ℕ) → IsOrderly v → IsEntry (admitted v c s).state c s × OthersStay v c (admitted v c s).state
+unfolding admitted
+stands-admitted v c s ok = stands-admitted_by v.held v c s refl ok
+
+pub entry_by : (v : VoterState) (c t : ℕ) (o : Option Grant) → v.held ≡ o → first_some (held_stamp o c) (get v.waiting c) ≡ Some t → IsEntry v c t
+entry_by v c t None is e = inr e
+entry_by v c t (Some g) is e = elim (same_or_other g.client c) [
+  | inl same ↦ inl (g, is, same, grind (arith, nat_tests))
+  | inr other ↦ inr (grind (arith, nat_tests))
+]
+
+stands-compared_by : (less same : Bool) (v : VoterState) (c s t : ℕ) → nat_lt s t ≡ less → (s == t) ≡ same → standing v c ≡ Some t → t ≤ s → IsOrderly v
+    → IsEntry (compared_by less same v c s t).state c s × OthersStay v c (compared_by less same v c s t).state
+stands-compared_by true same v c s t l e stands most ok = absurd (let x : ⊥ = grind (arith, nat_tests) in x)
+stands-compared_by false true v c s t l e stands most ok =
+    let equal : t ≡ s = grind (arith, nat_tests) in
+    (subst (λ n. IsEntry v c n) equal (entry_by v c t v.held refl stands), λ d u other entry. entry)
+stands-compared_by false false v c s t l e stands most ok =
+    let w = (released v c t).state in
+    let a = stands-admitted w c s (orderly-released v c t ok) in
+    (a.0, λ d u other entry. a.1 d u other (OthersStay-released v c t d u other entry))
+
+stands-beside : (v : VoterState) (c s : ℕ) (o : Option ℕ) → standing v c ≡ o → KnowsUpTo v c s → IsOrderly v → IsEntry (requested_beside v c s o).state c s × OthersStay v c (requested_beside v c s o).state
+unfolding requested_beside
+stands-beside v c s None stands most ok = stands-admitted v c s ok
+stands-beside v c s (Some t) stands most ok = stands-compared_by _ _ v c s t refl refl stands (most t (entry_by v c t v.held refl stands)) ok
+
+stands-requested_by : (done : Bool) (v : VoterState) (c s : ℕ) → done ≡ false → KnowsUpTo v c s → IsOrderly v → IsEntry (requested_by done v c s).state c s × OthersStay v c (requested_by done v c s).state
+stands-requested_by true v c s new most ok = absurd (false≢true (sym new))
+stands-requested_by false v c s new most ok = stands-beside v c s (standing v c) refl most ok
+
+-- a REQUEST that is not finished, and no older than what the voter knows of its client, stands; the others stay
+pub stands-requested : (v : VoterState) (c s : ℕ) → slice_index v.finished c < s → KnowsUpTo v c s → IsOrderly v
+    → IsEntry (outcome_of v c (asks.Request s)).state c s × OthersStay v c (outcome_of v c (asks.Request s)).state
+unfolding requested
+stands-requested v c s new most ok = stands-requested_by _ (see v s) c s (grind (arith, nat_tests)) most (IsOrderly-see v s ok)

@@ -1,0 +1,294 @@
+-- which requests stay, and which of them gets the vote
+use Rattle.std.proofs.Common.{◌≡◌, ◌∷◌, ℕ, ◌<◌, ◌≤◌, Bool, true, false, Option, Some, None, refl, sym, ap, subst, ◌∙◌, ◌⊎◌, inl, inr, arith, ltb}
+use Rattle.std.specs.Prelude.{slice_index, nat_lt, ◌==◌}
+use Rattle.std.specs.FinMap.{get, insert}
+use Rattle.std.proofs.lemmas.Bool.Decides.{nat_tests}
+use Rattle.std.proofs.lemmas.Option.{none-some, same_Some}
+use Rattle.message.specs.declared.request.Request.{Request}
+use Rattle.message.specs.declared.message.ToVoter.{ToVoter}
+use Rattle.message.specs.declared.message.ClientBody.TheVariants as tells
+use Rattle.message.specs.declared.message.VoterBody.{VoterBody}
+use Rattle.message.specs.declared.message.VoterBody.TheVariants as asks
+use Rattle.voter.specs.declared.state.Grant.{Grant}
+use Rattle.voter.specs.declared.state.VoterState.{VoterState}
+use Rattle.voter.specs.Entries.{Finishes, KnowsUpTo, request_of}
+use Rattle.voter.specs.Waiting.{Waiting, precedes}
+use Rattle.voter.specs.VoterContract.{IsEntry}
+use Rattle.voter.specs.Steps.{released, released_by, queued, queued_by, admitted, admitted_by, queue, freed, finish, held_stamp, is_up_to, standing, first_some, requested, requested_by, requested_beside, compared_by, relinquished, relinquished_by, put_back, see, outcome_of, is_refused, Outcome, step, IsSound, remind, remind_of, reply, inquiry_again, ends_grant}
+use Rattle.voter.proofs.AskedBack.{inserted_cases}
+use Rattle.voter.specs.VoteMoves.{GrantIsNew, VoteMoves}
+use Rattle.voter.proofs.Effects.{IsSound-step, step-Some, step-taken}
+use Rattle.voter.proofs.Moves.{VoteMoves-outcome_of}
+use Rattle.voter.proofs.Finished.{same_or_other}
+use Rattle.voter.proofs.Freeing.{HolderFirst-grant_front, own_grant, requeues-relinquish, requeues_by, frees-release}
+use Rattle.voter.proofs.Soundness.{IsOrderly, IsOrderly-see, orderly-released}
+use Rattle.voter.proofs.Standing.{OthersStay, OthersStay-released, entry-grant_front, kept_removed, stands-admitted, stands-requested}
+
+orderly : (v : VoterState) → IsSound v → IsOrderly v
+orderly v ok = record { numbered = ok.numbered; apart = ok.apart; free = ok.free }
+
+below_or : (a b : ℕ) → (a < b) ⊎ (b ≤ a)
+below_or a b = elim (ltb a b) as (λ t. ltb a b ≡ t → (a < b) ⊎ (b ≤ a)) [
+  | true ↦ λ t. inl (grind (arith, nat_tests))
+  | false ↦ λ t. inr (grind (arith, nat_tests))
+] refl
+
+-- ---- a RELEASE
+
+up_to_stamp : (o : Option Grant) (h : Grant) (c t : ℕ) → o ≡ Some h → is_up_to (held_stamp o c) t ≡ true → (h.client ≡ c) × (h.stamp ≤ t)
+up_to_stamp None h c t is up = absurd (none-some h is)
+up_to_stamp (Some k) h c t is up =
+    let same = same_Some k h is in
+    let client = ap (λ (g : Grant). g.client) same in
+    let stamp = ap (λ (g : Grant). g.stamp) same in
+    (grind (arith, nat_tests), grind (arith, nat_tests))
+
+waits_up_to : (o : Option ℕ) (s t : ℕ) → o ≡ Some s → is_up_to o t ≡ true → s ≤ t
+waits_up_to None s t is up = absurd (none-some s is)
+waits_up_to (Some u) s t is up = let same = same_Some u s is in grind (arith, nat_tests)
+
+stay-released_by : (holds waits : Bool) (v : VoterState) (c t : ℕ) → is_up_to (held_stamp v.held c) t ≡ holds → is_up_to (get v.waiting c) t ≡ waits
+    → (d s : ℕ) → IsEntry v d s → IsEntry (released_by holds waits v c t).state d s ⊎ ((d ≡ c) × (s ≤ t))
+stay-released_by true waits v c t holds waiting d s entry = elim entry [
+  | inl held ↦ let up = up_to_stamp v.held held.0 c t held.1 holds in inr (sym held.2 ∙ up.0, subst (λ n. n ≤ t) held.3 up.1)
+  | inr waits ↦ inl (entry-grant_front (freed (finish v c t)) refl d s waits)
+]
+stay-released_by false true v c t holds waiting d s entry = elim entry [
+  | inl held ↦ inl (inl held)
+  | inr waits ↦ elim (same_or_other d c) [
+    | inl same ↦ inr (same, waits_up_to (get v.waiting c) s t (ap (get v.waiting) (sym same) ∙ waits) waiting)
+    | inr other ↦ inl (inr (kept_removed v.waiting c d s other waits))
+  ]
+]
+stay-released_by false false v c t holds waiting d s entry = inl entry
+
+stay-released : (v : VoterState) (c t d s : ℕ) → IsEntry v d s → IsEntry (released v c t).state d s ⊎ ((d ≡ c) × (s ≤ t))
+unfolding released
+stay-released v c t d s entry = stay-released_by _ _ v c t refl refl d s entry
+
+-- ---- a REQUEST
+
+others-compared_by : (less same : Bool) (v : VoterState) (c s t : ℕ) → IsOrderly v → OthersStay v c (compared_by less same v c s t).state
+others-compared_by true same v c s t ok d u other entry = entry
+others-compared_by false true v c s t ok d u other entry = entry
+others-compared_by false false v c s t ok d u other entry =
+    (stands-admitted (released v c t).state c s (orderly-released v c t ok)).1 d u other (OthersStay-released v c t d u other entry)
+
+others-beside : (v : VoterState) (c s : ℕ) (o : Option ℕ) → IsOrderly v → OthersStay v c (requested_beside v c s o).state
+unfolding requested_beside
+others-beside v c s None ok = (stands-admitted v c s ok).1
+others-beside v c s (Some t) ok = others-compared_by _ _ v c s t ok
+
+others-requested_by : (done : Bool) (v : VoterState) (c s : ℕ) → IsOrderly v → OthersStay v c (requested_by done v c s).state
+others-requested_by true v c s ok d u other entry = entry
+others-requested_by false v c s ok d u other entry = others-beside v c s (standing v c) ok d u other entry
+
+-- a client with a request has one, and it is this one
+standing_by : (v : VoterState) (c u : ℕ) (o : Option Grant) → v.held ≡ o → IsOrderly v → IsEntry v c u → first_some (held_stamp o c) (get v.waiting c) ≡ Some u
+standing_by v c u None is ok entry = elim entry [
+  | inl held ↦ absurd (none-some held.0 (sym is ∙ held.1))
+  | inr waits ↦ waits
+]
+standing_by v c u (Some g) is ok entry = elim entry [
+  | inl held ↦
+      let same = same_Some g held.0 (sym is ∙ held.1) in
+      let client : g.client ≡ c = ap (λ (k : Grant). k.client) same ∙ held.2 in
+      let stamp : g.stamp ≡ u = ap (λ (k : Grant). k.stamp) same ∙ held.3 in
+      grind (arith, nat_tests)
+  | inr waits ↦ elim (same_or_other g.client c) [
+    | inl same ↦ absurd (none-some u (sym (ok.apart g is) ∙ ap (get v.waiting) same ∙ waits))
+    | inr other ↦ grind (arith, nat_tests)
+  ]
+]
+
+pub standing-entry : (v : VoterState) (c u : ℕ) → IsOrderly v → IsEntry v c u → standing v c ≡ Some u
+standing-entry v c u ok entry = standing_by v c u v.held refl ok entry
+
+own-compared_by : (less same : Bool) (v : VoterState) (c s u : ℕ) → nat_lt s u ≡ less → (s == u) ≡ same → s ≤ u → IsEntry v c u → IsEntry (compared_by less same v c s u).state c u
+own-compared_by true same v c s u l e most entry = entry
+own-compared_by false true v c s u l e most entry = entry
+own-compared_by false false v c s u l e most entry = absurd (let x : ⊥ = grind (arith, nat_tests) in x)
+
+own-beside : (v : VoterState) (c s u : ℕ) (o : Option ℕ) → o ≡ Some u → s ≤ u → IsEntry v c u → IsEntry (requested_beside v c s o).state c u
+unfolding requested_beside
+own-beside v c s u None is most entry = absurd (none-some u is)
+own-beside v c s u (Some t) is most entry =
+    subst (λ n. IsEntry (compared_by (nat_lt s n) (s == n) v c s n).state c u) (sym (same_Some t u is)) (own-compared_by _ _ v c s u refl refl most entry)
+
+own-requested_by : (done : Bool) (v : VoterState) (c s u : ℕ) → IsOrderly v → s ≤ u → IsEntry v c u → IsEntry (requested_by done v c s).state c u
+own-requested_by true v c s u ok most entry = entry
+own-requested_by false v c s u ok most entry = own-beside v c s u (standing v c) (standing-entry v c u ok entry) most entry
+
+stay-requested : (done : Bool) (v : VoterState) (c s d u : ℕ) → IsOrderly v → IsEntry v d u → IsEntry (requested_by done v c s).state d u ⊎ ((d ≡ c) × (u < s))
+stay-requested done v c s d u ok entry = elim (same_or_other d c) [
+  | inl same ↦ elim (below_or u s) [
+    | inl less ↦ inr (same, less)
+    | inr most ↦ inl (subst (λ n. IsEntry (requested_by done v c s).state n u) (sym same) (own-requested_by done v c s u ok most (subst (λ n. IsEntry v n u) same entry)))
+  ]
+  | inr other ↦ inl (others-requested_by done v c s ok d u other entry)
+]
+
+-- ---- a RELINQUISH
+
+stay-put_back : (o : Option Grant) (v : VoterState) → v.held ≡ o → IsOrderly v → (d s : ℕ) → IsEntry v d s → IsEntry (put_back o v).state d s
+stay-put_back None v is ok d s entry = entry
+stay-put_back (Some g) v is ok d s entry = (requeues_by (Some g) v g refl is ok).0 d s entry
+
+stay-relinquished_by : (b : Bool) (v : VoterState) → IsOrderly v → (d s : ℕ) → IsEntry v d s → IsEntry (relinquished_by b v).state d s
+stay-relinquished_by true v ok d s entry = stay-put_back v.held v refl ok d s entry
+stay-relinquished_by false v ok d s entry = entry
+
+-- ---- any message
+
+stay-outcome_of : (v : VoterState) (c : ℕ) (b : VoterBody) → IsOrderly v → (d s : ℕ) → IsEntry v d s → IsEntry (outcome_of v c b).state d s ⊎ Finishes c b d s
+unfolding relinquished requested
+stay-outcome_of v c (asks.Request t) ok d s entry = stay-requested _ (see v t) c t d s (IsOrderly-see v t ok) entry
+stay-outcome_of v c (asks.Relinquish n) ok d s entry = inl (stay-relinquished_by _ v ok d s entry)
+stay-outcome_of v c (asks.Release t) ok d s entry = stay-released (see v t) c t d s entry
+
+pub requests_stay-step : (v : VoterState) (m : ToVoter) (o : Outcome) (client stamp : ℕ) → IsSound v → step v m ≡ Some o → IsEntry v client stamp → IsEntry o.state client stamp ⊎ Finishes m.client m.body client stamp
+requests_stay-step v m o client stamp ok e entry =
+    subst (λ (p : Outcome). IsEntry p.state client stamp ⊎ Finishes m.client m.body client stamp) (step-Some v m o e).1
+    (stay-outcome_of v m.client m.body (orderly v ok) client stamp entry)
+
+-- ---- a new grant goes to the first
+
+-- a grant above this number is of a request that no waiting one precedes
+abbrev NewFirst : ℕ → VoterState → Type 0
+NewFirst n w = (g : Grant) (d t : ℕ) → w.held ≡ Some g → n < g.grant → get w.waiting d ≡ Some t → precedes (record { stamp = t; client = d }) (request_of g) ≡ false
+
+-- the same of the requests that were there before
+abbrev NewFirstOf : VoterState → VoterState → Type 0
+NewFirstOf v w = (g : Grant) (d t : ℕ) → w.held ≡ Some g → v.granted < g.grant → IsEntry v d t → get w.waiting d ≡ Some t → precedes (record { stamp = t; client = d }) (request_of g) ≡ false
+
+first-old : (v : VoterState) → IsOrderly v → NewFirst v.granted v
+first-old v ok g d t held new waits = let most = ok.numbered g held in absurd (omega arith)
+
+first-released_by : (holds waits : Bool) (v : VoterState) (c t : ℕ) → IsOrderly v → NewFirst v.granted (released_by holds waits v c t).state
+first-released_by true waits v c t ok g d s held new waiting = HolderFirst-grant_front (freed (finish v c t)) refl g d s held waiting
+first-released_by false true v c t ok g d s held new waiting = let most = ok.numbered g held in absurd (omega arith)
+first-released_by false false v c t ok g d s held new waiting = let most = ok.numbered g held in absurd (omega arith)
+
+first-released : (v : VoterState) (c t : ℕ) → IsOrderly v → NewFirst v.granted (released v c t).state
+unfolding released
+first-released v c t ok = first-released_by _ _ v c t ok
+
+held-queued_by : (waits granted : Bool) (v : VoterState) (g : Grant) (c s : ℕ) → (queued_by waits granted v g c s).state.held ≡ v.held
+held-queued_by true granted v g c s = refl
+held-queued_by false true v g c s = refl
+held-queued_by false false v g c s = refl
+
+waiting-queued_by : (waits granted : Bool) (v : VoterState) (g : Grant) (c s : ℕ) → (queued_by waits granted v g c s).state.waiting ≡ insert v.waiting c s
+waiting-queued_by true granted v g c s = refl
+waiting-queued_by false true v g c s = refl
+waiting-queued_by false false v g c s = refl
+
+-- what waits after a new request waited before, or is that request
+first-admitted_by : (o : Option Grant) (v : VoterState) (c s n : ℕ) → v.held ≡ o → NewFirst n v
+    → (g : Grant) (d t : ℕ) → (admitted_by o v c s).state.held ≡ Some g → n < g.grant → ((d ≡ c) × (t ≡ s) → ⊥) → get (admitted_by o v c s).state.waiting d ≡ Some t
+    → precedes (record { stamp = t; client = d }) (request_of g) ≡ false
+unfolding queued
+first-admitted_by None v c s n is first g d t held new other waits = HolderFirst-grant_front (queue v c s) is g d t held waits
+first-admitted_by (Some h) v c s n is first g d t held new other waits =
+    let same = held-queued_by _ _ v h c s in
+    let list = waiting-queued_by _ _ v h c s in
+    elim (inserted_cases v.waiting c s d t (sym (ap (λ (w : Waiting). get w d) list) ∙ waits)) [
+      | inl here ↦ absurd (other here)
+      | inr before ↦ first g d t (sym same ∙ held) new before
+    ]
+
+first-admitted : (v : VoterState) (c s n : ℕ) → NewFirst n v
+    → (g : Grant) (d t : ℕ) → (admitted v c s).state.held ≡ Some g → n < g.grant → ((d ≡ c) × (t ≡ s) → ⊥) → get (admitted v c s).state.waiting d ≡ Some t
+    → precedes (record { stamp = t; client = d }) (request_of g) ≡ false
+unfolding admitted
+first-admitted v c s n first = first-admitted_by v.held v c s n refl first
+
+first-compared_by : (less same : Bool) (v : VoterState) (c s t : ℕ) → (s == t) ≡ same → standing v c ≡ Some t → IsOrderly v → NewFirstOf v (compared_by less same v c s t).state
+first-compared_by true same v c s t e stands ok g d u held new entry waits = first-old v ok g d u held new waits
+first-compared_by false true v c s t e stands ok g d u held new entry waits = first-old v ok g d u held new waits
+first-compared_by false false v c s t e stands ok g d u held new entry waits =
+    first-admitted (released v c t).state c s v.granted (first-released v c t ok) g d u held new
+    (λ here.
+    let now = standing-entry v c u ok (subst (λ n. IsEntry v n u) here.0 entry) in
+    let old = same_Some t u (sym stands ∙ now) in
+    let same = here.1 in
+    (let x : ⊥ = grind (arith, nat_tests) in x))
+    waits
+
+no_standing : (v : VoterState) (c u : ℕ) → standing v c ≡ None → IsOrderly v → IsEntry v c u → ⊥
+no_standing v c u none ok entry = none-some u (sym none ∙ standing-entry v c u ok entry)
+
+first-beside : (v : VoterState) (c s : ℕ) (o : Option ℕ) → standing v c ≡ o → IsOrderly v → NewFirstOf v (requested_beside v c s o).state
+unfolding requested_beside
+first-beside v c s None stands ok g d u held new entry waits =
+    first-admitted v c s v.granted (first-old v ok) g d u held new (λ here. no_standing v c u stands ok (subst (λ n. IsEntry v n u) here.0 entry)) waits
+first-beside v c s (Some t) stands ok g d u held new entry waits = first-compared_by _ _ v c s t refl stands ok g d u held new entry waits
+
+first-requested_by : (done : Bool) (v : VoterState) (c s : ℕ) → IsOrderly v → NewFirstOf v (requested_by done v c s).state
+first-requested_by true v c s ok g d u held new entry waits = first-old v ok g d u held new waits
+first-requested_by false v c s ok g d t held new entry waits = first-beside v c s (standing v c) refl ok g d t held new entry waits
+
+first-put_back : (o : Option Grant) (v : VoterState) → v.held ≡ o → IsOrderly v → NewFirst v.granted (put_back o v).state
+first-put_back None v is ok g d t held new waits = first-old v ok g d t held new waits
+first-put_back (Some h) v is ok g d t held new waits = (requeues_by (Some h) v h refl is ok).1 g d t held waits
+
+first-relinquished_by : (b : Bool) (v : VoterState) → IsOrderly v → NewFirst v.granted (relinquished_by b v).state
+first-relinquished_by true v ok = first-put_back v.held v refl ok
+first-relinquished_by false v ok = first-old v ok
+
+first-outcome_of : (v : VoterState) (c : ℕ) (b : VoterBody) → IsOrderly v → NewFirstOf v (outcome_of v c b).state
+unfolding relinquished requested
+first-outcome_of v c (asks.Request s) ok g d t held new entry waits = first-requested_by _ (see v s) c s (IsOrderly-see v s ok) g d t held new entry waits
+first-outcome_of v c (asks.Relinquish n) ok g d t held new entry waits = first-relinquished_by _ v ok g d t held new waits
+first-outcome_of v c (asks.Release s) ok g d t held new entry waits = first-released (see v s) c s (IsOrderly-see v s ok) g d t held new waits
+
+pub first-step : (v : VoterState) (m : ToVoter) (o : Outcome) (g : Grant) (client stamp : ℕ) → IsSound v → step v m ≡ Some o → o.state.held ≡ Some g → v.granted < g.grant
+    → IsEntry v client stamp → get o.state.waiting client ≡ Some stamp → precedes (record { stamp = stamp; client = client }) (request_of g) ≡ false
+first-step v m o g client stamp ok e =
+    subst (λ (p : Outcome). p.state.held ≡ Some g → v.granted < g.grant → IsEntry v client stamp → get p.state.waiting client ≡ Some stamp → precedes (record { stamp = stamp; client = client }) (request_of g) ≡ false)
+    (step-Some v m o e).1 (first-outcome_of v m.client m.body (orderly v ok) g client stamp)
+
+-- ---- what a REQUEST and a RELEASE do, as steps
+
+pub taken_up-step : (v : VoterState) (m : ToVoter) (o : Outcome) (stamp : ℕ) → IsSound v → m.body ≡ asks.Request stamp → slice_index v.finished m.client < stamp → KnowsUpTo v m.client stamp
+    → step v m ≡ Some o → IsEntry o.state m.client stamp
+taken_up-step v m o stamp ok is new most e =
+    subst (λ (p : Outcome). IsEntry p.state m.client stamp) (ap (outcome_of v m.client) (sym is) ∙ (step-Some v m o e).1) (stands-requested v m.client stamp new most (orderly v ok)).0
+
+pub ended-step : (v : VoterState) (m : ToVoter) (o : Outcome) (g : Grant) (stamp : ℕ) → IsSound v → v.held ≡ Some g → m.client ≡ g.client → m.body ≡ asks.Release stamp → g.stamp ≤ stamp
+    → step v m ≡ Some o → (s : ℕ) → IsEntry o.state g.client s → ⊥
+ended-step v m o g stamp ok held own is most e =
+    subst (λ (p : Outcome). (s : ℕ) → IsEntry p.state g.client s → ⊥) (ap (λ n. outcome_of v n (asks.Release stamp)) (sym own) ∙ ap (outcome_of v m.client) (sym is) ∙ (step-Some v m o e).1)
+    (frees-release v g stamp held most (orderly v ok)).0
+
+-- a RELINQUISH of the grant: its request waits, so some request has the vote
+goes_on_by : (v w : VoterState) (g : Grant) → IsEntry w g.client g.stamp → IsSound w → VoteMoves true v w → GrantIsNew v w
+goes_on_by v w g entry sound (inl ends) = elim entry [
+  | inl held ↦ absurd (none-some held.0 (sym ends.held ∙ held.1))
+  | inr waits ↦ absurd (none-some g.stamp (sym (sound.free ends.held g.client) ∙ waits))
+]
+goes_on_by v w g entry sound (inr new) = new
+
+relinquishes : (v : VoterState) (g : Grant) → v.held ≡ Some g → VoteMoves true v (outcome_of v g.client (asks.Relinquish g.grant)).state
+unfolding ends_grant
+relinquishes v g held = subst (λ b. VoteMoves b v (outcome_of v g.client (asks.Relinquish g.grant)).state) (own_grant v.held g held) (VoteMoves-outcome_of v g.client (asks.Relinquish g.grant))
+
+pub goes_on-step : (v : VoterState) (m : ToVoter) (o : Outcome) (g : Grant) → IsSound v → v.held ≡ Some g → m.client ≡ g.client → m.body ≡ asks.Relinquish g.grant → step v m ≡ Some o → GrantIsNew v o.state
+goes_on-step v m o g ok held own is e =
+    let same : outcome_of v g.client (asks.Relinquish g.grant) ≡ o = ap (λ n. outcome_of v n (asks.Relinquish g.grant)) (sym own) ∙ ap (outcome_of v m.client) (sym is) ∙ (step-Some v m o e).1 in
+    goes_on_by v o.state g (subst (λ (p : Outcome). IsEntry p.state g.client g.stamp) same ((requeues-relinquish v g held (orderly v ok)).0 g.client g.stamp (inl (g, held, refl, refl))))
+    (IsSound-step v m o ok e) (subst (λ (p : Outcome). VoteMoves true v p.state) same (relinquishes v g held))
+
+-- ---- while grants are left
+
+enough : (v : VoterState) (m : ToVoter) → v.granted < v.limit → is_refused v m ≡ false
+enough v m left = grind (arith, nat_tests)
+
+pub takes-step : (v : VoterState) (m : ToVoter) → IsSound v → v.granted < v.limit → (o : Outcome) × (step v m ≡ Some o)
+takes-step v m ok left = (outcome_of v m.client m.body, step-taken v m ok (enough v m left))
+
+-- ---- reminders
+
+pub reminds : (v : VoterState) (g : Grant) → v.held ≡ Some g → remind v ≡ reply v g.client (tells.Locked g.stamp g.grant) ∷ inquiry_again v.inquiring v g
+unfolding remind
+reminds v g is = ap (λ (o : Option Grant). remind_of o v) is

@@ -1,0 +1,8 @@
+use Rattle.voter.proofs.AskedBack.{AsksBack-start, AsksBack-step}
+use Rattle.voter.proofs.laws.votes_are_asked_back.Goals as goal
+
+pub returns-clause-first : goal.returns-clause-first
+returns-clause-first c = AsksBack-start
+
+pub returns-clause-steps : goal.returns-clause-steps
+returns-clause-steps c = AsksBack-step

@@ -1,0 +1,295 @@
+/* Tries the boundary of the library: random bytes as states and lines, states and lines that are nearly right, short rooms and
+   lengths of 0. Each call has to return one of its named results, to write nothing if it returns another one than QLOCK_DONE,
+   and to write nothing outside of what it was given: each block lies between two red zones. With -fsanitize=address,undefined
+   the blocks are from malloc, so that a read outside is found too.
+
+       cc fuzz.c -I../../include ../../build/libqlock.a -o fuzz && ./fuzz [ROUNDS [SEED]] */
+#include "qlock.h"
+#include <stdio.h>
+#include <stdlib.h>
+#include <string.h>
+
+enum { ZONE = 64, MOST = 5200 };
+
+/* a block of bytes between two red zones, in memory of exactly that size */
+struct block {
+    uint8_t *all, *bytes, *before;
+    size_t n;
+};
+
+static uint64_t seed = 88172645463325252u;
+static unsigned long calls, done;
+static const char *call = "";
+
+static uint64_t rnd(void) {
+    seed ^= seed << 13;
+    seed ^= seed >> 7;
+    seed ^= seed << 17;
+    return seed;
+}
+
+static size_t below(size_t n) { return (size_t)(rnd() % n); }
+
+static void fail(const char *what, int32_t result) {
+    fprintf(stderr, "fuzz: %s: %s (result %d)\n", call, what, (int)result);
+    exit(1);
+}
+
+static struct block block_of(size_t n) {
+    struct block b = {malloc(n + 2 * ZONE), NULL, malloc(n + 1), n};
+    if (b.all == NULL || b.before == NULL) exit(2);
+    b.bytes = b.all + ZONE;
+    memset(b.all, 0xa5, ZONE);
+    memset(b.bytes + n, 0xa5, ZONE);
+    for (size_t i = 0; i < n; i++) b.bytes[i] = (uint8_t)rnd();
+    return b;
+}
+
+static void note(struct block *b) { memcpy(b->before, b->bytes, b->n); }
+
+static int is_same(const struct block *b) { return memcmp(b->before, b->bytes, b->n) == 0; }
+
+/* ends with a block: its red zones are as they were, and so is the block if it may not change */
+static void end(struct block *b, int may_change, int32_t result) {
+    for (size_t i = 0; i < ZONE; i++)
+        if (b->all[i] != 0xa5 || b->bytes[b->n + i] != 0xa5) fail("wrote outside", result);
+    if (!may_change && !is_same(b)) fail("wrote what it may not write", result);
+    free(b->all);
+    free(b->before);
+}
+
+/* flips a few bits, mostly none */
+static void spoil(struct block *b) {
+    if (b->n > 0 && below(3) == 0)
+        for (size_t k = below(4); k > 0; k--) b->bytes[below(b->n)] ^= (uint8_t)(1u << below(8));
+}
+
+static struct block copy_of(const uint8_t *bytes, size_t n) {
+    struct block b = block_of(n);
+    memcpy(b.bytes, bytes, n);
+    return b;
+}
+
+/* a number: mostly small, sometimes at an edge */
+static uint64_t number(void) {
+    static const uint64_t edges[] = {0, 1, QLOCK_MAX_STAMP, QLOCK_MAX_STAMP + 1, UINT64_MAX, UINT64_MAX - 1, 63, 64};
+    return below(5) == 0 ? edges[below(8)] : below(9);
+}
+
+/* a line of a message, maybe with a fault */
+static struct block line_of(int to_voter) {
+    static const char *voter_words[] = {"request", "relinquish", "release"}, *client_words[] = {"fail", "inquire", "locked"};
+    char text[256];
+    int n;
+    size_t kind = below(3);
+    if (below(16) == 0) return block_of(below(100));
+    if (below(16) == 0) to_voter = !to_voter;
+    if (to_voter)
+        n = snprintf(text, sizeof text, "%s %u %u %llu", voter_words[kind], (unsigned)below(4), (unsigned)below(2),
+                     (unsigned long long)number());
+    else if (kind == 2)
+        n = snprintf(text, sizeof text, "locked %u %u %llu %llu %llu", (unsigned)below(4), (unsigned)below(2),
+                     (unsigned long long)number(), (unsigned long long)number(), (unsigned long long)number());
+    else
+        n = snprintf(text, sizeof text, "%s %u %u %llu %llu", client_words[kind], (unsigned)below(4), (unsigned)below(2),
+                     (unsigned long long)number(), (unsigned long long)number());
+    struct block b = copy_of((uint8_t *)text, (size_t)n);
+    if (below(4) == 0) spoil(&b);
+    return b;
+}
+
+static size_t room(void) { return below(4) == 0 ? below(100) : below(2) == 0 ? QLOCK_VOTER_OUT : QLOCK_CLIENT_OUT; }
+
+/* whether the result is one of those that the header names for this call */
+static void is_named(int32_t result, const char *named) {
+    calls++;
+    if (result == QLOCK_DONE) done++;
+    if (result < 0 || result > QLOCK_OLDER_GRANT || strchr(named, "0123456789a"[result]) == NULL) fail("unnamed result", result);
+}
+
+/* the lines of a call end with a newline, and fill exactly what was written */
+static void are_lines(const struct block *out, size_t written, int32_t result) {
+    if (written > out->n) fail("wrote more than there is room for", result);
+    if (written > 0 && out->bytes[written - 1] != '\n') fail("the last line has no newline", result);
+    if (memcmp(out->bytes + written, out->before + written, out->n - written) != 0) fail("wrote behind the lines", result);
+}
+
+static uint8_t voter[QLOCK_VOTER_BYTES], client[QLOCK_CLIENT_BYTES], guard[QLOCK_FENCE_BYTES];
+
+static void fresh(void) {
+    if (qlock_voter_new((uint8_t)below(2), below(3) ? QLOCK_MAX_STAMP : 2, voter, sizeof voter) != QLOCK_DONE) exit(3);
+    if (qlock_client_new((uint8_t)below(2), below(3) ? QLOCK_MAX_STAMP : 4, client, sizeof client) != QLOCK_DONE) exit(3);
+    if (qlock_fence_new(guard, sizeof guard) != QLOCK_DONE) exit(3);
+}
+
+/* a state: the current one, a spoiled one, one of another length, or random bytes */
+static struct block state_of(const uint8_t *bytes, size_t n) {
+    if (below(20) == 0) return block_of(below(3) == 0 ? 0 : below(MOST));
+    if (below(20) == 0) return block_of(n);
+    if (below(20) == 0) return copy_of(bytes, below(n));
+    struct block b = copy_of(bytes, n);
+    if (below(4) == 0) spoil(&b);
+    return b;
+}
+
+/* keeps the new state of a call that was done; a state that the library wrote, it reads */
+static void keep(uint8_t *bytes, size_t n, const struct block *b, int32_t result) {
+    if (result == QLOCK_DONE && b->n == n && below(8) != 0) memcpy(bytes, b->bytes, n);
+}
+
+static void check_voter(const struct block *b, int32_t result) {
+    uint64_t x, y, z;
+    if (result == QLOCK_DONE && qlock_voter_held(b->bytes, b->n, &x, &y, &z) != QLOCK_DONE) fail("its state is not read", result);
+}
+
+static void check_client(const struct block *b, int32_t result) {
+    int32_t phase;
+    uint64_t x, y;
+    if (result == QLOCK_DONE && qlock_client_shows(b->bytes, b->n, &phase, &x, &y) != QLOCK_DONE)
+        fail("its state is not read", result);
+}
+
+static void one_call(void) {
+    size_t written = 7777;
+    int32_t entered = 7777, phase = 7777;
+    uint64_t a = 7777, b = 7777, c = 7777;
+    size_t which = below(16);
+    struct block state = which < 5 ? state_of(voter, sizeof voter) : which < 14 ? state_of(client, sizeof client) : state_of(guard, sizeof guard);
+    struct block line = line_of(which < 3), out = block_of(room()), grants = block_of(below(4) ? QLOCK_GRANTS_BYTES : below(600));
+    if (below(2) == 0) memset(grants.bytes, (int)below(3), grants.n);
+    int32_t result = -1;
+    note(&state), note(&line), note(&out), note(&grants);
+    int writes_state = 0, writes_out = 0, writes_grants = 0;
+    switch (which) {
+    case 0:
+    case 1:
+        call = "qlock_voter_take";
+        result = qlock_voter_take(state.bytes, state.n, line.bytes, line.n, out.bytes, out.n, &written);
+        is_named(result, "02349");
+        writes_state = writes_out = result == QLOCK_DONE;
+        check_voter(&state, result);
+        keep(voter, sizeof voter, &state, result);
+        break;
+    case 2:
+        call = "qlock_voter_remind";
+        result = qlock_voter_remind(state.bytes, state.n, out.bytes, out.n, &written);
+        is_named(result, "024");
+        writes_out = result == QLOCK_DONE;
+        break;
+    case 3:
+        call = "qlock_voter_held";
+        result = qlock_voter_held(state.bytes, state.n, &a, &b, &c);
+        is_named(result, "02");
+        if (result == QLOCK_DONE && (c == 0) != (b == 0)) fail("a grant without a stamp", result);
+        if (result != QLOCK_DONE && (a != 7777 || b != 7777 || c != 7777)) fail("wrote though refused", result);
+        break;
+    case 4:
+        call = "qlock_voter_new";
+        result = qlock_voter_new((uint8_t)rnd(), number(), state.bytes, state.n);
+        is_named(result, "012");
+        writes_state = result == QLOCK_DONE;
+        check_voter(&state, result);
+        break;
+    case 5:
+    case 6:
+    case 7:
+        call = "qlock_client_take";
+        result = qlock_client_take(state.bytes, state.n, line.bytes, line.n, out.bytes, out.n, &written, &entered);
+        is_named(result, "0234");
+        writes_state = writes_out = result == QLOCK_DONE;
+        if (result == QLOCK_DONE ? entered != 0 && entered != 1 : entered != 7777) fail("entered", result);
+        check_client(&state, result);
+        keep(client, sizeof client, &state, result);
+        break;
+    case 8:
+        call = "qlock_client_ask";
+        result = qlock_client_ask(state.bytes, state.n, below(2) ? below(16) : rnd(), out.bytes, out.n, &written);
+        is_named(result, "012458");
+        writes_state = writes_out = result == QLOCK_DONE;
+        check_client(&state, result);
+        keep(client, sizeof client, &state, result);
+        break;
+    case 9:
+        call = "qlock_client_leave";
+        result = qlock_client_leave(state.bytes, state.n, out.bytes, out.n, &written);
+        is_named(result, "0246");
+        writes_state = writes_out = result == QLOCK_DONE;
+        check_client(&state, result);
+        keep(client, sizeof client, &state, result);
+        break;
+    case 10:
+        call = "qlock_client_give_up";
+        result = qlock_client_give_up(state.bytes, state.n, out.bytes, out.n, &written);
+        is_named(result, "0247");
+        writes_state = writes_out = result == QLOCK_DONE;
+        check_client(&state, result);
+        if (below(4) == 0) keep(client, sizeof client, &state, result);
+        break;
+    case 11:
+        call = "qlock_client_remind";
+        result = qlock_client_remind(state.bytes, state.n, out.bytes, out.n, &written);
+        is_named(result, "024");
+        writes_out = result == QLOCK_DONE;
+        break;
+    case 12:
+        if (below(2)) {
+            call = "qlock_client_forget";
+            result = qlock_client_forget(state.bytes, state.n);
+            is_named(result, "02");
+            writes_state = result == QLOCK_DONE;
+            check_client(&state, result);
+            if (below(8) == 0) keep(client, sizeof client, &state, result);
+        } else {
+            call = "qlock_client_new";
+            result = qlock_client_new((uint8_t)rnd(), number(), state.bytes, state.n);
+            is_named(result, "012");
+            writes_state = result == QLOCK_DONE;
+            check_client(&state, result);
+        }
+        break;
+    case 13:
+        if (below(2)) {
+            call = "qlock_client_shows";
+            result = qlock_client_shows(state.bytes, state.n, &phase, &a, &b);
+            is_named(result, "02");
+            if (result == QLOCK_DONE ? phase < 0 || phase > 2 : phase != 7777 || a != 7777 || b != 7777) fail("phase", result);
+        } else if (below(2)) {
+            call = "qlock_client_grant";
+            result = qlock_client_grant(state.bytes, state.n, (uint8_t)below(80), &a);
+            is_named(result, "012");
+            if (result != QLOCK_DONE && a != 7777) fail("wrote though refused", result);
+        } else {
+            call = "qlock_client_grants";
+            result = qlock_client_grants(state.bytes, state.n, grants.bytes, grants.n);
+            is_named(result, "012");
+            writes_grants = result == QLOCK_DONE;
+        }
+        break;
+    default:
+        call = "qlock_fence_admit";
+        result = qlock_fence_admit(state.bytes, state.n, grants.bytes, grants.n);
+        is_named(result, "012a");
+        writes_state = result == QLOCK_DONE;
+        keep(guard, sizeof guard, &state, result);
+        break;
+    }
+    if (writes_out) are_lines(&out, written, result);
+    else if (written != 7777) fail("wrote a count", result);
+    end(&state, writes_state, result);
+    end(&line, 0, result);
+    end(&out, writes_out, result);
+    end(&grants, writes_grants, result);
+}
+
+int main(int argc, char **argv) {
+    long rounds = argc > 1 ? atol(argv[1]) : 200000;
+    if (argc > 2) seed ^= strtoull(argv[2], NULL, 10);
+    for (long i = 0; i < rounds; i++) {
+        if (i % 500 == 0) fresh();
+        one_call();
+    }
+    if (done < calls / 5) fail("hardly a call was done, so this tried little", 0);
+    printf("the boundary holds\n");
+    fprintf(stderr, "%lu calls, %lu done\n", calls, done);
+    return 0;
+}

@@ -1,0 +1,128 @@
+"""A voter of the service: one process, a vote for each lock.
+
+    python3 voter.py SETTINGS NUMBER
+
+It saves a vote's state before the messages that come of it leave, reminds those who have a vote in case messages were
+lost, and says on the page what it does. What frees a vote after a lost RELEASE is the voter's own reminder.
+"""
+
+from __future__ import annotations
+
+import json
+import os
+import struct
+import sys
+import time
+from typing import Dict, List
+
+from metrics import Metrics
+from node import Backoff, Letter, Post, packed, unpacked
+from qlock import BadMessage, GrantsSpent, Store, Voter
+from settings import Settings
+
+
+class Vote:
+    """The vote of this voter for one lock, with its store."""
+
+    def __init__(self, settings: Settings, lock: str, number: int, metrics: Metrics) -> None:
+        self.lock = lock
+        self._store = Store(settings.state_of(lock, f"v{number}"))
+        saved = self._store.read()
+        if saved is None:
+            self.voter = Voter(number, settings.limit)
+            self._store.save(self.voter.state)
+        else:
+            self.voter = Voter.restore(saved)
+            metrics.add("qlock_restores_total")
+        self.reminder = Backoff(0.25, 2)
+
+    def take(self, line: bytes) -> List[Letter]:
+        """Takes a message. What is returned may be sent: the state is saved."""
+        return self._letters(self.voter.take(line))
+
+    def remind(self) -> List[Letter]:
+        """Returns the messages that remind whoever has the vote."""
+        return self._letters(self.voter.remind())
+
+    def _letters(self, lines: List[bytes]) -> List[Letter]:
+        self._store.save(self.voter.state)
+        return [(f"c{int(line.split()[2])}", packed(self.lock, line)) for line in lines]
+
+    def waiting(self) -> List[int]:
+        """Returns the clients that wait for the vote: words 10 to 73 of a saved voter are their stamps, 0 for none."""
+        words = struct.unpack("<138Q", self.voter.state)
+        return [client for client in range(64) if words[10 + client]]
+
+
+class VoterProcess:
+    """The voter: takes messages, reminds, and tells the page."""
+
+    def __init__(self, settings: Settings, number: int) -> None:
+        self._settings, self._number = settings, number
+        self._metrics = Metrics()
+        self._post = Post(settings, f"v{number}", self._metrics)
+        self._port = self._metrics.serve()
+        self._votes: Dict[str, Vote] = {}
+        self._told = 0.0
+        for lock in sorted(os.listdir(settings.folder)):
+            if os.path.exists(os.path.join(settings.folder, lock, f"v{number}")):
+                self._vote(lock)
+
+    def _vote(self, lock: str) -> Vote:
+        if lock not in self._votes:
+            self._votes[lock] = Vote(self._settings, lock, self._number, self._metrics)
+        return self._votes[lock]
+
+    def _take(self, message: bytes) -> None:
+        lock, line = unpacked(message)
+        if not lock.isidentifier():
+            self._metrics.add("qlock_unread_total")
+            return
+        vote = self._vote(lock)
+        try:
+            letters = vote.take(line)
+        except (BadMessage, GrantsSpent):
+            self._metrics.add("qlock_unread_total")
+            return
+        vote.reminder.news()
+        self._post.send(letters)
+
+    def _remind(self) -> None:
+        for vote in self._votes.values():
+            if vote.voter.held() is not None and vote.reminder.is_due():
+                self._metrics.add("qlock_reminders_total")
+                self._post.send(vote.remind())
+
+    def _tell(self) -> None:
+        """Tells the page about the votes, ten times a second at most. These messages are not repeated."""
+        if time.monotonic() - self._told < 0.1:
+            return
+        self._told = time.monotonic()
+        for lock, vote in self._votes.items():
+            held = vote.voter.held()
+            grants = struct.unpack("<138Q", vote.voter.state)[3]
+            self._metrics.put("qlock_grants_total", grants)
+            told = {
+                "kind": "voter",
+                "lock": lock,
+                "voter": self._number,
+                "holder": held and held.client,
+                "waiting": [client for client in vote.waiting()],
+                "grants": grants,
+                "metrics": self._port,
+                "numbers": self._metrics.numbers(),
+            }
+            self._post.send([("page", json.dumps(told).encode())])
+
+    def run(self) -> None:
+        """Takes messages until the service ends."""
+        while not self._settings.is_ended():
+            message = self._post.receive(0.1)
+            if message is not None:
+                self._take(message)
+            self._remind()
+            self._tell()
+
+
+if __name__ == "__main__":
+    VoterProcess(Settings.read(sys.argv[1]), int(sys.argv[2])).run()

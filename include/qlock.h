@@ -1,0 +1,197 @@
+/* qlock.h: the voter and the client of the voting lock, and the guard of what the lock protects.
+
+   A voter, a client or a guard is a block of bytes of the caller's, its state. A call reads the state, and writes the new one
+   in its place. There are no other objects: nothing to free, no memory from malloc, no global, and calls on different states
+   may run at once. Messages are lines of text. docs/embedding.md has the loop of a voter and of a client.
+
+   What each call needs of its caller:
+
+   - No pointer may be null, even for 0 bytes.
+   - The blocks of one call may not overlap: `state`, `line`, `out`, `written` and so on are different places.
+   - One state belongs to one process. Two processes with one voter's state break the lock, and so does an older copy.
+   - Save, then send: write the new state where it survives a crash before any line of `out` leaves, and before the work of a
+     client that entered begins.
+
+   What each call returns: QLOCK_DONE, or why it was refused. A call that was refused has written nothing.
+
+   A state is the same bytes on every machine, so it may be moved. It is checked when it is read, but a changed byte can give
+   another state that is in order: keep a checksum beside it. */
+#ifndef QLOCK_H
+#define QLOCK_H
+#include <stddef.h>
+#include <stdint.h>
+#ifdef __cplusplus
+extern "C" {
+#endif
+
+/* How many bytes the state of a voter, of a client and of a guard has. */
+#define QLOCK_VOTER_BYTES 1104
+#define QLOCK_CLIENT_BYTES 1104
+#define QLOCK_FENCE_BYTES 512
+
+/* How many bytes the grants that a client shows to a guard have. */
+#define QLOCK_GRANTS_BYTES 512
+
+/* The room that is always enough for the lines of a call: at most 3 lines of a voter, and 128 of a client. */
+#define QLOCK_VOTER_OUT 240
+#define QLOCK_CLIENT_OUT 4864
+
+/* There are at most 64 voters and 64 clients, numbered from 0. */
+#define QLOCK_MAX_VOTERS 64
+#define QLOCK_MAX_CLIENTS 64
+
+/* The greatest limit of stamps and of grants: 2 to the power of 40. */
+#define QLOCK_MAX_STAMP 1099511627776
+
+/* What a call returns. */
+enum {
+    QLOCK_DONE = 0,
+    QLOCK_BAD_ARGUMENT = 1, /* a number is out of range, or the mask of a quorum is 0 */
+    QLOCK_BAD_STATE = 2,    /* the bytes are no saved voter, client or guard, or not as many as it has */
+    QLOCK_BAD_MESSAGE = 3,  /* the line is no message to this voter or client */
+    QLOCK_NO_ROOM = 4,      /* `out` is too short for the lines */
+    QLOCK_BUSY = 5,         /* C1: the client is asking already, or is inside */
+    QLOCK_NOT_INSIDE = 6,   /* C2: the client is not inside */
+    QLOCK_NOT_ASKING = 7,   /* C3: the client is not asking */
+    QLOCK_STAMPS_SPENT = 8, /* C4: the client's clock is at the limit, so no stamp is left for a request */
+    QLOCK_GRANTS_SPENT = 9, /* V1: the message needs a new grant, and the voter has given as many as its limit */
+    QLOCK_OLDER_GRANT = 10  /* the guard saw a newer grant of some voter before */
+};
+
+/* What a client is doing. */
+enum {
+    QLOCK_IDLE = 0,   /* it wants nothing */
+    QLOCK_ASKING = 1, /* it asked a quorum, and waits for votes */
+    QLOCK_INSIDE = 2  /* it has the vote of each member of its quorum: it has the lock */
+};
+
+/* ---- A voter: it has one vote, and grants it to one client at a time. `n` is always QLOCK_VOTER_BYTES. */
+
+/* Makes a new voter with the number `id`, 0 to 63, that may give `limit` grants, 1 to QLOCK_MAX_STAMP. QLOCK_MAX_STAMP is a
+   good limit. A voter is made once: a voter that was lost and is made again breaks the lock.
+
+   QLOCK_BAD_ARGUMENT  `id` or `limit` is out of range
+   QLOCK_BAD_STATE     `n` is not QLOCK_VOTER_BYTES */
+int32_t qlock_voter_new(uint8_t id, uint64_t limit, uint8_t *state, size_t n);
+
+/* Takes a message: one line of `len` bytes, without its newline. Writes the replies to `out`, each line with its newline, and
+   how many bytes they have to `*written`, 0 if there is no reply. The second number in a reply's line is the client that it
+   is for. Messages may be lost, repeated and late: the voter bears it.
+
+   QLOCK_BAD_STATE     the bytes are no voter
+   QLOCK_BAD_MESSAGE   the line is not REQUEST, RELINQUISH or RELEASE to this voter; drop it
+   QLOCK_GRANTS_SPENT  the message needs a new grant, and none is left
+   QLOCK_NO_ROOM       `room` is too small; QLOCK_VOTER_OUT is always enough */
+int32_t qlock_voter_take(uint8_t *state, size_t n, const uint8_t *line, size_t len, uint8_t *out, size_t room,
+                         size_t *written);
+
+/* Writes what to send to the holder of the vote again, in case messages were lost: at most two lines, none if the vote is
+   free. A timer calls this. The state stays as it is.
+
+   QLOCK_BAD_STATE  the bytes are no voter
+   QLOCK_NO_ROOM    `room` is too small; QLOCK_VOTER_OUT is always enough */
+int32_t qlock_voter_remind(const uint8_t *state, size_t n, uint8_t *out, size_t room, size_t *written);
+
+/* Writes who has the vote: the client, the stamp of its request, and the number of the grant, which counts the voter's grants
+   from 1. All three are 0 if the vote is free, so look at `*grant`.
+
+   QLOCK_BAD_STATE  the bytes are no voter */
+int32_t qlock_voter_held(const uint8_t *state, size_t n, uint64_t *client, uint64_t *stamp, uint64_t *grant);
+
+/* ---- A client: it has one request at a time. `n` is always QLOCK_CLIENT_BYTES. */
+
+/* Makes a new client with the number `id`, 0 to 63. Its stamps go from 1 to `limit`, 1 to QLOCK_MAX_STAMP. A client is made
+   once: a client that was lost and is made again breaks the lock.
+
+   QLOCK_BAD_ARGUMENT  `id` or `limit` is out of range
+   QLOCK_BAD_STATE     `n` is not QLOCK_CLIENT_BYTES */
+int32_t qlock_client_new(uint8_t id, uint64_t limit, uint8_t *state, size_t n);
+
+/* Starts a request for the votes of a quorum: bit i of `quorum` is 1 if voter i is a member. The mask has to be a quorum of
+   the coterie that all clients use, which nothing checks here. Writes a REQUEST to each member to `out`, each line with its
+   newline, and how many bytes they have to `*written`. The second number in a line is the voter that it is for.
+
+   QLOCK_BAD_ARGUMENT  `quorum` is 0
+   QLOCK_BAD_STATE     the bytes are no client
+   QLOCK_BUSY          the client is asking already, or is inside
+   QLOCK_STAMPS_SPENT  no stamp is left
+   QLOCK_NO_ROOM       `room` is too small; QLOCK_CLIENT_OUT is always enough */
+int32_t qlock_client_ask(uint8_t *state, size_t n, uint64_t quorum, uint8_t *out, size_t room, size_t *written);
+
+/* Takes a message: one line of `len` bytes, without its newline. Writes what to send, as qlock_client_ask does. Writes 1 to
+   `*entered` if the client got the lock in this call, and 0 if not. An idle client takes messages too: it gives back the
+   votes that come late.
+
+   QLOCK_BAD_STATE    the bytes are no client
+   QLOCK_BAD_MESSAGE  the line is not LOCKED, FAIL or INQUIRE to this client; drop it
+   QLOCK_NO_ROOM      `room` is too small; QLOCK_CLIENT_OUT is always enough */
+int32_t qlock_client_take(uint8_t *state, size_t n, const uint8_t *line, size_t len, uint8_t *out, size_t room,
+                          size_t *written, int32_t *entered);
+
+/* Leaves: the client is idle, and its votes go back. Writes a RELEASE to each member, as qlock_client_ask does.
+
+   QLOCK_BAD_STATE   the bytes are no client
+   QLOCK_NOT_INSIDE  the client is not inside
+   QLOCK_NO_ROOM     `room` is too small; QLOCK_CLIENT_OUT is always enough */
+int32_t qlock_client_leave(uint8_t *state, size_t n, uint8_t *out, size_t room, size_t *written);
+
+/* Gives up the request of a client that is asking. Writes a RELEASE to each member, as qlock_client_ask does.
+
+   QLOCK_BAD_STATE   the bytes are no client
+   QLOCK_NOT_ASKING  the client is idle or inside
+   QLOCK_NO_ROOM     `room` is too small; QLOCK_CLIENT_OUT is always enough */
+int32_t qlock_client_give_up(uint8_t *state, size_t n, uint8_t *out, size_t room, size_t *written);
+
+/* Writes what to send to the members again while the client is asking, in case messages were lost: at most two lines for each
+   member whose vote is not held, none if the client is idle or inside. A timer calls this. The state stays as it is.
+
+   QLOCK_BAD_STATE  the bytes are no client
+   QLOCK_NO_ROOM    `room` is too small; QLOCK_CLIENT_OUT is always enough */
+int32_t qlock_client_remind(const uint8_t *state, size_t n, uint8_t *out, size_t room, size_t *written);
+
+/* Forgets all but the least that has to survive a crash: the clock, the last stamp, and the last grants that were given back.
+   The client is then idle. If it was inside, this opens the lock, so its work has to be done or undone before. Sends
+   nothing: the votes come back by the voters' reminders.
+
+   QLOCK_BAD_STATE  the bytes are no client */
+int32_t qlock_client_forget(uint8_t *state, size_t n);
+
+/* Writes what the client is doing (QLOCK_IDLE, QLOCK_ASKING or QLOCK_INSIDE), and the stamp and the quorum of its current or
+   last request, both 0 if there was none. A client that comes back from a crash looks at this first.
+
+   QLOCK_BAD_STATE  the bytes are no client */
+int32_t qlock_client_shows(const uint8_t *state, size_t n, int32_t *phase, uint64_t *stamp, uint64_t *quorum);
+
+/* Writes the number of the grant under which the vote of this voter, 0 to 63, is held, 0 if it is not held.
+
+   QLOCK_BAD_ARGUMENT  `voter` is out of range
+   QLOCK_BAD_STATE     the bytes are no client */
+int32_t qlock_client_grant(const uint8_t *state, size_t n, uint8_t voter, uint64_t *grant);
+
+/* Writes the grants under which votes are held: for each voter a number of 64 bits, its lowest byte first, 0 if its vote is
+   not held. `len` is QLOCK_GRANTS_BYTES. This is what a client that is inside shows to the guard.
+
+   QLOCK_BAD_ARGUMENT  `len` is not QLOCK_GRANTS_BYTES
+   QLOCK_BAD_STATE     the bytes are no client */
+int32_t qlock_client_grants(const uint8_t *state, size_t n, uint8_t *grants, size_t len);
+
+/* ---- The guard (fence) of what the lock protects: it refuses a client that lost the lock without noticing it, and comes
+   late. `n` is always QLOCK_FENCE_BYTES. */
+
+/* Makes a guard that saw no grant.
+
+   QLOCK_BAD_STATE  `n` is not QLOCK_FENCE_BYTES */
+int32_t qlock_fence_new(uint8_t *state, size_t n);
+
+/* Admits a pass with these grants, as qlock_client_grants writes them. Do this in the place that the lock protects, in one
+   step with the write that it guards.
+
+   QLOCK_BAD_STATE     `n` is not QLOCK_FENCE_BYTES
+   QLOCK_BAD_ARGUMENT  `len` is not QLOCK_GRANTS_BYTES
+   QLOCK_OLDER_GRANT   a newer grant of some voter was shown before: somebody entered since, so don't write */
+int32_t qlock_fence_admit(uint8_t *state, size_t n, const uint8_t *grants, size_t len);
+
+#ifdef __cplusplus
+}
+#endif
+#endif
