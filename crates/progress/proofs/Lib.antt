@@ -6,3 +6,5 @@ pub mod Exchanges
 pub mod Fitting
 pub mod Known
 pub mod Moves
+pub mod Placed
+pub mod Ways
