@@ -4,6 +4,7 @@ pub mod Behind
 pub mod Counting
 pub mod Exchanges
 pub mod Fitting
+pub mod Hindering
 pub mod Known
 pub mod Moves
 pub mod Placed

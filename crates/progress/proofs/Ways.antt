@@ -207,6 +207,7 @@ pub record Heard (p : Planned) (c v : ℕ) (u : WorldState) (m : ToVoter) : Type
   pub went : Went (dealing_of p.plans) v u world
   pub same : world.clients ≡ u.clients
   pub here : voter_at world.voters v ≡ outcome.state
+  pub sent : world.sent ≡ (spoken u c).sent ++ map kinds.ToClient outcome.replies
 
 pub hears : (laws : AloneLaws) (p : Planned) (c v : ℕ) (u : WorldState) → Here p c v u → (body : VoterBody) → Contains (requester.remind (client_at u.clients c)) (requester.tell (client_at u.clients c) v body)
     → (voter_at u.voters v).granted < (voter_at u.voters v).limit → Heard p c v u (requester.tell (client_at u.clients c) v body)
@@ -236,6 +237,7 @@ hears laws p c v u h body there left =
       };
       same = refl;
       here = voter_here u.voters v o.state within;
+      sent = refl;
     }
 
 -- ---- LOCKED for the request
