@@ -8,4 +8,5 @@ pub mod Hindering
 pub mod Known
 pub mod Moves
 pub mod Placed
+pub mod Together
 pub mod Ways
