@@ -37,7 +37,7 @@ use Rattle.progress.proofs.Behind.{grant_moves}
 use Rattle.progress.proofs.Fitting.{Fits-reached, asking_busy, not_true}
 use Rattle.progress.proofs.Known.{AloneLaws}
 use Rattle.progress.proofs.Moves.{IsReached-after, client_here, client_others, voter_here, voter_others, with_state}
-use Rattle.progress.proofs.Ways.{Enters, Enters-after, Gains, Got, Here, Here-went, IsReached-run, Leads, Settled, Stands, Went, Went-self, asks_again, current_busy, frees_up, gave_back, got_or, has_range, held_some, length_range, not_current, own_stamp}
+use Rattle.progress.proofs.Ways.{Enters, Enters-after, Gains, Got, Here, Here-went, IsReached-run, Leads, Settled, Stands, Went, Went-self, asks_again, enters_by, frees_up, gave_back, got_or, has_range, held_some, length_range, not_current, own_stamp}
 
 abbrev OthersIdle : ℕ → WorldState → Type 0
 OthersIdle c u = (d : ℕ) → d ≢ c → is_idle (client_at u.clients d).phase ≡ true
@@ -161,7 +161,7 @@ collects laws p c w (v ∷ vs) u r alone left members =
       | false ↦ λ free. asks_for laws p c v u spot alone.others free (left.grants v (ok.members c v member) free)
     ] refl in
     elim got [
-      | inl e ↦ inl e
+      | inl e ↦ inl (enters_by (dealing_of p.plans) c v (voter_at u.voters v).limit u e)
       | inr on ↦
           let x = on.0 in
           let went = on.1 in

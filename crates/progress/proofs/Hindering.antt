@@ -24,6 +24,7 @@ use Rattle.voter.specs.VoterContract.{IsEntry}
 use Rattle.voter.specs.Waiting.{precedes}
 use Rattle.requester.specs.declared.state.ClientState.{ClientState}
 use Rattle.requester.specs.declared.state.Seen.TheVariants.{Entered, Nothing}
+use Rattle.requester.specs.declared.state.Phase.TheVariants.{Inside}
 use Rattle.requester.specs.Held.{IsGivenBack, IsKeptOrGiven}
 use Rattle.requester.specs.RequesterContract.{AllSay, MeetsContract, Says}
 use Rattle.requester.specs.Soundness.{IsSound}
@@ -39,7 +40,7 @@ use Rattle.progress.proofs.Fitting.{Fits-reached, asking_busy, grant_is, held_un
 use Rattle.progress.proofs.Known.{AloneLaws, TogetherLaws}
 use Rattle.progress.proofs.Moves.{client_here, client_others, with_state}
 use Rattle.progress.proofs.Placed.{Placed-reached}
-use Rattle.progress.proofs.Ways.{Enters, Enters-after, Gains, Here, Here-went, IsReached-run, Leads, Leads-same, Went, asks_again, entry_waits, gets, has_range, hears, held_some, help_then, length_range, own_stamp, request_at, run_then}
+use Rattle.progress.proofs.Ways.{EntersAt, Gains, Here, Here-went, IsReached-run, Leads, Leads-same, Went, asks_again, entry_waits, gets, has_range, hears, held_some, help_then, length_range, own_stamp, request_at, run_then}
 
 -- ---- helping steps, and what they leave
 
@@ -140,18 +141,78 @@ Here-led p c n d v u x a h = record {
 pub Leads-led : (deal : Dealing) (c n : ℕ) (u x : WorldState) → Led deal c n u x → Leads u c → Leads x c
 Leads-led deal c n u x a h = Leads-same u x c (λ d. (a.same d).phase) (λ d. (a.same d).stamp) h
 
--- some client gets in
-abbrev pub Somebody : Planned → WorldState → Type 0
-Somebody p u = (e : ℕ) × Enters (dealing_of p.plans) e u
+-- Helping steps after which the client is inside: the other clients are as idle, asking or inside as
+-- before, and each voter gives at most n grants.
+pub record EntersBy (deal : Dealing) (e n : ℕ) (u : WorldState) : Type 0 where
+  pub world : WorldState
+  pub steps : List Step
+  pub helps : AllByRecursion (Helps (length u.sent)) steps
+  pub run : run_of deal steps u ≡ world
+  pub sent : length u.sent ≤ length world.sent
+  pub visible : world.visible ≡ u.visible ++ events e Entered
+  pub clients : length world.clients ≡ length u.clients
+  pub voters : length world.voters ≡ length u.voters
+  pub inside : (client_at world.clients e).phase ≡ Inside
+  pub phases : (d : ℕ) → d ≢ e → (client_at world.clients d).phase ≡ (client_at u.clients d).phase
+  pub few : (q : ℕ) → (voter_at world.voters q).granted ≤ (voter_at u.voters q).granted + n
+  pub limit : (q : ℕ) → (voter_at world.voters q).limit ≡ (voter_at u.voters q).limit
 
-pub Somebody-led : (p : Planned) (c n : ℕ) (u x : WorldState) → Led (dealing_of p.plans) c n u x → Somebody p x → Somebody p u
-Somebody-led p c n u x a one = (one.0, record {
-  steps = a.steps ++ one.1.steps;
-  way = record {
-    helps = help_then (length u.sent) (length x.sent) a.steps one.1.steps a.sent a.helps one.1.way.helps;
-    enters = ap (λ (z : WorldState). z.visible) (run_then (dealing_of p.plans) a.steps one.1.steps u ∙ ap (run_of (dealing_of p.plans) one.1.steps) a.run) ∙ one.1.way.enters ∙ ap (λ es. es ++ events one.0 Entered) a.visible;
+-- some client that asks gets in
+pub record Somebody (p : Planned) (n : ℕ) (u : WorldState) : Type 0 where
+  pub who : ℕ
+  pub asks : is_asking (client_at u.clients who).phase ≡ true
+  pub enters : EntersBy (dealing_of p.plans) who n u
+
+pub Somebody-led : (p : Planned) (c n m k : ℕ) (u x : WorldState) → n + m ≤ k → Led (dealing_of p.plans) c n u x → Somebody p m x → Somebody p k u
+Somebody-led p c n m k u x most a one =
+    let e = one.enters in
+    record {
+      who = one.who;
+      asks = ap is_asking (sym (a.same one.who).phase) ∙ one.asks;
+      enters = record {
+        world = e.world;
+        steps = a.steps ++ e.steps;
+        helps = help_then (length u.sent) (length x.sent) a.steps e.steps a.sent a.helps e.helps;
+        run = run_then (dealing_of p.plans) a.steps e.steps u ∙ ap (run_of (dealing_of p.plans) e.steps) a.run ∙ e.run;
+        sent = (let first = a.sent in let second = e.sent in omega arith);
+        visible = e.visible ∙ ap (λ es. es ++ events one.who Entered) a.visible;
+        clients = e.clients ∙ a.clients;
+        voters = e.voters ∙ a.voters;
+        inside = e.inside;
+        phases = λ d other. e.phases d other ∙ (a.same d).phase;
+        few = λ q. (let first = a.few q in let second = e.few q in omega arith);
+        limit = λ q. e.limit q ∙ a.limit q;
+      };
+    }
+
+pub Somebody-more : (p : Planned) (n k : ℕ) (u : WorldState) → n ≤ k → Somebody p n u → Somebody p k u
+Somebody-more p n k u most one = Somebody-led p 0 0 n k u u (omega arith) (Led-self (dealing_of p.plans) 0 0 u) one
+
+pub somebody_at : (p : Planned) (e v top n : ℕ) (u : WorldState) → is_asking (client_at u.clients e).phase ≡ true → top ≤ (voter_at u.voters v).granted + n → EntersAt (dealing_of p.plans) e v top u → Somebody p n u
+somebody_at p e v top n u asks most a = record {
+  who = e;
+  asks = asks;
+  enters = record {
+    world = a.world;
+    steps = a.steps;
+    helps = a.helps;
+    run = a.run;
+    sent = a.sent;
+    visible = a.visible;
+    clients = a.clients;
+    voters = a.voters;
+    inside = a.inside;
+    phases = a.phases;
+    few = λ q. elim (cases_eq q v) [
+      | inl one ↦ subst (λ i. (voter_at a.world.voters i).granted ≤ (voter_at u.voters i).granted + n) (sym one) (let few = a.few in omega arith)
+      | inr other ↦ (let same = ap (λ (y : VoterState). y.granted) (a.others q other) in omega arith)
+    ];
+    limit = λ q. elim (cases_eq q v) [
+      | inl one ↦ subst (λ i. (voter_at a.world.voters i).limit ≡ (voter_at u.voters i).limit) (sym one) a.limit
+      | inr other ↦ ap (λ (y : VoterState). y.limit) (a.others q other)
+    ];
   };
-})
+}
 
 -- ---- FAIL and INQUIRE leave the request
 
@@ -435,7 +496,7 @@ record More (p : Planned) (c d v n : ℕ) (u : WorldState) : Type 0 where
 
 abbrev Tried : Planned → ℕ → ℕ → ℕ → ℕ → Grant → WorldState → Type 0
 Tried p c d v q g u =
-    Somebody p u ⊎ Loose p c d v 1 g u ⊎ ((m : More p c d v 1 u) × (is_member (client_at u.clients d) q ≡ true → holds (client_at m.world.clients d) q ≡ true))
+    Somebody p 1 u ⊎ Loose p c d v 1 g u ⊎ ((m : More p c d v 1 u) × (is_member (client_at u.clients d) q ≡ true → holds (client_at m.world.clients d) q ≡ true))
 
 any_member : (f : ℕ → Bool) (l : List ℕ) (q : ℕ) → has l q ≡ true → f q ≡ true → list_any f l ≡ true
 any_member f [] q there is = absurd (false≢true there)
@@ -476,7 +537,7 @@ tries laws p c d v q g u h apart held has member left = elim (holds (client_at u
             let stamp = own_stamp y d x.stamp k.0 (ok.voters q) told.entry k.1 mine in
             elim (cases_lt (last_of x q) k.0.grant) [
               | inl less ↦ elim (gets laws.alone p d q w here lacks k.0 k.1 mine stamp less) [
-                | inl e ↦ inl (Somebody-led p c 1 u w led (d, e))
+                | inl e ↦ inl (Somebody-led p c 1 0 1 u w (omega arith) led (somebody_at p d q (voter_at w.voters q).granted 0 w here.asks (omega arith) e))
                 | inr on ↦
                     let more = Led-went deal c q 0 w on.0 on.1 (let count = ap (λ vs. (voter_at vs q).granted) on.3 in omega arith) in
                     inr (inr (record {
@@ -522,7 +583,7 @@ has_rest : (q r : ℕ) (qs : List ℕ) → r ≢ q → has (q ∷ qs) r ≡ true
 has_rest q r qs other there = grind (arith, nat_tests)
 
 tries_all : (laws : TogetherLaws) (p : Planned) (c d v : ℕ) (g : Grant) (qs : List ℕ) (u : WorldState) → Here p d v u → d ≢ c → (voter_at u.voters v).held ≡ Some g → holds (client_at u.clients d) v ≡ true → HasGrants (1 + length qs) u
-    → Somebody p u ⊎ Loose p c d v (length qs) g u ⊎ AllTried p c d v (length qs) qs u
+    → Somebody p (length qs) u ⊎ Loose p c d v (length qs) g u ⊎ AllTried p c d v (length qs) qs u
 tries_all laws p c d v g [] u h apart held has_v left =
     inr (inr (record { more = record { world = u; led = Led-self (dealing_of p.plans) c 0 u; voter = refl; held = λ r was. was }; all = λ r there. absurd (false≢true there) }))
 tries_all laws p c d v g (q ∷ qs) u h apart held has_v left =
@@ -533,14 +594,14 @@ tries_all laws p c d v g (q ∷ qs) u h apart held has_v left =
       | false ↦ λ none. inr (inr (record { world = u; led = Led-self deal c 1 u; voter = refl; held = λ r was. was }, λ member. absurd (false≢true (sym none ∙ member))))
     ] refl in
     elim one [
-      | inl e ↦ inl e
+      | inl e ↦ inl (Somebody-more p 1 (length (q ∷ qs)) u (omega arith) e)
       | inr (inl loose) ↦ inr (inl (Loose-then p c d v 0 1 (length (q ∷ qs)) g u u (omega arith) (Led-self deal c 0 u) refl loose))
       | inr (inr on) ↦
           let m = on.0 in
           let x = m.world in
           let next = Here-led p c 1 d v u x m.led h in
           elim (tries_all laws p c d v g qs x next apart (ap (λ (z : VoterState). z.held) m.voter ∙ held) (m.held v has_v) (HasGrants-led deal c 1 (1 + length qs) (1 + length (q ∷ qs)) u x (omega arith) m.led left)) [
-            | inl e ↦ inl (Somebody-led p c 1 u x m.led e)
+            | inl e ↦ inl (Somebody-led p c 1 (length qs) (length (q ∷ qs)) u x (omega arith) m.led e)
             | inr (inl loose) ↦ inr (inl (Loose-then p c d v 1 (length qs) (length (q ∷ qs)) g u x (omega arith) m.led m.voter loose))
             | inr (inr rest) ↦ inr (inr (record {
               more = record {
@@ -565,13 +626,13 @@ all_hold f (x ∷ xs) all =
     grind (arith, nat_tests)
 
 loosens : (laws : TogetherLaws) (p : Planned) (c d v : ℕ) (g : Grant) (u : WorldState) → Here p d v u → d ≢ c → (voter_at u.voters v).held ≡ Some g → holds (client_at u.clients d) v ≡ true → HasGrants (1 + length u.voters) u
-    → Somebody p u ⊎ Loose p c d v (length u.voters) g u
+    → Somebody p (length u.voters) u ⊎ Loose p c d v (length u.voters) g u
 loosens laws p c d v g u h apart held has_v left =
     let deal = dealing_of p.plans in
     let n = length u.voters in
     let count = length_range 0 n in
     elim (tries_all laws p c d v g (range_with_len 0 n) u h apart held has_v (subst (λ k. HasGrants (1 + k) u) (sym count) left)) [
-      | inl e ↦ inl e
+      | inl e ↦ inl (Somebody-more p (length (range_with_len 0 n)) n u (omega arith) e)
       | inr (inl loose) ↦ inr (Loose-then p c d v 0 (length (range_with_len 0 n)) n g u u (omega arith) (Led-self deal c 0 u) refl loose)
       | inr (inr all) ↦
           let x = all.more.world in
@@ -588,7 +649,7 @@ loosens laws p c d v g u h apart held has_v left =
 -- ---- the vote goes back
 
 pub returns : (laws : TogetherLaws) (p : Planned) (c d v : ℕ) (g : Grant) (u : WorldState) → Leads u c → Here p d v u → d ≢ c → IsEntry (voter_at u.voters v) c (client_at u.clients c).stamp → (voter_at u.voters v).held ≡ Some g → g.client ≡ d
-    → g.stamp ≡ (client_at u.clients d).stamp → holds (client_at u.clients d) v ≡ true → HasGrants (1 + length u.voters) u → Somebody p u ⊎ Returns p c d v (length u.voters) g u
+    → g.stamp ≡ (client_at u.clients d).stamp → holds (client_at u.clients d) v ≡ true → HasGrants (1 + length u.voters) u → Somebody p (length u.voters) u ⊎ Returns p c d v (length u.voters) g u
 returns laws p c d v g u leads h apart entry held own stamp has_v left =
     let deal = dealing_of p.plans in
     let n = length u.voters in

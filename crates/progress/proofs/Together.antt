@@ -21,11 +21,11 @@ use Rattle.world.specs.Runs.{IsReached}
 use Rattle.world.specs.Steps.{Planned, WorldState, client_at, dealing_of, voter_at}
 use Rattle.progress.specs.WayIn.{Asks, HasGrants, IsFree, IsWayIn}
 use Rattle.progress.proofs.Fitting.{Fits-reached}
-use Rattle.progress.proofs.Hindering.{HasGrants-led, Here-led, Leads-led, Led, Led-more, Led-self, Led-then, Led-went, Somebody, Somebody-led, all_hold, returns}
+use Rattle.progress.proofs.Hindering.{HasGrants-led, Here-led, Leads-led, Led, Led-more, Led-self, Led-then, Led-went, Somebody, Somebody-led, Somebody-more, all_hold, returns, somebody_at}
 use Rattle.progress.proofs.Known.{AloneLaws, TogetherLaws}
 use Rattle.progress.proofs.Moves.{with_state}
 use Rattle.progress.proofs.Placed.{Placed-reached}
-use Rattle.progress.proofs.Ways.{Enters, Got, Here, Here-went, Leads, Leads-went, Settled, Stands, Went, asks_again, current_asks, current_stamp, IsReached-run, frees_up, gave_back, gets, has_range, held_some, length_range, request_at}
+use Rattle.progress.proofs.Ways.{Got, Here, Here-went, Leads, Leads-went, Settled, Stands, Went, asks_again, current_asks, current_stamp, IsReached-run, frees_up, gave_back, gets, has_range, held_some, length_range, request_at}
 
 -- ---- one vote
 
@@ -37,17 +37,17 @@ record Won (p : Planned) (c v n : ℕ) (u : WorldState) : Type 0 where
 
 -- somebody gets in, or the client has the vote of this voter
 abbrev Wins : Planned → ℕ → ℕ → ℕ → WorldState → Type 0
-Wins p c v n u = Somebody p u ⊎ Won p c v n u
+Wins p c v n u = Somebody p n u ⊎ Won p c v n u
 
 Wins-then : (p : Planned) (c v n m k : ℕ) (u x : WorldState) → n + m ≤ k → Led (dealing_of p.plans) c n u x → Wins p c v m x → Wins p c v k u
 Wins-then p c v n m k u x most a w = elim w [
-  | inl e ↦ inl (Somebody-led p c n u x a e)
+  | inl e ↦ inl (Somebody-led p c n m k u x most a e)
   | inr h ↦ inr (record { world = h.world; led = Led-more (dealing_of p.plans) c (n + m) k u h.world most (Led-then (dealing_of p.plans) c n m u x h.world a h.led); has = h.has })
 ]
 
-wins_by : (p : Planned) (c v top n : ℕ) (u : WorldState) → top ≤ (voter_at u.voters v).granted + n → Got p c v top u → Wins p c v n u
-wins_by p c v top n u most got = elim got [
-  | inl e ↦ inl (c, e)
+wins_by : (p : Planned) (c v top n : ℕ) (u : WorldState) → is_asking (client_at u.clients c).phase ≡ true → top ≤ (voter_at u.voters v).granted + n → Got p c v top u → Wins p c v n u
+wins_by p c v top n u asks most got = elim got [
+  | inl e ↦ inl (somebody_at p c v top n u asks most e)
   | inr on ↦ inr (record { world = on.0; led = Led-went (dealing_of p.plans) c v n u on.0 on.1 (let few = on.3 in omega arith); has = on.2 })
 ]
 
@@ -88,7 +88,7 @@ wins_back : (laws : AloneLaws) (p : Planned) (c v d : ℕ) (g : Grant) (u : Worl
     → (voter_at u.voters v).granted + turns u ≤ (voter_at u.voters v).limit → Wins p c v (turns u) u
 wins_back laws p c v d g u h there held own stamp few left = elim (holds (client_at u.clients c) v) as (λ b. holds (client_at u.clients c) v ≡ b → Wins p c v (turns u) u) [
   | true ↦ λ has. inr (record { world = u; led = Led-self (dealing_of p.plans) c (turns u) u; has = has })
-  | false ↦ λ free. wins_by p c v ((voter_at u.voters v).granted + turns u) (turns u) u (omega arith)
+  | false ↦ λ free. wins_by p c v ((voter_at u.voters v).granted + turns u) (turns u) u h.spot.asks (omega arith)
       (gave_back laws p c v ((voter_at u.voters v).granted + turns u) d (range_with_len 0 (length u.clients)) u (stands laws p c v u h free left) there g held own stamp few)
 ] refl
 
@@ -96,7 +96,7 @@ wins_back laws p c v d g u h there held own stamp few left = elim (holds (client
 wins_settled : (laws : AloneLaws) (p : Planned) (c v : ℕ) (u : WorldState) → Waits p c v u → Settled c v u → (voter_at u.voters v).granted + turns u ≤ (voter_at u.voters v).limit → Wins p c v (turns u) u
 wins_settled laws p c v u h settled left = elim (holds (client_at u.clients c) v) as (λ b. holds (client_at u.clients c) v ≡ b → Wins p c v (turns u) u) [
   | true ↦ λ has. inr (record { world = u; led = Led-self (dealing_of p.plans) c (turns u) u; has = has })
-  | false ↦ λ free. wins_by p c v ((voter_at u.voters v).granted + turns u) (turns u) u (omega arith)
+  | false ↦ λ free. wins_by p c v ((voter_at u.voters v).granted + turns u) (turns u) u h.spot.asks (omega arith)
       (frees_up laws p c v ((voter_at u.voters v).granted + turns u) (range_with_len 0 (length u.clients)) u (stands laws p c v u h free left) settled)
 ] refl
 
@@ -107,7 +107,7 @@ wins_from laws p c v d g u h there apart held own stamp has left =
     let deal = dealing_of p.plans in
     let n = length u.voters in
     elim (returns laws p c d v g u h.leads there apart h.entry held own stamp has (λ q within. (let count = left q within in omega arith))) [
-      | inl e ↦ inl e
+      | inl e ↦ inl (Somebody-more p n (n + turns u) u (omega arith) e)
       | inr back ↦
           let x = back.world in
           let led = back.led in
@@ -153,7 +153,7 @@ wins_known laws p c v u h left =
               | inr apart ↦ elim (holds z v) as (λ b. holds z v ≡ b → Wins p c v (n + turns u) u) [
                 | true ↦ λ has. wins_from laws p c v d g u h there apart k.1 refl stamp has left
                 | false ↦ λ free. elim (gets laws.alone p d v u there free g k.1 refl stamp less) [
-                  | inl e ↦ inl (d, e)
+                  | inl e ↦ inl (somebody_at p d v y.granted (n + turns u) u asks (omega arith) e)
                   | inr on ↦
                       let w = on.0 in
                       let same : voter_at w.voters v ≡ y = ap (λ vs. voter_at vs v) on.3 in
@@ -170,7 +170,7 @@ wins_known laws p c v u h left =
     ] refl
 
 -- how many grants one vote takes
-abbrev one_vote : WorldState → ℕ
+abbrev pub one_vote : WorldState → ℕ
 one_vote u = length u.voters + length u.clients + 2
 
 wins : (laws : TogetherLaws) (p : Planned) (c v : ℕ) (u : WorldState) → Here p c v u → Leads u c → holds (client_at u.clients c) v ≡ false → HasGrants (one_vote u) u → Wins p c v (one_vote u) u
@@ -198,24 +198,24 @@ record Collects (p : Planned) (c n : ℕ) (vs : List ℕ) (u : WorldState) : Typ
 has_rest : (q r : ℕ) (qs : List ℕ) → r ≢ q → has (q ∷ qs) r ≡ true → has qs r ≡ true
 has_rest q r qs other there = grind (arith, nat_tests)
 
-collects : (laws : TogetherLaws) (p : Planned) (c k : ℕ) (vs : List ℕ) (u : WorldState) → one_vote u ≡ k → IsReached (with_state p u) → Asks u c → Leads u c → HasGrants (length vs * k) u → Somebody p u ⊎ Collects p c (length vs * k) vs u
+collects : (laws : TogetherLaws) (p : Planned) (c k : ℕ) (vs : List ℕ) (u : WorldState) → one_vote u ≡ k → IsReached (with_state p u) → Asks u c → Leads u c → HasGrants (length vs * k) u → Somebody p (length vs * k) u ⊎ Collects p c (length vs * k) vs u
 collects laws p c k [] u is r asks leads left = inr (record { world = u; led = Led-self (dealing_of p.plans) c (0 * k) u; all = λ v there. absurd (false≢true there) })
 collects laws p c k (v ∷ vs) u is r asks leads left =
     let deal = dealing_of p.plans in
     let n = length vs in
-    let one : Somebody p u ⊎ ((x : WorldState) × Led deal c k u x × (is_member (client_at u.clients c) v ≡ true → holds (client_at x.clients c) v ≡ true)) =
-    elim (is_member (client_at u.clients c) v) as (λ b. is_member (client_at u.clients c) v ≡ b → Somebody p u ⊎ ((x : WorldState) × Led deal c k u x × (is_member (client_at u.clients c) v ≡ true → holds (client_at x.clients c) v ≡ true))) [
+    let one : Somebody p k u ⊎ ((x : WorldState) × Led deal c k u x × (is_member (client_at u.clients c) v ≡ true → holds (client_at x.clients c) v ≡ true)) =
+    elim (is_member (client_at u.clients c) v) as (λ b. is_member (client_at u.clients c) v ≡ b → Somebody p k u ⊎ ((x : WorldState) × Led deal c k u x × (is_member (client_at u.clients c) v ≡ true → holds (client_at x.clients c) v ≡ true))) [
       | false ↦ λ none. inr (u, Led-self deal c k u, λ member. absurd (false≢true (sym none ∙ member)))
-      | true ↦ λ member. elim (holds (client_at u.clients c) v) as (λ b. holds (client_at u.clients c) v ≡ b → Somebody p u ⊎ ((x : WorldState) × Led deal c k u x × (is_member (client_at u.clients c) v ≡ true → holds (client_at x.clients c) v ≡ true))) [
+      | true ↦ λ member. elim (holds (client_at u.clients c) v) as (λ b. holds (client_at u.clients c) v ≡ b → Somebody p k u ⊎ ((x : WorldState) × Led deal c k u x × (is_member (client_at u.clients c) v ≡ true → holds (client_at x.clients c) v ≡ true))) [
         | true ↦ λ has. inr (u, Led-self deal c k u, λ _. has)
         | false ↦ λ free. elim (wins laws p c v u (record { reached = r; client = asks.client; asks = asks.asks; asked = member }) leads free (HasGrants-led deal c 0 (one_vote u) (suc n * k) u u (omega arith) (Led-self deal c 0 u) left)) [
-          | inl e ↦ inl e
+          | inl e ↦ inl (Somebody-more p (one_vote u) k u (omega arith) e)
           | inr won ↦ inr (won.world, Led-more deal c (one_vote u) k u won.world (omega arith) won.led, λ _. won.has)
         ]
       ] refl
     ] refl in
     elim one [
-      | inl e ↦ inl e
+      | inl e ↦ inl (Somebody-more p k (suc n * k) u (omega arith) e)
       | inr on ↦
           let x = on.0 in
           let led = on.1 in
@@ -224,7 +224,7 @@ collects laws p c k (v ∷ vs) u is r asks leads left =
           let reached = subst (λ (z : WorldState). IsReached (with_state p z)) led.run (IsReached-run p led.steps u r) in
           elim (collects laws p c k vs x (let same : one_vote x ≡ k = omega arith in same) reached (record { client = omega arith; asks = ap is_asking (led.same c).phase ∙ asks.asks }) (Leads-led deal c k u x led leads)
           (HasGrants-led deal c k (n * k) (suc n * k) u x (omega arith) led left)) [
-            | inl e ↦ inl (Somebody-led p c k u x led e)
+            | inl e ↦ inl (Somebody-led p c k (n * k) (suc n * k) u x (omega arith) led e)
             | inr rest ↦ inr (record {
               world = rest.world;
               led = Led-more deal c (k + n * k) (suc n * k) u rest.world (omega arith) (Led-then deal c k (n * k) u x rest.world led rest.led);
@@ -237,14 +237,14 @@ collects laws p c k (v ∷ vs) u is r asks leads left =
     ]
 
 -- the client that precedes the others that ask gets in, or another one does
-leader_gets_in : (laws : TogetherLaws) (p : Planned) (c : ℕ) (u : WorldState) → IsReached (with_state p u) → Asks u c → Leads u c → HasGrants (length u.voters * one_vote u) u → Somebody p u
+leader_gets_in : (laws : TogetherLaws) (p : Planned) (c : ℕ) (u : WorldState) → IsReached (with_state p u) → Asks u c → Leads u c → HasGrants (length u.voters * one_vote u) u → Somebody p (length u.voters * one_vote u) u
 leader_gets_in laws p c u r asks leads left =
     let deal = dealing_of p.plans in
     let n = length u.voters in
     let k = one_vote u in
     let count = length_range 0 n in
     elim (collects laws p c k (range_with_len 0 n) u refl r asks leads (subst (λ l. HasGrants (l * k) u) (sym count) left)) [
-      | inl e ↦ e
+      | inl e ↦ subst (λ l. Somebody p (l * k) u) count e
       | inr all ↦
           let x = all.world in
           let led = all.led in
@@ -307,13 +307,17 @@ asks_within u d asks = elim (cases_lt d (length u.clients)) [
   | inr beyond ↦ absurd (false≢true (ap (λ (x : ClientState). is_asking x.phase) (sym (get_or_past u.clients d (requester.start 0 1) beyond)) ∙ asks))
 ]
 
-pub gets_in : TogetherLaws → (w : Planned) (c : ℕ) → IsReached w → Asks w.state c → IsFree w.state → HasGrants (length w.state.voters * (length w.state.voters + length w.state.clients + 2)) w.state → (steps : List Step) × (d : ℕ) × IsWayIn (dealing_of w.plans) w.state d steps
-gets_in laws w c r asks free left =
+pub lets_in : TogetherLaws → (w : Planned) (c : ℕ) → IsReached w → Asks w.state c → IsFree w.state → HasGrants (length w.state.voters * one_vote w.state) w.state → Somebody w (length w.state.voters * one_vote w.state) w.state
+lets_in laws w c r asks free left =
     let u = w.state in
     elim (first_below u (length u.clients)) [
       | inl none ↦ absurd (false≢true (sym (none c asks.client) ∙ asks.asks))
       | inr best ↦
           let leads : Leads u best.0 = record { outside = free; first = λ d other too. best.2 d (asks_within u d too) other too } in
-          let one = leader_gets_in laws w best.0 u r (record { client = asks_within u best.0 best.1; asks = best.1 }) leads left in
-          (one.1.steps, one.0, one.1.way)
+          leader_gets_in laws w best.0 u r (record { client = asks_within u best.0 best.1; asks = best.1 }) leads left
     ]
+
+pub gets_in : TogetherLaws → (w : Planned) (c : ℕ) → IsReached w → Asks w.state c → IsFree w.state → HasGrants (length w.state.voters * (length w.state.voters + length w.state.clients + 2)) w.state → (steps : List Step) × (d : ℕ) × IsWayIn (dealing_of w.plans) w.state d steps
+gets_in laws w c r asks free left =
+    let one = lets_in laws w c r asks free left in
+    (one.enters.steps, one.who, record { helps = one.enters.helps; enters = ap (λ (z : WorldState). z.visible) one.enters.run ∙ one.enters.visible })

@@ -136,6 +136,43 @@ Enters-after deal c v u x a e = record {
   };
 }
 
+-- Helping steps after which the client is inside: the other clients are as idle, asking or inside as
+-- before. Only this voter has changed, and it gave at most `top` grants so far.
+pub record EntersAt (deal : Dealing) (c v top : ℕ) (u : WorldState) : Type 0 where
+  pub world : WorldState
+  pub steps : List Step
+  pub helps : AllByRecursion (Helps (length u.sent)) steps
+  pub run : run_of deal steps u ≡ world
+  pub sent : length u.sent ≤ length world.sent
+  pub visible : world.visible ≡ u.visible ++ events c Entered
+  pub clients : length world.clients ≡ length u.clients
+  pub voters : length world.voters ≡ length u.voters
+  pub inside : (client_at world.clients c).phase ≡ Inside
+  pub phases : (d : ℕ) → d ≢ c → (client_at world.clients d).phase ≡ (client_at u.clients d).phase
+  pub others : (q : ℕ) → q ≢ v → voter_at world.voters q ≡ voter_at u.voters q
+  pub limit : (voter_at world.voters v).limit ≡ (voter_at u.voters v).limit
+  pub few : (voter_at world.voters v).granted ≤ top
+
+pub EntersAt-after : (deal : Dealing) (c v top : ℕ) (u x : WorldState) → Went deal v u x → EntersAt deal c v top x → EntersAt deal c v top u
+EntersAt-after deal c v top u x a e = record {
+  world = e.world;
+  steps = a.steps ++ e.steps;
+  helps = help_then (length u.sent) (length x.sent) a.steps e.steps a.sent a.helps e.helps;
+  run = run_then deal a.steps e.steps u ∙ ap (run_of deal e.steps) a.run ∙ e.run;
+  sent = (let first = a.sent in let second = e.sent in omega arith);
+  visible = e.visible ∙ ap (λ es. es ++ events c Entered) a.visible;
+  clients = e.clients ∙ a.clients;
+  voters = e.voters ∙ a.voters;
+  inside = e.inside;
+  phases = λ d other. e.phases d other ∙ (a.gains d).phase;
+  others = λ q other. e.others q other ∙ a.others q other;
+  limit = e.limit ∙ a.limit;
+  few = e.few;
+}
+
+pub enters_by : (deal : Dealing) (c v top : ℕ) (u : WorldState) → EntersAt deal c v top u → Enters deal c u
+enters_by deal c v top u e = record { steps = e.steps; way = record { helps = e.helps; enters = ap (λ (z : WorldState). z.visible) e.run ∙ e.visible } }
+
 -- ---- a client that asks, and one voter of its quorum
 
 pub record Here (p : Planned) (c v : ℕ) (u : WorldState) : Type 0 where
@@ -269,7 +306,7 @@ Gains-hold x n v g some within = record {
 
 -- the client gets in, or has the vote of this voter, and all voters are as before
 abbrev pub Gets : Planned → ℕ → ℕ → WorldState → Type 0
-Gets p c v u = Enters (dealing_of p.plans) c u ⊎ ((x : WorldState) × Went (dealing_of p.plans) v u x × (holds (client_at x.clients c) v ≡ true) × (x.voters ≡ u.voters))
+Gets p c v u = EntersAt (dealing_of p.plans) c v (voter_at u.voters v).granted u ⊎ ((x : WorldState) × Went (dealing_of p.plans) v u x × (holds (client_at x.clients c) v ≡ true) × (x.voters ≡ u.voters))
 
 pub current_is : (x : ClientState) (s : ℕ) → is_asking x.phase ≡ true → s ≡ x.stamp → is_current x s ≡ true
 current_is x s asks same = by_phase x.phase (let e : (s == x.stamp) ≡ true = grind (arith, nat_tests) in e) asks
@@ -308,8 +345,19 @@ gets laws p c v u h free g held own same newer =
     let has_it : holds k v ≡ true = (let here : slice_index (slice_set x.held v g.grant) v ≡ g.grant = get_or-set_same x.held v g.grant 0 (omega arith) in grind (arith, nat_tests)) in
     elim (is_covered k) as (λ b. run_of deal (RemindVoter v ∷ Deliver (length u.sent) ∷ []) u ≡ (client_did (reminded u v) c (requester.enter_if b k)).state → Gets p c v u) [
       | true ↦ λ ran. inl (record {
+        world = (client_did (reminded u v) c (requester.enter_if true k)).state;
         steps = RemindVoter v ∷ Deliver (length u.sent) ∷ [];
-        way = record { helps = (tt, (omega arith, tt)); enters = ap (λ (z : WorldState). z.visible) ran };
+        helps = (tt, (omega arith, tt));
+        run = ran;
+        sent = omega (arith, length-append u.sent (map kinds.ToClient (voter.remind y)), length-append (reminded u v).sent []);
+        visible = refl;
+        clients = length-set u.clients c (requester.enter_if true k).state;
+        voters = refl;
+        inside = ap (λ (z : ClientState). z.phase) (client_here u.clients c (requester.enter_if true k).state h.client);
+        phases = λ d other. ap (λ (z : ClientState). z.phase) (client_others u.clients c (requester.enter_if true k).state d other);
+        others = λ q other. refl;
+        limit = refl;
+        few = omega arith;
       })
       | false ↦ λ ran. inr (
         (client_did (reminded u v) c (requester.enter_if false k)).state,
@@ -428,12 +476,12 @@ length_range low (suc n) = ap (λ k. suc k) (length_range (low + 1) n)
 -- the client gets in, or has the vote of this voter, which gave at most `top` grants so far
 abbrev pub Got : Planned → ℕ → ℕ → ℕ → WorldState → Type 0
 Got p c v top u =
-    Enters (dealing_of p.plans) c u
+    EntersAt (dealing_of p.plans) c v top u
     ⊎ ((x : WorldState) × Went (dealing_of p.plans) v u x × (holds (client_at x.clients c) v ≡ true) × ((voter_at x.voters v).granted ≤ top))
 
 pub Got-after : (p : Planned) (c v top : ℕ) (u x : WorldState) → Went (dealing_of p.plans) v u x → Got p c v top x → Got p c v top u
 Got-after p c v top u x a got = elim got [
-  | inl e ↦ inl (Enters-after (dealing_of p.plans) c v u x a e)
+  | inl e ↦ inl (EntersAt-after (dealing_of p.plans) c v top u x a e)
   | inr has ↦ inr (has.0, Went-then (dealing_of p.plans) v u x has.0 a has.1, has.2, has.3)
 ]
 
@@ -446,7 +494,21 @@ got_or p c v top u x a few rest = elim (holds (client_at x.clients c) v) as (λ 
 
 pub gets_here : (p : Planned) (c v top : ℕ) (u : WorldState) → (voter_at u.voters v).granted ≤ top → Gets p c v u → Got p c v top u
 gets_here p c v top u few got = elim got [
-  | inl e ↦ inl e
+  | inl e ↦ inl (record {
+    world = e.world;
+    steps = e.steps;
+    helps = e.helps;
+    run = e.run;
+    sent = e.sent;
+    visible = e.visible;
+    clients = e.clients;
+    voters = e.voters;
+    inside = e.inside;
+    phases = e.phases;
+    others = e.others;
+    limit = e.limit;
+    few = (let most = e.few in omega arith);
+  })
   | inr has ↦ inr (has.0, has.1, has.2, subst (λ (vs : List VoterState). (voter_at vs v).granted ≤ top) (sym has.3) few)
 ]
 
