@@ -193,7 +193,7 @@ new_voter n limit v = elim (cases_lt v n) [
   | inr beyond ↦ (0, 1, get_or_past (new_voters n limit) v (voter.start 0 1) (let len = length-map-range_with_len (λ i. voter.start i limit) 0 n in omega arith))
 ]
 
-none_entry : (i l c s : ℕ) → IsEntry (voter.start i l) c s → ⊥
+pub none_entry : (i l c s : ℕ) → IsEntry (voter.start i l) c s → ⊥
 none_entry i l c s entry = elim entry [
   | inl held ↦ none-some held.0 held.1
   | inr waits ↦ none-some s (sym (fin.get-empty nat_cmp c) ∙ waits)

@@ -148,7 +148,7 @@ after-said deal w c m o within there takes =
 
 -- ---- a vote that was given back
 
-not_held : (x : ClientState) (v n : ℕ) (held : Option Grant) (g : Grant) (c : ℕ) → IsSound x → held ≡ Some g → g.grant ≤ last_of x v → ((k : ℕ) → holds_under x v k ≡ true → Names held c x.stamp k) → holds x v ≡ false
+pub not_held : (x : ClientState) (v n : ℕ) (held : Option Grant) (g : Grant) (c : ℕ) → IsSound x → held ≡ Some g → g.grant ≤ last_of x v → ((k : ℕ) → holds_under x v k ≡ true → Names held c x.stamp k) → holds x v ≡ false
 not_held x v n held g c sound is few names = not_true (holds x v) (λ has.
     let number = held_of x v in
     let under : holds_under x v number ≡ true = grind (arith, nat_tests) in

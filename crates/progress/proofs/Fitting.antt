@@ -69,17 +69,17 @@ asking_busy Idle asks = absurd (false≢true asks)
 asking_busy Asking asks = refl
 asking_busy Inside asks = refl
 
-held_under : (x : ClientState) (v : ℕ) → holds x v ≡ true → holds_under x v (held_of x v) ≡ true
+pub held_under : (x : ClientState) (v : ℕ) → holds x v ≡ true → holds_under x v (held_of x v) ≡ true
 held_under x v is = grind (arith, nat_tests)
 
-under_holds : (x : ClientState) (v g : ℕ) → holds_under x v g ≡ true → holds x v ≡ true
+pub under_holds : (x : ClientState) (v g : ℕ) → holds_under x v g ≡ true → holds x v ≡ true
 under_holds x v g is = grind (arith, nat_tests)
 
 busy_by : (a b : Bool) → (a ≡ true → b ≡ true) → b ≡ false → a ≡ false
 busy_by true b goes is = absurd (false≢true (sym is ∙ goes refl))
 busy_by false b goes is = refl
 
-take-Ok : (x : ClientState) (m : ToClient) (o : requester.Outcome) → requester.step x (requester.Takes m) ≡ Ok o → requester.take x m ≡ o
+pub take-Ok : (x : ClientState) (m : ToClient) (o : requester.Outcome) → requester.step x (requester.Takes m) ≡ Ok o → requester.take x m ≡ o
 unfolding requester.step
 take-Ok x m o e = same_Some _ o (ap result_ok e)
 
@@ -105,7 +105,7 @@ record Vote (c v : ℕ) (x z : ClientState) (y : VoterState) : Type 0 where
   before : (n : ℕ) → holds_under x v n ≡ true → Names y.held c x.stamp n
   now : (n : ℕ) → holds_under z v n ≡ true → Names y.held c z.stamp n
 
-grant_is : (o : Option Grant) (g : Grant) (c s n : ℕ) → o ≡ Some g → Names o c s n → g.grant ≡ n
+pub grant_is : (o : Option Grant) (g : Grant) (c s n : ℕ) → o ≡ Some g → Names o c s n → g.grant ≡ n
 grant_is o g c s n held names = ap (λ (h : Grant). h.grant) (same_Some g (record { client = c; stamp = s; grant = n }) (sym held ∙ names))
 
 given_by : (c v : ℕ) (x z : ClientState) (y : VoterState) → Vote c v x z y → KeepsMark x z v → z.stamp ≡ x.stamp → is_asking x.phase ≡ true → GivenBack x c v y → GivenBack z c v y
@@ -356,10 +356,10 @@ Fits-run laws w (s ∷ steps) u r h =
     let x = after u (step (dealing_of w.plans) u s) in
     Fits-run laws w steps x next (Fits-moved laws u x ok (laws.coherent (with_state w x) next) (Moved-step (dealing_of w.plans) u ok.numbered s) h)
 
-new_clients : ℕ → ℕ → List ClientState
+pub new_clients : ℕ → ℕ → List ClientState
 new_clients n limit = map (λ c. requester.start c limit) (range_with_len 0 n)
 
-new_client : (n limit c : ℕ) → (i : ℕ) × (l : ℕ) × (client_at (new_clients n limit) c ≡ requester.start i l)
+pub new_client : (n limit c : ℕ) → (i : ℕ) × (l : ℕ) × (client_at (new_clients n limit) c ≡ requester.start i l)
 unfolding client_at new_clients
 new_client n limit c = elim (cases_lt c n) [
   | inl within ↦ (c, limit, get_or-map-range_with_len (λ i. requester.start i limit) 0 n c c (requester.start 0 1) within (omega arith))

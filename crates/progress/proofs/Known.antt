@@ -9,7 +9,7 @@ use Rattle.message.specs.declared.message.VoterBody.TheVariants as asks
 use Rattle.voter.specs.declared.state.Grant.{Grant}
 use Rattle.voter.specs.declared.state.VoterState.{VoterState}
 use Rattle.numbers.specs.Bounds.{max_voters}
-use Rattle.voter.specs.Entries.{Finishes, FinishesBy, KnowsUpTo, request_of}
+use Rattle.voter.specs.Entries.{AsksBack, Finishes, FinishesBy, KnowsUpTo, request_of}
 use Rattle.voter.specs.Replies.{AllCarry, CarrySeen}
 use Rattle.voter.specs.Steps as voter
 use Rattle.voter.specs.VoteMoves.{GrantIsNew, VoteMoves}
@@ -19,11 +19,11 @@ use Rattle.requester.specs.declared.fault.ClientFault.TheVariants.{Busy}
 use Rattle.requester.specs.declared.state.ClientState.{ClientState}
 use Rattle.requester.specs.declared.state.Seen.TheVariants.{Nothing}
 use Rattle.requester.specs.Clocks.{KeepsTime}
-use Rattle.requester.specs.Held.{KeepsMark}
-use Rattle.requester.specs.RequesterContract.{Accepts, MeetsContract}
+use Rattle.requester.specs.Held.{IsGivenBack, IsKeptOrGiven, KeepsMark}
+use Rattle.requester.specs.RequesterContract.{Accepts, AllRepeat, MeetsContract, RemindersInRange}
 use Rattle.requester.specs.Soundness.{IsSound}
 use Rattle.requester.specs.Steps as requester
-use Rattle.requester.specs.Words.{holds, is_asking, is_current, is_idle, is_inside, is_member, is_relinquished, last_of}
+use Rattle.requester.specs.Words.{held_of, is_hindered, holds, is_asking, is_current, is_idle, is_inside, is_member, is_relinquished, last_of}
 use Rattle.world.specs.Coherence.{IsCoherent}
 use Rattle.world.specs.Runs.{IsReached}
 use Rattle.world.specs.Steps.{Planned}
@@ -89,3 +89,16 @@ pub record AloneLaws : Type 0 where
   pub fitting : FittingLaws
   pub returns : ReturnLaws
   pub back : BackLaws
+
+-- what a way in depends on while others ask too
+pub record TogetherLaws : Type 0 where
+  pub alone : AloneLaws
+  pub back_first : (id limit : ℕ) → AsksBack (voter.start id limit)
+  pub back : (v : VoterState) (m : ToVoter) (o : voter.Outcome) → AsksBack v → voter.step v m ≡ Some o → AsksBack o.state
+  pub repeats : (x : ClientState) → AllRepeat x (requester.remind x)
+  pub in_range : (x : ClientState) → IsSound x → RemindersInRange x (requester.remind x)
+  pub kept : (x : ClientState) (m : ToClient) → IsSound x → requester.would_hold x m ≡ false → (v : ℕ) → IsKeptOrGiven x (requester.take x m) v
+  pub hinders : (x : ClientState) (m : ToClient) → IsSound x → is_asking x.phase ≡ true → is_member x m.voter ≡ true → holds x m.voter ≡ false → m.body ≡ tells.Fail x.stamp
+      → is_hindered (requester.take x m).state ≡ true
+  pub gives : (x : ClientState) (m : ToClient) → IsSound x → is_asking x.phase ≡ true → holds x m.voter ≡ true → is_hindered x ≡ true → m.voter < max_voters → m.body ≡ tells.Inquire (held_of x m.voter)
+      → IsGivenBack x (requester.take x m) m.voter × (is_relinquished (requester.take x m).state m.voter ≡ true)

@@ -4,5 +4,9 @@ pub mod Behind
 pub mod Counting
 pub mod Exchanges
 pub mod Fitting
+pub mod Hindering
 pub mod Known
 pub mod Moves
+pub mod Placed
+pub mod Together
+pub mod Ways

@@ -62,10 +62,14 @@ pub record VoterMoved (w u : WorldState) : Type 0 where
   pub sent : u.sent ≡ w.sent ++ map kinds.ToClient outcome.replies
   pub visible : u.visible ≡ w.visible
 
--- messages to voters, or the reminder of a voter
+-- no message, or the reminder of a client
+abbrev pub AreReminders : WorldState → List ToVoter → Type 0
+AreReminders w out = (out ≡ []) ⊎ ((c : ℕ) × (c < length w.clients) × (out ≡ requester.remind (client_at w.clients c)))
+
+-- no message, the reminder of a client, or the reminder of a voter
 abbrev pub IsReminder : WorldState → List Message → Type 0
 IsReminder w more =
-    ((out : List ToVoter) × (more ≡ map kinds.ToVoter out)) ⊎ ((v : ℕ) × (v < length w.voters) × (more ≡ map kinds.ToClient (voter.remind (voter_at w.voters v))))
+    ((out : List ToVoter) × (more ≡ map kinds.ToVoter out) × AreReminders w out) ⊎ ((v : ℕ) × (v < length w.voters) × (more ≡ map kinds.ToClient (voter.remind (voter_at w.voters v))))
 
 -- messages were sent, perhaps none, and nothing else changed
 pub record OnlySent (w u : WorldState) : Type 0 where
@@ -81,7 +85,7 @@ Moved w u = ClientMoved w u ⊎ VoterMoved w u ⊎ OnlySent w u
 
 Moved-self : (w u : WorldState) → u.clients ≡ w.clients → u.voters ≡ w.voters → u.sent ≡ w.sent → u.visible ≡ w.visible → Moved w u
 Moved-self w u clients voters sent visible =
-    inr (inr (record { more = []; reminder = inl ([], refl); clients = clients; voters = voters; sent = sent ∙ sym (append-nil w.sent); visible = visible }))
+    inr (inr (record { more = []; reminder = inl ([], refl, inl refl); clients = clients; voters = voters; sent = sent ∙ sym (append-nil w.sent); visible = visible }))
 
 pub client_here : (cs : List ClientState) (c : ℕ) (x : ClientState) → c < length cs → client_at (set cs c x) c ≡ x
 unfolding client_at
@@ -195,7 +199,7 @@ Moved-step deal w ok (Leave c) = if_one w _ c _ (λ t. Moved-after_client w c re
 Moved-step deal w ok (GiveUp c) = if_one w _ c _ (λ t. Moved-after_client w c requester.GivesUp (less_than _ _ t) tt _ refl)
 Moved-step deal w ok (RemindClient c) = if_one w (nat_lt c (length w.clients)) c (Ok (say w (map kinds.ToVoter (requester.remind (client_at w.clients c))))) (λ t. inr (inr (record {
   more = map kinds.ToVoter (requester.remind (client_at w.clients c));
-  reminder = inl (requester.remind (client_at w.clients c), refl);
+  reminder = inl (requester.remind (client_at w.clients c), refl, inr (c, less_than _ _ t, refl));
   clients = refl;
   voters = refl;
   sent = refl;

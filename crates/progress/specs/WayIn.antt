@@ -1,8 +1,8 @@
 -- Ways in: lists of reminders, and of the messages that are sent after them, by which a client enters.
-use Rattle.std.specs.Prelude.{ℕ, ◌≡◌, ◌≢◌, ◌<◌, ◌≤◌, ◌+◌, true, List, ◌++◌, length}
+use Rattle.std.specs.Prelude.{ℕ, ◌≡◌, ◌≢◌, ◌<◌, ◌≤◌, ◌+◌, true, false, List, ◌++◌, length}
 use Rattle.std.specs.List.{AllByRecursion}
 use Rattle.requester.specs.declared.state.Seen.TheVariants.{Entered}
-use Rattle.requester.specs.Words.{is_asking, is_idle}
+use Rattle.requester.specs.Words.{is_asking, is_idle, is_inside}
 use Rattle.world.specs.declared.step.Step.{Step}
 use Rattle.world.specs.declared.step.Step.TheVariants.{Ask, Deliver, Leave, GiveUp, RemindClient, RemindVoter, Exchange}
 use Rattle.world.specs.Runs.{run_of}
@@ -28,6 +28,15 @@ pub record AsksAlone (w : WorldState) (c : ℕ) : Type 0 where
   pub client : c < length w.clients
   pub asks : is_asking (client_at w.clients c).phase ≡ true
   pub others : (d : ℕ) → d ≢ c → is_idle (client_at w.clients d).phase ≡ true
+
+-- a client of the world asks
+pub record Asks (w : WorldState) (c : ℕ) : Type 0 where
+  pub client : c < length w.clients
+  pub asks : is_asking (client_at w.clients c).phase ≡ true
+
+-- nobody is inside
+abbrev pub IsFree : WorldState → Type 0
+IsFree w = (c : ℕ) → is_inside (client_at w.clients c).phase ≡ false
 
 -- each voter can give n more grants
 abbrev pub HasGrants : ℕ → WorldState → Type 0

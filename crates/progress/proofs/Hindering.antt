@@ -1,0 +1,676 @@
+-- how a client that has a vote, and does not precede another one, comes to give the vote back
+use Rattle.std.proofs.Common.{◌≡◌, ◌≢◌, ℕ, zero, suc, ◌+◌, ◌<◌, ◌≤◌, Bool, true, false, List, [], ◌∷◌, ◌++◌, map, length, set, Option, Some, None, Ok, refl, sym, ap, subst, ◌∙◌, ◌⊎◌, inl, inr, arith, length-append}
+use Rattle.std.specs.Prelude.{◌&&◌, ◌||◌, not, nat_le, nat_lt, ◌==◌, if◌then◌else◌, max, slice_get, slice_index, slice_index_or}
+use Rattle.std.specs.FinMap.{get}
+use Rattle.std.specs.List.{AllByRecursion, Contains, filter, list_all, list_any, range_with_len}
+use Rattle.std.proofs.lemmas.Bool.{cases_eq, cases_lt, false≢true}
+use Rattle.std.proofs.lemmas.Bool.Decides.{nat_tests}
+use Rattle.std.proofs.lemmas.List.{append-nil, length-set}
+use Rattle.std.proofs.lemmas.Option.{none-some, same_Some}
+use Rattle.numbers.specs.Bounds.{max_voters}
+use Rattle.numbers.specs.Sets.{has}
+use Rattle.message.specs.declared.message.Message.TheVariants as kinds
+use Rattle.message.specs.declared.message.ToClient.{ToClient}
+use Rattle.message.specs.declared.message.ToVoter.{ToVoter}
+use Rattle.message.specs.declared.message.ClientBody.TheVariants as tells
+use Rattle.message.specs.declared.message.VoterBody.{VoterBody}
+use Rattle.message.specs.declared.message.VoterBody.TheVariants as asks
+use Rattle.message.specs.declared.request.Request.{Request}
+use Rattle.voter.specs.declared.state.Grant.{Grant}
+use Rattle.voter.specs.declared.state.VoterState.{VoterState}
+use Rattle.voter.specs.Entries.{request_of}
+use Rattle.voter.specs.Steps as voter
+use Rattle.voter.specs.VoterContract.{IsEntry}
+use Rattle.voter.specs.Waiting.{precedes}
+use Rattle.requester.specs.declared.state.ClientState.{ClientState}
+use Rattle.requester.specs.declared.state.Seen.TheVariants.{Entered, Nothing}
+use Rattle.requester.specs.declared.state.Phase.TheVariants.{Inside}
+use Rattle.requester.specs.Held.{IsGivenBack, IsKeptOrGiven}
+use Rattle.requester.specs.RequesterContract.{AllSay, MeetsContract, Says}
+use Rattle.requester.specs.Soundness.{IsSound}
+use Rattle.requester.specs.Steps as requester
+use Rattle.requester.specs.Words.{held_of, holds, is_asking, is_covered, is_failed, is_hindered, is_idle, is_inquired, is_member, is_relinquished, last_of, members}
+use Rattle.world.specs.declared.step.Step.{Step}
+use Rattle.world.specs.declared.step.Step.TheVariants.{Deliver, RemindClient, RemindVoter}
+use Rattle.world.specs.Runs.{IsReached, after, run_of}
+use Rattle.world.specs.Steps.{Dealing, Planned, WorldState, client_at, client_did, dealing_of, events, step, voter_at}
+use Rattle.progress.specs.WayIn.{HasGrants, Helps, IsWayIn}
+use Rattle.progress.proofs.Exchanges.{after-deliver_client, after-remind_voter, get_next, reminded, spoken}
+use Rattle.progress.proofs.Fitting.{Fits-reached, asking_busy, grant_is, held_under, not_true}
+use Rattle.progress.proofs.Known.{AloneLaws, TogetherLaws}
+use Rattle.progress.proofs.Moves.{client_here, client_others, with_state}
+use Rattle.progress.proofs.Placed.{Placed-reached}
+use Rattle.progress.proofs.Ways.{EntersAt, Gains, Here, Here-went, IsReached-run, Leads, Leads-same, Went, asks_again, entry_waits, gets, has_range, hears, held_some, help_then, length_range, own_stamp, request_at, run_then}
+
+-- ---- helping steps, and what they leave
+
+pub record SameRequest (x y : ClientState) : Type 0 where
+  pub phase : y.phase ≡ x.phase
+  pub stamp : y.stamp ≡ x.stamp
+  pub quorum : members y ≡ members x
+
+-- Helping steps by which nobody enters: each request runs on, this client keeps its votes, and each voter
+-- gives at most n grants.
+pub record Led (deal : Dealing) (c n : ℕ) (u x : WorldState) : Type 0 where
+  pub steps : List Step
+  pub helps : AllByRecursion (Helps (length u.sent)) steps
+  pub run : run_of deal steps u ≡ x
+  pub sent : length u.sent ≤ length x.sent
+  pub visible : x.visible ≡ u.visible
+  pub clients : length x.clients ≡ length u.clients
+  pub voters : length x.voters ≡ length u.voters
+  pub same : (d : ℕ) → SameRequest (client_at u.clients d) (client_at x.clients d)
+  pub held : (q : ℕ) → holds (client_at u.clients c) q ≡ true → holds (client_at x.clients c) q ≡ true
+  pub few : (q : ℕ) → (voter_at x.voters q).granted ≤ (voter_at u.voters q).granted + n
+  pub limit : (q : ℕ) → (voter_at x.voters q).limit ≡ (voter_at u.voters q).limit
+
+pub Led-self : (deal : Dealing) (c n : ℕ) (u : WorldState) → Led deal c n u u
+Led-self deal c n u = record {
+  steps = [];
+  helps = tt;
+  run = refl;
+  sent = omega arith;
+  visible = refl;
+  clients = refl;
+  voters = refl;
+  same = λ d. record { phase = refl; stamp = refl; quorum = refl };
+  held = λ q has. has;
+  few = λ q. omega arith;
+  limit = λ q. refl;
+}
+
+pub Led-then : (deal : Dealing) (c n m : ℕ) (u x z : WorldState) → Led deal c n u x → Led deal c m x z → Led deal c (n + m) u z
+Led-then deal c n m u x z a b = record {
+  steps = a.steps ++ b.steps;
+  helps = help_then (length u.sent) (length x.sent) a.steps b.steps a.sent a.helps b.helps;
+  run = run_then deal a.steps b.steps u ∙ ap (run_of deal b.steps) a.run ∙ b.run;
+  sent = (let first = a.sent in let second = b.sent in omega arith);
+  visible = b.visible ∙ a.visible;
+  clients = b.clients ∙ a.clients;
+  voters = b.voters ∙ a.voters;
+  same = λ d. record { phase = (b.same d).phase ∙ (a.same d).phase; stamp = (b.same d).stamp ∙ (a.same d).stamp; quorum = (b.same d).quorum ∙ (a.same d).quorum };
+  held = λ q has. b.held q (a.held q has);
+  few = λ q. (let first = a.few q in let second = b.few q in omega arith);
+  limit = λ q. b.limit q ∙ a.limit q;
+}
+
+pub Led-more : (deal : Dealing) (c n m : ℕ) (u x : WorldState) → n ≤ m → Led deal c n u x → Led deal c m u x
+Led-more deal c n m u x most a = record {
+  steps = a.steps;
+  helps = a.helps;
+  run = a.run;
+  sent = a.sent;
+  visible = a.visible;
+  clients = a.clients;
+  voters = a.voters;
+  same = a.same;
+  held = a.held;
+  few = λ q. (let first = a.few q in omega arith);
+  limit = a.limit;
+}
+
+pub Led-went : (deal : Dealing) (c v n : ℕ) (u x : WorldState) → Went deal v u x → (voter_at x.voters v).granted ≤ (voter_at u.voters v).granted + n → Led deal c n u x
+Led-went deal c v n u x a few = record {
+  steps = a.steps;
+  helps = a.helps;
+  run = a.run;
+  sent = a.sent;
+  visible = a.visible;
+  clients = a.clients;
+  voters = a.voters;
+  same = λ d. record { phase = (a.gains d).phase; stamp = (a.gains d).stamp; quorum = (a.gains d).quorum };
+  held = (a.gains c).held;
+  few = λ q. elim (cases_eq q v) [
+    | inl one ↦ subst (λ i. (voter_at x.voters i).granted ≤ (voter_at u.voters i).granted + n) (sym one) few
+    | inr other ↦ (let same = ap (λ (y : VoterState). y.granted) (a.others q other) in omega arith)
+  ];
+  limit = λ q. elim (cases_eq q v) [
+    | inl one ↦ subst (λ i. (voter_at x.voters i).limit ≡ (voter_at u.voters i).limit) (sym one) a.limit
+    | inr other ↦ ap (λ (y : VoterState). y.limit) (a.others q other)
+  ];
+}
+
+pub Here-led : (p : Planned) (c n d v : ℕ) (u x : WorldState) → Led (dealing_of p.plans) c n u x → Here p d v u → Here p d v x
+Here-led p c n d v u x a h = record {
+  reached = subst (λ (z : WorldState). IsReached (with_state p z)) a.run (IsReached-run p a.steps u h.reached);
+  client = subst (λ k. d < k) (sym a.clients) h.client;
+  asks = ap is_asking (a.same d).phase ∙ h.asks;
+  asked = ap (λ l. has l v) (a.same d).quorum ∙ h.asked;
+}
+
+pub Leads-led : (deal : Dealing) (c n : ℕ) (u x : WorldState) → Led deal c n u x → Leads u c → Leads x c
+Leads-led deal c n u x a h = Leads-same u x c (λ d. (a.same d).phase) (λ d. (a.same d).stamp) h
+
+-- Helping steps after which the client is inside: the other clients are as idle, asking or inside as
+-- before, and each voter gives at most n grants.
+pub record EntersBy (deal : Dealing) (e n : ℕ) (u : WorldState) : Type 0 where
+  pub world : WorldState
+  pub steps : List Step
+  pub helps : AllByRecursion (Helps (length u.sent)) steps
+  pub run : run_of deal steps u ≡ world
+  pub sent : length u.sent ≤ length world.sent
+  pub visible : world.visible ≡ u.visible ++ events e Entered
+  pub clients : length world.clients ≡ length u.clients
+  pub voters : length world.voters ≡ length u.voters
+  pub inside : (client_at world.clients e).phase ≡ Inside
+  pub phases : (d : ℕ) → d ≢ e → (client_at world.clients d).phase ≡ (client_at u.clients d).phase
+  pub few : (q : ℕ) → (voter_at world.voters q).granted ≤ (voter_at u.voters q).granted + n
+  pub limit : (q : ℕ) → (voter_at world.voters q).limit ≡ (voter_at u.voters q).limit
+
+-- some client that asks gets in
+pub record Somebody (p : Planned) (n : ℕ) (u : WorldState) : Type 0 where
+  pub who : ℕ
+  pub asks : is_asking (client_at u.clients who).phase ≡ true
+  pub enters : EntersBy (dealing_of p.plans) who n u
+
+pub Somebody-led : (p : Planned) (c n m k : ℕ) (u x : WorldState) → n + m ≤ k → Led (dealing_of p.plans) c n u x → Somebody p m x → Somebody p k u
+Somebody-led p c n m k u x most a one =
+    let e = one.enters in
+    record {
+      who = one.who;
+      asks = ap is_asking (sym (a.same one.who).phase) ∙ one.asks;
+      enters = record {
+        world = e.world;
+        steps = a.steps ++ e.steps;
+        helps = help_then (length u.sent) (length x.sent) a.steps e.steps a.sent a.helps e.helps;
+        run = run_then (dealing_of p.plans) a.steps e.steps u ∙ ap (run_of (dealing_of p.plans) e.steps) a.run ∙ e.run;
+        sent = (let first = a.sent in let second = e.sent in omega arith);
+        visible = e.visible ∙ ap (λ es. es ++ events one.who Entered) a.visible;
+        clients = e.clients ∙ a.clients;
+        voters = e.voters ∙ a.voters;
+        inside = e.inside;
+        phases = λ d other. e.phases d other ∙ (a.same d).phase;
+        few = λ q. (let first = a.few q in let second = e.few q in omega arith);
+        limit = λ q. e.limit q ∙ a.limit q;
+      };
+    }
+
+pub Somebody-more : (p : Planned) (n k : ℕ) (u : WorldState) → n ≤ k → Somebody p n u → Somebody p k u
+Somebody-more p n k u most one = Somebody-led p 0 0 n k u u (omega arith) (Led-self (dealing_of p.plans) 0 0 u) one
+
+pub somebody_at : (p : Planned) (e v top n : ℕ) (u : WorldState) → is_asking (client_at u.clients e).phase ≡ true → top ≤ (voter_at u.voters v).granted + n → EntersAt (dealing_of p.plans) e v top u → Somebody p n u
+somebody_at p e v top n u asks most a = record {
+  who = e;
+  asks = asks;
+  enters = record {
+    world = a.world;
+    steps = a.steps;
+    helps = a.helps;
+    run = a.run;
+    sent = a.sent;
+    visible = a.visible;
+    clients = a.clients;
+    voters = a.voters;
+    inside = a.inside;
+    phases = a.phases;
+    few = λ q. elim (cases_eq q v) [
+      | inl one ↦ subst (λ i. (voter_at a.world.voters i).granted ≤ (voter_at u.voters i).granted + n) (sym one) (let few = a.few in omega arith)
+      | inr other ↦ (let same = ap (λ (y : VoterState). y.granted) (a.others q other) in omega arith)
+    ];
+    limit = λ q. elim (cases_eq q v) [
+      | inl one ↦ subst (λ i. (voter_at a.world.voters i).limit ≡ (voter_at u.voters i).limit) (sym one) a.limit
+      | inr other ↦ ap (λ (y : VoterState). y.limit) (a.others q other)
+    ];
+  };
+}
+
+-- ---- FAIL and INQUIRE leave the request
+
+record Stays (x : ClientState) (o : requester.Outcome) : Type 0 where
+  phase : o.state.phase ≡ x.phase
+  stamp : o.state.stamp ≡ x.stamp
+  quorum : members o.state ≡ members x
+  seen : o.seen ≡ Nothing
+
+Stays-relinquish_if : (b : Bool) (x : ClientState) (v : ℕ) → Stays x (requester.relinquish_if b x v)
+Stays-relinquish_if false x v = record { phase = refl; stamp = refl; quorum = refl; seen = refl }
+Stays-relinquish_if true x v = record { phase = refl; stamp = refl; quorum = refl; seen = refl }
+
+Stays-relinquish : (x : ClientState) (v : ℕ) → Stays x (requester.relinquish x v)
+unfolding requester.relinquish
+Stays-relinquish x v = Stays-relinquish_if (holds x v) x v
+
+Stays-relinquish_each : (x : ClientState) (vs : List ℕ) → Stays x (requester.relinquish_each x vs)
+Stays-relinquish_each x [] = record { phase = refl; stamp = refl; quorum = refl; seen = refl }
+Stays-relinquish_each x (v ∷ vs) =
+    let a = Stays-relinquish x v in
+    let b = Stays-relinquish_each (requester.relinquish x v).state vs in
+    record { phase = b.phase ∙ a.phase; stamp = b.stamp ∙ a.stamp; quorum = b.quorum ∙ a.quorum; seen = refl }
+
+Stays-failed_by : (b : Bool) (x : ClientState) (v : ℕ) → Stays x (requester.failed_by b x v)
+Stays-failed_by false x v = record { phase = refl; stamp = refl; quorum = refl; seen = refl }
+Stays-failed_by true x v =
+    let h = Stays-relinquish_each (requester.fail x v) (filter (is_inquired (requester.fail x v)) (members x)) in
+    record { phase = h.phase; stamp = h.stamp; quorum = h.quorum; seen = h.seen }
+
+Stays-inquired_by : (b hindered : Bool) (x : ClientState) (v : ℕ) → Stays x (requester.inquired_by b hindered x v)
+Stays-inquired_by false hindered x v = record { phase = refl; stamp = refl; quorum = refl; seen = refl }
+Stays-inquired_by true false x v = record { phase = refl; stamp = refl; quorum = refl; seen = refl }
+Stays-inquired_by true true x v = Stays-relinquish x v
+
+Stays-fail : (x : ClientState) (m : ToClient) (t : ℕ) → m.body ≡ tells.Fail t → Stays x (requester.take x m)
+unfolding requester.take requester.failed
+Stays-fail x m t is = subst (λ b. Stays x (requester.take_body (requester.see x m.seen) m.voter b)) (sym is) (
+    let h = Stays-failed_by _ (requester.see x m.seen) m.voter in
+    record { phase = h.phase; stamp = h.stamp; quorum = h.quorum; seen = h.seen })
+
+Stays-inquire : (x : ClientState) (m : ToClient) (g : ℕ) → m.body ≡ tells.Inquire g → Stays x (requester.take x m)
+unfolding requester.take requester.inquired
+Stays-inquire x m g is = subst (λ b. Stays x (requester.take_body (requester.see x m.seen) m.voter b)) (sym is) (
+    let h = Stays-inquired_by _ _ (requester.see x m.seen) m.voter in
+    record { phase = h.phase; stamp = h.stamp; quorum = h.quorum; seen = h.seen })
+
+-- ---- another client takes a message
+
+Led-takes : (deal : Dealing) (c n k : ℕ) (u x : WorldState) (m : ToClient) → Led deal c n u x → length u.sent ≤ k → slice_get x.sent k ≡ Some (kinds.ToClient m) → m.client < length x.clients → m.client ≢ c
+    → Stays (client_at x.clients m.client) (requester.take (client_at x.clients m.client) m) → Led deal c n u (client_did x m.client (requester.take (client_at x.clients m.client) m)).state
+Led-takes deal c n k u x m a new is within other st =
+    let d = m.client in
+    let o = requester.take (client_at x.clients d) m in
+    record {
+      steps = a.steps ++ Deliver k ∷ [];
+      helps = help_then (length u.sent) (length u.sent) a.steps (Deliver k ∷ []) (omega arith) a.helps (new, tt);
+      run = run_then deal a.steps (Deliver k ∷ []) u ∙ ap (run_of deal (Deliver k ∷ [])) a.run ∙ after-deliver_client deal x k m is;
+      sent = (let most = a.sent in omega (arith, length-append x.sent (map kinds.ToVoter o.out)));
+      visible = ap (λ e. x.visible ++ events d e) st.seen ∙ append-nil x.visible ∙ a.visible;
+      clients = length-set x.clients d o.state ∙ a.clients;
+      voters = a.voters;
+      same = λ e. elim (cases_eq e d) [
+        | inl one ↦ subst (λ i. SameRequest (client_at u.clients i) (client_at (set x.clients d o.state) i)) (sym one) (subst (λ (z : ClientState). SameRequest (client_at u.clients d) z) (sym (client_here x.clients d o.state within))
+            (record { phase = st.phase ∙ (a.same d).phase; stamp = st.stamp ∙ (a.same d).stamp; quorum = st.quorum ∙ (a.same d).quorum }))
+        | inr unlike ↦ subst (λ (z : ClientState). SameRequest (client_at u.clients e) z) (sym (client_others x.clients d o.state e unlike)) (a.same e)
+      ];
+      held = λ q has. ap (λ (z : ClientState). holds z q) (client_others x.clients d o.state c (λ same. other (sym same))) ∙ a.held q has;
+      few = a.few;
+      limit = a.limit;
+    }
+
+-- ---- what a message takes from a client
+
+says_at : (x : ClientState) (cause : requester.Cause) (y : ClientState) (out : List ToVoter) (k : ℕ) (m : ToVoter) → AllSay x cause y out → k < length out → slice_index_or out k m ≡ m → Says x cause y m.voter m.body
+says_at x cause y [] k m all within is = absurd (omega arith)
+says_at x cause y (n ∷ out) zero m all within is = subst (λ (l : ToVoter). Says x cause y l.voter l.body) is all.0.1
+says_at x cause y (n ∷ out) (suc k) m all within is = says_at x cause y out k m all.1 (omega arith) is
+
+-- a vote that is given back was given back under the grant by which it was held
+given_last : (x : ClientState) (cause : requester.Cause) (o : requester.Outcome) (v : ℕ) → MeetsContract x cause o → IsGivenBack x o v → last_of o.state v ≡ held_of x v
+given_last x cause o v contract given =
+    let there = given.2 in
+    sym (says_at x cause o.state o.out there.0 (requester.tell x v (asks.Relinquish (held_of x v))) contract.out there.1 there.2).0
+
+takes_meets : (laws : AloneLaws) (x : ClientState) (m : ToClient) → (p : Planned) (u : WorldState) (d : ℕ) → IsReached (with_state p u) → client_at u.clients d ≡ x → d < length u.clients → m.client ≡ d → m.voter < length u.voters → MeetsContract x (requester.Takes m) (requester.take x m)
+unfolding requester.step
+takes_meets laws x m p u d r is within own voter =
+    let ok = laws.fitting.coherent (with_state p u) r in
+    let few = ok.numbered.few_voters in
+    laws.fitting.client.meets x (requester.Takes m) (requester.take x m) (subst (λ (z : ClientState). IsSound z) is (ok.clients d)) (own ∙ sym (ap (λ (z : ClientState). z.id) (sym is) ∙ ok.numbered.clients d within), omega arith) refl
+
+-- ---- a request that waits is answered by FAIL again
+
+unless-Some : (b : Bool) (o k : voter.Outcome) → voter.unless_spent b o ≡ Some k → o ≡ k
+unless-Some true o k e = absurd (none-some k e)
+unless-Some false o k e = same_Some o k e
+
+not_held_by : (b : Bool) (t : ℕ) → b ≡ false → (if b then Some t else None) ≡ None
+not_held_by true t e = absurd (false≢true (sym e))
+not_held_by false t e = refl
+
+again_fails : (b : Bool) (v : VoterState) (g : Grant) (client s : ℕ) → b ≡ false → voter.again_by b v g client s ≡ voter.reply v client (tells.Fail s) ∷ []
+again_fails true v g client s e = absurd (false≢true (sym e))
+again_fails false v g client s e = refl
+
+compared_same : (less same : Bool) (v : VoterState) (client s t : ℕ) → less ≡ false → same ≡ true → voter.compared_by less same v client s t ≡ record { replies = voter.again v v.held client s; state = v }
+compared_same true same v client s t e f = absurd (false≢true (sym e))
+compared_same false true v client s t e f = refl
+compared_same false false v client s t e f = absurd (false≢true f)
+
+beside_same : (v : VoterState) (client s : ℕ) (o : Option ℕ) → o ≡ Some s → voter.requested_beside v client s o ≡ record { replies = voter.again v v.held client s; state = v }
+unfolding voter.requested_beside
+beside_same v client s o is = ap (voter.requested_beside v client s) is ∙ compared_same (nat_lt s s) (s == s) v client s s (grind (arith, nat_tests)) (grind (arith, nat_tests))
+
+requested_not : (b : Bool) (v : VoterState) (client s : ℕ) → b ≡ false → voter.requested_by b v client s ≡ voter.requested_beside v client s (voter.standing v client)
+requested_not true v client s e = absurd (false≢true (sym e))
+requested_not false v client s e = refl
+
+le_false : (a b : ℕ) → b < a → nat_le a b ≡ false
+le_false a b less = grind (arith, nat_tests)
+
+eq_false : (a b : ℕ) → a ≢ b → (a == b) ≡ false
+eq_false a b other = not_true (a == b) (λ is. other (grind (arith, nat_tests)))
+
+fails_again : (y : VoterState) (m : ToVoter) (s : ℕ) (g : Grant) (o : voter.Outcome) → m.body ≡ asks.Request s → slice_index y.finished m.client < s → y.held ≡ Some g → g.client ≢ m.client → get y.waiting m.client ≡ Some s → voter.step y m ≡ Some o
+    → o ≡ record { replies = voter.reply (voter.see y s) m.client (tells.Fail s) ∷ []; state = voter.see y s }
+unfolding voter.step voter.requested
+fails_again y m s g o is unfinished held other waits step =
+    let c = m.client in
+    let v = voter.see y s in
+    let stands : voter.standing v c ≡ Some s =
+    ap (λ h. voter.first_some (voter.held_stamp h c) (get y.waiting c)) held ∙ ap (λ h. voter.first_some h (get y.waiting c)) (not_held_by (g.client == c) g.stamp (eq_false g.client c other)) ∙ waits in
+    let out : voter.outcome_of y c m.body ≡ record { replies = voter.reply v c (tells.Fail s) ∷ []; state = v } =
+    ap (voter.outcome_of y c) is ∙ requested_not (nat_le s (slice_index y.finished c)) v c s (le_false s (slice_index y.finished c) unfinished) ∙ beside_same v c s (voter.standing v c) stands
+    ∙ ap (λ rs. record { replies = rs; state = v }) (ap (λ h. voter.again v h c s) held ∙ again_fails (g.client == c) v g c s (eq_false g.client c other)) in
+    sym (unless-Some _ (voter.outcome_of y c m.body) o step) ∙ out
+
+-- the client is hindered, and each vote is held as before or was given back under the same grant
+record Failed (p : Planned) (c d q : ℕ) (u : WorldState) : Type 0 where
+  world : WorldState
+  led : Led (dealing_of p.plans) c 0 u world
+  hindered : is_hindered (client_at world.clients d) ≡ true
+  votes : (v : ℕ) → (held_of (client_at world.clients d) v ≡ held_of (client_at u.clients d) v) ⊎ (last_of (client_at world.clients d) v ≡ held_of (client_at u.clients d) v)
+  others : (v : ℕ) → v ≢ q → voter_at world.voters v ≡ voter_at u.voters v
+
+fails : (laws : TogetherLaws) (p : Planned) (c d q : ℕ) (u : WorldState) → Here p d q u → d ≢ c → holds (client_at u.clients d) q ≡ false → (g : Grant) → (voter_at u.voters q).held ≡ Some g → g.client ≢ d
+    → IsEntry (voter_at u.voters q) d (client_at u.clients d).stamp → (voter_at u.voters q).granted < (voter_at u.voters q).limit → Failed p c d q u
+unfolding spoken requester.would_hold
+fails laws p c d q u h apart free g held other entry left =
+    let deal = dealing_of p.plans in
+    let ok = laws.alone.fitting.coherent (with_state p u) h.reached in
+    let old = client_at u.clients d in
+    let y = voter_at u.voters q in
+    let s = old.stamp in
+    let ask = requester.tell old q (asks.Request s) in
+    let there = laws.alone.requests old q h.asks h.asked free in
+    let heard = hears laws.alone p d q u h (asks.Request s) there left in
+    let w = heard.world in
+    let id : old.id ≡ d = ok.numbered.clients d h.client in
+    let voter_id : y.id ≡ q = ok.numbered.voters q (ok.members d q h.asked) in
+    let pair = (Fits-reached laws.alone.fitting (with_state p u) h.reached).pairs d q in
+    let busy = asking_busy old.phase h.asks in
+    let unfinished = subst (λ i. slice_index y.finished i < s) (sym id) (pair.unfinished.busy busy) in
+    let waits = subst (λ i. get y.waiting i ≡ Some s) (sym id) (entry_waits y d s g entry held other) in
+    let outcome = fails_again y ask s g heard.outcome refl unfinished held (λ own. other (own ∙ id)) waits heard.step in
+    let m : ToClient = record { voter = q; client = d; seen = max y.seen s; body = tells.Fail s } in
+    let is : voter.reply (voter.see y s) old.id (tells.Fail s) ≡ m = λ i. record { voter = voter_id i; client = id i; seen = max y.seen s; body = tells.Fail s } in
+    let before = (spoken u d).sent in
+    let sent : slice_get w.sent (length before) ≡ Some (kinds.ToClient m) =
+    ap (λ ms. slice_get ms (length before)) (heard.sent ∙ ap (λ (o : voter.Outcome). before ++ map kinds.ToClient o.replies) outcome) ∙ get_next before (kinds.ToClient (voter.reply (voter.see y s) old.id (tells.Fail s))) [] ∙ ap (λ (n : ToClient). Some (kinds.ToClient n)) is in
+    let here = Here-went p d q q u w heard.went h in
+    let now = laws.alone.fitting.coherent (with_state p w) here.reached in
+    let x = client_at w.clients d in
+    let same : x ≡ old = ap (λ cs. client_at cs d) heard.same in
+    let lacks = ap (λ (z : ClientState). holds z q) same ∙ free in
+    let o = requester.take x m in
+    let few : (voter_at w.voters q).granted ≤ y.granted + 0 = subst (λ (z : VoterState). z.granted ≤ y.granted + 0) (sym (heard.here ∙ ap (λ (k : voter.Outcome). k.state) outcome)) (omega arith) in
+    let at = client_here w.clients d o.state here.client in
+    let contract = takes_meets laws.alone x m p w d here.reached refl here.client refl (now.members d q here.asked) in
+    record {
+      world = (client_did w d o).state;
+      led = Led-takes deal c 0 (length before) u w m (Led-went deal c q 0 u w heard.went few) (omega (arith, length-append u.sent (map kinds.ToVoter (requester.remind old)))) sent here.client apart (Stays-fail x m s refl);
+      hindered = ap is_hindered at ∙ laws.hinders x m (now.clients d) here.asks here.asked lacks (ap (λ n. tells.Fail n) (sym (ap (λ (z : ClientState). z.stamp) same)));
+      votes = λ v. subst (λ (z : ClientState). (held_of z v ≡ held_of old v) ⊎ (last_of z v ≡ held_of old v)) (sym at) (elim (laws.kept x m (now.clients d) refl v) [
+        | inl kept ↦ inl (kept ∙ ap (λ (z : ClientState). held_of z v) same)
+        | inr given ↦ inr (given_last x (requester.Takes m) o v contract given ∙ ap (λ (z : ClientState). held_of z v) same)
+      ]);
+      others = heard.went.others;
+    }
+
+-- ---- a hindered client gives the vote back
+
+second_next : {A : Type 0} (xs : List A) (y z : A) (ys : List A) → slice_get (xs ++ y ∷ z ∷ ys) (suc (length xs)) ≡ Some z
+second_next [] y z ys = refl
+second_next (x ∷ xs) y z ys = second_next xs y z ys
+
+pub record Returns (p : Planned) (c d v n : ℕ) (g : Grant) (u : WorldState) : Type 0 where
+  pub world : WorldState
+  pub led : Led (dealing_of p.plans) c n u world
+  pub voter : voter_at world.voters v ≡ voter_at u.voters v
+  pub last : last_of (client_at world.clients d) v ≡ g.grant
+
+Led-reminded : (deal : Dealing) (c v : ℕ) (u : WorldState) → v < length u.voters → Led deal c 0 u (reminded u v)
+unfolding reminded
+Led-reminded deal c v u within = record {
+  steps = RemindVoter v ∷ [];
+  helps = (tt, tt);
+  run = after-remind_voter deal u v within;
+  sent = omega (arith, length-append u.sent (map kinds.ToClient (voter.remind (voter_at u.voters v))));
+  visible = refl;
+  clients = refl;
+  voters = refl;
+  same = λ d. record { phase = refl; stamp = refl; quorum = refl };
+  held = λ q has. has;
+  few = λ q. omega arith;
+  limit = λ q. refl;
+}
+
+-- the grant by which a client holds a vote is the one that has it
+held_grant : (laws : AloneLaws) (p : Planned) (d v : ℕ) (u : WorldState) → IsReached (with_state p u) → (g : Grant) → (voter_at u.voters v).held ≡ Some g → holds (client_at u.clients d) v ≡ true → g.grant ≡ held_of (client_at u.clients d) v
+held_grant laws p d v u r g held has =
+    let ok = laws.fitting.coherent (with_state p u) r in
+    let x = client_at u.clients d in
+    grant_is (voter_at u.voters v).held g d x.stamp (held_of x v) held (ok.held d v (held_of x v) (held_under x v has))
+
+gives_back : (laws : TogetherLaws) (p : Planned) (c d v : ℕ) (u : WorldState) → Here p d v u → d ≢ c → holds (client_at u.clients d) v ≡ true → is_hindered (client_at u.clients d) ≡ true → (g : Grant) → (voter_at u.voters v).held ≡ Some g → g.client ≡ d
+    → (voter_at u.voters v).inquiring ≡ true → Returns p c d v 0 g u
+unfolding reminded
+gives_back laws p c d v u h apart has hindered g held own inquiring =
+    let deal = dealing_of p.plans in
+    let ok = laws.alone.fitting.coherent (with_state p u) h.reached in
+    let x = client_at u.clients d in
+    let y = voter_at u.voters v in
+    let within = ok.members d v h.asked in
+    let few = ok.numbered.few_voters in
+    let id : y.id ≡ v = ok.numbered.voters v within in
+    let first = voter.reply y g.client (tells.Locked g.stamp g.grant) in
+    let m : ToClient = record { voter = v; client = d; seen = y.seen; body = tells.Inquire g.grant } in
+    let is : voter.reply y g.client (tells.Inquire g.grant) ≡ m = λ i. record { voter = id i; client = own i; seen = y.seen; body = tells.Inquire g.grant } in
+    let more : voter.remind y ≡ first ∷ m ∷ [] = laws.alone.returns.repeats y g held ∙ ap (λ b. first ∷ voter.inquiry_again b y g) inquiring ∙ ap (λ (n : ToClient). first ∷ n ∷ []) is in
+    let sent : slice_get (reminded u v).sent (suc (length u.sent)) ≡ Some (kinds.ToClient m) =
+    ap (λ rs. slice_get (u.sent ++ map kinds.ToClient rs) (suc (length u.sent))) more ∙ second_next u.sent (kinds.ToClient first) (kinds.ToClient m) [] in
+    let o = requester.take x m in
+    let number = held_grant laws.alone p d v u h.reached g held has in
+    let given = laws.gives x m (ok.clients d) h.asks has hindered (omega arith) (ap (λ n. tells.Inquire n) number) in
+    let contract = takes_meets laws.alone x m p u d h.reached refl h.client refl within in
+    record {
+      world = (client_did (reminded u v) d o).state;
+      led = Led-takes deal c 0 (suc (length u.sent)) u (reminded u v) m (Led-reminded deal c v u within) (omega arith) sent h.client apart (Stays-inquire x m g.grant refl);
+      voter = refl;
+      last = ap (λ (z : ClientState). last_of z v) (client_here u.clients d o.state h.client) ∙ given_last x (requester.Takes m) o v contract given.0 ∙ sym number;
+    }
+
+-- ---- a client that has a vote asks for the others
+
+-- the client is hindered and has the vote, or it gave this grant back
+abbrev IsLoose : ℕ → Grant → ClientState → Type 0
+IsLoose v g x = ((is_hindered x ≡ true) × (holds x v ≡ true)) ⊎ (last_of x v ≡ g.grant)
+
+record Loose (p : Planned) (c d v n : ℕ) (g : Grant) (u : WorldState) : Type 0 where
+  world : WorldState
+  led : Led (dealing_of p.plans) c n u world
+  voter : voter_at world.voters v ≡ voter_at u.voters v
+  loose : IsLoose v g (client_at world.clients d)
+
+Loose-then : (p : Planned) (c d v n m k : ℕ) (g : Grant) (u x : WorldState) → n + m ≤ k → Led (dealing_of p.plans) c n u x → voter_at x.voters v ≡ voter_at u.voters v → Loose p c d v m g x → Loose p c d v k g u
+Loose-then p c d v n m k g u x most a same h = record {
+  world = h.world;
+  led = Led-more (dealing_of p.plans) c (n + m) k u h.world most (Led-then (dealing_of p.plans) c n m u x h.world a h.led);
+  voter = h.voter ∙ same;
+  loose = h.loose;
+}
+
+-- the client has more votes, and the voter is as before
+record More (p : Planned) (c d v n : ℕ) (u : WorldState) : Type 0 where
+  world : WorldState
+  led : Led (dealing_of p.plans) c n u world
+  voter : voter_at world.voters v ≡ voter_at u.voters v
+  held : (r : ℕ) → holds (client_at u.clients d) r ≡ true → holds (client_at world.clients d) r ≡ true
+
+abbrev Tried : Planned → ℕ → ℕ → ℕ → ℕ → Grant → WorldState → Type 0
+Tried p c d v q g u =
+    Somebody p 1 u ⊎ Loose p c d v 1 g u ⊎ ((m : More p c d v 1 u) × (is_member (client_at u.clients d) q ≡ true → holds (client_at m.world.clients d) q ≡ true))
+
+any_member : (f : ℕ → Bool) (l : List ℕ) (q : ℕ) → has l q ≡ true → f q ≡ true → list_any f l ≡ true
+any_member f [] q there is = absurd (false≢true there)
+any_member f (x ∷ xs) q there is = elim (cases_eq x q) [
+  | inl same ↦ (let here = ap f same ∙ is in grind (arith, nat_tests))
+  | inr other ↦ (let rest = any_member f xs q (grind (arith, nat_tests)) is in grind (arith, nat_tests))
+]
+
+hindered_by : (x : ClientState) (q : ℕ) → is_member x q ≡ true → is_relinquished x q ≡ true → is_hindered x ≡ true
+hindered_by x q member given = any_member (λ v. is_failed x v || is_relinquished x v) (members x) q member (grind (arith, nat_tests))
+
+tries : (laws : TogetherLaws) (p : Planned) (c d v q : ℕ) (g : Grant) (u : WorldState) → Here p d v u → d ≢ c → (voter_at u.voters v).held ≡ Some g → holds (client_at u.clients d) v ≡ true → is_member (client_at u.clients d) q ≡ true
+    → (voter_at u.voters q).granted + 2 ≤ (voter_at u.voters q).limit → Tried p c d v q g u
+tries laws p c d v q g u h apart held has member left = elim (holds (client_at u.clients d) q) as (λ b. holds (client_at u.clients d) q ≡ b → Tried p c d v q g u) [
+  | true ↦ λ got. inr (inr (record { world = u; led = Led-self (dealing_of p.plans) c 1 u; voter = refl; held = λ r was. was }, λ _. got))
+  | false ↦ λ free.
+      let deal = dealing_of p.plans in
+      let spot : Here p d q u = record { reached = h.reached; client = h.client; asks = h.asks; asked = member } in
+      let other : v ≢ q = λ same. false≢true (sym free ∙ ap (λ i. holds (client_at u.clients d) i) (sym same) ∙ has) in
+      let told = asks_again laws.alone p d q u spot free (omega arith) in
+      let w = told.world in
+      let x = client_at w.clients d in
+      let y = voter_at w.voters q in
+      let same : x ≡ client_at u.clients d = ap (λ cs. client_at cs d) told.same in
+      let here = Here-went p d q q u w told.went spot in
+      let ok = laws.alone.fitting.coherent (with_state p w) here.reached in
+      let led = Led-went deal c q 1 u w told.went told.few in
+      let lacks = ap (λ (z : ClientState). holds z q) same ∙ free in
+      let has_it = ap (λ (z : ClientState). holds z v) same ∙ has in
+      let kept = told.went.others v other in
+      let k = held_some y d x.stamp (ok.voters q) told.entry y.held refl in
+      let limit = told.went.limit in
+      let few = told.few in
+      let voters = ok.numbered.few_voters in
+      let within = ok.members d q here.asked in
+      elim (cases_eq k.0.client d) [
+        | inl mine ↦
+            let stamp = own_stamp y d x.stamp k.0 (ok.voters q) told.entry k.1 mine in
+            elim (cases_lt (last_of x q) k.0.grant) [
+              | inl less ↦ elim (gets laws.alone p d q w here lacks k.0 k.1 mine stamp less) [
+                | inl e ↦ inl (Somebody-led p c 1 0 1 u w (omega arith) led (somebody_at p d q (voter_at w.voters q).granted 0 w here.asks (omega arith) e))
+                | inr on ↦
+                    let more = Led-went deal c q 0 w on.0 on.1 (let count = ap (λ vs. (voter_at vs q).granted) on.3 in omega arith) in
+                    inr (inr (record {
+                      world = on.0;
+                      led = Led-more deal c (1 + 0) 1 u on.0 (omega arith) (Led-then deal c 1 0 u w on.0 led more);
+                      voter = ap (λ vs. voter_at vs v) on.3 ∙ kept;
+                      held = λ r was. (on.1.gains d).held r (ap (λ (z : ClientState). holds z r) same ∙ was);
+                    }, λ _. on.2))
+              ]
+              | inr most ↦
+                  let pair = (Fits-reached laws.alone.fitting (with_state p w) here.reached).pairs d q in
+                  let back = pair.given (omega arith) k.0 k.1 mine here.asks stamp most in
+                  inr (inl (record { world = w; led = led; voter = kept; loose = inl (hindered_by x q here.asked back.1, has_it) }))
+            ]
+        | inr unlike ↦
+            let f = fails laws p c d q w here apart lacks k.0 k.1 unlike told.entry (omega arith) in
+            let number = held_grant laws.alone p d v w here.reached g (ap (λ (z : VoterState). z.held) kept ∙ held) has_it in
+            inr (inl (record {
+              world = f.world;
+              led = Led-more deal c (1 + 0) 1 u f.world (omega arith) (Led-then deal c 1 0 u w f.world led f.led);
+              voter = f.others v other ∙ kept;
+              loose = elim (f.votes v) [
+                | inl stays ↦ inl (f.hindered, ap (λ n. nat_lt 0 n) stays ∙ has_it)
+                | inr given ↦ inr (given ∙ sym number)
+              ];
+            }))
+      ]
+] refl
+
+pub HasGrants-led : (deal : Dealing) (c m n k : ℕ) (u x : WorldState) → m + n ≤ k → Led deal c m u x → HasGrants k u → HasGrants n x
+HasGrants-led deal c m n k u x most a h v within =
+    let before = h v (subst (λ l. v < l) a.voters within) in
+    let few = a.few v in
+    let limit = a.limit v in
+    omega arith
+
+-- the client has the votes of these members, or somebody gets in, or it is loose
+record AllTried (p : Planned) (c d v n : ℕ) (qs : List ℕ) (u : WorldState) : Type 0 where
+  more : More p c d v n u
+  all : (r : ℕ) → has qs r ≡ true → is_member (client_at u.clients d) r ≡ true → holds (client_at more.world.clients d) r ≡ true
+
+has_rest : (q r : ℕ) (qs : List ℕ) → r ≢ q → has (q ∷ qs) r ≡ true → has qs r ≡ true
+has_rest q r qs other there = grind (arith, nat_tests)
+
+tries_all : (laws : TogetherLaws) (p : Planned) (c d v : ℕ) (g : Grant) (qs : List ℕ) (u : WorldState) → Here p d v u → d ≢ c → (voter_at u.voters v).held ≡ Some g → holds (client_at u.clients d) v ≡ true → HasGrants (1 + length qs) u
+    → Somebody p (length qs) u ⊎ Loose p c d v (length qs) g u ⊎ AllTried p c d v (length qs) qs u
+tries_all laws p c d v g [] u h apart held has_v left =
+    inr (inr (record { more = record { world = u; led = Led-self (dealing_of p.plans) c 0 u; voter = refl; held = λ r was. was }; all = λ r there. absurd (false≢true there) }))
+tries_all laws p c d v g (q ∷ qs) u h apart held has_v left =
+    let deal = dealing_of p.plans in
+    let ok = laws.alone.fitting.coherent (with_state p u) h.reached in
+    let one : Tried p c d v q g u = elim (is_member (client_at u.clients d) q) as (λ b. is_member (client_at u.clients d) q ≡ b → Tried p c d v q g u) [
+      | true ↦ λ member. tries laws p c d v q g u h apart held has_v member (let count = left q (ok.members d q member) in omega arith)
+      | false ↦ λ none. inr (inr (record { world = u; led = Led-self deal c 1 u; voter = refl; held = λ r was. was }, λ member. absurd (false≢true (sym none ∙ member))))
+    ] refl in
+    elim one [
+      | inl e ↦ inl (Somebody-more p 1 (length (q ∷ qs)) u (omega arith) e)
+      | inr (inl loose) ↦ inr (inl (Loose-then p c d v 0 1 (length (q ∷ qs)) g u u (omega arith) (Led-self deal c 0 u) refl loose))
+      | inr (inr on) ↦
+          let m = on.0 in
+          let x = m.world in
+          let next = Here-led p c 1 d v u x m.led h in
+          elim (tries_all laws p c d v g qs x next apart (ap (λ (z : VoterState). z.held) m.voter ∙ held) (m.held v has_v) (HasGrants-led deal c 1 (1 + length qs) (1 + length (q ∷ qs)) u x (omega arith) m.led left)) [
+            | inl e ↦ inl (Somebody-led p c 1 (length qs) (length (q ∷ qs)) u x (omega arith) m.led e)
+            | inr (inl loose) ↦ inr (inl (Loose-then p c d v 1 (length qs) (length (q ∷ qs)) g u x (omega arith) m.led m.voter loose))
+            | inr (inr rest) ↦ inr (inr (record {
+              more = record {
+                world = rest.more.world;
+                led = Led-more deal c (1 + length qs) (length (q ∷ qs)) u rest.more.world (omega arith) (Led-then deal c 1 (length qs) u x rest.more.world m.led rest.more.led);
+                voter = rest.more.voter ∙ m.voter;
+                held = λ r was. rest.more.held r (m.held r was);
+              };
+              all = λ r there member. elim (cases_eq r q) [
+                | inl same ↦ rest.more.held r (subst (λ i. holds (client_at x.clients d) i ≡ true) (sym same) (on.1 (subst (λ i. is_member (client_at u.clients d) i ≡ true) same member)))
+                | inr other ↦ rest.all r (has_rest q r qs other there) (ap (λ l. has l r) (m.led.same d).quorum ∙ member)
+              ];
+            }))
+          ]
+    ]
+
+pub all_hold : (f : ℕ → Bool) (l : List ℕ) → ((q : ℕ) → has l q ≡ true → f q ≡ true) → list_all f l ≡ true
+all_hold f [] all = refl
+all_hold f (x ∷ xs) all =
+    let here = all x (grind (arith, nat_tests)) in
+    let rest = all_hold f xs (λ q there. all q (grind (arith, nat_tests))) in
+    grind (arith, nat_tests)
+
+loosens : (laws : TogetherLaws) (p : Planned) (c d v : ℕ) (g : Grant) (u : WorldState) → Here p d v u → d ≢ c → (voter_at u.voters v).held ≡ Some g → holds (client_at u.clients d) v ≡ true → HasGrants (1 + length u.voters) u
+    → Somebody p (length u.voters) u ⊎ Loose p c d v (length u.voters) g u
+loosens laws p c d v g u h apart held has_v left =
+    let deal = dealing_of p.plans in
+    let n = length u.voters in
+    let count = length_range 0 n in
+    elim (tries_all laws p c d v g (range_with_len 0 n) u h apart held has_v (subst (λ k. HasGrants (1 + k) u) (sym count) left)) [
+      | inl e ↦ inl (Somebody-more p (length (range_with_len 0 n)) n u (omega arith) e)
+      | inr (inl loose) ↦ inr (Loose-then p c d v 0 (length (range_with_len 0 n)) n g u u (omega arith) (Led-self deal c 0 u) refl loose)
+      | inr (inr all) ↦
+          let x = all.more.world in
+          let led = all.more.led in
+          let here = Here-led p c (length (range_with_len 0 n)) d v u x led h in
+          let ok = laws.alone.fitting.coherent (with_state p u) h.reached in
+          let lacks = (Fits-reached laws.alone.fitting (with_state p x) here.reached).lacks d here.asks in
+          absurd (false≢true (sym lacks ∙ all_hold (holds (client_at x.clients d)) (members (client_at x.clients d)) (λ q there.
+              let member : is_member (client_at u.clients d) q ≡ true = ap (λ l. has l q) (sym (led.same d).quorum) ∙ there in
+              let within = ok.members d q member in
+              all.all q (has_range 0 n q (omega arith) (omega arith)) member)))
+    ]
+
+-- ---- the vote goes back
+
+pub returns : (laws : TogetherLaws) (p : Planned) (c d v : ℕ) (g : Grant) (u : WorldState) → Leads u c → Here p d v u → d ≢ c → IsEntry (voter_at u.voters v) c (client_at u.clients c).stamp → (voter_at u.voters v).held ≡ Some g → g.client ≡ d
+    → g.stamp ≡ (client_at u.clients d).stamp → holds (client_at u.clients d) v ≡ true → HasGrants (1 + length u.voters) u → Somebody p (length u.voters) u ⊎ Returns p c d v (length u.voters) g u
+returns laws p c d v g u leads h apart entry held own stamp has_v left =
+    let deal = dealing_of p.plans in
+    let n = length u.voters in
+    elim (loosens laws p c d v g u h apart held has_v left) [
+      | inl e ↦ inl e
+      | inr loose ↦
+          let x = loose.world in
+          let led = loose.led in
+          elim loose.loose [
+            | inr last ↦ inr (record { world = x; led = led; voter = loose.voter; last = last })
+            | inl stuck ↦
+                let here = Here-led p c n d v u x led h in
+                let waits = entry_waits (voter_at u.voters v) c (client_at u.clients c).stamp g entry held (λ same. apart (sym own ∙ same)) in
+                let ahead = subst (λ (r : Request). precedes (request_at u c) r ≡ true) (sym (λ i. record { stamp = stamp i; client = own i })) (leads.first d apart h.asks) in
+                let inquiring = (Placed-reached laws (with_state p u) h.reached).back v g c (client_at u.clients c).stamp held waits ahead in
+                let back = gives_back laws p c d v x here apart stuck.1 stuck.0 g (ap (λ (z : VoterState). z.held) loose.voter ∙ held) own (ap (λ (z : VoterState). z.inquiring) loose.voter ∙ inquiring) in
+                inr (record {
+                  world = back.world;
+                  led = Led-more deal c (n + 0) n u back.world (omega arith) (Led-then deal c n 0 u x back.world led back.led);
+                  voter = back.voter ∙ loose.voter;
+                  last = back.last;
+                })
+          ]
+    ]
