@@ -4,7 +4,8 @@
 #
 #     bench/steps.sh [ROUNDS]      (1000000 rounds, 11 million steps, where none is given)
 #
-# The programs run in turn, nine times each. Prints what was done, the least nanoseconds a step of each, and their ratio.
+# The programs run in turn, nine times each. Prints what was done, the least nanoseconds a step of each, and their ratio. Then a
+# tenth of the rounds, in which whoever made a step is saved as bytes and restored from them, as in the library for C.
 # The proved program is crates/bench_steps.
 set -eu
 rounds=${1:-1000000}
@@ -35,3 +36,10 @@ done | awk -v steps=$((rounds * 11)) '
         if ("plain" in least)
             printf "plain Rust %.1f ns a step, ratio %.2f\n", least["plain"] / steps, least["proved"] / least["plain"]
     }'
+
+fewer=$(((rounds + 9) / 10))
+for run in 1 2 3 4 5 6 7 8 9; do
+    begin=$(date +%s%N)
+    "$work/proved" "$fewer" bytes > /dev/null
+    echo $(($(date +%s%N) - begin))
+done | sort -n | awk -v steps=$((fewer * 11)) 'NR == 1 { printf "proved, by bytes %.0f ns a step\n", $1 / steps }'

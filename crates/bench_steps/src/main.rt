@@ -1,13 +1,16 @@
 //! Measures steps of the automata: two clients take turns at the lock of one voter, in a number of
 //! rounds. Prints how many steps were made, and how often a client was inside.
 //!
-//! `bench_steps ROUNDS`, with 0 to 4294967295 rounds of 11 steps. `bench/steps.sh` runs it and
-//! measures the time.
+//! `bench_steps ROUNDS`, with 0 to 4294967295 rounds of 11 steps. After `bench_steps ROUNDS bytes`
+//! whoever made a step is saved as bytes and restored from them. `bench/steps.sh` measures the time.
 #![tactic(auto)]
 
 ghost use Rattle.std.specs.Prelude.{◌≡◌};
 
+mod by_bytes;
+
 use arrayvec::ArrayVec;
+use by_bytes::{client_by_bytes, voter_by_bytes};
 use message::{ToClient, ToVoter};
 use numbers::MAX_STAMP;
 use quorum_set::QSet;
@@ -26,13 +29,15 @@ struct Lock {
     answers: Messages,
     steps: u64,
     entered: u64,
+    /// Whether who made a step is then saved as bytes and restored.
+    saves: bool,
     ghost voter_is: { voter.id ≡ 0 },
     ghost first_is: { first.id ≡ 0 },
     ghost second_is: { second.id ≡ 1 },
 }
 
 impl Lock {
-    fn new() -> Lock {
+    fn new(saves: bool) -> Lock {
         Lock {
             voter: Voter::new(0, MAX_STAMP),
             first: Requester::new(0, MAX_STAMP),
@@ -40,6 +45,7 @@ impl Lock {
             answers: ArrayVec::new(),
             steps: 0,
             entered: 0,
+            saves,
         }
     }
 
@@ -48,6 +54,22 @@ impl Lock {
         self.steps = self.steps.saturating_add(1);
         if seen == Seen::Entered {
             self.entered = self.entered.saturating_add(1);
+        }
+    }
+
+    /// Takes the voter through bytes.
+    fn keep_voter(&mut self) {
+        if self.saves {
+            voter_by_bytes(&mut self.voter);
+        }
+    }
+
+    /// Takes a client through bytes: the first one, or the second.
+    fn keep_client(&mut self, client: u8) {
+        match client {
+            _ if !self.saves => {}
+            0 => client_by_bytes(&mut self.first),
+            _ => client_by_bytes(&mut self.second),
         }
     }
 
@@ -62,6 +84,7 @@ impl Lock {
             _ => return,
         };
         self.count(seen);
+        self.keep_client(message.client);
     }
 
     /// Has the voter take a message, and the clients its replies.
@@ -73,17 +96,25 @@ impl Lock {
             return;
         }
         self.count(Seen::Nothing);
+        self.keep_voter();
         for reply in replies.as_slice() {
             self.tell_client(reply);
         }
     }
 
     /// Sends the messages of a client's call to the voter.
-    fn send(&mut self, called: Result<Seen, ClientFault>, sent: &Messages, replies: &mut Replies) {
+    fn send(
+        &mut self,
+        client: u8,
+        called: Result<Seen, ClientFault>,
+        sent: &Messages,
+        replies: &mut Replies,
+    ) {
         let Ok(seen) = called else {
             return;
         };
         self.count(seen);
+        self.keep_client(client);
         for message in sent.as_slice() {
             self.tell_voter(message, replies);
         }
@@ -96,33 +127,38 @@ impl Lock {
             return;
         }
         let called = self.first.ask_into(quorum, out);
-        self.send(called, out, replies);
+        self.send(0, called, out, replies);
         let called = self.second.ask_into(quorum, out);
-        self.send(called, out, replies);
+        self.send(1, called, out, replies);
         let called = self.first.leave_into(out);
-        self.send(called, out, replies);
+        self.send(0, called, out, replies);
         let called = self.second.leave_into(out);
-        self.send(called, out, replies);
+        self.send(1, called, out, replies);
     }
 }
 
-/// Returns the number of rounds on the command line.
-fn rounds_of(rt: &HostRuntime) -> Option<u32> {
+/// Returns the number of rounds on the command line, and whether `bytes` follows it.
+fn words_of(rt: &HostRuntime) -> Option<(u32, bool)> {
     let Ok(mut words) = env::args(rt) else {
         return None;
     };
     let _ = words.next();
-    words.next()?.parse::<u32>().ok()
+    let rounds = words.next()?.parse::<u32>().ok()?;
+    match words.next() {
+        None => Some((rounds, false)),
+        Some(word) if word.as_str() == "bytes" => Some((rounds, true)),
+        Some(_) => None,
+    }
 }
 
 fn main(rt: HostRuntime) -> ExitCode {
-    let Some(rounds) = rounds_of(&rt) else {
-        let _ = rt.eprintln("bench_steps: how many rounds?");
+    let Some((rounds, saves)) = words_of(&rt) else {
+        let _ = rt.eprintln("bench_steps: how many rounds? And `bytes`, or nothing more");
         return ExitCode::from(2);
     };
     let mut quorum = QSet::empty();
     quorum.insert(0);
-    let mut lock = Lock::new();
+    let mut lock = Lock::new(saves);
     let mut out = ArrayVec::new();
     let mut replies = ArrayVec::new();
     for _ in 0..rounds {

@@ -160,6 +160,17 @@ IsNew-without r (q ∷ rs) = elim (eqb q.client r.client) as (λ b. eqb q.client
   | false ↦ λ e. (is_new_step q.client r.client e, IsNew-without r rs)
 ] refl
 
+found_head : (c k t : ℕ) (o : Option ℕ) → cond (eqb c k) (Some t) o ≡ None → (c ≢ k) × (o ≡ None)
+found_head c k t o e = grind (arith, nat_tests)
+
+-- a client without a request is the client of none of these
+new_of : (r : Request) (rs : List Request) → stamp_in r.client rs ≡ None → IsNew r rs
+new_of r [] e = tt
+new_of r (q ∷ rs) e = let h = found_head r.client q.client q.stamp _ e in (h.0, new_of r rs h.1)
+
+pub IsNew-from_get : (r : Request) (rs : List Request) → get (waiting_of rs) r.client ≡ None → IsNew r rs
+IsNew-from_get r rs e = new_of r rs (sym (get-waiting_of rs r.client) ∙ e)
+
 -- ---- how many can wait
 
 clients : List Request → List ℕ
@@ -207,10 +218,13 @@ waiting_of-none = refl
 removed_first : (c q s : ℕ) (o : Option ℕ) → cond (eqb q c) (Some s) (cond (eqb q c) None o) ≡ cond (eqb q c) (Some s) o
 removed_first c q s o = grind (arith, nat_tests)
 
-pub insert-remove : (w : Waiting) (c s : ℕ) → fin.insert (fin.remove w c) c s ≡ fin.insert w c s
-insert-remove w c s = Waiting-same _ _ (λ q. fin.get-insert nat_cmp_total (fin.remove w c) c s q ∙ ap (cond (eq_by_cmp nat_cmp q c) (Some s)) (fin.get-remove nat_cmp_total w c q)
+pub insert_removed : (w : Waiting) (c s : ℕ) → fin.insert (fin.remove w c) c s ≡ fin.insert w c s
+insert_removed w c s = Waiting-same _ _ (λ q. fin.get-insert nat_cmp_total (fin.remove w c) c s q ∙ ap (cond (eq_by_cmp nat_cmp q c) (Some s)) (fin.get-remove nat_cmp_total w c q)
     ∙ ap (λ b. cond b (Some s) (cond b None (get w q))) (eq_by_cmp-nat q c) ∙ removed_first c q s (get w q)
     ∙ sym (fin.get-insert nat_cmp_total w c s q ∙ ap (λ b. cond b (Some s) (get w q)) (eq_by_cmp-nat q c)))
+
+pub get_removed : (w : Waiting) (c : ℕ) → get (fin.remove w c) c ≡ None
+get_removed w c = fin.get-remove nat_cmp_total w c c ∙ ap (λ b. cond b None (get w c)) (eq_by_cmp-nat c c) ∙ grind (arith, nat_tests)
 
 pub front-insert : (w : Waiting) (c s : ℕ) → is_some (front (fin.insert w c s)) ≡ true
 front-insert w c s = front-some (fin.insert w c s) c s (fin.get-insert nat_cmp_total w c s c ∙ ap (λ b. cond b (Some s) (get w c)) (eq_by_cmp-nat c c) ∙ grind (arith, nat_tests))

@@ -127,14 +127,15 @@ fn stamp_at(words: &[u64], client: u8) -> u64
     words[client as usize]
 }
 
-/// Adds the client's request, unless its stamp is 0.
+/// Adds the request of a client that doesn't wait yet, unless the stamp is 0.
 fn add(queue: &mut Queue, client: u8, stamp: u64)
-    requires { client < max_clients }
+    requires client { client < max_clients }
+    requires first { map.get queue.old client ≡ None }
     ensures some { 0 < stamp → queue.new ≡ map.insert queue.old client stamp }
     ensures none { stamp ≡ 0 → queue.new ≡ queue.old }
 {
     if stamp > 0 {
-        queue.insert(Request { stamp, client });
+        queue.add(Request { stamp, client });
     }
 }
 

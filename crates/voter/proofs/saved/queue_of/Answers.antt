@@ -1,4 +1,5 @@
-use Rattle.std.proofs.Common.{ap, ◌∙◌}
+use Rattle.std.proofs.Common.{ap, ◌∙◌, arith}
+use Rattle.std.proofs.lemmas.Bool.Decides.{nat_tests}
 use Rattle.std.specs.Prelude.{slice_index}
 use Rattle.std.specs.FinMap.{get}
 use Rattle.voter.specs.Saved.{stamp_of_word}
@@ -10,3 +11,6 @@ loop-client-init c = λ q. ap (λ w. get w q) c.new-queue.ensures ∙ Fills-star
 
 pub loop-client-preserved : goal.loop-client-preserved
 loop-client-preserved c = Fills-step c.loop-client.queue c.add.new.queue c.args.words.now c.loop-client.client c.stamp_at-stamp.result c.loop-client.invariant c.stamp_at-stamp.ensures c.add.ensures.some c.add.ensures.none
+
+pub add-requires-clause-first : goal.add-requires-clause-first
+add-requires-clause-first c = c.loop-client.invariant c.loop-client.client ∙ grind (arith, nat_tests)
