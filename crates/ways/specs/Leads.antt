@@ -1,0 +1,31 @@
+-- Steps that lead from a world to a later one, and help its clients.
+use Rattle.std.specs.Prelude.{ℕ, ◌≡◌, List, length}
+use Rattle.std.specs.List.{AllByRecursion}
+use Rattle.progress.specs.WayIn.{Helps, IsWayIn}
+use Rattle.world.specs.declared.step.Step.{Step}
+use Rattle.world.specs.Runs.{run_of}
+use Rattle.world.specs.Steps.{Planned, dealing_of}
+use Rattle.ways.specs.declared.make.Went.{Went}
+use Rattle.ways.specs.declared.make.Went.TheVariants.{On, In, Lost}
+
+-- the steps lead from the old world to the new one
+pub record Lead (old new : Planned) (steps : List Step) : Type 0 where
+  pub plans : new.plans ≡ old.plans
+  pub state : new.state ≡ run_of (dealing_of old.plans) steps old.state
+
+-- the steps lead there and help, and nobody entered or left
+pub record LeadsOn (old new : Planned) (steps : List Step) : Type 0 where
+  pub leads : Lead old new steps
+  pub helps : AllByRecursion (Helps (length old.state.sent)) steps
+  pub visible : new.state.visible ≡ old.state.visible
+
+-- the steps lead there, and are a way in for this client
+pub record LeadsIn (old new : Planned) (c : ℕ) (steps : List Step) : Type 0 where
+  pub leads : Lead old new steps
+  pub way : IsWayIn (dealing_of old.plans) old.state c steps
+
+-- where the steps lead, by how the world goes on
+abbrev pub Leads : Planned → Went → Planned → List Step → Type 0
+Leads old On new steps = LeadsOn old new steps
+Leads old (In c) new steps = LeadsIn old new c steps
+Leads old Lost new steps = Unit {0}
