@@ -10,6 +10,8 @@ use message::{ClientBody, Message, ToClient, ToVoter, VoterBody};
 use replay::Script;
 use requester::{Phase, Requester, Seen};
 use std::alloc::{AllocError, Global};
+use voter::Voter;
+use ways::let_in;
 use world::{Step, World, WorldFault};
 
 /// Returns the client that has the vote of a voter, if there is one.
@@ -270,9 +272,77 @@ fn clients_words(
     Ok(text)
 }
 
+/// Appends the line of a vote that is out for a request that is over, so that only a reminder of its
+/// voter frees it. Appends nothing for any other vote.
+fn push_stale_vote(
+    text: &mut String,
+    named: &Named,
+    world: &World,
+    number: u8,
+) -> Result<(), AllocError> {
+    let Some(grant) = world.voter(number).and_then(Voter::held) else {
+        return Ok(());
+    };
+    let Some(holder) = world.client(grant.client) else {
+        return Ok(());
+    };
+    let name = name_of(named, number);
+    let client = grant.client;
+    if holder.phase() == Phase::Idle {
+        write!(
+            text,
+            "  {name}: client {client} has its vote, and wants nothing: remind {name}\n"
+        )
+    } else if holder.stamp() != grant.stamp {
+        write!(
+            text,
+            "  {name}: client {client} has its vote by an older request: remind {name}\n"
+        )
+    } else {
+        Ok(())
+    }
+}
+
+/// Appends a way by which a client gets in: who is reminded, and which messages arrive. Makes its
+/// steps.
+fn push_way_in(
+    alloc: Global,
+    text: &mut String,
+    named: &Named,
+    world: &mut World,
+) -> Result<(), AllocError> {
+    let Some(way) = let_in(alloc, world)? else {
+        return Ok(());
+    };
+    let client = way.client;
+    write!(text, "\nA way for client {client} to get in:\n")?;
+    for step in &way.steps {
+        text.push_str("  ")?;
+        push_step(text, named, world, *step)?;
+        text.push('\n')?;
+    }
+    Ok(())
+}
+
+/// Returns what is so at the end: what each client does, which votes are out for nothing, and, if
+/// clients wait while nobody is inside, a way in.
+fn ending_words(
+    alloc: Global,
+    named: &Named,
+    world: &mut World,
+    clients: u8,
+) -> Result<String, AllocError> {
+    let mut text = clients_words(alloc, named, world, clients)?;
+    for voter in 0..64u8 {
+        push_stale_vote(&mut text, named, world, voter)?;
+    }
+    push_way_in(alloc, &mut text, named, world)?;
+    Ok(text)
+}
+
 /// Returns a script's run in words: a line for each step, a line for each message that it sends,
-/// and at the end what each client does and whom it waits for. The plan is one of the named
-/// coterie. Fails only if memory runs out.
+/// and at the end what each client does and whom it waits for. If clients wait while nobody is
+/// inside, a way in follows. The plan is one of the named coterie. Fails only if memory runs out.
 pub fn world_words(
     alloc: Global,
     named: &Named,
@@ -283,7 +353,7 @@ pub fn world_words(
 {
     let mut world = world_of(alloc, plan, script)?;
     let steps = steps_words(alloc, named, &mut world, script.steps())?;
-    let clients = clients_words(alloc, named, &world, script.clients())?;
-    let page = format!(in alloc; "{steps}\nAt the end:\n{clients}")?;
+    let ending = ending_words(alloc, named, &mut world, script.clients())?;
+    let page = format!(in alloc; "{steps}\nAt the end:\n{ending}")?;
     Ok(page)
 }
