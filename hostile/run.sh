@@ -12,9 +12,11 @@
 #   of the answer with `I4 WriteFault` and status 3;
 # - each read and each write moves one byte, once: the command has to write what it always writes.
 #
-# After these comes a program of its own, `crates/demo_hostile`, in which one member of a running cluster goes through the lock. A
-# growth that is refused once has to end it with `O1 OutOfMemory`, or to change nothing, or to lose exactly one message, which the
-# member makes up for by a reminder. The last has to happen in three runs, since the logs of two nodes and a mailbox grow.
+# After these comes a program of its own, `crates/demo_hostile`. Two members of a running cluster go through the lock while a gate
+# holds the second one up at one of four places. A growth that is refused once has to end the program with `O1 OutOfMemory`, or to
+# change nothing, or to lose exactly one message. Each run has to end: the first member makes up for the loss by a reminder, or spends
+# its turns. How many runs lose a message, and how they end, is known for each hold. The same goes for the calls of one member: each
+# kind of call counts the message that it lost.
 #
 # Says for each case how many runs there were, prints each run that was wrong, and ends with `N runs, M wrong`, with status 1
 # where M is not 0. It needs a C compiler and glibc (Debian: gcc, libc6-dev) for `refuse.c`, which refuses and fails.
@@ -35,10 +37,11 @@ command -v "$compiler" > /dev/null || { echo "hostile/run.sh: there is no C comp
 "$root/qlock" make majority 3 > "$work/majority.toml"
 program=$root/build/qlock
 
-# runs the case with these settings, and keeps what it prints, its status, and whether it met anything
+# runs the case with these settings, and keeps what it prints, its status, and whether it met anything; a run that does not end in two
+# minutes has status 124
 hostile() {
     status=0
-    env "$@" HOSTILE_MET="$work/met" LD_PRELOAD="$work/refuse.so" "$program" "${words[@]}" < "$input" > "$work/out" 2> "$work/err" || status=$?
+    timeout 120 env "$@" HOSTILE_MET="$work/met" LD_PRELOAD="$work/refuse.so" "$program" "${words[@]}" < "$input" > "$work/out" 2> "$work/err" || status=$?
     runs=$((runs + 1))
     met=
     [ ! -s "$work/met" ] || met=1
@@ -165,39 +168,67 @@ said() {
     [ "$status" -eq 0 ] && [ ! -s "$work/err" ] && [ "$(cat "$work/out")" = "$1" ]
 }
 
-# tries each growth of a member's cluster, once and for good
-try_member() {
-    label='a member of a cluster' passes='' input=/dev/null words=()
-    case "$label" in *"$word"*) ;; *) return 0 ;; esac
-    local before=$runs losses=0 n=1
+# builds the program of the members; what `rt ci` has proved and built is taken as it is
+build_members() {
     program=$root/crates/demo_hostile/out/demo_hostile
-    # what `rt ci` has proved and built is taken as it is
     if [ ! -x "$program" ] || [ -n "$(find "$root/crates.txt" "$root"/crates/*/src -newer "$program" -print -quit)" ]; then
         (cd "$root/crates/demo_hostile" && rt run > /dev/null 2>&1) || { echo "hostile/run.sh: crates/demo_hostile does not build" >&2; exit 1; }
     fi
+}
+
+# tries each growth of the program of the members with this word, once and for good: its word, the line that it prints where nothing is
+# lost, and each other line that it may print, after the number of runs that have to print it
+try_members() {
+    label="members: $1" passes='' input=/dev/null words=("$1")
+    local usual=$2 before=$runs n=1
+    shift 2
+    case "$label" in *"$word"*) ;; *) return 0 ;; esac
+    build_members
+    : > "$work/others"
     met=1
     while [ -n "$met" ]; do
         hostile HOSTILE_GROWTH=$n HOSTILE_ONCE=1
         if [ -z "$met" ]; then
-            said 'passed, lost 0' || complain "no growth refused"
-        elif said 'passed, lost 1'; then
-            losses=$((losses + 1))
-        else
-            ended_by 'O1 OutOfMemory' 4 || said 'passed, lost 0' || complain "growth $n, once"
+            said "$usual" || complain "no growth refused"
+        elif ! ended_by 'O1 OutOfMemory' 4 && ! said "$usual"; then
+            { [ "$status" -eq 0 ] && [ ! -s "$work/err" ]; } || complain "growth $n, once"
+            cat "$work/out" >> "$work/others"
         fi
         n=$((n + 1))
     done
-    [ "$losses" -eq 3 ] || complain "$losses runs lost a message, and not 3"
+    sort "$work/others" | uniq -c | sed 's/^ *//' > "$work/found"
+    printf '%s\n' "$@" | sort > "$work/wanted"
+    sort "$work/found" | cmp -s - "$work/wanted" || { complain "other runs end in other ways"; cat "$work/found"; }
     n=1 met=1
     while [ -n "$met" ]; do
         hostile HOSTILE_GROWTH=$n HOSTILE_FOR_GOOD=1
-        if [ -n "$met" ]; then ended_by 'O1 OutOfMemory' 4 || complain "growth $n, for good"; else said 'passed, lost 0' || complain "no growth refused"; fi
+        if [ -n "$met" ]; then ended_by 'O1 OutOfMemory' 4 || complain "growth $n, for good"; else said "$usual" || complain "no growth refused"; fi
         n=$((n + 1))
     done
     printf '%-40s %6d runs\n' "$label" $((runs - before))
 }
 
-try_member
+# Of the first member two logs and its mailbox grow, and of the second one a log and its mailbox; the one that asks first has two logs.
+# With 'drawn', if voter 0 loses the first member's request, it gives its vote to the second one, which is held up. With 'inside', the
+# first member's reminder is the fourth message to voter 0, so the second one's RELEASE is lost as well. If there is no memory for a
+# thread, the first member works before the second one, and the gate is late.
+try_members before 'passed passed, lost 0 0, register 2' \
+    '3 passed passed, lost 1 0, register 2' '2 passed passed, lost 0 1, register 2'
+try_members drawn 'passed passed, lost 0 0, register 2' \
+    '2 passed passed, lost 1 0, register 2' '1 K2 passed, lost 1 0, register 1' '2 passed passed, lost 0 1, register 2' \
+    '2 passed passed, lost 0 0, register 2, late'
+try_members inside 'K2 passed, lost 0 0, register 1' \
+    '2 K2 passed, lost 1 0, register 1' '4 K2 passed, lost 0 1, register 1' '2 passed passed, lost 0 0, register 2, late'
+try_members shut 'passed K2, lost 0 0, register 1' \
+    '2 passed K2, lost 1 0, register 1' '3 passed K2, lost 0 1, register 1' '2 passed K2, lost 0 0, register 1, late'
+# the logs of three voters and the mailbox grow as messages come; a receipt and a pass number need memory, and the call is made again
+try_members calls '2 passes, ask 0, pump 0, remind 0, leave 0, give_up 0, refused 0' \
+    '4 2 passes, ask 1, pump 0, remind 0, leave 0, give_up 0, refused 0' \
+    '3 2 passes, ask 0, pump 1, remind 0, leave 0, give_up 0, refused 0' \
+    '2 2 passes, ask 0, pump 0, remind 1, leave 0, give_up 0, refused 0' \
+    '3 2 passes, ask 0, pump 0, remind 0, leave 1, give_up 0, refused 0' \
+    '3 2 passes, ask 0, pump 0, remind 0, leave 0, give_up 1, refused 0' \
+    '2 2 passes, ask 0, pump 0, remind 0, leave 0, give_up 0, refused 1'
 
 printf '%d runs, %d wrong\n' "$runs" "$wrong"
 [ "$wrong" -eq 0 ]
