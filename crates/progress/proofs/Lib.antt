@@ -2,6 +2,7 @@ pub mod Alone
 pub mod Always
 pub mod Behind
 pub mod Counting
+pub mod Everybody
 pub mod Exchanges
 pub mod Fitting
 pub mod Hindering

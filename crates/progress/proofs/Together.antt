@@ -300,14 +300,18 @@ first_below u (suc n) = elim (is_asking (client_at u.clients n).phase) as (λ b.
   ]
 ] refl
 
-asks_within : (u : WorldState) (d : ℕ) → is_asking (client_at u.clients d).phase ≡ true → d < length u.clients
+pub asks_within : (u : WorldState) (d : ℕ) → is_asking (client_at u.clients d).phase ≡ true → d < length u.clients
 unfolding client_at
 asks_within u d asks = elim (cases_lt d (length u.clients)) [
   | inl within ↦ within
   | inr beyond ↦ absurd (false≢true (ap (λ (x : ClientState). is_asking x.phase) (sym (get_or_past u.clients d (requester.start 0 1) beyond)) ∙ asks))
 ]
 
-pub lets_in : TogetherLaws → (w : Planned) (c : ℕ) → IsReached w → Asks w.state c → IsFree w.state → HasGrants (length w.state.voters * one_vote w.state) w.state → Somebody w (length w.state.voters * one_vote w.state) w.state
+-- how many grants one entry takes
+abbrev pub one_entry : WorldState → ℕ
+one_entry u = length u.voters * one_vote u
+
+pub lets_in : TogetherLaws → (w : Planned) (c : ℕ) → IsReached w → Asks w.state c → IsFree w.state → HasGrants (one_entry w.state) w.state → Somebody w (one_entry w.state) w.state
 lets_in laws w c r asks free left =
     let u = w.state in
     elim (first_below u (length u.clients)) [

@@ -23,5 +23,5 @@
 mod laws;
 
 pub use laws::{
-    lost_votes_come_back, nobody_overtakes_often, returned_votes_go_on, somebody_can_enter, who_asks_alone_gets_in,
+    everybody_can_enter, lost_votes_come_back, nobody_overtakes_often, returned_votes_go_on, somebody_can_enter, who_asks_alone_gets_in,
 };
