@@ -178,7 +178,7 @@ GetsIn-after deal c u x rest a g = record {
   enters = (let count = entered_by-append c a.more g.more in let some = g.enters in omega arith);
 }
 
-Served-enters : (deal : Dealing) (e n : ℕ) (u : WorldState) → (a : EntersBy deal e n u) → Served deal u a.world
+Served-enters : (deal : Dealing) (e : ℕ) (n : ℕ → ℕ) (u : WorldState) → (a : EntersBy deal e n u) → Served deal u a.world
 Served-enters deal e n u a = record { steps = a.steps; serves = helps_serve (length u.sent) a.steps a.helps; run = a.run; sent = a.sent; more = events e Entered; visible = a.visible }
 
 -- ---- a client leaves
@@ -245,7 +245,7 @@ Reached-served : (p : Planned) (u x : WorldState) → Served (dealing_of p.plans
 Reached-served p u x a r = subst (λ (z : WorldState). IsReached (with_state p z)) a.run (IsReached-run p a.steps u r)
 
 same_entry : (u x : WorldState) → length x.voters ≡ length u.voters → length x.clients ≡ length u.clients → one_entry x ≡ one_entry u
-same_entry u x voters clients i = voters i * (voters i + clients i + 2)
+same_entry u x voters clients i = voters i + clients i + 3
 
 serves_all : (laws : LeavingLaws) (p : Planned) (c k t : ℕ) (u : WorldState) → one_entry u ≡ k → total weight u ≤ t → IsReached (with_state p u) → Asks u c → HasGrants (total asking_one u * k) u → (steps : List Step) × GetsIn (dealing_of p.plans) u c steps
 unfolding total weight asking_one
@@ -277,7 +277,7 @@ serves_all laws p c k (suc t) u is most r asks left = elim (inside_below u (leng
       let e = one.who in
       let way = one.enters in
       let x = way.world in
-      let served = Served-enters (dealing_of p.plans) e (one_entry u) u way in
+      let served = Served-enters (dealing_of p.plans) e (λ r. one_entry u) u way in
       elim (cases_eq e c) [
         | inl same ↦ (served.steps, record {
           serves = served.serves;
@@ -302,7 +302,7 @@ serves_all laws p c k (suc t) u is most r asks left = elim (inside_below u (leng
       ]
 ]
 
-pub everybody_gets_in : LeavingLaws → (w : Planned) (c : ℕ) → IsReached w → Asks w.state c → HasGrants (length w.state.clients * (length w.state.voters * (length w.state.voters + length w.state.clients + 2))) w.state
+pub everybody_gets_in : LeavingLaws → (w : Planned) (c : ℕ) → IsReached w → Asks w.state c → HasGrants (length w.state.clients * (length w.state.voters + length w.state.clients + 3)) w.state
     → (steps : List Step) × GetsIn (dealing_of w.plans) w.state c steps
 unfolding total
 everybody_gets_in laws w c r asks left =

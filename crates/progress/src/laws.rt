@@ -123,7 +123,7 @@ pub fn who_asks_alone_gets_in()
 /// the world as many as there are voters and clients, and two more.
 pub fn somebody_can_enter()
     ensures { (w : Planned) (c : ℕ) → IsReached w → Asks w.state c → IsFree w.state
-        → HasGrants (length w.state.voters * (length w.state.voters + length w.state.clients + 2)) w.state
+        → HasGrants (length w.state.voters + length w.state.clients + 3) w.state
         → (steps : List Step) × (d : ℕ) × IsWayIn (dealing_of w.plans) w.state d steps }
 {
     requesters_meet_the_contract();
@@ -158,7 +158,7 @@ pub fn somebody_can_enter()
 /// get in first.
 pub fn everybody_can_enter()
     ensures { (w : Planned) (c : ℕ) → IsReached w → Asks w.state c
-        → HasGrants (length w.state.clients * (length w.state.voters * (length w.state.voters + length w.state.clients + 2))) w.state
+        → HasGrants (length w.state.clients * (length w.state.voters + length w.state.clients + 3)) w.state
         → (steps : List Step) × GetsIn (dealing_of w.plans) w.state c steps }
 {
     requesters_meet_the_contract();
