@@ -1,9 +1,7 @@
 -- whoever asks can still get in: those that are inside leave, and one client after the other gets in
-use Rattle.std.proofs.Common.{◌≡◌, ◌≢◌, ℕ, zero, suc, ◌+◌, ◌*◌, ◌<◌, ◌≤◌, Bool, true, false, List, [], ◌∷◌, ◌++◌, map, length, set, Option, Some, Ok, Result, refl, sym, ap, subst, ◌∙◌, ◌⊎◌, inl, inr, arith, length-append}
-use Rattle.std.specs.Prelude.{nat_lt}
+use Rattle.std.proofs.Common.{◌≡◌, ◌≢◌, ℕ, zero, suc, ◌+◌, ◌*◌, ◌<◌, ◌≤◌, true, false, List, [], ◌∷◌, ◌++◌, map, length, refl, sym, ap, subst, ◌∙◌, ◌⊎◌, inl, inr, arith, length-append}
 use Rattle.std.specs.List.{AllByRecursion}
 use Rattle.std.proofs.lemmas.Bool.{cases_eq, cases_lt, false≢true}
-use Rattle.std.proofs.lemmas.Bool.Decides.{nat_tests}
 use Rattle.std.proofs.lemmas.List.{get_or_past, length-set}
 use Rattle.message.specs.declared.message.Message.TheVariants as kinds
 use Rattle.requester.specs.declared.state.ClientState.{ClientState}
@@ -21,9 +19,9 @@ use Rattle.progress.specs.Overtaking.{entered_by}
 use Rattle.progress.specs.WayIn.{Asks, GetsIn, HasGrants, Helps, IsFree, Serves}
 use Rattle.progress.proofs.Counting.{entered_by-append, one_entered}
 use Rattle.progress.proofs.Exchanges.{below}
-use Rattle.progress.proofs.Hindering.{EntersBy, Somebody}
+use Rattle.progress.proofs.Led.{EntersBy}
 use Rattle.progress.proofs.Known.{LeavingLaws}
-use Rattle.progress.proofs.Moves.{IsReached-after, client_here, client_others, with_state}
+use Rattle.progress.proofs.Moves.{client_here, client_others, with_state}
 use Rattle.progress.proofs.Together.{asks_within, lets_in, one_entry}
 use Rattle.progress.proofs.Ways.{IsReached-run, run_then}
 
@@ -279,12 +277,15 @@ serves_all laws p c k (suc t) u is most r asks left = elim (inside_below u (leng
       let x = way.world in
       let served = Served-enters (dealing_of p.plans) e (λ r. one_entry u) u way in
       elim (cases_eq e c) [
-        | inl same ↦ (served.steps, record {
-          serves = served.serves;
-          more = events e Entered;
-          visible = ap (λ (z : WorldState). z.visible) served.run ∙ way.visible;
-          enters = subst (λ i. 1 ≤ entered_by i (events e Entered)) same (let count = one_entered e in omega arith);
-        })
+        | inl same ↦ (
+          served.steps,
+          record {
+            serves = served.serves;
+            more = events e Entered;
+            visible = ap (λ (z : WorldState). z.visible) served.run ∙ way.visible;
+            enters = subst (λ i. 1 ≤ entered_by i (events e Entered)) same (let count = one_entered e in omega arith);
+          },
+        )
         | inr apart ↦
             let within : e < length u.clients = asks_within u e one.asks in
             let was = asking_is (client_at u.clients e).phase one.asks in

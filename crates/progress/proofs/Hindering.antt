@@ -1,281 +1,42 @@
 -- how a client that has a vote, and does not precede another one, comes to give the vote back
-use Rattle.std.proofs.Common.{◌≡◌, ◌≢◌, ℕ, zero, suc, ◌+◌, ◌<◌, ◌≤◌, Bool, true, false, cond, eqb, List, [], ◌∷◌, ◌++◌, map, length, set, Option, Some, None, Ok, refl, sym, ap, subst, ◌∙◌, ◌⊎◌, inl, inr, arith, length-append}
-use Rattle.std.specs.Prelude.{◌&&◌, ◌||◌, not, nat_le, nat_lt, ◌==◌, if◌then◌else◌, max, slice_get, slice_index, slice_index_or}
+use Rattle.std.proofs.Common.{◌≡◌, ◌≢◌, ℕ, zero, suc, ◌+◌, ◌<◌, ◌≤◌, Bool, true, false, List, [], ◌∷◌, ◌++◌, map, length, set, Option, Some, None, refl, sym, ap, subst, ◌∙◌, ◌⊎◌, inl, inr, arith, length-append}
+use Rattle.std.specs.Prelude.{◌||◌, nat_le, nat_lt, ◌==◌, if◌then◌else◌, max, slice_get, slice_index, slice_index_or}
 use Rattle.std.specs.FinMap.{get}
-use Rattle.std.specs.List.{AllByRecursion, Contains, filter, list_all, list_any, range_with_len}
+use Rattle.std.specs.List.{filter, list_all, list_any, range_with_len}
 use Rattle.std.proofs.lemmas.Bool.{cases_eq, cases_lt, false≢true}
 use Rattle.std.proofs.lemmas.Bool.Decides.{nat_tests}
 use Rattle.std.proofs.lemmas.List.{append-nil, length-set}
 use Rattle.std.proofs.lemmas.Option.{none-some, same_Some}
-use Rattle.numbers.specs.Bounds.{max_voters}
 use Rattle.numbers.specs.Sets.{has}
 use Rattle.message.specs.declared.message.Message.TheVariants as kinds
 use Rattle.message.specs.declared.message.ToClient.{ToClient}
 use Rattle.message.specs.declared.message.ToVoter.{ToVoter}
 use Rattle.message.specs.declared.message.ClientBody.TheVariants as tells
-use Rattle.message.specs.declared.message.VoterBody.{VoterBody}
 use Rattle.message.specs.declared.message.VoterBody.TheVariants as asks
 use Rattle.message.specs.declared.request.Request.{Request}
 use Rattle.voter.specs.declared.state.Grant.{Grant}
 use Rattle.voter.specs.declared.state.VoterState.{VoterState}
-use Rattle.voter.specs.Entries.{request_of}
 use Rattle.voter.specs.Steps as voter
 use Rattle.voter.specs.VoterContract.{IsEntry}
 use Rattle.voter.specs.Waiting.{precedes}
 use Rattle.requester.specs.declared.state.ClientState.{ClientState}
-use Rattle.requester.specs.declared.state.Seen.TheVariants.{Entered, Nothing}
-use Rattle.requester.specs.declared.state.Phase.TheVariants.{Inside}
-use Rattle.requester.specs.Held.{IsGivenBack, IsKeptOrGiven}
+use Rattle.requester.specs.declared.state.Seen.TheVariants.{Nothing}
+use Rattle.requester.specs.Held.{IsGivenBack}
 use Rattle.requester.specs.RequesterContract.{AllSay, MeetsContract, Says}
 use Rattle.requester.specs.Soundness.{IsSound}
 use Rattle.requester.specs.Steps as requester
-use Rattle.requester.specs.Words.{held_of, holds, is_asking, is_covered, is_failed, is_hindered, is_idle, is_inquired, is_member, is_relinquished, last_of, members}
-use Rattle.world.specs.declared.step.Step.{Step}
-use Rattle.world.specs.declared.step.Step.TheVariants.{Deliver, RemindClient, RemindVoter}
-use Rattle.world.specs.Runs.{IsReached, after, run_of}
+use Rattle.requester.specs.Words.{held_of, holds, is_failed, is_hindered, is_inquired, is_member, is_relinquished, last_of, members}
+use Rattle.world.specs.declared.step.Step.TheVariants.{Deliver, RemindVoter}
+use Rattle.world.specs.Runs.{IsReached, run_of}
 use Rattle.world.specs.Steps.{Dealing, Planned, WorldState, client_at, client_did, dealing_of, events, step, voter_at}
-use Rattle.progress.specs.WayIn.{Helps, IsWayIn}
 use Rattle.progress.proofs.Exchanges.{after-deliver_client, after-remind_voter, get_next, reminded, spoken}
 use Rattle.progress.proofs.Fitting.{Fits-reached, asking_busy, grant_is, held_under, not_true}
 use Rattle.progress.proofs.Known.{AloneLaws, TogetherLaws}
 use Rattle.progress.proofs.Moves.{client_here, client_others, with_state}
 use Rattle.progress.proofs.Placed.{Placed-reached}
-use Rattle.progress.proofs.Ways.{EntersAt, Gains, Here, Here-went, IsReached-run, Leads, Leads-same, Went, asks_again, entry_waits, gets, has_range, hears, held_some, help_then, length_range, own_stamp, request_at, run_then}
-
--- ---- how many grants each voter gives
-
--- n at this voter, and none at the others
-unfoldable pub only : ℕ → ℕ → ℕ → ℕ
-only v n q = cond (eqb q v) n 0
-
-pub only_here : (v n q : ℕ) → q ≡ v → only v n q ≡ n
-unfolding only
-only_here v n q same = ap (λ b. cond b n 0) (let e : eqb q v ≡ true = grind (arith, nat_tests) in e)
-
-pub only_else : (v n q : ℕ) → q ≢ v → only v n q ≡ 0
-unfolding only
-only_else v n q other = ap (λ b. cond b n 0) (not_true (eqb q v) (λ is. other (grind (arith, nat_tests))))
-
-pub only_sum : (v n m q : ℕ) → only v n q + only v m q ≡ only v (n + m) q
-only_sum v n m q = elim (cases_eq q v) [
-  | inl same ↦ (let a = only_here v n q same in let b = only_here v m q same in let c = only_here v (n + m) q same in omega arith)
-  | inr other ↦ (let a = only_else v n q other in let b = only_else v m q other in let c = only_else v (n + m) q other in omega arith)
-]
-
-pub only_zero : (v q : ℕ) → only v 0 q ≡ 0
-only_zero v q = elim (cases_eq q v) [
-  | inl same ↦ only_here v 0 q same
-  | inr other ↦ only_else v 0 q other
-]
-
--- how often a voter is in a list
-pub times_in : List ℕ → ℕ → ℕ
-times_in [] r = 0
-times_in (q ∷ qs) r = only q 1 r + times_in qs r
-
-times_more : (q r : ℕ) (qs : List ℕ) → times_in (q ∷ qs) r ≡ only q 1 r + times_in qs r
-unfolding times_in
-times_more q r qs = refl
-
-times_none : (low n r : ℕ) → r < low → times_in (range_with_len low n) r ≡ 0
-unfolding times_in
-times_none low zero r less = refl
-times_none low (suc n) r less =
-    let first = only_else low 1 r (λ same. (let x : ⊥ = omega arith in x)) in
-    let rest = times_none (low + 1) n r (omega arith) in
-    omega arith
-
-times_once : (low n r : ℕ) → times_in (range_with_len low n) r ≤ 1
-unfolding times_in
-times_once low zero r = omega arith
-times_once low (suc n) r = elim (cases_eq r low) [
-  | inl same ↦ (let first = only_here low 1 r same in let rest = times_none (low + 1) n r (omega arith) in omega arith)
-  | inr other ↦ (let first = only_else low 1 r other in let rest = times_once (low + 1) n r in omega arith)
-]
-
--- no grants
-abbrev pub none : ℕ → ℕ
-none q = 0
-
--- one grant of each voter
-abbrev pub one_each : ℕ → ℕ
-one_each q = 1
-
--- each voter can give so many more grants
-abbrev pub Has : (ℕ → ℕ) → WorldState → Type 0
-Has n w = (v : ℕ) → v < length w.voters → (voter_at w.voters v).granted + n v ≤ (voter_at w.voters v).limit
-
--- ---- helping steps, and what they leave
-
-pub record SameRequest (x y : ClientState) : Type 0 where
-  pub phase : y.phase ≡ x.phase
-  pub stamp : y.stamp ≡ x.stamp
-  pub quorum : members y ≡ members x
-
--- Helping steps by which nobody enters: each request runs on, this client keeps its votes, and the voter q
--- gives at most n q grants.
-pub record Led (deal : Dealing) (c : ℕ) (n : ℕ → ℕ) (u x : WorldState) : Type 0 where
-  pub steps : List Step
-  pub helps : AllByRecursion (Helps (length u.sent)) steps
-  pub run : run_of deal steps u ≡ x
-  pub sent : length u.sent ≤ length x.sent
-  pub visible : x.visible ≡ u.visible
-  pub clients : length x.clients ≡ length u.clients
-  pub voters : length x.voters ≡ length u.voters
-  pub same : (d : ℕ) → SameRequest (client_at u.clients d) (client_at x.clients d)
-  pub held : (q : ℕ) → holds (client_at u.clients c) q ≡ true → holds (client_at x.clients c) q ≡ true
-  pub few : (q : ℕ) → (voter_at x.voters q).granted ≤ (voter_at u.voters q).granted + n q
-  pub limit : (q : ℕ) → (voter_at x.voters q).limit ≡ (voter_at u.voters q).limit
-
-pub Led-self : (deal : Dealing) (c : ℕ) (n : ℕ → ℕ) (u : WorldState) → Led deal c n u u
-Led-self deal c n u = record {
-  steps = [];
-  helps = tt;
-  run = refl;
-  sent = omega arith;
-  visible = refl;
-  clients = refl;
-  voters = refl;
-  same = λ d. record { phase = refl; stamp = refl; quorum = refl };
-  held = λ q has. has;
-  few = λ q. omega arith;
-  limit = λ q. refl;
-}
-
-pub Led-then : (deal : Dealing) (c : ℕ) (n m : ℕ → ℕ) (u x z : WorldState) → Led deal c n u x → Led deal c m x z → Led deal c (λ q. n q + m q) u z
-Led-then deal c n m u x z a b = record {
-  steps = a.steps ++ b.steps;
-  helps = help_then (length u.sent) (length x.sent) a.steps b.steps a.sent a.helps b.helps;
-  run = run_then deal a.steps b.steps u ∙ ap (run_of deal b.steps) a.run ∙ b.run;
-  sent = (let first = a.sent in let second = b.sent in omega arith);
-  visible = b.visible ∙ a.visible;
-  clients = b.clients ∙ a.clients;
-  voters = b.voters ∙ a.voters;
-  same = λ d. record { phase = (b.same d).phase ∙ (a.same d).phase; stamp = (b.same d).stamp ∙ (a.same d).stamp; quorum = (b.same d).quorum ∙ (a.same d).quorum };
-  held = λ q has. b.held q (a.held q has);
-  few = λ q. (let first = a.few q in let second = b.few q in omega arith);
-  limit = λ q. b.limit q ∙ a.limit q;
-}
-
-pub Led-more : (deal : Dealing) (c : ℕ) (n m : ℕ → ℕ) (u x : WorldState) → ((q : ℕ) → n q ≤ m q) → Led deal c n u x → Led deal c m u x
-Led-more deal c n m u x most a = record {
-  steps = a.steps;
-  helps = a.helps;
-  run = a.run;
-  sent = a.sent;
-  visible = a.visible;
-  clients = a.clients;
-  voters = a.voters;
-  same = a.same;
-  held = a.held;
-  few = λ q. (let first = a.few q in let more = most q in omega arith);
-  limit = a.limit;
-}
-
-pub Led-went : (deal : Dealing) (c v n : ℕ) (u x : WorldState) → Went deal v u x → (voter_at x.voters v).granted ≤ (voter_at u.voters v).granted + n → Led deal c (only v n) u x
-Led-went deal c v n u x a few = record {
-  steps = a.steps;
-  helps = a.helps;
-  run = a.run;
-  sent = a.sent;
-  visible = a.visible;
-  clients = a.clients;
-  voters = a.voters;
-  same = λ d. record { phase = (a.gains d).phase; stamp = (a.gains d).stamp; quorum = (a.gains d).quorum };
-  held = (a.gains c).held;
-  few = λ q. elim (cases_eq q v) [
-    | inl one ↦ (let here : (voter_at x.voters q).granted ≤ (voter_at u.voters q).granted + n = subst (λ i. (voter_at x.voters i).granted ≤ (voter_at u.voters i).granted + n) (sym one) few in let count = only_here v n q one in omega arith)
-    | inr other ↦ (let same = ap (λ (y : VoterState). y.granted) (a.others q other) in omega arith)
-  ];
-  limit = λ q. elim (cases_eq q v) [
-    | inl one ↦ subst (λ i. (voter_at x.voters i).limit ≡ (voter_at u.voters i).limit) (sym one) a.limit
-    | inr other ↦ ap (λ (y : VoterState). y.limit) (a.others q other)
-  ];
-}
-
-pub Here-led : (p : Planned) (c : ℕ) (n : ℕ → ℕ) (d v : ℕ) (u x : WorldState) → Led (dealing_of p.plans) c n u x → Here p d v u → Here p d v x
-Here-led p c n d v u x a h = record {
-  reached = subst (λ (z : WorldState). IsReached (with_state p z)) a.run (IsReached-run p a.steps u h.reached);
-  client = subst (λ k. d < k) (sym a.clients) h.client;
-  asks = ap is_asking (a.same d).phase ∙ h.asks;
-  asked = ap (λ l. has l v) (a.same d).quorum ∙ h.asked;
-}
-
-pub Leads-led : (deal : Dealing) (c : ℕ) (n : ℕ → ℕ) (u x : WorldState) → Led deal c n u x → Leads u c → Leads x c
-Leads-led deal c n u x a h = Leads-same u x c (λ d. (a.same d).phase) (λ d. (a.same d).stamp) h
-
--- Helping steps after which the client is inside: the other clients are as idle, asking or inside as
--- before, and the voter q gives at most n q grants.
-pub record EntersBy (deal : Dealing) (e : ℕ) (n : ℕ → ℕ) (u : WorldState) : Type 0 where
-  pub world : WorldState
-  pub steps : List Step
-  pub helps : AllByRecursion (Helps (length u.sent)) steps
-  pub run : run_of deal steps u ≡ world
-  pub sent : length u.sent ≤ length world.sent
-  pub visible : world.visible ≡ u.visible ++ events e Entered
-  pub clients : length world.clients ≡ length u.clients
-  pub voters : length world.voters ≡ length u.voters
-  pub inside : (client_at world.clients e).phase ≡ Inside
-  pub phases : (d : ℕ) → d ≢ e → (client_at world.clients d).phase ≡ (client_at u.clients d).phase
-  pub few : (q : ℕ) → (voter_at world.voters q).granted ≤ (voter_at u.voters q).granted + n q
-  pub limit : (q : ℕ) → (voter_at world.voters q).limit ≡ (voter_at u.voters q).limit
-
--- some client that asks gets in
-pub record Somebody (p : Planned) (n : ℕ → ℕ) (u : WorldState) : Type 0 where
-  pub who : ℕ
-  pub asks : is_asking (client_at u.clients who).phase ≡ true
-  pub enters : EntersBy (dealing_of p.plans) who n u
-
-pub Somebody-led : (p : Planned) (c : ℕ) (n m k : ℕ → ℕ) (u x : WorldState) → ((q : ℕ) → n q + m q ≤ k q) → Led (dealing_of p.plans) c n u x → Somebody p m x → Somebody p k u
-Somebody-led p c n m k u x most a one =
-    let e = one.enters in
-    record {
-      who = one.who;
-      asks = ap is_asking (sym (a.same one.who).phase) ∙ one.asks;
-      enters = record {
-        world = e.world;
-        steps = a.steps ++ e.steps;
-        helps = help_then (length u.sent) (length x.sent) a.steps e.steps a.sent a.helps e.helps;
-        run = run_then (dealing_of p.plans) a.steps e.steps u ∙ ap (run_of (dealing_of p.plans) e.steps) a.run ∙ e.run;
-        sent = (let first = a.sent in let second = e.sent in omega arith);
-        visible = e.visible ∙ ap (λ es. es ++ events one.who Entered) a.visible;
-        clients = e.clients ∙ a.clients;
-        voters = e.voters ∙ a.voters;
-        inside = e.inside;
-        phases = λ d other. e.phases d other ∙ (a.same d).phase;
-        few = λ q. (let first = a.few q in let second = e.few q in let all = most q in omega arith);
-        limit = λ q. e.limit q ∙ a.limit q;
-      };
-    }
-
-pub Somebody-more : (p : Planned) (n k : ℕ → ℕ) (u : WorldState) → ((q : ℕ) → n q ≤ k q) → Somebody p n u → Somebody p k u
-Somebody-more p n k u most one = Somebody-led p 0 none n k u u (λ q. (let all = most q in omega arith)) (Led-self (dealing_of p.plans) 0 none u) one
-
-pub somebody_at : (p : Planned) (e v top n : ℕ) (u : WorldState) → is_asking (client_at u.clients e).phase ≡ true → top ≤ (voter_at u.voters v).granted + n → EntersAt (dealing_of p.plans) e v top u → Somebody p (only v n) u
-somebody_at p e v top n u asks most a = record {
-  who = e;
-  asks = asks;
-  enters = record {
-    world = a.world;
-    steps = a.steps;
-    helps = a.helps;
-    run = a.run;
-    sent = a.sent;
-    visible = a.visible;
-    clients = a.clients;
-    voters = a.voters;
-    inside = a.inside;
-    phases = a.phases;
-    few = λ q. elim (cases_eq q v) [
-      | inl one ↦ (let here : (voter_at a.world.voters q).granted ≤ (voter_at u.voters q).granted + n = subst (λ i. (voter_at a.world.voters i).granted ≤ (voter_at u.voters i).granted + n) (sym one) (let few = a.few in omega arith) in let count = only_here v n q one in omega arith)
-      | inr other ↦ (let same = ap (λ (y : VoterState). y.granted) (a.others q other) in omega arith)
-    ];
-    limit = λ q. elim (cases_eq q v) [
-      | inl one ↦ subst (λ i. (voter_at a.world.voters i).limit ≡ (voter_at u.voters i).limit) (sym one) a.limit
-      | inr other ↦ ap (λ (y : VoterState). y.limit) (a.others q other)
-    ];
-  };
-}
+use Rattle.progress.proofs.Ways.{Here, Here-went, Leads, asks_again, entry_waits, gets, has_range, hears, held_some, help_then, own_stamp, request_at, run_then}
+use Rattle.progress.proofs.Counts.{CanGive, none, one_each, only, only_here, only_zero, times_in, times_more, times_once}
+use Rattle.progress.proofs.Led.{CanGive-led, Here-led, Led, Led-more, Led-self, Led-then, Led-went, SameRequest, Somebody, Somebody-led, Somebody-more, somebody_at}
 
 -- ---- FAIL and INQUIRE leave the request
 
@@ -571,6 +332,21 @@ any_member f (x ∷ xs) q there is = elim (cases_eq x q) [
 hindered_by : (x : ClientState) (q : ℕ) → is_member x q ≡ true → is_relinquished x q ≡ true → is_hindered x ≡ true
 hindered_by x q member given = any_member (λ v. is_failed x v || is_relinquished x v) (members x) q member (grind (arith, nat_tests))
 
+loose_by : (x z : ClientState) (v : ℕ) (g : Grant) → is_hindered z ≡ true → holds x v ≡ true → g.grant ≡ held_of x v → (held_of z v ≡ held_of x v) ⊎ (last_of z v ≡ held_of x v) → IsLoose v g z
+loose_by x z v g hindered has number votes = elim votes [
+  | inl stays ↦ inl (hindered, ap (λ n. nat_lt 0 n) stays ∙ has)
+  | inr given ↦ inr (given ∙ sym number)
+]
+
+loose_from : (p : Planned) (c d v q : ℕ) (g : Grant) (u w : WorldState) → Led (dealing_of p.plans) c (only q 1) u w → v ≢ q → voter_at w.voters v ≡ voter_at u.voters v → holds (client_at w.clients d) v ≡ true
+    → g.grant ≡ held_of (client_at w.clients d) v → Failed p c d q w → Loose p c d v (only q 1) g u
+loose_from p c d v q g u w led other same has number f = record {
+  world = f.world;
+  led = Led-more (dealing_of p.plans) c (λ r. only q 1 r + only q 0 r) (only q 1) u f.world (λ r. (let nothing = only_zero q r in omega arith)) (Led-then (dealing_of p.plans) c (only q 1) (only q 0) u w f.world led f.led);
+  voter = f.others v other ∙ same;
+  loose = loose_by (client_at w.clients d) (client_at f.world.clients d) v g f.hindered has number (f.votes v);
+}
+
 tries : (laws : TogetherLaws) (p : Planned) (c d v q : ℕ) (g : Grant) (u : WorldState) → Here p d v u → d ≢ c → (voter_at u.voters v).held ≡ Some g → holds (client_at u.clients d) v ≡ true → is_member (client_at u.clients d) q ≡ true
     → (voter_at u.voters q).granted + 2 ≤ (voter_at u.voters q).limit → Tried p c d v q g u
 tries laws p c d v q g u h apart held has member left = elim (holds (client_at u.clients d) q) as (λ b. holds (client_at u.clients d) q ≡ b → Tried p c d v q g u) [
@@ -604,12 +380,15 @@ tries laws p c d v q g u h apart held has member left = elim (holds (client_at u
                 | inl e ↦ inl (Somebody-led p c (only q 1) (only q 0) (only q 1) u w one_only led (somebody_at p d q (voter_at w.voters q).granted 0 w here.asks (omega arith) e))
                 | inr on ↦
                     let more = Led-went deal c q 0 w on.0 on.1 (let count = ap (λ vs. (voter_at vs q).granted) on.3 in omega arith) in
-                    inr (inr (record {
-                      world = on.0;
-                      led = Led-more deal c (λ r. only q 1 r + only q 0 r) (only q 1) u on.0 one_only (Led-then deal c (only q 1) (only q 0) u w on.0 led more);
-                      voter = ap (λ vs. voter_at vs v) on.3 ∙ kept;
-                      held = λ r was. (on.1.gains d).held r (ap (λ (z : ClientState). holds z r) same ∙ was);
-                    }, λ _. on.2))
+                    inr (inr (
+                      record {
+                        world = on.0;
+                        led = Led-more deal c (λ r. only q 1 r + only q 0 r) (only q 1) u on.0 one_only (Led-then deal c (only q 1) (only q 0) u w on.0 led more);
+                        voter = ap (λ vs. voter_at vs v) on.3 ∙ kept;
+                        held = λ r was. (on.1.gains d).held r (ap (λ (z : ClientState). holds z r) same ∙ was);
+                      },
+                      λ _. on.2,
+                    ))
               ]
               | inr most ↦
                   let pair = (Fits-reached laws.alone.fitting (with_state p w) here.reached).pairs d q in
@@ -619,25 +398,9 @@ tries laws p c d v q g u h apart held has member left = elim (holds (client_at u
         | inr unlike ↦
             let f = fails laws p c d q w here apart lacks k.0 k.1 unlike told.entry (omega arith) in
             let number = held_grant laws.alone p d v w here.reached g (ap (λ (z : VoterState). z.held) kept ∙ held) has_it in
-            inr (inl (record {
-              world = f.world;
-              led = Led-more deal c (λ r. only q 1 r + only q 0 r) (only q 1) u f.world one_only (Led-then deal c (only q 1) (only q 0) u w f.world led f.led);
-              voter = f.others v other ∙ kept;
-              loose = elim (f.votes v) [
-                | inl stays ↦ inl (f.hindered, ap (λ n. nat_lt 0 n) stays ∙ has_it)
-                | inr given ↦ inr (given ∙ sym number)
-              ];
-            }))
+            inr (inl (loose_from p c d v q g u w led other kept has_it number f))
       ]
 ] refl
-
-pub Has-led : (deal : Dealing) (c : ℕ) (m n k : ℕ → ℕ) (u x : WorldState) → ((q : ℕ) → m q + n q ≤ k q) → Led deal c m u x → Has k u → Has n x
-Has-led deal c m n k u x most a h v within =
-    let before = h v (subst (λ l. v < l) a.voters within) in
-    let few = a.few v in
-    let limit = a.limit v in
-    let all = most v in
-    omega arith
 
 -- one grant, and one for each time that the voter is in the list
 abbrev and_one : List ℕ → ℕ → ℕ
@@ -648,10 +411,10 @@ record AllTried (p : Planned) (c d v : ℕ) (n : ℕ → ℕ) (qs : List ℕ) (u
   more : More p c d v n u
   all : (r : ℕ) → has qs r ≡ true → is_member (client_at u.clients d) r ≡ true → holds (client_at more.world.clients d) r ≡ true
 
-has_rest : (q r : ℕ) (qs : List ℕ) → r ≢ q → has (q ∷ qs) r ≡ true → has qs r ≡ true
+pub has_rest : (q r : ℕ) (qs : List ℕ) → r ≢ q → has (q ∷ qs) r ≡ true → has qs r ≡ true
 has_rest q r qs other there = grind (arith, nat_tests)
 
-tries_all : (laws : TogetherLaws) (p : Planned) (c d v : ℕ) (g : Grant) (qs : List ℕ) (u : WorldState) → Here p d v u → d ≢ c → (voter_at u.voters v).held ≡ Some g → holds (client_at u.clients d) v ≡ true → Has (and_one qs) u
+tries_all : (laws : TogetherLaws) (p : Planned) (c d v : ℕ) (g : Grant) (qs : List ℕ) (u : WorldState) → Here p d v u → d ≢ c → (voter_at u.voters v).held ≡ Some g → holds (client_at u.clients d) v ≡ true → CanGive (and_one qs) u
     → Somebody p (times_in qs) u ⊎ Loose p c d v (times_in qs) g u ⊎ AllTried p c d v (times_in qs) qs u
 tries_all laws p c d v g [] u h apart held has_v left =
     inr (inr (record { more = record { world = u; led = Led-self (dealing_of p.plans) c (times_in []) u; voter = refl; held = λ r was. was }; all = λ r there. absurd (false≢true there) }))
@@ -671,7 +434,7 @@ tries_all laws p c d v g (q ∷ qs) u h apart held has_v left =
           let m = on.0 in
           let x = m.world in
           let next = Here-led p c (only q 1) d v u x m.led h in
-          elim (tries_all laws p c d v g qs x next apart (ap (λ (z : VoterState). z.held) m.voter ∙ held) (m.held v has_v) (Has-led deal c (only q 1) (and_one qs) (and_one (q ∷ qs)) u x (λ r. (let all = sum r in omega arith)) m.led left)) [
+          elim (tries_all laws p c d v g qs x next apart (ap (λ (z : VoterState). z.held) m.voter ∙ held) (m.held v has_v) (CanGive-led deal c (only q 1) (and_one qs) (and_one (q ∷ qs)) u x (λ r. (let all = sum r in omega arith)) m.led left)) [
             | inl e ↦ inl (Somebody-led p c (only q 1) (times_in qs) (times_in (q ∷ qs)) u x sum m.led e)
             | inr (inl loose) ↦ inr (inl (Loose-then p c d v (only q 1) (times_in qs) (times_in (q ∷ qs)) g u x sum m.led m.voter loose))
             | inr (inr rest) ↦ inr (inr (record {
@@ -696,7 +459,7 @@ all_hold f (x ∷ xs) all =
     let rest = all_hold f xs (λ q there. all q (grind (arith, nat_tests))) in
     grind (arith, nat_tests)
 
-loosens : (laws : TogetherLaws) (p : Planned) (c d v : ℕ) (g : Grant) (u : WorldState) → Here p d v u → d ≢ c → (voter_at u.voters v).held ≡ Some g → holds (client_at u.clients d) v ≡ true → Has (λ r. 2) u
+loosens : (laws : TogetherLaws) (p : Planned) (c d v : ℕ) (g : Grant) (u : WorldState) → Here p d v u → d ≢ c → (voter_at u.voters v).held ≡ Some g → holds (client_at u.clients d) v ≡ true → CanGive (λ r. 2) u
     → Somebody p one_each u ⊎ Loose p c d v one_each g u
 loosens laws p c d v g u h apart held has_v left =
     let deal = dealing_of p.plans in
@@ -712,15 +475,15 @@ loosens laws p c d v g u h apart held has_v left =
           let ok = laws.alone.fitting.coherent (with_state p u) h.reached in
           let lacks = (Fits-reached laws.alone.fitting (with_state p x) here.reached).lacks d here.asks in
           absurd (false≢true (sym lacks ∙ all_hold (holds (client_at x.clients d)) (members (client_at x.clients d)) (λ q there.
-              let member : is_member (client_at u.clients d) q ≡ true = ap (λ l. has l q) (sym (led.same d).quorum) ∙ there in
-              let within = ok.members d q member in
-              all.all q (has_range 0 n q (omega arith) (omega arith)) member)))
+          let member : is_member (client_at u.clients d) q ≡ true = ap (λ l. has l q) (sym (led.same d).quorum) ∙ there in
+          let within = ok.members d q member in
+          all.all q (has_range 0 n q (omega arith) (omega arith)) member)))
     ]
 
 -- ---- the vote goes back
 
 pub returns : (laws : TogetherLaws) (p : Planned) (c d v : ℕ) (g : Grant) (u : WorldState) → Leads u c → Here p d v u → d ≢ c → IsEntry (voter_at u.voters v) c (client_at u.clients c).stamp → (voter_at u.voters v).held ≡ Some g → g.client ≡ d
-    → g.stamp ≡ (client_at u.clients d).stamp → holds (client_at u.clients d) v ≡ true → Has (λ r. 2) u → Somebody p one_each u ⊎ Returns p c d v one_each g u
+    → g.stamp ≡ (client_at u.clients d).stamp → holds (client_at u.clients d) v ≡ true → CanGive (λ r. 2) u → Somebody p one_each u ⊎ Returns p c d v one_each g u
 returns laws p c d v g u leads h apart entry held own stamp has_v left =
     let deal = dealing_of p.plans in
     elim (loosens laws p c d v g u h apart held has_v left) [

@@ -1,8 +1,6 @@
 -- a client gets in while others ask too
-use Rattle.std.proofs.Common.{◌≡◌, ◌≢◌, ℕ, zero, suc, ◌+◌, ◌*◌, ◌<◌, ◌≤◌, Bool, true, false, List, [], ◌∷◌, ◌++◌, length, Option, Some, refl, sym, ap, subst, ◌∙◌, ◌⊎◌, inl, inr, arith}
-use Rattle.std.specs.Prelude.{◌&&◌, ◌||◌, nat_lt, ◌==◌, slice_index}
-use Rattle.std.specs.FinMap.{get}
-use Rattle.std.specs.List.{AllByRecursion, list_all, range_with_len}
+use Rattle.std.proofs.Common.{◌≡◌, ◌≢◌, ℕ, zero, suc, ◌+◌, ◌<◌, ◌≤◌, true, false, List, [], ◌∷◌, length, Some, refl, sym, ap, subst, ◌∙◌, ◌⊎◌, inl, inr, arith}
+use Rattle.std.specs.List.{range_with_len}
 use Rattle.std.proofs.lemmas.Bool.{cases_eq, cases_lt, false≢true}
 use Rattle.std.proofs.lemmas.Bool.Decides.{nat_tests}
 use Rattle.std.proofs.lemmas.List.{get_or_past}
@@ -15,17 +13,19 @@ use Rattle.voter.specs.VoterContract.{IsEntry}
 use Rattle.voter.specs.Waiting.{precedes}
 use Rattle.requester.specs.declared.state.ClientState.{ClientState}
 use Rattle.requester.specs.Steps as requester
-use Rattle.requester.specs.Words.{holds, is_asking, is_covered, is_current, is_inside, is_member, last_of, members}
+use Rattle.requester.specs.Words.{holds, is_asking, is_current, is_member, last_of, members}
 use Rattle.world.specs.declared.step.Step.{Step}
 use Rattle.world.specs.Runs.{IsReached}
 use Rattle.world.specs.Steps.{Planned, WorldState, client_at, dealing_of, voter_at}
 use Rattle.progress.specs.WayIn.{Asks, HasGrants, IsFree, IsWayIn}
-use Rattle.progress.proofs.Fitting.{Fits-reached}
-use Rattle.progress.proofs.Hindering.{Has, Has-led, Here-led, Leads-led, Led, Led-more, Led-self, Led-then, Led-went, Somebody, Somebody-led, Somebody-more, all_hold, none, one_each, only, only_else, only_here, only_sum, only_zero, returns, somebody_at}
+use Rattle.progress.proofs.Fitting.{Fits-reached, current_stamp}
+use Rattle.progress.proofs.Counts.{CanGive, none, one_each, only, only_else, only_here, only_sum, only_zero}
+use Rattle.progress.proofs.Hindering.{all_hold, has_rest, returns}
+use Rattle.progress.proofs.Led.{CanGive-led, Here-led, Leads-led, Led, Led-more, Led-self, Led-then, Led-went, Somebody, Somebody-led, Somebody-more, somebody_at}
 use Rattle.progress.proofs.Known.{AloneLaws, TogetherLaws}
 use Rattle.progress.proofs.Moves.{with_state}
 use Rattle.progress.proofs.Placed.{Placed-reached}
-use Rattle.progress.proofs.Ways.{Got, Here, Here-went, Leads, Leads-went, Settled, Stands, Went, asks_again, current_asks, current_stamp, IsReached-run, frees_up, gave_back, gets, has_range, held_some, length_range, request_at}
+use Rattle.progress.proofs.Ways.{Got, Here, Leads, Settled, Stands, asks_again, current_asks, IsReached-run, frees_up, gave_back, gets, has_range, held_some, length_range, request_at}
 
 -- ---- one vote
 
@@ -110,7 +110,7 @@ kept_for v n r = 2 + only v n r
 
 -- another client has the vote
 wins_from : (laws : TogetherLaws) (p : Planned) (c v d : ℕ) (g : Grant) (u : WorldState) → Waits p c v u → Here p d v u → d ≢ c → (voter_at u.voters v).held ≡ Some g → g.client ≡ d → g.stamp ≡ (client_at u.clients d).stamp → holds (client_at u.clients d) v ≡ true
-    → Has (kept_for v (turns u)) u → Wins p c v (one_vote v (turns u)) u
+    → CanGive (kept_for v (turns u)) u → Wins p c v (one_vote v (turns u)) u
 wins_from laws p c v d g u h there apart held own stamp has left =
     let deal = dealing_of p.plans in
     elim (returns laws p c d v g u h.leads there apart h.entry held own stamp has (λ q within. (let count = left q within in omega arith))) [
@@ -124,7 +124,7 @@ wins_from laws p c v d g u h there apart held own stamp has left =
           let waits = Waits-led p c v one_each u x led same h in
           let ok = laws.alone.fitting.coherent (with_state p x) waits.spot.reached in
           let last = back.last in
-          let grants = Has-led deal c one_each (one_vote v (turns u)) (kept_for v (turns u)) u x (λ r. omega arith) led left in
+          let grants = CanGive-led deal c one_each (one_vote v (turns u)) (kept_for v (turns u)) u x (λ r. omega arith) led left in
           let count = grants v (ok.members c v waits.spot.asked) in
           let here = only_here v (turns u) v refl in
           Wins-then p c v one_each (only v (turns x)) (one_vote v (turns u)) u x (λ r. (let only_same = ap (λ n. only v n r) number in omega arith)) led
@@ -132,7 +132,7 @@ wins_from laws p c v d g u h there apart held own stamp has left =
     ]
 
 -- the request is known
-wins_known : (laws : TogetherLaws) (p : Planned) (c v : ℕ) (u : WorldState) → Waits p c v u → Has (kept_for v (turns u)) u → Wins p c v (one_vote v (turns u)) u
+wins_known : (laws : TogetherLaws) (p : Planned) (c v : ℕ) (u : WorldState) → Waits p c v u → CanGive (kept_for v (turns u)) u → Wins p c v (one_vote v (turns u)) u
 wins_known laws p c v u h left =
     let deal = dealing_of p.plans in
     let here = only_here v (turns u) v refl in
@@ -171,7 +171,7 @@ wins_known laws p c v u h left =
                       let number : turns w ≡ turns u = omega arith in
                       Wins-then p c v (only v 0) (one_vote v (turns w)) (one_vote v (turns u)) u w (λ r. (let nothing = only_zero v r in let only_same = ap (λ n. only v n r) number in omega arith)) led
                       (wins_from laws p c v d g w (Waits-led p c v (only v 0) u w led same h) (Here-led p c (only v 0) d v u w led there) apart (ap (λ (s : VoterState). s.held) same ∙ k.1) refl (stamp ∙ sym (led.same d).stamp) on.2
-                      (Has-led deal c (only v 0) (kept_for v (turns w)) (kept_for v (turns u)) u w (λ r. (let nothing = only_zero v r in let only_same = ap (λ n. only v n r) number in omega arith)) led left))
+                      (CanGive-led deal c (only v 0) (kept_for v (turns w)) (kept_for v (turns u)) u w (λ r. (let nothing = only_zero v r in let only_same = ap (λ n. only v n r) number in omega arith)) led left))
                 ]
               ] refl
             ]
@@ -182,7 +182,7 @@ wins_known laws p c v u h left =
 abbrev pub own_turns : WorldState → ℕ
 own_turns u = 2 + length u.clients
 
-wins : (laws : TogetherLaws) (p : Planned) (c v : ℕ) (u : WorldState) → Here p c v u → Leads u c → holds (client_at u.clients c) v ≡ false → Has (kept_for v (own_turns u)) u → Wins p c v (one_vote v (own_turns u)) u
+wins : (laws : TogetherLaws) (p : Planned) (c v : ℕ) (u : WorldState) → Here p c v u → Leads u c → holds (client_at u.clients c) v ≡ false → CanGive (kept_for v (own_turns u)) u → Wins p c v (one_vote v (own_turns u)) u
 wins laws p c v u h leads free left =
     let deal = dealing_of p.plans in
     let ok = laws.alone.fitting.coherent (with_state p u) h.reached in
@@ -195,7 +195,7 @@ wins laws p c v u h leads free left =
     let sum : (r : ℕ) → only v 1 r + only v (turns w) r ≡ only v (own_turns u) r = λ r. only_sum v 1 (turns w) r ∙ ap (λ n. only v n r) number in
     Wins-then p c v (only v 1) (one_vote v (turns w)) (one_vote v (own_turns u)) u w (λ r. (let all = sum r in omega arith)) led
     (wins_known laws p c v w (record { spot = Here-led p c (only v 1) c v u w led h; leads = Leads-led deal c (only v 1) u w led leads; entry = told.entry })
-    (Has-led deal c (only v 1) (kept_for v (turns w)) (kept_for v (own_turns u)) u w (λ r. (let all = sum r in omega arith)) led left))
+    (CanGive-led deal c (only v 1) (kept_for v (turns w)) (kept_for v (own_turns u)) u w (λ r. (let all = sum r in omega arith)) led left))
 
 -- what the votes of these members take
 budget : ℕ → List ℕ → ℕ → ℕ
@@ -234,10 +234,7 @@ record Collects (p : Planned) (c : ℕ) (n : ℕ → ℕ) (vs : List ℕ) (u : W
   led : Led (dealing_of p.plans) c n u world
   all : (v : ℕ) → has vs v ≡ true → is_member (client_at u.clients c) v ≡ true → holds (client_at world.clients c) v ≡ true
 
-has_rest : (q r : ℕ) (qs : List ℕ) → r ≢ q → has (q ∷ qs) r ≡ true → has qs r ≡ true
-has_rest q r qs other there = grind (arith, nat_tests)
-
-collects : (laws : TogetherLaws) (p : Planned) (c k : ℕ) (vs : List ℕ) (u : WorldState) → own_turns u ≡ k → IsReached (with_state p u) → Asks u c → Leads u c → Has (and_one k vs) u → Somebody p (budget k vs) u ⊎ Collects p c (budget k vs) vs u
+collects : (laws : TogetherLaws) (p : Planned) (c k : ℕ) (vs : List ℕ) (u : WorldState) → own_turns u ≡ k → IsReached (with_state p u) → Asks u c → Leads u c → CanGive (and_one k vs) u → Somebody p (budget k vs) u ⊎ Collects p c (budget k vs) vs u
 collects laws p c k [] u is r asks leads left = inr (record { world = u; led = Led-self (dealing_of p.plans) c (budget k []) u; all = λ v there. absurd (false≢true there) })
 collects laws p c k (v ∷ vs) u is r asks leads left =
     let deal = dealing_of p.plans in
@@ -264,7 +261,7 @@ collects laws p c k (v ∷ vs) u is r asks leads left =
           let voters = led.voters in
           let reached = subst (λ (z : WorldState). IsReached (with_state p z)) led.run (IsReached-run p led.steps u r) in
           elim (collects laws p c k vs x (let same : own_turns x ≡ k = omega arith in same) reached (record { client = omega arith; asks = ap is_asking (led.same c).phase ∙ asks.asks }) (Leads-led deal c f u x led leads)
-          (Has-led deal c f (and_one k vs) (and_one k (v ∷ vs)) u x (λ r. (let all = sum r in omega arith)) led left)) [
+          (CanGive-led deal c f (and_one k vs) (and_one k (v ∷ vs)) u x (λ r. (let all = sum r in omega arith)) led left)) [
             | inl e ↦ inl (Somebody-led p c f (budget k vs) (budget k (v ∷ vs)) u x sum led e)
             | inr rest ↦ inr (record {
               world = rest.world;
@@ -296,9 +293,9 @@ leader_gets_in laws p c u r asks leads left =
           let ok = laws.alone.fitting.coherent (with_state p u) r in
           let lacks = (Fits-reached laws.alone.fitting (with_state p x) reached).lacks c (ap is_asking (led.same c).phase ∙ asks.asks) in
           absurd (false≢true (sym lacks ∙ all_hold (holds (client_at x.clients c)) (members (client_at x.clients c)) (λ q there.
-              let member : is_member (client_at u.clients c) q ≡ true = ap (λ l. has l q) (sym (led.same c).quorum) ∙ there in
-              let within = ok.members c q member in
-              all.all q (has_range 0 n q (omega arith) (omega arith)) member)))
+          let member : is_member (client_at u.clients c) q ≡ true = ap (λ l. has l q) (sym (led.same c).quorum) ∙ there in
+          let within = ok.members c q member in
+          all.all q (has_range 0 n q (omega arith) (omega arith)) member)))
     ]
 
 -- ---- the client that precedes the others
@@ -321,24 +318,36 @@ first_below u (suc n) = elim (is_asking (client_at u.clients n).phase) as (λ b.
       | inl same ↦ ap (λ i. is_asking (client_at u.clients i).phase) same ∙ quiet
       | inr other ↦ none d (omega arith)
     ])
-    | inr best ↦ inr (best.0, best.1, λ d below other asks. elim (cases_eq d n) [
-      | inl same ↦ absurd (false≢true (sym quiet ∙ ap (λ i. is_asking (client_at u.clients i).phase) (sym same) ∙ asks))
-      | inr unlike ↦ best.2 d (omega arith) other asks
-    ])
+    | inr best ↦ inr (
+      best.0,
+      best.1,
+      λ d below other asks. elim (cases_eq d n) [
+        | inl same ↦ absurd (false≢true (sym quiet ∙ ap (λ i. is_asking (client_at u.clients i).phase) (sym same) ∙ asks))
+        | inr unlike ↦ best.2 d (omega arith) other asks
+      ],
+    )
   ]
   | true ↦ λ loud. elim (first_below u n) [
     | inl none ↦ inr (n, loud, λ d below other asks. absurd (false≢true (sym (none d (omega arith)) ∙ asks)))
     | inr best ↦ elim (cases_eq n best.0) [
       | inl same ↦ inr (best.0, best.1, λ d below other asks. best.2 d (omega arith) other asks)
       | inr apart ↦ elim (precedes (request_at u best.0) (request_at u n)) as (λ b. precedes (request_at u best.0) (request_at u n) ≡ b → ((d : ℕ) → d < suc n → is_asking (client_at u.clients d).phase ≡ false) ⊎ ((c : ℕ) × (is_asking (client_at u.clients c).phase ≡ true) × Precedes u c (suc n))) [
-        | true ↦ λ first. inr (best.0, best.1, λ d below other asks. elim (cases_eq d n) [
-          | inl same ↦ subst (λ i. precedes (request_at u best.0) (request_at u i) ≡ true) (sym same) first
-          | inr unlike ↦ best.2 d (omega arith) other asks
-        ])
-        | false ↦ λ later. (let ahead = precedes-one (request_at u best.0) (request_at u n) (λ same. apart (sym same)) later in inr (n, loud, λ d below other asks. elim (cases_eq d best.0) [
-          | inl same ↦ subst (λ i. precedes (request_at u n) (request_at u i) ≡ true) (sym same) ahead
-          | inr unlike ↦ precedes-trans (request_at u n) (request_at u best.0) (request_at u d) ahead (best.2 d (omega arith) unlike asks)
-        ]))
+        | true ↦ λ first. inr (
+          best.0,
+          best.1,
+          λ d below other asks. elim (cases_eq d n) [
+            | inl same ↦ subst (λ i. precedes (request_at u best.0) (request_at u i) ≡ true) (sym same) first
+            | inr unlike ↦ best.2 d (omega arith) other asks
+          ],
+        )
+        | false ↦ λ later. (let ahead = precedes-one (request_at u best.0) (request_at u n) (λ same. apart (sym same)) later in inr (
+          n,
+          loud,
+          λ d below other asks. elim (cases_eq d best.0) [
+            | inl same ↦ subst (λ i. precedes (request_at u n) (request_at u i) ≡ true) (sym same) ahead
+            | inr unlike ↦ precedes-trans (request_at u n) (request_at u best.0) (request_at u d) ahead (best.2 d (omega arith) unlike asks)
+          ],
+        ))
       ] refl
     ]
   ]

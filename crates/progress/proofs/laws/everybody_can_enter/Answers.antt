@@ -1,5 +1,5 @@
 use Rattle.progress.proofs.Everybody.{everybody_gets_in}
-use Rattle.progress.proofs.Known.{AloneLaws, BackLaws, ClientLaws, FittingLaws, LeavingLaws, ReturnLaws, TogetherLaws, VoterLaws}
+use Rattle.progress.proofs.Known.{AloneLaws, BackLaws, ClientLaws, FittingLaws, ReturnLaws, TogetherLaws, VoterLaws}
 use Rattle.progress.proofs.laws.everybody_can_enter.Goals as goal
 
 pub returns : goal.returns
