@@ -1,43 +1,24 @@
 -- the steps by which a client that asks alone gets in
-use Rattle.std.proofs.Common.{◌≡◌, ◌≢◌, ℕ, zero, suc, ◌+◌, ◌<◌, ◌≤◌, Bool, true, false, cond, List, [], ◌∷◌, ◌++◌, map, length, set, Option, Some, None, refl, sym, ap, subst, ◌∙◌, ◌⊎◌, inl, inr, arith, eqb, length-append}
-use Rattle.std.specs.Prelude.{◌&&◌, ◌||◌, not, nat_lt, ◌==◌, slice_get, slice_index, slice_set}
-use Rattle.std.specs.FinMap.{get}
-use Rattle.std.specs.List.{AllByRecursion, Contains, list_all, range_with_len}
+use Rattle.std.proofs.Common.{◌≡◌, ◌≢◌, ℕ, ◌+◌, ◌<◌, ◌≤◌, Bool, true, false, List, [], ◌∷◌, length, refl, sym, ap, subst, ◌∙◌, ◌⊎◌, inl, inr, arith}
+use Rattle.std.specs.Prelude.{◌&&◌}
+use Rattle.std.specs.List.{list_all, range_with_len}
 use Rattle.std.proofs.lemmas.Bool.{cases_eq, cases_lt, false≢true}
 use Rattle.std.proofs.lemmas.Bool.Decides.{nat_tests}
-use Rattle.std.proofs.lemmas.List.{append-nil, get_or-set_same, get_or-set_other, length-set}
-use Rattle.std.proofs.lemmas.Option.{none-some, same_Some}
+use Rattle.std.proofs.lemmas.Option.{same_Some}
 use Rattle.numbers.specs.Sets.{has}
-use Rattle.message.specs.declared.message.Message.TheVariants as kinds
-use Rattle.message.specs.declared.message.ToClient.{ToClient}
-use Rattle.message.specs.declared.message.ToVoter.{ToVoter}
-use Rattle.message.specs.declared.message.ClientBody.TheVariants as tells
-use Rattle.message.specs.declared.message.VoterBody.{VoterBody}
-use Rattle.message.specs.declared.message.VoterBody.TheVariants as asks
 use Rattle.voter.specs.declared.state.Grant.{Grant}
 use Rattle.voter.specs.declared.state.VoterState.{VoterState}
-use Rattle.voter.specs.Steps as voter
-use Rattle.voter.specs.Waiting.{precedes}
-use Rattle.voter.specs.VoteMoves.{VoteMoves}
-use Rattle.voter.specs.VoterContract.{Brings, IsEntry}
-use Rattle.requester.specs.declared.state.ClientState.{ClientState}
 use Rattle.requester.specs.declared.state.Phase.{Phase}
 use Rattle.requester.specs.declared.state.Phase.TheVariants.{Idle, Asking, Inside}
-use Rattle.requester.specs.declared.state.Seen.TheVariants.{Entered}
-use Rattle.requester.specs.Steps as requester
-use Rattle.requester.specs.Words.{holds, is_asking, is_covered, is_current, is_idle, is_inside, is_member, last_of, members}
+use Rattle.requester.specs.Words.{holds, is_asking, is_idle, is_inside, is_member, last_of, members}
 use Rattle.world.specs.declared.step.Step.{Step}
-use Rattle.world.specs.declared.step.Step.TheVariants.{Ask, Deliver, Leave, GiveUp, RemindClient, RemindVoter, Exchange}
-use Rattle.world.specs.Runs.{IsReached, after, run_of}
-use Rattle.world.specs.Steps.{Dealing, Planned, WorldState, client_at, client_did, dealing_of, events, step, voter_at, voter_did}
-use Rattle.progress.specs.LostVotes.{HasLostVote, reminder_and_two}
+use Rattle.world.specs.Runs.{IsReached}
+use Rattle.world.specs.Steps.{Dealing, Planned, WorldState, client_at, dealing_of, voter_at}
 use Rattle.progress.specs.WayIn.{AsksAlone, HasGrants, IsWayIn}
-use Rattle.progress.proofs.Exchanges.{after-answer, after-deliver_client, after-release, after-remind_voter, after-said, answer, answered, get_next, reminded, not_held, spoken}
-use Rattle.progress.proofs.Behind.{grant_moves}
-use Rattle.progress.proofs.Fitting.{Fits-reached, asking_busy, not_true}
+use Rattle.progress.proofs.Fitting.{Fits-reached, not_true}
 use Rattle.progress.proofs.Known.{AloneLaws}
-use Rattle.progress.proofs.Moves.{IsReached-after, client_here, client_others, voter_here, voter_others, with_state}
-use Rattle.progress.proofs.Ways.{Enters, Enters-after, Gains, Got, Here, Here-went, IsReached-run, Leads, Settled, Stands, Went, Went-self, asks_again, enters_by, frees_up, gave_back, got_or, has_range, held_some, length_range, not_current, own_stamp}
+use Rattle.progress.proofs.Moves.{with_state}
+use Rattle.progress.proofs.Ways.{Enters, Enters-after, Got, Here, Here-went, Leads, Stands, Went, Went-self, asks_again, enters_by, frees_up, gave_back, got_or, has_range, held_some, length_range, not_current, own_stamp}
 
 abbrev OthersIdle : ℕ → WorldState → Type 0
 OthersIdle c u = (d : ℕ) → d ≢ c → is_idle (client_at u.clients d).phase ≡ true

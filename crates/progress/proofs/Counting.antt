@@ -138,7 +138,7 @@ enters_by laws w u c d ok h busy other inside =
 
 -- ---- what is counted
 
-entered_by-append : (d : ℕ) (es fs : List Event) → entered_by d (es ++ fs) ≡ entered_by d es + entered_by d fs
+pub entered_by-append : (d : ℕ) (es fs : List Event) → entered_by d (es ++ fs) ≡ entered_by d es + entered_by d fs
 entered_by-append d es fs = sum_by-append (λ (e : Event). cond ((e.client == d) && e.entered) 1 0) es fs
 
 not_entered : (d e : ℕ) (seen : Seen) → d ≢ e → entered_by d (events e seen) ≡ 0
@@ -149,7 +149,7 @@ not_entered d e Left other = (let apart : eqb e d ≡ false = grind (arith, nat_
 left_not_entered : (d : ℕ) → entered_by d (events d Left) ≡ 0
 left_not_entered d = (let same : eqb d d ≡ true = grind (arith, nat_tests) in ap (λ b. 0 + cond (b && false) 1 0) same)
 
-one_entered : (d : ℕ) → entered_by d (events d Entered) ≡ 1
+pub one_entered : (d : ℕ) → entered_by d (events d Entered) ≡ 1
 one_entered d = (let same : eqb d d ≡ true = grind (arith, nat_tests) in ap (λ b. 0 + cond (b && true) 1 0) same)
 
 none_more : (n m : ℕ) → m ≡ 0 → n ≡ n + m

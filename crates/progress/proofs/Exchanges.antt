@@ -31,7 +31,7 @@ use Rattle.progress.proofs.Moves.{voter_here}
 
 -- ---- one step
 
-below : (a b : ℕ) → a < b → nat_lt a b ≡ true
+pub below : (a b : ℕ) → a < b → nat_lt a b ≡ true
 below a b less = grind (arith, nat_tests)
 
 -- a voter's reminder

@@ -1,5 +1,5 @@
 -- what clients gave back and what voters finished fit together, after every run
-use Rattle.std.proofs.Common.{◌≡◌, ◌≢◌, ℕ, zero, suc, ◌+◌, ◌<◌, ◌≤◌, Bool, true, false, List, [], ◌∷◌, map, length, Option, Some, Ok, refl, sym, ap, subst, ◌∙◌, ◌⊎◌, inl, inr, arith}
+use Rattle.std.proofs.Common.{◌≡◌, ℕ, zero, suc, ◌+◌, ◌<◌, ◌≤◌, Bool, true, false, List, [], ◌∷◌, map, length, Option, Some, Ok, refl, sym, ap, subst, ◌∙◌, ◌⊎◌, inl, inr, arith}
 use Rattle.std.specs.Prelude.{replicate, slice_index}
 use Rattle.std.specs.List.{filter, list_all, range_with_len}
 use Rattle.std.specs.Result.{result_ok}
@@ -27,7 +27,7 @@ use Rattle.requester.specs.Held.{KeepsMark}
 use Rattle.requester.specs.RequesterContract.{IsLater, Locks, MeetsContract}
 use Rattle.requester.specs.Soundness.{IsSound}
 use Rattle.requester.specs.Steps as requester
-use Rattle.requester.specs.Words.{held_of, holds, holds_under, is_asking, is_covered, is_idle, is_relinquished, last_of, members, is_inquired}
+use Rattle.requester.specs.Words.{held_of, holds, holds_under, is_asking, is_covered, is_current, is_idle, is_relinquished, last_of, members, is_inquired}
 use Rattle.world.specs.declared.step.Step.{Step}
 use Rattle.world.specs.Coherence.{AskOk, IsCoherent, MessageOk, Names}
 use Rattle.world.specs.Runs.{IsReached, after, run_of, start, start_by}
@@ -68,6 +68,12 @@ pub asking_busy : (p : Phase) → is_asking p ≡ true → is_idle p ≡ false
 asking_busy Idle asks = absurd (false≢true asks)
 asking_busy Asking asks = refl
 asking_busy Inside asks = refl
+
+pub current_busy : (x : ClientState) (s : ℕ) → is_current x s ≡ true → is_idle x.phase ≡ false
+current_busy x s is = grind (arith, nat_tests)
+
+pub current_stamp : (x : ClientState) (s : ℕ) → is_current x s ≡ true → s ≡ x.stamp
+current_stamp x s is = grind (arith, nat_tests)
 
 pub held_under : (x : ClientState) (v : ℕ) → holds x v ≡ true → holds_under x v (held_of x v) ≡ true
 held_under x v is = grind (arith, nat_tests)

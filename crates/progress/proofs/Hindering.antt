@@ -1,218 +1,42 @@
 -- how a client that has a vote, and does not precede another one, comes to give the vote back
-use Rattle.std.proofs.Common.{◌≡◌, ◌≢◌, ℕ, zero, suc, ◌+◌, ◌<◌, ◌≤◌, Bool, true, false, List, [], ◌∷◌, ◌++◌, map, length, set, Option, Some, None, Ok, refl, sym, ap, subst, ◌∙◌, ◌⊎◌, inl, inr, arith, length-append}
-use Rattle.std.specs.Prelude.{◌&&◌, ◌||◌, not, nat_le, nat_lt, ◌==◌, if◌then◌else◌, max, slice_get, slice_index, slice_index_or}
+use Rattle.std.proofs.Common.{◌≡◌, ◌≢◌, ℕ, zero, suc, ◌+◌, ◌<◌, ◌≤◌, Bool, true, false, List, [], ◌∷◌, ◌++◌, map, length, set, Option, Some, None, refl, sym, ap, subst, ◌∙◌, ◌⊎◌, inl, inr, arith, length-append}
+use Rattle.std.specs.Prelude.{◌||◌, nat_le, nat_lt, ◌==◌, if◌then◌else◌, max, slice_get, slice_index, slice_index_or}
 use Rattle.std.specs.FinMap.{get}
-use Rattle.std.specs.List.{AllByRecursion, Contains, filter, list_all, list_any, range_with_len}
+use Rattle.std.specs.List.{filter, list_all, list_any, range_with_len}
 use Rattle.std.proofs.lemmas.Bool.{cases_eq, cases_lt, false≢true}
 use Rattle.std.proofs.lemmas.Bool.Decides.{nat_tests}
 use Rattle.std.proofs.lemmas.List.{append-nil, length-set}
 use Rattle.std.proofs.lemmas.Option.{none-some, same_Some}
-use Rattle.numbers.specs.Bounds.{max_voters}
 use Rattle.numbers.specs.Sets.{has}
 use Rattle.message.specs.declared.message.Message.TheVariants as kinds
 use Rattle.message.specs.declared.message.ToClient.{ToClient}
 use Rattle.message.specs.declared.message.ToVoter.{ToVoter}
 use Rattle.message.specs.declared.message.ClientBody.TheVariants as tells
-use Rattle.message.specs.declared.message.VoterBody.{VoterBody}
 use Rattle.message.specs.declared.message.VoterBody.TheVariants as asks
 use Rattle.message.specs.declared.request.Request.{Request}
 use Rattle.voter.specs.declared.state.Grant.{Grant}
 use Rattle.voter.specs.declared.state.VoterState.{VoterState}
-use Rattle.voter.specs.Entries.{request_of}
 use Rattle.voter.specs.Steps as voter
 use Rattle.voter.specs.VoterContract.{IsEntry}
 use Rattle.voter.specs.Waiting.{precedes}
 use Rattle.requester.specs.declared.state.ClientState.{ClientState}
-use Rattle.requester.specs.declared.state.Seen.TheVariants.{Entered, Nothing}
-use Rattle.requester.specs.declared.state.Phase.TheVariants.{Inside}
-use Rattle.requester.specs.Held.{IsGivenBack, IsKeptOrGiven}
+use Rattle.requester.specs.declared.state.Seen.TheVariants.{Nothing}
+use Rattle.requester.specs.Held.{IsGivenBack}
 use Rattle.requester.specs.RequesterContract.{AllSay, MeetsContract, Says}
 use Rattle.requester.specs.Soundness.{IsSound}
 use Rattle.requester.specs.Steps as requester
-use Rattle.requester.specs.Words.{held_of, holds, is_asking, is_covered, is_failed, is_hindered, is_idle, is_inquired, is_member, is_relinquished, last_of, members}
-use Rattle.world.specs.declared.step.Step.{Step}
-use Rattle.world.specs.declared.step.Step.TheVariants.{Deliver, RemindClient, RemindVoter}
-use Rattle.world.specs.Runs.{IsReached, after, run_of}
+use Rattle.requester.specs.Words.{held_of, holds, is_failed, is_hindered, is_inquired, is_member, is_relinquished, last_of, members}
+use Rattle.world.specs.declared.step.Step.TheVariants.{Deliver, RemindVoter}
+use Rattle.world.specs.Runs.{IsReached, run_of}
 use Rattle.world.specs.Steps.{Dealing, Planned, WorldState, client_at, client_did, dealing_of, events, step, voter_at}
-use Rattle.progress.specs.WayIn.{HasGrants, Helps, IsWayIn}
 use Rattle.progress.proofs.Exchanges.{after-deliver_client, after-remind_voter, get_next, reminded, spoken}
 use Rattle.progress.proofs.Fitting.{Fits-reached, asking_busy, grant_is, held_under, not_true}
 use Rattle.progress.proofs.Known.{AloneLaws, TogetherLaws}
 use Rattle.progress.proofs.Moves.{client_here, client_others, with_state}
 use Rattle.progress.proofs.Placed.{Placed-reached}
-use Rattle.progress.proofs.Ways.{EntersAt, Gains, Here, Here-went, IsReached-run, Leads, Leads-same, Went, asks_again, entry_waits, gets, has_range, hears, held_some, help_then, length_range, own_stamp, request_at, run_then}
-
--- ---- helping steps, and what they leave
-
-pub record SameRequest (x y : ClientState) : Type 0 where
-  pub phase : y.phase ≡ x.phase
-  pub stamp : y.stamp ≡ x.stamp
-  pub quorum : members y ≡ members x
-
--- Helping steps by which nobody enters: each request runs on, this client keeps its votes, and each voter
--- gives at most n grants.
-pub record Led (deal : Dealing) (c n : ℕ) (u x : WorldState) : Type 0 where
-  pub steps : List Step
-  pub helps : AllByRecursion (Helps (length u.sent)) steps
-  pub run : run_of deal steps u ≡ x
-  pub sent : length u.sent ≤ length x.sent
-  pub visible : x.visible ≡ u.visible
-  pub clients : length x.clients ≡ length u.clients
-  pub voters : length x.voters ≡ length u.voters
-  pub same : (d : ℕ) → SameRequest (client_at u.clients d) (client_at x.clients d)
-  pub held : (q : ℕ) → holds (client_at u.clients c) q ≡ true → holds (client_at x.clients c) q ≡ true
-  pub few : (q : ℕ) → (voter_at x.voters q).granted ≤ (voter_at u.voters q).granted + n
-  pub limit : (q : ℕ) → (voter_at x.voters q).limit ≡ (voter_at u.voters q).limit
-
-pub Led-self : (deal : Dealing) (c n : ℕ) (u : WorldState) → Led deal c n u u
-Led-self deal c n u = record {
-  steps = [];
-  helps = tt;
-  run = refl;
-  sent = omega arith;
-  visible = refl;
-  clients = refl;
-  voters = refl;
-  same = λ d. record { phase = refl; stamp = refl; quorum = refl };
-  held = λ q has. has;
-  few = λ q. omega arith;
-  limit = λ q. refl;
-}
-
-pub Led-then : (deal : Dealing) (c n m : ℕ) (u x z : WorldState) → Led deal c n u x → Led deal c m x z → Led deal c (n + m) u z
-Led-then deal c n m u x z a b = record {
-  steps = a.steps ++ b.steps;
-  helps = help_then (length u.sent) (length x.sent) a.steps b.steps a.sent a.helps b.helps;
-  run = run_then deal a.steps b.steps u ∙ ap (run_of deal b.steps) a.run ∙ b.run;
-  sent = (let first = a.sent in let second = b.sent in omega arith);
-  visible = b.visible ∙ a.visible;
-  clients = b.clients ∙ a.clients;
-  voters = b.voters ∙ a.voters;
-  same = λ d. record { phase = (b.same d).phase ∙ (a.same d).phase; stamp = (b.same d).stamp ∙ (a.same d).stamp; quorum = (b.same d).quorum ∙ (a.same d).quorum };
-  held = λ q has. b.held q (a.held q has);
-  few = λ q. (let first = a.few q in let second = b.few q in omega arith);
-  limit = λ q. b.limit q ∙ a.limit q;
-}
-
-pub Led-more : (deal : Dealing) (c n m : ℕ) (u x : WorldState) → n ≤ m → Led deal c n u x → Led deal c m u x
-Led-more deal c n m u x most a = record {
-  steps = a.steps;
-  helps = a.helps;
-  run = a.run;
-  sent = a.sent;
-  visible = a.visible;
-  clients = a.clients;
-  voters = a.voters;
-  same = a.same;
-  held = a.held;
-  few = λ q. (let first = a.few q in omega arith);
-  limit = a.limit;
-}
-
-pub Led-went : (deal : Dealing) (c v n : ℕ) (u x : WorldState) → Went deal v u x → (voter_at x.voters v).granted ≤ (voter_at u.voters v).granted + n → Led deal c n u x
-Led-went deal c v n u x a few = record {
-  steps = a.steps;
-  helps = a.helps;
-  run = a.run;
-  sent = a.sent;
-  visible = a.visible;
-  clients = a.clients;
-  voters = a.voters;
-  same = λ d. record { phase = (a.gains d).phase; stamp = (a.gains d).stamp; quorum = (a.gains d).quorum };
-  held = (a.gains c).held;
-  few = λ q. elim (cases_eq q v) [
-    | inl one ↦ subst (λ i. (voter_at x.voters i).granted ≤ (voter_at u.voters i).granted + n) (sym one) few
-    | inr other ↦ (let same = ap (λ (y : VoterState). y.granted) (a.others q other) in omega arith)
-  ];
-  limit = λ q. elim (cases_eq q v) [
-    | inl one ↦ subst (λ i. (voter_at x.voters i).limit ≡ (voter_at u.voters i).limit) (sym one) a.limit
-    | inr other ↦ ap (λ (y : VoterState). y.limit) (a.others q other)
-  ];
-}
-
-pub Here-led : (p : Planned) (c n d v : ℕ) (u x : WorldState) → Led (dealing_of p.plans) c n u x → Here p d v u → Here p d v x
-Here-led p c n d v u x a h = record {
-  reached = subst (λ (z : WorldState). IsReached (with_state p z)) a.run (IsReached-run p a.steps u h.reached);
-  client = subst (λ k. d < k) (sym a.clients) h.client;
-  asks = ap is_asking (a.same d).phase ∙ h.asks;
-  asked = ap (λ l. has l v) (a.same d).quorum ∙ h.asked;
-}
-
-pub Leads-led : (deal : Dealing) (c n : ℕ) (u x : WorldState) → Led deal c n u x → Leads u c → Leads x c
-Leads-led deal c n u x a h = Leads-same u x c (λ d. (a.same d).phase) (λ d. (a.same d).stamp) h
-
--- Helping steps after which the client is inside: the other clients are as idle, asking or inside as
--- before, and each voter gives at most n grants.
-pub record EntersBy (deal : Dealing) (e n : ℕ) (u : WorldState) : Type 0 where
-  pub world : WorldState
-  pub steps : List Step
-  pub helps : AllByRecursion (Helps (length u.sent)) steps
-  pub run : run_of deal steps u ≡ world
-  pub sent : length u.sent ≤ length world.sent
-  pub visible : world.visible ≡ u.visible ++ events e Entered
-  pub clients : length world.clients ≡ length u.clients
-  pub voters : length world.voters ≡ length u.voters
-  pub inside : (client_at world.clients e).phase ≡ Inside
-  pub phases : (d : ℕ) → d ≢ e → (client_at world.clients d).phase ≡ (client_at u.clients d).phase
-  pub few : (q : ℕ) → (voter_at world.voters q).granted ≤ (voter_at u.voters q).granted + n
-  pub limit : (q : ℕ) → (voter_at world.voters q).limit ≡ (voter_at u.voters q).limit
-
--- some client that asks gets in
-pub record Somebody (p : Planned) (n : ℕ) (u : WorldState) : Type 0 where
-  pub who : ℕ
-  pub asks : is_asking (client_at u.clients who).phase ≡ true
-  pub enters : EntersBy (dealing_of p.plans) who n u
-
-pub Somebody-led : (p : Planned) (c n m k : ℕ) (u x : WorldState) → n + m ≤ k → Led (dealing_of p.plans) c n u x → Somebody p m x → Somebody p k u
-Somebody-led p c n m k u x most a one =
-    let e = one.enters in
-    record {
-      who = one.who;
-      asks = ap is_asking (sym (a.same one.who).phase) ∙ one.asks;
-      enters = record {
-        world = e.world;
-        steps = a.steps ++ e.steps;
-        helps = help_then (length u.sent) (length x.sent) a.steps e.steps a.sent a.helps e.helps;
-        run = run_then (dealing_of p.plans) a.steps e.steps u ∙ ap (run_of (dealing_of p.plans) e.steps) a.run ∙ e.run;
-        sent = (let first = a.sent in let second = e.sent in omega arith);
-        visible = e.visible ∙ ap (λ es. es ++ events one.who Entered) a.visible;
-        clients = e.clients ∙ a.clients;
-        voters = e.voters ∙ a.voters;
-        inside = e.inside;
-        phases = λ d other. e.phases d other ∙ (a.same d).phase;
-        few = λ q. (let first = a.few q in let second = e.few q in omega arith);
-        limit = λ q. e.limit q ∙ a.limit q;
-      };
-    }
-
-pub Somebody-more : (p : Planned) (n k : ℕ) (u : WorldState) → n ≤ k → Somebody p n u → Somebody p k u
-Somebody-more p n k u most one = Somebody-led p 0 0 n k u u (omega arith) (Led-self (dealing_of p.plans) 0 0 u) one
-
-pub somebody_at : (p : Planned) (e v top n : ℕ) (u : WorldState) → is_asking (client_at u.clients e).phase ≡ true → top ≤ (voter_at u.voters v).granted + n → EntersAt (dealing_of p.plans) e v top u → Somebody p n u
-somebody_at p e v top n u asks most a = record {
-  who = e;
-  asks = asks;
-  enters = record {
-    world = a.world;
-    steps = a.steps;
-    helps = a.helps;
-    run = a.run;
-    sent = a.sent;
-    visible = a.visible;
-    clients = a.clients;
-    voters = a.voters;
-    inside = a.inside;
-    phases = a.phases;
-    few = λ q. elim (cases_eq q v) [
-      | inl one ↦ subst (λ i. (voter_at a.world.voters i).granted ≤ (voter_at u.voters i).granted + n) (sym one) (let few = a.few in omega arith)
-      | inr other ↦ (let same = ap (λ (y : VoterState). y.granted) (a.others q other) in omega arith)
-    ];
-    limit = λ q. elim (cases_eq q v) [
-      | inl one ↦ subst (λ i. (voter_at a.world.voters i).limit ≡ (voter_at u.voters i).limit) (sym one) a.limit
-      | inr other ↦ ap (λ (y : VoterState). y.limit) (a.others q other)
-    ];
-  };
-}
+use Rattle.progress.proofs.Ways.{Here, Here-went, Leads, asks_again, entry_waits, gets, has_range, hears, held_some, help_then, own_stamp, request_at, run_then}
+use Rattle.progress.proofs.Counts.{CanGive, none, one_each, only, only_here, only_zero, times_in, times_more, times_once}
+use Rattle.progress.proofs.Led.{CanGive-led, Here-led, Led, Led-more, Led-self, Led-then, Led-went, SameRequest, Somebody, Somebody-led, Somebody-more, somebody_at}
 
 -- ---- FAIL and INQUIRE leave the request
 
@@ -262,7 +86,7 @@ Stays-inquire x m g is = subst (λ b. Stays x (requester.take_body (requester.se
 
 -- ---- another client takes a message
 
-Led-takes : (deal : Dealing) (c n k : ℕ) (u x : WorldState) (m : ToClient) → Led deal c n u x → length u.sent ≤ k → slice_get x.sent k ≡ Some (kinds.ToClient m) → m.client < length x.clients → m.client ≢ c
+Led-takes : (deal : Dealing) (c : ℕ) (n : ℕ → ℕ) (k : ℕ) (u x : WorldState) (m : ToClient) → Led deal c n u x → length u.sent ≤ k → slice_get x.sent k ≡ Some (kinds.ToClient m) → m.client < length x.clients → m.client ≢ c
     → Stays (client_at x.clients m.client) (requester.take (client_at x.clients m.client) m) → Led deal c n u (client_did x m.client (requester.take (client_at x.clients m.client) m)).state
 Led-takes deal c n k u x m a new is within other st =
     let d = m.client in
@@ -354,7 +178,7 @@ fails_again y m s g o is unfinished held other waits step =
 -- the client is hindered, and each vote is held as before or was given back under the same grant
 record Failed (p : Planned) (c d q : ℕ) (u : WorldState) : Type 0 where
   world : WorldState
-  led : Led (dealing_of p.plans) c 0 u world
+  led : Led (dealing_of p.plans) c (only q 0) u world
   hindered : is_hindered (client_at world.clients d) ≡ true
   votes : (v : ℕ) → (held_of (client_at world.clients d) v ≡ held_of (client_at u.clients d) v) ⊎ (last_of (client_at world.clients d) v ≡ held_of (client_at u.clients d) v)
   others : (v : ℕ) → v ≢ q → voter_at world.voters v ≡ voter_at u.voters v
@@ -395,7 +219,7 @@ fails laws p c d q u h apart free g held other entry left =
     let contract = takes_meets laws.alone x m p w d here.reached refl here.client refl (now.members d q here.asked) in
     record {
       world = (client_did w d o).state;
-      led = Led-takes deal c 0 (length before) u w m (Led-went deal c q 0 u w heard.went few) (omega (arith, length-append u.sent (map kinds.ToVoter (requester.remind old)))) sent here.client apart (Stays-fail x m s refl);
+      led = Led-takes deal c (only q 0) (length before) u w m (Led-went deal c q 0 u w heard.went few) (omega (arith, length-append u.sent (map kinds.ToVoter (requester.remind old)))) sent here.client apart (Stays-fail x m s refl);
       hindered = ap is_hindered at ∙ laws.hinders x m (now.clients d) here.asks here.asked lacks (ap (λ n. tells.Fail n) (sym (ap (λ (z : ClientState). z.stamp) same)));
       votes = λ v. subst (λ (z : ClientState). (held_of z v ≡ held_of old v) ⊎ (last_of z v ≡ held_of old v)) (sym at) (elim (laws.kept x m (now.clients d) refl v) [
         | inl kept ↦ inl (kept ∙ ap (λ (z : ClientState). held_of z v) same)
@@ -410,13 +234,13 @@ second_next : {A : Type 0} (xs : List A) (y z : A) (ys : List A) → slice_get (
 second_next [] y z ys = refl
 second_next (x ∷ xs) y z ys = second_next xs y z ys
 
-pub record Returns (p : Planned) (c d v n : ℕ) (g : Grant) (u : WorldState) : Type 0 where
+pub record Returns (p : Planned) (c d v : ℕ) (n : ℕ → ℕ) (g : Grant) (u : WorldState) : Type 0 where
   pub world : WorldState
   pub led : Led (dealing_of p.plans) c n u world
   pub voter : voter_at world.voters v ≡ voter_at u.voters v
   pub last : last_of (client_at world.clients d) v ≡ g.grant
 
-Led-reminded : (deal : Dealing) (c v : ℕ) (u : WorldState) → v < length u.voters → Led deal c 0 u (reminded u v)
+Led-reminded : (deal : Dealing) (c v : ℕ) (u : WorldState) → v < length u.voters → Led deal c none u (reminded u v)
 unfolding reminded
 Led-reminded deal c v u within = record {
   steps = RemindVoter v ∷ [];
@@ -440,7 +264,7 @@ held_grant laws p d v u r g held has =
     grant_is (voter_at u.voters v).held g d x.stamp (held_of x v) held (ok.held d v (held_of x v) (held_under x v has))
 
 gives_back : (laws : TogetherLaws) (p : Planned) (c d v : ℕ) (u : WorldState) → Here p d v u → d ≢ c → holds (client_at u.clients d) v ≡ true → is_hindered (client_at u.clients d) ≡ true → (g : Grant) → (voter_at u.voters v).held ≡ Some g → g.client ≡ d
-    → (voter_at u.voters v).inquiring ≡ true → Returns p c d v 0 g u
+    → (voter_at u.voters v).inquiring ≡ true → Returns p c d v none g u
 unfolding reminded
 gives_back laws p c d v u h apart has hindered g held own inquiring =
     let deal = dealing_of p.plans in
@@ -462,7 +286,7 @@ gives_back laws p c d v u h apart has hindered g held own inquiring =
     let contract = takes_meets laws.alone x m p u d h.reached refl h.client refl within in
     record {
       world = (client_did (reminded u v) d o).state;
-      led = Led-takes deal c 0 (suc (length u.sent)) u (reminded u v) m (Led-reminded deal c v u within) (omega arith) sent h.client apart (Stays-inquire x m g.grant refl);
+      led = Led-takes deal c none (suc (length u.sent)) u (reminded u v) m (Led-reminded deal c v u within) (omega arith) sent h.client apart (Stays-inquire x m g.grant refl);
       voter = refl;
       last = ap (λ (z : ClientState). last_of z v) (client_here u.clients d o.state h.client) ∙ given_last x (requester.Takes m) o v contract given.0 ∙ sym number;
     }
@@ -473,22 +297,22 @@ gives_back laws p c d v u h apart has hindered g held own inquiring =
 abbrev IsLoose : ℕ → Grant → ClientState → Type 0
 IsLoose v g x = ((is_hindered x ≡ true) × (holds x v ≡ true)) ⊎ (last_of x v ≡ g.grant)
 
-record Loose (p : Planned) (c d v n : ℕ) (g : Grant) (u : WorldState) : Type 0 where
+record Loose (p : Planned) (c d v : ℕ) (n : ℕ → ℕ) (g : Grant) (u : WorldState) : Type 0 where
   world : WorldState
   led : Led (dealing_of p.plans) c n u world
   voter : voter_at world.voters v ≡ voter_at u.voters v
   loose : IsLoose v g (client_at world.clients d)
 
-Loose-then : (p : Planned) (c d v n m k : ℕ) (g : Grant) (u x : WorldState) → n + m ≤ k → Led (dealing_of p.plans) c n u x → voter_at x.voters v ≡ voter_at u.voters v → Loose p c d v m g x → Loose p c d v k g u
+Loose-then : (p : Planned) (c d v : ℕ) (n m k : ℕ → ℕ) (g : Grant) (u x : WorldState) → ((q : ℕ) → n q + m q ≤ k q) → Led (dealing_of p.plans) c n u x → voter_at x.voters v ≡ voter_at u.voters v → Loose p c d v m g x → Loose p c d v k g u
 Loose-then p c d v n m k g u x most a same h = record {
   world = h.world;
-  led = Led-more (dealing_of p.plans) c (n + m) k u h.world most (Led-then (dealing_of p.plans) c n m u x h.world a h.led);
+  led = Led-more (dealing_of p.plans) c (λ q. n q + m q) k u h.world most (Led-then (dealing_of p.plans) c n m u x h.world a h.led);
   voter = h.voter ∙ same;
   loose = h.loose;
 }
 
 -- the client has more votes, and the voter is as before
-record More (p : Planned) (c d v n : ℕ) (u : WorldState) : Type 0 where
+record More (p : Planned) (c d v : ℕ) (n : ℕ → ℕ) (u : WorldState) : Type 0 where
   world : WorldState
   led : Led (dealing_of p.plans) c n u world
   voter : voter_at world.voters v ≡ voter_at u.voters v
@@ -496,7 +320,7 @@ record More (p : Planned) (c d v n : ℕ) (u : WorldState) : Type 0 where
 
 abbrev Tried : Planned → ℕ → ℕ → ℕ → ℕ → Grant → WorldState → Type 0
 Tried p c d v q g u =
-    Somebody p 1 u ⊎ Loose p c d v 1 g u ⊎ ((m : More p c d v 1 u) × (is_member (client_at u.clients d) q ≡ true → holds (client_at m.world.clients d) q ≡ true))
+    Somebody p (only q 1) u ⊎ Loose p c d v (only q 1) g u ⊎ ((m : More p c d v (only q 1) u) × (is_member (client_at u.clients d) q ≡ true → holds (client_at m.world.clients d) q ≡ true))
 
 any_member : (f : ℕ → Bool) (l : List ℕ) (q : ℕ) → has l q ≡ true → f q ≡ true → list_any f l ≡ true
 any_member f [] q there is = absurd (false≢true there)
@@ -508,10 +332,25 @@ any_member f (x ∷ xs) q there is = elim (cases_eq x q) [
 hindered_by : (x : ClientState) (q : ℕ) → is_member x q ≡ true → is_relinquished x q ≡ true → is_hindered x ≡ true
 hindered_by x q member given = any_member (λ v. is_failed x v || is_relinquished x v) (members x) q member (grind (arith, nat_tests))
 
+loose_by : (x z : ClientState) (v : ℕ) (g : Grant) → is_hindered z ≡ true → holds x v ≡ true → g.grant ≡ held_of x v → (held_of z v ≡ held_of x v) ⊎ (last_of z v ≡ held_of x v) → IsLoose v g z
+loose_by x z v g hindered has number votes = elim votes [
+  | inl stays ↦ inl (hindered, ap (λ n. nat_lt 0 n) stays ∙ has)
+  | inr given ↦ inr (given ∙ sym number)
+]
+
+loose_from : (p : Planned) (c d v q : ℕ) (g : Grant) (u w : WorldState) → Led (dealing_of p.plans) c (only q 1) u w → v ≢ q → voter_at w.voters v ≡ voter_at u.voters v → holds (client_at w.clients d) v ≡ true
+    → g.grant ≡ held_of (client_at w.clients d) v → Failed p c d q w → Loose p c d v (only q 1) g u
+loose_from p c d v q g u w led other same has number f = record {
+  world = f.world;
+  led = Led-more (dealing_of p.plans) c (λ r. only q 1 r + only q 0 r) (only q 1) u f.world (λ r. (let nothing = only_zero q r in omega arith)) (Led-then (dealing_of p.plans) c (only q 1) (only q 0) u w f.world led f.led);
+  voter = f.others v other ∙ same;
+  loose = loose_by (client_at w.clients d) (client_at f.world.clients d) v g f.hindered has number (f.votes v);
+}
+
 tries : (laws : TogetherLaws) (p : Planned) (c d v q : ℕ) (g : Grant) (u : WorldState) → Here p d v u → d ≢ c → (voter_at u.voters v).held ≡ Some g → holds (client_at u.clients d) v ≡ true → is_member (client_at u.clients d) q ≡ true
     → (voter_at u.voters q).granted + 2 ≤ (voter_at u.voters q).limit → Tried p c d v q g u
 tries laws p c d v q g u h apart held has member left = elim (holds (client_at u.clients d) q) as (λ b. holds (client_at u.clients d) q ≡ b → Tried p c d v q g u) [
-  | true ↦ λ got. inr (inr (record { world = u; led = Led-self (dealing_of p.plans) c 1 u; voter = refl; held = λ r was. was }, λ _. got))
+  | true ↦ λ got. inr (inr (record { world = u; led = Led-self (dealing_of p.plans) c (only q 1) u; voter = refl; held = λ r was. was }, λ _. got))
   | false ↦ λ free.
       let deal = dealing_of p.plans in
       let spot : Here p d q u = record { reached = h.reached; client = h.client; asks = h.asks; asked = member } in
@@ -524,6 +363,7 @@ tries laws p c d v q g u h apart held has member left = elim (holds (client_at u
       let here = Here-went p d q q u w told.went spot in
       let ok = laws.alone.fitting.coherent (with_state p w) here.reached in
       let led = Led-went deal c q 1 u w told.went told.few in
+      let one_only : (r : ℕ) → only q 1 r + only q 0 r ≤ only q 1 r = λ r. (let nothing = only_zero q r in omega arith) in
       let lacks = ap (λ (z : ClientState). holds z q) same ∙ free in
       let has_it = ap (λ (z : ClientState). holds z v) same ∙ has in
       let kept = told.went.others v other in
@@ -537,15 +377,18 @@ tries laws p c d v q g u h apart held has member left = elim (holds (client_at u
             let stamp = own_stamp y d x.stamp k.0 (ok.voters q) told.entry k.1 mine in
             elim (cases_lt (last_of x q) k.0.grant) [
               | inl less ↦ elim (gets laws.alone p d q w here lacks k.0 k.1 mine stamp less) [
-                | inl e ↦ inl (Somebody-led p c 1 0 1 u w (omega arith) led (somebody_at p d q (voter_at w.voters q).granted 0 w here.asks (omega arith) e))
+                | inl e ↦ inl (Somebody-led p c (only q 1) (only q 0) (only q 1) u w one_only led (somebody_at p d q (voter_at w.voters q).granted 0 w here.asks (omega arith) e))
                 | inr on ↦
                     let more = Led-went deal c q 0 w on.0 on.1 (let count = ap (λ vs. (voter_at vs q).granted) on.3 in omega arith) in
-                    inr (inr (record {
-                      world = on.0;
-                      led = Led-more deal c (1 + 0) 1 u on.0 (omega arith) (Led-then deal c 1 0 u w on.0 led more);
-                      voter = ap (λ vs. voter_at vs v) on.3 ∙ kept;
-                      held = λ r was. (on.1.gains d).held r (ap (λ (z : ClientState). holds z r) same ∙ was);
-                    }, λ _. on.2))
+                    inr (inr (
+                      record {
+                        world = on.0;
+                        led = Led-more deal c (λ r. only q 1 r + only q 0 r) (only q 1) u on.0 one_only (Led-then deal c (only q 1) (only q 0) u w on.0 led more);
+                        voter = ap (λ vs. voter_at vs v) on.3 ∙ kept;
+                        held = λ r was. (on.1.gains d).held r (ap (λ (z : ClientState). holds z r) same ∙ was);
+                      },
+                      λ _. on.2,
+                    ))
               ]
               | inr most ↦
                   let pair = (Fits-reached laws.alone.fitting (with_state p w) here.reached).pairs d q in
@@ -555,58 +398,49 @@ tries laws p c d v q g u h apart held has member left = elim (holds (client_at u
         | inr unlike ↦
             let f = fails laws p c d q w here apart lacks k.0 k.1 unlike told.entry (omega arith) in
             let number = held_grant laws.alone p d v w here.reached g (ap (λ (z : VoterState). z.held) kept ∙ held) has_it in
-            inr (inl (record {
-              world = f.world;
-              led = Led-more deal c (1 + 0) 1 u f.world (omega arith) (Led-then deal c 1 0 u w f.world led f.led);
-              voter = f.others v other ∙ kept;
-              loose = elim (f.votes v) [
-                | inl stays ↦ inl (f.hindered, ap (λ n. nat_lt 0 n) stays ∙ has_it)
-                | inr given ↦ inr (given ∙ sym number)
-              ];
-            }))
+            inr (inl (loose_from p c d v q g u w led other kept has_it number f))
       ]
 ] refl
 
-pub HasGrants-led : (deal : Dealing) (c m n k : ℕ) (u x : WorldState) → m + n ≤ k → Led deal c m u x → HasGrants k u → HasGrants n x
-HasGrants-led deal c m n k u x most a h v within =
-    let before = h v (subst (λ l. v < l) a.voters within) in
-    let few = a.few v in
-    let limit = a.limit v in
-    omega arith
+-- one grant, and one for each time that the voter is in the list
+abbrev and_one : List ℕ → ℕ → ℕ
+and_one qs r = 1 + times_in qs r
 
 -- the client has the votes of these members, or somebody gets in, or it is loose
-record AllTried (p : Planned) (c d v n : ℕ) (qs : List ℕ) (u : WorldState) : Type 0 where
+record AllTried (p : Planned) (c d v : ℕ) (n : ℕ → ℕ) (qs : List ℕ) (u : WorldState) : Type 0 where
   more : More p c d v n u
   all : (r : ℕ) → has qs r ≡ true → is_member (client_at u.clients d) r ≡ true → holds (client_at more.world.clients d) r ≡ true
 
-has_rest : (q r : ℕ) (qs : List ℕ) → r ≢ q → has (q ∷ qs) r ≡ true → has qs r ≡ true
+pub has_rest : (q r : ℕ) (qs : List ℕ) → r ≢ q → has (q ∷ qs) r ≡ true → has qs r ≡ true
 has_rest q r qs other there = grind (arith, nat_tests)
 
-tries_all : (laws : TogetherLaws) (p : Planned) (c d v : ℕ) (g : Grant) (qs : List ℕ) (u : WorldState) → Here p d v u → d ≢ c → (voter_at u.voters v).held ≡ Some g → holds (client_at u.clients d) v ≡ true → HasGrants (1 + length qs) u
-    → Somebody p (length qs) u ⊎ Loose p c d v (length qs) g u ⊎ AllTried p c d v (length qs) qs u
+tries_all : (laws : TogetherLaws) (p : Planned) (c d v : ℕ) (g : Grant) (qs : List ℕ) (u : WorldState) → Here p d v u → d ≢ c → (voter_at u.voters v).held ≡ Some g → holds (client_at u.clients d) v ≡ true → CanGive (and_one qs) u
+    → Somebody p (times_in qs) u ⊎ Loose p c d v (times_in qs) g u ⊎ AllTried p c d v (times_in qs) qs u
 tries_all laws p c d v g [] u h apart held has_v left =
-    inr (inr (record { more = record { world = u; led = Led-self (dealing_of p.plans) c 0 u; voter = refl; held = λ r was. was }; all = λ r there. absurd (false≢true there) }))
+    inr (inr (record { more = record { world = u; led = Led-self (dealing_of p.plans) c (times_in []) u; voter = refl; held = λ r was. was }; all = λ r there. absurd (false≢true there) }))
 tries_all laws p c d v g (q ∷ qs) u h apart held has_v left =
     let deal = dealing_of p.plans in
     let ok = laws.alone.fitting.coherent (with_state p u) h.reached in
+    let sum : (r : ℕ) → only q 1 r + times_in qs r ≤ times_in (q ∷ qs) r = λ r. (let more = times_more q r qs in omega arith) in
+    let first : (r : ℕ) → only q 1 r ≤ times_in (q ∷ qs) r = λ r. (let more = times_more q r qs in omega arith) in
     let one : Tried p c d v q g u = elim (is_member (client_at u.clients d) q) as (λ b. is_member (client_at u.clients d) q ≡ b → Tried p c d v q g u) [
-      | true ↦ λ member. tries laws p c d v q g u h apart held has_v member (let count = left q (ok.members d q member) in omega arith)
-      | false ↦ λ none. inr (inr (record { world = u; led = Led-self deal c 1 u; voter = refl; held = λ r was. was }, λ member. absurd (false≢true (sym none ∙ member))))
+      | true ↦ λ member. tries laws p c d v q g u h apart held has_v member (let count = left q (ok.members d q member) in let more = times_more q q qs in let first = only_here q 1 q refl in omega arith)
+      | false ↦ λ none. inr (inr (record { world = u; led = Led-self deal c (only q 1) u; voter = refl; held = λ r was. was }, λ member. absurd (false≢true (sym none ∙ member))))
     ] refl in
     elim one [
-      | inl e ↦ inl (Somebody-more p 1 (length (q ∷ qs)) u (omega arith) e)
-      | inr (inl loose) ↦ inr (inl (Loose-then p c d v 0 1 (length (q ∷ qs)) g u u (omega arith) (Led-self deal c 0 u) refl loose))
+      | inl e ↦ inl (Somebody-more p (only q 1) (times_in (q ∷ qs)) u first e)
+      | inr (inl loose) ↦ inr (inl (Loose-then p c d v none (only q 1) (times_in (q ∷ qs)) g u u (λ r. (let all = first r in omega arith)) (Led-self deal c none u) refl loose))
       | inr (inr on) ↦
           let m = on.0 in
           let x = m.world in
-          let next = Here-led p c 1 d v u x m.led h in
-          elim (tries_all laws p c d v g qs x next apart (ap (λ (z : VoterState). z.held) m.voter ∙ held) (m.held v has_v) (HasGrants-led deal c 1 (1 + length qs) (1 + length (q ∷ qs)) u x (omega arith) m.led left)) [
-            | inl e ↦ inl (Somebody-led p c 1 (length qs) (length (q ∷ qs)) u x (omega arith) m.led e)
-            | inr (inl loose) ↦ inr (inl (Loose-then p c d v 1 (length qs) (length (q ∷ qs)) g u x (omega arith) m.led m.voter loose))
+          let next = Here-led p c (only q 1) d v u x m.led h in
+          elim (tries_all laws p c d v g qs x next apart (ap (λ (z : VoterState). z.held) m.voter ∙ held) (m.held v has_v) (CanGive-led deal c (only q 1) (and_one qs) (and_one (q ∷ qs)) u x (λ r. (let all = sum r in omega arith)) m.led left)) [
+            | inl e ↦ inl (Somebody-led p c (only q 1) (times_in qs) (times_in (q ∷ qs)) u x sum m.led e)
+            | inr (inl loose) ↦ inr (inl (Loose-then p c d v (only q 1) (times_in qs) (times_in (q ∷ qs)) g u x sum m.led m.voter loose))
             | inr (inr rest) ↦ inr (inr (record {
               more = record {
                 world = rest.more.world;
-                led = Led-more deal c (1 + length qs) (length (q ∷ qs)) u rest.more.world (omega arith) (Led-then deal c 1 (length qs) u x rest.more.world m.led rest.more.led);
+                led = Led-more deal c (λ r. only q 1 r + times_in qs r) (times_in (q ∷ qs)) u rest.more.world sum (Led-then deal c (only q 1) (times_in qs) u x rest.more.world m.led rest.more.led);
                 voter = rest.more.voter ∙ m.voter;
                 held = λ r was. rest.more.held r (m.held r was);
               };
@@ -625,34 +459,33 @@ all_hold f (x ∷ xs) all =
     let rest = all_hold f xs (λ q there. all q (grind (arith, nat_tests))) in
     grind (arith, nat_tests)
 
-loosens : (laws : TogetherLaws) (p : Planned) (c d v : ℕ) (g : Grant) (u : WorldState) → Here p d v u → d ≢ c → (voter_at u.voters v).held ≡ Some g → holds (client_at u.clients d) v ≡ true → HasGrants (1 + length u.voters) u
-    → Somebody p (length u.voters) u ⊎ Loose p c d v (length u.voters) g u
+loosens : (laws : TogetherLaws) (p : Planned) (c d v : ℕ) (g : Grant) (u : WorldState) → Here p d v u → d ≢ c → (voter_at u.voters v).held ≡ Some g → holds (client_at u.clients d) v ≡ true → CanGive (λ r. 2) u
+    → Somebody p one_each u ⊎ Loose p c d v one_each g u
 loosens laws p c d v g u h apart held has_v left =
     let deal = dealing_of p.plans in
     let n = length u.voters in
-    let count = length_range 0 n in
-    elim (tries_all laws p c d v g (range_with_len 0 n) u h apart held has_v (subst (λ k. HasGrants (1 + k) u) (sym count) left)) [
-      | inl e ↦ inl (Somebody-more p (length (range_with_len 0 n)) n u (omega arith) e)
-      | inr (inl loose) ↦ inr (Loose-then p c d v 0 (length (range_with_len 0 n)) n g u u (omega arith) (Led-self deal c 0 u) refl loose)
+    let qs = range_with_len 0 n in
+    elim (tries_all laws p c d v g qs u h apart held has_v (λ r within. (let count = left r within in let once = times_once 0 n r in omega arith))) [
+      | inl e ↦ inl (Somebody-more p (times_in qs) one_each u (times_once 0 n) e)
+      | inr (inl loose) ↦ inr (Loose-then p c d v none (times_in qs) one_each g u u (λ r. (let once = times_once 0 n r in omega arith)) (Led-self deal c none u) refl loose)
       | inr (inr all) ↦
           let x = all.more.world in
           let led = all.more.led in
-          let here = Here-led p c (length (range_with_len 0 n)) d v u x led h in
+          let here = Here-led p c (times_in qs) d v u x led h in
           let ok = laws.alone.fitting.coherent (with_state p u) h.reached in
           let lacks = (Fits-reached laws.alone.fitting (with_state p x) here.reached).lacks d here.asks in
           absurd (false≢true (sym lacks ∙ all_hold (holds (client_at x.clients d)) (members (client_at x.clients d)) (λ q there.
-              let member : is_member (client_at u.clients d) q ≡ true = ap (λ l. has l q) (sym (led.same d).quorum) ∙ there in
-              let within = ok.members d q member in
-              all.all q (has_range 0 n q (omega arith) (omega arith)) member)))
+          let member : is_member (client_at u.clients d) q ≡ true = ap (λ l. has l q) (sym (led.same d).quorum) ∙ there in
+          let within = ok.members d q member in
+          all.all q (has_range 0 n q (omega arith) (omega arith)) member)))
     ]
 
 -- ---- the vote goes back
 
 pub returns : (laws : TogetherLaws) (p : Planned) (c d v : ℕ) (g : Grant) (u : WorldState) → Leads u c → Here p d v u → d ≢ c → IsEntry (voter_at u.voters v) c (client_at u.clients c).stamp → (voter_at u.voters v).held ≡ Some g → g.client ≡ d
-    → g.stamp ≡ (client_at u.clients d).stamp → holds (client_at u.clients d) v ≡ true → HasGrants (1 + length u.voters) u → Somebody p (length u.voters) u ⊎ Returns p c d v (length u.voters) g u
+    → g.stamp ≡ (client_at u.clients d).stamp → holds (client_at u.clients d) v ≡ true → CanGive (λ r. 2) u → Somebody p one_each u ⊎ Returns p c d v one_each g u
 returns laws p c d v g u leads h apart entry held own stamp has_v left =
     let deal = dealing_of p.plans in
-    let n = length u.voters in
     elim (loosens laws p c d v g u h apart held has_v left) [
       | inl e ↦ inl e
       | inr loose ↦
@@ -661,14 +494,14 @@ returns laws p c d v g u leads h apart entry held own stamp has_v left =
           elim loose.loose [
             | inr last ↦ inr (record { world = x; led = led; voter = loose.voter; last = last })
             | inl stuck ↦
-                let here = Here-led p c n d v u x led h in
+                let here = Here-led p c one_each d v u x led h in
                 let waits = entry_waits (voter_at u.voters v) c (client_at u.clients c).stamp g entry held (λ same. apart (sym own ∙ same)) in
                 let ahead = subst (λ (r : Request). precedes (request_at u c) r ≡ true) (sym (λ i. record { stamp = stamp i; client = own i })) (leads.first d apart h.asks) in
                 let inquiring = (Placed-reached laws (with_state p u) h.reached).back v g c (client_at u.clients c).stamp held waits ahead in
                 let back = gives_back laws p c d v x here apart stuck.1 stuck.0 g (ap (λ (z : VoterState). z.held) loose.voter ∙ held) own (ap (λ (z : VoterState). z.inquiring) loose.voter ∙ inquiring) in
                 inr (record {
                   world = back.world;
-                  led = Led-more deal c (n + 0) n u back.world (omega arith) (Led-then deal c n 0 u x back.world led back.led);
+                  led = Led-more deal c (λ r. one_each r + none r) one_each u back.world (λ r. omega arith) (Led-then deal c one_each none u x back.world led back.led);
                   voter = back.voter ∙ loose.voter;
                   last = back.last;
                 })

@@ -17,7 +17,7 @@ use Rattle.voter.specs.VoterContract as votes
 use Rattle.voter.specs.Waiting.{precedes}
 use Rattle.requester.specs.declared.fault.ClientFault.TheVariants.{Busy}
 use Rattle.requester.specs.declared.state.ClientState.{ClientState}
-use Rattle.requester.specs.declared.state.Seen.TheVariants.{Nothing}
+use Rattle.requester.specs.declared.state.Seen.TheVariants.{Left, Nothing}
 use Rattle.requester.specs.Clocks.{KeepsTime}
 use Rattle.requester.specs.Held.{IsGivenBack, IsKeptOrGiven, KeepsMark}
 use Rattle.requester.specs.RequesterContract.{Accepts, AllRepeat, MeetsContract, RemindersInRange}
@@ -102,3 +102,8 @@ pub record TogetherLaws : Type 0 where
       → is_hindered (requester.take x m).state ≡ true
   pub gives : (x : ClientState) (m : ToClient) → IsSound x → is_asking x.phase ≡ true → holds x m.voter ≡ true → is_hindered x ≡ true → m.voter < max_voters → m.body ≡ tells.Inquire (held_of x m.voter)
       → IsGivenBack x (requester.take x m) m.voter × (is_relinquished (requester.take x m).state m.voter ≡ true)
+
+-- what depends on clients that leave, too
+pub record LeavingLaws : Type 0 where
+  pub together : TogetherLaws
+  pub left : (x : ClientState) → is_inside x.phase ≡ true → requester.leave x ≡ Ok (requester.released x Left)

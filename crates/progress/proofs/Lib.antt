@@ -2,10 +2,13 @@ pub mod Alone
 pub mod Always
 pub mod Behind
 pub mod Counting
+pub mod Counts
+pub mod Everybody
 pub mod Exchanges
 pub mod Fitting
 pub mod Hindering
 pub mod Known
+pub mod Led
 pub mod Moves
 pub mod Placed
 pub mod Together

@@ -1,8 +1,7 @@
 -- requests are known only at members of their quorums, and votes are asked back, after every run
-use Rattle.std.proofs.Common.{◌≡◌, ◌≢◌, ℕ, ◌+◌, ◌<◌, ◌≤◌, Bool, true, false, List, [], ◌∷◌, ◌++◌, map, length, Option, Some, Ok, refl, sym, ap, subst, ◌∙◌, ◌⊎◌, inl, inr, arith}
-use Rattle.std.specs.Prelude.{◌||◌, ◌==◌}
+use Rattle.std.proofs.Common.{◌≡◌, ◌≢◌, ℕ, ◌+◌, ◌≤◌, Bool, true, false, List, [], ◌∷◌, ◌++◌, map, Ok, refl, sym, ap, subst, ◌∙◌, inl, inr, arith}
 use Rattle.std.specs.List.{AllByRecursion, filter}
-use Rattle.std.proofs.lemmas.Bool.{cases_eq, cases_lt, false≢true}
+use Rattle.std.proofs.lemmas.Bool.{cases_eq, false≢true}
 use Rattle.std.proofs.lemmas.Bool.Decides.{nat_tests}
 use Rattle.numbers.specs.Sets.{has}
 use Rattle.message.specs.declared.message.Message.{Message}
@@ -18,19 +17,19 @@ use Rattle.voter.specs.Entries.{AsksBack}
 use Rattle.voter.specs.Steps as voter
 use Rattle.voter.specs.VoterContract.{Brings, IsEntry}
 use Rattle.requester.specs.declared.state.ClientState.{ClientState}
-use Rattle.requester.specs.RequesterContract.{AllSay, AllRepeat, IsLater, KeepsQuorum, MeetsContract, RemindersInRange}
+use Rattle.requester.specs.RequesterContract.{AllSay, AllRepeat, IsLater, KeepsQuorum, RemindersInRange}
 use Rattle.requester.specs.Soundness.{IsSound}
 use Rattle.requester.specs.Steps as requester
-use Rattle.requester.specs.Words.{is_covered, is_current, is_idle, is_inquired, is_member, members}
+use Rattle.requester.specs.Words.{is_current, is_idle, is_inquired, is_member, members}
 use Rattle.world.specs.declared.step.Step.{Step}
 use Rattle.world.specs.Coherence.{AskOk, IsCoherent, MessageOk}
 use Rattle.world.specs.Runs.{IsReached, after, run_of, start, start_by}
 use Rattle.world.specs.Steps.{Planned, WorldState, client_at, dealing_of, step, voter_at}
 use Rattle.progress.proofs.Always.{AllByRecursion-append, none_entry, new_voter, new_voters}
 use Rattle.progress.proofs.Behind.{ask-Ok, meets}
-use Rattle.progress.proofs.Fitting.{take-Ok}
+use Rattle.progress.proofs.Fitting.{current_busy, current_stamp, take-Ok}
 use Rattle.progress.proofs.Known.{TogetherLaws}
-use Rattle.progress.proofs.Moves.{AllByRecursion-get, AreReminders, ClientMoved, IsReached-after, IsReminder, Moved, Moved-step, OnlySent, VoterMoved, with_state}
+use Rattle.progress.proofs.Moves.{AllByRecursion-get, ClientMoved, IsReached-after, IsReminder, Moved, Moved-step, OnlySent, VoterMoved, with_state}
 
 -- a REQUEST for the request that runs went to a member of its quorum
 abbrev pub AskedBy : ClientState → ℕ → VoterBody → Type 0
@@ -53,13 +52,7 @@ pub record Placed (cs : List ClientState) (vs : List VoterState) (sent : List Me
 
 -- ---- words
 
-pub current_busy : (x : ClientState) (s : ℕ) → is_current x s ≡ true → is_idle x.phase ≡ false
-current_busy x s is = grind (arith, nat_tests)
-
-pub current_stamp : (x : ClientState) (s : ℕ) → is_current x s ≡ true → s ≡ x.stamp
-current_stamp x s is = grind (arith, nat_tests)
-
-pub is_current_of : (x : ClientState) (s : ℕ) → is_idle x.phase ≡ false → s ≡ x.stamp → is_current x s ≡ true
+is_current_of : (x : ClientState) (s : ℕ) → is_idle x.phase ≡ false → s ≡ x.stamp → is_current x s ≡ true
 is_current_of x s busy same = grind (arith, nat_tests)
 
 idle_not_current : (x : ClientState) (s : ℕ) → is_idle x.phase ≡ true → is_current x s ≡ true → ⊥

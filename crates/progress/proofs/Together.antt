@@ -1,8 +1,6 @@
 -- a client gets in while others ask too
-use Rattle.std.proofs.Common.{◌≡◌, ◌≢◌, ℕ, zero, suc, ◌+◌, ◌*◌, ◌<◌, ◌≤◌, Bool, true, false, List, [], ◌∷◌, ◌++◌, length, Option, Some, refl, sym, ap, subst, ◌∙◌, ◌⊎◌, inl, inr, arith}
-use Rattle.std.specs.Prelude.{◌&&◌, ◌||◌, nat_lt, ◌==◌, slice_index}
-use Rattle.std.specs.FinMap.{get}
-use Rattle.std.specs.List.{AllByRecursion, list_all, range_with_len}
+use Rattle.std.proofs.Common.{◌≡◌, ◌≢◌, ℕ, zero, suc, ◌+◌, ◌<◌, ◌≤◌, true, false, List, [], ◌∷◌, length, Some, refl, sym, ap, subst, ◌∙◌, ◌⊎◌, inl, inr, arith}
+use Rattle.std.specs.List.{range_with_len}
 use Rattle.std.proofs.lemmas.Bool.{cases_eq, cases_lt, false≢true}
 use Rattle.std.proofs.lemmas.Bool.Decides.{nat_tests}
 use Rattle.std.proofs.lemmas.List.{get_or_past}
@@ -15,37 +13,39 @@ use Rattle.voter.specs.VoterContract.{IsEntry}
 use Rattle.voter.specs.Waiting.{precedes}
 use Rattle.requester.specs.declared.state.ClientState.{ClientState}
 use Rattle.requester.specs.Steps as requester
-use Rattle.requester.specs.Words.{holds, is_asking, is_covered, is_current, is_inside, is_member, last_of, members}
+use Rattle.requester.specs.Words.{holds, is_asking, is_current, is_member, last_of, members}
 use Rattle.world.specs.declared.step.Step.{Step}
 use Rattle.world.specs.Runs.{IsReached}
 use Rattle.world.specs.Steps.{Planned, WorldState, client_at, dealing_of, voter_at}
 use Rattle.progress.specs.WayIn.{Asks, HasGrants, IsFree, IsWayIn}
-use Rattle.progress.proofs.Fitting.{Fits-reached}
-use Rattle.progress.proofs.Hindering.{HasGrants-led, Here-led, Leads-led, Led, Led-more, Led-self, Led-then, Led-went, Somebody, Somebody-led, Somebody-more, all_hold, returns, somebody_at}
+use Rattle.progress.proofs.Fitting.{Fits-reached, current_stamp}
+use Rattle.progress.proofs.Counts.{CanGive, none, one_each, only, only_else, only_here, only_sum, only_zero}
+use Rattle.progress.proofs.Hindering.{all_hold, has_rest, returns}
+use Rattle.progress.proofs.Led.{CanGive-led, Here-led, Leads-led, Led, Led-more, Led-self, Led-then, Led-went, Somebody, Somebody-led, Somebody-more, somebody_at}
 use Rattle.progress.proofs.Known.{AloneLaws, TogetherLaws}
 use Rattle.progress.proofs.Moves.{with_state}
 use Rattle.progress.proofs.Placed.{Placed-reached}
-use Rattle.progress.proofs.Ways.{Got, Here, Here-went, Leads, Leads-went, Settled, Stands, Went, asks_again, current_asks, current_stamp, IsReached-run, frees_up, gave_back, gets, has_range, held_some, length_range, request_at}
+use Rattle.progress.proofs.Ways.{Got, Here, Leads, Settled, Stands, asks_again, current_asks, IsReached-run, frees_up, gave_back, gets, has_range, held_some, length_range, request_at}
 
 -- ---- one vote
 
 -- a world in which the client has the vote
-record Won (p : Planned) (c v n : ℕ) (u : WorldState) : Type 0 where
+record Won (p : Planned) (c v : ℕ) (n : ℕ → ℕ) (u : WorldState) : Type 0 where
   world : WorldState
   led : Led (dealing_of p.plans) c n u world
   has : holds (client_at world.clients c) v ≡ true
 
 -- somebody gets in, or the client has the vote of this voter
-abbrev Wins : Planned → ℕ → ℕ → ℕ → WorldState → Type 0
+abbrev Wins : Planned → ℕ → ℕ → (ℕ → ℕ) → WorldState → Type 0
 Wins p c v n u = Somebody p n u ⊎ Won p c v n u
 
-Wins-then : (p : Planned) (c v n m k : ℕ) (u x : WorldState) → n + m ≤ k → Led (dealing_of p.plans) c n u x → Wins p c v m x → Wins p c v k u
+Wins-then : (p : Planned) (c v : ℕ) (n m k : ℕ → ℕ) (u x : WorldState) → ((q : ℕ) → n q + m q ≤ k q) → Led (dealing_of p.plans) c n u x → Wins p c v m x → Wins p c v k u
 Wins-then p c v n m k u x most a w = elim w [
   | inl e ↦ inl (Somebody-led p c n m k u x most a e)
-  | inr h ↦ inr (record { world = h.world; led = Led-more (dealing_of p.plans) c (n + m) k u h.world most (Led-then (dealing_of p.plans) c n m u x h.world a h.led); has = h.has })
+  | inr h ↦ inr (record { world = h.world; led = Led-more (dealing_of p.plans) c (λ q. n q + m q) k u h.world most (Led-then (dealing_of p.plans) c n m u x h.world a h.led); has = h.has })
 ]
 
-wins_by : (p : Planned) (c v top n : ℕ) (u : WorldState) → is_asking (client_at u.clients c).phase ≡ true → top ≤ (voter_at u.voters v).granted + n → Got p c v top u → Wins p c v n u
+wins_by : (p : Planned) (c v top n : ℕ) (u : WorldState) → is_asking (client_at u.clients c).phase ≡ true → top ≤ (voter_at u.voters v).granted + n → Got p c v top u → Wins p c v (only v n) u
 wins_by p c v top n u asks most got = elim got [
   | inl e ↦ inl (somebody_at p c v top n u asks most e)
   | inr on ↦ inr (record { world = on.0; led = Led-went (dealing_of p.plans) c v n u on.0 on.1 (let few = on.3 in omega arith); has = on.2 })
@@ -61,7 +61,7 @@ record Waits (p : Planned) (c v : ℕ) (u : WorldState) : Type 0 where
   leads : Leads u c
   entry : IsEntry (voter_at u.voters v) c (client_at u.clients c).stamp
 
-Waits-led : (p : Planned) (c v n : ℕ) (u x : WorldState) → Led (dealing_of p.plans) c n u x → voter_at x.voters v ≡ voter_at u.voters v → Waits p c v u → Waits p c v x
+Waits-led : (p : Planned) (c v : ℕ) (n : ℕ → ℕ) (u x : WorldState) → Led (dealing_of p.plans) c n u x → voter_at x.voters v ≡ voter_at u.voters v → Waits p c v u → Waits p c v x
 Waits-led p c v n u x a same h = record {
   spot = Here-led p c n c v u x a h.spot;
   leads = Leads-led (dealing_of p.plans) c n u x a h.leads;
@@ -85,48 +85,57 @@ stands laws p c v u h free left =
 
 -- a grant that its client gave back
 wins_back : (laws : AloneLaws) (p : Planned) (c v d : ℕ) (g : Grant) (u : WorldState) → Waits p c v u → Here p d v u → (voter_at u.voters v).held ≡ Some g → g.client ≡ d → g.stamp ≡ (client_at u.clients d).stamp → g.grant ≤ last_of (client_at u.clients d) v
-    → (voter_at u.voters v).granted + turns u ≤ (voter_at u.voters v).limit → Wins p c v (turns u) u
-wins_back laws p c v d g u h there held own stamp few left = elim (holds (client_at u.clients c) v) as (λ b. holds (client_at u.clients c) v ≡ b → Wins p c v (turns u) u) [
-  | true ↦ λ has. inr (record { world = u; led = Led-self (dealing_of p.plans) c (turns u) u; has = has })
+    → (voter_at u.voters v).granted + turns u ≤ (voter_at u.voters v).limit → Wins p c v (only v (turns u)) u
+wins_back laws p c v d g u h there held own stamp few left = elim (holds (client_at u.clients c) v) as (λ b. holds (client_at u.clients c) v ≡ b → Wins p c v (only v (turns u)) u) [
+  | true ↦ λ has. inr (record { world = u; led = Led-self (dealing_of p.plans) c (only v (turns u)) u; has = has })
   | false ↦ λ free. wins_by p c v ((voter_at u.voters v).granted + turns u) (turns u) u h.spot.asks (omega arith)
       (gave_back laws p c v ((voter_at u.voters v).granted + turns u) d (range_with_len 0 (length u.clients)) u (stands laws p c v u h free left) there g held own stamp few)
 ] refl
 
 -- the voter gave no grant to another request that runs
-wins_settled : (laws : AloneLaws) (p : Planned) (c v : ℕ) (u : WorldState) → Waits p c v u → Settled c v u → (voter_at u.voters v).granted + turns u ≤ (voter_at u.voters v).limit → Wins p c v (turns u) u
-wins_settled laws p c v u h settled left = elim (holds (client_at u.clients c) v) as (λ b. holds (client_at u.clients c) v ≡ b → Wins p c v (turns u) u) [
-  | true ↦ λ has. inr (record { world = u; led = Led-self (dealing_of p.plans) c (turns u) u; has = has })
+wins_settled : (laws : AloneLaws) (p : Planned) (c v : ℕ) (u : WorldState) → Waits p c v u → Settled c v u → (voter_at u.voters v).granted + turns u ≤ (voter_at u.voters v).limit → Wins p c v (only v (turns u)) u
+wins_settled laws p c v u h settled left = elim (holds (client_at u.clients c) v) as (λ b. holds (client_at u.clients c) v ≡ b → Wins p c v (only v (turns u)) u) [
+  | true ↦ λ has. inr (record { world = u; led = Led-self (dealing_of p.plans) c (only v (turns u)) u; has = has })
   | false ↦ λ free. wins_by p c v ((voter_at u.voters v).granted + turns u) (turns u) u h.spot.asks (omega arith)
       (frees_up laws p c v ((voter_at u.voters v).granted + turns u) (range_with_len 0 (length u.clients)) u (stands laws p c v u h free left) settled)
 ] refl
 
+-- what one vote takes, once the request is known: n grants of its voter, and one grant of each voter
+abbrev pub one_vote : ℕ → ℕ → ℕ → ℕ
+one_vote v n r = 1 + only v n r
+
+-- one grant more than that
+abbrev pub kept_for : ℕ → ℕ → ℕ → ℕ
+kept_for v n r = 2 + only v n r
+
 -- another client has the vote
 wins_from : (laws : TogetherLaws) (p : Planned) (c v d : ℕ) (g : Grant) (u : WorldState) → Waits p c v u → Here p d v u → d ≢ c → (voter_at u.voters v).held ≡ Some g → g.client ≡ d → g.stamp ≡ (client_at u.clients d).stamp → holds (client_at u.clients d) v ≡ true
-    → HasGrants (length u.voters + turns u) u → Wins p c v (length u.voters + turns u) u
+    → CanGive (kept_for v (turns u)) u → Wins p c v (one_vote v (turns u)) u
 wins_from laws p c v d g u h there apart held own stamp has left =
     let deal = dealing_of p.plans in
-    let n = length u.voters in
     elim (returns laws p c d v g u h.leads there apart h.entry held own stamp has (λ q within. (let count = left q within in omega arith))) [
-      | inl e ↦ inl (Somebody-more p n (n + turns u) u (omega arith) e)
+      | inl e ↦ inl (Somebody-more p one_each (one_vote v (turns u)) u (λ r. omega arith) e)
       | inr back ↦
           let x = back.world in
           let led = back.led in
           let same = back.voter in
           let clients = led.clients in
-          let waits = Waits-led p c v n u x led same h in
+          let number : turns x ≡ turns u = omega arith in
+          let waits = Waits-led p c v one_each u x led same h in
           let ok = laws.alone.fitting.coherent (with_state p x) waits.spot.reached in
           let last = back.last in
-          let grants = HasGrants-led deal c n (turns u) (n + turns u) u x (omega arith) led left in
+          let grants = CanGive-led deal c one_each (one_vote v (turns u)) (kept_for v (turns u)) u x (λ r. omega arith) led left in
           let count = grants v (ok.members c v waits.spot.asked) in
-          Wins-then p c v n (turns x) (n + turns u) u x (omega arith) led
-          (wins_back laws.alone p c v d g x waits (Here-led p c n d v u x led there) (ap (λ (y : VoterState). y.held) same ∙ held) own (stamp ∙ sym (led.same d).stamp) (omega arith) (omega arith))
+          let here = only_here v (turns u) v refl in
+          Wins-then p c v one_each (only v (turns x)) (one_vote v (turns u)) u x (λ r. (let only_same = ap (λ n. only v n r) number in omega arith)) led
+          (wins_back laws.alone p c v d g x waits (Here-led p c one_each d v u x led there) (ap (λ (y : VoterState). y.held) same ∙ held) own (stamp ∙ sym (led.same d).stamp) (omega arith) (omega arith))
     ]
 
 -- the request is known
-wins_known : (laws : TogetherLaws) (p : Planned) (c v : ℕ) (u : WorldState) → Waits p c v u → HasGrants (length u.voters + turns u) u → Wins p c v (length u.voters + turns u) u
+wins_known : (laws : TogetherLaws) (p : Planned) (c v : ℕ) (u : WorldState) → Waits p c v u → CanGive (kept_for v (turns u)) u → Wins p c v (one_vote v (turns u)) u
 wins_known laws p c v u h left =
     let deal = dealing_of p.plans in
-    let n = length u.voters in
+    let here = only_here v (turns u) v refl in
     let ok = laws.alone.fitting.coherent (with_state p u) h.spot.reached in
     let x = client_at u.clients c in
     let y = voter_at u.voters v in
@@ -135,8 +144,8 @@ wins_known laws p c v u h left =
     let d = g.client in
     let z = client_at u.clients d in
     let count = left v (ok.members c v h.spot.asked) in
-    let more : Wins p c v (turns u) u → Wins p c v (n + turns u) u = λ w. Wins-then p c v 0 (turns u) (n + turns u) u u (omega arith) (Led-self deal c 0 u) w in
-    elim (is_current z g.stamp) as (λ b. is_current z g.stamp ≡ b → Wins p c v (n + turns u) u) [
+    let more : Wins p c v (only v (turns u)) u → Wins p c v (one_vote v (turns u)) u = λ w. Wins-then p c v none (only v (turns u)) (one_vote v (turns u)) u u (λ r. omega arith) (Led-self deal c none u) w in
+    elim (is_current z g.stamp) as (λ b. is_current z g.stamp ≡ b → Wins p c v (one_vote v (turns u)) u) [
       | false ↦ λ over. more (wins_settled laws.alone p c v u h (λ l held runs.
           absurd (false≢true (sym over ∙ subst (λ (m : Grant). is_current (client_at u.clients m.client) m.stamp ≡ true) (same_Some l g (sym held ∙ k.1)) runs))) (omega arith))
       | true ↦ λ runs.
@@ -150,30 +159,30 @@ wins_known laws p c v u h left =
               | inl own ↦ more (wins_settled laws.alone p c v u h (λ l held _.
                   let same = same_Some g l (sym k.1 ∙ held) in
                   subst (λ (m : Grant). (m.client ≡ c) × (last_of (client_at u.clients c) v < m.grant)) same (own, subst (λ i. last_of (client_at u.clients i) v < g.grant) own less)) (omega arith))
-              | inr apart ↦ elim (holds z v) as (λ b. holds z v ≡ b → Wins p c v (n + turns u) u) [
+              | inr apart ↦ elim (holds z v) as (λ b. holds z v ≡ b → Wins p c v (one_vote v (turns u)) u) [
                 | true ↦ λ has. wins_from laws p c v d g u h there apart k.1 refl stamp has left
                 | false ↦ λ free. elim (gets laws.alone p d v u there free g k.1 refl stamp less) [
-                  | inl e ↦ inl (somebody_at p d v y.granted (n + turns u) u asks (omega arith) e)
+                  | inl e ↦ inl (Somebody-more p (only v 0) (one_vote v (turns u)) u (λ r. (let nothing = only_zero v r in omega arith)) (somebody_at p d v y.granted 0 u asks (omega arith) e))
                   | inr on ↦
                       let w = on.0 in
                       let same : voter_at w.voters v ≡ y = ap (λ vs. voter_at vs v) on.3 in
                       let led = Led-went deal c v 0 u w on.1 (let few = ap (λ (s : VoterState). s.granted) same in omega arith) in
                       let clients = led.clients in
-                      let voters = led.voters in
-                      Wins-then p c v 0 (length w.voters + turns w) (n + turns u) u w (omega arith) led
-                      (wins_from laws p c v d g w (Waits-led p c v 0 u w led same h) (Here-led p c 0 d v u w led there) apart (ap (λ (s : VoterState). s.held) same ∙ k.1) refl (stamp ∙ sym (led.same d).stamp) on.2
-                      (HasGrants-led deal c 0 (length w.voters + turns w) (n + turns u) u w (omega arith) led left))
+                      let number : turns w ≡ turns u = omega arith in
+                      Wins-then p c v (only v 0) (one_vote v (turns w)) (one_vote v (turns u)) u w (λ r. (let nothing = only_zero v r in let only_same = ap (λ n. only v n r) number in omega arith)) led
+                      (wins_from laws p c v d g w (Waits-led p c v (only v 0) u w led same h) (Here-led p c (only v 0) d v u w led there) apart (ap (λ (s : VoterState). s.held) same ∙ k.1) refl (stamp ∙ sym (led.same d).stamp) on.2
+                      (CanGive-led deal c (only v 0) (kept_for v (turns w)) (kept_for v (turns u)) u w (λ r. (let nothing = only_zero v r in let only_same = ap (λ n. only v n r) number in omega arith)) led left))
                 ]
               ] refl
             ]
           ]
     ] refl
 
--- how many grants one vote takes
-abbrev pub one_vote : WorldState → ℕ
-one_vote u = length u.voters + length u.clients + 2
+-- how many grants one vote takes of its voter
+abbrev pub own_turns : WorldState → ℕ
+own_turns u = 2 + length u.clients
 
-wins : (laws : TogetherLaws) (p : Planned) (c v : ℕ) (u : WorldState) → Here p c v u → Leads u c → holds (client_at u.clients c) v ≡ false → HasGrants (one_vote u) u → Wins p c v (one_vote u) u
+wins : (laws : TogetherLaws) (p : Planned) (c v : ℕ) (u : WorldState) → Here p c v u → Leads u c → holds (client_at u.clients c) v ≡ false → CanGive (kept_for v (own_turns u)) u → Wins p c v (one_vote v (own_turns u)) u
 wins laws p c v u h leads free left =
     let deal = dealing_of p.plans in
     let ok = laws.alone.fitting.coherent (with_state p u) h.reached in
@@ -182,52 +191,81 @@ wins laws p c v u h leads free left =
     let w = told.world in
     let led = Led-went deal c v 1 u w told.went told.few in
     let clients = led.clients in
-    let voters = led.voters in
-    Wins-then p c v 1 (length w.voters + turns w) (one_vote u) u w (omega arith) led
-    (wins_known laws p c v w (record { spot = Here-led p c 1 c v u w led h; leads = Leads-led deal c 1 u w led leads; entry = told.entry })
-    (HasGrants-led deal c 1 (length w.voters + turns w) (one_vote u) u w (omega arith) led left))
+    let number : 1 + turns w ≡ own_turns u = omega arith in
+    let sum : (r : ℕ) → only v 1 r + only v (turns w) r ≡ only v (own_turns u) r = λ r. only_sum v 1 (turns w) r ∙ ap (λ n. only v n r) number in
+    Wins-then p c v (only v 1) (one_vote v (turns w)) (one_vote v (own_turns u)) u w (λ r. (let all = sum r in omega arith)) led
+    (wins_known laws p c v w (record { spot = Here-led p c (only v 1) c v u w led h; leads = Leads-led deal c (only v 1) u w led leads; entry = told.entry })
+    (CanGive-led deal c (only v 1) (kept_for v (turns w)) (kept_for v (own_turns u)) u w (λ r. (let all = sum r in omega arith)) led left))
+
+-- what the votes of these members take
+budget : ℕ → List ℕ → ℕ → ℕ
+budget k [] r = 0
+budget k (v ∷ vs) r = one_vote v k r + budget k vs r
+
+budget_more : (k v r : ℕ) (vs : List ℕ) → budget k (v ∷ vs) r ≡ one_vote v k r + budget k vs r
+unfolding budget
+budget_more k v r vs = refl
+
+budget_before : (k low n r : ℕ) → r < low → budget k (range_with_len low n) r ≡ n
+unfolding budget
+budget_before k low zero r less = refl
+budget_before k low (suc n) r less =
+    let first = only_else low k r (λ same. (let x : ⊥ = omega arith in x)) in
+    let rest = budget_before k (low + 1) n r (omega arith) in
+    omega arith
+
+budget_most : (k low n r : ℕ) → budget k (range_with_len low n) r ≤ n + k
+unfolding budget
+budget_most k low zero r = omega arith
+budget_most k low (suc n) r = elim (cases_eq r low) [
+  | inl same ↦ (let first = only_here low k r same in let rest = budget_before k (low + 1) n r (omega arith) in omega arith)
+  | inr other ↦ (let first = only_else low k r other in let rest = budget_most k (low + 1) n r in omega arith)
+]
+
+-- one grant more
+abbrev and_one : ℕ → List ℕ → ℕ → ℕ
+and_one k vs r = 1 + budget k vs r
 
 -- ---- the quorum
 
 -- a world in which the client has the votes of these members
-record Collects (p : Planned) (c n : ℕ) (vs : List ℕ) (u : WorldState) : Type 0 where
+record Collects (p : Planned) (c : ℕ) (n : ℕ → ℕ) (vs : List ℕ) (u : WorldState) : Type 0 where
   world : WorldState
   led : Led (dealing_of p.plans) c n u world
   all : (v : ℕ) → has vs v ≡ true → is_member (client_at u.clients c) v ≡ true → holds (client_at world.clients c) v ≡ true
 
-has_rest : (q r : ℕ) (qs : List ℕ) → r ≢ q → has (q ∷ qs) r ≡ true → has qs r ≡ true
-has_rest q r qs other there = grind (arith, nat_tests)
-
-collects : (laws : TogetherLaws) (p : Planned) (c k : ℕ) (vs : List ℕ) (u : WorldState) → one_vote u ≡ k → IsReached (with_state p u) → Asks u c → Leads u c → HasGrants (length vs * k) u → Somebody p (length vs * k) u ⊎ Collects p c (length vs * k) vs u
-collects laws p c k [] u is r asks leads left = inr (record { world = u; led = Led-self (dealing_of p.plans) c (0 * k) u; all = λ v there. absurd (false≢true there) })
+collects : (laws : TogetherLaws) (p : Planned) (c k : ℕ) (vs : List ℕ) (u : WorldState) → own_turns u ≡ k → IsReached (with_state p u) → Asks u c → Leads u c → CanGive (and_one k vs) u → Somebody p (budget k vs) u ⊎ Collects p c (budget k vs) vs u
+collects laws p c k [] u is r asks leads left = inr (record { world = u; led = Led-self (dealing_of p.plans) c (budget k []) u; all = λ v there. absurd (false≢true there) })
 collects laws p c k (v ∷ vs) u is r asks leads left =
     let deal = dealing_of p.plans in
-    let n = length vs in
-    let one : Somebody p k u ⊎ ((x : WorldState) × Led deal c k u x × (is_member (client_at u.clients c) v ≡ true → holds (client_at x.clients c) v ≡ true)) =
-    elim (is_member (client_at u.clients c) v) as (λ b. is_member (client_at u.clients c) v ≡ b → Somebody p k u ⊎ ((x : WorldState) × Led deal c k u x × (is_member (client_at u.clients c) v ≡ true → holds (client_at x.clients c) v ≡ true))) [
-      | false ↦ λ none. inr (u, Led-self deal c k u, λ member. absurd (false≢true (sym none ∙ member)))
-      | true ↦ λ member. elim (holds (client_at u.clients c) v) as (λ b. holds (client_at u.clients c) v ≡ b → Somebody p k u ⊎ ((x : WorldState) × Led deal c k u x × (is_member (client_at u.clients c) v ≡ true → holds (client_at x.clients c) v ≡ true))) [
-        | true ↦ λ has. inr (u, Led-self deal c k u, λ _. has)
-        | false ↦ λ free. elim (wins laws p c v u (record { reached = r; client = asks.client; asks = asks.asks; asked = member }) leads free (HasGrants-led deal c 0 (one_vote u) (suc n * k) u u (omega arith) (Led-self deal c 0 u) left)) [
-          | inl e ↦ inl (Somebody-more p (one_vote u) k u (omega arith) e)
-          | inr won ↦ inr (won.world, Led-more deal c (one_vote u) k u won.world (omega arith) won.led, λ _. won.has)
+    let f = one_vote v k in
+    let sum : (r : ℕ) → f r + budget k vs r ≤ budget k (v ∷ vs) r = λ r. (let more = budget_more k v r vs in omega arith) in
+    let first : (r : ℕ) → f r ≤ budget k (v ∷ vs) r = λ r. (let more = budget_more k v r vs in omega arith) in
+    let one : Somebody p f u ⊎ ((x : WorldState) × Led deal c f u x × (is_member (client_at u.clients c) v ≡ true → holds (client_at x.clients c) v ≡ true)) =
+    elim (is_member (client_at u.clients c) v) as (λ b. is_member (client_at u.clients c) v ≡ b → Somebody p f u ⊎ ((x : WorldState) × Led deal c f u x × (is_member (client_at u.clients c) v ≡ true → holds (client_at x.clients c) v ≡ true))) [
+      | false ↦ λ none. inr (u, Led-self deal c f u, λ member. absurd (false≢true (sym none ∙ member)))
+      | true ↦ λ member. elim (holds (client_at u.clients c) v) as (λ b. holds (client_at u.clients c) v ≡ b → Somebody p f u ⊎ ((x : WorldState) × Led deal c f u x × (is_member (client_at u.clients c) v ≡ true → holds (client_at x.clients c) v ≡ true))) [
+        | true ↦ λ has. inr (u, Led-self deal c f u, λ _. has)
+        | false ↦ λ free. elim (wins laws p c v u (record { reached = r; client = asks.client; asks = asks.asks; asked = member }) leads free (λ r within. (let count = left r within in let all = first r in let only_same = ap (λ n. only v n r) is in omega arith))) [
+          | inl e ↦ inl (Somebody-more p (one_vote v (own_turns u)) f u (λ r. (let only_same = ap (λ n. only v n r) is in omega arith)) e)
+          | inr won ↦ inr (won.world, Led-more deal c (one_vote v (own_turns u)) f u won.world (λ r. (let only_same = ap (λ n. only v n r) is in omega arith)) won.led, λ _. won.has)
         ]
       ] refl
     ] refl in
     elim one [
-      | inl e ↦ inl (Somebody-more p k (suc n * k) u (omega arith) e)
+      | inl e ↦ inl (Somebody-more p f (budget k (v ∷ vs)) u first e)
       | inr on ↦
           let x = on.0 in
           let led = on.1 in
           let clients = led.clients in
           let voters = led.voters in
           let reached = subst (λ (z : WorldState). IsReached (with_state p z)) led.run (IsReached-run p led.steps u r) in
-          elim (collects laws p c k vs x (let same : one_vote x ≡ k = omega arith in same) reached (record { client = omega arith; asks = ap is_asking (led.same c).phase ∙ asks.asks }) (Leads-led deal c k u x led leads)
-          (HasGrants-led deal c k (n * k) (suc n * k) u x (omega arith) led left)) [
-            | inl e ↦ inl (Somebody-led p c k (n * k) (suc n * k) u x (omega arith) led e)
+          elim (collects laws p c k vs x (let same : own_turns x ≡ k = omega arith in same) reached (record { client = omega arith; asks = ap is_asking (led.same c).phase ∙ asks.asks }) (Leads-led deal c f u x led leads)
+          (CanGive-led deal c f (and_one k vs) (and_one k (v ∷ vs)) u x (λ r. (let all = sum r in omega arith)) led left)) [
+            | inl e ↦ inl (Somebody-led p c f (budget k vs) (budget k (v ∷ vs)) u x sum led e)
             | inr rest ↦ inr (record {
               world = rest.world;
-              led = Led-more deal c (k + n * k) (suc n * k) u rest.world (omega arith) (Led-then deal c k (n * k) u x rest.world led rest.led);
+              led = Led-more deal c (λ r. f r + budget k vs r) (budget k (v ∷ vs)) u rest.world sum (Led-then deal c f (budget k vs) u x rest.world led rest.led);
               all = λ q there member. elim (cases_eq q v) [
                 | inl same ↦ rest.led.held q (subst (λ i. holds (client_at x.clients c) i ≡ true) (sym same) (on.2 (subst (λ i. is_member (client_at u.clients c) i ≡ true) same member)))
                 | inr other ↦ rest.all q (has_rest v q vs other there) (ap (λ l. has l q) (led.same c).quorum ∙ member)
@@ -236,15 +274,18 @@ collects laws p c k (v ∷ vs) u is r asks leads left =
           ]
     ]
 
+-- how many grants of a voter one entry takes
+abbrev pub one_entry : WorldState → ℕ
+one_entry u = length u.voters + length u.clients + 3
+
 -- the client that precedes the others that ask gets in, or another one does
-leader_gets_in : (laws : TogetherLaws) (p : Planned) (c : ℕ) (u : WorldState) → IsReached (with_state p u) → Asks u c → Leads u c → HasGrants (length u.voters * one_vote u) u → Somebody p (length u.voters * one_vote u) u
+leader_gets_in : (laws : TogetherLaws) (p : Planned) (c : ℕ) (u : WorldState) → IsReached (with_state p u) → Asks u c → Leads u c → HasGrants (one_entry u) u → Somebody p (λ r. one_entry u) u
 leader_gets_in laws p c u r asks leads left =
     let deal = dealing_of p.plans in
     let n = length u.voters in
-    let k = one_vote u in
-    let count = length_range 0 n in
-    elim (collects laws p c k (range_with_len 0 n) u refl r asks leads (subst (λ l. HasGrants (l * k) u) (sym count) left)) [
-      | inl e ↦ subst (λ l. Somebody p (l * k) u) count e
+    let k = own_turns u in
+    elim (collects laws p c k (range_with_len 0 n) u refl r asks leads (λ v within. (let count = left v within in let most = budget_most k 0 n v in omega arith))) [
+      | inl e ↦ Somebody-more p (budget k (range_with_len 0 n)) (λ r. one_entry u) u (λ r. (let most = budget_most k 0 n r in omega arith)) e
       | inr all ↦
           let x = all.world in
           let led = all.led in
@@ -252,9 +293,9 @@ leader_gets_in laws p c u r asks leads left =
           let ok = laws.alone.fitting.coherent (with_state p u) r in
           let lacks = (Fits-reached laws.alone.fitting (with_state p x) reached).lacks c (ap is_asking (led.same c).phase ∙ asks.asks) in
           absurd (false≢true (sym lacks ∙ all_hold (holds (client_at x.clients c)) (members (client_at x.clients c)) (λ q there.
-              let member : is_member (client_at u.clients c) q ≡ true = ap (λ l. has l q) (sym (led.same c).quorum) ∙ there in
-              let within = ok.members c q member in
-              all.all q (has_range 0 n q (omega arith) (omega arith)) member)))
+          let member : is_member (client_at u.clients c) q ≡ true = ap (λ l. has l q) (sym (led.same c).quorum) ∙ there in
+          let within = ok.members c q member in
+          all.all q (has_range 0 n q (omega arith) (omega arith)) member)))
     ]
 
 -- ---- the client that precedes the others
@@ -277,37 +318,49 @@ first_below u (suc n) = elim (is_asking (client_at u.clients n).phase) as (λ b.
       | inl same ↦ ap (λ i. is_asking (client_at u.clients i).phase) same ∙ quiet
       | inr other ↦ none d (omega arith)
     ])
-    | inr best ↦ inr (best.0, best.1, λ d below other asks. elim (cases_eq d n) [
-      | inl same ↦ absurd (false≢true (sym quiet ∙ ap (λ i. is_asking (client_at u.clients i).phase) (sym same) ∙ asks))
-      | inr unlike ↦ best.2 d (omega arith) other asks
-    ])
+    | inr best ↦ inr (
+      best.0,
+      best.1,
+      λ d below other asks. elim (cases_eq d n) [
+        | inl same ↦ absurd (false≢true (sym quiet ∙ ap (λ i. is_asking (client_at u.clients i).phase) (sym same) ∙ asks))
+        | inr unlike ↦ best.2 d (omega arith) other asks
+      ],
+    )
   ]
   | true ↦ λ loud. elim (first_below u n) [
     | inl none ↦ inr (n, loud, λ d below other asks. absurd (false≢true (sym (none d (omega arith)) ∙ asks)))
     | inr best ↦ elim (cases_eq n best.0) [
       | inl same ↦ inr (best.0, best.1, λ d below other asks. best.2 d (omega arith) other asks)
       | inr apart ↦ elim (precedes (request_at u best.0) (request_at u n)) as (λ b. precedes (request_at u best.0) (request_at u n) ≡ b → ((d : ℕ) → d < suc n → is_asking (client_at u.clients d).phase ≡ false) ⊎ ((c : ℕ) × (is_asking (client_at u.clients c).phase ≡ true) × Precedes u c (suc n))) [
-        | true ↦ λ first. inr (best.0, best.1, λ d below other asks. elim (cases_eq d n) [
-          | inl same ↦ subst (λ i. precedes (request_at u best.0) (request_at u i) ≡ true) (sym same) first
-          | inr unlike ↦ best.2 d (omega arith) other asks
-        ])
-        | false ↦ λ later. (let ahead = precedes-one (request_at u best.0) (request_at u n) (λ same. apart (sym same)) later in inr (n, loud, λ d below other asks. elim (cases_eq d best.0) [
-          | inl same ↦ subst (λ i. precedes (request_at u n) (request_at u i) ≡ true) (sym same) ahead
-          | inr unlike ↦ precedes-trans (request_at u n) (request_at u best.0) (request_at u d) ahead (best.2 d (omega arith) unlike asks)
-        ]))
+        | true ↦ λ first. inr (
+          best.0,
+          best.1,
+          λ d below other asks. elim (cases_eq d n) [
+            | inl same ↦ subst (λ i. precedes (request_at u best.0) (request_at u i) ≡ true) (sym same) first
+            | inr unlike ↦ best.2 d (omega arith) other asks
+          ],
+        )
+        | false ↦ λ later. (let ahead = precedes-one (request_at u best.0) (request_at u n) (λ same. apart (sym same)) later in inr (
+          n,
+          loud,
+          λ d below other asks. elim (cases_eq d best.0) [
+            | inl same ↦ subst (λ i. precedes (request_at u n) (request_at u i) ≡ true) (sym same) ahead
+            | inr unlike ↦ precedes-trans (request_at u n) (request_at u best.0) (request_at u d) ahead (best.2 d (omega arith) unlike asks)
+          ],
+        ))
       ] refl
     ]
   ]
 ] refl
 
-asks_within : (u : WorldState) (d : ℕ) → is_asking (client_at u.clients d).phase ≡ true → d < length u.clients
+pub asks_within : (u : WorldState) (d : ℕ) → is_asking (client_at u.clients d).phase ≡ true → d < length u.clients
 unfolding client_at
 asks_within u d asks = elim (cases_lt d (length u.clients)) [
   | inl within ↦ within
   | inr beyond ↦ absurd (false≢true (ap (λ (x : ClientState). is_asking x.phase) (sym (get_or_past u.clients d (requester.start 0 1) beyond)) ∙ asks))
 ]
 
-pub lets_in : TogetherLaws → (w : Planned) (c : ℕ) → IsReached w → Asks w.state c → IsFree w.state → HasGrants (length w.state.voters * one_vote w.state) w.state → Somebody w (length w.state.voters * one_vote w.state) w.state
+pub lets_in : TogetherLaws → (w : Planned) (c : ℕ) → IsReached w → Asks w.state c → IsFree w.state → HasGrants (one_entry w.state) w.state → Somebody w (λ r. one_entry w.state) w.state
 lets_in laws w c r asks free left =
     let u = w.state in
     elim (first_below u (length u.clients)) [
@@ -317,7 +370,7 @@ lets_in laws w c r asks free left =
           leader_gets_in laws w best.0 u r (record { client = asks_within u best.0 best.1; asks = best.1 }) leads left
     ]
 
-pub gets_in : TogetherLaws → (w : Planned) (c : ℕ) → IsReached w → Asks w.state c → IsFree w.state → HasGrants (length w.state.voters * (length w.state.voters + length w.state.clients + 2)) w.state → (steps : List Step) × (d : ℕ) × IsWayIn (dealing_of w.plans) w.state d steps
+pub gets_in : TogetherLaws → (w : Planned) (c : ℕ) → IsReached w → Asks w.state c → IsFree w.state → HasGrants (length w.state.voters + length w.state.clients + 3) w.state → (steps : List Step) × (d : ℕ) × IsWayIn (dealing_of w.plans) w.state d steps
 gets_in laws w c r asks free left =
     let one = lets_in laws w c r asks free left in
     (one.enters.steps, one.who, record { helps = one.enters.helps; enters = ap (λ (z : WorldState). z.visible) one.enters.run ∙ one.enters.visible })

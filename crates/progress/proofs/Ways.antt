@@ -2,8 +2,8 @@
 use Rattle.std.proofs.Common.{◌≡◌, ◌≢◌, ℕ, zero, suc, ◌+◌, ◌<◌, ◌≤◌, Bool, true, false, cond, List, [], ◌∷◌, ◌++◌, map, length, set, Option, Some, None, refl, sym, ap, subst, ◌∙◌, ◌⊎◌, inl, inr, arith, eqb, length-append}
 use Rattle.std.specs.Prelude.{◌&&◌, ◌||◌, not, nat_lt, ◌==◌, slice_get, slice_index, slice_set}
 use Rattle.std.specs.FinMap.{get}
-use Rattle.std.specs.List.{AllByRecursion, Contains, list_all, range_with_len}
-use Rattle.std.proofs.lemmas.Bool.{cases_eq, cases_lt, false≢true}
+use Rattle.std.specs.List.{AllByRecursion, Contains, range_with_len}
+use Rattle.std.proofs.lemmas.Bool.{cases_eq, false≢true}
 use Rattle.std.proofs.lemmas.Bool.Decides.{nat_tests}
 use Rattle.std.proofs.lemmas.List.{append-nil, get_or-set_same, get_or-set_other, length-set}
 use Rattle.std.proofs.lemmas.Option.{none-some, same_Some}
@@ -35,7 +35,7 @@ use Rattle.progress.specs.LostVotes.{HasLostVote, reminder_and_two}
 use Rattle.progress.specs.WayIn.{Helps, IsWayIn}
 use Rattle.progress.proofs.Exchanges.{after-answer, after-deliver_client, after-release, after-remind_voter, after-said, answer, answered, get_next, reminded, not_held, spoken}
 use Rattle.progress.proofs.Behind.{grant_moves}
-use Rattle.progress.proofs.Fitting.{Fits-reached, asking_busy, not_true}
+use Rattle.progress.proofs.Fitting.{Fits-reached, asking_busy, current_busy, current_stamp}
 use Rattle.progress.proofs.Known.{AloneLaws}
 use Rattle.progress.proofs.Moves.{IsReached-after, client_here, client_others, voter_here, voter_others, with_state}
 
@@ -534,12 +534,6 @@ entry_waits y c s g entry held other = elim entry [
 
 pub not_current : (x : ClientState) (s : ℕ) → is_idle x.phase ≡ true → is_current x s ≡ false
 not_current x s idle = grind (arith, nat_tests)
-
-pub current_stamp : (x : ClientState) (s : ℕ) → is_current x s ≡ true → s ≡ x.stamp
-current_stamp x s is = grind (arith, nat_tests)
-
-pub current_busy : (x : ClientState) (s : ℕ) → is_current x s ≡ true → is_idle x.phase ≡ false
-current_busy x s is = grind (arith, nat_tests)
 
 pub current_same : (x z : ClientState) (s : ℕ) → z.phase ≡ x.phase → z.stamp ≡ x.stamp → is_current z s ≡ is_current x s
 current_same x z s phase stamp i = not (is_idle (phase i)) && (s == stamp i)

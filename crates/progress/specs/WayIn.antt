@@ -3,10 +3,12 @@ use Rattle.std.specs.Prelude.{ℕ, ◌≡◌, ◌≢◌, ◌<◌, ◌≤◌, ◌
 use Rattle.std.specs.List.{AllByRecursion}
 use Rattle.requester.specs.declared.state.Seen.TheVariants.{Entered}
 use Rattle.requester.specs.Words.{is_asking, is_idle, is_inside}
+use Rattle.world.specs.declared.step.Event.{Event}
 use Rattle.world.specs.declared.step.Step.{Step}
 use Rattle.world.specs.declared.step.Step.TheVariants.{Ask, Deliver, Leave, GiveUp, RemindClient, RemindVoter, Exchange}
 use Rattle.world.specs.Runs.{run_of}
 use Rattle.world.specs.Steps.{WorldState, Dealing, client_at, events, voter_at}
+use Rattle.progress.specs.Overtaking.{entered_by}
 
 -- a reminder, or the arrival of a message that is not among the first `sent` ones
 abbrev pub Helps : ℕ → Step → Type 0
@@ -41,3 +43,20 @@ IsFree w = (c : ℕ) → is_inside (client_at w.clients c).phase ≡ false
 -- each voter can give n more grants
 abbrev pub HasGrants : ℕ → WorldState → Type 0
 HasGrants n w = (v : ℕ) → v < length w.voters → (voter_at w.voters v).granted + n ≤ (voter_at w.voters v).limit
+
+-- a step that helps, or a client leaves
+abbrev pub Serves : ℕ → Step → Type 0
+Serves sent (Ask c) = ⊥
+Serves sent (Deliver k) = sent ≤ k
+Serves sent (Leave c) = Unit {0}
+Serves sent (GiveUp c) = ⊥
+Serves sent (RemindClient c) = Unit {0}
+Serves sent (RemindVoter v) = Unit {0}
+Serves sent Exchange = ⊥
+
+-- these steps serve, and the client enters by them
+pub record GetsIn (deal : Dealing) (w : WorldState) (c : ℕ) (steps : List Step) : Type 0 where
+  pub serves : AllByRecursion (Serves (length w.sent)) steps
+  pub more : List Event
+  pub visible : (run_of deal steps w).visible ≡ w.visible ++ more
+  pub enters : 1 ≤ entered_by c more

@@ -2,7 +2,7 @@
 ghost use Rattle.std.specs.Prelude.{◌≡◌, ◌≢◌, ◌≤◌, ◌+◌, ◌*◌, ◌++◌, ℕ, List, length};
 ghost use Rattle.progress.specs.LostVotes.{ComesBack, GoesOn, HasLostVote, HasReturnedVote};
 ghost use Rattle.progress.specs.Overtaking.{IsKnownEverywhere, StillRuns, entered_by};
-ghost use Rattle.progress.specs.WayIn.{Asks, AsksAlone, HasGrants, IsFree, IsWayIn};
+ghost use Rattle.progress.specs.WayIn.{Asks, AsksAlone, GetsIn, HasGrants, IsFree, IsWayIn};
 ghost use Rattle.voter.specs.declared.state.Grant.{Grant};
 ghost use Rattle.world.specs.declared.step.Event.{Event};
 ghost use Rattle.world.specs.declared.step.Step.{Step};
@@ -10,14 +10,15 @@ ghost use Rattle.world.specs.Runs.{IsReached, run_of};
 ghost use Rattle.world.specs.Steps.{Planned, dealing_of};
 
 use requester::{
-    clocks_never_fall, hindered_clients_give_votes_back, messages_are_in_range, messages_move_votes, old_votes_go_back, phases_tell_refusals, phases_tell_votes,
+    clocks_never_fall, hindered_clients_give_votes_back, messages_are_in_range,
+    messages_move_votes, old_votes_go_back, phases_tell_refusals, phases_tell_votes,
     reminders_ask_again, requesters_meet_the_contract, votes_given_back_are_marked,
 };
 use voter::{
     grants_are_numbered, messages_finish_requests, releases_end_requests,
     reminders_repeat_the_vote, replies_carry_what_was_seen, requests_are_taken_up, requests_stay,
-    voters_meet_the_contract, voters_with_grants_take_messages, votes_are_asked_back, votes_given_back_go_on,
-    votes_go_to_the_first,
+    voters_meet_the_contract, voters_with_grants_take_messages, votes_are_asked_back,
+    votes_given_back_go_on, votes_go_to_the_first,
 };
 use world::worlds_stay_coherent;
 
@@ -119,12 +120,47 @@ pub fn who_asks_alone_gets_in()
 /// Whenever clients ask and nobody is inside, some client gets in by reminders and by messages that are
 /// sent after them, whatever was lost, late or repeated before. Nobody else enters meanwhile.
 ///
-/// So requests never block one another for good. Each voter has to have grants left: for each voter of
-/// the world as many as there are voters and clients, and two more.
+/// So requests never block one another for good. Each voter has to have three grants more left than there
+/// are voters and clients.
 pub fn somebody_can_enter()
     ensures { (w : Planned) (c : ℕ) → IsReached w → Asks w.state c → IsFree w.state
-        → HasGrants (length w.state.voters * (length w.state.voters + length w.state.clients + 2)) w.state
+        → HasGrants (length w.state.voters + length w.state.clients + 3) w.state
         → (steps : List Step) × (d : ℕ) × IsWayIn (dealing_of w.plans) w.state d steps }
+{
+    requesters_meet_the_contract();
+    clocks_never_fall();
+    phases_tell_votes();
+    phases_tell_refusals();
+    votes_given_back_are_marked();
+    old_votes_go_back();
+    reminders_ask_again();
+    messages_are_in_range();
+    messages_move_votes();
+    hindered_clients_give_votes_back();
+    voters_meet_the_contract();
+    grants_are_numbered();
+    replies_carry_what_was_seen();
+    requests_stay();
+    votes_go_to_the_first();
+    requests_are_taken_up();
+    messages_finish_requests();
+    releases_end_requests();
+    reminders_repeat_the_vote();
+    voters_with_grants_take_messages();
+    votes_given_back_go_on();
+    votes_are_asked_back();
+    worlds_stay_coherent();
+}
+
+/// A client that asks can still get in: by reminders, by messages that are sent after them, and by
+/// clients that leave. Nobody has to ask anew, and nobody has to give up.
+///
+/// This holds in every world that was reached, whoever asks or is inside. Other clients may get in before.
+/// Each voter has to have grants left for each client, as many as for one of them to get in.
+pub fn everybody_can_enter()
+    ensures { (w : Planned) (c : ℕ) → IsReached w → Asks w.state c
+        → HasGrants (length w.state.clients * (length w.state.voters + length w.state.clients + 3)) w.state
+        → (steps : List Step) × GetsIn (dealing_of w.plans) w.state c steps }
 {
     requesters_meet_the_contract();
     clocks_never_fall();

@@ -13,6 +13,13 @@
 //!   back goes on by one reminder of that client and one message ([`returned_votes_go_on`]).
 //! - **Alone, one gets in** ([`who_asks_alone_gets_in`]): a client that asks while all others are idle
 //!   gets in by reminders and by messages that are sent after them, whatever was lost before.
+//! - **A way in** ([`somebody_can_enter`]): whenever clients ask and nobody is inside, reminders and
+//!   messages that are sent after them let a client in.
+//! - **Whoever asks can still get in** ([`everybody_can_enter`]): by reminders, by messages that are sent
+//!   after them, and by clients that leave.
+//!
+//! The last two are freedom from deadlock, in every world that was reached. They say that a way
+//! exists, and not that a run takes it: they are not liveness.
 //!
 //! A law speaks of lists of steps, and not of time, threads or endless runs. It takes no schedule
 //! for granted: its premises say all that it needs.
@@ -23,5 +30,6 @@
 mod laws;
 
 pub use laws::{
-    lost_votes_come_back, nobody_overtakes_often, returned_votes_go_on, somebody_can_enter, who_asks_alone_gets_in,
+    everybody_can_enter, lost_votes_come_back, nobody_overtakes_often, returned_votes_go_on,
+    somebody_can_enter, who_asks_alone_gets_in,
 };

@@ -1,4 +1,4 @@
-use Rattle.progress.proofs.Known.{AloneLaws, BackLaws, ClientLaws, FittingLaws, ReturnLaws, TogetherLaws, VoterLaws}
+use Rattle.progress.proofs.Known.{AloneLaws, BackLaws, ClientLaws, FittingLaws, ReturnLaws, VoterLaws}
 use Rattle.progress.proofs.Together.{gets_in}
 use Rattle.progress.proofs.laws.somebody_can_enter.Goals as goal
 

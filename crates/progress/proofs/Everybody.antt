@@ -1,0 +1,313 @@
+-- whoever asks can still get in: those that are inside leave, and one client after the other gets in
+use Rattle.std.proofs.Common.{◌≡◌, ◌≢◌, ℕ, zero, suc, ◌+◌, ◌*◌, ◌<◌, ◌≤◌, true, false, List, [], ◌∷◌, ◌++◌, map, length, refl, sym, ap, subst, ◌∙◌, ◌⊎◌, inl, inr, arith, length-append}
+use Rattle.std.specs.List.{AllByRecursion}
+use Rattle.std.proofs.lemmas.Bool.{cases_eq, cases_lt, false≢true}
+use Rattle.std.proofs.lemmas.List.{get_or_past, length-set}
+use Rattle.message.specs.declared.message.Message.TheVariants as kinds
+use Rattle.requester.specs.declared.state.ClientState.{ClientState}
+use Rattle.requester.specs.declared.state.Phase.{Phase}
+use Rattle.requester.specs.declared.state.Phase.TheVariants.{Idle, Asking, Inside}
+use Rattle.requester.specs.declared.state.Seen.TheVariants.{Entered, Left}
+use Rattle.requester.specs.Steps as requester
+use Rattle.requester.specs.Words.{is_asking, is_inside}
+use Rattle.world.specs.declared.step.Event.{Event}
+use Rattle.world.specs.declared.step.Step.{Step}
+use Rattle.world.specs.declared.step.Step.TheVariants.{Ask, Deliver, Leave, GiveUp, RemindClient, RemindVoter, Exchange}
+use Rattle.world.specs.Runs.{IsReached, after, run_of}
+use Rattle.world.specs.Steps.{Dealing, Planned, WorldState, after_client, client_at, client_did, dealing_of, events, if_client, step, voter_at}
+use Rattle.progress.specs.Overtaking.{entered_by}
+use Rattle.progress.specs.WayIn.{Asks, GetsIn, HasGrants, Helps, IsFree, Serves}
+use Rattle.progress.proofs.Counting.{entered_by-append, one_entered}
+use Rattle.progress.proofs.Exchanges.{below}
+use Rattle.progress.proofs.Led.{EntersBy}
+use Rattle.progress.proofs.Known.{LeavingLaws}
+use Rattle.progress.proofs.Moves.{client_here, client_others, with_state}
+use Rattle.progress.proofs.Together.{asks_within, lets_in, one_entry}
+use Rattle.progress.proofs.Ways.{IsReached-run, run_then}
+
+-- ---- sums
+
+sum_to : ℕ → (ℕ → ℕ) → ℕ
+sum_to zero f = 0
+sum_to (suc n) f = f n + sum_to n f
+
+sum_same : (n : ℕ) (f g : ℕ → ℕ) → ((d : ℕ) → d < n → f d ≡ g d) → sum_to n f ≡ sum_to n g
+unfolding sum_to
+sum_same zero f g same = refl
+sum_same (suc n) f g same =
+    let here = same n (omega arith) in
+    let rest = sum_same n f g (λ d less. same d (omega arith)) in
+    omega arith
+
+sum_less : (n e : ℕ) (f g : ℕ → ℕ) → e < n → f e + 1 ≤ g e → ((d : ℕ) → d ≢ e → f d ≡ g d) → sum_to n f + 1 ≤ sum_to n g
+unfolding sum_to
+sum_less zero e f g within less same = absurd (omega arith)
+sum_less (suc n) e f g within less same = elim (cases_eq e n) [
+  | inl last ↦
+      let here : f n + 1 ≤ g n = subst (λ d. f d + 1 ≤ g d) last less in
+      let rest = sum_same n f g (λ d before. same d (λ is. (let x : ⊥ = omega arith in x))) in
+      omega arith
+  | inr other ↦
+      let here = same n (λ is. other (sym is)) in
+      let rest = sum_less n e f g (omega arith) less same in
+      omega arith
+]
+
+sum_most : (n : ℕ) (f : ℕ → ℕ) → ((d : ℕ) → f d ≤ 1) → sum_to n f ≤ n
+unfolding sum_to
+sum_most zero f most = omega arith
+sum_most (suc n) f most =
+    let here = most n in
+    let rest = sum_most n f most in
+    omega arith
+
+sum_some : (n e : ℕ) (f : ℕ → ℕ) → e < n → f e ≤ sum_to n f
+unfolding sum_to
+sum_some zero e f within = absurd (omega arith)
+sum_some (suc n) e f within = elim (cases_eq e n) [
+  | inl last ↦ (let here : f e ≡ f n = ap f last in omega arith)
+  | inr other ↦ (let rest = sum_some n e f (omega arith) in omega arith)
+]
+
+times_most : (a b k : ℕ) → a ≤ b → a * k ≤ b * k
+times_most zero b k most = omega arith
+times_most (suc a) zero k most = absurd (omega arith)
+times_most (suc a) (suc b) k most = let rest = times_most a b k (omega arith) in omega arith
+
+-- ---- how much is left to do
+
+-- 2 for a client that asks, and 1 for one that is inside
+weight : Phase → ℕ
+weight Idle = 0
+weight Asking = 2
+weight Inside = 1
+
+asking_one : Phase → ℕ
+asking_one Idle = 0
+asking_one Asking = 1
+asking_one Inside = 0
+
+total : (Phase → ℕ) → WorldState → ℕ
+total f u = sum_to (length u.clients) (λ d. f (client_at u.clients d).phase)
+
+asking_is : (q : Phase) → is_asking q ≡ true → q ≡ Asking
+asking_is Idle asks = absurd (false≢true asks)
+asking_is Asking asks = refl
+asking_is Inside asks = absurd (false≢true asks)
+
+inside_is : (q : Phase) → is_inside q ≡ true → q ≡ Inside
+inside_is Idle is = absurd (false≢true is)
+inside_is Asking is = absurd (false≢true is)
+inside_is Inside is = refl
+
+asking_most : (q : Phase) → asking_one q ≤ 1
+unfolding asking_one
+asking_most Idle = omega arith
+asking_most Asking = omega arith
+asking_most Inside = omega arith
+
+-- one client has another phase
+total_less : (f : Phase → ℕ) (u x : WorldState) (e : ℕ) → length x.clients ≡ length u.clients → e < length u.clients → f (client_at x.clients e).phase + 1 ≤ f (client_at u.clients e).phase
+    → ((d : ℕ) → d ≢ e → (client_at x.clients d).phase ≡ (client_at u.clients d).phase) → total f x + 1 ≤ total f u
+unfolding total
+total_less f u x e same within less others =
+    let n = length u.clients in
+    subst (λ k. sum_to k (λ d. f (client_at x.clients d).phase) + 1 ≤ total f u) (sym same)
+    (sum_less n e (λ d. f (client_at x.clients d).phase) (λ d. f (client_at u.clients d).phase) within less (λ d other. ap f (others d other)))
+
+total_same : (f : Phase → ℕ) (u x : WorldState) (e : ℕ) → length x.clients ≡ length u.clients → f (client_at x.clients e).phase ≡ f (client_at u.clients e).phase
+    → ((d : ℕ) → d ≢ e → (client_at x.clients d).phase ≡ (client_at u.clients d).phase) → total f x ≡ total f u
+unfolding total
+total_same f u x e same here others =
+    let n = length u.clients in
+    subst (λ k. sum_to k (λ d. f (client_at x.clients d).phase) ≡ total f u) (sym same)
+    (sum_same n (λ d. f (client_at x.clients d).phase) (λ d. f (client_at u.clients d).phase) (λ d within. elim (cases_eq d e) [
+      | inl one ↦ subst (λ i. f (client_at x.clients i).phase ≡ f (client_at u.clients i).phase) (sym one) here
+      | inr other ↦ ap f (others d other)
+    ]))
+
+-- ---- steps that serve
+
+serves_later : (m n : ℕ) (s : Step) → m ≤ n → Serves n s → Serves m s
+serves_later m n (Ask c) most h = h
+serves_later m n (Deliver k) most h = omega arith
+serves_later m n (Leave c) most h = h
+serves_later m n (GiveUp c) most h = h
+serves_later m n (RemindClient c) most h = h
+serves_later m n (RemindVoter v) most h = h
+serves_later m n Exchange most h = h
+
+serve_then : (m n : ℕ) (a b : List Step) → m ≤ n → AllByRecursion (Serves m) a → AllByRecursion (Serves n) b → AllByRecursion (Serves m) (a ++ b)
+serve_then m n [] [] most h k = tt
+serve_then m n [] (s ∷ b) most h k = (serves_later m n s most k.0, serve_then m n [] b most h k.1)
+serve_then m n (s ∷ a) b most h k = (h.0, serve_then m n a b most h.1 k)
+
+help_serves : (n : ℕ) (s : Step) → Helps n s → Serves n s
+help_serves n (Ask c) h = h
+help_serves n (Deliver k) h = h
+help_serves n (Leave c) h = absurd h
+help_serves n (GiveUp c) h = h
+help_serves n (RemindClient c) h = h
+help_serves n (RemindVoter v) h = h
+help_serves n Exchange h = h
+
+helps_serve : (n : ℕ) (a : List Step) → AllByRecursion (Helps n) a → AllByRecursion (Serves n) a
+helps_serve n [] h = tt
+helps_serve n (s ∷ a) h = (help_serves n s h.0, helps_serve n a h.1)
+
+join_events : (a b c : List Event) → (a ++ b) ++ c ≡ a ++ (b ++ c)
+join_events [] b c = refl
+join_events (e ∷ a) b c = ap (λ es. e ∷ es) (join_events a b c)
+
+-- steps that serve, and lead from one world to another
+record Served (deal : Dealing) (u x : WorldState) : Type 0 where
+  steps : List Step
+  serves : AllByRecursion (Serves (length u.sent)) steps
+  run : run_of deal steps u ≡ x
+  sent : length u.sent ≤ length x.sent
+  more : List Event
+  visible : x.visible ≡ u.visible ++ more
+
+GetsIn-after : (deal : Dealing) (c : ℕ) (u x : WorldState) (rest : List Step) → (a : Served deal u x) → GetsIn deal x c rest → GetsIn deal u c (a.steps ++ rest)
+GetsIn-after deal c u x rest a g = record {
+  serves = serve_then (length u.sent) (length x.sent) a.steps rest a.sent a.serves g.serves;
+  more = a.more ++ g.more;
+  visible = ap (λ (z : WorldState). z.visible) (run_then deal a.steps rest u ∙ ap (run_of deal rest) a.run) ∙ g.visible ∙ ap (λ es. es ++ g.more) a.visible ∙ join_events u.visible a.more g.more;
+  enters = (let count = entered_by-append c a.more g.more in let some = g.enters in omega arith);
+}
+
+Served-enters : (deal : Dealing) (e : ℕ) (n : ℕ → ℕ) (u : WorldState) → (a : EntersBy deal e n u) → Served deal u a.world
+Served-enters deal e n u a = record { steps = a.steps; serves = helps_serve (length u.sent) a.steps a.helps; run = a.run; sent = a.sent; more = events e Entered; visible = a.visible }
+
+-- ---- a client leaves
+
+unfoldable left_by : WorldState → ℕ → WorldState
+left_by u d = (client_did u d (requester.released (client_at u.clients d) Left)).state
+
+after-leave : (laws : LeavingLaws) (deal : Dealing) (u : WorldState) (d : ℕ) → d < length u.clients → is_inside (client_at u.clients d).phase ≡ true → after u (step deal u (Leave d)) ≡ left_by u d
+unfolding step requester.step left_by
+after-leave laws deal u d within inside =
+    ap (λ b. after u (if_client b d (after_client u d (requester.leave (client_at u.clients d))))) (below d (length u.clients) within)
+    ∙ ap (λ r. after u (after_client u d r)) (laws.left (client_at u.clients d) inside)
+
+record Leaves (deal : Dealing) (d : ℕ) (u : WorldState) : Type 0 where
+  world : WorldState
+  served : Served deal u world
+  clients : length world.clients ≡ length u.clients
+  voters : world.voters ≡ u.voters
+  idle : (client_at world.clients d).phase ≡ Idle
+  others : (e : ℕ) → e ≢ d → (client_at world.clients e).phase ≡ (client_at u.clients e).phase
+
+leaves : (laws : LeavingLaws) (deal : Dealing) (d : ℕ) (u : WorldState) → d < length u.clients → is_inside (client_at u.clients d).phase ≡ true → Leaves deal d u
+unfolding left_by
+leaves laws deal d u within inside =
+    let o = requester.released (client_at u.clients d) Left in
+    record {
+      world = left_by u d;
+      served = record {
+        steps = Leave d ∷ [];
+        serves = (tt, tt);
+        run = after-leave laws deal u d within inside;
+        sent = omega (arith, length-append u.sent (map kinds.ToVoter o.out));
+        more = events d Left;
+        visible = refl;
+      };
+      clients = length-set u.clients d o.state;
+      voters = refl;
+      idle = ap (λ (z : ClientState). z.phase) (client_here u.clients d o.state within);
+      others = λ e other. ap (λ (z : ClientState). z.phase) (client_others u.clients d o.state e other);
+    }
+
+-- ---- who is inside
+
+inside_below : (u : WorldState) (n : ℕ) → ((d : ℕ) → d < n → is_inside (client_at u.clients d).phase ≡ false) ⊎ ((d : ℕ) × (d < n) × (is_inside (client_at u.clients d).phase ≡ true))
+inside_below u zero = inl (λ d less. absurd (omega arith))
+inside_below u (suc n) = elim (is_inside (client_at u.clients n).phase) as (λ b. is_inside (client_at u.clients n).phase ≡ b → ((d : ℕ) → d < suc n → is_inside (client_at u.clients d).phase ≡ false) ⊎ ((d : ℕ) × (d < suc n) × (is_inside (client_at u.clients d).phase ≡ true))) [
+  | true ↦ λ is. inr (n, omega arith, is)
+  | false ↦ λ not. elim (inside_below u n) [
+    | inl none ↦ inl (λ d less. elim (cases_eq d n) [
+      | inl same ↦ ap (λ i. is_inside (client_at u.clients i).phase) same ∙ not
+      | inr other ↦ none d (omega arith)
+    ])
+    | inr one ↦ inr (one.0, (let less = one.1 in omega arith), one.2)
+  ]
+] refl
+
+outside_beyond : (u : WorldState) (d : ℕ) → length u.clients ≤ d → is_inside (client_at u.clients d).phase ≡ false
+unfolding client_at
+outside_beyond u d beyond = ap (λ (x : ClientState). is_inside x.phase) (get_or_past u.clients d (requester.start 0 1) beyond)
+
+-- ---- whoever asks
+
+Reached-served : (p : Planned) (u x : WorldState) → Served (dealing_of p.plans) u x → IsReached (with_state p u) → IsReached (with_state p x)
+Reached-served p u x a r = subst (λ (z : WorldState). IsReached (with_state p z)) a.run (IsReached-run p a.steps u r)
+
+same_entry : (u x : WorldState) → length x.voters ≡ length u.voters → length x.clients ≡ length u.clients → one_entry x ≡ one_entry u
+same_entry u x voters clients i = voters i + clients i + 3
+
+serves_all : (laws : LeavingLaws) (p : Planned) (c k t : ℕ) (u : WorldState) → one_entry u ≡ k → total weight u ≤ t → IsReached (with_state p u) → Asks u c → HasGrants (total asking_one u * k) u → (steps : List Step) × GetsIn (dealing_of p.plans) u c steps
+unfolding total weight asking_one
+serves_all laws p c k zero u is most r asks left =
+    let some = sum_some (length u.clients) c (λ d. weight (client_at u.clients d).phase) asks.client in
+    let mine : weight (client_at u.clients c).phase ≡ 2 = ap weight (asking_is (client_at u.clients c).phase asks.asks) in
+    absurd (omega arith)
+serves_all laws p c k (suc t) u is most r asks left = elim (inside_below u (length u.clients)) [
+  | inr one ↦
+      let d = one.0 in
+      let gone = leaves laws (dealing_of p.plans) d u one.1 one.2 in
+      let x = gone.world in
+      let was = inside_is (client_at u.clients d).phase one.2 in
+      let apart : c ≢ d = λ same. false≢true (sym (ap is_inside (asking_is (client_at u.clients c).phase asks.asks)) ∙ ap (λ i. is_inside (client_at u.clients i).phase) same ∙ one.2) in
+      let now : weight (client_at x.clients d).phase ≡ 0 = ap weight gone.idle in
+      let before : weight (client_at u.clients d).phase ≡ 1 = ap weight was in
+      let less = total_less weight u x d gone.clients one.1 (omega arith) gone.others in
+      let same = total_same asking_one u x d gone.clients (ap asking_one gone.idle ∙ sym (ap asking_one was)) gone.others in
+      let rest = serves_all laws p c k t x (same_entry u x (ap (λ vs. length vs) gone.voters) gone.clients ∙ is) (omega arith) (Reached-served p u x gone.served r)
+      (record { client = subst (λ n. c < n) (sym gone.clients) asks.client; asks = ap is_asking (gone.others c apart) ∙ asks.asks })
+      (λ v within. subst (λ vs. v < length vs → (voter_at vs v).granted + total asking_one x * k ≤ (voter_at vs v).limit) (sym gone.voters) (λ there. subst (λ n. (voter_at u.voters v).granted + n * k ≤ (voter_at u.voters v).limit) (sym same) (left v there)) within) in
+      (gone.served.steps ++ rest.0, GetsIn-after (dealing_of p.plans) c u x rest.0 gone.served rest.1)
+  | inl none ↦
+      let free : IsFree u = λ d. elim (cases_lt d (length u.clients)) [ inl within ↦ none d within | inr beyond ↦ outside_beyond u d beyond ] in
+      let some = sum_some (length u.clients) c (λ d. asking_one (client_at u.clients d).phase) asks.client in
+      let mine : asking_one (client_at u.clients c).phase ≡ 1 = ap asking_one (asking_is (client_at u.clients c).phase asks.asks) in
+      let enough : 1 * k ≤ total asking_one u * k = times_most 1 (total asking_one u) k (omega arith) in
+      let one = lets_in laws.together (with_state p u) c r asks free (λ v within. (let count = left v within in omega arith)) in
+      let e = one.who in
+      let way = one.enters in
+      let x = way.world in
+      let served = Served-enters (dealing_of p.plans) e (λ r. one_entry u) u way in
+      elim (cases_eq e c) [
+        | inl same ↦ (
+          served.steps,
+          record {
+            serves = served.serves;
+            more = events e Entered;
+            visible = ap (λ (z : WorldState). z.visible) served.run ∙ way.visible;
+            enters = subst (λ i. 1 ≤ entered_by i (events e Entered)) same (let count = one_entered e in omega arith);
+          },
+        )
+        | inr apart ↦
+            let within : e < length u.clients = asks_within u e one.asks in
+            let was = asking_is (client_at u.clients e).phase one.asks in
+            let now : weight (client_at x.clients e).phase ≡ 1 = ap weight way.inside in
+            let before : weight (client_at u.clients e).phase ≡ 2 = ap weight was in
+            let now_one : asking_one (client_at x.clients e).phase ≡ 0 = ap asking_one way.inside in
+            let before_one : asking_one (client_at u.clients e).phase ≡ 1 = ap asking_one was in
+            let less = total_less weight u x e way.clients within (omega arith) way.phases in
+            let fewer = total_less asking_one u x e way.clients within (omega arith) way.phases in
+            let product = times_most (total asking_one x + 1) (total asking_one u) k fewer in
+            let rest = serves_all laws p c k t x (same_entry u x way.voters way.clients ∙ is) (omega arith) (Reached-served p u x served r)
+            (record { client = subst (λ n. c < n) (sym way.clients) asks.client; asks = ap is_asking (way.phases c (λ same. apart (sym same))) ∙ asks.asks })
+            (λ v there. (let count = left v (subst (λ n. v < n) way.voters there) in let few = way.few v in let limit = way.limit v in omega arith)) in
+            (served.steps ++ rest.0, GetsIn-after (dealing_of p.plans) c u x rest.0 served rest.1)
+      ]
+]
+
+pub everybody_gets_in : LeavingLaws → (w : Planned) (c : ℕ) → IsReached w → Asks w.state c → HasGrants (length w.state.clients * (length w.state.voters + length w.state.clients + 3)) w.state
+    → (steps : List Step) × GetsIn (dealing_of w.plans) w.state c steps
+unfolding total
+everybody_gets_in laws w c r asks left =
+    let u = w.state in
+    let few : total asking_one u ≤ length u.clients = sum_most (length u.clients) (λ d. asking_one (client_at u.clients d).phase) (λ d. asking_most (client_at u.clients d).phase) in
+    let enough = times_most (total asking_one u) (length u.clients) (one_entry u) few in
+    serves_all laws w c (one_entry u) (total weight u) u refl (omega arith) r asks (λ v within. (let count = left v within in omega arith))
