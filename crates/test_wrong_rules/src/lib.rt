@@ -18,8 +18,12 @@
 //!
 //! - a client that takes no messages while it is idle.
 //!
+//! With a fifth one, two clients wait for each other for good, however often all are reminded:
+//!
+//! - a client that keeps a vote when its voter asks for it.
+//!
 //! With the right rules each history has one client inside at most, and two entries before such a
-//! request, and the vote comes back.
+//! request, the vote comes back, and one of the two clients gets in.
 #![tactic(auto)]
 
 #[cfg(test)]

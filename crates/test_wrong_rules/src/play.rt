@@ -23,6 +23,8 @@ pub(crate) enum Rule {
     ClockIgnoresVoters,
     /// A client that is idle takes no messages.
     IdleClientIsDeaf,
+    /// A client keeps a vote that its voter asks for.
+    AskedVoteIsKept,
 }
 
 /// A step of the world. Clients and messages are numbered from 0.
@@ -151,9 +153,20 @@ fn tell_client(
     if rule == Rule::IdleClientIsDeaf && client.phase() == Phase::Idle {
         return Ok(());
     }
+    if rule == Rule::AskedVoteIsKept && matches!(&message.body, ClientBody::Inquire { .. }) {
+        return Ok(());
+    }
     let message = for_client(rule, client, message);
     let reply = client.take(&message);
     keep(&reply, sent)
+}
+
+/// Keeps what a client sends again.
+fn remind_client(client: &Requester, sent: &mut Vec<Message>) -> Result<(), AllocError> {
+    for message in client.remind().as_slice() {
+        sent.push(Message::ToVoter(*message))?;
+    }
+    Ok(())
 }
 
 /// Has a client make a call: it asks these voters, leaves or gives up. Keeps what it sends.
@@ -298,6 +311,48 @@ impl Play {
             }
         }
         Ok(entries)
+    }
+
+    /// Reminds all clients and all voters.
+    fn remind_all(&mut self) -> Result<(), AllocError> {
+        remind_client(&self.client_0, &mut self.sent)?;
+        remind_client(&self.client_1, &mut self.sent)?;
+        remind_client(&self.client_2, &mut self.sent)?;
+        remind(&self.voter_0, &mut self.sent)?;
+        remind(&self.voter_1, &mut self.sent)?;
+        remind(&self.voter_2, &mut self.sent)
+    }
+
+    /// Lets messages arrive in order, from this one on, until none is left or somebody is inside.
+    /// Returns whether somebody is inside.
+    fn deliver_from(&mut self, from: usize) -> Result<bool, AllocError> {
+        for number in from..from.saturating_add(1_000) {
+            if number >= self.sent.len() || self.inside() > 0 {
+                break;
+            }
+            self.deliver(number)?;
+        }
+        Ok(self.inside() > 0)
+    }
+
+    /// Makes these steps in order. Then all clients and voters are reminded, and all messages arrive
+    /// that are sent from then on, as often as `rounds` says. Returns whether somebody gets in.
+    pub(crate) fn lets_somebody_in(
+        &mut self,
+        steps: &[Step],
+        rounds: usize,
+    ) -> Result<bool, AllocError> {
+        for step in steps {
+            self.step(*step)?;
+        }
+        for _ in 0..rounds {
+            let from = self.sent.len();
+            self.remind_all()?;
+            if self.deliver_from(from)? {
+                return Ok(true);
+            }
+        }
+        Ok(false)
     }
 
     /// Makes these steps in order, and returns whether client 1 is inside afterwards.

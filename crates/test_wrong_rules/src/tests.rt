@@ -128,6 +128,16 @@ const LOST_RELEASES: [Step; 17] = [
     Deliver(15),
 ];
 
+/// Client 0 gets the vote of voter 0, and client 1 that of voter 1. Each waits for the other's vote.
+const EACH_HAS_ONE: [Step; 6] = [
+    Ask(0, 0, 1),
+    Ask(1, 0, 1),
+    Deliver(0),
+    Deliver(3),
+    Deliver(4),
+    Deliver(5),
+];
+
 /// Returns how often client 0 enters while both voters know client 1's request.
 fn overtakes(alloc: Global, rule: Rule) -> Result<usize, AllocError> {
     let mut play = Play::new(alloc, rule);
@@ -174,6 +184,16 @@ fn a_client_whose_clock_ignores_its_voters_overtakes_three_times(
 fn an_idle_client_that_takes_no_messages_keeps_another_out(rt: HostRuntime) -> Result<(), Fail> {
     let sound = Play::new(rt.alloc(), Rule::Sound).lets_1_in(&LOST_RELEASES)?;
     let wrong = Play::new(rt.alloc(), Rule::IdleClientIsDeaf).lets_1_in(&LOST_RELEASES)?;
+    assert!(rt; sound & !wrong);
+    Ok(())
+}
+
+#[test]
+fn a_client_that_keeps_votes_that_are_asked_for_leaves_no_way_in(
+    rt: HostRuntime,
+) -> Result<(), Fail> {
+    let sound = Play::new(rt.alloc(), Rule::Sound).lets_somebody_in(&EACH_HAS_ONE, 1)?;
+    let wrong = Play::new(rt.alloc(), Rule::AskedVoteIsKept).lets_somebody_in(&EACH_HAS_ONE, 20)?;
     assert!(rt; sound & !wrong);
     Ok(())
 }
