@@ -114,7 +114,7 @@ example check-wheel-3-fast-hub wheel-3-fast-hub-planned.txt 0 check
 example deal-wheel-3-fast-hub wheel-3-fast-hub-planned.txt 0 deal 7
 
 # stories of the lock
-for world in race late-message withdrawal; do
+for world in race late-message withdrawal lost-release; do
     example "world-$world" "world-$world.txt" 0 world
 done
 
@@ -147,7 +147,7 @@ shown plan-one-of-three one-of-three-planned.txt plan
 shown deal-wheel-3 wheel-3-planned.txt deal 5
 shown deal-fast-majority fast-majority-planned.txt deal 1
 shown deal-wheel-3-fast-hub wheel-3-fast-hub-planned.txt deal 7
-for world in race late-message withdrawal refusals; do
+for world in race late-message withdrawal refusals lost-release; do
     shown "world-$world" "world-$world.txt" world
 done
 shown explain-disjoint /dev/null explain E7
