@@ -208,10 +208,10 @@ try_members() {
     printf '%-40s %6d runs\n' "$label" $((runs - before))
 }
 
-# Of the first member two logs and its mailbox grow, and of the second one a log and its mailbox; the one that asks first has two logs.
-# With 'drawn', if voter 0 loses the first member's request, it gives its vote to the second one, which is held up. With 'inside', the
-# first member's reminder is the fourth message to voter 0, so the second one's RELEASE is lost as well. If there is no memory for a
-# thread, the first member works before the second one, and the gate is late.
+# The logs of two voters and the mailbox grow for the member that asks first, and one log and the mailbox for the other one. With
+# 'drawn', if voter 0 loses the first member's request, it gives its vote to the second one, which is held up. With 'inside', voter 0
+# gets five messages, as the first member reminds, so its log grows for the second one's RELEASE. If there is no memory for a thread,
+# the first member works before the second one, and the gate is late.
 try_members before 'passed passed, lost 0 0, register 2' \
     '3 passed passed, lost 1 0, register 2' '2 passed passed, lost 0 1, register 2'
 try_members drawn 'passed passed, lost 0 0, register 2' \

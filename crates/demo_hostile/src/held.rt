@@ -19,10 +19,13 @@ pub(crate) enum Hold {
     Shut,
 }
 
-/// How many times a gate looks for what it waits for, a millisecond apart. That is longer than a client
-/// needs for all its turns. If there was no memory for a thread, the clients work one after the
-/// other, and the gate may look in vain.
-const LOOKS: u32 = 10_000;
+/// How many times a gate looks, a millisecond apart, whether a client has asked or is inside. That is
+/// longer than a client needs for its turns. If there was no memory for a thread, the clients work
+/// one after the other, and the gate looks in vain.
+const SOON: u32 = 2_500;
+
+/// How many times a gate looks, a millisecond apart, whether a client's work is over.
+const AT_LAST: u32 = 30_000;
 
 /// What a client has done.
 #[derive(Drop)]
@@ -93,9 +96,10 @@ impl<'r> Held<'r> {
         note(&client.over);
     }
 
-    /// Waits until something has happened. If it does not, the gate is late, and waits no more.
-    fn wait_for(&self, event: &AtomicBool) {
-        for _ in 0..LOOKS {
+    /// Waits until something has happened, for this number of looks at most. If it does not happen, the
+    /// gate is late, and waits no more.
+    fn wait_for(&self, event: &AtomicBool, looks: u32) {
+        for _ in 0..looks {
             if event.load(Ordering::SeqCst) || self.was_late() {
                 return;
             }
@@ -108,9 +112,9 @@ impl<'r> Held<'r> {
 impl<'r> Gate for Held<'r> {
     fn before(&self, client: u8) {
         match (self.hold, client) {
-            (Hold::Before, 1) => self.wait_for(&self.first.over),
-            (Hold::Drawn, 1) => self.wait_for(&self.first.asked),
-            (Hold::Inside | Hold::Shut, 0) => self.wait_for(&self.second.inside),
+            (Hold::Before, 1) => self.wait_for(&self.first.over, AT_LAST),
+            (Hold::Drawn, 1) => self.wait_for(&self.first.asked, SOON),
+            (Hold::Inside | Hold::Shut, 0) => self.wait_for(&self.second.inside, SOON),
             _ => {}
         }
     }
@@ -118,9 +122,9 @@ impl<'r> Gate for Held<'r> {
     fn drawn(&self, client: u8) {
         note(&self.of(client).asked);
         match (self.hold, client) {
-            (Hold::Drawn, 0) => self.wait_for(&self.second.asked),
-            (Hold::Drawn, 1) => self.wait_for(&self.first.over),
-            (Hold::Shut, 0) => self.wait_for(&self.second.over),
+            (Hold::Drawn, 0) => self.wait_for(&self.second.asked, SOON),
+            (Hold::Drawn, 1) => self.wait_for(&self.first.over, AT_LAST),
+            (Hold::Shut, 0) => self.wait_for(&self.second.over, AT_LAST),
             _ => {}
         }
     }
@@ -129,11 +133,11 @@ impl<'r> Gate for Held<'r> {
         note(&self.of(client).inside);
         match (self.hold, client) {
             (Hold::Inside, 1) => {
-                self.wait_for(&self.first.over);
+                self.wait_for(&self.first.over, AT_LAST);
                 true
             }
             (Hold::Shut, 1) => {
-                self.wait_for(&self.first.asked);
+                self.wait_for(&self.first.asked, SOON);
                 false
             }
             _ => true,

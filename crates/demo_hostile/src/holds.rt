@@ -18,7 +18,7 @@ use test_plans::majority_plan;
 
 /// How many turns each member has. That is enough for one reminder, which comes after 1,000 empty looks,
 /// and for the replies to it.
-const TURNS: u64 = 1_500;
+const TURNS: u64 = 1_200;
 
 /// A message after which voter 0 takes client 0's first request as finished. So it never replies to
 /// that request, nor to reminders.
