@@ -1,10 +1,11 @@
 #!/bin/sh
 # Runs every example and compares what it prints with what stands in expected/: the output in NAME.out, or for an example
-# that is refused its one line in NAME.err. Draws the pictures of docs/pictures/ and compares them too; where xmllint is found
-# (Debian: libxml2-utils), each has to be well-formed XML.
+# that is refused its one line in NAME.err. Compares docs/faults.md with what `explain all` writes, each of its blocks with what
+# `explain CODE` writes, and its faults with those of the tests. Draws the pictures of docs/pictures/ and compares them too;
+# where xmllint is found (Debian: libxml2-utils), each has to be well-formed XML.
 #
 #     examples/check.sh            says which examples differ, and ends with status 1 where one does
-#     examples/check.sh --write    writes expected/ anew
+#     examples/check.sh --write    writes expected/ anew, and docs/faults.md and docs/pictures
 set -eu
 here=$(CDPATH= cd -- "$(dirname -- "$0")" && pwd)
 qlock=$here/../qlock
@@ -151,6 +152,7 @@ for world in race late-message withdrawal refusals lost-release; do
     shown "world-$world" "world-$world.txt" world
 done
 shown explain-disjoint /dev/null explain E7
+shown explain-list /dev/null explain
 shown fault-disjoint refused-disjoint.toml fault plan
 shown fault-plan refused-plan.txt fault check
 shown fault-capacity refused-capacity.txt fault check
@@ -158,6 +160,48 @@ shown fault-record refused-record.txt fault replay
 shown fault-script refused-script.txt fault world
 shown fault-missing-part wheel-3.toml fault check
 shown fault-none wheel-3-planned.txt fault deal 5
+
+# the version is the newest of CHANGELOG.md
+echo "qlock-show $(sed -n 's/^## \([0-9.]*\).*/\1/p' "$here/../CHANGELOG.md" | head -n 1)" > "$work/wanted"
+"$show" --version > "$work/out"
+if diff -u "$work/wanted" "$work/out"; then passed=$((passed + 1)); else failed=$((failed + 1)); fi
+
+# the page of all faults
+"$show" explain all > "$work/page"
+compare "$work/page" ../../docs/faults.md
+
+# what the page says of a code: the block below its heading
+of_page() {
+    awk -v code="$1" '/^### / { here = $2 == code } /^```$/ { inside = !inside; next } here && inside' "$work/page"
+}
+
+# of each code the same by itself
+for code in $(sed -n 's/^### \([^ ]*\) .*/\1/p' "$work/page"); do
+    of_page "$code" > "$work/wanted"
+    "$show" explain "$code" > "$work/out"
+    if diff -u "$work/wanted" "$work/out"; then passed=$((passed + 1)); else failed=$((failed + 1)); fi
+done
+
+# of each line CODE NAME ARGUMENTS.. the code, the name and the number of arguments
+shapes() {
+    awk '{ print $1, $2, NF - 2 }' | sort -u
+}
+
+# each fault is in the tests, and none else: in the tables of crates/test_program/src/faults.rt, or for a wrong command line in
+# an example
+"$show" explain | shapes > "$work/listed"
+{
+    grep -o '"[A-Z][0-9] [^"]*"' "$here/../crates/test_program/src/faults.rt" | tr -d '"'
+    cat "$here/expected/grid-of-one-number.err"
+} | shapes > "$work/tested"
+if diff -u "$work/tested" "$work/listed"; then passed=$((passed + 1)); else failed=$((failed + 1)); fi
+
+# the completions have the codes of all faults, in their order
+"$show" explain | cut -d ' ' -f 1 > "$work/wanted"
+for completion in _qlock-show qlock-show.bash; do
+    sed -n '/codes=[("]/,/[)"]$/p' "$here/../completions/$completion" | grep -o '[A-Z][0-9]' > "$work/out"
+    if diff -u "$work/wanted" "$work/out"; then passed=$((passed + 1)); else failed=$((failed + 1)); fi
+done
 
 # an input for each fault that a text can have: faults/CODE.COMMAND is refused by this command with this code
 for input in faults/*; do

@@ -1,41 +1,21 @@
 //! The program `qlock`: plans of coteries, and the lock that they serve, from the command line.
 //!
-//! The crate `qlock_cli` reads the words and serves the command. This program takes the words from
+//! The crate `qlock_cli` reads the words and serves the command. The crate `host` takes the words from
 //! the system. It turns the result of the command into an exit status, and into a fault's line or
 //! a text about usage on standard error.
 #![tactic(auto)]
 
-ghost use Rattle.std.specs.Prelude.{◌≡◌};
 ghost use Rattle.qlock_cli.specs.Commands.{IsInRange};
-ghost use Rattle.qlock_cli.specs.Statuses.{usage_status};
 
+use host::{refuse_words, report, words_of};
 use qlock_cli::{
-    Command, Fault, NoGate, Usage, Watched, execute, execute_run, named_commands_are_in_range,
-    read_words, status_of, usage_status,
+    Command, NoGate, Usage, Watched, execute, execute_run, named_commands_are_in_range, read_words,
 };
+use std::io;
 use std::process::ExitCode;
 use std::sync::Wait;
 use std::thread::Threads;
 use std::time::Clock;
-use std::{env, io};
-
-/// Prints why the words name no command. Returns the exit status: 2, or 4 if memory ran out.
-fn refuse_words(rt: &HostRuntime, usage: &Usage) -> u8
-    ensures { result ≡ usage_status usage.now }
-{
-    match usage {
-        Usage::Refused(error) => {
-            let _ = rt.eprint(error);
-        }
-        Usage::Arguments => {
-            let _ = rt.eprintln("I5 Arguments");
-        }
-        Usage::OutOfMemory => {
-            let _ = rt.eprintln(&Fault::OutOfMemory);
-        }
-    }
-    usage_status(usage)
-}
 
 /// Serves the command over standard input and output. Returns the exit status. `threads` is the
 /// runtime again: it starts the threads.
@@ -57,22 +37,7 @@ fn serve<T: Threads + Wait + Clock + Sync>(rt: &HostRuntime, threads: &T, comman
         }
         _ => execute(rt.alloc(), command, &mut reader, &mut writer),
     };
-    match served {
-        Ok(()) => 0,
-        Err(fault) => {
-            let _ = rt.eprintln(&fault);
-            status_of(&fault)
-        }
-    }
-}
-
-/// Returns the words of the command line, including the program's name.
-fn words_of(rt: &HostRuntime) -> Result<Vec<String>, Usage> {
-    match env::args(rt) {
-        Ok(words) => Ok(words.collect::<Vec<String>>(rt.alloc())?),
-        Err(error) if error.kind() == io::ErrorKind::OutOfMemory => Err(Usage::OutOfMemory),
-        Err(_) => Err(Usage::Arguments),
-    }
+    report(rt, &served)
 }
 
 /// Serves the command that the words of the command line name. Returns the exit status.

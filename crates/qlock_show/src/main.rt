@@ -1,35 +1,43 @@
 //! The program `qlock-show`: plans, faults and scripts of `qlock` for people to read.
 //!
-//! The crate `show_cli` reads the words and serves the command. This program takes the words from
+//! The crate `show_cli` reads the words and serves the command. The crate `host` takes the words from
 //! the system. It turns the result of the command into an exit status, and into a fault's line or
-//! a text about usage on standard error.
+//! a text about usage on standard error. Help and the version, which were asked for, go to standard
+//! output.
 #![tactic(auto)]
 
-ghost use Rattle.std.specs.Prelude.{◌≡◌};
+ghost use Rattle.std.specs.Prelude.{◌≡◌, ◌⊎◌};
 ghost use Rattle.qlock_cli.specs.Statuses.{usage_status};
 ghost use Rattle.show_cli.specs.Commands.{IsShown};
+ghost use Rattle.qlock_show.specs.Requests.{AsksForText};
 
-use qlock_cli::{Fault, Usage, Watched, status_of, usage_status};
+use host::{refuse_words, report, words_of};
+use qlock_cli::{DeviceFault, Fault, Usage, Watched};
 use show_cli::{ShowCommand, read_show_words, show};
+use std::io;
 use std::process::ExitCode;
-use std::{env, io};
 
-/// Prints why the words name no command. Returns the exit status: 2, or 4 if memory ran out.
-fn refuse_words(rt: &HostRuntime, usage: &Usage) -> u8
-    ensures { result ≡ usage_status usage.now }
+/// Prints a text that was asked for, help or the version, on standard output. Returns the exit
+/// status: 0, or 3 if the write failed.
+fn show_text(rt: &HostRuntime, text: &clap::Error) -> u8
+    ensures { (result ≡ 0) ⊎ (result ≡ 3) }
+{
+    let written = match rt.print(text) {
+        Ok(()) => Ok(()),
+        Err(_) => Err(Fault::Device(DeviceFault::WriteFault)),
+    };
+    report(rt, &written)
+}
+
+/// Prints a text that was asked for, or why the words name no command. Returns the exit status.
+fn answer_words(rt: &HostRuntime, usage: &Usage) -> u8
+    ensures asked { AsksForText usage.now → (result ≡ 0) ⊎ (result ≡ 3) }
+    ensures refused { ¬ AsksForText usage.now → result ≡ usage_status usage.now }
 {
     match usage {
-        Usage::Refused(error) => {
-            let _ = rt.eprint(error);
-        }
-        Usage::Arguments => {
-            let _ = rt.eprintln("I5 Arguments");
-        }
-        Usage::OutOfMemory => {
-            let _ = rt.eprintln(&Fault::OutOfMemory);
-        }
+        Usage::Refused(text) if !text.use_stderr() => show_text(rt, text),
+        _ => refuse_words(rt, usage),
     }
-    usage_status(usage)
 }
 
 /// Serves the command over standard input and output. Returns the exit status.
@@ -38,22 +46,7 @@ fn serve(rt: &HostRuntime, command: &ShowCommand) -> u8
 {
     let mut reader = Watched::of(rt.reader());
     let mut writer = Watched::of(io::writer(rt));
-    match show(rt.alloc(), command, &mut reader, &mut writer) {
-        Ok(()) => 0,
-        Err(fault) => {
-            let _ = rt.eprintln(&fault);
-            status_of(&fault)
-        }
-    }
-}
-
-/// Returns the words of the command line, including the program's name.
-fn words_of(rt: &HostRuntime) -> Result<Vec<String>, Usage> {
-    match env::args(rt) {
-        Ok(words) => Ok(words.collect::<Vec<String>>(rt.alloc())?),
-        Err(error) if error.kind() == io::ErrorKind::OutOfMemory => Err(Usage::OutOfMemory),
-        Err(_) => Err(Usage::Arguments),
-    }
+    report(rt, &show(rt.alloc(), command, &mut reader, &mut writer))
 }
 
 /// Serves the command that the words of the command line name. Returns the exit status.
@@ -66,6 +59,6 @@ fn run(rt: &HostRuntime) -> Result<u8, Usage> {
 fn main(rt: HostRuntime) -> ExitCode {
     ExitCode::from(match run(&rt) {
         Ok(status) => status,
-        Err(usage) => refuse_words(&rt, &usage),
+        Err(usage) => answer_words(&rt, &usage),
     })
 }

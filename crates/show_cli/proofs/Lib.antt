@@ -1,2 +1,4 @@
+pub mod FaultLemmas
 pub mod PageLemmas
 pub mod ShowLemmas
+pub mod WordLemmas

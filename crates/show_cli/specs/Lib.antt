@@ -1,2 +1,4 @@
+pub mod Codes
 pub mod Commands
 pub mod Pages
+pub mod Words

@@ -1,24 +1,28 @@
 -- What each command writes, as far as it is determined, and its faults.
 use Rattle.std.specs.Prelude.{◌≡◌, ◌⊎◌, ℕ, ◌<◌, ◌≤◌, Bool, true, false, if◌then◌else◌, List, [], ◌∷◌, ◌++◌, length, codes, decimal, slice_index_or, Option, Result, Ok, Err, IfSome, ⊤}
+use Rattle.std.specs.Bool.{OnFalse}
 use Rattle.std.specs.List.{flat_map, range_with_len}
 use Rattle.std.specs.Io.KnownBytes.{Appends, IsAtEnd, Keeps}
 use Rattle.coterie_file.specs.Named.{NamedSystem}
 use Rattle.dealer.specs.Accounts.{account_of}
 use Rattle.dealer.specs.Offices.{receipt_of}
 use Rattle.dealer.specs.declared.receipt.Receipt.{Receipt}
+use Rattle.show_faults.specs.Pages.{IsFaultsList, IsFaultsPage}
 use Rattle.show_faults.specs.Texts.{text_of}
 use Rattle.replay.specs.Scripts.{IsScript, Script, script_text}
 use Rattle.show_words.specs.Lines.{names_text}
 use Rattle.show_words.specs.Plans.{IsPlanPage}
 use Rattle.show_words.specs.Worlds.{IsWorldPage}
 use Rattle.show_svg.specs.Pictures.{IsEnded}
-use Rattle.qlock_cli.specs.Commands.{IsRefusedBy, Refuses, account_text, planned_in, ratio_part, reads_input, staged_in}
+use Rattle.qlock_cli.specs.Commands.{IsAnswer, IsRefusal, IsRefusedBy, Refuses, account_text, planned_in, ratio_part, reads_input, staged_in}
 use Rattle.qlock_cli.specs.declared.answer.Planned.{Planned}
 use Rattle.qlock_cli.specs.declared.fault.Fault.{Fault}
-use Rattle.qlock_cli.specs.declared.fault.Fault.TheVariants.{Device, OutOfMemory}
+use Rattle.qlock_cli.specs.declared.fault.Fault.TheVariants.{Cluster, Device, OutOfMemory}
+use Rattle.command_line.specs.declared.command.Command.{Command}
 use Rattle.command_line.specs.declared.command.Command.TheVariants as qlock
 use Rattle.whole_io.specs.Devices.{AppendsBeginning}
 use Rattle.whole_io.specs.declared.fault.DeviceFault.TheVariants.{ReadFault, TooLong, WriteFault}
+use Rattle.show_cli.specs.Codes.{code_of}
 use Rattle.show_cli.specs.declared.command.Picture.TheVariants as pictures
 use Rattle.show_cli.specs.declared.command.ShowCommand.{ShowCommand}
 use Rattle.show_cli.specs.declared.command.ShowCommand.TheVariants as show
@@ -82,15 +86,40 @@ pub record IsScriptPicture (input page : List ℕ) : Type 0 where
   pub parts : staged_in input ≡ Ok (planned, script_text script)
   pub ended : IsEnded page
 
--- the page's last line names the command that explains a fault
-pub record NamesCode (page : List ℕ) : Type 0 where
+-- the page's last line names the command that explains the fault with this code
+pub record NamesCode (code page : List ℕ) : Type 0 where
   pub before : List ℕ
-  pub code : List ℕ
   pub is : page ≡ before ++ (codes "  more: qlock-show explain " ++ (code ++ codes "\n"))
 
--- the page says that there is no fault, or names one
-abbrev pub IsFaultPage : List ℕ → Type 0
-IsFaultPage page = (page ≡ codes "qlock does not refuse this input\n") ⊎ NamesCode page
+-- the command takes the input: it has an output for it, or, for `run`, which is not run here, the
+-- input is a coterie and a plan of it
+abbrev pub IsTaken : Command → List ℕ → Type 0
+IsTaken (qlock.Run clients passes turns) input = (planned : Planned) × (planned_in input ≡ Ok planned)
+IsTaken command input = (output : List ℕ) × IsAnswer command input output
+
+-- the fault is none of the input: it is of a device, of a run, or of memory
+abbrev pub is_outside : Fault → Bool
+is_outside (Device fault) = true
+is_outside (Cluster fault) = true
+is_outside OutOfMemory = true
+is_outside fault = false
+
+-- the fault is none of the input, or the command refuses the input with it
+abbrev pub MayTurnDown : Command → List ℕ → Fault → Type 0
+MayTurnDown command input fault = OnFalse (is_outside fault) (IsRefusal command input fault)
+
+-- the command refuses the input, and the page names the code of a fault with which it does
+pub record IsRefusalPage (command : Command) (input page : List ℕ) : Type 0 where
+  pub fault : Fault
+  pub inside : is_outside fault ≡ false
+  pub refused : IsRefusal command input fault
+  pub names : NamesCode (code_of fault) page
+
+-- The page says that there is no fault, and the command takes the input. Or the page names the code
+-- of a fault with which the command refuses the input.
+abbrev pub IsFaultPage : Command → List ℕ → List ℕ → Type 0
+IsFaultPage command input page =
+    ((page ≡ codes "qlock does not refuse this input\n") × IsTaken command input) ⊎ IsRefusalPage command input page
 
 -- the page is one of the command for the input
 abbrev pub IsPage : ShowCommand → List ℕ → List ℕ → Type 0
@@ -98,7 +127,9 @@ IsPage show.Plan input page = IsPlanWords input page
 IsPage (show.Deal n) input page = IsDealPage n input page
 IsPage show.World input page = IsScriptWords input page
 IsPage (show.Explain explanation) input page = page ≡ text_of explanation.now
-IsPage (show.Fault command) input page = IsFaultPage page
+IsPage show.ExplainAll input page = IsFaultsPage page
+IsPage show.ListFaults input page = IsFaultsList page
+IsPage (show.Fault command) input page = IsFaultPage command input page
 IsPage (show.Picture pictures.Load) input page = IsPlanPicture input page
 IsPage (show.Picture pictures.Cycle) input page = IsPlanPicture input page
 IsPage (show.Picture pictures.World) input page = IsScriptPicture input page
@@ -110,6 +141,8 @@ RefusesPage show.Plan input fault = Refuses fault (planned_in input)
 RefusesPage (show.Deal n) input fault = Refuses fault (planned_in input)
 RefusesPage show.World input fault = IsRefusedBy qlock.World input fault
 RefusesPage (show.Explain explanation) input fault = fault ≡ OutOfMemory
+RefusesPage show.ExplainAll input fault = fault ≡ OutOfMemory
+RefusesPage show.ListFaults input fault = fault ≡ OutOfMemory
 RefusesPage (show.Fault command) input fault = fault ≡ OutOfMemory
 RefusesPage (show.Picture pictures.Load) input fault = Refuses fault (planned_in input)
 RefusesPage (show.Picture pictures.Cycle) input fault = Refuses fault (planned_in input)
@@ -125,6 +158,8 @@ IsShownBy view command input (Err fault) = RefusesPage command input fault
 -- whether a command reads its input; `explain` and `fault make` don't
 abbrev pub reads_page_input : ShowCommand → Bool
 reads_page_input (show.Explain explanation) = false
+reads_page_input show.ExplainAll = false
+reads_page_input show.ListFaults = false
 reads_page_input (show.Fault command) = reads_input command
 reads_page_input show.Plan = true
 reads_page_input (show.Deal n) = true

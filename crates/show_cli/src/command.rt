@@ -24,6 +24,10 @@ pub enum ShowCommand {
     World,
     /// Explain a fault.
     Explain(&'static Explanation),
+    /// Explain all faults, in Markdown.
+    ExplainAll,
+    /// List the lines of all faults.
+    ListFaults,
     /// Show where an input has the fault for which this command of `qlock` refuses it.
     Fault(Command),
     /// Draw a picture.

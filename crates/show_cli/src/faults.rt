@@ -1,8 +1,10 @@
 //! Where an input has its fault, and with which names.
-ghost use Rattle.std.specs.Prelude.{◌≡◌, IfOk, OnOk, string_bytes};
-ghost use Rattle.qlock_cli.specs.Commands.{IsInRange};
-ghost use Rattle.show_cli.specs.Pages.{IsFaultPage, NamesCode};
+ghost use Rattle.std.specs.Prelude.{◌≡◌, IfErr, IfOk, OnOk, string_bytes};
+ghost use Rattle.qlock_cli.specs.Commands.{IsInRange, IsServed};
+ghost use Rattle.show_cli.specs.Codes.{code_of};
+ghost use Rattle.show_cli.specs.Pages.{IsFaultPage, IsTaken, MayTurnDown, NamesCode, is_outside};
 
+use crate::codes::code_of;
 use crate::excerpt::{line_of, push_line};
 use crate::input_parts::{lines_before, part_in, part_name};
 use crate::text_faults::push_file_fault;
@@ -12,24 +14,66 @@ use qlock_cli::{Command, Fault, Watched, execute, planned_of};
 use replay::ReplayFault;
 use std::alloc::{AllocError, Global};
 
-/// Returns the fault with which a command of `qlock` refuses an input, if it refuses it. For `run`
-/// the input is only read.
-fn fault_in(alloc: Global, command: &Command, input: &[u8]) -> Option<Fault>
-    requires { IsInRange command.now }
+/// Serves a command of `qlock` other than `run` for an input, and throws the output away.
+fn serve_input(alloc: Global, command: &Command, input: &[u8]) -> Result<(), Fault>
+    requires { IsServed command.now }
+    ensures taken { OnOk result (IsTaken command.now input.now) }
+    ensures fault { IfErr result (MayTurnDown command.now input.now) }
 {
-    let outcome = match command {
-        Command::Run { .. } => match planned_of(alloc, input) {
-            Ok(_) => Ok(()),
-            Err(fault) => Err(fault),
-        },
-        _ => {
-            let mut written = Vec::new(alloc);
-            let mut reader = Watched::of(input);
-            let mut writer = Watched::of(&mut written);
-            execute(alloc, command, &mut reader, &mut writer)
-        }
+    let mut written = Vec::new(alloc);
+    let mut reader = Watched::of(input);
+    let mut writer = Watched::of(&mut written);
+    let () = match execute(alloc, command, &mut reader, &mut writer) {
+        Ok(()) => (),
+        Err(fault) => return Err(fault),
     };
-    outcome.err()
+    Ok(())
+}
+
+/// Reads the input of `run`.
+#[tactic(auto, using(crate::proofs::FaultLemmas::run_fault_comes))]
+fn read_run_input(
+    alloc: Global,
+    clients: u8,
+    passes: u64,
+    turns: u64,
+    input: &[u8],
+) -> Result<(), Fault>
+    ensures taken { OnOk result (IsTaken (Command.Run clients passes turns) input.now) }
+    ensures fault { IfErr result (MayTurnDown (Command.Run clients passes turns) input.now) }
+{
+    let _planned = match planned_of(alloc, input) {
+        Ok(planned) => planned,
+        Err(fault) => return Err(fault),
+    };
+    Ok(())
+}
+
+/// Returns why a command of `qlock` refuses an input, if it refuses it. For `run` the input is only
+/// read.
+fn outcome_of(alloc: Global, command: &Command, input: &[u8]) -> Result<(), Fault>
+    requires { IsInRange command.now }
+    ensures taken { OnOk result (IsTaken command.now input.now) }
+    ensures fault { IfErr result (MayTurnDown command.now input.now) }
+{
+    match command {
+        Command::Run {
+            clients,
+            passes,
+            turns,
+        } => read_run_input(alloc, *clients, *passes, *turns, input),
+        _ => serve_input(alloc, command, input),
+    }
+}
+
+/// Returns whether a fault is none of the input: it is of a device, of a run, or of memory.
+fn is_outside(fault: &Fault) -> bool
+    ensures { result ≡ is_outside fault.now }
+{
+    matches!(
+        fault,
+        Fault::Device(_) | Fault::Cluster(_) | Fault::OutOfMemory
+    )
 }
 
 /// The input that a command refused.
@@ -195,20 +239,18 @@ fn push_fault(
     refused: &Refused,
     fault: Fault,
 ) -> Result<(), AllocError>
-    ensures { OnOk result (NamesCode (string_bytes text.new)) }
+    ensures { OnOk result (NamesCode (code_of fault) (string_bytes text.new)) }
 {
-    let line = fault.to_string(alloc)?;
-    text.push_str(&line)?;
-    text.push('\n')?;
+    write!(text, "{fault}\n")?;
     push_place(alloc, text, refused, fault)?;
-    let code = line.split(' ').next().unwrap_or("");
+    let code = code_of(fault);
     write!(text, "  more: qlock-show explain {code}\n")?;
     Ok(())
 }
 
 /// Returns the page about a fault.
 fn fault_words(alloc: Global, refused: &Refused, fault: Fault) -> Result<String, AllocError>
-    ensures { IfOk result (λ page. NamesCode (string_bytes page)) }
+    ensures { IfOk result (λ page. NamesCode (code_of fault) (string_bytes page)) }
 {
     let mut text = String::new(alloc);
     push_fault(alloc, &mut text, refused, fault)?;
@@ -216,18 +258,21 @@ fn fault_words(alloc: Global, refused: &Refused, fault: Fault) -> Result<String,
 }
 
 /// Returns the page about the fault with which a command of `qlock` refuses an input. Fails only if
-/// memory runs out.
+/// memory runs out: the input is in memory and not too long, and no client runs.
 pub(crate) fn fault_page(
     alloc: Global,
     command: &Command,
     input: &[u8],
 ) -> Result<String, AllocError>
     requires { IsInRange command.now }
-    ensures { IfOk result (λ page. IsFaultPage (string_bytes page)) }
+    ensures { IfOk result (λ page. IsFaultPage command.now input.now (string_bytes page)) }
 {
-    match fault_in(alloc, command, input) {
-        Some(Fault::OutOfMemory) => Err(AllocError),
-        Some(fault) => fault_words(alloc, &Refused { command, input }, fault),
-        None => String::from_str(alloc, "qlock does not refuse this input\n"),
+    let fault = match outcome_of(alloc, command, input) {
+        Ok(()) => return String::from_str(alloc, "qlock does not refuse this input\n"),
+        Err(fault) => fault,
+    };
+    if is_outside(&fault) {
+        return Err(AllocError);
     }
+    fault_words(alloc, &Refused { command, input }, fault)
 }

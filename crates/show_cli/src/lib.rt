@@ -8,17 +8,22 @@
 //!
 //! # What is proved
 //!
+//! A command is the one that the words name. Words are refused only if clap refuses them, or if they
+//! name no command.
+//!
 //! The input is read to its end, and what is written is a page of the command for what was read:
 //!
-//! - of `deal` and `explain` the whole page is determined;
+//! - of `deal` and `explain` the whole page is determined; the page of all faults and the list of
+//!   their lines have each code once, in order;
 //! - of `plan` the load line and the tables of quorums and voters are, from the plan and the names in
 //!   the input; the paragraphs behind them are only tested;
+//! - a `fault` page ends with the code of a fault with which `qlock` refuses the input, or it says that
+//!   there is none, and then the command takes the input;
 //! - for `world` and the pictures the input has the parts that it has to have; a page of `world` ends
-//!   with the clients, and a picture as a picture does; a `fault` page names a code, or says that there
-//!   is no fault. What else these say is only tested.
+//!   with the clients, and a picture as a picture does.
 //!
-//! A fault comes only for an input with this fault, and then nothing is written. A failed write may
-//! leave a beginning of such a page.
+//! What else these pages say is only tested. A fault comes only for an input with this fault, and
+//! then nothing is written. A failed write may leave a beginning of such a page.
 //!
 //! ```
 //! let command = read_show_words(alloc, words)?; // of `qlock-show plan`: ShowCommand::Plan
@@ -28,6 +33,7 @@
 //! ```
 #![tactic(auto)]
 
+mod codes;
 mod command;
 mod excerpt;
 mod faults;

@@ -1,6 +1,7 @@
 //! What each command writes for its input.
 ghost use Rattle.std.specs.Prelude.{◌≡◌, ◌≤◌, ◌++◌, IfErr, IfOk, Ok, OnOk, codes, string_bytes};
 ghost use Rattle.std.specs.List.{flat_map};
+ghost use Rattle.show_faults.specs.Pages.{IsFaultsList, IsFaultsPage};
 ghost use Rattle.show_faults.specs.Texts.{text_of};
 ghost use Rattle.replay.specs.Scripts.{IsScript, script_text};
 ghost use Rattle.show_words.specs.Lines.{names_text};
@@ -15,7 +16,7 @@ use coterie_file::Named;
 use dealer::Receipt;
 use qlock_cli::{Command, Fault, Planned, dealt, planned_of, push_account, push_ratio, staged_of};
 use replay::{Script, read_script};
-use show_faults::{Explanation, explanation_text};
+use show_faults::{Explanation, explanation_text, faults_list, faults_page};
 use show_plans::{cycle_picture, load_picture};
 use show_words::{plan_words, push_members, world_words};
 use show_worlds::world_picture;
@@ -194,10 +195,32 @@ fn explain_page(alloc: Global, explanation: &Explanation) -> Result<String, Faul
     }
 }
 
+/// Returns the page of all faults.
+fn explain_all_page(alloc: Global) -> Result<String, Fault>
+    ensures page { IfOk result (λ page. IsFaultsPage (string_bytes page)) }
+    ensures memory { IfErr result (λ fault. fault ≡ Fault.OutOfMemory) }
+{
+    match faults_page(alloc) {
+        Ok(page) => Ok(page),
+        Err(_) => Err(Fault::OutOfMemory),
+    }
+}
+
+/// Returns the lines of all faults.
+fn list_page(alloc: Global) -> Result<String, Fault>
+    ensures page { IfOk result (λ page. IsFaultsList (string_bytes page)) }
+    ensures memory { IfErr result (λ fault. fault ≡ Fault.OutOfMemory) }
+{
+    match faults_list(alloc) {
+        Ok(page) => Ok(page),
+        Err(_) => Err(Fault::OutOfMemory),
+    }
+}
+
 /// Returns the page about the fault for which a command of `qlock` refuses an input.
 fn refusal_page(alloc: Global, command: &Command, input: &[u8]) -> Result<String, Fault>
     requires { IsInRange command.now }
-    ensures page { IfOk result (λ page. IsFaultPage (string_bytes page)) }
+    ensures page { IfOk result (λ page. IsFaultPage command.now input.now (string_bytes page)) }
     ensures memory { IfErr result (λ fault. fault ≡ Fault.OutOfMemory) }
 {
     match fault_page(alloc, command, input) {
@@ -220,6 +243,8 @@ pub(crate) fn page_of(alloc: Global, command: &ShowCommand, input: &[u8]) -> Res
         ShowCommand::World => world_page(alloc, input),
         ShowCommand::Picture(Picture::World) => script_picture(alloc, input),
         ShowCommand::Explain(explanation) => explain_page(alloc, explanation),
+        ShowCommand::ExplainAll => explain_all_page(alloc),
+        ShowCommand::ListFaults => list_page(alloc),
         ShowCommand::Fault(command) => refusal_page(alloc, command, input),
     }
 }

@@ -36,7 +36,7 @@ fn reads_page_input(command: &ShowCommand) -> bool
     ensures { result ≡ reads_page_input command.now }
 {
     match command {
-        ShowCommand::Explain(_) => false,
+        ShowCommand::Explain(_) | ShowCommand::ExplainAll | ShowCommand::ListFaults => false,
         ShowCommand::Fault(command) => reads_qlock_input(command),
         ShowCommand::Plan | ShowCommand::Deal(_) | ShowCommand::World | ShowCommand::Picture(_) =>
             true,

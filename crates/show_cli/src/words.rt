@@ -1,7 +1,12 @@
 //! The command line: which command its words name.
-ghost use Rattle.std.specs.Prelude.{◌≡◌, ◌≤◌, IfOk, IfSome};
-ghost use Rattle.show_cli.specs.Commands.{IsShown};
+ghost use Rattle.std.specs.Prelude.{◌≡◌, ◌<◌, ◌++◌, ◌∷◌, ℕ, [], length, slice_index_or, false, IfErr, IfOk, IfSome, None, OnOk, Some, codes, map, string_bytes};
+ghost use Rattle.clap.specs.Words.{app_of, found_of, rows_of, rule_of, subcommand_of, subcommand_rows_of};
+ghost use Rattle.command_line.specs.Words as qlock;
+ghost use Rattle.command_line.specs.Words.{HasNumber, IsLocal, deal_app, plan_app, tickets_rule, world_app};
 ghost use Rattle.qlock_cli.specs.Commands.{IsInRange};
+ghost use Rattle.show_cli.specs.Commands.{IsShown};
+ghost use Rattle.show_cli.specs.declared.command.Picture.{Picture};
+ghost use Rattle.show_cli.specs.Words.{IsNamedBy, Names, Refuses, RefusesUse, code_rule, explain_app, fault_app, kind_rule, pages_app, picture_app, picture_word, qlock_words, show_app, words_rule};
 
 use crate::command::{Picture, ShowCommand};
 use clap::builder::ValueParser;
@@ -10,128 +15,242 @@ use qlock_cli::{Command, Usage, named_commands_are_in_range, read_words};
 use show_faults::explanation_of;
 use std::alloc::{AllocError, Global};
 
+/// The version of the program, as in `CHANGELOG.md`.
+const VERSION: &str = "0.2.0";
+
 /// The greatest number of tickets that one call deals.
 const MOST_TICKETS: u64 = 100_000;
 
-/// Returns the subcommand `deal N`.
-fn deal_command<'a>(alloc: Global) -> Result<clap::Command<'a>, AllocError> {
-    let tickets = Arg::new(alloc, "N")
+/// Returns the subcommand `plan`, which has no arguments.
+fn plan_command<'a>(alloc: Global) -> clap::Command<'a>
+    ensures app { app_of result ≡ plan_app }
+    ensures local { IsLocal result }
+{
+    clap::Command::new(alloc, "plan").about(
+        "Show a plan: whom to ask how often, and why no plan is better: a coterie, a line %%, and a plan",
+    )
+}
+
+/// Returns the argument N: 0 to 100,000.
+fn tickets_argument<'a>(alloc: Global) -> Arg<'a>
+    ensures rule { rule_of result ≡ tickets_rule }
+    ensures local { result.global ≡ false }
+{
+    Arg::new(alloc, "N")
         .help("How many tickets to deal, 0 to 100000")
         .required(true)
-        .value_parser(ValueParser::unsigned(0, MOST_TICKETS));
+        .value_parser(ValueParser::unsigned(0, MOST_TICKETS))
+}
+
+/// Returns the subcommand `deal N`.
+fn deal_command<'a>(alloc: Global) -> Result<clap::Command<'a>, AllocError>
+    ensures app { IfOk result (λ c. app_of c ≡ deal_app) }
+    ensures local { IfOk result IsLocal }
+{
     clap::Command::new(alloc, "deal")
         .about("Deal tickets with the names of the voters to ask: a coterie, a line %%, and a plan")
-        .arg(tickets)
+        .arg(tickets_argument(alloc))
+}
+
+/// Returns the subcommand `world`, which has no arguments.
+fn world_command<'a>(alloc: Global) -> clap::Command<'a>
+    ensures app { app_of result ≡ world_app }
+    ensures local { IsLocal result }
+{
+    clap::Command::new(alloc, "world").about(
+        "Tell a script in words: a coterie, a line %%, a plan, a line %%, and a script",
+    )
+}
+
+/// Returns the argument CODE: any text, or none.
+fn code_argument<'a>(alloc: Global) -> Arg<'a>
+    ensures rule { rule_of result ≡ code_rule }
+    ensures local { result.global ≡ false }
+{
+    Arg::new(alloc, "CODE").help("The code of a fault, such as E7, or all; without it the faults are listed")
 }
 
 /// Returns the subcommand `explain CODE`.
-fn explain_command<'a>(alloc: Global) -> Result<clap::Command<'a>, AllocError> {
-    let code = Arg::new(alloc, "CODE")
-        .help("The code of a fault, such as E7")
-        .required(true);
+fn explain_command<'a>(alloc: Global) -> Result<clap::Command<'a>, AllocError>
+    ensures app { IfOk result (λ c. app_of c ≡ explain_app) }
+    ensures local { IfOk result IsLocal }
+{
     clap::Command::new(alloc, "explain")
         .about("Explain a fault: what it means, an example, and what usually leads to it")
-        .arg(code)
+        .arg(code_argument(alloc))
+}
+
+/// Returns the argument WORDS: one text or more.
+fn words_argument<'a>(alloc: Global) -> Arg<'a>
+    ensures rule { rule_of result ≡ words_rule }
+    ensures local { result.global ≡ false }
+{
+    Arg::new(alloc, "WORDS")
+        .help("The words behind qlock, such as deal 5")
+        .required(true)
+        .num_args(1..)
 }
 
 /// Returns the subcommand `fault WORDS..`.
-fn fault_command<'a>(alloc: Global) -> Result<clap::Command<'a>, AllocError> {
-    let words = Arg::new(alloc, "WORDS")
-        .help("The words behind qlock, such as deal 5")
-        .required(true)
-        .num_args(1..);
+fn fault_command<'a>(alloc: Global) -> Result<clap::Command<'a>, AllocError>
+    ensures app { IfOk result (λ c. app_of c ≡ fault_app) }
+    ensures local { IfOk result IsLocal }
+{
     clap::Command::new(alloc, "fault")
         .about("Show where an input is wrong: the input that qlock refused, with its words behind")
-        .arg(words)
+        .arg(words_argument(alloc))
+}
+
+/// Returns the argument KIND: any text.
+fn kind_argument<'a>(alloc: Global) -> Arg<'a>
+    ensures rule { rule_of result ≡ kind_rule }
+    ensures local { result.global ≡ false }
+{
+    Arg::new(alloc, "KIND")
+        .help("load or cycle (a coterie, a line %%, a plan), or world (and a line %%, a script)")
+        .required(true)
 }
 
 /// Returns the subcommand `picture KIND`.
-fn picture_command<'a>(alloc: Global) -> Result<clap::Command<'a>, AllocError> {
-    let kind = Arg::new(alloc, "KIND")
-        .help("load or cycle (a coterie, a line %%, a plan), or world (and a line %%, a script)")
-        .required(true);
+fn picture_command<'a>(alloc: Global) -> Result<clap::Command<'a>, AllocError>
+    ensures app { IfOk result (λ c. app_of c ≡ picture_app) }
+    ensures local { IfOk result IsLocal }
+{
     clap::Command::new(alloc, "picture")
         .about("Draw a picture, as SVG")
-        .arg(kind)
+        .arg(kind_argument(alloc))
 }
 
 /// Returns the command line with `plan`, `deal` and `world`.
-fn pages_command<'a>(alloc: Global) -> Result<clap::Command<'a>, AllocError> {
-    let plan = clap::Command::new(alloc, "plan").about(
-        "Show a plan: whom to ask how often, and why no plan is better: a coterie, a line %%, and a plan",
-    );
-    let world = clap::Command::new(alloc, "world").about(
-        "Tell a script in words: a coterie, a line %%, a plan, a line %%, and a script",
-    );
+fn pages_command<'a>(alloc: Global) -> Result<clap::Command<'a>, AllocError>
+    ensures { IfOk result (λ c. app_of c ≡ pages_app) }
+{
     clap::Command::new(alloc, "qlock-show")
         .about("Show plans, faults and scripts of qlock, with names, in words and as pictures")
+        .version(VERSION)
         .subcommand_required(true)
-        .subcommand(plan)?
+        .subcommand(plan_command(alloc))?
         .subcommand(deal_command(alloc)?)?
-        .subcommand(world)
+        .subcommand(world_command(alloc))
 }
 
 /// Returns the whole command line.
-fn show_command<'a>(alloc: Global) -> Result<clap::Command<'a>, AllocError> {
+fn show_command<'a>(alloc: Global) -> Result<clap::Command<'a>, AllocError>
+    ensures { IfOk result (λ c. app_of c ≡ show_app) }
+{
     pages_command(alloc)?
         .subcommand(explain_command(alloc)?)?
         .subcommand(fault_command(alloc)?)?
         .subcommand(picture_command(alloc)?)
 }
 
-/// Returns `deal` with its number of tickets.
-fn deal_of(used: &ArgMatches) -> Result<ShowCommand, Usage>
-    ensures { IfOk result IsShown }
+/// Returns how many tickets to deal, or `None` if the argument is no number or too large.
+fn tickets_of(used: &ArgMatches) -> Option<u32>
+    ensures some { IfSome result (HasNumber (codes "N") 0 100000 (rows_of (found_of used.now))) }
+    ensures none { result ≡ None → (number : ℕ) → ¬ HasNumber (codes "N") 0 100000 (rows_of (found_of used.now)) number }
 {
     let Some(text) = used.get_str("N") else {
-        return Err(Usage::Arguments);
+        return None;
     };
-    match text.parse::<u32>() {
-        Ok(count) if u64::from(count) <= MOST_TICKETS => Ok(ShowCommand::Deal(count)),
-        _ => Err(Usage::Arguments),
+    match text.parse::<u64>() {
+        Ok(tickets) if tickets <= MOST_TICKETS => Some(tickets as u32),
+        _ => None,
     }
 }
 
-/// Returns `explain` with the fault that its word names.
+/// Returns `deal` with its number of tickets.
+fn deal_of(used: &ArgMatches) -> Result<ShowCommand, Usage>
+    ensures named { IfOk result (IsNamedBy (Some (codes "deal", rows_of (found_of used.now)))) }
+    ensures refused { IfErr result (RefusesUse (Some (codes "deal", rows_of (found_of used.now)))) }
+    ensures shown { IfOk result IsShown }
+{
+    match tickets_of(used) {
+        Some(tickets) => Ok(ShowCommand::Deal(tickets)),
+        None => Err(Usage::Arguments),
+    }
+}
+
+/// Returns `explain` with the fault that its word names, or that explains or lists all faults.
 fn explain_of(used: &ArgMatches) -> Result<ShowCommand, Usage>
-    ensures { IfOk result IsShown }
+    ensures named { IfOk result (IsNamedBy (Some (codes "explain", rows_of (found_of used.now)))) }
+    ensures refused { IfErr result (RefusesUse (Some (codes "explain", rows_of (found_of used.now)))) }
+    ensures shown { IfOk result IsShown }
 {
     let Some(code) = used.get_str("CODE") else {
-        return Err(Usage::Arguments);
+        return Ok(ShowCommand::ListFaults);
     };
+    if code == "all" {
+        return Ok(ShowCommand::ExplainAll);
+    }
     match explanation_of(code) {
         Some(explanation) => Ok(ShowCommand::Explain(explanation)),
         None => Err(Usage::Arguments),
     }
 }
 
-/// Returns `picture` with the picture that its word names.
-fn picture_of(used: &ArgMatches) -> Result<ShowCommand, Usage>
-    ensures { IfOk result IsShown }
+/// Returns the picture with this name, if there is one.
+fn picture_named(kind: &str) -> Option<Picture>
+    ensures some { IfSome result (λ picture. kind.now ≡ picture_word picture) }
+    ensures none { result ≡ None → (picture : Picture) → ¬ (kind.now ≡ picture_word picture) }
 {
-    match used.get_str("KIND") {
-        Some("load") => Ok(ShowCommand::Picture(Picture::Load)),
-        Some("cycle") => Ok(ShowCommand::Picture(Picture::Cycle)),
-        Some("world") => Ok(ShowCommand::Picture(Picture::World)),
-        _ => Err(Usage::Arguments),
+    match kind {
+        "load" => Some(Picture::Load),
+        "cycle" => Some(Picture::Cycle),
+        "world" => Some(Picture::World),
+        _ => None,
     }
 }
 
-/// Returns the words of a command line of `qlock`.
-fn words_behind(alloc: Global, used: &ArgMatches) -> Result<Vec<String>, AllocError> {
+/// Returns `picture` with the picture that its word names.
+fn picture_of(used: &ArgMatches) -> Result<ShowCommand, Usage>
+    ensures named { IfOk result (IsNamedBy (Some (codes "picture", rows_of (found_of used.now)))) }
+    ensures refused { IfErr result (RefusesUse (Some (codes "picture", rows_of (found_of used.now)))) }
+    ensures shown { IfOk result IsShown }
+{
+    let Some(kind) = used.get_str("KIND") else {
+        return Err(Usage::Arguments);
+    };
+    match picture_named(kind) {
+        Some(picture) => Ok(ShowCommand::Picture(picture)),
+        None => Err(Usage::Arguments),
+    }
+}
+
+/// Returns the text at a place.
+fn text_at<'a>(texts: &[&'a str], i: usize) -> &'a str
+    requires { i < length texts.now }
+    ensures { result.now ≡ slice_index_or (map (λ t. t.now) texts.now) i [] }
+{
+    texts[i]
+}
+
+/// Returns a command line of `qlock` with these words behind its name.
+fn qlock_line(alloc: Global, texts: &[&str]) -> Result<Vec<String>, AllocError>
+    ensures { IfOk result (λ words. map string_bytes words.items ≡ codes "qlock" ∷ map (λ t. t.now) texts.now) }
+{
     let mut words = Vec::new(alloc);
     words.push(String::from_str(alloc, "qlock")?)?;
-    if let Some(texts) = used.get_strs("WORDS") {
-        for text in texts {
-            words.push(String::from_str(alloc, text)?)?;
-        }
+    for i in 0..texts.len() {
+        words.push(String::from_str(alloc, text_at(texts, i))?)?;
     }
     Ok(words)
 }
 
+/// Returns the command line of `qlock` whose words are those behind `fault`.
+fn words_behind(alloc: Global, used: &ArgMatches) -> Result<Vec<String>, AllocError>
+    ensures { IfOk result (λ words. map string_bytes words.items ≡ qlock_words (rows_of (found_of used.now))) }
+{
+    match used.get_strs("WORDS") {
+        Some(texts) => qlock_line(alloc, texts),
+        None => qlock_line(alloc, &[]),
+    }
+}
+
 /// Returns the command of `qlock` that these words name.
 fn qlock_command_of(alloc: Global, words: &[String]) -> Result<Command, Usage>
-    ensures { IfOk result IsInRange }
+    ensures named { IfOk result (qlock.Names (map string_bytes words.now)) }
+    ensures refused { IfErr result (qlock.Refuses (map string_bytes words.now)) }
+    ensures in_range { IfOk result IsInRange }
 {
     named_commands_are_in_range();
     read_words(alloc, words)
@@ -139,7 +258,9 @@ fn qlock_command_of(alloc: Global, words: &[String]) -> Result<Command, Usage>
 
 /// Returns `fault` with the command of `qlock` that its words name.
 fn fault_of(alloc: Global, used: &ArgMatches) -> Result<ShowCommand, Usage>
-    ensures { IfOk result IsShown }
+    ensures named { IfOk result (IsNamedBy (Some (codes "fault", rows_of (found_of used.now)))) }
+    ensures refused { IfErr result (RefusesUse (Some (codes "fault", rows_of (found_of used.now)))) }
+    ensures shown { IfOk result IsShown }
 {
     let words = words_behind(alloc, used)?;
     match qlock_command_of(alloc, words.as_slice()) {
@@ -150,7 +271,9 @@ fn fault_of(alloc: Global, used: &ArgMatches) -> Result<ShowCommand, Usage>
 
 /// Returns the command that the used subcommand and its values name.
 fn command_of(alloc: Global, matches: &ArgMatches) -> Result<ShowCommand, Usage>
-    ensures { IfOk result IsShown }
+    ensures named { IfOk result (IsNamedBy (subcommand_rows_of matches.now)) }
+    ensures refused { IfErr result (RefusesUse (subcommand_rows_of matches.now)) }
+    ensures shown { IfOk result IsShown }
 {
     if matches.subcommand_matches("plan").is_some() {
         return Ok(ShowCommand::Plan);
@@ -176,10 +299,16 @@ fn command_of(alloc: Global, matches: &ArgMatches) -> Result<ShowCommand, Usage>
 /// Returns the command that the words name. The first word is the program's own name.
 ///
 /// Fails with `Refused` if clap finds a fault, in the words or in those behind `fault`, or a request
-/// for help. Fails with `Arguments` if the words still name no command: the code of `explain` or the
-/// kind of a picture is unknown. May fail with `OutOfMemory` for any words.
+/// for help or for the version. Fails with `Arguments` if the words still name no command: the code
+/// of `explain` or the kind of a picture is unknown, or the words behind `fault` name no command of
+/// `qlock`. May fail with `OutOfMemory` for any words.
 pub fn read_show_words(alloc: Global, words: &[String]) -> Result<ShowCommand, Usage>
-    ensures { IfOk result IsShown }
+    // The command is the one that the words name.
+    ensures named { IfOk result (Names (map string_bytes words.now)) }
+    // Words are refused only for what clap finds in them, or because they name no command.
+    ensures refused { IfErr result (Refuses (map string_bytes words.now)) }
+    // The command's numbers are in range.
+    ensures shown { IfOk result IsShown }
 {
     let matches = show_command(alloc)?.try_get_matches_from(words)?;
     command_of(alloc, &matches)

@@ -13,8 +13,8 @@
 //! - The page has the texts of one explanation for each code, in order, behind headings; the list has
 //!   a line for each code.
 //!
-//! `docs/check.sh` compares the codes, the names and the arguments with those in `docs/formats.md`.
-//! Nothing is proved of what the explanations say.
+//! The page is stored as `docs/faults.md`, and `examples/check.sh` compares it. Nothing is proved of
+//! what the explanations say.
 //!
 //! This crate depends on no other.
 //!

@@ -1,5 +1,5 @@
-//! The line of every fault, in a table for each kind. `docs/check.sh` compares the lines with those
-//! in `docs/formats.md`.
+//! The line of every fault, in a table for each kind. `examples/check.sh` compares the lines with
+//! those that `qlock-show explain` lists.
 ghost use Rattle.std.specs.Prelude.{◌≡◌};
 ghost use Rattle.members.specs.Clusters.{ClusterState};
 
