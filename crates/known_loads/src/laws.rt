@@ -57,19 +57,27 @@ pub fn smallest_quorum_bears_every_entry()
 /// With capacities: the load is at least c, divided by the sum of all capacities, and at least 1,
 /// divided by the least capacity of a quorum.
 pub fn loads_have_bounds()
-    ensures busiest { (w : Weighted) → IsCoterie w.system → length w.quorum_weights ≡ length w.system.quorums
-        → (cycle_len w * smallest_size w.system ≤ w.system.voters * busiest_count w)
-        × (cycle_len w ≤ smallest_size w.system * busiest_count w) }
-    ensures average { (w : Weighted) → IsCoterie w.system → length w.quorum_weights ≡ length w.system.quorums
-        → smallest_size w.system * (unit_load w).1 ≤ w.system.voters * (unit_load w).0 }
-    ensures smallest { (w : Weighted) → IsCoterie w.system → length w.quorum_weights ≡ length w.system.quorums
-        → (unit_load w).1 ≤ smallest_size w.system * (unit_load w).0 }
-    ensures square { (w : Weighted) → IsCoterie w.system → length w.quorum_weights ≡ length w.system.quorums
-        → (unit_load w).1 * (unit_load w).1 ≤ w.system.voters * ((unit_load w).0 * (unit_load w).0) }
-    ensures capacities { (w : Weighted) → IsCoterie w.system → AreCapacities w.capacities w.system.voters
+    ensures busiest_average { (w : Weighted) → IsCoterie w.system
         → length w.quorum_weights ≡ length w.system.quorums
-        → (smallest_size w.system * (load_of w).1 ≤ sum w.capacities * (load_of w).0)
-        × ((load_of w).1 ≤ smallest_capacity w.system w.capacities * (load_of w).0) }
+        → cycle_len w * smallest_size w.system ≤ w.system.voters * busiest_count w }
+    ensures busiest_smallest { (w : Weighted) → IsCoterie w.system
+        → length w.quorum_weights ≡ length w.system.quorums
+        → cycle_len w ≤ smallest_size w.system * busiest_count w }
+    ensures average { (w : Weighted) → IsCoterie w.system
+        → length w.quorum_weights ≡ length w.system.quorums
+        → smallest_size w.system * (unit_load w).1 ≤ w.system.voters * (unit_load w).0 }
+    ensures smallest { (w : Weighted) → IsCoterie w.system
+        → length w.quorum_weights ≡ length w.system.quorums
+        → (unit_load w).1 ≤ smallest_size w.system * (unit_load w).0 }
+    ensures square { (w : Weighted) → IsCoterie w.system
+        → length w.quorum_weights ≡ length w.system.quorums
+        → (unit_load w).1 * (unit_load w).1 ≤ w.system.voters * ((unit_load w).0 * (unit_load w).0) }
+    ensures capacity_average { (w : Weighted) → IsCoterie w.system → AreCapacities w.capacities w.system.voters
+        → length w.quorum_weights ≡ length w.system.quorums
+        → smallest_size w.system * (load_of w).1 ≤ sum w.capacities * (load_of w).0 }
+    ensures capacity_smallest { (w : Weighted) → IsCoterie w.system → AreCapacities w.capacities w.system.voters
+        → length w.quorum_weights ≡ length w.system.quorums
+        → (load_of w).1 ≤ smallest_capacity w.system w.capacities * (load_of w).0 }
 {
     coteries_meet();
     ratios_are_greatest();
