@@ -1,0 +1,137 @@
+-- Weights of voters bound the counts of voters: the weak duality of linear programs, in whole numbers.
+use Rattle.std.proofs.Common.{◌≡◌, ℕ, ◌+◌, ◌*◌, ◌<◌, ◌≤◌, Bool, true, false, cond, List, [], ◌∷◌, length, get_or, zero, suc, sum, sum_by, sym, ap, ◌∙◌, inl, inr, arith}
+use Rattle.std.specs.List.{All}
+use Rattle.std.proofs.lemmas.Bool.{cases_eq}
+use Rattle.std.proofs.lemmas.List.Sums.{sum_by-cons}
+use Rattle.std.proofs.lemmas.List.Elements.{All-head, All-tail}
+use Rattle.std.proofs.Math.Nat.{mul-le-mul_left, mul-le-mul_right}
+use Rattle.numbers.specs.Counts.{least_of}
+use Rattle.numbers.specs.Sets.{has, Ascends}
+use Rattle.numbers.specs.Sums.{sum_below}
+use Rattle.numbers.proofs.CountLemmas.{least_of-le}
+use Rattle.numbers.proofs.SetLemmas.{has-tail, Ascends-all_below}
+use Rattle.numbers.proofs.SumsBelow.{sum_below-same, sum_below-add, sum_below-times, sum_below-members, sum_by-one}
+use Rattle.quorum_set.specs.Coteries.{QuorumSystem, IsCoterie}
+use Rattle.quorum_set.specs.Counts.{count_of}
+use Rattle.quorum_set.specs.Meetings.{AllMeet}
+use Rattle.certificate.specs.Loads.{weight_on}
+
+-- The quorums have N uses in all: whatever the voters weigh, if each quorum weighs at least the amount `light`, then the
+-- voters' counts, each times the voter's weight, add up to at least N times that.
+abbrev pub Bears : ℕ → List (List ℕ) → ℕ → (ℕ → ℕ) → Type 0
+Bears n quorums uses count =
+    (weight : ℕ → ℕ) (light : ℕ) → ((j : ℕ) → j < length quorums → light ≤ sum_by weight (get_or quorums j []))
+    → uses * light ≤ sum_below (λ i. weight i * count i) n
+
+-- a quorum as a set of numbers below the number of voters
+quorum-Ascends : (s : QuorumSystem) (j : ℕ) → IsCoterie s → j < length s.quorums → Ascends 0 s.voters (get_or s.quorums j [])
+quorum-Ascends s j is lt = Ascends-all_below 0 64 s.voters (get_or s.quorums j []) (is.sets j [] lt) (is.in_range j [] lt)
+
+-- Lists
+
+count_step : (h : Bool) (w more less : ℕ) → more ≡ cond h 1 0 + less → w * more ≡ cond h w 0 + w * less
+count_step true w more less e = rw e (omega arith)
+count_step false w more less e = rw e (omega arith)
+
+-- one entry more
+weighed-cons : (s : QuorumSystem) (weight : ℕ → ℕ) (j : ℕ) (list : List ℕ) → IsCoterie s → j < length s.quorums
+    → sum_below (λ i. weight i * count_of s i (j ∷ list)) s.voters
+    ≡ sum_by weight (get_or s.quorums j []) + sum_below (λ i. weight i * count_of s i list) s.voters
+weighed-cons s weight j list is lt =
+    let q = get_or s.quorums j [] in
+    let split = sum_below-same s.voters (λ i. weight i * count_of s i (j ∷ list)) (λ i. cond (has q i) (weight i) 0 + weight i * count_of s i list)
+    (λ i below. count_step (has q i) (weight i) (count_of s i (j ∷ list)) (count_of s i list) (sum_by-cons (λ k. cond (has (get_or s.quorums k []) i) 1 0) j list)) in
+    split ∙ sum_below-add s.voters (λ i. cond (has q i) (weight i) 0) (λ i. weight i * count_of s i list)
+    ∙ ap (λ t. t + sum_below (λ i. weight i * count_of s i list) s.voters) (sum_below-members 0 s.voters weight q (quorum-Ascends s j is lt))
+
+pub Bears-list : (s : QuorumSystem) (list : List ℕ) → IsCoterie s → All (λ j. j < length s.quorums) list
+    → Bears s.voters s.quorums (length list) (λ i. count_of s i list)
+Bears-list s [] is small weight light each = omega arith
+Bears-list s (j ∷ list) is small weight light each =
+    let lt : j < length s.quorums = All-head (λ j. j < length s.quorums) j list small in
+    omega (arith, weighed-cons s weight j list is lt, each j lt, Bears-list s list is (All-tail (λ j. j < length s.quorums) j list small) weight light each)
+
+-- Weights of quorums
+
+weight_step : (h : Bool) (b x less : ℕ) → b * (cond h x 0 + less) ≡ x * cond h b 0 + b * less
+weight_step true b x less = omega arith
+weight_step false b x less = omega arith
+
+pub Bears-weights : (n : ℕ) (quorums : List (List ℕ)) (weights : List ℕ) → length weights ≡ length quorums
+    → ((j : ℕ) → j < length quorums → Ascends 0 n (get_or quorums j []))
+    → Bears n quorums (sum weights) (λ i. weight_on i quorums weights)
+Bears-weights n [] [] long up weight light each = omega arith
+Bears-weights n [] (x ∷ weights) long up weight light each = absurd (omega arith)
+Bears-weights n (q ∷ quorums) [] long up weight light each = absurd (omega arith)
+Bears-weights n (q ∷ quorums) (x ∷ weights) long up weight light each =
+    let split = sum_below-same n (λ i. weight i * weight_on i (q ∷ quorums) (x ∷ weights)) (λ i. x * cond (has q i) (weight i) 0 + weight i * weight_on i quorums weights)
+    (λ i lt. weight_step (has q i) (weight i) x (weight_on i quorums weights)) in
+    let added = sum_below-add n (λ i. x * cond (has q i) (weight i) 0) (λ i. weight i * weight_on i quorums weights) in
+    let first = sum_below-times n x (λ i. cond (has q i) (weight i) 0) in
+    let members : x * sum_below (λ i. cond (has q i) (weight i) 0) n ≡ x * sum_by weight q =
+    ap (λ t. x * t) (sum_below-members 0 n weight q (up 0 (omega arith))) in
+    let heavy : x * light ≤ x * sum_by weight q = mul-le-mul_left x (each 0 (omega arith)) in
+    let rest = Bears-weights n quorums weights (omega arith) (λ j lt. up (suc j) (omega arith)) weight light (λ j lt. each (suc j) (omega arith)) in
+    let all : sum (x ∷ weights) * light ≡ (x + sum weights) * light = ap (λ t. t * light) (sum_by-cons (λ y. y) x weights) in
+    omega (arith, split, added, first, members, heavy, rest, all)
+
+pub Bears-cycle : (s : QuorumSystem) (weights : List ℕ) → IsCoterie s → length weights ≡ length s.quorums
+    → Bears s.voters s.quorums (sum weights) (λ i. weight_on i s.quorums weights)
+Bears-cycle s weights is long = Bears-weights s.voters s.quorums weights long (λ j lt. quorum-Ascends s j is lt)
+
+-- Two lists of weights
+
+-- sums of products, term by term with factors in the ratio p / q at most
+sum_below-cross : (n p q : ℕ) (f c d : ℕ → ℕ) → ((i : ℕ) → i < n → c i * q ≤ p * d i)
+    → sum_below (λ i. f i * c i) n * q ≤ p * sum_below (λ i. f i * d i) n
+sum_below-cross zero p q f c d bound = omega arith
+sum_below-cross (suc n) p q f c d bound =
+    let rest = sum_below-cross n p q f c d (λ i lt. bound i (omega arith)) in
+    let last : f n * (c n * q) ≤ f n * (p * d n) = mul-le-mul_left (f n) (bound n (omega arith)) in
+    omega (arith, rest, last)
+
+-- a member's weight is within the weight of a set
+sum_by-has : (f : ℕ → ℕ) (q : List ℕ) (v : ℕ) → has q v ≡ true → f v ≤ sum_by f q
+sum_by-has f [] v e = absurd (no_member e)
+  where
+    no_member : false ≡ true → ⊥
+    no_member e = cc
+sum_by-has f (x ∷ xs) v e =
+    elim (cases_eq x v) as (λ _. f v ≤ sum_by f (x ∷ xs)) [
+      | inl at ↦ omega (arith, sum_by-cons f x xs, ap f at)
+      | inr off ↦ omega (arith, sum_by-cons f x xs, sum_by-has f xs v (sym (has-tail x xs v off) ∙ e))
+    ]
+
+module _ (s : QuorumSystem) (uses p q : ℕ) (count capacity : ℕ → ℕ) (bears : Bears s.voters s.quorums uses count)
+    (bound : (i : ℕ) → i < s.voters → count i * q ≤ p * capacity i) where
+  -- each voter weighs 1
+  pub average : uses * least_of length s.quorums * q ≤ p * sum_below capacity s.voters
+  average =
+      let c = least_of length s.quorums in
+      let low = bears (λ i. 1) c (λ j lt. omega (arith, least_of-le length s.quorums j [] lt, sum_by-one (get_or s.quorums j []))) in
+      let scaled : uses * c * q ≤ sum_below (λ i. 1 * count i) s.voters * q = mul-le-mul_right q low in
+      let high = sum_below-cross s.voters p q (λ i. 1) count capacity bound in
+      let same : p * sum_below (λ i. 1 * capacity i) s.voters ≡ p * sum_below capacity s.voters =
+      ap (λ t. p * t) (sum_below-same s.voters (λ i. 1 * capacity i) capacity (λ i lt. omega arith)) in
+      omega (arith, scaled, high, same)
+
+  -- the members of one quorum weigh 1, and the others nothing
+  pub one_quorum : IsCoterie s → AllMeet s.voters s.quorums → (k : ℕ) → k < length s.quorums
+      → uses * q ≤ p * sum_by capacity (get_or s.quorums k [])
+  one_quorum is meets k below =
+      let t = get_or s.quorums k [] in
+      let weight : ℕ → ℕ = λ i. cond (has t i) 1 0 in
+      let low : uses * 1 ≤ sum_below (λ i. weight i * count i) s.voters = bears weight 1 (λ j lt.
+      let common = meets j k lt below in
+      let here : weight common.0 ≡ 1 = ap (λ b. cond {A = ℕ} b 1 0) common.3 in
+      omega (arith, here, sum_by-has weight (get_or s.quorums j []) common.0 common.2)) in
+      let scaled : uses * 1 * q ≤ sum_below (λ i. weight i * count i) s.voters * q = mul-le-mul_right q low in
+      let high = sum_below-cross s.voters p q weight count capacity bound in
+      let alike = sum_below-same s.voters (λ i. weight i * capacity i) (λ i. cond (has t i) (capacity i) 0) (λ i lt. by_test (has t i) (capacity i)) in
+      let same : p * sum_below (λ i. weight i * capacity i) s.voters ≡ p * sum_by capacity t =
+      ap (λ x. p * x) (alike ∙ sum_below-members 0 s.voters capacity t (quorum-Ascends s k is below)) in
+      omega (arith, scaled, high, same)
+    where
+      by_test : (b : Bool) (c : ℕ) → cond b 1 0 * c ≡ cond b c 0
+      by_test true c = omega arith
+      by_test false c = omega arith

@@ -1,0 +1,2 @@
+mod Duality
+mod Bounds
