@@ -67,7 +67,9 @@ fn code_argument<'a>(alloc: Global) -> Arg<'a>
     ensures rule { rule_of result ≡ code_rule }
     ensures local { result.global ≡ false }
 {
-    Arg::new(alloc, "CODE").help("The code of a fault, such as E7, or all; without it the faults are listed")
+    Arg::new(alloc, "CODE").help(
+        "The code of a fault, such as E7, or all; without it the faults are listed",
+    )
 }
 
 /// Returns the subcommand `explain CODE`.
