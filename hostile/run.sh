@@ -149,7 +149,7 @@ for count in 0 5 7 10; do
 done
 try 'deal 7 capacities' '' "$work/capacities" deal 7
 try 'world majority' '' "$work/script" world
-try 'run 2 2 100000 grid' 4 "$work/grid" run 2 2 100000
+try 'run 2 2 10000 grid' 4 "$work/grid" run 2 2 10000
 try 'replay grid' '' "$work/run" replay
 try 'replay majority' '' "$work/record" replay
 
