@@ -8,7 +8,7 @@ use requester::{Phase, Requester};
 use std::alloc::{AllocError, Global};
 use world::{Step, World};
 
-/// The most rounds of reminders. In every case that was tried the first one let a client in.
+/// The most rounds of reminders.
 const ROUNDS: usize = 8;
 
 /// A way by which a client got in.
