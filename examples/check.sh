@@ -28,14 +28,15 @@ compare() {
     fi
 }
 
-# example NAME INPUT STATUS WORDS..: runs qlock with these words on this input
+# example NAME INPUT STATUS WORDS..: runs the program, which is qlock unless it says otherwise, with these words on this input
+program=$qlock
 example() {
     name=$1
     input=$2
     wanted=$3
     shift 3
     status=0
-    "$qlock" "$@" < "$input" > "$work/out" 2> "$work/err" || status=$?
+    "$program" "$@" < "$input" > "$work/out" 2> "$work/err" || status=$?
     if [ "$status" -ne "$wanted" ]; then
         echo "$name: status $status, wanted $wanted" >&2
         failed=$((failed + 1))
@@ -85,7 +86,7 @@ for coterie in grid-3-3 majority-5 wheel-3 wheel-3-fast-hub cyclic-7 three-racks
 done
 
 # these have several optimal plans, and any of them may come: only the loads are compared
-for coterie in tree-2 weighted-votes; do
+for coterie in tree-2 weighted-votes three-centres; do
     "$qlock" plan < "$coterie.toml" > "$work/plan" || true
     parts "$coterie.toml" "$work/plan" > "$work/input"
     example "check-$coterie" "$work/input" 0 check
@@ -138,8 +139,32 @@ example no-turns wheel-3-planned.txt 1 run 2 1 0
 example wheel-of-1-rim /dev/null 1 make wheel 1
 example grid-of-one-number /dev/null 2 make grid 2
 
+# files in place of standard input: file k is part k, `-` is standard input, and behind a word -- no file is named
+example check-wheel-3 /dev/null 0 check -f wheel-3.toml -f wheel-3.plan
+example check-wheel-3 wheel-3.plan 0 -f wheel-3.toml check -f -
+example deal-wheel-3 /dev/null 0 deal -f wheel-3-planned.txt 5
+example replay-record /dev/null 0 replay -f replay-record.txt
+cp wheel-3.toml "$work/a coterie.toml"
+printf '%s' "$(cat wheel-3.plan)" > "$work/-plan"
+printf '%s' "$(cat wheel-3.toml)" > "$work/--"
+echo 'voters = ["-f", "wheel-3.toml"]
+quorums = [["-f"]]' > "$work/words.toml"
+cd "$work"
+example check-plan-without-newline /dev/null 1 check -f "a coterie.toml" -f -plan
+echo >> ./-plan
+example check-wheel-3 /dev/null 0 check -f "a coterie.toml" -f -plan
+example check-wheel-3 /dev/null 0 check -f -- -f -plan
+cd "$here"
+example no-such-file /dev/null 3 check -f wheel-3.toml -f "no such.plan"
+example folder-as-file /dev/null 3 plan -f .
+example file-without-a-name /dev/null 2 plan -f
+example file-as-a-word /dev/null 2 plan wheel-3.toml
+example file-behind-the-end /dev/null 2 plan -- -f wheel-3.toml
+shown without-a-voter-f /dev/null without -f "$work/words.toml" -- -f
+shown without-a-voter-like-a-file /dev/null without wheel-3.toml -f "$work/words.toml"
+
 # pages for people: plans, tickets, stories, explanations, and where an input has its fault
-for coterie in grid-3-3 majority-5 wheel-3 wheel-3-fast-hub cyclic-7 tree-2 three-racks weighted-votes; do
+for coterie in grid-3-3 majority-5 wheel-3 wheel-3-fast-hub cyclic-7 tree-2 three-racks weighted-votes three-centres; do
     "$qlock" plan < "$coterie.toml" > "$work/plan" || true
     parts "$coterie.toml" "$work/plan" > "$work/input"
     shown "plan-$coterie" "$work/input" plan
@@ -148,6 +173,8 @@ shown plan-one-of-three one-of-three-planned.txt plan
 shown deal-wheel-3 wheel-3-planned.txt deal 5
 shown deal-fast-majority fast-majority-planned.txt deal 1
 shown deal-wheel-3-fast-hub wheel-3-fast-hub-planned.txt deal 7
+shown deal-even-wheel-3 wheel-3-planned.txt deal --even 5
+shown deal-even-wheel-3-fast-hub wheel-3-fast-hub-planned.txt deal --even 7
 for world in race late-message withdrawal refusals lost-release; do
     shown "world-$world" "world-$world.txt" world
 done
@@ -160,6 +187,42 @@ shown fault-record refused-record.txt fault replay
 shown fault-script refused-script.txt fault world
 shown fault-missing-part wheel-3.toml fault check
 shown fault-none wheel-3-planned.txt fault deal 5
+
+# reports of plans, as HTML that is well-formed XML too
+for coterie in wheel-3 wheel-3-fast-hub three-racks; do
+    "$qlock" plan < "$coterie.toml" > "$work/plan" || true
+    parts "$coterie.toml" "$work/plan" > "$work/input"
+    "$show" report < "$work/input" > "$work/report" || true
+    if command -v xmllint > /dev/null && ! xmllint --noout "$work/report"; then
+        failed=$((failed + 1))
+    else
+        compare "$work/report" "show-report-$coterie.html"
+    fi
+done
+
+# what is left of a coterie, what it bears, and bridges: from five voters to nine over any seven of nine, and from three centres
+# to the two that are left when one fails
+shown without-a1 three-racks.toml without a1
+shown without-rack three-racks.toml without a1 a2 a3
+shown without-none three-racks.toml without b2 a1 a2 b1
+shown without-centre three-centres.toml without a1 a2 a3 a4 a5
+shown without-most-of-two-centres three-centres.toml without a1 a2 a3 c1 c2
+program=$show
+example show-unknown-voter three-racks.toml 1 without a1 a9
+program=$qlock
+for coterie in three-racks wheel-3 cyclic-7 three-centres; do
+    shown "resilience-$coterie" "$coterie.toml" resilience
+done
+"$qlock" make cyclic 5 0 1 2 > "$work/five"
+"$qlock" make cyclic 9 0 1 2 4 > "$work/nine"
+parts "$work/five" "$work/nine" > "$work/input"
+shown bridge-five-to-nine "$work/input" bridge
+parts "$work/five" seven-of-nine.toml > "$work/input"
+shown bridge-five-to-seven-of-nine "$work/input" bridge
+parts seven-of-nine.toml "$work/nine" > "$work/input"
+shown bridge-seven-of-nine-to-nine "$work/input" bridge
+"$show" without a1 a2 a3 a4 a5 < three-centres.toml > "$work/left"
+shown bridge-three-centres-to-two /dev/null bridge -f three-centres.toml -f "$work/left"
 
 # the version is the newest of CHANGELOG.md
 echo "qlock-show $(sed -n 's/^## \([0-9.]*\).*/\1/p' "$here/../CHANGELOG.md" | head -n 1)" > "$work/wanted"
@@ -203,13 +266,23 @@ for completion in _qlock-show qlock-show.bash; do
     if diff -u "$work/wanted" "$work/out"; then passed=$((passed + 1)); else failed=$((failed + 1)); fi
 done
 
-# an input for each fault that a text can have: faults/CODE.COMMAND is refused by this command with this code
+# an input for each fault that a text can have: faults/CODE.COMMAND is refused by this command with this code; further ones are
+# CODE-WORD.COMMAND
 for input in faults/*; do
     name=$(basename "$input")
     echo "== $name"
     "$show" fault "${name#*.}" < "$input"
 done > "$work/faults"
 compare "$work/faults" show-faults.out
+
+# and sizes of shapes for which there is no coterie
+for words in 'grid 1 3' 'grid 9 9' 'majority 0' 'majority 15' 'tree 4' 'wheel 1' 'wheel 64' \
+    'cyclic 7 0 7' 'cyclic 7 0 0' 'cyclic 7 0 1' 'cyclic 4 0 2' 'cyclic 2 0 1' 'cyclic 65 0' 'cyclic 0 0'; do
+    echo "== $words"
+    # the words of a shape are apart
+    "$show" fault make $words
+done > "$work/shapes"
+compare "$work/shapes" show-fault-shapes.out
 
 # pictures
 mkdir "$work/pictures"

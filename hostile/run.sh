@@ -82,6 +82,9 @@ spared() {
     answered || ended_by 'O1 OutOfMemory' 4 || { [ -n "$passes" ] && { ended_by 'K2 TurnsSpent 0' 1 || ended_by 'K2 TurnsSpent 1' 1; }; }
 }
 
+# the line of a read that failed; behind -f it has the name of the file
+unread='I3 ReadFault'
+
 # tries all of a case: its label, how many passes its record has to have where it is `run`, its input, and its words
 try() {
     label=$1 passes=$2 input=$3
@@ -101,7 +104,7 @@ try() {
     n=1 met=1
     while [ -n "$met" ]; do
         hostile HOSTILE_READ=$n HOSTILE_BYTES=1
-        if [ -n "$met" ]; then ended_by 'I3 ReadFault' 3 || complain "read $n"; else answered || complain "one byte a read and a write"; fi
+        if [ -n "$met" ]; then ended_by "$unread" 3 || complain "read $n"; else answered || complain "one byte a read and a write"; fi
         n=$((n + 1))
     done
     n=1 met=1
@@ -148,6 +151,10 @@ for count in 0 5 7 10; do
     try "deal $count wheel" '' "$work/wheel" deal "$count"
 done
 try 'deal 7 capacities' '' "$work/capacities" deal 7
+"$program" plan < "$work/grid.toml" > "$work/plan"
+unread='I3 ReadFault "-"'
+try 'check grid, from files' '' "$work/plan" check -f "$work/grid.toml" -f -
+unread='I3 ReadFault'
 try 'world majority' '' "$work/script" world
 try 'run 2 2 10000 grid' 4 "$work/grid" run 2 2 10000
 try 'replay grid' '' "$work/run" replay
@@ -156,10 +163,17 @@ try 'replay majority' '' "$work/record" replay
 # the same of the second program
 "$root/qlock-show" explain E7 > /dev/null
 program=$root/build/qlock_show
+{ cat "$work/majority.toml"; echo %%; cat "$work/wheel.toml"; } > "$work/bridge"
 try 'show plan majority' '' "$work/majority" plan
 try 'show deal 3 majority' '' "$work/majority" deal 3
+try 'show deal --even 3 majority' '' "$work/majority" deal --even 3
 try 'show world majority' '' "$work/script" world
 try 'show picture load majority' '' "$work/majority" picture load
+try 'show report majority' '' "$work/majority" report
+try 'show without' '' "$work/majority.toml" without v0
+try 'show without, none left' '' "$work/majority.toml" without v0 v1
+try 'show resilience' '' "$root/examples/three-racks.toml" resilience
+try 'show bridge' '' "$work/bridge" bridge
 try 'show fault check' '' "$root/examples/refused-plan.txt" fault check
 try 'show explain E7' '' /dev/null explain E7
 

@@ -12,9 +12,24 @@ program=$root/build/$crate
 # rt puts the program here once it has proved it, and at no other time
 proved=$root/crates/$crate/out/$crate
 
+# the folders of the sources of the crate and of all crates below it
+sources() {
+    awk -v top="$crate" -v root="$root" '
+        { sub(/#.*/, "") }
+        split($0, half, ":") > 1 { split(half[1], head, " "); uses[head[1]] = half[2] }
+        END {
+            found[last = 1] = top
+            for (i = 1; i <= last; i++) {
+                print root "/crates/" found[i] "/src"
+                split(uses[found[i]], names, " ")
+                for (k in names) if (names[k] in uses && !seen[names[k]]++) found[++last] = names[k]
+            }
+        }' "$root/crates.txt"
+}
+
 # whether the file is there, and no source is newer
 is_current() {
-    [ -x "$1" ] && [ -z "$(find "$root/crates.txt" "$root"/crates/*/src -newer "$1" -print -quit)" ]
+    [ -x "$1" ] && [ -z "$(sources | xargs -d '\n' sh -c 'find "$@" -newer "$0" -print -quit' "$1")" ]
 }
 
 if ! is_current "$program"; then

@@ -1,9 +1,11 @@
 #!/bin/sh
-# Builds the library, and checks it from outside:
+# Builds the libraries, and checks them from outside:
 #
 # - race.c, race.py and race.rs play the same race, and print what is in expected.txt;
-# - fuzz.c tries the boundary with random bytes, and once more with the sanitizers of the C compiler;
-# - the tests of python/.
+# - plan.c plans a wheel, checks the plan and deals a cycle of it in both orders: expected-plan.txt;
+# - fuzz.c and fuzz_plan.c try the boundaries with random bytes, once more with the sanitizers of the C compiler, and
+#   fuzz_plan.c refuses memory;
+# - the tests of python/, also of the package as pip installs it, without a network.
 #
 # What needs a compiler or an interpreter that isn't there is left out, and named.
 #
@@ -22,11 +24,12 @@ has() {
     command -v "$1" > /dev/null 2>&1
 }
 
-# try NAME COMMAND..: runs a command, whose output has to be as expected
+# try NAME FILE COMMAND..: runs a command, whose output has to be that file
 try() {
     name=$1
-    shift
-    if "$@" > "$work/out" && diff -u "$here/expected.txt" "$work/out"; then
+    file=$here/$2
+    shift 2
+    if "$@" > "$work/out" && diff -u "$file" "$work/out"; then
         passed=$((passed + 1))
     else
         echo "$name failed" >&2
@@ -49,15 +52,33 @@ holds() {
 [ -n "${QLOCK_BUILD:-}" ] || "$root/library"
 
 cc=${CC:-cc}
+# each request of the planning library for memory goes through fuzz_plan.c
+counted=-Wl,--wrap=malloc,--wrap=realloc,--wrap=free
+
+# strict FILES.. -o PROGRAM: compiles with all warnings as errors
+strict() {
+    "$cc" -std=c99 -Wall -Wextra -Werror -O2 -I"$root/include" "$@"
+}
+
+# sanitized FILES.. -o PROGRAM: compiles with the sanitizers, if the compiler has them
+sanitized() {
+    "$cc" -g -O1 -fsanitize=address,undefined -I"$root/include" "$@" 2> "$work/err"
+}
+
 if has "$cc"; then
-    "$cc" -std=c99 -Wall -Wextra -Werror -O2 "$here/race.c" -I"$root/include" "$build/libqlock.a" -o "$work/race"
-    try race.c "$work/race"
-    "$cc" -std=c99 -Wall -Wextra -Werror -O2 "$here/fuzz.c" -I"$root/include" "$build/libqlock.a" -o "$work/fuzz"
+    strict "$here/race.c" "$build/libqlock.a" -o "$work/race"
+    strict "$here/plan.c" "$build/libqlock_plan.a" "$build/libqlock.a" -o "$work/plan"
+    strict "$here/fuzz.c" "$build/libqlock.a" -o "$work/fuzz"
+    strict "$here/fuzz_plan.c" "$build/libqlock_plan.a" $counted -o "$work/fuzz-plan"
+    try race.c expected.txt "$work/race"
+    try plan.c expected-plan.txt "$work/plan"
     holds fuzz.c "$work/fuzz"
-    # the allocator of a sanitizer finds reads outside too
-    if "$cc" -g -O1 -fsanitize=address,undefined "$here/fuzz.c" -I"$root/include" "$build/libqlock.a" -o "$work/fuzz-checked" \
-        2> "$work/err"; then
+    holds fuzz_plan.c "$work/fuzz-plan"
+    # the allocator of a sanitizer finds memory that is used after it was given back
+    if sanitized "$here/fuzz.c" "$build/libqlock.a" -o "$work/fuzz-checked" &&
+        sanitized "$here/fuzz_plan.c" "$build/libqlock_plan.a" $counted -o "$work/fuzz-plan-checked"; then
         holds "fuzz.c with sanitizers" "$work/fuzz-checked" 50000 7
+        holds "fuzz_plan.c with sanitizers" "$work/fuzz-plan-checked" 5000 7
     else
         left_out="$left_out sanitizers"
     fi
@@ -66,14 +87,21 @@ else
 fi
 if has rustc; then
     rustc --edition 2021 -D warnings -O "$here/race.rs" -o "$work/race-rs" -L "native=$build" -l static=qlock
-    try race.rs "$work/race-rs"
+    try race.rs expected.txt "$work/race-rs"
 else
     left_out="$left_out Rust"
 fi
 if has python3; then
-    try race.py python3 "$here/race.py" "$build/libqlock.so"
-    holds "tests of python/" env PYTHONPATH="$root/python" QLOCK_LIBRARY="$build/libqlock.so" PYTHONDONTWRITEBYTECODE=1 \
-        python3 -m unittest discover -q -s "$root/python/tests"
+    try race.py expected.txt python3 "$here/race.py" "$build/libqlock.so"
+    export QLOCK_LIBRARY="$build/libqlock.so" QLOCK_PLAN_LIBRARY="$build/libqlock_plan.so" PYTHONDONTWRITEBYTECODE=1
+    holds "tests of python/" env PYTHONPATH="$root/python" python3 -m unittest discover -q -s "$root/python/tests"
+    # a copy is installed, since pip leaves files beside what it builds
+    if python3 -m venv "$work/venv" 2> "$work/err" && cp -r "$root/python" "$work/python"; then
+        holds "pip install" "$work/venv/bin/pip" install -q --no-index --disable-pip-version-check "$work/python"
+        holds "tests of the installed package" env -C "$work" "$work/venv/bin/python" -m unittest discover -q -s "$root/python/tests"
+    else
+        left_out="$left_out pip"
+    fi
 else
     left_out="$left_out Python"
 fi

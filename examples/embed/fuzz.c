@@ -1,74 +1,12 @@
 /* Tries the boundary of the library: random bytes as states and lines, states and lines that are nearly right, short rooms and
    lengths of 0. Each call has to return one of its named results, to write nothing if it returns another one than QLOCK_DONE,
-   and to write nothing outside of what it was given: each block lies between two red zones. With -fsanitize=address,undefined
-   the blocks are from malloc, so that a read outside is found too.
+   and to write and read nothing outside of what it was given (blocks.h).
 
        cc fuzz.c -I../../include ../../build/libqlock.a -o fuzz && ./fuzz [ROUNDS [SEED]] */
+#include "blocks.h"
 #include "qlock.h"
-#include <stdio.h>
-#include <stdlib.h>
-#include <string.h>
 
-enum { ZONE = 64, MOST = 5200 };
-
-/* a block of bytes between two red zones, in memory of exactly that size */
-struct block {
-    uint8_t *all, *bytes, *before;
-    size_t n;
-};
-
-static uint64_t seed = 88172645463325252u;
-static unsigned long calls, done;
-static const char *call = "";
-
-static uint64_t rnd(void) {
-    seed ^= seed << 13;
-    seed ^= seed >> 7;
-    seed ^= seed << 17;
-    return seed;
-}
-
-static size_t below(size_t n) { return (size_t)(rnd() % n); }
-
-static void fail(const char *what, int32_t result) {
-    fprintf(stderr, "fuzz: %s: %s (result %d)\n", call, what, (int)result);
-    exit(1);
-}
-
-static struct block block_of(size_t n) {
-    struct block b = {malloc(n + 2 * ZONE), NULL, malloc(n + 1), n};
-    if (b.all == NULL || b.before == NULL) exit(2);
-    b.bytes = b.all + ZONE;
-    memset(b.all, 0xa5, ZONE);
-    memset(b.bytes + n, 0xa5, ZONE);
-    for (size_t i = 0; i < n; i++) b.bytes[i] = (uint8_t)rnd();
-    return b;
-}
-
-static void note(struct block *b) { memcpy(b->before, b->bytes, b->n); }
-
-static int is_same(const struct block *b) { return memcmp(b->before, b->bytes, b->n) == 0; }
-
-/* ends with a block: its red zones are as they were, and so is the block if it may not change */
-static void end(struct block *b, int may_change, int32_t result) {
-    for (size_t i = 0; i < ZONE; i++)
-        if (b->all[i] != 0xa5 || b->bytes[b->n + i] != 0xa5) fail("wrote outside", result);
-    if (!may_change && !is_same(b)) fail("wrote what it may not write", result);
-    free(b->all);
-    free(b->before);
-}
-
-/* flips a few bits, mostly none */
-static void spoil(struct block *b) {
-    if (b->n > 0 && below(3) == 0)
-        for (size_t k = below(4); k > 0; k--) b->bytes[below(b->n)] ^= (uint8_t)(1u << below(8));
-}
-
-static struct block copy_of(const uint8_t *bytes, size_t n) {
-    struct block b = block_of(n);
-    memcpy(b.bytes, bytes, n);
-    return b;
-}
+enum { MOST = 5200 };
 
 /* a number: mostly small, sometimes at an edge */
 static uint64_t number(void) {
@@ -99,13 +37,6 @@ static struct block line_of(int to_voter) {
 }
 
 static size_t room(void) { return below(4) == 0 ? below(100) : below(2) == 0 ? QLOCK_VOTER_OUT : QLOCK_CLIENT_OUT; }
-
-/* whether the result is one of those that the header names for this call */
-static void is_named(int32_t result, const char *named) {
-    calls++;
-    if (result == QLOCK_DONE) done++;
-    if (result < 0 || result > QLOCK_OLDER_GRANT || strchr(named, "0123456789a"[result]) == NULL) fail("unnamed result", result);
-}
 
 /* the lines of a call end with a newline, and fill exactly what was written */
 static void are_lines(const struct block *out, size_t written, int32_t result) {

@@ -1,11 +1,12 @@
 """A trial of the service: processes are killed, messages lost and repeated, and at the end everything is counted.
 
-    python3 check.py ENGINE [PASSES] [SECONDS]      (150 passes of each client, 90 seconds)
+    python3 check.py ENGINE [PASSES] [SECONDS]      (100 passes of each client, 120 seconds)
 
 Five voters and six clients on the wheel of four rims. Voters, clients and (with NATS) servers are killed by kill -9 at random
 and started again, 2 % of the messages are lost and 2 % sent twice. At the end: the counter beside the passes, exclusion by
-the notes of who entered and left, the load of each voter beside the plan's, what was killed, lost and repeated, passes a
-second and the longest wait. Fails if the counter is wrong, or if two were inside.
+the notes of who entered and left, how often each voter was asked beside the plan's bound, what was killed, lost and repeated,
+passes a second and the longest wait. Fails if the counter is wrong, if two were inside, if a voter was asked
+too often, or if not all passes were made.
 """
 
 from __future__ import annotations
@@ -17,11 +18,13 @@ import shutil
 import sys
 import tempfile
 import time
+from dataclasses import replace
 from typing import Dict, List, Tuple
 
 from counter import Counter
 from locks import PLACE
-from service import VOTERS, Service
+from qlock import Plan
+from service import Service
 from settings import Settings
 
 CLIENTS = 6
@@ -64,8 +67,7 @@ class Listener:
     """Hears what voters and clients tell the page, and keeps the last numbers of each process that there ever was."""
 
     def __init__(self, settings: Settings) -> None:
-        settings = Settings(**{**vars(settings), "lost": 0.0, "repeated": 0.0})
-        self._mailbox = settings.connect("page")
+        self._mailbox = replace(settings, lost=0.0, repeated=0.0).connect("page")
         self._numbers: Dict[Tuple[str, int, int], Dict[str, float]] = {}
 
     def listen(self, seconds: float) -> None:
@@ -86,31 +88,30 @@ class Listener:
         return max((numbers.get(name, 0) for numbers in self._numbers.values()), default=0)
 
 
-def used(folder: str) -> Tuple[List[int], int]:
-    """Returns how often each voter was asked and how many requests there were, from the clients' places in the cycle."""
-    settings = Settings.read(os.path.join(folder, "service.json"))
-    counts, requests = [0] * len(VOTERS), 0
+def used(settings: Settings, plan: Plan) -> Tuple[List[int], int]:
+    """Returns how often each voter was asked and how many requests there were, from the tickets of the clients."""
+    counts, requests = [0] * len(plan.names), 0
     for client in range(CLIENTS):
-        with open(os.path.join(folder, "states", "orders", f"c{client}"), "rb") as file:
-            (place,) = PLACE.unpack(file.read()[-PLACE.size :])
-        first = client * len(settings.cycle) // CLIENTS
-        requests += place - first
-        for ticket in range(first, place):
-            for voter in settings.cycle[ticket % len(settings.cycle)]:
+        with open(settings.state_of("orders", f"c{client}"), "rb") as file:
+            (ticket,) = PLACE.unpack(file.read()[-PLACE.size :])
+        first = settings.first_ticket(client, plan)
+        requests += ticket - first
+        for used_ticket in range(first, ticket):
+            for voter in plan.quorum(used_ticket):
                 counts[voter] += 1
     return counts, requests
 
 
 def main() -> int:
     engine = sys.argv[1]
-    passes = int(sys.argv[2]) if len(sys.argv) > 2 else 150
-    seconds = float(sys.argv[3]) if len(sys.argv) > 3 else 90
+    passes = int(sys.argv[2]) if len(sys.argv) > 2 else 100
+    seconds = float(sys.argv[3]) if len(sys.argv) > 3 else 120
     folder = tempfile.mkdtemp(prefix="qlock-check-")
-    service = Service(engine, folder, CLIENTS, LOST, REPEATED)
+    service = Service(engine, folder, CLIENTS, lost=LOST, repeated=REPEATED)
     killed = {"voters": 0, "clients": 0, "servers": 0}
     choice = random.Random(int(os.environ.get("SEED", "1")))
     try:
-        names = [f"v{number}" for number in range(len(VOTERS))]
+        names = [f"v{number}" for number in range(len(service.plan.names))]
         for client in range(CLIENTS):
             service.start(f"c{client}", ["worker.py", service.path, str(client), str(passes)])
             names.append(f"c{client}")
@@ -138,7 +139,9 @@ def main() -> int:
         listener.listen(2.5)  # those who are inside leave
     finally:
         service.end()
-    counts, requests = used(folder)
+    plan = service.plan
+    counts, requests = used(service.settings, plan)
+    most = plan.most_uses(requests, CLIENTS)
     made, counted = sum(passes_of(folder)), Counter(os.path.join(folder, "counter")).read()["count"]
     entered = overlaps(folder)
     print(f"{engine}: {made} passes of {passes * CLIENTS}, counter {counted}, {took:.1f} s, {made / took:.1f} passes a second")
@@ -149,10 +152,13 @@ def main() -> int:
     )
     print(f"longest wait {listener.highest('qlock_longest_wait_seconds'):.2f} s")
     print(f"entered while another one was inside: {entered}")
-    for voter, name in enumerate(VOTERS):
-        print(f"voter {name}: asked {counts[voter]} times, {100 * counts[voter] / max(1, requests):.1f} % of {requests} requests; "
-              f"plan {100 * service.settings.shares[voter]:.1f} %")
-    if counted != made or entered:
+    for name, count, bound, share in zip(plan.names, counts, most, plan.shares()):
+        print(f"voter {name}: asked {count} times, at most {bound}; {100 * count / max(1, requests):.1f} % of {requests} requests, "
+              f"plan {100 * float(share):.1f} %")
+    if made < passes * CLIENTS:
+        print(f"check.py: not all passes were made in {seconds:g} seconds; see {folder}", file=sys.stderr)
+        return 1
+    if counted != made or entered or any(count > bound for count, bound in zip(counts, most)):
         print(f"check.py: wrong; see {folder}", file=sys.stderr)
         return 1
     shutil.rmtree(folder)

@@ -20,12 +20,12 @@ from dataclasses import dataclass
 from typing import Dict, Iterator, List, Optional
 
 from metrics import Metrics
-from node import Backoff, Letter, Post, packed, unpacked
-from qlock import BadMessage, Client, Phase, Store
+from node import Letter, Post, Reminder, packed, unpacked
+from qlock import BadMessage, Client, Phase, Plan, Store
 from settings import Settings
 
 PLACE = struct.Struct("<Q")
-"""The client's place in the cycle, which is saved behind its state."""
+"""The client's next ticket, which is saved behind its state."""
 
 
 @dataclass
@@ -43,26 +43,26 @@ class Passed:
 class Lock:
     """One lock, as this client sees it. Each method that returns letters has saved the state that they come from."""
 
-    def __init__(self, settings: Settings, name: str, client: int, metrics: Metrics) -> None:
+    def __init__(self, settings: Settings, plan: Plan, name: str, client: int, metrics: Metrics) -> None:
         self.name = name
-        self._settings = settings
+        self._plan = plan
         self._store = Store(settings.state_of(name, f"c{client}"))
         saved = self._store.read()
         if saved is None:
-            # Each client begins the cycle at another place, so that not all ask the same quorum first. It goes through
-            # the cycle by itself, and whole cycles of each are whole cycles of all.
             self._client = Client(client, settings.limit)
-            self._place = client * len(settings.cycle) // max(1, settings.clients)
+            self._ticket = settings.first_ticket(client, plan)
         else:
             self._client = Client.restore(saved[: -PLACE.size])
-            (self._place,) = PLACE.unpack(saved[-PLACE.size :])
+            (self._ticket,) = PLACE.unpack(saved[-PLACE.size :])
             metrics.add("qlock_restores_total")
-        self.reminder = Backoff(0.1, 1)
+        self.reminder = Reminder(0.1, 1)
+        self.requests = 0
         self.used: Dict[int, int] = {}
         self._save()
 
     def _save(self) -> None:
-        self._store.save(self._client.state + PLACE.pack(self._place))
+        self._store.save(self._client.state + PLACE.pack(self._ticket))
+        self.reminder.now_of(self._client.remind())
 
     def _letters(self, lines: List[bytes]) -> List[Letter]:
         self._save()
@@ -73,20 +73,19 @@ class Lock:
         return self._client.shows().phase
 
     def ask(self) -> List[Letter]:
-        """Starts a request for the quorum at the client's place in the cycle."""
-        quorum = self._settings.cycle[self._place % len(self._settings.cycle)]
+        """Starts a request for the quorum of the client's next ticket. The order is even, so whatever tickets the clients
+        have used, no voter was asked more often than its share and the slack of each client."""
+        quorum = self._plan.quorum(self._ticket)
         lines = self._client.ask(quorum)
-        self._place += 1
+        self._ticket += 1
+        self.requests += 1
         for voter in quorum:
             self.used[voter] = self.used.get(voter, 0) + 1
-        self.reminder.news()
         return self._letters(lines)
 
     def take(self, line: bytes) -> List[Letter]:
         """Takes a message."""
-        letters = self._letters(self._client.take(line).lines)
-        self.reminder.news()
-        return letters
+        return self._letters(self._client.take(line).lines)
 
     def leave(self) -> List[Letter]:
         """Leaves."""
@@ -110,13 +109,14 @@ class Locks:
 
     def __init__(self, settings: Settings, client: int) -> None:
         self._settings, self._number = settings, client
+        self._plan = settings.planned()
         self.metrics = Metrics()
         self._port = self.metrics.serve()
         self._post = Post(settings, f"c{client}", self.metrics)
         self._locks: Dict[str, Lock] = {}
         self._changed = threading.Condition()
         self._stopped = False
-        self._told = 0.0
+        self._shown_at = 0.0
         self._failed: Optional[BaseException] = None
         self._thread = threading.Thread(target=self._run, daemon=True)
         self._thread.start()
@@ -125,7 +125,7 @@ class Locks:
         if name not in self._locks:
             if not name.isidentifier():
                 raise ValueError(f"{name!r} is no name of a lock")
-            self._locks[name] = Lock(self._settings, name, self._number, self.metrics)
+            self._locks[name] = Lock(self._settings, self._plan, name, self._number, self.metrics)
         return self._locks[name]
 
     def _run(self) -> None:
@@ -153,21 +153,22 @@ class Locks:
 
     def _remind(self) -> None:
         for lock in self._locks.values():
-            if lock.phase() == Phase.ASKING and lock.reminder.is_due():
+            if lock.reminder.is_due():
                 self.metrics.add("qlock_reminders_total")
                 self._post.send(lock.remind())
 
     def _tell(self) -> None:
         """Tells the page what this client does, ten times a second at most."""
-        if time.monotonic() - self._told < 0.1:
+        if time.monotonic() - self._shown_at < 0.1:
             return
-        self._told = time.monotonic()
+        self._shown_at = time.monotonic()
         for name, lock in self._locks.items():
             told = {
                 "kind": "client",
                 "lock": name,
                 "client": self._number,
                 "phase": lock.phase().name.lower(),
+                "requests": lock.requests,
                 "used": lock.used,
                 "metrics": self._port,
                 "numbers": self.metrics.numbers(),

@@ -4,24 +4,24 @@ from __future__ import annotations
 
 import http.server
 import threading
-from typing import Dict
+from typing import Dict, List
 
 MEANINGS = {
     "qlock_passes_total": "passes through the lock that ended",
     "qlock_wait_seconds_total": "seconds from a request until the client was inside",
-    "qlock_longest_wait_seconds": "the longest of these waits",
+    "qlock_longest_wait_seconds": "the longest time from a request until the client was inside",
     "qlock_received_total": "messages that came",
     "qlock_unread_total": "messages that came and are no message of this protocol, or not for this process",
     "qlock_reminders_total": "reminders that were sent",
     "qlock_restores_total": "states that were restored when the process started",
     "qlock_lost_total": "messages that were lost on purpose",
     "qlock_repeated_total": "messages that were sent twice on purpose",
-    "qlock_grants_total": "grants that the voter has given",
+    "qlock_grants_total": "grants that the voter has given, of its whole life",
 }
 
 
 class Metrics:
-    """Numbers by name. `add` and `highest` may be called from any thread."""
+    """Numbers by name, which may have labels, as `qlock_grants_total{lock="orders"}`. Any thread may change them."""
 
     def __init__(self) -> None:
         self._numbers: Dict[str, float] = {}
@@ -49,10 +49,13 @@ class Metrics:
 
     def text(self) -> str:
         """Returns the numbers in the text form of Prometheus."""
-        lines = []
+        lines: List[str] = []
         for name, number in sorted(self.numbers().items()):
-            kind = "counter" if name.endswith("_total") else "gauge"
-            lines += [f"# HELP {name} {MEANINGS[name]}", f"# TYPE {name} {kind}", f"{name} {number:g}"]
+            family = name.split("{")[0]
+            if f"# HELP {family} {MEANINGS[family]}" not in lines:
+                kind = "counter" if family.endswith("_total") else "gauge"
+                lines += [f"# HELP {family} {MEANINGS[family]}", f"# TYPE {family} {kind}"]
+            lines.append(f"{name} {number:.15g}")
         return "\n".join(lines) + "\n"
 
     def serve(self) -> int:

@@ -3,7 +3,7 @@
 from __future__ import annotations
 
 import time
-from typing import Iterable, Tuple
+from typing import Iterable, List, Tuple
 
 from metrics import Metrics
 from settings import Settings
@@ -23,21 +23,28 @@ def unpacked(message: bytes) -> Tuple[str, bytes]:
     return lock.decode("utf-8", "replace"), line
 
 
-class Backoff:
-    """When to remind again: first after `first` seconds without news, then after twice as long each time, at most `most`."""
+class Reminder:
+    """When to remind, and of what: first after `first` seconds, then after twice as long each time, at most `most`.
+
+    It begins anew only if there is something else to remind of. A message that changes nothing of that must not put a
+    reminder off: the reminders of those who wait would put off a voter's for good, and so nobody would free a vote whose
+    INQUIRE or RELEASE was lost.
+    """
 
     def __init__(self, first: float, most: float) -> None:
         self._first, self._most = first, most
-        self.news()
+        self._lines: List[bytes] = []
+        self._wait = self._due = 0.0
 
-    def news(self) -> None:
-        """Notes that something came: there is no need to remind soon."""
-        self._wait = self._first
-        self._due = time.monotonic() + self._wait
+    def now_of(self, lines: List[bytes]) -> None:
+        """Notes of what there is to remind now, nothing if the list is empty."""
+        if lines != self._lines:
+            self._lines, self._wait = lines, self._first
+            self._due = time.monotonic() + self._wait
 
     def is_due(self) -> bool:
         """Returns whether it is time to remind. If so, the next time is twice as far away."""
-        if time.monotonic() < self._due:
+        if not self._lines or time.monotonic() < self._due:
             return False
         self._wait = min(self._wait * 2, self._most)
         self._due = time.monotonic() + self._wait

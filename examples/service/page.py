@@ -13,24 +13,32 @@ import json
 import sys
 import threading
 import time
-from typing import Any, Dict, Tuple
+from typing import Any, Dict, List, Set, Tuple
 
 from settings import Settings
 
 STYLE = """
-:root { color-scheme: light dark; --ink: #1c1c1c; --paper: #ffffff; --line: #c8c8c8; --bar: #3b6ea5; --plan: #c0392b; --soft: #f2f4f7; }
+:root {
+  color-scheme: light dark;
+  --ink: #1c1c1c; --quiet: #5f6368; --paper: #ffffff; --line: #d0d4d9; --bar: #3b6ea5; --plan: #c0392b; --soft: #eceff3;
+}
 @media (prefers-color-scheme: dark) {
-  :root { --ink: #e8e8e8; --paper: #16181b; --line: #444; --bar: #6da3dc; --plan: #ff8a75; --soft: #22262b; }
+  :root { --ink: #e8e8e8; --quiet: #a6abb2; --paper: #16181b; --line: #3c4147; --bar: #5d94cf; --plan: #ffb3a1; --soft: #2a2f35; }
 }
 body { font: 15px/1.45 system-ui, sans-serif; color: var(--ink); background: var(--paper); max-width: 60em; margin: 2em auto; padding: 0 1em; }
-table { border-collapse: collapse; width: 100%; margin: 0 0 2em; }
+h1 { margin-bottom: .2em; }
+h2 { margin-top: 1.6em; }
+.table { overflow-x: auto; margin: 0 0 1em; }
+table { border-collapse: collapse; width: 100%; }
 th, td { text-align: left; padding: .3em .6em; border-bottom: 1px solid var(--line); }
+th, td.number, td:first-child { white-space: nowrap; }
+a { color: inherit; }
 td.number, th.number { text-align: right; font-variant-numeric: tabular-nums; }
 .bar { position: relative; background: var(--soft); height: 1.1em; min-width: 10em; }
 .bar i { position: absolute; inset: 0 auto 0 0; background: var(--bar); }
-.bar b { position: absolute; top: -2px; bottom: -2px; width: 2px; background: var(--plan); }
+.bar b { position: absolute; top: -3px; bottom: -3px; width: 3px; margin-left: -1px; background: var(--plan); }
 .inside { font-weight: 600; }
-.note { color: #777; }
+.note { color: var(--quiet); margin: 0; }
 """
 
 SCRIPT = """
@@ -39,14 +47,26 @@ new EventSource('/events').onmessage = event => { page.innerHTML = JSON.parse(ev
 """
 
 
+def table(head: List[str], rows: List[List[str]], numbers: Set[int]) -> str:
+    """Returns a table as HTML, with these columns set as numbers. Cells are HTML already."""
+
+    def line(tag: str, cells: List[str]) -> str:
+        kinds = [" class=number" if place in numbers else "" for place in range(len(cells))]
+        return "<tr>" + "".join(f"<{tag}{kind}>{cell}</{tag}>" for kind, cell in zip(kinds, cells)) + "</tr>"
+
+    body = "".join(line("td", row) for row in rows)
+    return f"<div class=table><table>{line('th', head)}{body}</table></div>"
+
+
 class Board:
     """What voters and clients told last."""
 
     def __init__(self, settings: Settings) -> None:
-        self._settings = settings
+        self._plan = settings.planned()
+        self._names, self._shares = self._plan.names, [float(share) for share in self._plan.shares()]
+        self._slack = self._plan.slack().value
         self._voters: Dict[Tuple[str, int], Dict[str, Any]] = {}
         self._clients: Dict[Tuple[str, int], Dict[str, Any]] = {}
-        self._used: Dict[Tuple[str, int], Dict[int, int]] = {}
         self._lock = threading.Lock()
 
     def tell(self, message: bytes) -> None:
@@ -59,7 +79,7 @@ class Board:
             return
         with self._lock:
             told["at"] = time.monotonic()
-            if kind == "voter" and number < len(self._settings.voters):
+            if kind == "voter" and number < len(self._names):
                 self._voters[lock, number] = told
             elif kind == "client":
                 self._clients[lock, number] = told
@@ -78,67 +98,64 @@ class Board:
 
     def _votes(self, lock: str) -> str:
         rows = []
-        for number, name in enumerate(self._settings.voters):
+        for number, name in enumerate(self._names):
             told = self._voters.get((lock, number))
             if told is None:
-                rows.append(f"<tr><td>{html.escape(name)}</td><td colspan=3 class=note>not heard of</td></tr>")
+                rows.append([html.escape(name), "<span class=note>not heard of</span>", "", ""])
                 continue
-            waiting = ", ".join(f"client {c}" for c in told["waiting"] if c != told["holder"]) or "nobody"
-            rows.append(
-                f"<tr><td>{html.escape(name)}{self._age(told)}</td><td>{self._client(lock, told['holder'])}</td>"
-                f"<td>{waiting}</td><td class=number>{told['grants']}</td></tr>"
-            )
-        head = "<tr><th>voter</th><th>its vote has</th><th>waiting for it</th><th class=number>grants</th></tr>"
-        return f"<table>{head}{''.join(rows)}</table>"
+            waiting = ", ".join(f"client {client}" for client in told["waiting"] if client != told["holder"]) or "nobody"
+            rows.append([html.escape(name) + self._age(told), self._client(lock, told["holder"]), waiting, str(told["grants"])])
+        return table(["voter", "who has its vote", "who waits for it", "grants"], rows, {3})
 
     def _load(self, lock: str) -> str:
-        used = [0] * len(self._settings.voters)
+        used, requests, clients = [0] * len(self._names), 0, 0
         for (name, _), told in self._clients.items():
             if name == lock:
+                clients += 1
+                requests += told.get("requests", 0)
                 for voter, count in told.get("used", {}).items():
                     used[int(voter)] += count
-        sizes = [len(quorum) for quorum in self._settings.cycle]
-        requests = sum(used) / (sum(sizes) / len(sizes)) if sizes else 0
+        most = self._plan.most_uses(requests, clients)
         rows = []
-        for number, name in enumerate(self._settings.voters):
-            share = used[number] / requests if requests else 0
-            plan = self._settings.shares[number]
-            rows.append(
-                f"<tr><td>{html.escape(name)}</td><td class=number>{used[number]}</td><td class=number>{100 * share:.1f} %</td>"
-                f"<td class=number>{100 * plan:.1f} %</td>"
-                f"<td><div class=bar><i style='width:{min(100, 100 * share):.1f}%'></i><b style='left:{100 * plan:.1f}%'></b></div></td></tr>"
-            )
-        head = "<tr><th>voter</th><th class=number>asked</th><th class=number>share</th><th class=number>plan</th><th></th></tr>"
-        return f"<table>{head}{''.join(rows)}</table>"
+        for number, name in enumerate(self._names):
+            share = 100 * used[number] / max(1, requests)
+            plan = 100 * self._shares[number]
+            bar = f"<div class=bar><i style='width:{min(100, share):.1f}%'></i><b style='left:{plan:.1f}%'></b></div>"
+            rows.append([html.escape(name), str(used[number]), str(most[number]), f"{share:.1f} %", f"{plan:.1f} %", bar])
+        note = f"Of {requests} requests of {clients} clients, since these started. At most: the plan's share and the slack of each."
+        head = ["voter", "asked", "at most", "share", "plan", ""]
+        return table(head, rows, {1, 2, 3, 4}) + f"<p class=note>{note}</p>"
+
+    def _process(self, name: str, told: Dict[str, Any]) -> List[str]:
+        numbers = told.get("numbers", {})
+        shown = [("qlock_passes_total", ".0f"), ("qlock_longest_wait_seconds", ".2f")] if told["kind"] == "client" else []
+        cells = [format(numbers.get(number, 0), kind) for number, kind in shown] or ["", ""]
+        cells += [f"{numbers.get(number, 0):.0f}" for number in ("qlock_reminders_total", "qlock_restores_total")]
+        link = f"<a href='http://127.0.0.1:{int(told.get('metrics', 0))}/metrics'>metrics</a>"
+        return [name + self._age(told), *cells, link]
 
     def _processes(self) -> str:
-        rows = []
-        for kind, known in (("voter", self._voters), ("client", self._clients)):
-            for (lock, number), told in sorted(known.items()):
-                numbers = told.get("numbers", {})
-                rows.append(
-                    f"<tr><td>{kind} {number}{self._age(told)}</td><td class=number>{numbers.get('qlock_passes_total', 0):g}</td>"
-                    f"<td class=number>{numbers.get('qlock_longest_wait_seconds', 0):.2f}</td>"
-                    f"<td class=number>{numbers.get('qlock_reminders_total', 0):g}</td>"
-                    f"<td class=number>{numbers.get('qlock_restores_total', 0):g}</td>"
-                    f"<td><a href='http://127.0.0.1:{int(told.get('metrics', 0))}/'>metrics</a></td></tr>"
-                )
-        head = (
-            "<tr><th>process</th><th class=number>passes</th><th class=number>longest wait, s</th>"
-            "<th class=number>reminders</th><th class=number>restores</th><th></th></tr>"
-        )
-        return f"<table>{head}{''.join(rows)}</table>"
+        rows = {}
+        for (_, number), told in self._voters.items():
+            rows[0, number] = self._process(f"voter {html.escape(self._names[number])}", told)
+        for (_, number), told in self._clients.items():
+            rows[1, number] = self._process(f"client {number}", told)
+        head = ["process", "passes", "longest wait, s", "reminders", "restores", ""]
+        return table(head, [rows[key] for key in sorted(rows)], {1, 2, 3, 4})
 
     def text(self) -> str:
         """Returns the state as a piece of HTML."""
+        plan, slack = self._plan, self._slack
+        parts = [
+            f"<p class=note>The plan has load {plan.load} and a cycle of {plan.cycle} tickets. In the even order, each client adds a "
+            f"slack of {slack} at most.</p>"
+        ]
         with self._lock:
-            locks = sorted({lock for lock, _ in [*self._voters, *self._clients]}) or []
-            parts = []
-            for lock in locks:
-                parts.append(f"<h2>{html.escape(lock)}</h2><h3>Votes</h3>{self._votes(lock)}")
-                parts.append(f"<h3>Use of each voter, and the plan's</h3>{self._load(lock)}")
-            parts.append(f"<h3>Processes</h3>{self._processes()}")
-            return "".join(parts)
+            for lock in sorted({lock for lock, _ in [*self._voters, *self._clients]}):
+                parts.append(f"<h2>Lock {html.escape(lock)}</h2><h3>Votes</h3>{self._votes(lock)}")
+                parts.append(f"<h3>How often each voter is asked</h3>{self._load(lock)}")
+            parts.append(f"<h2>Processes</h2>{self._processes()}")
+        return "".join(parts)
 
 
 def serve(board: Board, port: int) -> http.server.ThreadingHTTPServer:

@@ -1,6 +1,9 @@
 """Starts a service on this machine: an engine, the voters and the page. And stops it.
 
-    python3 service.py ENGINE [FOLDER]      (nats or mqtt; a new folder where none is given)
+    python3 service.py ENGINE [FOLDER [COTERIE]]      (nats or mqtt; a new folder where none is given)
+
+COTERIE is the file of a coterie, wheel-4.toml where none is given. A new folder gets a plan of it. A folder from before goes on
+with its own coterie, its plan and its states.
 
 Prints where the settings are and the page's address. Ctrl-C ends it. With the settings, start clients:
 
@@ -17,14 +20,13 @@ import subprocess
 import sys
 import tempfile
 import time
-from typing import Dict, List, Optional
+from typing import Dict, List, Optional, Tuple
 
-from settings import Settings, cycle_of
+from qlock import Plan, Refused
+from settings import Settings
 
 HERE = os.path.dirname(os.path.abspath(__file__))
-VOTERS = ["hub", "rim1", "rim2", "rim3", "rim4"]
-QUORUMS = [[0, 1], [0, 2], [0, 3], [0, 4], [1, 2, 3, 4]]
-"""the wheel of four rims: `./qlock make wheel 4`"""
+WHEEL = os.path.join(HERE, "wheel-4.toml")
 
 
 def free_ports(count: int) -> List[int]:
@@ -49,6 +51,22 @@ def wait_for(port: int) -> None:
         except OSError:
             time.sleep(0.05)
     raise TimeoutError(f"nobody listens on port {port}")
+
+
+def texts_of(folder: str, coterie: Optional[str]) -> Tuple[str, str]:
+    """Returns the texts of the coterie and of the plan for a service in this folder. Ends the program if the folder has
+    another coterie: its voters' and clients' states rest on that one (docs/embedding.md, "Exchanging a plan")."""
+    settings = os.path.join(folder, "service.json")
+    if not os.path.exists(settings):
+        with open(coterie or WHEEL, encoding="utf-8") as file:
+            plan = Plan.find(file.read())
+        return plan.coterie, plan.text
+    kept = Settings.read(settings)
+    if coterie is not None:
+        with open(coterie, encoding="utf-8") as file:
+            if file.read() != kept.coterie:
+                sys.exit(f"service.py: {folder} is the folder of another coterie; take a new one")
+    return kept.coterie, kept.plan
 
 
 class Engine:
@@ -105,31 +123,32 @@ class Engine:
 class Service:
     """An engine and the processes over it, each with a name."""
 
-    def __init__(self, engine: str, folder: str, clients: int, lost: float = 0.0, repeated: float = 0.0) -> None:
+    def __init__(
+        self, engine: str, folder: str, clients: int, coterie: Optional[str] = None, lost: float = 0.0, repeated: float = 0.0
+    ) -> None:
         os.makedirs(os.path.join(folder, "states"), exist_ok=True)
         self.folder = folder
+        coterie_text, plan_text = texts_of(folder, coterie)
+        self.plan = Plan(coterie_text, plan_text)
         self.engine = Engine(engine, folder)
-        with open(os.path.join(HERE, "wheel-4-dealt.txt"), encoding="utf-8") as file:
-            numbers = cycle_of(file.read())
-        cycle = [QUORUMS[number] for number in numbers]
-        shares = [sum(voter in quorum for quorum in cycle) / len(cycle) for voter in range(len(VOTERS))]
         self.settings = Settings(
             engine=engine,
             ports=self.engine.ports,
             folder=os.path.join(folder, "states"),
-            voters=VOTERS,
+            coterie=coterie_text,
+            plan=plan_text,
             clients=clients,
-            cycle=cycle,
-            shares=shares,
             lost=lost,
             repeated=repeated,
             ended=os.path.join(folder, "ended"),
         )
+        if self.settings.is_ended():
+            os.remove(self.settings.ended)
         self.path = os.path.join(folder, "service.json")
         self.settings.write(self.path)
         self.processes: Dict[str, subprocess.Popen] = {}
         self._commands: Dict[str, List[str]] = {}
-        for number in range(len(VOTERS)):
+        for number in range(len(self.plan.names)):
             self.start(f"v{number}", ["voter.py", self.path, str(number)])
 
     def start(self, name: str, words: Optional[List[str]] = None, stdout: Optional[int] = None) -> subprocess.Popen:
@@ -149,8 +168,8 @@ class Service:
 
     def page(self) -> str:
         """Starts the page, and returns its address."""
-        page = self.start("page", ["page.py", self.path], subprocess.PIPE)
-        return page.stdout.readline().decode().strip()
+        told = self.start("page", ["page.py", self.path], subprocess.PIPE).stdout
+        return told.readline().decode().strip() if told else ""
 
     def end(self) -> None:
         """Ends all processes and the engine."""
@@ -168,7 +187,11 @@ def main() -> None:
     if len(sys.argv) < 2 or sys.argv[1] not in ("nats", "mqtt"):
         sys.exit(__doc__)
     folder = sys.argv[2] if len(sys.argv) > 2 else tempfile.mkdtemp(prefix="qlock-")
-    service = Service(sys.argv[1], os.path.abspath(folder), clients=6)
+    coterie = sys.argv[3] if len(sys.argv) > 3 else None
+    try:
+        service = Service(sys.argv[1], os.path.abspath(folder), clients=6, coterie=coterie)
+    except Refused as fault:
+        sys.exit(f"service.py: {coterie}: {fault}")
     try:
         print(f"settings: {service.path}")
         print(f"page:     {service.page()}")

@@ -1,4 +1,4 @@
-"""What all processes of a service know: who the voters are, which quorums a cycle has, and how to reach one another."""
+"""What all processes of a service know: the plan, how to reach one another, and where states are kept."""
 
 from __future__ import annotations
 
@@ -7,6 +7,7 @@ import os
 from dataclasses import asdict, dataclass, field
 from typing import List
 
+from qlock import Plan
 from transport import ENGINES, Faulty, Transport
 
 
@@ -20,22 +21,18 @@ class Settings:
     """the ports of the engine's servers, on the loopback address"""
     folder: str
     """where states are kept"""
-    voters: List[str]
-    """the voters' names, in the order of the coterie"""
+    coterie: str
+    """the text of the coterie, whose voters are the voters of the service, by their numbers"""
+    plan: str
+    """the text of a plan of it: which quorum each ticket asks"""
     clients: int
     """how many clients there are, at most 64"""
-    cycle: List[List[int]]
-    """the voters to ask, ticket by ticket, for one cycle of the plan"""
-    shares: List[float]
-    """for each voter, the share of the requests that use it by the plan"""
     limit: int = 1 << 40
     """the highest stamp and the highest number of a grant"""
     lost: float = 0.0
     """the share of messages that are lost on purpose, in trials"""
     repeated: float = 0.0
     """the share of messages that are sent twice on purpose, in trials"""
-    synced: bool = True
-    """whether a state is on the disk, and not only in the system's memory, before its messages leave"""
     ended: str = field(default="", repr=False)
     """a file; when it is there, processes end"""
 
@@ -49,6 +46,15 @@ class Settings:
         """Reads the settings of a file."""
         with open(path, encoding="utf-8") as file:
             return Settings(**json.load(file))
+
+    def planned(self) -> Plan:
+        """Returns the plan. It is checked: a text that is no optimal plan of the coterie is refused."""
+        return Plan(self.coterie, self.plan)
+
+    def first_ticket(self, client: int, plan: Plan) -> int:
+        """Returns the ticket at which a client begins. Each begins at another place of the cycle, so that not all ask the
+        same quorum first. From any first ticket whole cycles are whole cycles, and the slack is the same."""
+        return client * plan.cycle // max(1, self.clients)
 
     def connect(self, name: str) -> Transport:
         """Returns the mailbox of this name."""
@@ -64,9 +70,3 @@ class Settings:
     def is_ended(self) -> bool:
         """Returns whether the processes of the service are to end."""
         return bool(self.ended) and os.path.exists(self.ended)
-
-
-def cycle_of(dealt: str) -> List[int]:
-    """Returns the number of the quorum of each ticket, from what `qlock deal D` writes."""
-    lines = [line.split() for line in dealt.splitlines()]
-    return [int(words[1]) for words in lines if len(words) == 2 and words[0].isdigit()]

@@ -11,7 +11,7 @@ import random
 import select
 import socket
 import time
-from typing import Deque, Optional, Protocol, Sequence
+from typing import Callable, Deque, Dict, Optional, Protocol, Sequence
 
 
 class Transport(Protocol):
@@ -37,8 +37,8 @@ class Nats:
         random.shuffle(self._ports)
         self._connect()
 
-    def _connect(self) -> bool:
-        """Connects to the first server that answers. Returns whether one does."""
+    def _connect(self) -> None:
+        """Connects to the first server that answers, if one does."""
         self.close()
         for port in self._ports:
             try:
@@ -49,8 +49,7 @@ class Nats:
             except OSError:
                 continue
             self._socket, self._rest = connection, b""
-            return True
-        return False
+            return
 
     def close(self) -> None:
         """Ends the connection. Messages on the way are lost."""
@@ -59,7 +58,9 @@ class Nats:
             self._socket = None
 
     def publish(self, name: str, message: bytes) -> None:
-        if self._socket is None and not self._connect():
+        if self._socket is None:
+            self._connect()
+        if self._socket is None:
             return
         try:
             self._socket.sendall(b"PUB lock.%s %d\r\n%s\r\n" % (name.encode(), len(message), message))
@@ -71,10 +72,10 @@ class Nats:
         self._ports.append(self._ports.pop(0))
         self._connect()
 
-    def _read(self) -> None:
+    def _read(self, connection: socket.socket) -> None:
         """Reads what has come, and answers the server's questions whether we are there."""
         try:
-            data = self._socket.recv(65536)
+            data = connection.recv(65536)
             if not data:
                 raise ConnectionError("the server is gone")
             self._rest += data
@@ -87,7 +88,7 @@ class Nats:
                     self._messages.append(rest[:length])
                     rest = rest[length + 2 :]
                 elif line.startswith(b"PING"):
-                    self._socket.sendall(b"PONG\r\n")
+                    connection.sendall(b"PONG\r\n")
                 self._rest = rest
         except OSError:
             self._lost_server()
@@ -98,11 +99,12 @@ class Nats:
             left = end - time.monotonic()
             if left <= 0:
                 return None
-            if self._socket is None and not self._connect():
+            if self._socket is None:
+                self._connect()
+            if self._socket is None:
                 time.sleep(min(left, 0.1))
-                continue
-            if select.select([self._socket], [], [], left)[0]:
-                self._read()
+            elif select.select([self._socket], [], [], left)[0]:
+                self._read(self._socket)
         return self._messages.popleft()
 
 
@@ -165,4 +167,4 @@ class Faulty:
         return self._inner.receive(seconds)
 
 
-ENGINES = {"nats": Nats, "mqtt": Mqtt}
+ENGINES: Dict[str, Callable[[Sequence[int], str], Transport]] = {"nats": Nats, "mqtt": Mqtt}

@@ -16,7 +16,7 @@ import time
 from typing import Dict, List
 
 from metrics import Metrics
-from node import Backoff, Letter, Post, packed, unpacked
+from node import Letter, Post, Reminder, packed, unpacked
 from qlock import BadMessage, GrantsSpent, Store, Voter
 from settings import Settings
 
@@ -34,7 +34,13 @@ class Vote:
         else:
             self.voter = Voter.restore(saved)
             metrics.add("qlock_restores_total")
-        self.reminder = Backoff(0.25, 2)
+        self.reminder = Reminder(0.25, 2)
+        self._note()
+
+    def _note(self) -> None:
+        """Notes who has the vote, and whether it was asked back. The last word of a line, the highest stamp that was seen,
+        is left out: each request that comes raises it."""
+        self.reminder.now_of([line.rsplit(b" ", 1)[0] for line in self.voter.remind()])
 
     def take(self, line: bytes) -> List[Letter]:
         """Takes a message. What is returned may be sent: the state is saved."""
@@ -46,6 +52,7 @@ class Vote:
 
     def _letters(self, lines: List[bytes]) -> List[Letter]:
         self._store.save(self.voter.state)
+        self._note()
         return [(f"c{int(line.split()[2])}", packed(self.lock, line)) for line in lines]
 
     def waiting(self) -> List[int]:
@@ -84,12 +91,11 @@ class VoterProcess:
         except (BadMessage, GrantsSpent):
             self._metrics.add("qlock_unread_total")
             return
-        vote.reminder.news()
         self._post.send(letters)
 
     def _remind(self) -> None:
         for vote in self._votes.values():
-            if vote.voter.held() is not None and vote.reminder.is_due():
+            if vote.reminder.is_due():
                 self._metrics.add("qlock_reminders_total")
                 self._post.send(vote.remind())
 
@@ -101,7 +107,7 @@ class VoterProcess:
         for lock, vote in self._votes.items():
             held = vote.voter.held()
             grants = struct.unpack("<138Q", vote.voter.state)[3]
-            self._metrics.put("qlock_grants_total", grants)
+            self._metrics.put(f'qlock_grants_total{{lock="{lock}"}}', grants)
             told = {
                 "kind": "voter",
                 "lock": lock,
@@ -124,5 +130,13 @@ class VoterProcess:
             self._tell()
 
 
+def main() -> None:
+    settings, number = Settings.read(sys.argv[1]), int(sys.argv[2])
+    names = settings.planned().names
+    if number not in range(len(names)):
+        sys.exit(f"voter.py: the coterie has the voters 0 to {len(names) - 1}")
+    VoterProcess(settings, number).run()
+
+
 if __name__ == "__main__":
-    VoterProcess(Settings.read(sys.argv[1]), int(sys.argv[2])).run()
+    main()

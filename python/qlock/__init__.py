@@ -1,10 +1,13 @@
-"""The voter and the client of a voting lock, over the library libqlock.
+"""The voter and the client of a voting lock, and plans of the quorums to ask, over the libraries libqlock and libqlock_plan.
 
 A `Voter` or a `Client` is a state and its calls. A call returns the lines to send, and changes `state`, the bytes to save.
-Save, then send: a `Store` keeps the bytes in a file as a crash allows it. A `Fence` guards what the lock protects.
+Save, then send: a `Store` keeps the bytes in a file as a crash allows it. A `Fence` guards what the lock protects. A `Plan` says
+which quorum to ask, ticket by ticket. Why a coterie or a plan was refused is in the module `refusals`.
 
-The library is found by the environment variable QLOCK_LIBRARY, or by its name, libqlock.so. It is loaded at the first call.
+The libraries are found by the environment variable QLOCK_LIBRARY, the path of libqlock.so, with libqlock_plan.so beside it or
+at QLOCK_PLAN_LIBRARY; or by their names. Each is loaded at its first call.
 """
+from . import refusals
 from .automata import CLIENT_BYTES, GRANTS_BYTES, MAX_STAMP, VOTER_BYTES, Client, Fence, Grant, Phase, Taken, Voter
 from .faults import (
     BadArgument,
@@ -13,16 +16,20 @@ from .faults import (
     Busy,
     Fault,
     GrantsSpent,
+    NoMemory,
     NoRoom,
     NotAsking,
     NotInside,
     OlderGrant,
+    Refused,
     StampsSpent,
 )
+from .plans import MAX_TICKETS, Order, Plan, Quorum, Slack, names_of
 from .store import Damaged, InUse, Store
 
 __all__ = [
     "BadArgument", "BadMessage", "BadState", "Busy", "CLIENT_BYTES", "Client", "Damaged", "Fault", "Fence", "GRANTS_BYTES",
-    "Grant", "GrantsSpent", "InUse", "MAX_STAMP", "NoRoom", "NotAsking", "NotInside", "OlderGrant", "Phase", "StampsSpent",
-    "Store", "Taken", "VOTER_BYTES", "Voter",
+    "Grant", "GrantsSpent", "InUse", "MAX_STAMP", "MAX_TICKETS", "NoMemory", "NoRoom", "NotAsking", "NotInside", "OlderGrant",
+    "Order", "Phase", "Plan", "Quorum", "Refused", "Slack", "StampsSpent", "Store", "Taken", "VOTER_BYTES", "Voter", "names_of",
+    "refusals",
 ]

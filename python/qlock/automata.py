@@ -1,7 +1,7 @@
 """The voter, the client and the guard."""
 import ctypes
 import enum
-from typing import Iterable, List, NamedTuple, Optional
+from typing import Any, Iterable, List, NamedTuple, Optional, Tuple
 
 from .faults import BadArgument, BadState
 from .library import call
@@ -80,10 +80,10 @@ class _State:
             raise BadState(f"{len(state)} bytes, and {self._size} are wanted")
         self._bytes.raw = state
 
-    def _given(self) -> tuple:
+    def _given(self) -> Tuple[Any, ...]:
         return self._bytes, self._size
 
-    def _into(self) -> tuple:
+    def _into(self) -> Tuple[Any, ...]:
         return self._out, self._room, ctypes.byref(self._written)
 
     def _lines(self) -> List[bytes]:

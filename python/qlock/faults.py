@@ -1,5 +1,5 @@
 """Why a call was refused. A call that was refused has changed nothing."""
-from typing import Dict, Type
+from typing import Dict, Tuple, Type
 
 
 class Fault(Exception):
@@ -68,9 +68,29 @@ class OlderGrant(Fault):
     number = 10
 
 
-KINDS: Dict[int, Type[Fault]] = {
-    kind.number: kind
-    for kind in (
-        BadArgument, BadState, BadMessage, NoRoom, Busy, NotInside, NotAsking, StampsSpent, GrantsSpent, OlderGrant,
-    )
-}
+class Refused(Fault, ValueError):
+    """A text has a fault, or no plan was found. Each fault has a class of its own in `qlock.refusals`, named as in its line."""
+
+    number = 11
+    code = ""
+    """the code of the fault, as `E7`"""
+
+    def __init__(self, line: str) -> None:
+        """Makes the fault of a line, as `E7 Disjoint 0 1`."""
+        super().__init__(line)
+        self.line = line
+        self.numbers: Tuple[int, ...] = tuple(int(word) for word in line.split()[2:] if word.isdigit())
+
+
+class NoMemory(Fault, MemoryError):
+    """There is no memory."""
+
+    number = 12
+
+
+_ALL: Tuple[Type[Fault], ...] = (
+    BadArgument, BadState, BadMessage, NoRoom, Busy, NotInside, NotAsking, StampsSpent, GrantsSpent, OlderGrant, Refused,
+    NoMemory,
+)
+
+KINDS: Dict[int, Type[Fault]] = {kind.number: kind for kind in _ALL}

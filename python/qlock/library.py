@@ -1,14 +1,16 @@
-"""The library libqlock, by ctypes. `include/qlock.h` says what each call does."""
+"""The libraries libqlock and libqlock_plan, by ctypes. `include/qlock.h` and `include/qlock_plan.h` say what each call does."""
 import ctypes
 import os
-from typing import Any, Optional
+from typing import Any, Dict, List, Optional
 
-from .faults import KINDS, Fault
+from .faults import KINDS, Fault, Refused
+from .refusals import refusal_of
 
 _BYTES = ctypes.c_char_p
 _BUFFER = ctypes.c_void_p
 _SIZE = ctypes.c_size_t
 _U8 = ctypes.c_uint8
+_U32 = ctypes.c_uint32
 _U64 = ctypes.c_uint64
 _SIZE_OUT = ctypes.POINTER(ctypes.c_size_t)
 _U64_OUT = ctypes.POINTER(ctypes.c_uint64)
@@ -17,7 +19,7 @@ _STATE = [_BUFFER, _SIZE]
 _OUT = [_BUFFER, _SIZE, _SIZE_OUT]
 _LINE = [_BYTES, _SIZE]
 
-_CALLS = {
+_CALLS: Dict[str, List[Any]] = {
     "voter_new": [_U8, _U64, *_STATE],
     "voter_take": [*_STATE, *_LINE, *_OUT],
     "voter_remind": [*_STATE, *_OUT],
@@ -36,24 +38,65 @@ _CALLS = {
     "fence_admit": [*_STATE, _BYTES, _SIZE],
 }
 
+_TEXTS = [*_LINE, *_LINE]
+_PLAN_CALLS: Dict[str, List[Any]] = {
+    "names": [*_LINE, *_OUT],
+    "plan": [*_LINE, *_OUT],
+    "check": [*_TEXTS, _U64_OUT, _U64_OUT, _U64_OUT, *_OUT],
+    "quorums": [*_TEXTS, _U32, _U64, _BUFFER, _SIZE, *_OUT],
+    "slack": [*_TEXTS, _U64_OUT, _U64_OUT, _U64_OUT, *_OUT],
+}
+
 _library: Optional[ctypes.CDLL] = None
+_plan_library: Optional[ctypes.CDLL] = None
+
+
+def _opened(path: str, calls: Dict[str, List[Any]]) -> ctypes.CDLL:
+    library = ctypes.CDLL(path)
+    for name, arguments in calls.items():
+        function = getattr(library, "qlock_" + name)
+        function.argtypes = arguments
+        function.restype = ctypes.c_int32
+    return library
 
 
 def load(path: Optional[str] = None) -> ctypes.CDLL:
-    """Loads the library, once. `path` is its file; else QLOCK_LIBRARY, else the name libqlock.so."""
+    """Loads libqlock, once. `path` is its file; else QLOCK_LIBRARY, else the name libqlock.so."""
     global _library
     if _library is None:
-        library = ctypes.CDLL(path or os.environ.get("QLOCK_LIBRARY") or "libqlock.so")
-        for name, arguments in _CALLS.items():
-            function = getattr(library, "qlock_" + name)
-            function.argtypes = arguments
-            function.restype = ctypes.c_int32
-        _library = library
+        _library = _opened(path or os.environ.get("QLOCK_LIBRARY") or "libqlock.so", _CALLS)
     return _library
 
 
+def _plan_path() -> str:
+    """Returns the file of libqlock_plan: QLOCK_PLAN_LIBRARY, else the one beside QLOCK_LIBRARY, else its name."""
+    given, beside = os.environ.get("QLOCK_PLAN_LIBRARY"), os.environ.get("QLOCK_LIBRARY")
+    return given or os.path.join(os.path.dirname(beside or ""), "libqlock_plan.so")
+
+
+def load_plan(path: Optional[str] = None) -> ctypes.CDLL:
+    """Loads libqlock_plan, once. `path` is its file; else QLOCK_PLAN_LIBRARY, else libqlock_plan.so beside QLOCK_LIBRARY,
+    else that name alone."""
+    global _plan_library
+    if _plan_library is None:
+        _plan_library = _opened(path or _plan_path(), _PLAN_CALLS)
+    return _plan_library
+
+
 def call(name: str, *arguments: Any) -> None:
-    """Calls a function, and raises the fault that it returns."""
+    """Calls a function of libqlock, and raises the fault that it returns."""
     result = getattr(load(), "qlock_" + name)(*arguments)
     if result != 0:
         raise KINDS.get(result, Fault)(f"qlock_{name} returned {result}")
+
+
+def call_plan(name: str, room: int, *arguments: Any) -> bytes:
+    """Calls a function of libqlock_plan with this much room for its text, and returns the text. Raises the fault that it
+    returns: for a text that is refused, that of the line."""
+    out, written = ctypes.create_string_buffer(room), ctypes.c_size_t()
+    result = getattr(load_plan(), "qlock_" + name)(*arguments, out, room, ctypes.byref(written))
+    if result == Refused.number:
+        raise refusal_of(out.raw[: written.value].decode("ascii"))
+    if result != 0:
+        raise KINDS.get(result, Fault)(f"qlock_{name} returned {result}")
+    return out.raw[: written.value]

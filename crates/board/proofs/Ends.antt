@@ -12,7 +12,7 @@ use Rattle.numbers.proofs.SumLemmas.{elem-le-sum_by, sum_by-alone_at, AreAllBelo
 use Rattle.board.specs.declared.table.View.{View}
 use Rattle.board.specs.Seats.{Setting}
 use Rattle.board.specs.Words.{taken, is}
-use Rattle.board.specs.Rule.{stands, holds_vote, IsVote, IsReading, IsKept, Kept}
+use Rattle.board.specs.Rule.{present, holds_vote, IsVote, IsReading, IsKept, Kept}
 use Rattle.board.specs.Views.{root_view}
 use Rattle.board.proofs.Words.{is-apart, is-next}
 use Rattle.board.proofs.Giving.{none_held}
@@ -31,8 +31,13 @@ IsKept-start sheet few_voters few_clients small =
         shape = inl refl;
         current = λ name. let one : slice_index root.voters v ≡ 1 = get_or-replicate 64 v 1 0 (omega arith) in
             let is_one : is (slice_index root.voters v) (name + 1) ≡ is 0 name = ap (λ (k : ℕ). is k (name + 1)) one ∙ is-next 0 name in
-            omega (arith, sum_by-cons (stands v name) root []);
-        held = λ name large. omega (arith, sum_by-cons (holds_vote v name) root [], none_held v name root (omega arith) (get_or_past [] v 0 (omega arith)) large, is-apart 0 (taken name) (λ e. omega arith));
+            omega (arith, sum_by-cons (present v name) root []);
+        held = λ name large. omega (
+          arith,
+          sum_by-cons (holds_vote v name) root [],
+          none_held v name root (omega arith) (get_or_past [] v 0 (omega arith)) large,
+          is-apart 0 (taken name) (λ e. omega arith),
+        );
       };
       readings = only (IsReading sheet (slice_index words n)) tt;
       passes = λ h. let none_yet : sum_below h (slice_index words n) ≡ 0 = ap (sum_below h) (zero_at n (omega arith)) in omega (arith, sum_by-cons (λ (z : View). sum_by h z.passes) root []);
@@ -58,7 +63,8 @@ passes-at_close sheet id u words slots f all h =
     sym (sum_by-alone_at (λ (z : View). sum_by h z.passes) (λ (z : View). z.parts) s.views (λ i z e none. ap (sum_by h) (r.idle i z e none)) id u at (r.parts ∙ sym all))
     ∙ r.passes h ∙ ap (λ (l : List ℕ). sum_below h (slice_index l sheet.voters)) f.2
 
-pub closed_parts : (sheet : Setting) (id : ℕ) (u : View) (words : List ℕ) (slots : List (Unit {0})) → Final (Seen (Kept sheet) id u) words slots → (u.parts ≤ sheet.voters + sheet.clients + 1) × (length words ≡ sheet.voters + 1)
+pub closed_parts : (sheet : Setting) (id : ℕ) (u : View) (words : List ℕ) (slots : List (Unit {0})) → Final (Seen (Kept sheet) id u) words slots → (u.parts ≤ sheet.voters + sheet.clients + 1)
+    × (length words ≡ sheet.voters + 1)
 closed_parts sheet id u words slots f = (omega (arith, elem-le-sum_by (λ (z : View). z.parts) f.0.views id u f.1.1, f.1.0.parts), ap length (sym f.2) ∙ f.1.0.long)
 
 pub get_or-get_elem : (l : List ℕ) (i x : ℕ) → get_elem? l i ≡ some x → get_or l i 0 ≡ x

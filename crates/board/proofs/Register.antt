@@ -35,7 +35,8 @@ register_step sheet s r id u w at x voters held client parts readings passes idl
           (IsVote-same k (slice_index s.words k) s.views (r.votes k in_range) id u w at (ap (λ (l : List ℕ). slice_index l k) voters) (λ i. name_of (client i) (slice_index (held i) k)));
       readings = subst (λ (y : ℕ). (i : ℕ) (z : View) → get_elem? (set s.views id w) i ≡ some z → IsReading sheet y z) (sym register) readings;
       passes = λ h.
-          let whole : sum_by (λ (z : View). sum_by h z.passes) (set s.views id w) ≡ sum_below h x = omega (arith, sum_by-set_elem (λ (z : View). sum_by h z.passes) s.views id u w at, r.passes h, passes h) in
+          let whole : sum_by (λ (z : View). sum_by h z.passes) (set s.views id w) ≡ sum_below h x = omega
+          (arith, sum_by-set_elem (λ (z : View). sum_by h z.passes) s.views id u w at, r.passes h, passes h) in
           whole ∙ ap (sum_below h) (sym register);
       parts = omega (arith, sum_by-set_elem (λ (z : View). z.parts) s.views id u w at, r.parts);
       idle = each-set_view (λ z. z.parts ≡ 0 → z.passes ≡ []) s.views id w (λ i z _ e. r.idle i z e) idle;
@@ -72,7 +73,8 @@ Read-allowed sheet slots id me word j is_register inside holds s r _ at _ =
     )
 
 -- two seats don't hold one vote
-pub IsVote-one_holds : (v word : ℕ) (views : List View) → IsVote v word views → (i j : ℕ) (u z : View) → i ≢ j → get_elem? views i ≡ some u → get_elem? views j ≡ some z → slice_index u.held v ≢ 0 → slice_index z.held v ≢ 0 → ⊥
+pub IsVote-one_holds : (v word : ℕ) (views : List View) → IsVote v word views → (i j : ℕ) (u z : View) → i ≢ j → get_elem? views i ≡ some u → get_elem? views j ≡ some z
+    → slice_index u.held v ≢ 0 → slice_index z.held v ≢ 0 → ⊥
 IsVote-one_holds v word views vote i j u z apart at at' mine theirs =
     let a : ℕ = name_of u.client (slice_index u.held v) in
     let b : ℕ = name_of z.client (slice_index z.held v) in
@@ -100,16 +102,19 @@ other_reading sheet s r meet id i u z apart at at' j inside holds x y None h = t
 other_reading sheet s r meet id i u z apart at at' j inside holds x y (Some t) h =
     absurd (HoldsAll-not_both sheet s r id i u z (λ e. apart (sym e)) at at' (quorum_at sheet.quorums j) (quorum_at sheet.quorums t.0) (meet j t.0 inside h.0) holds h.1)
 
-pub Wrote-allowed : (sheet : Setting) (slots id : ℕ) (me : Mine) (word j x : ℕ) → word ≡ sheet.voters → AllMeet sheet.voters sheet.quorums → me.0.parts ≡ 1 → me.0.reading ≡ Some (j, x) → x ≢ sheet.limit
+pub Wrote-allowed : (sheet : Setting) (slots id : ℕ) (me : Mine) (word j x : ℕ) → word ≡ sheet.voters → AllMeet sheet.voters sheet.quorums → me.0.parts ≡ 1 → me.0.reading ≡ Some (j, x)
+    → x ≢ sheet.limit
     → Allows (Kept sheet) slots id me word (λ _. x + 1) (λ _. Wrote (step slots word (x + 1) 0 none) me (x + 1))
 Wrote-allowed sheet slots id me word j x is_register meet part read below s r _ at _ =
     let n : ℕ = sheet.voters in
     let u = me.0 in
     let w : View = record u { reading = None; passes = u.passes ++ (x + 1 - 1) ∷ [] } in
-    let mine : IsReading sheet (slice_index s.words n) (record u { reading = Some (j, x) }) = subst (λ (o : Option (ℕ × ℕ)). IsReading sheet (slice_index s.words n) (record u { reading = o })) read (r.readings id u at) in
+    let mine : IsReading sheet (slice_index s.words n) (record u { reading = Some (j, x) }) = subst
+    (λ (o : Option (ℕ × ℕ)). IsReading sheet (slice_index s.words n) (record u { reading = o })) read (r.readings id u at) in
     let is : x ≡ slice_index s.words n = mine.2 in
     let kept : IsKept sheet (set s.words n (x + 1)) (set s.views id w) = register_step sheet s r id u w at (x + 1) refl refl refl refl
-    (each-set_view (IsReading sheet (x + 1)) s.views id w (λ i z apart e. other_reading sheet s r meet id i u z apart at e j mine.0 mine.1 (slice_index s.words n) (x + 1) z.reading (r.readings i z e)) tt)
+    (each-set_view (IsReading sheet (x + 1)) s.views id w (λ i z apart e. other_reading sheet s r meet id i u z apart at e j mine.0 mine.1 (slice_index s.words n)
+    (x + 1) z.reading (r.readings i z e)) tt)
     (λ h. let a : sum_below h (slice_index s.words n) ≡ sum_below h x = ap (sum_below h) (sym is) in
     let b : h (x + 1 - 1) ≡ h x = ap h (omega arith) in
     omega (arith, sum_by_push h u.passes (x + 1 - 1), sum_below-next h x))
@@ -123,4 +128,10 @@ Wrote-allowed sheet slots id me word j x is_register meet part read below s r _ 
     )
 
 pub Counted-allowed : (sheet : Setting) (slots id : ℕ) (me : Mine) → Allows (Kept sheet) slots id me 0 (λ n. n) (Counted (step slots 0 0 0 none) me)
-Counted-allowed sheet slots id me s r _ at _ = (me.0, keeps, tt, IsKept-unmoved sheet s r id me.0 at 0, (refl, omega (arith, elem-le-sum_by (λ (z : View). z.parts) s.views id me.0 at, r.parts, r.few)))
+Counted-allowed sheet slots id me s r _ at _ = (
+  me.0,
+  keeps,
+  tt,
+  IsKept-unmoved sheet s r id me.0 at 0,
+  (refl, omega (arith, elem-le-sum_by (λ (z : View). z.parts) s.views id me.0 at, r.parts, r.few)),
+)

@@ -21,7 +21,8 @@ some_voter u count fv fc kept v r free = omega (arith, r.parts, r.enough, flags_
 pub some_client : (u : View) (count : ℕ) (fv fc : List Bool) (kept : List (ℕ × ℕ)) (v : ℕ) → IsRoot u count fv fc kept → get_or fc v false ≡ true → 1 < u.parts
 some_client u count fv fc kept v r free = omega (arith, r.parts, r.enough, flags_set fc v free)
 
-pub IsRoot-with_client : (u : View) (count : ℕ) (fv fc : List Bool) (kept : List (ℕ × ℕ)) (w : View) (more : List (ℕ × ℕ)) → IsRoot u count fv fc kept → w.parts ≡ 1 → w.passes ≡ map (λ p. p.1) more → IsRoot (with_client u w) (count + 1) fv fc (kept ++ more)
+pub IsRoot-with_client : (u : View) (count : ℕ) (fv fc : List Bool) (kept : List (ℕ × ℕ)) (w : View) (more : List (ℕ × ℕ)) → IsRoot u count fv fc kept → w.parts ≡ 1
+    → w.passes ≡ map (λ p. p.1) more → IsRoot (with_client u w) (count + 1) fv fc (kept ++ more)
 IsRoot-with_client u count fv fc kept w more r one passes = record {
   parts = (λ i. r.parts i + one i);
   enough = omega (arith, r.enough);
@@ -48,7 +49,8 @@ get_or-replicate_false zero k = refl
 get_or-replicate_false (suc n) zero = refl
 get_or-replicate_false (suc n) (suc k) = get_or-replicate_false n k
 
-pub IsRoot-fresh : (voters clients count : ℕ) (fv fc : List Bool) → count ≡ voters + clients → sum_by weight fv + sum_by weight fc ≤ count → ((v : ℕ) → get_or fv v false ≡ true → v < 64) → IsRoot (root_view voters clients) count fv fc []
+pub IsRoot-fresh : (voters clients count : ℕ) (fv fc : List Bool) → count ≡ voters + clients → sum_by weight fv + sum_by weight fc ≤ count → ((v : ℕ) → get_or fv v false ≡ true → v < 64)
+    → IsRoot (root_view voters clients) count fv fc []
 IsRoot-fresh voters clients count fv fc all enough only = record {
   parts = ap (λ (n : ℕ). n + 1) (sym all);
   enough = enough;

@@ -1,5 +1,6 @@
 -- Steps on the word of one voter's vote keep the rule.
-use Rattle.std.proofs.Common.{◌≡◌, ◌≢◌, ◌⊎◌, inl, inr, ⊎_elim, ℕ, ◌+◌, ◌^◌, ◌/◌, ◌%◌, ◌<◌, ◌≤◌, eqb, List, [], length, set, get_or, Some, None, refl, sym, ap, ◌∙◌, subst, arith, length-set, get_or-set_same, get_or-set_other, eq-eqb, ne_eqb}
+use Rattle.std.proofs.Common.{◌≡◌, ◌≢◌, ◌⊎◌, inl, inr, ⊎_elim, ℕ, ◌+◌, ◌^◌, ◌/◌, ◌%◌, ◌<◌, ◌≤◌, eqb, List, [], length, set, get_or, Some, None, refl, sym, ap, ◌∙◌, subst, arith}
+use Rattle.std.proofs.Common.{length-set, get_or-set_same, get_or-set_other, eq-eqb, ne_eqb}
 use Rattle.std.specs.Prelude.{slice_index, Option}
 use Rattle.std.specs.List.{sum_by}
 use Rattle.std.proofs.lemmas.List.{set-get_or}
@@ -21,7 +22,7 @@ use Rattle.board.specs.Words.{name_of, offered, taken, returned, word_of, IsSett
 use Rattle.board.specs.Roots.{IsCurrent}
 use Rattle.board.specs.Views.{voter_view}
 use Rattle.board.proofs.VoterFields.{length-voter_view, slice_index-voter_view}
-use Rattle.board.specs.Rule.{stands, holds_vote, IsVote, IsReading, IsKept, Kept}
+use Rattle.board.specs.Rule.{present, holds_vote, IsVote, IsReading, IsKept, Kept}
 use Rattle.board.specs.Moves.{Mine, Granted, Settled, Took, GaveBack}
 use Rattle.board.proofs.Words.{is-same, is-apart, is-one, is-next, is-taken, offered-name, taken-name, returned-name, offered-not_taken, returned-not_taken, free-not_taken}
 
@@ -34,13 +35,14 @@ pub each-set_view : (F : View → Type 0) (views : List View) (id : ℕ) (w : Vi
 each-set_view F views id w others mine i u e = ⊎_elim (λ (x : (i ≡ id) × (w ≡ u)). subst F x.1 mine) (λ (x : (i ≢ id) × (get_elem? views i ≡ some u)). others i u x.0 x.1) (at_set views id i w u e)
 
 -- what the word says where a seat stands for its voter
-pub IsVote-stands : (v word : ℕ) (views : List View) → IsVote v word views → (id : ℕ) (u : View) → get_elem? views id ≡ some u → (name : ℕ) → slice_index u.voters v ≡ name + 1 → word / 4 ≡ name
-IsVote-stands v word views r id u at name here =
+pub IsVote-present : (v word : ℕ) (views : List View) → IsVote v word views → (id : ℕ) (u : View) → get_elem? views id ≡ some u → (name : ℕ) → slice_index u.voters v ≡ name + 1 → word / 4 ≡ name
+IsVote-present v word views r id u at name here =
     let one = is-same (slice_index u.voters v) (name + 1) here in
-    is-one (word / 4) name (omega (arith, elem-le-sum_by (stands v name) views id u at, r.current name))
+    is-one (word / 4) name (omega (arith, elem-le-sum_by (present v name) views id u at, r.current name))
 
 -- what the word says where a seat holds its vote
-pub IsVote-holds : (v word : ℕ) (views : List View) → IsVote v word views → (id : ℕ) (u : View) → get_elem? views id ≡ some u → slice_index u.held v ≢ 0 → word ≡ taken (name_of u.client (slice_index u.held v))
+pub IsVote-holds : (v word : ℕ) (views : List View) → IsVote v word views → (id : ℕ) (u : View) → get_elem? views id ≡ some u → slice_index u.held v ≢ 0
+    → word ≡ taken (name_of u.client (slice_index u.held v))
 IsVote-holds v word views r id u at here =
     let name : ℕ = name_of u.client (slice_index u.held v) in
     let one = is-same name name refl in
@@ -49,12 +51,12 @@ IsVote-holds v word views r id u at here =
 -- one word with its name's state changes with one view
 vote_after : (v word x : ℕ) (views : List View) → IsVote v word views → (id : ℕ) (u w : View) → get_elem? views id ≡ some u
     → ((x ≡ 0) ⊎ ((64 ≤ x / 4) × (1 ≤ x % 4)))
-    → ((name : ℕ) → is (word / 4) name + stands v name w ≡ is (x / 4) name + stands v name u)
+    → ((name : ℕ) → is (word / 4) name + present v name w ≡ is (x / 4) name + present v name u)
     → ((name : ℕ) → 64 ≤ name → is word (taken name) + holds_vote v name w ≡ is x (taken name) + holds_vote v name u)
     → IsVote v x (set views id w)
 vote_after v word x views r id u w at shape current held = record {
   shape = shape;
-  current = λ name. omega (arith, sum_by-set_elem (stands v name) views id u w at, r.current name, current name);
+  current = λ name. omega (arith, sum_by-set_elem (present v name) views id u w at, r.current name, current name);
   held = λ name large. omega (arith, sum_by-set_elem (holds_vote v name) views id u w at, r.held name large, held name large);
 }
 
@@ -86,7 +88,8 @@ vote_step sheet s r id u w at v x inside others mine client parts passes reading
           (each-set_view (IsReading sheet (slice_index s.words n)) s.views id w (λ i z _ e. r.readings i z e) reading);
       passes = λ h.
           let same : sum_by h w.passes ≡ sum_by h u.passes = ap (sum_by h) passes in
-          let whole : sum_by (λ (z : View). sum_by h z.passes) (set s.views id w) ≡ sum_below h (slice_index s.words n) = omega (arith, sum_by-set_elem (λ (z : View). sum_by h z.passes) s.views id u w at, r.passes h) in
+          let whole : sum_by (λ (z : View). sum_by h z.passes) (set s.views id w) ≡ sum_below h (slice_index s.words n) = omega
+          (arith, sum_by-set_elem (λ (z : View). sum_by h z.passes) s.views id u w at, r.passes h) in
           whole ∙ ap (sum_below h) (sym register);
       parts = omega (arith, sum_by-set_elem (λ (z : View). z.parts) s.views id u w at, r.parts);
       idle = each-set_view (λ z. z.parts ≡ 0 → z.passes ≡ []) s.views id w (λ i z _ e. r.idle i z e) (λ alone. passes ∙ r.idle id u at (sym parts ∙ alone));
@@ -97,7 +100,8 @@ vote_step sheet s r id u w at v x inside others mine client parts passes reading
     }
 
 -- nothing changes
-pub IsKept-unmoved : (sheet : Setting) (s : TableState) → Kept sheet s → (id : ℕ) (u : View) → get_elem? s.views id ≡ some u → (i : ℕ) → IsKept sheet (set s.words i (slice_index s.words i)) (set s.views id u)
+pub IsKept-unmoved : (sheet : Setting) (s : TableState) → Kept sheet s → (id : ℕ) (u : View) → get_elem? s.views id ≡ some u → (i : ℕ)
+    → IsKept sheet (set s.words i (slice_index s.words i)) (set s.views id u)
 IsKept-unmoved sheet s r id u at i = subst (λ (y : List ℕ × List View). IsKept sheet y.0 y.1) (λ j. (sym (set-get_or s.words i 0) j, sym (set_again s.views id u at) j)) r
 
 free_word : (v word : ℕ) (views : List View) → IsVote v word views → word / 4 ≡ 0 → word ≡ 0
@@ -110,7 +114,7 @@ Granted-allowed sheet slots id me v name inside large room mine s r _ at _ =
     let w : View = record u { voters = set u.voters v (offered name / 4 + 1) } in
     let word : ℕ = slice_index s.words v in
     let vote = r.votes v inside in
-    let free : word ≡ 0 = free_word v word s.views vote (IsVote-stands v word s.views vote id u at 0 mine) in
+    let free : word ≡ 0 = free_word v word s.views vote (IsVote-present v word s.views vote id u at 0 mine) in
     let now : slice_index w.voters v ≡ name + 1 = get_or-set_same u.voters v (offered name / 4 + 1) 0 room ∙ ap (λ (k : ℕ). k + 1) (offered-name name) in
     let after : IsVote v (offered name) (set s.views id w) = vote_after v word (offered name) s.views vote id u w at (inr (omega arith, omega arith))
     (λ k. let a : is (slice_index w.voters v) (k + 1) ≡ is name k = ap (λ (y : ℕ). is y (k + 1)) now ∙ is-next name k in
@@ -127,7 +131,8 @@ Granted-allowed sheet slots id me v name inside large room mine s r _ at _ =
     )
 
 -- the same by the word
-pub Granted-allowed_by_word : (sheet : Setting) (slots id : ℕ) (me : Mine) (v name word : ℕ) → v < sheet.voters → 64 ≤ name → v < length me.0.voters → slice_index me.0.voters v ≡ 1 → word ≡ offered name
+pub Granted-allowed_by_word : (sheet : Setting) (slots id : ℕ) (me : Mine) (v name word : ℕ) → v < sheet.voters → 64 ≤ name → v < length me.0.voters → slice_index me.0.voters v ≡ 1
+    → word ≡ offered name
     → Allows (Kept sheet) slots id me v (λ _. word) (Granted (step slots v word 0 none) me)
 Granted-allowed_by_word sheet slots id me v name word inside large room mine is_word =
     subst (λ (x : ℕ). Allows (Kept sheet) slots id me v (λ _. x) (Granted (step slots v x 0 none) me)) (sym is_word) (Granted-allowed sheet slots id me v name inside large room mine)
@@ -155,7 +160,7 @@ module _ (sheet : Setting) (slots id : ℕ) (me : Mine) (v old new : ℕ) (w : V
         ((λ e. absurd (other e)), λ _. refl),
       ))
 
--- a step that tells one thing tells what follows from it
+-- what follows from what a step shows is shown by it too
 Allows-weaken : (sheet : Setting) (slots id : ℕ) (me : Mine) (v : ℕ) (f : ℕ → ℕ) (then more : ℕ → Mine → Type 0) → ((found : ℕ) (m : Mine) → then found m → more found m)
     → Allows (Kept sheet) slots id me v f then → Allows (Kept sheet) slots id me v f more
 Allows-weaken sheet slots id me v f then more follow allowed s r long at small =
@@ -169,11 +174,13 @@ Settled-allowed sheet slots id me v name old inside large room mine which =
     let u = me.0 in
     let w : View = record u { voters = set u.voters v 1 } in
     let named : old / 4 ≡ name = ⊎_elim (λ (e : old ≡ offered name). ap (λ (y : ℕ). y / 4) e ∙ offered-name name) (λ (e : old ≡ returned name). ap (λ (y : ℕ). y / 4) e ∙ returned-name name) which in
-    let none_taken : (k : ℕ) → is old (taken k) ≡ 0 = λ k. ⊎_elim (λ (e : old ≡ offered name). ap (λ (y : ℕ). is y (taken k)) e ∙ offered-not_taken name k) (λ (e : old ≡ returned name). ap (λ (y : ℕ). is y (taken k)) e ∙ returned-not_taken name k) which in
+    let none_taken : (k : ℕ) → is old (taken k) ≡ 0 = λ k. ⊎_elim (λ (e : old ≡ offered name). ap (λ (y : ℕ). is y (taken k)) e ∙ offered-not_taken name k)
+    (λ (e : old ≡ returned name). ap (λ (y : ℕ). is y (taken k)) e ∙ returned-not_taken name k) which in
     let now : slice_index w.voters v ≡ 1 = get_or-set_same u.voters v 1 0 room in
     let f : ℕ → ℕ = λ n. either (eqb n old) 0 n in
     let known : slice_index u.voters v ≡ old / 4 + 1 = mine ∙ ap (λ (y : ℕ). y + 1) (sym named) in
-    let state : (old ≡ offered (old / 4)) ⊎ (old ≡ returned (old / 4)) = ⊎_elim (λ (e : old ≡ offered name). inl (e ∙ ap offered (sym named))) (λ (e : old ≡ returned name). inr (e ∙ ap returned (sym named))) which in
+    let state : (old ≡ offered (old / 4)) ⊎ (old ≡ returned (old / 4)) = ⊎_elim (λ (e : old ≡ offered name). inl (e ∙ ap offered (sym named)))
+    (λ (e : old ≡ returned name). inr (e ∙ ap returned (sym named))) which in
     Allows-weaken sheet slots id me v f (Then sheet slots id me v old 0 w) (Settled (step slots v old 0 none) me) (λ found m h. (known, state, refl, h.0, h.1)) (swapped sheet slots id me v old 0 w
     (λ s r at e.
     let word : ℕ = slice_index s.words v in
@@ -195,10 +202,12 @@ Settled-allowed_by_vote sheet slots id me v Free old new inside few known is_old
 Settled-allowed_by_vote sheet slots id me v (Held client grant) old new inside few known is_old is_new = absurd known
 Settled-allowed_by_vote sheet slots id me v (Offered client grant) old new inside few known is_old is_new =
     subst (λ (k : ℕ). Allows (Kept sheet) slots id me v (λ n. either (eqb n old) k n) (Settled (step slots v old k none) me)) (sym is_new)
-    (Settled-allowed sheet slots id me v (name_of client grant) old inside (omega arith) (length-voter_view me v (Some (client, grant)) known.0 few) (slice_index-voter_view me v (Some (client, grant)) known.0 few) (inl is_old))
+    (Settled-allowed sheet slots id me v (name_of client grant) old inside (omega arith) (length-voter_view me v (Some (client, grant)) known.0 few)
+    (slice_index-voter_view me v (Some (client, grant)) known.0 few) (inl is_old))
 Settled-allowed_by_vote sheet slots id me v (Returned client grant) old new inside few known is_old is_new =
     subst (λ (k : ℕ). Allows (Kept sheet) slots id me v (λ n. either (eqb n old) k n) (Settled (step slots v old k none) me)) (sym is_new)
-    (Settled-allowed sheet slots id me v (name_of client grant) old inside (omega arith) (length-voter_view me v (Some (client, grant)) known.0 few) (slice_index-voter_view me v (Some (client, grant)) known.0 few) (inr is_old))
+    (Settled-allowed sheet slots id me v (name_of client grant) old inside (omega arith) (length-voter_view me v (Some (client, grant)) known.0 few)
+    (slice_index-voter_view me v (Some (client, grant)) known.0 few) (inr is_old))
 
 -- a reading stays where one more vote is held
 more_held : (q held : List ℕ) (v g : ℕ) → v < length held → g ≢ 0 → HoldsAll q held → HoldsAll q (set held v g)
@@ -222,7 +231,8 @@ Took-allowed sheet slots id me v grant inside large client room mine =
     let now : slice_index w.held v ≡ grant = get_or-set_same u.held v (offered name / 256) 0 room ∙ is_grant in
     let f : ℕ → ℕ = λ n. either (eqb n (offered name)) (taken name) n in
     let named : name ≡ name_of u.client (offered name / 256) = ap (name_of u.client) (sym is_grant) in
-    Allows-weaken sheet slots id me v f (Then sheet slots id me v (offered name) (taken name) w) (Took (step slots v (offered name) (taken name) none) me) (λ found m h. (ap offered named, ap taken named, h.0, h.1)) (swapped sheet slots id me v (offered name) (taken name) w
+    Allows-weaken sheet slots id me v f (Then sheet slots id me v (offered name) (taken name) w) (Took (step slots v (offered name) (taken name) none) me)
+    (λ found m h. (ap offered named, ap taken named, h.0, h.1)) (swapped sheet slots id me v (offered name) (taken name) w
     (λ s r at e.
     let word : ℕ = slice_index s.words v in
     let vote = r.votes v inside in

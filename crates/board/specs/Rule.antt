@@ -14,8 +14,8 @@ use Rattle.numbers.specs.Sums.{sum_below}
 
 -- 1 if the seat stands for voter v and the grant that it knows has this name, else 0; name 0 means
 -- that it knows no current grant
-abbrev pub stands : ℕ → ℕ → View → ℕ
-stands v name u = is (slice_index u.voters v) (name + 1)
+abbrev pub present : ℕ → ℕ → View → ℕ
+present v name u = is (slice_index u.voters v) (name + 1)
 
 -- 1 if the seat holds the vote of voter v under the grant with this name, else 0
 abbrev pub holds_vote : ℕ → ℕ → View → ℕ
@@ -25,7 +25,7 @@ holds_vote v name u = is (name_of u.client (slice_index u.held v)) name
 -- v's vote is held, exactly one seat holds it, under that grant. Otherwise no seat holds it.
 pub record IsVote (v word : ℕ) (views : List View) : Type 0 where
   pub shape : (word ≡ 0) ⊎ ((64 ≤ word / 4) × (1 ≤ word % 4))
-  pub current : (name : ℕ) → sum_by (stands v name) views ≡ is (word / 4) name
+  pub current : (name : ℕ) → sum_by (present v name) views ≡ is (word / 4) name
   pub held : (name : ℕ) → 64 ≤ name → sum_by (holds_vote v name) views ≡ is word (taken name)
 
 -- if the seat has a reading, it holds the votes of the quorum that it read for, and the number read

@@ -21,8 +21,8 @@ IsWordOf (suc n) word = (word ≡ offered (suc n)) ⊎ (word ≡ taken (suc n)) 
 
 -- Exactly one seat stands for the voter: the voter's own seat, or the root if that seat was not
 -- given or was joined again.
-abbrev pub OneStandsFor : ℕ → List View → Type 0
-OneStandsFor v views =
+abbrev pub OneSeatHas : ℕ → List View → Type 0
+OneSeatHas v views =
     (i : ℕ) × (u : View) × (get_elem? views i ≡ some u) × (slice_index u.voters v ≢ 0)
     × ((k : ℕ) (w : View) → get_elem? views k ≡ some w → slice_index w.voters v ≢ 0 → k ≡ i)
 
@@ -41,7 +41,7 @@ IsInside b u = (j : ℕ) × (j < length b.quorums) × HoldsAll (quorum_at b.quor
 -- - A reading is the register's number, and its seat holds the quorum that it read for.
 -- - The numbers of all passes are those below the register, each once.
 pub record KeepsVotes (b : Setting) (words : List ℕ) (views : List View) : Type 0 where
-  pub one_stands : (v : ℕ) → v < b.voters → OneStandsFor v views
+  pub one_has : (v : ℕ) → v < b.voters → OneSeatHas v views
   pub granted : (v name i : ℕ) (u : View) → v < b.voters → get_elem? views i ≡ some u
       → slice_index u.voters v ≡ name + 1 → IsWordOf name (slice_index words v)
   pub held : (v c g : ℕ) → v < b.voters → c < max_clients → 1 ≤ g

@@ -6,7 +6,7 @@ ghost use Rattle.numbers.specs.Sums.{AreAllBelow};
 ghost use Rattle.quorum_set.specs.Meetings.{AllMeet};
 ghost use Rattle.board.specs.Quorums.{place_of, HasQuorum};
 ghost use Rattle.board.specs.Roots.{weight};
-ghost use Rattle.board.specs.Seats.{BoardState, RootState};
+ghost use Rattle.board.specs.Seats.{BoardState};
 
 use crate::fault::BoardFault;
 use crate::root::BoardRoot;

@@ -1,12 +1,12 @@
 //! The seat of a client: it takes votes and gives them back, and reads and writes the register.
-ghost use Rattle.std.specs.Prelude.{◌≡◌, ◌≢◌, ◌⊎◌, ℕ, ◌+◌, ◌<◌, ◌≤◌, ◌++◌, ◌∷◌, [], length, None, Some, Err, IsSome, MatchBool, MatchOption, IfOk, IfErr, IfSome, slice_index, slice_set};
+ghost use Rattle.std.specs.Prelude.{◌≡◌, ◌≢◌, ◌⊎◌, ◌+◌, ◌<◌, ◌≤◌, ◌++◌, ◌∷◌, [], length, None, Some, Err, IsSome, MatchBool, MatchOption, IfOk, IfErr, IfSome, slice_index, slice_set};
 ghost use Rattle.std.specs.List.{All};
 ghost use mathlib.Core.Option.{none};
 ghost use Rattle.atomic_table.specs.Table.{step};
 ghost use Rattle.numbers.specs.Bounds.{max_voters, max_clients, max_stamp};
 ghost use Rattle.board.specs.Moves.{Read};
 ghost use Rattle.board.specs.Quorums.{quorum_at, place_of, HasQuorum, HoldsAll};
-ghost use Rattle.board.specs.Seats.{BoardState, ClientSeatState};
+ghost use Rattle.board.specs.Seats.{ClientSeatState};
 
 use crate::board::Board;
 use crate::fault::BoardFault;

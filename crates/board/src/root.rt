@@ -3,7 +3,7 @@ ghost use Rattle.std.specs.Prelude.{◌≡◌, ◌≢◌, ℕ, ◌+◌, ◌-◌,
 ghost use Rattle.numbers.specs.Bounds.{max_voters, max_clients};
 ghost use Rattle.board.specs.Faults.{IsOut};
 ghost use Rattle.board.specs.Roots.{passes_of};
-ghost use Rattle.board.specs.Seats.{BoardState, RootState, VoterSeatState, ClientSeatState};
+ghost use Rattle.board.specs.Seats.{RootState};
 ghost use Rattle.board.specs.Views.{voter_view, client_view, without_voter, without_client, with_voter};
 ghost use Rattle.board.specs.Words.{nobody};
 

@@ -1,8 +1,8 @@
 //! The seat of a voter: it grants the voter's vote, and settles the grant.
-ghost use Rattle.std.specs.Prelude.{◌≡◌, ◌⊎◌, ℕ, ◌+◌, ◌<◌, ◌≤◌, [], None, Some, IsSome, MatchBool};
+ghost use Rattle.std.specs.Prelude.{◌≡◌, ◌+◌, ◌<◌, ◌≤◌, [], None, Some, IsSome, MatchBool};
 ghost use Rattle.numbers.specs.Bounds.{max_voters, max_stamp};
 ghost use Rattle.board.specs.Roots.{IsCurrent};
-ghost use Rattle.board.specs.Seats.{BoardState, VoterSeatState};
+ghost use Rattle.board.specs.Seats.{VoterSeatState};
 ghost use Rattle.board.specs.Views.{voter_view};
 ghost use Rattle.board.specs.Words.{IsSettledFrom};
 

@@ -5,7 +5,7 @@ use Rattle.std.specs.List.{slice_split, list_all}
 use Rattle.std.specs.Option.{option_map, option_and_then}
 use Rattle.std.proofs.lemmas.Bool.{and_parts, leb-true, le-leb, eqb-true, ne_eqb, cases_eq}
 use Rattle.quorum_set.specs.Capacities.{are_unit}
-use Rattle.certificate.specs.PlanTexts.{number_of, numbers_of, behind, read_weights, read_capacities, are_in_range, are_told, option_holds, is_within, are_within}
+use Rattle.certificate.specs.PlanTexts.{number_of, numbers_of, behind, read_weights, read_capacities, are_in_range, have_a_line, option_holds, is_within, are_within}
 use Rattle.certificate.proofs.Numbers.{number_of-HasDigits}
 use Rattle.texts.specs.Cuts.{cut_at}
 use Rattle.texts.proofs.CutLemmas.{slice_split-cut_at, slice_split-no_cut}
@@ -33,14 +33,17 @@ same-Bool false false to from = refl
 
 -- Word by word, as a loop does
 
-after_word : (least most : ℕ) (rest word after : List ℕ) (all : Bool) → cut_at 32 rest ≡ Some (word, after) → are_within least most (words_of rest) ≡ all → is_within least most word && are_within least most (words_of after) ≡ all
+after_word : (least most : ℕ) (rest word after : List ℕ) (all : Bool) → cut_at 32 rest ≡ Some (word, after) → are_within least most (words_of rest) ≡ all
+    → is_within least most word && are_within least most (words_of after) ≡ all
 after_word least most rest word after all cut so_far = sym (ap (are_within least most) (slice_split-cut_at rest (word, after) cut)) ∙ so_far
 
-pub are_within-next_word : (least most : ℕ) (rest word after : List ℕ) (all : Bool) → cut_at 32 rest ≡ Some (word, after) → is_within least most word ≡ true → are_within least most (words_of rest) ≡ all → are_within least most (words_of after) ≡ all
+pub are_within-next_word : (least most : ℕ) (rest word after : List ℕ) (all : Bool) → cut_at 32 rest ≡ Some (word, after) → is_within least most word ≡ true
+    → are_within least most (words_of rest) ≡ all → are_within least most (words_of after) ≡ all
 are_within-next_word least most rest word after all cut holds so_far =
     sym (ap (λ b. b && are_within least most (words_of after)) holds) ∙ after_word least most rest word after all cut so_far
 
-pub are_within-bad_word : (least most : ℕ) (rest word after : List ℕ) (all : Bool) → cut_at 32 rest ≡ Some (word, after) → is_within least most word ≡ false → are_within least most (words_of rest) ≡ all → false ≡ all
+pub are_within-bad_word : (least most : ℕ) (rest word after : List ℕ) (all : Bool) → cut_at 32 rest ≡ Some (word, after) → is_within least most word ≡ false
+    → are_within least most (words_of rest) ≡ all → false ≡ all
 are_within-bad_word least most rest word after all cut fails so_far =
     sym (ap (λ b. b && are_within least most (words_of after)) fails) ∙ after_word least most rest word after all cut so_far
 
@@ -106,13 +109,14 @@ is_some-cond : (b : Bool) (ns : List ℕ) → b ≡ is_some (cond b (Some ns) No
 is_some-cond true ns = refl
 is_some-cond false ns = refl
 
-all_hold-told : (r : Option (List ℕ)) → all_hold 1 1000 r && not (all_hold 1 1 r) ≡ is_some (option_and_then (λ ns. cond (are_told ns) (Some ns) None) r)
-all_hold-told None = refl
-all_hold-told (Some ns) = ap (λ b. are_in_range ns && not b) (in_range-are_unit ns) ∙ is_some-cond (are_told ns) ns
+all_hold-stated : (r : Option (List ℕ)) → all_hold 1 1000 r && not (all_hold 1 1 r) ≡ is_some (option_and_then (λ ns. cond (have_a_line ns) (Some ns) None) r)
+all_hold-stated None = refl
+all_hold-stated (Some ns) = ap (λ b. are_in_range ns && not b) (in_range-are_unit ns) ∙ is_some-cond (have_a_line ns) ns
 
-pub is_some-read_capacities : (line rest : List ℕ) → Some rest ≡ behind (codes "capacity ") line → are_within 1 1000 (words_of rest) && not (are_within 1 1 (words_of rest)) ≡ is_some (read_capacities line)
+pub is_some-read_capacities : (line rest : List ℕ) → Some rest ≡ behind (codes "capacity ") line
+    → are_within 1 1000 (words_of rest) && not (are_within 1 1 (words_of rest)) ≡ is_some (read_capacities line)
 is_some-read_capacities line rest e =
     ap (λ b. b && not (are_within 1 1 (words_of rest))) (are_within-all_hold 1 1000 (words_of rest))
     ∙ ap (λ b. all_hold 1 1000 (numbers_of (words_of rest)) && not b) (are_within-all_hold 1 1 (words_of rest))
-    ∙ all_hold-told (numbers_of (words_of rest))
-    ∙ ap (λ o. is_some (option_and_then (λ ns. cond (are_told ns) (Some ns) None) (option_and_then (λ rest. numbers_of (words_of rest)) o))) e
+    ∙ all_hold-stated (numbers_of (words_of rest))
+    ∙ ap (λ o. is_some (option_and_then (λ ns. cond (have_a_line ns) (Some ns) None) (option_and_then (λ rest. numbers_of (words_of rest)) o))) e

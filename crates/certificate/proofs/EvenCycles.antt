@@ -30,14 +30,14 @@ cond-times false k x y e = omega arith
 
 pub count_of-even : (w : Weighted) (k : ℕ) (list : List ℕ) → length w.quorum_weights ≡ length w.system.quorums → ((j : ℕ) → times j list ≡ k * get_or w.quorum_weights j 0)
     → (i : ℕ) → count_of w.system i list ≡ k * weight_on i w.system.quorums w.quorum_weights
-count_of-even w k list e stands i =
+count_of-even w k list e present i =
     let qs = w.system.quorums in
     let ws = w.quorum_weights in
     let n = length qs in
     let on : ℕ → Bool = λ j. has (get_or qs j []) i in
-    let none = sum_by-none_above n list (λ j past. omega (arith, stands j, ap (λ t. k * t) (get_or_past ws j 0 (omega (arith, e))))) in
+    let none = sum_by-none_above n list (λ j past. omega (arith, present j, ap (λ t. k * t) (get_or_past ws j 0 (omega (arith, e))))) in
     let even = sum_below-same n (λ j. cond (on j) 1 0 * times j list) (λ j. k * cond (on j) (get_or ws j 0) 0)
-    (λ j lt. cond-times (on j) k (times j list) (get_or ws j 0) (stands j)) in
+    (λ j lt. cond-times (on j) k (times j list) (get_or ws j 0) (present j)) in
     omega (
       arith,
       sum_by-sum_below n (λ j. cond (on j) 1 0) list,
@@ -64,8 +64,8 @@ greatest_below-times (suc n) k f g e =
 
 pub busiest_of-even : (w : Weighted) (k : ℕ) (list : List ℕ) → length w.quorum_weights ≡ length w.system.quorums → ((j : ℕ) → times j list ≡ k * get_or w.quorum_weights j 0)
     → busiest_of w.system list ≡ k * busiest_count w
-busiest_of-even w k list e stands =
-    greatest_below-times w.system.voters k (λ i. count_of w.system i list) (λ i. weight_on i w.system.quorums w.quorum_weights) (count_of-even w k list e stands)
+busiest_of-even w k list e present =
+    greatest_below-times w.system.voters k (λ i. count_of w.system i list) (λ i. weight_on i w.system.quorums w.quorum_weights) (count_of-even w k list e present)
 
 -- a voter's count of k cycles, next to k times the ratio of one
 count-times-le : (k c q p cap count : ℕ) → count ≡ k * c → c * q ≤ p * cap → count * q ≤ k * p * cap
@@ -82,10 +82,10 @@ count-times-ge k c q p cap count e same =
 
 pub ratio_of-even : (w : Weighted) (k : ℕ) (list : List ℕ) → IsCertificate w → ((j : ℕ) → times j list ≡ k * get_or w.quorum_weights j 0)
     → ratio_of w.system w.capacities list ≡ lowest_terms (k * (cycle_ratio w).0) (cycle_ratio w).1
-ratio_of-even w k list h stands =
+ratio_of-even w k list h present =
     let s = w.system in
     let r = cycle_ratio w in
-    let counts = count_of-even w k list h.quorums stands in
+    let counts = count_of-even w k list h.quorums present in
     let found = greatest_ratio-reached s.voters w.capacities (cycle_count w) h.capacities h.coterie.some_voter in
     greatest_ratio-is s.voters w.capacities (λ i. count_of s i list) h.capacities (k * r.0) r.1
     (greatest_ratio-some s.voters w.capacities (cycle_count w) h.capacities)

@@ -1,4 +1,4 @@
--- Weights have no fault exactly where they are a certificate.
+-- Weights have no fault if and only if they are a certificate.
 use Rattle.std.proofs.Common.{◌≡◌, Bool, true, false, cond, refl, arith, Option, None, Some}
 use Rattle.std.proofs.lemmas.Bool.{and_parts, eqb-true, eqb-false, eq-eqb, ne_eqb, ltb-false, le-ltb, not-false, or_parts, or_from}
 use Rattle.quorum_set.specs.Capacities.{AreCapacities}

@@ -89,8 +89,8 @@ number_of-HasDigits digits bs n e =
     let parts = cond_some (is_number digits bs) (digits_value 10 bs) n e in
     subst (HasDigits digits) parts.1 (value-HasDigits digits bs (is_number-IsNumber digits bs parts.0))
 
-pub number_of-spelled : (digits : ℕ) (bs : List ℕ) (n : ℕ) → 0 < digits → digits ≤ 19 → bs ≡ decimal n → HasDigits digits n → number_of digits bs ≡ Some n
-number_of-spelled digits bs n some few e short = ap (number_of digits) e ∙ number_of-decimal digits n some few short
+pub number_of-written : (digits : ℕ) (bs : List ℕ) (n : ℕ) → 0 < digits → digits ≤ 19 → bs ≡ decimal n → HasDigits digits n → number_of digits bs ≡ Some n
+number_of-written digits bs n some few e short = ap (number_of digits) e ∙ number_of-decimal digits n some few short
 
 None-from_no_value : {X : Type 0} (o : Option X) → ((x : X) → o ≢ Some x) → o ≡ None
 None-from_no_value None none = refl

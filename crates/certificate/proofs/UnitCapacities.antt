@@ -14,7 +14,8 @@ use Rattle.numbers.proofs.SumsBelow.{sum_below-list, sum_below-same}
 use Rattle.quorum_set.specs.Capacities.{AreCapacities, are_unit, unit_capacities}
 use Rattle.quorum_set.specs.Coteries.{IsCoterie}
 use Rattle.quorum_set.specs.Counts.{count_of, busiest_of}
-use Rattle.certificate.specs.Certificates.{Weighted, IsCertificate, IsOptimal, IsUnitCertificate, IsUnitOptimal, busiest_count, capacity_total, cycle_count, cycle_len, cycle_ratio, lightest_quorum, load_of, unit_load, voter_total}
+use Rattle.certificate.specs.Certificates.{Weighted, IsCertificate, IsOptimal, IsUnitCertificate, IsUnitOptimal, busiest_count, capacity_total, cycle_count, cycle_len, cycle_ratio}
+use Rattle.certificate.specs.Certificates.{lightest_quorum, load_of, unit_load, voter_total}
 use Rattle.certificate.specs.Ratios.{greatest_ratio}
 use Rattle.certificate.proofs.RatioLemmas.{greatest_ratio-is}
 

@@ -15,13 +15,15 @@ option_map-append_cons found n None = refl
 option_map-append_cons found n (Some ns) = ap Some (sym (append_assoc found (n ∷ []) ns))
 
 -- what the words are, by what the first is
-first_word : (found word : List ℕ) (words : List (List ℕ)) (o : Option ℕ) → number_of 7 word ≡ o → option_map (λ more. found ++ more) (numbers_of (word ∷ words)) ≡ option_map (λ more. found ++ more) (option_and_then (λ n. option_map (λ ns. n ∷ ns) (numbers_of words)) o)
+first_word : (found word : List ℕ) (words : List (List ℕ)) (o : Option ℕ) → number_of 7 word ≡ o
+    → option_map (λ more. found ++ more) (numbers_of (word ∷ words)) ≡ option_map (λ more. found ++ more) (option_and_then (λ n. option_map (λ ns. n ∷ ns) (numbers_of words)) o)
 first_word found word words o e = ap (λ o. option_map (λ more. found ++ more) (option_and_then (λ n. option_map (λ ns. n ∷ ns) (numbers_of words)) o)) e
 
 at_words : (found text : List ℕ) (words : List (List ℕ)) → slice_split (λ b. eqb b 32) text ≡ words → behind_found found text ≡ option_map (λ more. found ++ more) (numbers_of words)
 at_words found text words e = ap (λ ws. option_map (λ more. found ++ more) (numbers_of ws)) e
 
-pub behind_found-next_word : (found rest word after : List ℕ) (n : ℕ) (all : Option (List ℕ)) → cut_at 32 rest ≡ Some (word, after) → number_of 7 word ≡ Some n → behind_found found rest ≡ all → behind_found (found ++ n ∷ []) after ≡ all
+pub behind_found-next_word : (found rest word after : List ℕ) (n : ℕ) (all : Option (List ℕ)) → cut_at 32 rest ≡ Some (word, after) → number_of 7 word ≡ Some n
+    → behind_found found rest ≡ all → behind_found (found ++ n ∷ []) after ≡ all
 behind_found-next_word found rest word after n all cut is so_far =
     sym (option_map-append_cons found n (numbers_of (slice_split (λ b. eqb b 32) after)))
     ∙ sym (first_word found word (slice_split (λ b. eqb b 32) after) (Some n) is)

@@ -6,7 +6,7 @@ use Rattle.std.proofs.lemmas.List.{take_more, length-take}
 use Rattle.std.proofs.lemmas.Fmt.{decimal_digit}
 use Rattle.texts.specs.Lines.{text_of_lines}
 use Rattle.certificate.specs.PlanTexts.{spaced, version_of, title_line, load_line, cycle_line, capacity_lines}
-use Rattle.certificate.proofs.Spellings.{spaced-push}
+use Rattle.certificate.proofs.PlanLines.{spaced-push}
 
 pub spaced-first : (new text before ns : List ℕ) (k : ℕ) → k ≤ 0 → k < length ns → new ≡ text ++ decimal (get_or ns k 0) → text ≡ before → before ≡ spaced (take k ns) → new ≡ spaced (take (k + 1) ns)
 spaced-first new text before ns k low lt written same is =
@@ -15,7 +15,8 @@ spaced-first new text before ns k low lt written same is =
     let one : spaced (take k ns ++ get_or ns k 0 ∷ []) ≡ decimal (get_or ns k 0) = rw none refl in
     written ∙ ap (λ t. t ++ decimal (get_or ns k 0)) (same ∙ is ∙ nothing) ∙ sym one ∙ ap spaced (sym (take_more ns k 0 lt))
 
-pub spaced-next : (new text pushed before ns : List ℕ) (k : ℕ) → 0 < k → k < length ns → new ≡ text ++ decimal (get_or ns k 0) → text ≡ pushed → pushed ≡ before ++ 32 ∷ [] → before ≡ spaced (take k ns) → new ≡ spaced (take (k + 1) ns)
+pub spaced-next : (new text pushed before ns : List ℕ) (k : ℕ) → 0 < k → k < length ns → new ≡ text ++ decimal (get_or ns k 0) → text ≡ pushed → pushed ≡ before ++ 32 ∷ []
+    → before ≡ spaced (take k ns) → new ≡ spaced (take (k + 1) ns)
 spaced-next new text pushed before ns k some lt written same push is =
     written ∙ ap (λ t. t ++ decimal (get_or ns k 0)) (same ∙ push ∙ ap (λ t. t ++ 32 ∷ []) is)
     ∙ append_assoc (spaced (take k ns)) (32 ∷ []) (decimal (get_or ns k 0))
@@ -25,7 +26,8 @@ spaced-next new text pushed before ns k some lt written same push is =
 -- the lines as one text, with the line of capacities and the weights as they were written
 abbrev pub written_text : ℕ → ℕ → ℕ → ℕ → List ℕ → List ℕ → List ℕ → List ℕ
 written_text version p q d capacities quorums voters =
-    (codes "quorum-plan " ++ (decimal version ++ (codes "\nload " ++ (decimal p ++ (codes "/" ++ (decimal q ++ (codes "\ncycle " ++ (decimal d ++ (codes "\n" ++ (capacities ++ (codes "quorum " ++ quorums)))))))))))
+    (codes "quorum-plan " ++ (decimal version ++ (codes "\nload " ++ (decimal p
+    ++ (codes "/" ++ (decimal q ++ (codes "\ncycle " ++ (decimal d ++ (codes "\n" ++ (capacities ++ (codes "quorum " ++ quorums)))))))))))
     ++ (codes "\nvoter " ++ (voters ++ codes "\n"))
 
 pub written_text-lines : (c : Option (List ℕ)) (p q d : ℕ) (quorums voters : List ℕ) → written_text (version_of c) p q d (text_of_lines (capacity_lines c)) quorums voters

@@ -29,7 +29,7 @@ use Rattle.certificate.specs.declared.fault.PlanFault.TheVariants.{BadText, Wron
 use Rattle.certificate.specs.Certificates.{Weighted, cycle_len, load_of, weights_fault}
 
 -- the values in the lines of a text; version 1 has no capacities
-pub record Telling : Type 0 where
+pub record PlanContents : Type 0 where
   pub load : ℕ × ℕ
   pub cycle : ℕ
   pub capacities : Option (List ℕ)
@@ -37,16 +37,16 @@ pub record Telling : Type 0 where
   pub voter_weights : List ℕ
 
 -- the capacities that a text gives, unless all are 1
-abbrev pub told_capacities : List ℕ → Option (List ℕ)
-told_capacities capacities = if are_unit capacities then None else Some capacities
+abbrev pub written_capacities : List ℕ → Option (List ℕ)
+written_capacities capacities = if are_unit capacities then None else Some capacities
 
 -- the values in the lines of a plan's text
-abbrev pub telling_of : Weighted → Telling
-telling_of w =
+abbrev pub contents_of : Weighted → PlanContents
+contents_of w =
     record {
       load = load_of w;
       cycle = cycle_len w;
-      capacities = told_capacities w.capacities;
+      capacities = written_capacities w.capacities;
       quorum_weights = w.quorum_weights;
       voter_weights = w.voter_weights;
     }
@@ -96,7 +96,7 @@ capacity_lines None = []
 capacity_lines (Some capacities) = weights_line (codes "capacity ") capacities ∷ []
 
 -- the lines of a plan
-abbrev pub lines_of : Telling → List (List ℕ)
+abbrev pub lines_of : PlanContents → List (List ℕ)
 lines_of t =
     title_line (version_of t.capacities) ∷ load_line t.load ∷ cycle_line t.cycle
     ∷ (capacity_lines t.capacities
@@ -104,7 +104,7 @@ lines_of t =
 
 -- the one text of a plan
 abbrev pub plan_text : Weighted → List ℕ
-plan_text w = text_of_lines (lines_of (telling_of w))
+plan_text w = text_of_lines (lines_of (contents_of w))
 
 -- Reading
 
@@ -157,13 +157,13 @@ abbrev pub are_in_range : List ℕ → Bool
 are_in_range numbers = list_all (λ c. nat_le 1 c && nat_le c max_capacity) numbers
 
 -- whether each number is a capacity, and some is not 1
-abbrev pub are_told : List ℕ → Bool
-are_told numbers = are_in_range numbers && not (are_unit numbers)
+abbrev pub have_a_line : List ℕ → Bool
+have_a_line numbers = are_in_range numbers && not (are_unit numbers)
 
 -- the capacities in a line, if it is a line of capacities, not all of them 1
 abbrev pub read_capacities : List ℕ → Option (List ℕ)
 read_capacities line =
-    option_and_then (λ numbers. if are_told numbers then Some numbers else None) (read_weights (codes "capacity ") line)
+    option_and_then (λ numbers. if have_a_line numbers then Some numbers else None) (read_weights (codes "capacity ") line)
 
 -- The value of the line at the front of a text, and the rest of the text. If the line is missing,
 -- has no newline at its end, or is not in the format, it is the fault `BadText` with this number.
@@ -207,8 +207,8 @@ first_capacities version text =
     else Some (or_none (option_and_then (λ cut. read_capacities cut.0) (cut_at 10 text)))
 
 -- the values of a text, or its first bad line
-unfoldable pub telling_at : List ℕ → Result Telling PlanFault
-telling_at text = do
+unfoldable pub contents_at : List ℕ → Result PlanContents PlanFault
+contents_at text = do
   title ← line_at 1 read_title text
   load ← line_at 2 (read_load (load_digits title.0)) title.1
   cycle ← line_at 3 read_cycle load.1
@@ -232,8 +232,8 @@ head_fault w load cycle =
     if not (cycle_len w == cycle) then Some WrongCycle else None
 
 -- the same for all values of a text
-abbrev pub telling_fault : Weighted → Telling → Option PlanFault
-telling_fault w t = head_fault w t.load t.cycle
+abbrev pub contents_fault : Weighted → PlanContents → Option PlanFault
+contents_fault w t = head_fault w t.load t.cycle
 
 -- the value, or the fault if there is one
 abbrev pub unless_fault : Option PlanFault → Weighted → Result Weighted PlanFault
@@ -243,25 +243,25 @@ unless_fault (Some e) w = Err e
 -- whether the text gives these capacities
 abbrev pub are_given : List ℕ → Option (List ℕ) → Bool
 are_given capacities None = are_unit capacities
-are_given capacities (Some told) = pointwise (λ c d. c == d) told capacities
+are_given capacities (Some heard) = pointwise (λ c d. c == d) heard capacities
 
 -- the first fault of the capacities that a text gives
-abbrev pub capacities_fault : List ℕ → Telling → Option PlanFault
+abbrev pub capacities_fault : List ℕ → PlanContents → Option PlanFault
 capacities_fault capacities t = if are_given capacities t.capacities then None else Some WrongCapacity
 
 -- the plan, or the first fault: of the text's capacities, of its weights, then of its other values
-abbrev pub judged : Weighted → Telling → Result Weighted PlanFault
+abbrev pub judged : Weighted → PlanContents → Result Weighted PlanFault
 judged w t =
-    unless_fault (option_or (capacities_fault w.capacities t) (option_or (weights_fault w) (telling_fault w t))) w
+    unless_fault (option_or (capacities_fault w.capacities t) (option_or (weights_fault w) (contents_fault w t))) w
 
 -- a system of quorums and capacities with the weights of a text
-abbrev pub weighted_by : QuorumSystem → List ℕ → Telling → Weighted
+abbrev pub weighted_by : QuorumSystem → List ℕ → PlanContents → Weighted
 weighted_by s capacities t =
     record { system = s; capacities = capacities; quorum_weights = t.quorum_weights; voter_weights = t.voter_weights }
 
 -- the plan of a coterie and capacities that the text describes, or the first fault
 unfoldable pub plan_at : QuorumSystem → List ℕ → List ℕ → Result Weighted PlanFault
-plan_at s capacities text = telling_at text >>= λ t. judged (weighted_by s capacities t) t
+plan_at s capacities text = contents_at text >>= λ t. judged (weighted_by s capacities t) t
 
 -- the fault is out of memory
 abbrev pub is_out_of_memory : PlanFault → Bool
@@ -287,5 +287,5 @@ RefusesAs (Ok x) answered = Unit {0}
 RefusesAs (Err e) answered = answered ≡ Err e
 
 -- the result is the wanted one, unless memory ran out
-abbrev pub MemoryAside : Result Weighted PlanFault → Result Weighted PlanFault → Type 0
-MemoryAside answered wanted = Gives (λ w. w) answered wanted
+abbrev pub UnlessOutOfMemory : Result Weighted PlanFault → Result Weighted PlanFault → Type 0
+UnlessOutOfMemory answered wanted = Gives (λ w. w) answered wanted

@@ -1,6 +1,5 @@
 //! Ratios: how much voters are used for their capacities.
-ghost use Rattle.std.specs.Prelude.{◌≡◌, ◌<◌, ◌≤◌, ◌^◌, length, slice_index};
-ghost use Rattle.std.specs.List.{All};
+ghost use Rattle.std.specs.Prelude.{◌≡◌, ◌<◌, length, slice_index};
 ghost use Rattle.quorum_set.specs.Capacities.{AreCapacities};
 ghost use Rattle.certificate.specs.Ratios.{greater_of, greatest_ratio};
 

@@ -3,7 +3,7 @@ ghost use Rattle.std.specs.Prelude.{◌≡◌, ◌<◌, ◌≤◌, ◌==◌, tru
 ghost use Rattle.std.specs.List.{slice_split};
 ghost use Rattle.quorum_set.specs.Capacities.{AreCapacities};
 ghost use Rattle.certificate.specs.Certificates.{Weighted, IsCertificate, IsOptimal};
-ghost use Rattle.certificate.specs.PlanTexts.{plan_text, number_of, numbers_of, behind, are_given, are_in_range, are_told, capacities_at, load_digits, read_title, read_pair, read_load, read_cycle, read_capacities, read_weights, line_at, is_within, are_within, first_weights, first_capacities, telling_at, head_fault, plan_at, Answers, Gives, MemoryAside, RefusesAs};
+ghost use Rattle.certificate.specs.PlanTexts.{plan_text, number_of, numbers_of, behind, are_given, are_in_range, have_a_line, capacities_at, load_digits, read_title, read_pair, read_load, read_cycle, read_capacities, read_weights, line_at, is_within, are_within, first_weights, first_capacities, contents_at, head_fault, plan_at, Answers, Gives, UnlessOutOfMemory, RefusesAs};
 
 use crate::fault::PlanFault;
 use crate::plan::{Plan, check};
@@ -20,7 +20,7 @@ const MOST: u64 = 9_999_999;
 
 /// The values in the lines of a text, before they are checked.
 #[derive(Drop)]
-struct LinesTold {
+struct Lines {
     load: (u64, u64),
     cycle: u64,
     /// `None` in a text of version 1.
@@ -120,8 +120,8 @@ fn are_in_range(numbers: &[u64]) -> bool
 }
 
 /// Returns whether each number is a capacity, and some is not 1.
-fn are_told(numbers: &[u64]) -> bool
-    ensures { result ≡ are_told numbers.now }
+fn have_a_line(numbers: &[u64]) -> bool
+    ensures { result ≡ have_a_line numbers.now }
 {
     are_in_range(numbers) && !are_unit(numbers)
 }
@@ -130,7 +130,7 @@ fn capacities(alloc: Global, line: &[u8]) -> Result<Option<Vec<u64>>, AllocError
     ensures { IfOk result (λ found. option_map (λ v. v.items) found ≡ read_capacities line.now) }
 {
     match weights(alloc, b"capacity ", line)? {
-        Some(numbers) if are_told(&numbers) => Ok(Some(numbers)),
+        Some(numbers) if have_a_line(&numbers) => Ok(Some(numbers)),
         _ => Ok(None),
     }
 }
@@ -296,10 +296,10 @@ fn after_capacities(version: usize, text: &[u8]) -> Result<&[u8], PlanFault>
 }
 
 /// Finds the first bad line, without memory.
-#[tactic(auto, unfolding(crate::specs::PlanTexts::telling_at))]
+#[tactic(auto, unfolding(crate::specs::PlanTexts::contents_at))]
 fn check_lines(text: &[u8]) -> Result<(), PlanFault>
-    ensures good { IfOk result (λ done. is_ok (telling_at text.now) ≡ true) }
-    ensures bad { IfErr result (λ fault. telling_at text.now ≡ Err fault) }
+    ensures good { IfOk result (λ done. is_ok (contents_at text.now) ≡ true) }
+    ensures bad { IfErr result (λ fault. contents_at text.now ≡ Err fault) }
 {
     let (version, rest) = title_line(text)?;
     let (_, rest) = load_line(rest, load_digits(version))?;
@@ -315,15 +315,15 @@ fn check_lines(text: &[u8]) -> Result<(), PlanFault>
 }
 
 /// Returns the values of the lines, or the first bad line.
-#[tactic(auto, unfolding(crate::specs::PlanTexts::telling_at))]
-fn tell_lines(alloc: Global, text: &[u8]) -> Result<LinesTold, PlanFault>
+#[tactic(auto, unfolding(crate::specs::PlanTexts::contents_at))]
+fn lines_of_text(alloc: Global, text: &[u8]) -> Result<Lines, PlanFault>
     ensures { Gives (λ t. record {
       load = t.load;
       cycle = t.cycle;
       capacities = option_map (λ v. v.items) t.capacities;
       quorum_weights = t.quorum_weights.items;
       voter_weights = t.voter_weights.items;
-    }) result (telling_at text.now) }
+    }) result (contents_at text.now) }
 {
     let (version, rest) = title_line(text)?;
     let (load, rest) = load_line(rest, load_digits(version))?;
@@ -334,7 +334,7 @@ fn tell_lines(alloc: Global, text: &[u8]) -> Result<LinesTold, PlanFault>
     if !rest.is_empty() {
         return Err(PlanFault::BadText { line: 5 + version });
     }
-    Ok(LinesTold {
+    Ok(Lines {
         load,
         cycle,
         capacities,
@@ -345,26 +345,26 @@ fn tell_lines(alloc: Global, text: &[u8]) -> Result<LinesTold, PlanFault>
 
 /// Returns the values of the lines, or the first bad line. Only a text without a bad line takes
 /// memory.
-fn read_lines(alloc: Global, text: &[u8]) -> Result<LinesTold, PlanFault>
+fn read_lines(alloc: Global, text: &[u8]) -> Result<Lines, PlanFault>
     ensures exact { Gives (λ t. record {
       load = t.load;
       cycle = t.cycle;
       capacities = option_map (λ v. v.items) t.capacities;
       quorum_weights = t.quorum_weights.items;
       voter_weights = t.voter_weights.items;
-    }) result (telling_at text.now) }
-    ensures format { RefusesAs (telling_at text.now) result }
+    }) result (contents_at text.now) }
+    ensures format { RefusesAs (contents_at text.now) result }
 {
     check_lines(text)?;
-    tell_lines(alloc, text)
+    lines_of_text(alloc, text)
 }
 
 /// Returns whether a text with these capacities, or with none, gives the voters' capacities.
-fn are_given(capacities: &[u64], told: &Option<Vec<u64>>) -> bool
-    ensures { result ≡ are_given capacities.now (option_map (λ v. v.items) told.now) }
+fn are_given(capacities: &[u64], written: &Option<Vec<u64>>) -> bool
+    ensures { result ≡ are_given capacities.now (option_map (λ v. v.items) written.now) }
 {
-    match told {
-        Some(told) => told.as_slice() == capacities,
+    match written {
+        Some(written) => written.as_slice() == capacities,
         None => are_unit(capacities),
     }
 }
@@ -391,22 +391,22 @@ fn plan_of_text(
     text: &[u8],
 ) -> Result<Plan, PlanFault>
     requires capacities { AreCapacities capacities.now coterie.now.voters }
-    ensures exact { MemoryAside result (plan_at coterie.now capacities.now text.now) }
-    ensures format { RefusesAs (telling_at text.now) result }
+    ensures exact { UnlessOutOfMemory result (plan_at coterie.now capacities.now text.now) }
+    ensures format { RefusesAs (contents_at text.now) result }
     ensures certificate { IfOk result IsCertificate }
 {
-    let told = read_lines(alloc, text)?;
-    if !are_given(capacities, &told.capacities) {
+    let lines = read_lines(alloc, text)?;
+    if !are_given(capacities, &lines.capacities) {
         return Err(PlanFault::WrongCapacity);
     }
     let plan = check(
         alloc,
         coterie,
         capacities,
-        told.quorum_weights,
-        told.voter_weights,
+        lines.quorum_weights,
+        lines.voter_weights,
     )?;
-    match head_fault(&plan, told.load, told.cycle) {
+    match head_fault(&plan, lines.load, lines.cycle) {
         Some(fault) => Err(fault),
         None => Ok(plan),
     }
@@ -455,15 +455,15 @@ pub fn read_plan(
 ) -> Result<Plan, PlanFault>
     requires capacities { AreCapacities capacities.now coterie.now.voters }
     // A text that is read is the text of the plan.
-    ensures spelled { IfOk result (λ p.
+    ensures written { IfOk result (λ p.
         (p.system ≡ coterie.now) × (p.capacities ≡ capacities.now) × (text.now ≡ plan_text p)) }
     // The text of a plan of this coterie and these capacities is read.
     ensures read { (w : Weighted) → w.system ≡ coterie.now → w.capacities ≡ capacities.now → IsCertificate w
-        → text.now ≡ plan_text w → MemoryAside result (Ok w) }
+        → text.now ≡ plan_text w → UnlessOutOfMemory result (Ok w) }
     // The result is the plan or the first fault, by the definition.
-    ensures exact { MemoryAside result (plan_at coterie.now capacities.now text.now) }
+    ensures exact { UnlessOutOfMemory result (plan_at coterie.now capacities.now text.now) }
     // A text that is not in the format is refused before anything is allocated.
-    ensures format { RefusesAs (telling_at text.now) result }
+    ensures format { RefusesAs (contents_at text.now) result }
     ensures certificate { IfOk result IsCertificate }
     ensures optimal { IfOk result IsOptimal }
 {

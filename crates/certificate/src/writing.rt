@@ -1,7 +1,7 @@
 //! Writing a plan as text.
 ghost use Rattle.std.specs.Prelude.{◌≡◌, IfOk, string_bytes};
 ghost use Rattle.texts.specs.Lines.{text_of_lines};
-ghost use Rattle.certificate.specs.PlanTexts.{capacity_lines, spaced, told_capacities, version_of, plan_text};
+ghost use Rattle.certificate.specs.PlanTexts.{capacity_lines, spaced, written_capacities, version_of, plan_text};
 
 use crate::plan::Plan;
 use quorum_set::are_unit;
@@ -24,7 +24,7 @@ fn spaced(alloc: Global, numbers: &[u64]) -> Result<String, AllocError>
 /// Returns the line of the capacities, or no text if all are 1.
 fn capacity_line(alloc: Global, capacities: &[u64]) -> Result<String, AllocError>
     ensures { IfOk result (λ text.
-        string_bytes text ≡ text_of_lines (capacity_lines (told_capacities capacities.now))) }
+        string_bytes text ≡ text_of_lines (capacity_lines (written_capacities capacities.now))) }
 {
     if are_unit(capacities) {
         return Ok(String::new(alloc));
@@ -35,7 +35,7 @@ fn capacity_line(alloc: Global, capacities: &[u64]) -> Result<String, AllocError
 
 /// Returns the version of the text of a plan with these capacities.
 fn version(capacities: &[u64]) -> u64
-    ensures { result ≡ version_of (told_capacities capacities.now) }
+    ensures { result ≡ version_of (written_capacities capacities.now) }
 {
     if are_unit(capacities) { 1 } else { 2 }
 }

@@ -1,5 +1,6 @@
 -- What becomes of members that are driven.
-use Rattle.std.proofs.Common.{◌≡◌, inl, inr, ℕ, zero, suc, ◌+◌, ◌-◌, ◌*◌, ◌/◌, ◌<◌, ◌≤◌, Bool, true, false, true≢false, ◌&&◌, cond, is_some, nat_le, Option, None, Some, List, [], ◌∷◌, ◌++◌, refl, sym, ap, ◌∙◌, subst, length, add-zero, arith}
+use Rattle.std.proofs.Common.{◌≡◌, inl, inr, ℕ, zero, suc, ◌+◌, ◌-◌, ◌*◌, ◌/◌, ◌<◌, ◌≤◌, Bool, true, false, true≢false, ◌&&◌, cond, is_some, nat_le, Option, None, Some, List, []}
+use Rattle.std.proofs.Common.{◌∷◌, ◌++◌, refl, sym, ap, ◌∙◌, subst, length, add-zero, arith}
 use Rattle.std.specs.Prelude.{All, IfOk, IfErr, Result, Ok, Err, option_map, slice_index_or}
 use Rattle.std.proofs.Math.Nat.{le-add_right, min-eq_left, min-eq_right}
 use Rattle.std.proofs.lemmas.Bool.{cases_lt}
@@ -15,11 +16,12 @@ use Rattle.dealer.specs.declared.receipt.Receipt.{Receipt}
 use Rattle.dealer.specs.Offices.{ClerkState}
 use Rattle.quorum_set.specs.declared.bridge.Side.{Side}
 use Rattle.quorum_set.specs.declared.bridge.Side.TheVariants.{First, Second}
-use Rattle.members.specs.Clerks.{ClerksState, drawn, drawn_by, may_exchange, may_exchange_from, receipts_in, receipts_of, rest_in, rest_of, with_receipt}
-use Rattle.members.specs.declared.fault.ClusterFault.{ClusterFault}
-use Rattle.members.specs.declared.fault.ClusterFault.TheVariants as ends
+use Rattle.clerks.specs.Clerks.{ClerksState, drawn, drawn_by, may_exchange, may_exchange_from, receipts_in, receipts_of, rest_in, rest_of, with_receipt}
+use Rattle.run_outcome.specs.declared.fault.ClusterFault.{ClusterFault}
+use Rattle.run_outcome.specs.declared.fault.ClusterFault.TheVariants as ends
 use Rattle.members.specs.Members.{AreIdle, MemberState, RefusesAsk, RefusesPass}
-use Rattle.cluster.specs.Drives.{EndsWork, HasMore, HasServed, HasServedOn, IsBack, IsBackBy, HasEndedOn, KeepsWork, LeavesTurns, Stops, TookTurns, WasLet, Worked, draws_by, draws_if, next_plan, on, side_after, side_if, wasted}
+use Rattle.cluster.specs.Drives.{EndsWork, HasMore, HasServed, HasServedOn, IsBack, IsBackBy, HasEndedOn, KeepsWork, LeavesTurns, Stops, TookTurns, WasLet, Worked, draws_by}
+use Rattle.cluster.specs.Drives.{draws_if, next_plan, on, side_after, side_if, wasted}
 
 -- More of a list
 
@@ -186,7 +188,8 @@ on_then m k n l a b c first same second =
     (Worked-then (λ plan. on a.clerks.side plan m) (λ plan. on b.clerks.side plan k) n l a b c first second)
 
 -- one pass more
-pub HasServedOn-next : (n : ℕ) (a b c : MemberState) → HasServedOn n a b → Worked (λ plan. on b.clerks.side plan 1) 1 b c × (c.clerks.side ≡ b.clerks.side) × (is_idle c.requester.phase ≡ true) → c.fault ≡ b.fault
+pub HasServedOn-next : (n : ℕ) (a b c : MemberState) → HasServedOn n a b → Worked (λ plan. on b.clerks.side plan 1) 1 b c × (c.clerks.side ≡ b.clerks.side)
+    × (is_idle c.requester.phase ≡ true) → c.fault ≡ b.fault
     → HasServedOn (n + 1) a c
 HasServedOn-next n a b c r one fault = record {
   worked = on_then n 1 n 1 a b c r.worked r.side one.0;
@@ -227,10 +230,11 @@ Worked-stopped n a b c d fault r stops kept =
       second = ap (λ (x : ClerksState). is_some x.second) kept.clerks ∙ stops.0.second;
     }
 
-pub HasEndedOn-stopped : (passes n : ℕ) (a b c d e : MemberState) (fault : ClusterFault) → HasServedOn n a b → n < passes → Stops b c fault → KeepsWork c d → is_idle d.requester.phase ≡ true → e ≡ record d { fault = Some fault }
+pub HasEndedOn-stopped : (passes n : ℕ) (a b c d e : MemberState) (fault : ClusterFault) → HasServedOn n a b → n < passes → Stops b c fault → KeepsWork c d
+    → is_idle d.requester.phase ≡ true → e ≡ record d { fault = Some fault }
     → HasEndedOn passes fault a e
-HasEndedOn-stopped passes n a b c d e fault r less stops kept idle told =
-    subst (HasEndedOn passes fault a) (sym told) (
+HasEndedOn-stopped passes n a b c d e fault r less stops kept idle heard =
+    subst (HasEndedOn passes fault a) (sym heard) (
     record {
       passed = n;
       fewer = less;

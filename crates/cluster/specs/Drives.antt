@@ -4,11 +4,11 @@ use Rattle.board.specs.declared.fault.BoardFault.TheVariants.{SeatsOut, VoteOut,
 use Rattle.dealer.specs.declared.fault.DealFault.TheVariants.{QuotaSpent, OutOfMemory as NoRoom}
 use Rattle.requester.specs.declared.fault.ClientFault.TheVariants.{Busy, NotInside as Outside, NotAsking, StampsSpent}
 use Rattle.requester.specs.Words.{is_idle}
-use Rattle.members.specs.declared.fault.ClusterFault.{ClusterFault}
-use Rattle.members.specs.declared.fault.ClusterFault.TheVariants as ends
+use Rattle.run_outcome.specs.declared.fault.ClusterFault.{ClusterFault}
+use Rattle.run_outcome.specs.declared.fault.ClusterFault.TheVariants as ends
 use Rattle.quorum_set.specs.declared.bridge.Side.{Side}
 use Rattle.quorum_set.specs.declared.bridge.Side.TheVariants.{First, Second}
-use Rattle.members.specs.Clerks.{ClerksState, may_exchange, receipts_of, rest_of}
+use Rattle.clerks.specs.Clerks.{ClerksState, may_exchange, receipts_of, rest_of}
 use Rattle.members.specs.Members.{MemberState}
 
 -- the list afterwards is the list before and n more entries

@@ -1,6 +1,5 @@
 //! How a member waits for a message.
 ghost use Rattle.std.specs.Prelude.{◌≡◌};
-ghost use Rattle.members.specs.Members.{MemberState};
 
 use members::{Cluster, ClusterName, Member};
 use std::sync::Wait;

@@ -1,5 +1,6 @@
 -- Lemmas on the sizes of a shape, and on what words name.
-use Rattle.std.proofs.Common.{◌≡◌, ℕ, ◌+◌, ◌<◌, ◌≤◌, List, [], ◌∷◌, ◌++◌, length, get_or, take, zero, suc, ap, ap₂, refl, sym, subst, ◌∙◌, arith, codes, Option, Some, None, Ok, Err, Result, inl, inr, slice_index}
+use Rattle.std.proofs.Common.{◌≡◌, ℕ, ◌+◌, ◌<◌, ◌≤◌, List, [], ◌∷◌, ◌++◌, length, get_or, take, zero, suc, ap, ap₂, refl, sym, subst, ◌∙◌, arith, codes, Option, Some, None, Ok}
+use Rattle.std.proofs.Common.{Err, Result, inl, inr, slice_index}
 use Rattle.std.specs.Prelude.{IfErr, IfSome, unwrap_or}
 use Rattle.std.specs.Result.{IsErrAnd}
 use Rattle.std.specs.Str.Parse.{ParsesUnsigned}
@@ -12,7 +13,8 @@ use Rattle.command_line.specs.declared.usage.Usage.{Usage}
 use Rattle.command_line.specs.declared.usage.Usage.TheVariants.{Arguments, OutOfMemory, Refused}
 
 -- one size more
-are_more : (texts : List Text) (sizes : List ℕ) (i n : ℕ) → i < length texts → AreSizes (take i texts) sizes → IsNumber (get_or texts i []) n → n ≤ 9999 → AreSizes (take (suc i) texts) (sizes ++ n ∷ [])
+are_more : (texts : List Text) (sizes : List ℕ) (i n : ℕ) → i < length texts → AreSizes (take i texts) sizes → IsNumber (get_or texts i []) n → n ≤ 9999
+    → AreSizes (take (suc i) texts) (sizes ++ n ∷ [])
 are_more [] sizes i n lt so_far number small = absurd (omega arith)
 are_more (text ∷ texts) [] zero n lt so_far number small = (number, small, tt)
 are_more (text ∷ texts) (m ∷ sizes) zero n lt so_far number small = absurd so_far
@@ -96,7 +98,8 @@ pub NamesNone-no_sizes : (rows : List Row) → ((sizes : List ℕ) → AreSizes 
 NamesNone-no_sizes rows none = NamesNone-make rows (λ shape named. none named.1.2.0 named.1.2.1)
 
 -- nor where there is no shape of that name and those sizes
-pub NamesNone-no_shape_of : (rows : List Row) (name : Text) (sizes : List ℕ) → first_of (codes "SHAPE") rows ≡ Some name → AreSizes (size_texts rows) sizes → ((shape : Shape) → IsShapeOf name sizes shape → ⊥) → NamesNone (Some (codes "make", rows))
+pub NamesNone-no_shape_of : (rows : List Row) (name : Text) (sizes : List ℕ) → first_of (codes "SHAPE") rows ≡ Some name → AreSizes (size_texts rows) sizes
+    → ((shape : Shape) → IsShapeOf name sizes shape → ⊥) → NamesNone (Some (codes "make", rows))
 NamesNone-no_shape_of rows name sizes given are none = NamesNone-make rows (λ shape named.
     let same_name : Some named.1.0 ≡ Some name = sym named.1.1 ∙ given in
     let name_is : named.1.0 ≡ name = ap (λ o. unwrap_or o []) same_name in
@@ -121,7 +124,8 @@ Refuses-by_clap words error usage (inr among) (inl becomes) = rw becomes.1 tt
 Refuses-by_clap words error usage (inr among) (inr becomes) = rw becomes.1 among
 
 -- that comes up through a `?`
-pub Refuses-error : {T : Type 0} (result : Result T Usage) (words : List Text) (error : Error) → HasKind (fault_of qlock_app words) error → IsErrAnd result (BecomesUsage error) → IfErr result (Refuses words)
+pub Refuses-error : {T : Type 0} (result : Result T Usage) (words : List Text) (error : Error) → HasKind (fault_of qlock_app words) error → IsErrAnd result (BecomesUsage error)
+    → IfErr result (Refuses words)
 Refuses-error (Ok x) words error kinds becomes = absurd becomes
 Refuses-error (Err usage) words error kinds becomes = Refuses-by_clap words error usage kinds becomes
 

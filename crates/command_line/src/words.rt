@@ -1,6 +1,6 @@
 //! The command line: which command its words name.
 ghost use Rattle.std.specs.Prelude.{◌≡◌, ◌<◌, ◌≤◌, ℕ, List, [], length, slice_index_or, false, IfErr, IfOk, IfSome, None, Some, codes, map, string_bytes};
-ghost use Rattle.clap.specs.Words.{app_of, first_of, found_of, rows_of, rule_of, subcommand_of, subcommand_rows_of};
+ghost use Rattle.clap.specs.Words.{app_of, found_of, rows_of, rule_of, subcommand_rows_of};
 ghost use Rattle.command_line.specs.declared.command.Shape.{Shape};
 ghost use Rattle.command_line.specs.Words.{AreSizes, HasNumber, IsLocal, IsNamedBy, IsNumber, IsShapeOf, Names, Refuses, RefusesUse, check_app, clients_rule, deal_app, dealing_app, make_app, passes_rule, plan_app, planning_app, qlock_app, replay_app, run_app, running_app, shape_rule, size_texts, sizes_rule, turns_rule, world_app};
 

@@ -1,5 +1,6 @@
 -- The lists of choices of an iterator over combinations are the sets in lexicographic order.
-use Rattle.std.proofs.Common.{◌≡◌, ◌⊎◌, ℕ, ◌+◌, ◌-◌, ◌<◌, ◌≤◌, List, [], ◌∷◌, ◌++◌, length, get_or, map, flat_map, zero, suc, sym, refl, ap, ap₂, subst, ◌∙◌, inl, inr, arith, length-append, Option, Result, Ok, Err, IfOk}
+use Rattle.std.proofs.Common.{◌≡◌, ◌⊎◌, ℕ, ◌+◌, ◌-◌, ◌<◌, ◌≤◌, List, [], ◌∷◌, ◌++◌, length, get_or, map, flat_map, zero, suc, sym, refl, ap, ap₂, subst, ◌∙◌, inl, inr, arith}
+use Rattle.std.proofs.Common.{length-append, Option, Result, Ok, Err, IfOk}
 use Rattle.std.specs.Iterator.{DrainsIf}
 use Rattle.std.specs.Iterator.Runs.{WholeRun, YieldsRun}
 use Rattle.std.proofs.lemmas.Iterator.{YieldsList, items_from_drains}

@@ -1,5 +1,6 @@
 -- Shifted sets: that they are sets of voters, and repeats in a list.
-use Rattle.std.proofs.Common.{◌≡◌, ℕ, ◌+◌, ◌%◌, ◌<◌, ◌≤◌, Bool, true, false, cond, ◌||◌, not, eqb, ltb, List, [], ◌∷◌, ◌++◌, length, get_or, take, drop, sym, refl, ap, ap₂, ◌∙◌, inl, inr, arith, Option, None, Some}
+use Rattle.std.proofs.Common.{◌≡◌, ℕ, ◌+◌, ◌%◌, ◌<◌, ◌≤◌, Bool, true, false, cond, ◌||◌, not, eqb, ltb, List, [], ◌∷◌, ◌++◌, length, get_or, take, drop, sym, refl, ap, ap₂, ◌∙◌}
+use Rattle.std.proofs.Common.{inl, inr, arith, Option, None, Some}
 use Rattle.std.specs.List.{All, list_any, list_all, position}
 use Rattle.std.specs.Option.{option_or, option_map}
 use Rattle.std.specs.Result.{IfErr}

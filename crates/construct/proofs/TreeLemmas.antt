@@ -1,5 +1,6 @@
 -- The quorums of a tree are a coterie.
-use Rattle.std.proofs.Common.{◌≡◌, ◌⊎◌, ℕ, ◌+◌, ◌-◌, ◌*◌, ◌/◌, ◌^◌, ◌<◌, ◌≤◌, true, false, ◌||◌, eqb, List, [], ◌∷◌, ◌++◌, length, get_or, map, zero, suc, sym, refl, ap, ap₂, ◌∙◌, inl, inr, arith, length-append}
+use Rattle.std.proofs.Common.{◌≡◌, ◌⊎◌, ℕ, ◌+◌, ◌-◌, ◌*◌, ◌/◌, ◌^◌, ◌<◌, ◌≤◌, true, false, ◌||◌, eqb, List, [], ◌∷◌, ◌++◌, length, get_or, map, zero, suc, sym, refl, ap, ap₂, ◌∙◌}
+use Rattle.std.proofs.Common.{inl, inr, arith, length-append}
 use Rattle.std.specs.List.{All, AllPairs, flat_map}
 use Rattle.std.proofs.Math.Nat.{pow-suc, pow-le-pow_right}
 use Rattle.std.proofs.lemmas.Bool.{true≢false, false_from_ne_true, eqb-true, eq-eqb, ne_eqb, or_cases, or_from, or_left, or_right, cases_lt, cases_order}
@@ -281,7 +282,8 @@ AllPairs-map R f (x ∷ xs) pairs =
     AllPairs-cons R (f x) (map f xs) (All-map (R (f x)) f xs (λ j d lt. pairs 0 (suc j) d (omega arith) (omega arith)))
     (AllPairs-map R f xs (λ a b d before lt. pairs (suc a) (suc b) d (omega arith) (omega arith)))
 
-AllPairs-flat_map : {X Y : Type 0} (R : Y → Y → Type 0) (f : X → List Y) (xs : List X) → All (λ x. AllPairs R (f x)) xs → AllPairs (λ x y. All (λ a. All (R a) (f y)) (f x)) xs → AllPairs R (flat_map f xs)
+AllPairs-flat_map : {X Y : Type 0} (R : Y → Y → Type 0) (f : X → List Y) (xs : List X) → All (λ x. AllPairs R (f x)) xs → AllPairs (λ x y. All (λ a. All (R a) (f y)) (f x)) xs
+    → AllPairs R (flat_map f xs)
 AllPairs-flat_map R f [] inner outer = λ a b d before lt. absurd (omega arith)
 AllPairs-flat_map R f (x ∷ xs) inner outer =
     AllPairs-append R (f x) (flat_map f xs) (All-head (λ y. AllPairs R (f y)) x xs inner)

@@ -13,7 +13,7 @@ pub table_at-blank : (text : List ℕ) → IsBlank text → table_at text ≡ Ok
 unfolding parse_document lines
 table_at-blank text blank = rw (eq-eqb _ 0 blank) refl
 
--- a fault that is not want of memory, of a text that is read
+-- a fault other than out of memory, of a text that is read
 pub never_refused : (fault : FileFault) (wanted : Result Members FileFault) (table : Members) → Refuses fault wanted → wanted ≡ Ok table → (fault ≡ OutOfMemory → ⊥) → ⊥
 never_refused OutOfMemory wanted table h e k = k refl
 never_refused fault wanted table h e k = cc

@@ -31,7 +31,8 @@ AreCapacities-from_no_fault n capacities e = elim (cases_eq (length capacities) 
 
 pub capacities_fault-none : (n : ℕ) (capacities : List ℕ) → AreCapacities capacities n → capacities_fault n capacities ≡ None
 capacities_fault-none n capacities h =
-    let good : position (λ c. not (is_capacity c)) capacities ≡ None = position-none (λ c. not (is_capacity c)) capacities 0 (λ k d lt. not_from_true _ (is_capacity-from_IsCapacity (get_or capacities k d) (h.in_range k d lt))) in
+    let good : position (λ c. not (is_capacity c)) capacities ≡ None = position-none (λ c. not (is_capacity c)) capacities 0
+    (λ k d lt. not_from_true _ (is_capacity-from_IsCapacity (get_or capacities k d) (h.in_range k d lt))) in
     rw (eq-eqb (length capacities) n h.one_each, good) refl
 
 -- capacity 1 for each voter

@@ -1,5 +1,6 @@
 -- What the tests of names mean, and the names v0, v1, ..
-use Rattle.std.proofs.Common.{◌≡◌, ◌≢◌, ℕ, ◌+◌, ◌<◌, ◌≤◌, Bool, true, false, cond, not, ◌&&◌, ltb, List, [], ◌∷◌, ◌++◌, length, get_or, sym, refl, ap, ◌∙◌, inl, inr, arith, Option, None, Some, MatchOption, codes, decimal, subst, append_assoc, append-nil}
+use Rattle.std.proofs.Common.{◌≡◌, ◌≢◌, ℕ, ◌+◌, ◌<◌, ◌≤◌, Bool, true, false, cond, not, ◌&&◌, ltb, List, [], ◌∷◌, ◌++◌, length, get_or, sym, refl, ap, ◌∙◌, inl, inr, arith, Option}
+use Rattle.std.proofs.Common.{None, Some, MatchOption, codes, decimal, subst, append_assoc, append-nil}
 use Rattle.std.specs.List.{All, position, position_or_len}
 use Rattle.std.specs.Option.{option_or, option_map}
 use Rattle.std.specs.Str.{bytes_eq}
@@ -46,7 +47,8 @@ least_here before name names differ found =
 pub first_repeat-means : (before names : List (List ℕ)) → AllDiffer before → MatchOption (first_repeat before names) (AllDiffer (before ++ names)) (IsLeastRepeat (before ++ names))
 first_repeat-means before [] differ = rw (append-nil before) differ
 first_repeat-means before (name ∷ names) differ =
-    elim (has_name before name) as (λ b. has_name before name ≡ b → MatchOption (cond b (Some (length before)) (first_repeat (before ++ name ∷ []) names)) (AllDiffer (before ++ name ∷ names)) (IsLeastRepeat (before ++ name ∷ names))) [
+    elim (has_name before name) as (λ b. has_name before name ≡ b → MatchOption (cond b (Some (length before)) (first_repeat (before ++ name ∷ []) names))
+    (AllDiffer (before ++ name ∷ names)) (IsLeastRepeat (before ++ name ∷ names))) [
       | true ↦ λ e. least_here before name names differ e
       | false ↦ λ e.
           let one : before ++ name ∷ names ≡ (before ++ name ∷ []) ++ names = sym (append_assoc before (name ∷ []) names) in

@@ -32,7 +32,8 @@ pub quorum_of-nil : (names : List (List ℕ)) → quorum_of names [] ≡ []
 quorum_of-nil names = sym (is_set_where [] (λ i. false) tt (λ i lt. refl))
 
 -- one more member
-pub quorum_of-push : (names done : List (List ℕ)) (text : List ℕ) (n : ℕ) → number_of names text ≡ Some n → set_where (λ j. eqb j n || has (quorum_of names done) j) ≡ quorum_of names (done ++ text ∷ [])
+pub quorum_of-push : (names done : List (List ℕ)) (text : List ℕ) (n : ℕ) → number_of names text ≡ Some n
+    → set_where (λ j. eqb j n || has (quorum_of names done) j) ≡ quorum_of names (done ++ text ∷ [])
 quorum_of-push names done text n e =
     let test = λ (j : ℕ) (name : List ℕ). is_number (number_of names name) j in
     set_where-same (λ j. eqb j n || has (quorum_of names done) j) (λ j. list_any (test j) (done ++ text ∷ [])) (λ j lt.

@@ -17,10 +17,11 @@ use Rattle.coterie_file.specs.Capacities.{capacities_fault}
 use Rattle.coterie_file.specs.Lists.{NameLists, lists_at}
 use Rattle.coterie_file.specs.Named.{NamedSystem, IsNamed}
 use Rattle.coterie_file.specs.Names.{has_name, number_of, name_at, AllDiffer, first_repeat, names_fault}
-use Rattle.coterie_file.specs.Reading.{is_number, quorum_of, system_of, lists_fault, named_of, coterie_in, coterie_at, ListsCoterie, Spells}
+use Rattle.coterie_file.specs.Reading.{is_number, quorum_of, system_of, lists_fault, named_of, coterie_in, coterie_at, ListsCoterie, Describes}
 use Rattle.coterie_file.specs.declared.fault.FileFault.TheVariants.{UnknownName, RepeatedMember, Coterie}
 use Rattle.coterie_file.proofs.CapacityLemmas.{AreCapacities-from_no_fault, capacities_fault-none}
-use Rattle.coterie_file.proofs.NameLaws.{has_name-true, position-None, position-none, option_or-None, option_map-None, AllDiffer-from_no_repeat, first_repeat-none, AreNames-from_no_fault, names_fault-none}
+use Rattle.coterie_file.proofs.NameLaws.{has_name-true, position-None, position-none, option_or-None, option_map-None, AllDiffer-from_no_repeat, first_repeat-none}
+use Rattle.coterie_file.proofs.NameLaws.{AreNames-from_no_fault, names_fault-none}
 use Rattle.coterie_file.proofs.ReadingLemmas.{unless-Ok}
 
 is_number-true : (o : Option ℕ) (i : ℕ) → is_number o i ≡ true → o ≡ Some i
@@ -60,7 +61,8 @@ listed_voters names members i e =
       | inr ge ↦ absurd (false≢true (sym (has-above 0 64 (quorum_of names members) i (IsSet-set_where passes) ge) ∙ e))
     ]
 
-pub quorum_of-means : (names members : List (List ℕ)) (i : ℕ) → AllDiffer names → length names ≤ 64 → (has (quorum_of names members) i ≡ true) ↔ ((i < length names) × Contains members (name_at names i))
+pub quorum_of-means : (names members : List (List ℕ)) (i : ℕ) → AllDiffer names → length names ≤ 64
+    → (has (quorum_of names members) i ≡ true) ↔ ((i < length names) × Contains members (name_at names i))
 quorum_of-means names members i differ few = (
   listed_voters names members i,
   λ h.
@@ -125,17 +127,17 @@ read_lists law lists n e =
     let parts = unless-Ok (lists_fault lists) (named_of lists) n e in
     (lists_fault-means law lists parts.0, sym parts.1)
 
-pub coterie_at-spells : CoterieLaw → (text : List ℕ) (n : NamedSystem) → coterie_at text ≡ Ok n → Spells text n
-coterie_at-spells law text n e =
-    elim (lists_at text) as (λ r. lists_at text ≡ r → Spells text n) [
+pub coterie_at-describes : CoterieLaw → (text : List ℕ) (n : NamedSystem) → coterie_at text ≡ Ok n → Describes text n
+coterie_at-describes law text n e =
+    elim (lists_at text) as (λ r. lists_at text ≡ r → Describes text n) [
       | Ok lists ↦ λ at. let read = read_lists law lists n (rw at at e) in (lists, at, read.0, read.1)
       | Err fault ↦ λ at. let bad = rw at at e in cc
     ] refl
 
-pub spells-coterie_at : CoterieLaw → (text : List ℕ) (n : NamedSystem) → Spells text n → coterie_at text ≡ Ok n
-spells-coterie_at law text n h = rw (h.1, lists_fault-none law h.0 h.2) (ap Ok (sym h.3))
+pub describes-coterie_at : CoterieLaw → (text : List ℕ) (n : NamedSystem) → Describes text n → coterie_at text ≡ Ok n
+describes-coterie_at law text n h = rw (h.1, lists_fault-none law h.0 h.2) (ap Ok (sym h.3))
 
 pub named_at : CoterieLaw → (text : List ℕ) (n : NamedSystem) → coterie_at text ≡ Ok n → IsNamed n
 named_at law text n e =
-    let h = coterie_at-spells law text n e in
+    let h = coterie_at-describes law text n e in
     rw h.3 (record { coterie = h.2.coterie; one_each = refl; names = h.2.names; capacities = h.2.capacities })

@@ -1,5 +1,6 @@
 -- Lemmas on what the lists spell, fault by fault.
-use Rattle.std.proofs.Common.{◌≡◌, ℕ, ◌+◌, ◌<◌, Bool, true, false, cond, not, List, [], length, map, drop, get_or, sym, refl, ap, ◌∙◌, arith, Option, None, Some, Result, Ok, Err, String, Global, Vec, string_bytes, subst, IsErrAnd}
+use Rattle.std.proofs.Common.{◌≡◌, ℕ, ◌+◌, ◌<◌, Bool, true, false, cond, not, List, [], length, map, drop, get_or, sym, refl, ap, ◌∙◌, arith, Option, None, Some, Result, Ok, Err}
+use Rattle.std.proofs.Common.{String, Global, Vec, string_bytes, subst, IsErrAnd}
 use Rattle.std.specs.List.{list_all, position, position_from}
 use Rattle.std.specs.Option.{option_map, is_some}
 use Rattle.std.proofs.lemmas.Bool.{ne_eqb, lt-ltb}
@@ -25,7 +26,8 @@ repeats members = is_some (first_repeat [] (map string_bytes members.items))
 pub position_from-here : {A : Type 0} (p : A → Bool) (xs : List A) (i : ℕ) (d : A) → i < length xs → p (get_or xs i d) ≡ true → position_from p i (drop i xs) ≡ Some i
 position_from-here p xs i d lt e = ap (position_from p i) (drop_more xs i d lt) ∙ ap (λ b. cond b (Some i) (position_from p (i + 1) (drop (i + 1) xs))) e
 
-pub position_from-later : {A : Type 0} (p : A → Bool) (xs : List A) (i : ℕ) (d : A) → i < length xs → p (get_or xs i d) ≡ false → position_from p i (drop i xs) ≡ position_from p (i + 1) (drop (i + 1) xs)
+pub position_from-later : {A : Type 0} (p : A → Bool) (xs : List A) (i : ℕ) (d : A) → i < length xs → p (get_or xs i d) ≡ false
+    → position_from p i (drop i xs) ≡ position_from p (i + 1) (drop (i + 1) xs)
 position_from-later p xs i d lt e = ap (position_from p i) (drop_more xs i d lt) ∙ ap (λ b. cond b (Some i) (position_from p (i + 1) (drop (i + 1) xs))) e
 
 pub unless-Ok : {X : Type 0} (o : Option FileFault) (x y : X) → unless o x ≡ Ok y → (o ≡ None) × (x ≡ y)
@@ -42,12 +44,14 @@ coterie_or-Err (Some other) s fault e = cc
 
 -- the places of an unknown name and of a repeated one
 pub unknown_at : (names : List (String Global)) (quorums : List (Vec (String Global) Global)) (capacities : List ℕ) (voters : List (List ℕ)) → map string_bytes names ≡ voters
-    → position (λ members. not (list_all (has_name (map string_bytes names)) members)) (listed names quorums capacities).quorums ≡ position (λ q. not (list_all (λ n. has_name voters (string_bytes n)) q.items)) quorums
+    → position (λ members. not (list_all (has_name (map string_bytes names)) members)) (listed names quorums capacities).quorums ≡ position
+    (λ q. not (list_all (λ n. has_name voters (string_bytes n)) q.items)) quorums
 unknown_at names quorums capacities voters e =
     rw (position-map (λ members. not (list_all (has_name (map string_bytes names)) members)) (λ q. map string_bytes q.items) quorums)
     (rw e (simp list_all-map))
 
-pub repeated_at : (names : List (String Global)) (quorums : List (Vec (String Global) Global)) (capacities : List ℕ) → position (λ members. is_some (first_repeat [] members)) (listed names quorums capacities).quorums ≡ position repeats quorums
+pub repeated_at : (names : List (String Global)) (quorums : List (Vec (String Global) Global)) (capacities : List ℕ)
+    → position (λ members. is_some (first_repeat [] members)) (listed names quorums capacities).quorums ≡ position repeats quorums
 repeated_at names quorums capacities = position-map (λ members. is_some (first_repeat [] members)) (λ q. map string_bytes q.items) quorums
 
 -- more than 64 voters are refused, whatever the sets
@@ -80,7 +84,8 @@ system_of-listed names quorums capacities voters sets e made =
     rw (same, length-map {A = String Global} names string_bytes) refl
 
 -- a refusal that another fault made
-pub Gives-Coterie : {X Y : Type 0} (view : X → Y) (r : Result X FileFault) (wanted : Result Y FileFault) (fault : CoterieFault) → IsErrAnd r (λ e. e ≡ Coterie fault) → wanted ≡ Err (Coterie fault) → Gives view r wanted
+pub Gives-Coterie : {X Y : Type 0} (view : X → Y) (r : Result X FileFault) (wanted : Result Y FileFault) (fault : CoterieFault) → IsErrAnd r (λ e. e ≡ Coterie fault)
+    → wanted ≡ Err (Coterie fault) → Gives view r wanted
 Gives-Coterie view (Ok x) wanted fault h e = absurd h
 Gives-Coterie view (Err y) wanted fault h e = let P : FileFault → Type 0 = λ f. Refuses f wanted in subst P (sym h) e
 

@@ -61,7 +61,8 @@ no_stray law lists p e =
     let sets = map (quorum_of lists.names) lists.quorums in
     let stray = law (length lists.names) sets p.0 p.1 (all_sets lists) e in
     let known : All (λ q. (i : ℕ) → has q i ≡ true → i < length lists.names) sets =
-    All-map (λ q. (i : ℕ) → has q i ≡ true → i < length lists.names) (quorum_of lists.names) lists.quorums (λ k d lt. λ i in_quorum. (listed_voters lists.names (get_or lists.quorums k d) i in_quorum).0) in
+    All-map (λ q. (i : ℕ) → has q i ≡ true → i < length lists.names) (quorum_of lists.names) lists.quorums
+    (λ k d lt. λ i in_quorum. (listed_voters lists.names (get_or lists.quorums k d) i in_quorum).0) in
     let below = known p.0 [] stray.0 p.1 stray.1 in
     omega (arith, below, stray.2)
 
@@ -105,7 +106,8 @@ ok_or-InRange : {X : Type 0} (o : Option X) (own fault : FileFault) → IsInRang
 ok_or-InRange None own fault holds e = let same : own ≡ fault = cc in subst IsInRange same holds
 ok_or-InRange (Some x) own fault holds e = cc
 
-bind-InRange : {X Y : Type 0} (r : Result X FileFault) (f : X → Result Y FileFault) (fault : FileFault) → ((own : FileFault) → r ≡ Err own → IsInRange own) → ((x : X) → f x ≡ Err fault → IsInRange fault) → (r >>= f) ≡ Err fault → IsInRange fault
+bind-InRange : {X Y : Type 0} (r : Result X FileFault) (f : X → Result Y FileFault) (fault : FileFault) → ((own : FileFault) → r ≡ Err own → IsInRange own)
+    → ((x : X) → f x ≡ Err fault → IsInRange fault) → (r >>= f) ≡ Err fault → IsInRange fault
 bind-InRange (Ok x) f fault first second e = second x e
 bind-InRange (Err own) f fault first second e = let same : own ≡ fault = cc in subst IsInRange same (first own refl)
 
@@ -115,4 +117,5 @@ lists_at-InRange text fault e =
 
 pub coterie_at-in_range : StrayLaw → (text : List ℕ) (quorum voter : ℕ) → coterie_at text ≢ Err (Coterie (VoterOutOfRange quorum voter))
 coterie_at-in_range law text quorum voter e =
-    bind-InRange (lists_at text) coterie_in (Coterie (VoterOutOfRange quorum voter)) (lists_at-InRange text) (λ lists is. unless-InRange (lists_fault lists) (named_of lists) (Coterie (VoterOutOfRange quorum voter)) (Holds-lists law lists) is) e
+    bind-InRange (lists_at text) coterie_in (Coterie (VoterOutOfRange quorum voter)) (lists_at-InRange text)
+    (λ lists is. unless-InRange (lists_fault lists) (named_of lists) (Coterie (VoterOutOfRange quorum voter)) (Holds-lists law lists) is) e

@@ -29,7 +29,8 @@ pub lists_in-items : (table : Members) (n q : Items) (names : List (List ℕ)) (
     → lists_in table ≡ Ok (record { names = names; quorums = quorums; capacities = capacities })
 lists_in-items table n q names quorums capacities count at_n is_n at_q is_q is_c =
     let P : Bool → Option Items → Option Items → Type 0 = λ b v w. ok_or {T = NameLists} (cond b
-    (option_and_then (λ x. option_and_then (λ y. option_map (λ z. record { names = x; quorums = y; capacities = z }) (capacities_at (length x) table)) (option_and_then text_lists_of w)) (option_and_then texts_of v)) None) Keys
+    (option_and_then (λ x. option_and_then (λ y. option_map (λ z. record { names = x; quorums = y; capacities = z }) (capacities_at (length x) table)) (option_and_then text_lists_of w))
+    (option_and_then texts_of v)) None) Keys
     ≡ Ok (record { names = names; quorums = quorums; capacities = capacities }) in
     let texts : texts_of n ≡ Some names = from_ok (texts_of n) names is_n in
     let lists : text_lists_of q ≡ Some quorums = from_ok (text_lists_of q) quorums is_q in

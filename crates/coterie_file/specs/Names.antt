@@ -42,14 +42,14 @@ pub record AreNames (names : List (List ℕ)) : Type 0 where
   pub different : AllDiffer names
 
 -- the name at place i is at an earlier place too
-abbrev pub StandsEarlier : List (List ℕ) → ℕ → Type 0
-StandsEarlier names i = (j : ℕ) × (j < i) × (name_at names j ≡ name_at names i)
+abbrev pub IsEarlier : List (List ℕ) → ℕ → Type 0
+IsEarlier names i = (j : ℕ) × (j < i) × (name_at names j ≡ name_at names i)
 
 -- i is the smallest place whose name is at an earlier place too
 pub record IsLeastRepeat (names : List (List ℕ)) (i : ℕ) : Type 0 where
   pub within : i < length names
-  pub repeated : StandsEarlier names i
-  pub least : (k : ℕ) → k < i → ¬ StandsEarlier names k
+  pub repeated : IsEarlier names i
+  pub least : (k : ℕ) → k < i → ¬ IsEarlier names k
 
 -- the place of the first of the names that is also before it; the names in `before` come first
 abbrev pub first_repeat : List (List ℕ) → List (List ℕ) → Option ℕ

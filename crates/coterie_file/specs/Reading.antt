@@ -58,6 +58,6 @@ pub record ListsCoterie (lists : NameLists) : Type 0 where
   pub coterie : IsCoterie (system_of lists)
 
 -- the text describes this coterie with these names and capacities
-abbrev pub Spells : List ℕ → NamedSystem → Type 0
-Spells text n =
+abbrev pub Describes : List ℕ → NamedSystem → Type 0
+Describes text n =
     (lists : NameLists) × (lists_at text ≡ Ok lists) × ListsCoterie lists × (n ≡ named_of lists)

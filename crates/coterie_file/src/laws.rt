@@ -8,10 +8,10 @@ ghost use Rattle.toml.specs.Data.{Items, array};
 ghost use Rattle.toml.specs.View.{items_of};
 ghost use Rattle.coterie_file.specs.declared.fault.FileFault.TheVariants.{Coterie};
 ghost use Rattle.coterie_file.specs.Capacities.{is_capacity, capacities_fault};
-ghost use Rattle.coterie_file.specs.Lists.{NameLists, texts_of, text_lists_of, numbers_of, strings, integers};
+ghost use Rattle.coterie_file.specs.Lists.{texts_of, text_lists_of, numbers_of, strings, integers};
 ghost use Rattle.coterie_file.specs.Named.{NamedSystem, IsNamed};
 ghost use Rattle.coterie_file.specs.Names.{IsName, is_name, name_at, AllDiffer, AreNames, IsLeastRepeat, first_repeat, names_fault};
-ghost use Rattle.coterie_file.specs.Reading.{quorum_of, lists_fault, coterie_at, ListsCoterie, Spells};
+ghost use Rattle.coterie_file.specs.Reading.{quorum_of, coterie_at, Describes};
 
 /// The first repeat is the smallest place whose name is at an earlier place too. If there is none,
 /// all names differ.
@@ -55,7 +55,7 @@ pub fn quorums_have_the_listed_voters()
 /// A text is read as a coterie with names and capacities if and only if its lists have good names, a
 /// capacity for each name, and quorums of these names that are a coterie.
 pub fn texts_read_as_coteries()
-    ensures exact { (text : List ℕ) (n : NamedSystem) → (coterie_at text ≡ Ok n) ↔ Spells text n }
+    ensures exact { (text : List ℕ) (n : NamedSystem) → (coterie_at text ≡ Ok n) ↔ Describes text n }
     ensures named { (text : List ℕ) (n : NamedSystem) → coterie_at text ≡ Ok n → IsNamed n }
 {
     quorum_set::coteries_have_no_fault();

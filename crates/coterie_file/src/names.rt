@@ -1,9 +1,8 @@
 //! Names of voters, and their numbers.
-ghost use Rattle.std.specs.Prelude.{◌≡◌, [], length, map, not, None, Some, IfNone, IfOk, OnOk, MatchResult, position, string_bytes};
-ghost use Rattle.std.specs.List.{list_all, list_any};
-ghost use Rattle.std.specs.Str.{bytes_eq};
+ghost use Rattle.std.specs.Prelude.{◌≡◌, [], map, not, None, Some, IfNone, IfOk, OnOk, MatchResult, position, string_bytes};
+ghost use Rattle.std.specs.List.{list_all};
 ghost use Rattle.coterie_file.specs.Answers.{Gives, unless};
-ghost use Rattle.coterie_file.specs.Names.{is_name_byte, is_name, has_name, number_of, first_repeat, names_fault, AreNames};
+ghost use Rattle.coterie_file.specs.Names.{is_name_byte, is_name, has_name, first_repeat, names_fault, AreNames};
 
 use crate::fault::FileFault;
 use indexmap::IndexSet;

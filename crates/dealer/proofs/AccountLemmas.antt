@@ -53,7 +53,8 @@ times-past w (x ∷ xs) j is past =
     omega (arith, times-cons j (quorum_of_ticket w x) (quorums_named w xs), off, times-past w xs j is past)
 
 -- the counts of the quorums, at each number
-pub times-counts : (w : Weighted) (tickets : List ℕ) → IsCertificate w → (j : ℕ) → times j (quorums_named w tickets) ≡ 1 * get_or (values_below (length w.system.quorums) (λ k. times k (quorums_named w tickets))) j 0
+pub times-counts : (w : Weighted) (tickets : List ℕ) → IsCertificate w → (j : ℕ)
+    → times j (quorums_named w tickets) ≡ 1 * get_or (values_below (length w.system.quorums) (λ k. times k (quorums_named w tickets))) j 0
 times-counts w tickets is j =
     let n = length w.system.quorums in
     let counts = values_below n (λ k. times k (quorums_named w tickets)) in

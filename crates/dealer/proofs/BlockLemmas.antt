@@ -67,19 +67,19 @@ take_range a n zero le = refl
 take_range a zero (suc k) le = absurd (omega arith)
 take_range a (suc n) (suc k) le = ap (λ xs. a ∷ xs) (take_range (a + 1) n k (omega arith))
 
--- what stands in a round, by its place in the cycle
+-- a quorum of a round, by its place in the cycle
 round_at : (weights : List ℕ) (r i place : ℕ) → r < greatest_weight weights → place ≡ places_of weights r + i → i < length (round_of weights (r + 1))
     → get_or (cycle_of weights) place 0 ≡ get_or (round_of weights (r + 1)) i 0
 round_at weights r i place lt at inside =
     let g = greatest_weight weights in
     let all = range_with_len 1 g in
     let number : get_or all r 0 ≡ r + 1 = omega (arith, get_or-range_with_len 1 g r 0 lt) in
-    let stands = get_or-flat_map (round_of weights) all r i 0 0 (omega (arith, length-range_with_len 1 g)) (omega (arith, ap (λ s. length (round_of weights s)) number)) in
+    let present = get_or-flat_map (round_of weights) all r i 0 0 (omega (arith, length-range_with_len 1 g)) (omega (arith, ap (λ s. length (round_of weights s)) number)) in
     ap₂ (λ list p. get_or list p 0) (sym (cycle_of-rounds weights)) (at ∙ ap (λ rounds. length (flat_map (round_of weights) rounds) + i) (sym (take_range 1 g r (omega arith))))
-    ∙ stands
+    ∙ present
     ∙ ap (λ s. get_or (round_of weights s) i 0) number
 
--- what stands in a block
+-- the quorums of a block
 in_block : (weights : List ℕ) (before place : ℕ) (b : Block) → IsBlock weights before b → b.least ≤ greatest_weight weights → b.first ≤ place → place < places_of weights b.least
     → get_or (cycle_of weights) place 0 ≡ get_or (round_of weights b.least) ((place - b.first) % b.count) 0
 in_block weights before place b is most begun ended =
@@ -185,7 +185,8 @@ same_before blocks b i le =
     ∙ get_or_append_left (0 ∷ map (λ (c : Block). c.least) blocks) (b.least ∷ []) 0 i (omega (arith, length-map blocks (λ (c : Block). c.least)))
 
 -- one block more
-pub AreBlocksUpTo-more : (weights : List ℕ) (before : ℕ) (blocks : List Block) (b : Block) → AreBlocksUpTo weights before blocks → IsBlock weights before b → AreBlocksUpTo weights b.least (blocks ++ b ∷ [])
+pub AreBlocksUpTo-more : (weights : List ℕ) (before : ℕ) (blocks : List Block) (b : Block) → AreBlocksUpTo weights before blocks → IsBlock weights before b
+    → AreBlocksUpTo weights b.least (blocks ++ b ∷ [])
 AreBlocksUpTo-more weights before blocks b are is =
     let all = blocks ++ b ∷ [] in
     let long : length all ≡ length blocks + 1 = length-append blocks (b ∷ []) in

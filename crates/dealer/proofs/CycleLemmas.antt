@@ -1,4 +1,4 @@
--- What stands in a cycle, and how often.
+-- The quorums of a cycle, and how often each is in it.
 use Rattle.std.proofs.Common.{◌≡◌, ℕ, ◌+◌, ◌-◌, ◌<◌, ◌≤◌, cond, leb, List, ◌++◌, length, get_or, zero, suc, min, sum, filter, sym, refl, ap, ◌∙◌, inl, inr, arith}
 use Rattle.std.specs.List.{flat_map, range_with_len}
 use Rattle.std.proofs.lemmas.Bool.{cases_lt, le-leb, lt-leb, leb-true}
@@ -40,7 +40,7 @@ get_or-le-greatest_weight weights j =
       | inr outside ↦ omega (arith, get_or_past weights j 0 outside)
     ]
 
--- each quorum stands in a cycle as often as its weight
+-- each quorum is in a cycle as often as its weight
 pub times-cycle_of : (weights : List ℕ) (j : ℕ) → times j (cycle_of weights) ≡ get_or weights j 0
 unfolding cycle_of
 times-cycle_of weights j =
@@ -77,7 +77,8 @@ round_of-more weights r =
     (λ j passes. le-leb r (get_or weights j 0) (omega (arith, leb-true (r + 1) (get_or weights j 0) passes)))
 
 -- one round more
-pub flat_map-rounds_more : (weights : List ℕ) (r more : ℕ) → more ≡ r + 1 → flat_map (round_of weights) (range_with_len 1 more) ≡ flat_map (round_of weights) (range_with_len 1 r) ++ round_of weights more
+pub flat_map-rounds_more : (weights : List ℕ) (r more : ℕ) → more ≡ r + 1 → flat_map (round_of weights) (range_with_len 1 more) ≡ flat_map (round_of weights) (range_with_len 1 r)
+    ++ round_of weights more
 flat_map-rounds_more weights r more e =
     let next : more ≡ suc r = omega arith in
     ap (λ n. flat_map (round_of weights) (range_with_len 1 n)) next ∙ flat_map-range_more (round_of weights) 1 r more (omega arith)

@@ -40,7 +40,8 @@ weighs_all quota s r id v at all h =
     empty_sum [] e = refl
     empty_sum (x ∷ xs) e = absurd (omega arith)
 
-count_all : (quota : ℕ) (s : TableState) → IsDealt quota s.words s.views → (id : ℕ) (v : Hand) → get_elem? s.views id ≡ some v → length v.drawn + v.rest ≡ quota → slice_index s.words 0 ≡ length v.drawn
+count_all : (quota : ℕ) (s : TableState) → IsDealt quota s.words s.views → (id : ℕ) (v : Hand) → get_elem? s.views id ≡ some v → length v.drawn + v.rest ≡ quota
+    → slice_index s.words 0 ≡ length v.drawn
 count_all quota s r id v at all =
     sym (sum_below-one (slice_index s.words 0)) ∙ sym (weighs_all quota s r id v at all (λ _. 1)) ∙ sum_by-one v.drawn
 
@@ -121,7 +122,14 @@ Dealt-joins sheet id v other w s r at apart there =
       one_word = r.one_word;
       fits = r.fits;
       quota_kept = omega arith;
-      each_once = λ h. omega (arith, sum_by-set_elem (λ (u : Hand). sum_by h u.drawn) s.views id v both at, sum_by-set_elem (λ (u : Hand). sum_by h u.drawn) (set s.views id both) other w nothing there, sum_by-append h v.drawn w.drawn, r.each_once h);
+      each_once = λ h. omega (
+        arith,
+        sum_by-set_elem (λ (u : Hand). sum_by h u.drawn) s.views id v both at,
+        sum_by-set_elem (λ (u : Hand). sum_by h u.drawn)
+            (set s.views id both) other w nothing there,
+        sum_by-append h v.drawn w.drawn,
+        r.each_once h,
+      );
     }
 
 -- what a seat knows of a table that ended

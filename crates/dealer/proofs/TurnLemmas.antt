@@ -12,7 +12,7 @@ use Rattle.dealer.specs.Cycles.{round_of, greatest_weight, cycle_of, turn_at, Go
 use Rattle.dealer.proofs.CycleLemmas.{times-round_of, times-rounds, flat_map-rounds_more, cycle_of-rounds}
 use Rattle.numbers.proofs.CountLemmas.{times-append, times-get_or}
 
--- what stands in a round has a weight of at least the round's number
+-- a quorum of a round has a weight of at least the round's number
 round_of-weight : (weights : List ℕ) (r i : ℕ) → 0 < r → i < length (round_of weights r) → r ≤ get_or weights (get_or (round_of weights r) i 0) 0
 round_of-weight weights r i some lt =
     let j = get_or (round_of weights r) i 0 in
@@ -38,9 +38,9 @@ times-within weights r i some lt =
     let list = round_of weights r in
     let j = get_or list i 0 in
     let front = take (i + 1) list in
-    let stands = times-get_or front i (omega (arith, length-take-le (i + 1) list (omega arith))) in
+    let present = times-get_or front i (omega (arith, length-take-le (i + 1) list (omega arith))) in
     let here = ap (λ x. times x front) (get_or-take (i + 1) list i 0 (omega arith)) in
-    omega (arith, stands, here, sum_by-take-le (λ k. cond (eqb k j) 1 0) list (i + 1), times-round_of-le weights r j some)
+    omega (arith, present, here, sum_by-take-le (λ k. cond (eqb k j) 1 0) list (i + 1), times-round_of-le weights r j some)
 
 -- a round ascends
 round_of-ascends : (weights : List ℕ) (r i j : ℕ) → i < j → j < length (round_of weights r) → get_or (round_of weights r) i 0 < get_or (round_of weights r) j 0

@@ -3,7 +3,6 @@
 #![tactic(auto)]
 
 ghost use Rattle.std.specs.Prelude.{◌≡◌};
-ghost use Rattle.members.specs.Clusters.{ClusterState};
 
 use cluster::{Blank, Cluster, ClusterName, Member};
 use coterie_file::read_coterie;

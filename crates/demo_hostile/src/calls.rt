@@ -1,6 +1,5 @@
 //! The calls of one member: how many messages each kind of call loses, and how many calls find no memory.
 ghost use Rattle.std.specs.Prelude.{◌≡◌};
-ghost use Rattle.members.specs.Clusters.{ClusterState};
 
 use cluster::{Blank, Cluster, ClusterFault, ClusterName, Member};
 use dealer::Plans;

@@ -1,7 +1,6 @@
 //! Two members of a cluster of three voters, each of which passes once while a gate holds the second
 //! one up.
 ghost use Rattle.std.specs.Prelude.{◌≡◌, IfOk};
-ghost use Rattle.members.specs.Clusters.{ClusterState};
 ghost use Rattle.members.specs.Members.{AreIdle};
 
 use crate::held::{Held, Hold};

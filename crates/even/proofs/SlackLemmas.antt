@@ -1,10 +1,10 @@
 -- The excess of an order: voter by voter, by their greatest leads.
-use Rattle.std.proofs.Common.{◌≡◌, ℕ, ◌+◌, ◌*◌, ◌/◌, ◌%◌, ◌<◌, ◌≤◌, true, false, cond, min, ltb, List, [], ◌∷◌, ◌++◌, length, get_or, sum, zero, suc, sym, ap, ◌∙◌, subst, inl, inr, arith}
+use Rattle.std.proofs.Common.{◌≡◌, ℕ, ◌+◌, ◌*◌, ◌/◌, ◌%◌, ◌<◌, ◌≤◌, true, false, cond, min, ltb, List, [], ◌∷◌, ◌++◌, length, get_or, sum, zero, suc, refl, sym, ap, ap₂, ◌∙◌, subst, inl, inr, arith}
 use Rattle.std.specs.Int.{IsGcd, ◌∣◌}
 use Rattle.std.specs.List.Sorted.{IsPermutation}
 use Rattle.std.proofs.lemmas.Bool.{cases_eq, cases_lt}
 use Rattle.std.proofs.lemmas.Grind.{div_ceil_times}
-use Rattle.std.proofs.lemmas.List.{length-append}
+use Rattle.std.proofs.lemmas.List.{length-append, get_or_append_left, get_or_push}
 use Rattle.std.proofs.lemmas.List.Elements.{All-nil, All-push}
 use Rattle.std.proofs.lemmas.List.FromFn.{length-map-range_with_len}
 use Rattle.std.proofs.lemmas.List.Sorted.{sum_by-IsPermutation, length_permutation}
@@ -23,7 +23,7 @@ use Rattle.certificate.specs.Ratios.{greatest_fraction, greatest_ratio}
 use Rattle.even.specs.EvenCycles.{EvenOrder, Row, even_quorum, window, quorums_of_rows}
 use Rattle.even.specs.Leads.{IsGreatestLead}
 use Rattle.even.specs.Slacks.{slack_unit, IsWithin, IsExcess}
-use Rattle.even.specs.Strides.{with_stride, IsBestOf}
+use Rattle.even.specs.Strides.{with_stride, IsBestOf, IsFirstBest, IsMoreEven}
 use Rattle.even.proofs.StrideLemmas.{dvd_from_coprime}
 use Rattle.even.proofs.WindowLemmas.{repeated-window}
 
@@ -187,7 +187,67 @@ IsBestOf-more w strides best best_excess next next_excess kept kept_excess is_be
 
 -- the first stride
 pub IsBestOf-one : (w : Weighted) (stride : ℕ) → IsBestOf (stride ∷ []) (with_stride w stride)
-IsBestOf-one w stride = All-push (λ s. (excess : ℕ) → IsWithin (with_stride w s) excess → IsWithin (with_stride w stride) excess) [] stride (All-nil (λ s. (excess : ℕ) → IsWithin (with_stride w s) excess → IsWithin (with_stride w stride) excess)) (λ excess within. within)
+IsBestOf-one w stride = All-push (λ s. (excess : ℕ) → IsWithin (with_stride w s) excess → IsWithin (with_stride w stride) excess) [] stride
+    (All-nil (λ s. (excess : ℕ) → IsWithin (with_stride w s) excess → IsWithin (with_stride w stride) excess)) (λ excess within. within)
+
+pub IsFirstBest-one : (w : Weighted) (stride : ℕ) → IsFirstBest (stride ∷ []) (with_stride w stride)
+IsFirstBest-one w stride = record { place = 0; inside = omega arith; is = refl; best = IsBestOf-one w stride; earlier = λ k lt. absurd (omega arith) }
+
+-- one stride more, whose slack is not smaller
+pub IsFirstBest-kept : (w : Weighted) (strides : List ℕ) (best best_excess next next_excess : ℕ)
+    → IsExcess (with_stride w best) best_excess → IsExcess (with_stride w next) next_excess → best_excess ≤ next_excess
+    → IsFirstBest strides (with_stride w best) → IsFirstBest (strides ++ next ∷ []) (with_stride w best)
+IsFirstBest-kept w strides best best_excess next next_excess is_best is_next le was =
+    record {
+      place = was.place;
+      inside = omega (arith, was.inside, length-append strides (next ∷ []));
+      is = get_or_append_left strides (next ∷ []) 0 was.place was.inside ∙ was.is;
+      best = IsBestOf-more w strides best best_excess next next_excess best best_excess is_best is_next is_best (omega arith) le was.best;
+      earlier = λ k lt.
+          subst (λ s. IsMoreEven (with_stride w best) (with_stride w s))
+          (sym (get_or_append_left strides (next ∷ []) 0 k (omega (arith, was.inside))))
+          (was.earlier k lt);
+    }
+
+-- one stride more, whose slack is smaller
+pub IsFirstBest-next : (w : Weighted) (strides : List ℕ) (best best_excess next next_excess : ℕ)
+    → IsExcess (with_stride w best) best_excess → IsExcess (with_stride w next) next_excess → next_excess < best_excess
+    → IsFirstBest strides (with_stride w best) → IsFirstBest (strides ++ next ∷ []) (with_stride w next)
+IsFirstBest-next w strides best best_excess next next_excess is_best is_next lt was =
+    let not_before : (k : ℕ) → k < length strides → ¬ IsWithin (with_stride w (get_or strides k 0)) next_excess =
+    λ k below within. let least = is_best.least next_excess (was.best k 0 below next_excess within) in omega (arith, least, lt) in
+    record {
+      place = length strides;
+      inside = omega (arith, length-append strides (next ∷ []));
+      is = get_or_push strides next 0 (length strides) refl;
+      best = IsBestOf-more w strides best best_excess next next_excess next next_excess is_best is_next is_next (omega arith) (omega arith) was.best;
+      earlier = λ k below.
+          subst (λ s. IsMoreEven (with_stride w next) (with_stride w s))
+          (sym (get_or_append_left strides (next ∷ []) 0 k below))
+          (next_excess, is_next.bound, not_before k below);
+    }
+
+-- of two orders of a plan the second's stride is not later in the list
+not_later : (strides : List ℕ) (first second : EvenOrder) → first.plan ≡ second.plan → (one : IsFirstBest strides first) → (other : IsFirstBest strides second) → one.place < other.place → ⊥
+not_later strides first second same one other lt =
+    let (excess, within, without) = other.earlier one.place lt in
+    let moved : IsWithin (with_stride first.plan second.stride) excess = subst (λ w. IsWithin (with_stride w second.stride) excess) (sym same) within in
+    let at : IsWithin (with_stride first.plan (get_or strides other.place 0)) excess = subst (λ s. IsWithin (with_stride first.plan s) excess) (sym other.is) moved in
+    let best : IsWithin first excess = one.best other.place 0 other.inside excess at in
+    without (subst (λ s. IsWithin (with_stride second.plan s) excess) (sym one.is) (subst (λ w. IsWithin (with_stride w first.stride) excess) same best))
+
+pub IsFirstBest-one_stride : (strides : List ℕ) (first second : EvenOrder) → first.plan ≡ second.plan → IsFirstBest strides first → IsFirstBest strides second → first ≡ second
+IsFirstBest-one_stride strides first second same one other =
+    elim (cases_lt one.place other.place) [
+      | inl before ↦ absurd (not_later strides first second same one other before)
+      | inr not_before ↦ elim (cases_lt other.place one.place) [
+        | inl after ↦ absurd (not_later strides second first (sym same) other one after)
+        | inr not_after ↦
+            let places : one.place ≡ other.place = omega arith in
+            let strides_same : first.stride ≡ second.stride = sym one.is ∙ ap (λ k. get_or strides k 0) places ∙ other.is in
+            ap₂ (λ (w : Weighted) (s : ℕ). with_stride w s) same strides_same
+      ]
+    ]
 
 -- Several processes
 

@@ -139,7 +139,8 @@ times-round o j some fair =
     ap (λ n. times j (window o 0 n)) one ∙ times-window o 0 1 j some fair
 
 -- a ticket's quorum, by its place in the first cycle
-pub even_quorum-place : (o : EvenOrder) (ticket len stride : ℕ) → len ≡ cycle_len o.plan → stride ≡ o.stride → get_or (places_of o.plan.quorum_weights) (ticket % len * stride % len) 0 ≡ even_quorum o ticket
+pub even_quorum-place : (o : EvenOrder) (ticket len stride : ℕ) → len ≡ cycle_len o.plan → stride ≡ o.stride
+    → get_or (places_of o.plan.quorum_weights) (ticket % len * stride % len) 0 ≡ even_quorum o ticket
 even_quorum-place o ticket len stride long is =
     ap (λ d. get_or (places_of o.plan.quorum_weights) (ticket % d * stride % d) 0) long
     ∙ ap (λ s. get_or (places_of o.plan.quorum_weights) (ticket % cycle_len o.plan * s % cycle_len o.plan) 0) is
@@ -159,7 +160,8 @@ All-window o first n is =
     omega (arith, at, even_quorum-lt o (first + k) is))
 
 -- one ticket more
-pub window-more : (o : EvenOrder) (before after : List ℕ) (ticket quorum : ℕ) → before ≡ window o 0 ticket → quorum ≡ even_quorum o ticket → after ≡ before ++ quorum ∷ [] → after ≡ window o 0 (ticket + 1)
+pub window-more : (o : EvenOrder) (before after : List ℕ) (ticket quorum : ℕ) → before ≡ window o 0 ticket → quorum ≡ even_quorum o ticket → after ≡ before ++ quorum ∷ []
+    → after ≡ window o 0 (ticket + 1)
 window-more o before after ticket quorum made here pushed =
     pushed ∙ ap₂ (λ (xs : List ℕ) (x : ℕ). xs ++ x ∷ []) made here ∙ sym (map-range_with_len_more (even_quorum o) 0 ticket ticket (omega arith))
 

@@ -13,8 +13,8 @@ pub record EvenOrder : Type 0 where
   pub plan : Weighted
   pub stride : ℕ
 
--- the quorum of a ticket: the one at the place to which so many strides lead from place 0, if place 0
--- follows the last place
+-- the quorum of a ticket: the one at the place that `ticket` strides lead to from place 0, if place 0 follows the last
+-- place
 abbrev pub even_quorum : EvenOrder → ℕ → ℕ
 even_quorum o ticket = slice_index (places_of o.plan.quorum_weights) (ticket * o.stride % cycle_len o.plan)
 

@@ -1,5 +1,5 @@
 -- Which strides are tried, and what an even cycle keeps.
-use Rattle.std.specs.Prelude.{◌≡◌, ◌==◌, ℕ, ◌*◌, ◌+◌, ◌-◌, ◌/◌, ◌%◌, ◌≤◌, if◌then◌else◌, List, ◌∷◌, map, max, min, take, filter, slice_index, length}
+use Rattle.std.specs.Prelude.{◌≡◌, ◌==◌, ℕ, ◌*◌, ◌+◌, ◌-◌, ◌/◌, ◌%◌, ◌<◌, ◌≤◌, if◌then◌else◌, List, ◌∷◌, map, max, min, take, filter, slice_index, length}
 use Rattle.std.specs.List.{All, range_with_len}
 use Rattle.numbers.specs.Bounds.{max_cycle}
 use Rattle.numbers.specs.Sums.{sum_below}
@@ -40,6 +40,20 @@ with_stride w stride = record { plan = w; stride = stride }
 abbrev pub IsBestOf : List ℕ → EvenOrder → Type 0
 IsBestOf strides o =
     All (λ s. (excess : ℕ) → IsWithin (with_stride o.plan s) excess → IsWithin o excess) strides
+
+-- the first order has the smaller slack: tickets in a row are within some excess for it, and not for
+-- the second order
+abbrev pub IsMoreEven : EvenOrder → EvenOrder → Type 0
+IsMoreEven o other = (excess : ℕ) × IsWithin o excess × ¬ IsWithin other excess
+
+-- the first of these strides that has the smallest slack: none has a smaller one, and those before it
+-- have a greater one
+pub record IsFirstBest (strides : List ℕ) (o : EvenOrder) : Type 0 where
+  pub place : ℕ
+  pub inside : place < length strides
+  pub is : slice_index strides place ≡ o.stride
+  pub best : IsBestOf strides o
+  pub earlier : (k : ℕ) → k < place → IsMoreEven o (with_stride o.plan (slice_index strides k))
 
 -- what an even cycle keeps: an optimal plan, where the places of each quorum end, the stride, and its
 -- excess

@@ -1,11 +1,10 @@
 //! The even cycle of a plan.
 ghost use Rattle.std.specs.Prelude.{◌≡◌, ◌<◌, ◌≤◌, length, IfOk, IfErr};
-ghost use Rattle.std.specs.List.{Contains};
 ghost use Rattle.numbers.specs.Bounds.{max_cycle};
 ghost use Rattle.certificate.specs.Certificates.{IsCertificate, IsOptimal, cycle_len};
 ghost use Rattle.even.specs.EvenCycles.{even_quorum, IsFair};
 ghost use Rattle.even.specs.Slacks.{IsExcess, IsSlack};
-ghost use Rattle.even.specs.Strides.{ends_of, strides_of, with_stride, IsBestOf};
+ghost use Rattle.even.specs.Strides.{ends_of, strides_of, with_stride, IsFirstBest};
 
 use crate::places::{ends_of, quorum_of_place};
 use crate::slack::{Slack, unit_of};
@@ -40,11 +39,10 @@ impl Model for EvenCycle {
 fn chosen(alloc: Global, plan: &Plan) -> Result<(Vec<u64>, Choice), AllocError>
     ensures ends { IfOk result (λ kept. kept.0.items ≡ ends_of plan.now.quorum_weights) }
     ensures short { IfOk result (λ kept. kept.1.stride ≤ max_cycle) }
-    ensures tried { IfOk result (λ kept. Contains (strides_of (cycle_len plan.now)) kept.1.stride) }
     ensures fair { IfOk result (λ kept. IsFair (with_stride plan.now kept.1.stride)) }
     ensures excess { IfOk result (λ kept. IsExcess (with_stride plan.now kept.1.stride) kept.1.excess) }
-    ensures best { IfOk result (λ kept.
-        IsBestOf (strides_of (cycle_len plan.now)) (with_stride plan.now kept.1.stride)) }
+    ensures first { IfOk result (λ kept.
+        IsFirstBest (strides_of (cycle_len plan.now)) (with_stride plan.now kept.1.stride)) }
 {
     let ends = ends_of(alloc, plan)?;
     let choice = best_of(alloc, plan, &ends)?;
@@ -56,16 +54,15 @@ impl EvenCycle {
     ///
     /// Tries stride 1 and the strides next to 0.618 times the cycle's length that have no divisor in
     /// common with it: 12 if the length is at most 250,000, and fewer, but at least 2, if it is
-    /// longer. For each it goes twice along one cycle with each voter, and keeps the stride of
-    /// smallest slack.
+    /// longer. For each it goes twice along one cycle with each voter, and keeps the first stride
+    /// of smallest slack. So a plan has one even cycle ([`even_orders_are_one`](crate::even_orders_are_one)).
     ///
     /// Fails only if it runs out of memory, and then returns the plan. While it runs, it needs memory
     /// for one number for each place of the cycle.
     pub fn of(alloc: Global, plan: Plan) -> Result<EvenCycle, (Plan, AllocError)>
         ensures plan { IfOk result (λ cycle. cycle.plan ≡ plan) }
-        ensures tried { IfOk result (λ cycle. Contains (strides_of (cycle_len plan)) cycle.stride) }
-        // None of the strides that were tried has a smaller slack.
-        ensures best { IfOk result (IsBestOf (strides_of (cycle_len plan))) }
+        // Of the strides that are tried, none has a smaller slack, and those before it have a greater one.
+        ensures first { IfOk result (IsFirstBest (strides_of (cycle_len plan))) }
         ensures fair { IfOk result IsFair }
         ensures certificate { IfOk result (λ cycle. IsCertificate cycle.plan) }
         ensures err { IfErr result (λ refusal. refusal.0 ≡ plan) }

@@ -7,6 +7,7 @@ ghost use Rattle.certificate.specs.Ratios.{ratio_of};
 ghost use Rattle.dealer.specs.Accounts.{ratio_of_cycles, IsLeastRatio};
 ghost use Rattle.even.specs.EvenCycles.{EvenOrder, Row, window, quorums_of_rows, whole_rows, total_of, IsFair};
 ghost use Rattle.even.specs.Slacks.{IsWithin, slack_unit};
+ghost use Rattle.even.specs.Strides.{IsFirstBest};
 
 use certificate::{no_list_has_a_smaller_ratio, whole_cycles_are_even};
 
@@ -46,4 +47,11 @@ pub fn slacks_add_up()
         → (i : ℕ) → i < o.plan.system.voters
         → slack_unit o.plan * count_of o.plan.system i list
         ≤ slice_index o.plan.capacities i * (length list * (cycle_ratio o.plan).0 + length rows * excess) }
+{}
+
+/// A plan has one order whose stride is the first of smallest slack among some strides. So whoever
+/// makes the even cycle of the same plan gets the same quorum for each ticket.
+pub fn even_orders_are_one()
+    ensures { (strides : List ℕ) (first second : EvenOrder) → first.plan ≡ second.plan
+        → IsFirstBest strides first → IsFirstBest strides second → first ≡ second }
 {}

@@ -1,5 +1,5 @@
 //! Leads: how far a voter's count runs ahead of its share.
-ghost use Rattle.std.specs.Prelude.{◌≡◌, ◌+◌, ◌-◌, ◌*◌, ◌^◌, ◌<◌, ◌≤◌, ℕ, length, if◌then◌else◌};
+ghost use Rattle.std.specs.Prelude.{◌≡◌, ◌+◌, ◌-◌, ◌*◌, ◌^◌, ◌<◌, ◌≤◌, length, if◌then◌else◌};
 ghost use Rattle.std.specs.List.{All};
 ghost use Rattle.numbers.specs.Bounds.{max_cycle};
 ghost use Rattle.numbers.specs.Counts.{greatest_below};

@@ -9,7 +9,8 @@
 //!
 //! The [`Slack`] says how even that is: any n tickets in a row, from any first ticket, use no voter
 //! more often than n times the load plus the slack, times the voter's capacity. No smaller slack has
-//! this property. An even cycle is made by trying some strides, and keeps the one of smallest slack.
+//! this property. An even cycle is made by trying some strides, and keeps the first one of smallest
+//! slack.
 //!
 //! ```text
 //! let Ok(cycle) = EvenCycle::of(alloc, plan) else { .. };
@@ -34,5 +35,5 @@ mod slack;
 mod strides;
 
 pub use cycle::EvenCycle;
-pub use laws::{slacks_add_up, whole_cycles_begin_anywhere};
+pub use laws::{even_orders_are_one, slacks_add_up, whole_cycles_begin_anywhere};
 pub use slack::Slack;

@@ -1,7 +1,6 @@
 //! The places of a cycle, each with its quorum.
 ghost use Rattle.std.specs.Prelude.{◌≡◌, ◌<◌, ◌≤◌, ℕ, List, length, slice_index, sum, IfOk};
 ghost use Rattle.std.specs.List.Sorted.{IsNonDecreasing};
-ghost use Rattle.certificate.specs.Certificates.{IsCertificate};
 ghost use Rattle.even.specs.EvenCycles.{places_of};
 ghost use Rattle.even.specs.Strides.{ends_of};
 

@@ -1,14 +1,14 @@
 //! The strides that are tried, and the best of them.
 ghost use Rattle.std.specs.Prelude.{◌≡◌, ◌⊎◌, ◌==◌, ◌*◌, ◌<◌, ◌≤◌, length, slice_index, filter, map, take, IfOk};
 ghost use Rattle.std.specs.Int.{IsGcd};
-ghost use Rattle.std.specs.List.{All, Contains, range_with_len};
+ghost use Rattle.std.specs.List.{All, range_with_len};
 ghost use Rattle.divisor.specs.Gcd.{gcd_of};
 ghost use Rattle.numbers.specs.Bounds.{max_cycle};
 ghost use Rattle.certificate.specs.Certificates.{cycle_len, cycle_ratio};
 ghost use Rattle.even.specs.EvenCycles.{window, IsFair};
 ghost use Rattle.even.specs.Leads.{IsGreatestLead};
 ghost use Rattle.even.specs.Slacks.{slack_unit, IsExcess};
-ghost use Rattle.even.specs.Strides.{ends_of, stride_at, strides_of, strides_tried, with_stride, IsBestOf};
+ghost use Rattle.even.specs.Strides.{ends_of, stride_at, strides_of, strides_tried, with_stride, IsFirstBest};
 
 use crate::leads::greatest_lead;
 use crate::places::quorum_of_place;
@@ -132,9 +132,8 @@ fn tried(alloc: Global, plan: &Plan, ends: &[u64], stride: u64) -> Result<Choice
 
 /// Returns the one of two choices with the smaller excess, or the first.
 fn better_of(first: Choice, second: Choice) -> Choice
-    ensures first { result.excess ≤ first.excess }
-    ensures second { result.excess ≤ second.excess }
-    ensures one_of { (result ≡ first) ⊎ (result ≡ second) }
+    ensures one_of { ((result ≡ first) × (first.excess ≤ second.excess))
+        ⊎ ((result ≡ second) × (second.excess < first.excess)) }
 {
     if second.excess < first.excess {
         second
@@ -143,15 +142,14 @@ fn better_of(first: Choice, second: Choice) -> Choice
     }
 }
 
-/// Returns the stride of smallest excess among those that are tried.
+/// Returns the first stride of smallest excess among those that are tried.
 pub(crate) fn best_of(alloc: Global, plan: &Plan, ends: &[u64]) -> Result<Choice, AllocError>
     requires ends { ends.now ≡ ends_of plan.now.quorum_weights }
     ensures short { IfOk result (λ choice. choice.stride ≤ max_cycle) }
-    ensures tried { IfOk result (λ choice. Contains (strides_of (cycle_len plan.now)) choice.stride) }
     ensures fair { IfOk result (λ choice. IsFair (with_stride plan.now choice.stride)) }
     ensures excess { IfOk result (λ choice. IsExcess (with_stride plan.now choice.stride) choice.excess) }
-    ensures best { IfOk result (λ choice.
-        IsBestOf (strides_of (cycle_len plan.now)) (with_stride plan.now choice.stride)) }
+    ensures first { IfOk result (λ choice.
+        IsFirstBest (strides_of (cycle_len plan.now)) (with_stride plan.now choice.stride)) }
 {
     let strides = near_golden(alloc, plan.cycle_len())?;
     let mut best = tried(alloc, plan, ends, 1)?;

@@ -1,5 +1,6 @@
 -- Sets that meet every quorum.
-use Rattle.std.proofs.Common.{◌≡◌, ◌≢◌, ℕ, zero, suc, ◌+◌, ◌<◌, ◌≤◌, Bool, true, false, true≢false, not, cond, ◌==◌, ◌||◌, ◌&&◌, List, [], ◌∷◌, ◌++◌, length, filter, get_or, sym, refl, ap, subst, ◌∙◌, arith, None, Err, inl, inr, ne_eqb}
+use Rattle.std.proofs.Common.{◌≡◌, ◌≢◌, ℕ, zero, suc, ◌+◌, ◌<◌, ◌≤◌, Bool, true, false, true≢false, not, cond, ◌==◌, ◌||◌, ◌&&◌, List, [], ◌∷◌, ◌++◌, length, filter, get_or, sym}
+use Rattle.std.proofs.Common.{refl, ap, subst, ◌∙◌, arith, None, Err, inl, inr, ne_eqb}
 use Rattle.std.proofs.lemmas.Bool.{cases_eq}
 use Rattle.std.specs.Prelude.{◌↔◌, All, nat_lt}
 use Rattle.std.proofs.lemmas.Bool.Decides.{nat_tests}

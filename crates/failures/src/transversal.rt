@@ -1,5 +1,5 @@
 //! Sets that meet every quorum, and a smallest one.
-ghost use Rattle.std.specs.Prelude.{◌≡◌, ◌==◌, ◌||◌, ◌<◌, ◌≤◌, ℕ, true, false, length, IfNone, IfSome, All, IsTrue};
+ghost use Rattle.std.specs.Prelude.{◌≡◌, ◌==◌, ◌||◌, ◌<◌, ◌≤◌, ℕ, true, length, IfNone, IfSome, All};
 ghost use Rattle.numbers.specs.Sets.{has, IsSet};
 ghost use Rattle.failures.specs.Failures.{IsSmallest, IsSmallestWith, IsTransversal};
 

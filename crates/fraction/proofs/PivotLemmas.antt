@@ -11,7 +11,8 @@ use Rattle.std.proofs.lemmas.Nat.Gcd.{dvd_antisymm}
 use Rattle.std.proofs.Math.Nat.{one-dvd, eq-zero_of_zero-dvd, mul-dvd-mul_left, dvd_of_mul-dvd-mul_left, mul-div_cancel', mul_comm}
 use Rattle.fraction.specs.Fractions.{Fits}
 use Rattle.fraction.specs.Tables.{Table, PivotFits, pivoted, row_of}
-use Rattle.fraction.specs.Rows.{lists_of, row_at, entry_of, combined, EachFits, EliminateFits, IsEliminated, AllEliminateFit, EachRow, IsDivided, IsDivisorOfAll, IsLevelWith, OthersFit, IsUnreduced, IsLowest}
+use Rattle.fraction.specs.Rows.{lists_of, row_at, entry_of, combined, EachFits, EliminateFits, IsEliminated, AllEliminateFit, EachRow, IsDivided, IsDivisorOfAll, IsLevelWith}
+use Rattle.fraction.specs.Rows.{OthersFit, IsUnreduced, IsLowest}
 use Rattle.fraction.proofs.Lowest.{unsigned_abs-some, positive-some}
 
 -- a list of one element
@@ -26,7 +27,8 @@ set-from_length_one (x ∷ []) v e = refl
 set-from_length_one (x ∷ y ∷ xs) v e = absurd (omega arith)
 
 -- the entries of rows that are parted at one of them
-pub lists_of-parted : (rows above rest own below : List (Vec ℤ Global)) (first : Vec ℤ Global) → rows ≡ above ++ rest → rest ≡ own ++ below → own ≡ first ∷ [] → lists_of rows ≡ lists_of above ++ (first.items ∷ lists_of below)
+pub lists_of-parted : (rows above rest own below : List (Vec ℤ Global)) (first : Vec ℤ Global) → rows ≡ above ++ rest → rest ≡ own ++ below → own ≡ first ∷ []
+    → lists_of rows ≡ lists_of above ++ (first.items ∷ lists_of below)
 lists_of-parted rows above rest own below first e f g =
     ap lists_of (e ∙ ap (λ r. above ++ r) (f ∙ ap (λ o. o ++ below) g)) ∙ map-append (λ row. row.items) above (first ∷ below)
 
@@ -50,27 +52,33 @@ EliminateFits-as r r' p p' s s' col er ep es fits =
 pub AllEliminateFit-as : (A : List (List ℤ)) (p p' : List ℤ) (s s' : ℤ) (col : ℕ) → p' ≡ p → s' ≡ s → AllEliminateFit A s p col → AllEliminateFit A s' p' col
 AllEliminateFit-as A p p' s s' col ep es fits = subst (λ x. AllEliminateFit A x p' col) (sym es) (subst (λ x. AllEliminateFit A s x col) (sym ep) fits)
 
-pub EachRow-IsEliminated_as : (A A' : List (List ℤ)) (p p' : List ℤ) (s s' : ℤ) (col : ℕ) → p' ≡ p → s' ≡ s → EachRow (λ old new. IsEliminated old new s' p' col) A A' → EachRow (λ old new. IsEliminated old new s p col) A A'
-EachRow-IsEliminated_as A A' p p' s s' col ep es is = subst (λ x. EachRow (λ old new. IsEliminated old new s x col) A A') ep (subst (λ x. EachRow (λ old new. IsEliminated old new x p' col) A A') es is)
+pub EachRow-IsEliminated_as : (A A' : List (List ℤ)) (p p' : List ℤ) (s s' : ℤ) (col : ℕ) → p' ≡ p → s' ≡ s → EachRow (λ old new. IsEliminated old new s' p' col) A A'
+    → EachRow (λ old new. IsEliminated old new s p col) A A'
+EachRow-IsEliminated_as A A' p p' s s' col ep es is = subst (λ x. EachRow (λ old new. IsEliminated old new s x col) A A') ep
+    (subst (λ x. EachRow (λ old new. IsEliminated old new x p' col) A A') es is)
 
 -- a row that was scaled, of equal rows and factors
-pub scaled_row-equal : (new old new' old' : List ℤ) (den den' : ℤ) → new ≡ new' → old' ≡ old → den' ≡ den → ((j : ℕ) → j < length old' → entry_of new' j ≡ entry_of old' j *ℤ den') → (j : ℕ) → j < length old → entry_of new j ≡ entry_of old j *ℤ den
+pub scaled_row-equal : (new old new' old' : List ℤ) (den den' : ℤ) → new ≡ new' → old' ≡ old → den' ≡ den → ((j : ℕ) → j < length old' → entry_of new' j ≡ entry_of old' j *ℤ den')
+    → (j : ℕ) → j < length old → entry_of new j ≡ entry_of old j *ℤ den
 scaled_row-equal new old new' old' den den' en eo ed is j lt =
     ap (λ r. entry_of r j) en ∙ is j (subst (λ r. j < length r) (sym eo) lt) ∙ ap (λ r. entry_of r j *ℤ den') eo ∙ ap (λ d. entry_of old j *ℤ d) ed
 
 -- the parts of what fits
-pub PivotFits-from_parts : (L : List (List ℤ)) (den : ℤ) (row col : ℕ) → Fits (den *ℤ entry_of (row_at L row) col) → EachFits (row_at L row) den → OthersFit L (entry_of (row_at L row) col) row col → PivotFits (record { rows = L; den = den }) row col
+pub PivotFits-from_parts : (L : List (List ℤ)) (den : ℤ) (row col : ℕ) → Fits (den *ℤ entry_of (row_at L row) col) → EachFits (row_at L row) den
+    → OthersFit L (entry_of (row_at L row) col) row col → PivotFits (record { rows = L; den = den }) row col
 PivotFits-from_parts L den row col at own others = record { den = at; pivot_row = λ j place. own j place.1; others = λ i j ne place. others i place.0 ne j place.1 }
 
 pub OthersFit-PivotFits : (L : List (List ℤ)) (den : ℤ) (row col : ℕ) → PivotFits (record { rows = L; den = den }) row col → OthersFit L (entry_of (row_at L row) col) row col
 OthersFit-PivotFits L den row col fits = λ i lt ne j within. fits.others i j ne (lt, within)
 
 -- what the pivot forms of another row fits
-row_fits : (L : List (List ℤ)) (r p : List ℤ) (den : ℤ) (row col i : ℕ) → row_at L row ≡ p → row_at L i ≡ r → i < length L → i ≢ row → PivotFits (record { rows = L; den = den }) row col → EliminateFits r (entry_of p col) p col
+row_fits : (L : List (List ℤ)) (r p : List ℤ) (den : ℤ) (row col i : ℕ) → row_at L row ≡ p → row_at L i ≡ r → i < length L → i ≢ row → PivotFits (record { rows = L; den = den }) row col
+    → EliminateFits r (entry_of p col) p col
 row_fits L r p den row col i ep er lt ne fits =
     subst (λ r. EliminateFits r (entry_of p col) p col) er (subst (λ q. EliminateFits (row_at L i) (entry_of q col) q col) ep (λ j within. fits.others i j ne (lt, within)))
 
-pub AllEliminateFit-above : (L A B : List (List ℤ)) (p : List ℤ) (den : ℤ) (row col : ℕ) → L ≡ A ++ (p ∷ B) → length A ≡ row → IsLevelWith L row → col < length (row_at L row) → PivotFits (record { rows = L; den = den }) row col → AllEliminateFit A (entry_of p col) p col
+pub AllEliminateFit-above : (L A B : List (List ℤ)) (p : List ℤ) (den : ℤ) (row col : ℕ) → L ≡ A ++ (p ∷ B) → length A ≡ row → IsLevelWith L row → col < length (row_at L row)
+    → PivotFits (record { rows = L; den = den }) row col → AllEliminateFit A (entry_of p col) p col
 AllEliminateFit-above L A B p den row col e n level within fits = λ i lt.
     let many = count_of L A B p e in
     let own = row_at-row L A B p row e n in
@@ -79,7 +87,8 @@ AllEliminateFit-above L A B p den row col e n level within fits = λ i lt.
     let ne : i ≢ row = omega arith in
     (ap length (sym this) ∙ level i inside ∙ ap length own, subst (λ r. col < length r) own within, row_fits L (row_at A i) p den row col i own this inside ne fits)
 
-pub AllEliminateFit-below : (L A B : List (List ℤ)) (p : List ℤ) (den : ℤ) (row col : ℕ) → L ≡ A ++ (p ∷ B) → length A ≡ row → IsLevelWith L row → col < length (row_at L row) → PivotFits (record { rows = L; den = den }) row col → AllEliminateFit B (entry_of p col) p col
+pub AllEliminateFit-below : (L A B : List (List ℤ)) (p : List ℤ) (den : ℤ) (row col : ℕ) → L ≡ A ++ (p ∷ B) → length A ≡ row → IsLevelWith L row → col < length (row_at L row)
+    → PivotFits (record { rows = L; den = den }) row col → AllEliminateFit B (entry_of p col) p col
 AllEliminateFit-below L A B p den row col e n level within fits = λ k lt.
     let many = count_of L A B p e in
     let own = row_at-row L A B p row e n in
@@ -95,7 +104,8 @@ EachFits-pivot_row L A B p den row col e n fits =
     subst (λ r. EachFits r den) (row_at-row L A B p row e n) (λ j within. fits.pivot_row j (inside, within))
 
 -- a row that lost the pivot's row has the numbers of the pivot
-other_is : (t : Table) (old new p : List ℤ) (row col i : ℕ) → row_of t row ≡ p → row_of t i ≡ old → i ≢ row → IsEliminated old new (entry_of p col) p col → (length new ≡ length (row_of t i)) × ((j : ℕ) → j < length (row_of t i) → entry_of new j ≡ pivoted t row col i j)
+other_is : (t : Table) (old new p : List ℤ) (row col i : ℕ) → row_of t row ≡ p → row_of t i ≡ old → i ≢ row → IsEliminated old new (entry_of p col) p col
+    → (length new ≡ length (row_of t i)) × ((j : ℕ) → j < length (row_of t i) → entry_of new j ≡ pivoted t row col i j)
 other_is t old new p row col i ep er ne is =
     (is.0 ∙ ap length (sym er), λ j lt. is.1 j (subst (λ r. j < length r) er lt) ∙ sym (at j))
   where
@@ -103,7 +113,8 @@ other_is t old new p row col i ep er ne is =
     at j = rw (ne_eqb i row ne, er, ep) refl
 
 -- the pivot's row, scaled, has the numbers of the pivot
-own_is : (t : Table) (new p : List ℤ) (row col i : ℕ) → row_of t row ≡ p → i ≡ row → length new ≡ length p → ((j : ℕ) → j < length p → entry_of new j ≡ entry_of p j *ℤ t.den) → (length new ≡ length (row_of t i)) × ((j : ℕ) → j < length (row_of t i) → entry_of new j ≡ pivoted t row col i j)
+own_is : (t : Table) (new p : List ℤ) (row col i : ℕ) → row_of t row ≡ p → i ≡ row → length new ≡ length p → ((j : ℕ) → j < length p → entry_of new j ≡ entry_of p j *ℤ t.den)
+    → (length new ≡ length (row_of t i)) × ((j : ℕ) → j < length (row_of t i) → entry_of new j ≡ pivoted t row col i j)
 own_is t new p row col i ep ei same is =
     let this : row_of t i ≡ p = ap (row_of t) ei ∙ ep in
     (same ∙ ap length (sym this), λ j lt. is j (subst (λ r. j < length r) this lt) ∙ sym (at j))
@@ -111,7 +122,9 @@ own_is t new p row col i ep ei same is =
     at : (j : ℕ) → pivoted t row col i j ≡ entry_of p j *ℤ t.den
     at j = rw (eq-eqb i row ei, ep) refl
 
-pub IsUnreduced-from_rows : (L M A B A' B' : List (List ℤ)) (p p' : List ℤ) (den : ℤ) (row col : ℕ) → L ≡ A ++ (p ∷ B) → M ≡ A' ++ (p' ∷ B') → length A ≡ row → EachRow (λ old new. IsEliminated old new (entry_of p col) p col) A A' → EachRow (λ old new. IsEliminated old new (entry_of p col) p col) B B' → length p' ≡ length p → ((j : ℕ) → j < length p → entry_of p' j ≡ entry_of p j *ℤ den) → IsUnreduced (record { rows = L; den = den }) M row col
+pub IsUnreduced-from_rows : (L M A B A' B' : List (List ℤ)) (p p' : List ℤ) (den : ℤ) (row col : ℕ) → L ≡ A ++ (p ∷ B) → M ≡ A' ++ (p' ∷ B') → length A ≡ row
+    → EachRow (λ old new. IsEliminated old new (entry_of p col) p col) A A' → EachRow (λ old new. IsEliminated old new (entry_of p col) p col) B B' → length p' ≡ length p
+    → ((j : ℕ) → j < length p → entry_of p' j ≡ entry_of p j *ℤ den) → IsUnreduced (record { rows = L; den = den }) M row col
 IsUnreduced-from_rows L M A B A' B' p p' den row col e f n above below same own =
     let many = count_of L A B p e in
     let many' = count_of M A' B' p' f in
@@ -161,7 +174,8 @@ positive_is (pos n) above = refl
 positive_is (negsuc n) above = absurd (omega (arith, ints))
 
 -- numbers that are divided by their greatest common divisor have none but 1
-pub IsLowest-divided : (old new : List (List ℤ)) (den low : ℤ) (size g : ℕ) → size ≡ unsigned_abs den → pos 0 <ℤ den → IsDivisorOfAll size old g → EachRow (IsDivided g) old new → low ≡ pos (size / g) → IsLowest old new den low
+pub IsLowest-divided : (old new : List (List ℤ)) (den low : ℤ) (size g : ℕ) → size ≡ unsigned_abs den → pos 0 <ℤ den → IsDivisorOfAll size old g → EachRow (IsDivided g) old new
+    → low ≡ pos (size / g) → IsLowest old new den low
 IsLowest-divided old new den low size g e above is rows low_is =
     let some = divisor-some den size g e above is.number in
     record {
@@ -173,7 +187,8 @@ IsLowest-divided old new den low size g e above is rows low_is =
           let quotient : d ∣ size / g = subst (λ n. d ∣ n) (ap unsigned_abs low_is) at_low in
           let at_den : g * d ∣ size = subst (λ n. g * d ∣ n) (mul-div_cancel' g is.number) (mul-dvd-mul_left d g quotient) in
           let at_each : (i j : ℕ) → i < length old → j < length (row_at old i) → g * d ∣ unsigned_abs (entry_of (row_at old i) j) = λ i j lt within.
-          subst (λ n. g * d ∣ n) (mul_comm g (unsigned_abs (entry_of (row_at new i) j)) ∙ sym (unsigned_abs-mul (entry_of (row_at new i) j) (pos g)) ∙ ap unsigned_abs ((rows.1 i lt).1 j within)) (mul-dvd-mul_left d g (at_entries i j lt within)) in
+          subst (λ n. g * d ∣ n) (mul_comm g (unsigned_abs (entry_of (row_at new i) j)) ∙ sym (unsigned_abs-mul (entry_of (row_at new i) j) (pos g)) ∙ ap unsigned_abs ((rows.1 i lt).1 j within))
+          (mul-dvd-mul_left d g (at_entries i j lt within)) in
           let whole : g * d ∣ g * 1 = subst (λ n. g * d ∣ n) (sym (times_one g)) (is.greatest (g * d) at_den at_each) in
           dvd_antisymm (dvd_of_mul-dvd-mul_left d some whole) (one-dvd d);
     }

@@ -1,5 +1,6 @@
 -- Lemmas on one row of a table, and on the numbers that are formed of it.
-use Rattle.std.proofs.Common.{◌≡◌, ◌≢◌, ℕ, ◌+◌, ◌*◌, ◌/◌, ◌<◌, ◌≤◌, Bool, true, false, ℤ, pos, negsuc, ◌-ℤ◌, ◌*ℤ◌, unsigned_abs, to_z, of_z, List, length, get_or, refl, sym, subst, ap, ◌∙◌, arith, below_more, get_or-set_same, get_or-set_other}
+use Rattle.std.proofs.Common.{◌≡◌, ◌≢◌, ℕ, ◌+◌, ◌*◌, ◌/◌, ◌<◌, ◌≤◌, Bool, true, false, ℤ, pos, negsuc, ◌-ℤ◌, ◌*ℤ◌, unsigned_abs, to_z, of_z, List, length, get_or, refl, sym, subst}
+use Rattle.std.proofs.Common.{ap, ◌∙◌, arith, below_more, get_or-set_same, get_or-set_other}
 use Rattle.std.proofs.Math.ListN.{set}
 use Rattle.std.specs.Prelude.{FitsSigned}
 use Rattle.std.specs.Int.{w128, ◌∣◌}
@@ -10,7 +11,8 @@ use Rattle.fraction.specs.Fractions.{Fits, signed_of}
 use Rattle.fraction.proofs.Lowest.{signed_of-*ℤ}
 
 -- a number is stored at i: what held of each entry below i, and holds of the number, holds of each below i + 1
-pub set-holds_below_next : (P : ℕ → ℤ → Type 0) (xs : List ℤ) (i : ℕ) (v : ℤ) → i < length xs → ((k : ℕ) → k < i → P k (get_or xs k (pos 0))) → P i v → (k : ℕ) → k < i + 1 → P k (get_or (set xs i v) k (pos 0))
+pub set-holds_below_next : (P : ℕ → ℤ → Type 0) (xs : List ℤ) (i : ℕ) (v : ℤ) → i < length xs → ((k : ℕ) → k < i → P k (get_or xs k (pos 0))) → P i v → (k : ℕ) → k < i + 1
+    → P k (get_or (set xs i v) k (pos 0))
 set-holds_below_next P xs i v lt below here =
     below_more (λ k. P k (get_or (set xs i v) k (pos 0))) i
     (λ k h. let ne : k ≢ i = omega arith in subst (P k) (sym (get_or-set_other xs i k v (pos 0) ne)) (below k h))
@@ -76,7 +78,8 @@ quotient_exact z g divides =
     at false n = signed_of-*ℤ false true n g
 
 -- an entry that is divided, as the code forms it
-pub divided_entry : (old passed r : ℤ) (q size g : ℕ) → passed ≡ old → r ≡ signed_of (le_z (pos 0) passed) q → q ≡ size / g → size ≡ unsigned_abs passed → g ∣ unsigned_abs old → FitsSigned w128 r → to_z w128 (of_z w128 r) *ℤ pos g ≡ old
+pub divided_entry : (old passed r : ℤ) (q size g : ℕ) → passed ≡ old → r ≡ signed_of (le_z (pos 0) passed) q → q ≡ size / g → size ≡ unsigned_abs passed → g ∣ unsigned_abs old
+    → FitsSigned w128 r → to_z w128 (of_z w128 r) *ℤ pos g ≡ old
 divided_entry old passed r q size g e signed quotient sized divides fits =
     let whole : q ≡ unsigned_abs old / g = quotient ∙ ap (λ n. n / g) (sized ∙ ap unsigned_abs e) in
     let shown : r ≡ signed_of (le_z (pos 0) old) (unsigned_abs old / g) = signed ∙ ap (λ z. signed_of (le_z (pos 0) z) q) e ∙ ap (signed_of (le_z (pos 0) old)) whole in

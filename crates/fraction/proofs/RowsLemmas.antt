@@ -12,7 +12,8 @@ pub with_items-items : (v : Vec ℤ Global) (ws : List ℤ) (xs : List ℤ) → 
 with_items-items v ws xs e at = with_items_is v ws (e ∙ ap length at ∙ sym v.ok.0)
 
 -- a row is stored at i: what held of each row below i, and holds of the row, holds of each below i + 1
-pub row_at-stored : (P : ℕ → List ℤ → Type 0) (rows : List (Vec ℤ Global)) (i : ℕ) (v : Vec ℤ Global) → i < length rows → ((k : ℕ) → k < i → P k (row_at (lists_of rows) k)) → P i v.items → (k : ℕ) → k < i + 1 → P k (row_at (lists_of (set rows i v)) k)
+pub row_at-stored : (P : ℕ → List ℤ → Type 0) (rows : List (Vec ℤ Global)) (i : ℕ) (v : Vec ℤ Global) → i < length rows → ((k : ℕ) → k < i → P k (row_at (lists_of rows) k))
+    → P i v.items → (k : ℕ) → k < i + 1 → P k (row_at (lists_of (set rows i v)) k)
 row_at-stored P rows i v lt below here =
     let many : length (lists_of rows) ≡ length rows = length-map rows (λ row. row.items) in
     below_more (λ k. P k (row_at (lists_of (set rows i v)) k)) i
@@ -23,11 +24,13 @@ row_at-stored P rows i v lt below here =
     at k = ap (λ rs. row_at rs k) (map-set (λ row. row.items) rows i v)
 
 -- the rows above i are as they were
-pub row_at-kept : (old : ℕ → List ℤ) (rows : List (Vec ℤ Global)) (i : ℕ) (v : Vec ℤ Global) → ((k : ℕ) → i ≤ k → row_at (lists_of rows) k ≡ old k) → (k : ℕ) → i + 1 ≤ k → row_at (lists_of (set rows i v)) k ≡ old k
+pub row_at-kept : (old : ℕ → List ℤ) (rows : List (Vec ℤ Global)) (i : ℕ) (v : Vec ℤ Global) → ((k : ℕ) → i ≤ k → row_at (lists_of rows) k ≡ old k) → (k : ℕ) → i + 1 ≤ k
+    → row_at (lists_of (set rows i v)) k ≡ old k
 row_at-kept old rows i v left k le =
     let ne : k ≢ i = omega arith in
     ap (λ rs. row_at rs k) (map-set (λ row. row.items) rows i v) ∙ get_or-set_other (lists_of rows) i k v.items [] ne ∙ left k (omega arith)
 
 -- the entries that a loop reads as a slice, as they were at first
-pub row_at-was : (rows : List (Vec ℤ Global)) (old : List (List ℤ)) (i : ℕ) (item : Vec ℤ Global) (now : List ℤ) → i < length rows → now ≡ (get_or rows i item).items → ((k : ℕ) → i ≤ k → row_at (lists_of rows) k ≡ row_at old k) → now ≡ row_at old i
+pub row_at-was : (rows : List (Vec ℤ Global)) (old : List (List ℤ)) (i : ℕ) (item : Vec ℤ Global) (now : List ℤ) → i < length rows → now ≡ (get_or rows i item).items
+    → ((k : ℕ) → i ≤ k → row_at (lists_of rows) k ≡ row_at old k) → now ≡ row_at old i
 row_at-was rows old i item now lt e left = e ∙ sym (get_or-map (λ row. row.items) rows i item [] lt) ∙ left i (omega arith)

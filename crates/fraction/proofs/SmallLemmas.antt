@@ -34,7 +34,8 @@ small_entry a b c d ha hb hc hd =
     between x y hx hy = let bound = abs-diff x y in omega arith
 
 -- the pivot of a table of small numbers fits
-pub PivotFits-small : (L : List (List ℤ)) (den : ℤ) (row col : ℕ) → unsigned_abs den ≤ 2 ^ 62 → ((i : ℕ) → i < length L → IsSmall (row_at L i)) → row < length L → IsLevelWith L row → col < length (row_at L row) → PivotFits (record { rows = L; den = den }) row col
+pub PivotFits-small : (L : List (List ℤ)) (den : ℤ) (row col : ℕ) → unsigned_abs den ≤ 2 ^ 62 → ((i : ℕ) → i < length L → IsSmall (row_at L i)) → row < length L
+    → IsLevelWith L row → col < length (row_at L row) → PivotFits (record { rows = L; den = den }) row col
 PivotFits-small L den row col small_den small inside level within =
     let top = small row inside col within in
     record {

@@ -66,7 +66,8 @@ pivoted_fits t row col i j fits place =
     other ne = rw (ne_eqb i row ne) ((fits.others i j ne place).2)
 
 -- the numbers of a pivot, and these in lowest terms
-pub IsPivoted-from_unreduced : (t : Table) (M N : List (List ℤ)) (low : ℤ) (row col : ℕ) → IsUnreduced t M row col → IsLowest M N (t.den *ℤ entry_at t row col) low → IsPivoted t (record { rows = N; den = low }) row col
+pub IsPivoted-from_unreduced : (t : Table) (M N : List (List ℤ)) (low : ℤ) (row col : ℕ) → IsUnreduced t M row col → IsLowest M N (t.den *ℤ entry_at t row col) low
+    → IsPivoted t (record { rows = N; den = low }) row col
 IsPivoted-from_unreduced t M N low row col made lowest =
     let count = made.count in
     let counts = lowest.rows.0 in

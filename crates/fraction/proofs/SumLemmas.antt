@@ -11,19 +11,23 @@ use Rattle.fraction.specs.Rows.{row_at, entry_of, EachRow, IsSummedRow}
 use Rattle.fraction.proofs.RowLemmas.{to_z-of_z_equal}
 
 -- a sum of one column more, as the code forms it
-sum_is : (r : List ℤ) (columns : List ℕ) (i : ℕ) (t x : ℤ) → i < length columns → t ≡ sum_in r (take i columns) → x ≡ entry_of r (get_or columns i 0) → FitsSigned w128 x → t +ℤ to_z w128 (of_z w128 x) ≡ sum_in r (take (i + 1) columns)
+sum_is : (r : List ℤ) (columns : List ℕ) (i : ℕ) (t x : ℤ) → i < length columns → t ≡ sum_in r (take i columns) → x ≡ entry_of r (get_or columns i 0) → FitsSigned w128 x
+    → t +ℤ to_z w128 (of_z w128 x) ≡ sum_in r (take (i + 1) columns)
 sum_is r columns i t x lt et ex fits_x =
     ap (λ a. a +ℤ to_z w128 (of_z w128 x)) et
     ∙ ap (λ a. sum_in r (take i columns) +ℤ a) (to_z-of_z w128 x fits_x ∙ ex)
     ∙ sym (fold_more (λ s j. s +ℤ get_or r j (pos 0)) (pos 0) columns i 0 lt)
 
-pub sum_in-step : (r : List ℤ) (columns : List ℕ) (i : ℕ) (t x t' : ℤ) → i < length columns → t ≡ sum_in r (take i columns) → x ≡ entry_of r (get_or columns i 0) → FitsSigned w128 x → (t' ≡ t +ℤ to_z w128 (of_z w128 x)) × Fits (t +ℤ to_z w128 (of_z w128 x)) → (to_z w128 (of_z w128 t') ≡ sum_in r (take (i + 1) columns)) × Fits (sum_in r (take (i + 1) columns))
+pub sum_in-step : (r : List ℤ) (columns : List ℕ) (i : ℕ) (t x t' : ℤ) → i < length columns → t ≡ sum_in r (take i columns) → x ≡ entry_of r (get_or columns i 0)
+    → FitsSigned w128 x → (t' ≡ t +ℤ to_z w128 (of_z w128 x)) × Fits (t +ℤ to_z w128 (of_z w128 x)) → (to_z w128 (of_z w128 t') ≡ sum_in r (take (i + 1) columns))
+    × Fits (sum_in r (take (i + 1) columns))
 sum_in-step r columns i t x t' lt et ex fits_x formed =
     let e = sum_is r columns i t x lt et ex fits_x in
     let fits = subst Fits e formed.1 in
     (to_z-of_z_equal t' _ (formed.0 ∙ e) fits, fits)
 
-pub Fits-sum_in_step : (r : List ℤ) (columns : List ℕ) (i : ℕ) → ((k : ℕ) → k ≤ i → Fits (sum_in r (take k columns))) → Fits (sum_in r (take (i + 1) columns)) → (k : ℕ) → k ≤ i + 1 → Fits (sum_in r (take k columns))
+pub Fits-sum_in_step : (r : List ℤ) (columns : List ℕ) (i : ℕ) → ((k : ℕ) → k ≤ i → Fits (sum_in r (take k columns))) → Fits (sum_in r (take (i + 1) columns)) → (k : ℕ)
+    → k ≤ i + 1 → Fits (sum_in r (take k columns))
 Fits-sum_in_step r columns i below here k le =
     elim (cases_eq k (i + 1)) [
       | inl at ↦ subst (λ n. Fits (sum_in r (take n columns))) (sym at) here
@@ -43,7 +47,8 @@ IsSummed-from_rows t M columns into is = record {
   others = λ i j lt ne. (is.1 i lt).2 j ne;
 }
 
-pub IsTable-summed : (t : Table) (M : List (List ℤ)) (columns : List ℕ) (into : ℕ) → IsTable t → SumsFit t columns → EachRow (IsSummedRow columns into) t.rows M → IsTable (record { rows = M; den = t.den })
+pub IsTable-summed : (t : Table) (M : List (List ℤ)) (columns : List ℕ) (into : ℕ) → IsTable t → SumsFit t columns → EachRow (IsSummedRow columns into) t.rows M
+    → IsTable (record { rows = M; den = t.den })
 IsTable-summed t M columns into table fits is =
     let count = is.0 in
     record {

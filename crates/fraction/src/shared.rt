@@ -1,5 +1,5 @@
 //! Tables of numbers over one denominator.
-ghost use Rattle.std.specs.Prelude.{◌≡◌, ◌↔◌, ◌<◌, ℕ, pos, ◌<ℤ◌, length, map, IsOk, IfOk, OnOk, OnErr, IfErr};
+ghost use Rattle.std.specs.Prelude.{◌≡◌, ◌↔◌, ◌<◌, pos, ◌<ℤ◌, length, map, IsOk, IfOk, OnOk, OnErr, IfErr};
 ghost use Rattle.std.specs.List.{All};
 ghost use Rattle.fraction.specs.Fractions.{IsRatio, IsReduced};
 ghost use Rattle.fraction.specs.Tables.{IsTable, IsPlace, IsColumn, row_of, entry_at, sum_in, SumFits, IsPivoted, PivotFits, IsSummed, SumsFit};

@@ -30,7 +30,8 @@ le-quotas_left n i q less =
 
 -- The offices of one or two plans
 
-pub cycles_of-names : (offices : Option OfficeState) → option_map (λ (o : OfficeName). o.cycle) (option_map (λ (o : OfficeState). o.name) offices) ≡ option_map (λ (o : OfficeState). o.name.cycle) offices
+pub cycles_of-names : (offices : Option OfficeState) → option_map (λ (o : OfficeName). o.cycle)
+    (option_map (λ (o : OfficeState). o.name) offices) ≡ option_map (λ (o : OfficeState). o.name.cycle) offices
 cycles_of-names None = refl
 cycles_of-names (Some office) = refl
 

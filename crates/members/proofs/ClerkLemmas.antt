@@ -9,7 +9,8 @@ use Rattle.dealer.specs.declared.receipt.Receipt.{Receipt}
 use Rattle.dealer.specs.Offices.{ClerkState, OfficeName, share_of}
 use Rattle.board.specs.Quorums.{HasQuorum, place_of, quorum_at}
 use Rattle.members.specs.Clusters.{ClusterState, IsCluster, names_in}
-use Rattle.members.specs.Clerks.{ClerksState, OfficesState, AreWhole, HasShare, IsThere, IsWholeIn, drawn, drawn_by, fresh_clerk, fresh_clerks, joined_each, joined_second, less_each, names_of, offices_with, quorums_of, receipts_in, receipts_of, rest_in, rest_of, with_less, with_receipt}
+use Rattle.clerks.specs.Clerks.{ClerksState, OfficesState, AreWhole, HasShare, IsThere, IsWholeIn, drawn, drawn_by, fresh_clerk, fresh_clerks, joined_each, joined_second}
+use Rattle.clerks.specs.Clerks.{less_each, names_of, offices_with, quorums_of, receipts_in, receipts_of, rest_in, rest_of, with_less, with_receipt}
 
 -- Fresh clerks
 

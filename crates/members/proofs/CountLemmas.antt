@@ -76,10 +76,12 @@ pub AreInOrder-from_AreAllBelow : (xs : List ℕ) (n : ℕ) → IsNonDecreasing 
 AreInOrder-from_AreAllBelow xs n up all long = counts_from 0 xs up (λ h. sum_by-AreAllBelow xs n all h ∙ below_range h n ∙ ap (λ m. sum_by h (range_with_len 0 m)) (sym long))
 
 -- the same of what is ordered by a number
-pub AreInOrder-from_AreAllBelow_by : {X : Type 0} (f : X → ℕ) (d : X) (xs ys : List X) (n : ℕ) → IsPermutation xs ys → IsNonDecreasingBy f ys → AreAllBelow (map f xs) n → length xs ≡ n → AreInOrder (map f ys)
+pub AreInOrder-from_AreAllBelow_by : {X : Type 0} (f : X → ℕ) (d : X) (xs ys : List X) (n : ℕ) → IsPermutation xs ys → IsNonDecreasingBy f ys → AreAllBelow (map f xs) n
+    → length xs ≡ n → AreInOrder (map f ys)
 AreInOrder-from_AreAllBelow_by f d xs ys n same up all long =
     AreInOrder-from_AreAllBelow (map f ys) n ascending
-    (AreAllBelow-from_sums (map f ys) n (λ h. sum_by-IsPermutation h _ _ (IsPermutation-map f xs ys same) ∙ sum_by-AreAllBelow (map f xs) n all h)) (length-map ys f ∙ length_permutation xs ys same ∙ long)
+    (AreAllBelow-from_sums (map f ys) n (λ h. sum_by-IsPermutation h _ _ (IsPermutation-map f xs ys same) ∙ sum_by-AreAllBelow (map f xs) n all h))
+    (length-map ys f ∙ length_permutation xs ys same ∙ long)
   where
     ascending : IsNonDecreasing (map f ys)
     ascending i j e le lt =

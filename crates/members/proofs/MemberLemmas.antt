@@ -4,7 +4,7 @@ use Rattle.std.specs.Prelude.{slice_index, filter, ◌==◌}
 use Rattle.std.proofs.lemmas.Grind.{same_number_lists}
 use Rattle.message.specs.declared.message.ToClient.{ToClient}
 use Rattle.message.specs.declared.message.ClientBody.{ClientBody}
-use Rattle.message.specs.declared.message.ClientBody.TheVariants as tells
+use Rattle.message.specs.declared.message.ClientBody.TheVariants as to_client
 use Rattle.requester.specs.declared.fault.ClientFault.{ClientFault}
 use Rattle.requester.specs.declared.state.ClientState.{ClientState}
 use Rattle.requester.specs.declared.state.Phase.{Phase}
@@ -15,7 +15,8 @@ use Rattle.requester.specs.Held.{HoldsNothing}
 use Rattle.members.specs.ClientLaws.{AreClientLaws}
 use Rattle.requester.specs.RequesterContract.{Sees}
 use Rattle.requester.specs.Soundness.{IsSound}
-use Rattle.requester.specs.Steps.{Outcome, Asks, Takes, Leaves, GivesUp, ask, ask_in, ask_unless, give_up, give_up_in, leave, leave_in, step, take, take_body, see, locked, locked_by, enter_if, hold, is_fresh, failed, failed_by, fail, inquired, inquired_by, relinquish, relinquish_if, relinquish_each}
+use Rattle.requester.specs.Steps.{Outcome, Asks, Takes, Leaves, GivesUp, ask, ask_in, ask_unless, give_up, give_up_in, leave, leave_in, step, take, take_body, see, locked}
+use Rattle.requester.specs.Steps.{locked_by, enter_if, hold, is_fresh, failed, failed_by, fail, inquired, inquired_by, relinquish, relinquish_if, relinquish_each}
 use Rattle.requester.specs.Words.{is_idle, is_asking, is_inside, is_spent, is_current, is_covered, is_inquired, is_hindered, is_member, holds, holds_under, members}
 use Rattle.board.specs.Seats.{BoardState, ClientSeatState as SeatState}
 use Rattle.board.specs.Quorums.{HasQuorum, place_of, quorum_at}
@@ -25,13 +26,13 @@ use Rattle.board.specs.declared.fault.BoardFault.TheVariants.{OutOfMemory, Regis
 use Rattle.dealer.specs.declared.receipt.Receipt.{Receipt}
 use Rattle.numbers.specs.Sets.{has, IsSet}
 use Rattle.node.specs.Mail.{IsMail}
-use Rattle.members.specs.declared.fault.ClusterFault.{ClusterFault}
-use Rattle.members.specs.declared.fault.ClusterFault.TheVariants as refuses
+use Rattle.run_outcome.specs.declared.fault.ClusterFault.{ClusterFault}
+use Rattle.run_outcome.specs.declared.fault.ClusterFault.TheVariants as refuses
 use Rattle.dealer.specs.declared.fault.DealFault.{DealFault}
 use Rattle.dealer.specs.declared.fault.DealFault.TheVariants.{QuotaSpent, OutOfMemory as NoRoom}
 use Rattle.dealer.specs.Offices.{RefusesTicket}
 use Rattle.quorum_set.specs.declared.bridge.Side.{Side}
-use Rattle.members.specs.Clerks.{ClerksState, HasShare, IsThere, drawn, names_of, rest_of}
+use Rattle.clerks.specs.Clerks.{ClerksState, HasShare, IsThere, drawn, names_of, rest_of}
 use Rattle.members.proofs.ClerkLemmas.{HasShare-drawn, IsThere-drawn, names_of-drawn}
 use Rattle.members.specs.Clusters.{ClusterState}
 use Rattle.node.specs.Votes.{HoldsWithin, HoldsFewer, HoldsOnly}
@@ -96,7 +97,8 @@ pub RefusesStart-ask : (x : ClientState) (q : List ℕ) (e : ClientFault) → as
 unfolding ask
 RefusesStart-ask x q e err = refuses_in x.phase x q e refl err
 
-pub RefusesAsk-ticket : (m : MemberState) (e : DealFault) → (is_idle m.requester.phase ≡ true) × (is_spent m.requester ≡ false) → RefusesTicket (rest_of m.clerks m.clerks.side) e → RefusesAsk m (refuses.Deal e)
+pub RefusesAsk-ticket : (m : MemberState) (e : DealFault) → (is_idle m.requester.phase ≡ true) × (is_spent m.requester ≡ false) → RefusesTicket (rest_of m.clerks m.clerks.side) e
+    → RefusesAsk m (refuses.Deal e)
 RefusesAsk-ticket m QuotaSpent start err = (start.0, start.1, err)
 RefusesAsk-ticket m NoRoom start err = (start.0, start.1, err)
 
@@ -188,9 +190,9 @@ unfolding inquired
 inquired-not_left x v g = inquired_by-not_left (is_asking x.phase && holds_under x v g) (is_hindered x) x v
 
 take_body-not_left : (x : ClientState) (v : ℕ) (b : ClientBody) → is_left (take_body x v b).seen ≡ false
-take_body-not_left x v (tells.Locked s g) = locked-not_left x v s g
-take_body-not_left x v (tells.Fail s) = failed-not_left x v s
-take_body-not_left x v (tells.Inquire g) = inquired-not_left x v g
+take_body-not_left x v (to_client.Locked s g) = locked-not_left x v s g
+take_body-not_left x v (to_client.Fail s) = failed-not_left x v s
+take_body-not_left x v (to_client.Inquire g) = inquired-not_left x v g
 
 take-not_left : (x : ClientState) (m : ToClient) → is_left (take x m).seen ≡ false
 unfolding take
@@ -207,7 +209,8 @@ pub record Took (x : ClientState) (m : ToClient) (o : Outcome) : Type 0 where
   pub sees : Sees x.phase o.seen o.state.phase
   pub stays : o.seen ≢ Left
 
-pub Took-from_take : AreClientLaws → (board : BoardState) (x : ClientState) (m : ToClient) (o : Outcome) (id : ℕ) → IsSound x → IsMail board id m → id ≡ x.id → board.voters ≤ 64 → take x m ≡ o → Took x m o
+pub Took-from_take : AreClientLaws → (board : BoardState) (x : ClientState) (m : ToClient) (o : Outcome) (id : ℕ) → IsSound x → IsMail board id m → id ≡ x.id → board.voters ≤ 64
+    → take x m ≡ o → Took x m o
 Took-from_take laws board x m o id sound mail is few e =
     let s = of_take x m o e in
     let accepts : (m.client ≡ x.id) × (m.voter < 64) = (mail.client_is ∙ is, omega (arith, mail.voter, few)) in

@@ -18,9 +18,9 @@ use Rattle.dealer.specs.Offices.{OfficeName, tickets_of}
 use Rattle.quorum_set.specs.declared.bridge.Side.{Side}
 use Rattle.quorum_set.specs.declared.bridge.Side.TheVariants.{First, Second}
 use Rattle.board.specs.Quorums.{HasQuorum}
-use Rattle.members.specs.Clerks.{AreDealt, IsDealtBy, office_in, quorums_in, receipts_of}
+use Rattle.clerks.specs.Clerks.{AreDealt, IsDealtBy, office_in, quorums_in, receipts_of}
 use Rattle.members.proofs.ClerkLemmas.{HasQuorum-joint}
-use Rattle.members.specs.declared.record.RunRecord.{RunRecord}
+use Rattle.run_outcome.specs.declared.record.RunRecord.{RunRecord}
 use Rattle.members.specs.Clusters.{ClusterState, IsCluster, names_in}
 use Rattle.members.specs.Members.{MemberState}
 use Rattle.members.specs.Records.{Draw, Pass, AreDrawsOf, IsDraw, IsRecordOf, all_draws, all_passes, all_receipts, draws_of, passes_of}
@@ -59,10 +59,11 @@ share-more start n m quota one =
     let more : m * quota ≡ n * quota + 1 * quota = ap (λ (k : ℕ). k * quota) one ∙ add-mul n 1 quota in
     omega (arith, more)
 
--- What stands in the draws and in the passes of one member
+-- The draws and the passes of one member
 
 pub All-IsDraw : (c : ClusterState) (side : Side) (m : MemberState) → m.requester.id < c.board.clients → AreDealt (names_in c) side (receipts_of m.clerks side) → All (IsDraw c side) (draws_of side m)
-All-IsDraw c side m inside dealt = All-map (IsDraw c side) (λ (r : Receipt). (m.requester.id, r.ticket, r.quorum)) (receipts_of m.clerks side) (λ k r lt. record { client = inside; quorum = dealt k r lt })
+All-IsDraw c side m inside dealt = All-map (IsDraw c side) (λ (r : Receipt). (m.requester.id, r.ticket, r.quorum)) (receipts_of m.clerks side)
+    (λ k r lt. record { client = inside; quorum = dealt k r lt })
 
 pub All-passes_of : (clients : ℕ) (m : MemberState) → m.requester.id < clients → All (λ p. p.0 < clients) (passes_of m)
 All-passes_of clients m inside = All-map (λ (p : Pass). p.0 < clients) (λ (x : ℕ). (m.requester.id, x)) m.seat.passes (λ k x lt. inside)
@@ -104,7 +105,8 @@ record_of c members r first second passes by_number each_pass numbers register l
 
 -- How many they are
 
-pub length-draws : (c : ClusterState) (side : Side) (members : List MemberState) (draws : List Draw) → AreDrawsOf c side members draws → length draws ≡ sum_by (λ m. length (receipts_of m.clerks side)) members
+pub length-draws : (c : ClusterState) (side : Side) (members : List MemberState) (draws : List Draw) → AreDrawsOf c side members draws
+    → length draws ≡ sum_by (λ m. length (receipts_of m.clerks side)) members
 length-draws c side members draws are =
     length_permutation _ _ are.same ∙ length-flat_map (draws_of side) members
     ∙ (λ i. sum_by (λ (m : MemberState). length-map {B = Draw} (receipts_of m.clerks side) (λ (x : Receipt). (m.requester.id, x.ticket, x.quorum)) i) members)
@@ -138,12 +140,14 @@ dealt_in_range all_name (Some o) ticket quorum plan dealt =
     let named = all_name o.cycle ticket plan in
     (omega (arith, dealt, named), omega (arith, dealt, named, plan.coterie.few_quorums))
 
-pub quorums_in_range : AllNameQuorums → (c : ClusterState) (side : Side) (members : List MemberState) (draws : List Draw) → IsCluster c → IsCertified (office_in (names_in c) side) → AreDrawsOf c side members draws
+pub quorums_in_range : AllNameQuorums → (c : ClusterState) (side : Side) (members : List MemberState) (draws : List Draw) → IsCluster c → IsCertified (office_in (names_in c) side)
+    → AreDrawsOf c side members draws
     → All (λ d. HasQuorum c.board.firsts c.board.quorums side d.2) draws
 quorums_in_range all_name c side members draws cluster plan are = λ k d lt.
     HasQuorum-joint c cluster side _ (dealt_in_range all_name (office_in (names_in c) side) _ _ plan (are.each k d lt).quorum).0
 
-pub draws_in_range : AllNameQuorums → (c : ClusterState) (side : Side) (members : List MemberState) (draws : List Draw) → IsCluster c → IsCertified (office_in (names_in c) side) → AreDrawsOf c side members draws
+pub draws_in_range : AllNameQuorums → (c : ClusterState) (side : Side) (members : List MemberState) (draws : List Draw) → IsCluster c → IsCertified (office_in (names_in c) side)
+    → AreDrawsOf c side members draws
     → All (λ d. (d.0 ≤ 63) × (d.2 ≤ 4095)) draws
 draws_in_range all_name c side members draws cluster plan are = λ k d lt. (
   omega (arith, (are.each k d lt).client, cluster.clients),

@@ -2,7 +2,7 @@
 use Rattle.std.specs.Prelude.{◌≡◌, ◌+◌, ◌<◌, ◌≤◌, List}
 use Rattle.members.specs.declared.close.CloseFault.{CloseFault}
 use Rattle.members.specs.declared.close.CloseFault.TheVariants.{Unready, Lost}
-use Rattle.members.specs.declared.fault.ClusterFault.TheVariants as refuses
+use Rattle.run_outcome.specs.declared.fault.ClusterFault.TheVariants as refuses
 use Rattle.members.specs.Clusters.{ClusterState}
 use Rattle.members.specs.Members.{MemberState}
 use Rattle.members.specs.Records.{IsLoss, idle_count}

@@ -3,7 +3,7 @@ use Rattle.std.specs.Prelude.{◌≡◌, ℕ, ◌+◌, ◌*◌, ◌≤◌, ◌++
 use Rattle.numbers.specs.Bounds.{max_voters, max_clients, max_tickets}
 use Rattle.board.specs.Seats.{BoardState, RootState}
 use Rattle.dealer.specs.Offices.{OfficeName}
-use Rattle.members.specs.Clerks.{ClerksState, OfficesState, fresh_clerks, offices_with, quorums_in}
+use Rattle.clerks.specs.Clerks.{ClerksState, OfficesState, fresh_clerks, offices_with, quorums_in}
 pub use Rattle.node.specs.Names.{ClusterState, no_cluster}
 
 -- the names of a cluster's offices

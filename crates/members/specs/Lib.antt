@@ -1,5 +1,4 @@
 pub mod ClientLaws
-pub mod Clerks
 pub mod Clusters
 pub mod Losses
 pub mod Members

@@ -12,10 +12,10 @@ is_stray board m = nat_le board.voters m.voter || nat_le board.clients m.client
 abbrev pub is_stray_reply : BoardState → ToClient → Bool
 is_stray_reply board m = nat_le board.voters m.voter || nat_le board.clients m.client
 
--- How many messages are lost at most when `told` messages are sent to voters: for each, either the
+-- How many messages are lost at most when `sent` messages are sent to voters: for each, either the
 -- message itself, or some of the replies to it. There are at most three replies.
 abbrev pub most_lost : ℕ → ℕ
-most_lost told = 3 * told
+most_lost sent = 3 * sent
 
 -- no fewer are lost than before, and at most n more
 abbrev pub LosesAtMost : ℕ → ℕ → ℕ → Type 0

@@ -16,9 +16,9 @@ use Rattle.board.specs.Quorums.{quorum_at, place_of, HasQuorum}
 use Rattle.quorum_set.specs.declared.bridge.Side.{Side}
 use Rattle.board.specs.Words.{nobody}
 use Rattle.dealer.specs.declared.fault.DealFault.TheVariants.{QuotaSpent, OutOfMemory as NoRoom}
-use Rattle.members.specs.declared.fault.ClusterFault.{ClusterFault}
-use Rattle.members.specs.declared.fault.ClusterFault.TheVariants as refuses
-use Rattle.members.specs.Clerks.{ClerksState, HasShare, IsThere, fresh_clerks, names_of, rest_of}
+use Rattle.run_outcome.specs.declared.fault.ClusterFault.{ClusterFault}
+use Rattle.run_outcome.specs.declared.fault.ClusterFault.TheVariants as refuses
+use Rattle.clerks.specs.Clerks.{ClerksState, HasShare, IsThere, fresh_clerks, names_of, rest_of}
 use Rattle.members.specs.Clusters.{ClusterState, names_in}
 use Rattle.members.specs.Losses.{LosesAtMost, most_lost, one_more}
 use Rattle.node.specs.Mail.{IsMail}

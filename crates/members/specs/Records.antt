@@ -1,24 +1,17 @@
 -- The end of a cluster: which of its members are back, and the record of what they did.
 use Rattle.std.specs.Prelude.{◌≡◌, ℕ, ◌-◌, ◌^◌, ◌<◌, List, IsPermutation, length, map, min}
-use Rattle.std.specs.List.{All, count_by, flat_map, range_with_len, sum_by}
+use Rattle.std.specs.List.{All, count_by, flat_map, sum_by}
 use Rattle.requester.specs.Words.{is_idle}
 use Rattle.board.specs.declared.fault.BoardFault.{BoardFault}
 use Rattle.board.specs.declared.fault.BoardFault.TheVariants.{SeatsOut, VoteOut, RegisterFull, OutOfMemory}
 use Rattle.dealer.specs.declared.receipt.Receipt.{Receipt}
 use Rattle.quorum_set.specs.declared.bridge.Side.{Side}
 use Rattle.quorum_set.specs.declared.bridge.Side.TheVariants.{First, Second}
-use Rattle.members.specs.declared.record.RunRecord.{RunRecord}
-use Rattle.members.specs.Clerks.{IsDealt, receipts_of}
+use Rattle.run_outcome.specs.declared.record.RunRecord.{RunRecord}
+pub use Rattle.run_outcome.specs.Entries.{AreInOrder, Draw, Pass}
+use Rattle.clerks.specs.Clerks.{IsDealt, receipts_of}
 use Rattle.members.specs.Clusters.{ClusterState, names_in}
 use Rattle.members.specs.Members.{MemberState}
-
--- a client, the ticket that it drew, and the quorum that the ticket names
-abbrev pub Draw : Type 0
-Draw = ℕ × ℕ × ℕ
-
--- a client, and the number by which it passed
-abbrev pub Pass : Type 0
-Pass = ℕ × ℕ
 
 -- how many of these members are idle
 abbrev pub idle_count : List MemberState → ℕ
@@ -43,10 +36,6 @@ passes_of m = map (λ x. (m.requester.id, x)) m.seat.passes
 -- the passes of these members, one member after the other
 abbrev pub all_passes : List MemberState → List Pass
 all_passes members = flat_map passes_of members
-
--- the numbers are 0, 1, 2 and so on, in this order
-abbrev pub AreInOrder : List ℕ → Type 0
-AreInOrder numbers = numbers ≡ range_with_len 0 (length numbers)
 
 -- the draw is of a client of the cluster, and names the quorum at its ticket's place of the cycle of
 -- this side's plan; without such a plan there is none

@@ -2,17 +2,16 @@
 ghost use Rattle.std.specs.Prelude.{◌≡◌, ℕ, ◌+◌, ◌*◌, ◌<◌, ◌≤◌, ◌++◌, [], false, IfOk, IfSome, length, map, nat_lt, option_map, slice_index_or};
 ghost use Rattle.std.specs.List.{range_with_len};
 ghost use Rattle.numbers.specs.Bounds.{max_clients, max_tickets};
-ghost use Rattle.board.specs.Seats.{BoardState, RootState};
-ghost use Rattle.dealer.specs.Plans.{PlanPair, coteries_of};
-ghost use Rattle.members.specs.Clerks.{fresh_clerks, office_names, plan_quorums};
+ghost use Rattle.dealer.specs.Plans.{coteries_of};
+ghost use Rattle.clerks.specs.Clerks.{fresh_clerks, office_names, plan_quorums};
 ghost use Rattle.members.specs.Clusters.{ClusterState, IsCluster, names_in};
 ghost use Rattle.members.specs.Members.{AreIdle, fresh_member};
 
-use crate::clerks::{Clerks, Offices, open_offices};
 use crate::cluster::{Cluster, Left};
 use crate::member::Member;
 use board::{Board, BoardRoot};
 use certificate::Plan;
+use clerks::{Clerks, Offices, open_offices};
 use dealer::Plans;
 use node::{ClusterName, Node, Postbox};
 use numbers::MAX_TICKETS;

@@ -1,24 +1,22 @@
 //! The end of a cluster, and its record.
-ghost use Rattle.std.specs.Prelude.{◌≡◌, ℕ, ◌+◌, ◌-◌, ◌*◌, ◌^◌, ◌<◌, ◌≤◌, ◌++◌, [], IfOk, IfErr, IfNone, IfSome, IsPermutation, length, map, min};
+ghost use Rattle.std.specs.Prelude.{◌≡◌, ℕ, ◌+◌, ◌-◌, ◌*◌, ◌^◌, ◌<◌, ◌≤◌, ◌++◌, IfOk, IfErr, IfNone, IfSome, IsPermutation, length, min};
 ghost use Rattle.std.specs.List.{All, sum_by};
 ghost use Rattle.std.specs.List.Sorted.{IsNonDecreasingBy};
-ghost use Rattle.board.specs.Seats.{BoardState};
 ghost use Rattle.quorum_set.specs.declared.bridge.Side.{Side};
-ghost use Rattle.members.specs.Clerks.{HasShare, joined_each, names_of, office_names, receipts_of};
-ghost use Rattle.members.specs.Clusters.{ClusterState, names_in};
+ghost use Rattle.clerks.specs.Clerks.{HasShare, joined_each, names_of, office_names, receipts_of};
+ghost use Rattle.members.specs.Clusters.{names_in};
 ghost use Rattle.members.specs.Closes.{RefusesClose};
 ghost use Rattle.members.specs.declared.close.CloseFault.{CloseFault};
 ghost use Rattle.members.specs.Records.{IsDraw, IsLoss, IsRecordOf, all_draws, all_passes, all_receipts, draws_of, idle_count, passes_of};
 
-use crate::clerks::{Clerks, Offices};
 use crate::cluster::{Cluster, Left};
-use crate::fault::ClusterFault;
 use crate::member::Member;
-use crate::record::RunRecord;
 use board::{Board, BoardFault, BoardRoot};
+use clerks::{Clerks, Offices};
 use node::{ClusterName, Node};
 use quorum_set::Side;
 use requester::Phase;
+use run_outcome::{ClusterFault, RunRecord};
 use std::alloc::{AllocError, Global};
 use std::fmt;
 use std::sync::Mutex;

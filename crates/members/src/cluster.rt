@@ -3,13 +3,13 @@ ghost use Rattle.std.specs.Prelude.{◌≡◌, ◌⊎◌, ◌+◌, ◌<◌, ◌�
 ghost use Rattle.std.specs.List.{count_by};
 ghost use Rattle.numbers.specs.Sets.{IsSet};
 ghost use Rattle.board.specs.Quorums.{HasQuorum, place_of, quorum_at};
-ghost use Rattle.members.specs.Clerks.{quorums_of};
+ghost use Rattle.clerks.specs.Clerks.{quorums_of};
 ghost use Rattle.members.specs.Clusters.{ClusterState, IsLeft, names_in};
 ghost use Rattle.members.specs.Losses.{is_stray, is_stray_reply, most_lost};
 ghost use Rattle.node.specs.Mail.{IsMail};
 
-use crate::clerks::{Clerks, Offices};
 use board::{Board, BoardRoot, ClientSeat};
+use clerks::{Clerks, Offices};
 use message::{ToClient, ToVoter};
 use node::{ClusterName, Node, Postbox};
 use quorum_set::{QSet, Side};

@@ -1,18 +1,18 @@
 //! Laws of the definitions.
-ghost use Rattle.std.specs.Prelude.{◌≡◌, ◌*◌, ◌<◌, ◌≤◌, ℕ, List, IfSome, length};
+ghost use Rattle.std.specs.Prelude.{◌≡◌, ◌*◌, ◌≤◌, ℕ, List, IfSome, length};
 ghost use Rattle.std.specs.List.{All, sum_by};
-ghost use Rattle.members.specs.declared.record.RunRecord.{RunRecord};
+ghost use Rattle.run_outcome.specs.declared.record.RunRecord.{RunRecord};
 ghost use Rattle.certificate.specs.Certificates.{IsCertificate};
 ghost use Rattle.board.specs.Quorums.{HasQuorum};
 ghost use Rattle.quorum_set.specs.declared.bridge.Side.TheVariants.{First, Second};
-ghost use Rattle.members.specs.Clerks.{receipts_of};
+ghost use Rattle.clerks.specs.Clerks.{receipts_of};
 ghost use Rattle.members.specs.Clusters.{ClusterState, IsCluster};
 ghost use Rattle.members.specs.Members.{MemberState};
 ghost use Rattle.members.specs.Records.{IsRecordOf};
 ghost use Rattle.members.specs.ClientLaws.{AreClientLaws};
 
 use dealer::tickets_name_quorums;
-use requester::{phases_tell_votes, requesters_meet_the_contract, requesters_stay_sound};
+use requester::{phases_show_votes, requesters_meet_the_contract, requesters_stay_sound};
 
 /// States how many entries a record has. For each plan, the number of its draws is that of its
 /// members' receipts. The register is the number of their passes. If each member passed n times,
@@ -55,5 +55,5 @@ pub(crate) fn clients_keep_their_laws()
 {
     requesters_stay_sound();
     requesters_meet_the_contract();
-    phases_tell_votes();
+    phases_show_votes();
 }

@@ -80,19 +80,15 @@
 #![tactic(auto)]
 
 mod blank;
-mod clerks;
 mod close;
 mod cluster;
-mod fault;
 mod laws;
 mod member;
-mod record;
 
 pub use blank::Blank;
 pub use close::CloseFault;
 pub use cluster::Cluster;
-pub use fault::ClusterFault;
 pub use laws::{records_are_in_range, records_count_passes};
 pub use member::Member;
 pub use node::{ClusterName, Node};
-pub use record::RunRecord;
+pub use run_outcome::{ClusterFault, RunRecord};

@@ -1,32 +1,30 @@
 //! Members of a cluster, which threads drive.
-ghost use Rattle.std.specs.Prelude.{◌≡◌, ◌≢◌, ◌⊎◌, ℕ, ◌+◌, ◌<◌, ◌≤◌, [], true, false, None, Some, Ok, Err, IfOk, IfErr, IfSome, length, slice_index_or};
+ghost use Rattle.std.specs.Prelude.{◌≡◌, ◌≢◌, ℕ, ◌+◌, ◌<◌, ◌≤◌, true, false, None, Some, Ok, Err, IfOk, IfErr, IfSome, length};
 ghost use Rattle.std.specs.List.{All};
 ghost use Rattle.numbers.specs.Bounds.{max_voters, max_clients};
 ghost use Rattle.board.specs.Quorums.{quorum_at};
-ghost use Rattle.board.specs.Seats.{BoardState, ClientSeatState};
 ghost use Rattle.board.specs.declared.fault.BoardFault.{BoardFault};
-ghost use Rattle.requester.specs.Soundness.{IsSound};
 ghost use Rattle.requester.specs.Steps.{remind};
 ghost use Rattle.requester.specs.Words.{is_asking, is_idle, is_inside, members};
-ghost use Rattle.members.specs.Clerks.{AreDealt, ClerksState, IsDealt, drawn, exchanged, may_exchange, receipts_of};
+ghost use Rattle.clerks.specs.Clerks.{AreDealt, IsDealt, drawn, exchanged, may_exchange, receipts_of};
 ghost use Rattle.members.specs.Clusters.{ClusterState, names_in};
 ghost use Rattle.members.specs.Losses.{LosesAtMost, most_lost};
 ghost use Rattle.members.specs.Members.{MemberState, MayAsk, Asked, HasLeft, GaveUp, Met, Pumped, RefusesAsk, RefusesPass, fresh_member, place_in, with_pass};
 ghost use Rattle.node.specs.Mail.{IsMail};
 ghost use Rattle.node.specs.Votes.{HoldsFewer, HoldsOnly, HoldsWithin};
 
-use crate::clerks::Clerks;
 use crate::cluster::Cluster;
-use crate::fault::ClusterFault;
 use crate::laws::clients_keep_their_laws;
 use arrayvec::ArrayVec;
 use board::ClientSeat;
+use clerks::Clerks;
 use dealer::Receipt;
 use message::ToClient;
 use node::{ClusterName, accept, give_back};
 use numbers::MAX_STAMP;
 use quorum_set::Side;
 use requester::{ClientFault, Messages, Phase, Requester, Seen, requesters_stay_sound};
+use run_outcome::ClusterFault;
 use std::marker::{Model, PhantomData};
 use std::sync::Wait;
 use std::time::{Clock, Duration};
@@ -355,8 +353,8 @@ impl<N: ClusterName> Member<N> {
         }
         let reminders = self.requester.remind();
         let sent = cluster.send(rt, &self.requester, &self.seat, reminders.as_slice());
-        let told = cluster.remind(rt, self.requester.quorum());
-        self.lost = self.lost.saturating_add(sent).saturating_add(told);
+        let reminded = cluster.remind(rt, self.requester.quorum());
+        self.lost = self.lost.saturating_add(sent).saturating_add(reminded);
     }
 
     /// Passes: reads the register, writes the number read plus one, and returns the number read.

@@ -11,7 +11,7 @@ use Rattle.message.specs.declared.message.Message.TheVariants as kinds
 use Rattle.message.specs.declared.message.VoterBody.{VoterBody}
 use Rattle.message.specs.declared.message.VoterBody.TheVariants as asks
 use Rattle.message.specs.declared.message.ClientBody.{ClientBody}
-use Rattle.message.specs.declared.message.ClientBody.TheVariants as tells
+use Rattle.message.specs.declared.message.ClientBody.TheVariants as to_client
 use Rattle.texts.specs.Fields.{AllFit, fields}
 use Rattle.message.specs.Lines.{HasLine, AreCounts, message_line, word_of, numbers_of, voter_word, client_word, client_numbers}
 
@@ -39,14 +39,14 @@ one_line_voter_word (asks.Relinquish grant) = search rules
 one_line_voter_word (asks.Release stamp) = search rules
 
 one_line_client_word : (b : ClientBody) → IsOneLine (client_word b)
-one_line_client_word (tells.Locked stamp grant) = search rules
-one_line_client_word (tells.Fail stamp) = search rules
-one_line_client_word (tells.Inquire grant) = search rules
+one_line_client_word (to_client.Locked stamp grant) = search rules
+one_line_client_word (to_client.Fail stamp) = search rules
+one_line_client_word (to_client.Inquire grant) = search rules
 
 fit_client_numbers : (s : ℕ) (b : ClientBody) → s < 2 ^ 64 → AreCounts b → AllFit (client_numbers b ++ s ∷ [])
-fit_client_numbers s (tells.Locked stamp grant) hs h = (h.0.1, (h.1.1, (hs, tt)))
-fit_client_numbers s (tells.Fail stamp) hs h = (h.1, (hs, tt))
-fit_client_numbers s (tells.Inquire grant) hs h = (h.1, (hs, tt))
+fit_client_numbers s (to_client.Locked stamp grant) hs h = (h.0.1, (h.1.1, (hs, tt)))
+fit_client_numbers s (to_client.Fail stamp) hs h = (h.1, (hs, tt))
+fit_client_numbers s (to_client.Inquire grant) hs h = (h.1, (hs, tt))
 
 pub AllFit-numbers_of : (m : Message) → HasLine m → AllFit (numbers_of m)
 AllFit-numbers_of (kinds.ToVoter m) h = (fits-from_small m.client h.0, (fits-from_small m.voter h.1, (h.2.1, tt)))

@@ -6,7 +6,7 @@ use Rattle.message.specs.declared.message.Message.TheVariants as kinds
 use Rattle.message.specs.declared.message.VoterBody.{VoterBody}
 use Rattle.message.specs.declared.message.VoterBody.TheVariants as asks
 use Rattle.message.specs.declared.message.ClientBody.{ClientBody}
-use Rattle.message.specs.declared.message.ClientBody.TheVariants as tells
+use Rattle.message.specs.declared.message.ClientBody.TheVariants as to_client
 use Rattle.texts.specs.Fields.{fields}
 
 -- REQUEST, RELINQUISH and RELEASE, from a client to a voter
@@ -23,15 +23,15 @@ voter_number (asks.Release stamp) = stamp
 
 -- LOCKED, FAIL and INQUIRE, from a voter to a client
 abbrev pub client_word : ClientBody → List ℕ
-client_word (tells.Locked stamp grant) = codes "locked"
-client_word (tells.Fail stamp) = codes "fail"
-client_word (tells.Inquire grant) = codes "inquire"
+client_word (to_client.Locked stamp grant) = codes "locked"
+client_word (to_client.Fail stamp) = codes "fail"
+client_word (to_client.Inquire grant) = codes "inquire"
 
 -- the numbers at the end of a line to a client
 abbrev pub client_numbers : ClientBody → List ℕ
-client_numbers (tells.Locked stamp grant) = stamp ∷ grant ∷ []
-client_numbers (tells.Fail stamp) = stamp ∷ []
-client_numbers (tells.Inquire grant) = grant ∷ []
+client_numbers (to_client.Locked stamp grant) = stamp ∷ grant ∷ []
+client_numbers (to_client.Fail stamp) = stamp ∷ []
+client_numbers (to_client.Inquire grant) = grant ∷ []
 
 -- the word that a line begins with
 abbrev pub word_of : Message → List ℕ
@@ -53,9 +53,9 @@ IsCount n = (1 ≤ n) × (n < 2 ^ 64)
 
 -- the stamps and grants in a message to a client can be written
 abbrev pub AreCounts : ClientBody → Type 0
-AreCounts (tells.Locked stamp grant) = IsCount stamp × IsCount grant
-AreCounts (tells.Fail stamp) = IsCount stamp
-AreCounts (tells.Inquire grant) = IsCount grant
+AreCounts (to_client.Locked stamp grant) = IsCount stamp × IsCount grant
+AreCounts (to_client.Fail stamp) = IsCount stamp
+AreCounts (to_client.Inquire grant) = IsCount grant
 
 -- a client or a voter is at most 63, and each stamp and grant is a count
 abbrev pub HasLine : Message → Type 0

@@ -1,7 +1,7 @@
 //! Reading the line of a message.
-ghost use Rattle.std.specs.Prelude.{◌≡◌, ◌≤◌, ◌∷◌, [], ℕ, List, IfOk, IfSome};
+ghost use Rattle.std.specs.Prelude.{◌≡◌, ◌∷◌, [], ℕ, List, IfOk, IfSome};
 ghost use Rattle.message.specs.declared.message.Message.{Message};
-ghost use Rattle.texts.specs.Fields.{AllFit, fields};
+ghost use Rattle.texts.specs.Fields.{fields};
 ghost use Rattle.message.specs.Lines.{HasLine, IsMessageOf, message_line};
 
 use crate::fault::MessageFault;
@@ -13,7 +13,7 @@ const HIGHEST: u64 = 63;
 
 /// Returns a client's message: REQUEST, RELINQUISH or RELEASE.
 fn to_voter(word: &[u8], client: u64, voter: u64, number: u64) -> Option<Message>
-    ensures spelled { IfSome result (λ m. IsMessageOf m word.now (client ∷ voter ∷ number ∷ [])) }
+    ensures written { IfSome result (λ m. IsMessageOf m word.now (client ∷ voter ∷ number ∷ [])) }
     ensures read { (m : Message) → IsMessageOf m word.now (client ∷ voter ∷ number ∷ []) → result ≡ Some m }
 {
     if client > HIGHEST || voter > HIGHEST || number == 0 {
@@ -34,7 +34,7 @@ fn to_voter(word: &[u8], client: u64, voter: u64, number: u64) -> Option<Message
 
 /// Returns a voter's message about a request or a grant: FAIL or INQUIRE.
 fn to_client(word: &[u8], voter: u64, client: u64, number: u64, seen: u64) -> Option<Message>
-    ensures spelled { IfSome result (λ m. IsMessageOf m word.now (voter ∷ client ∷ number ∷ seen ∷ [])) }
+    ensures written { IfSome result (λ m. IsMessageOf m word.now (voter ∷ client ∷ number ∷ seen ∷ [])) }
     ensures read { (m : Message) → IsMessageOf m word.now (voter ∷ client ∷ number ∷ seen ∷ []) → result ≡ Some m }
 {
     if voter > HIGHEST || client > HIGHEST || number == 0 {
@@ -62,7 +62,7 @@ fn locked(
     grant: u64,
     seen: u64,
 ) -> Option<Message>
-    ensures spelled { IfSome result (λ m. IsMessageOf m word.now (voter ∷ client ∷ stamp ∷ grant ∷ seen ∷ [])) }
+    ensures written { IfSome result (λ m. IsMessageOf m word.now (voter ∷ client ∷ stamp ∷ grant ∷ seen ∷ [])) }
     ensures read { (m : Message) → IsMessageOf m word.now (voter ∷ client ∷ stamp ∷ grant ∷ seen ∷ [])
         → result ≡ Some m }
 {
@@ -84,7 +84,7 @@ fn locked(
 
 /// Returns the message of this word and these numbers.
 fn message_of(word: &[u8], numbers: &[u64]) -> Option<Message>
-    ensures spelled { IfSome result (λ m. IsMessageOf m word.now numbers.now) }
+    ensures written { IfSome result (λ m. IsMessageOf m word.now numbers.now) }
     ensures read { (m : Message) → IsMessageOf m word.now numbers.now → result ≡ Some m }
 {
     match numbers {
@@ -100,7 +100,7 @@ fn message_of(word: &[u8], numbers: &[u64]) -> Option<Message>
 /// Returns the message of this word and the fields after it. The word determines how many fields
 /// there are.
 fn read_fields(word: &[u8], rest: &[u8]) -> Option<Message>
-    ensures spelled { IfSome result (λ m. (ns : List ℕ) × IsMessageOf m word.now ns × (rest.now ≡ fields ns)) }
+    ensures written { IfSome result (λ m. (ns : List ℕ) × IsMessageOf m word.now ns × (rest.now ≡ fields ns)) }
     ensures read { (m : Message) (ns : List ℕ) → IsMessageOf m word.now ns → rest.now ≡ fields ns → result ≡ Some m }
 {
     match word {
@@ -114,7 +114,7 @@ fn read_fields(word: &[u8], rest: &[u8]) -> Option<Message>
 /// bytes are no message's line.
 pub fn read_message(line: &[u8]) -> Result<Message, MessageFault>
     // What is read is the message of this line.
-    ensures spelled { IfOk result (λ m. HasLine m × (line.now ≡ message_line m)) }
+    ensures written { IfOk result (λ m. HasLine m × (line.now ≡ message_line m)) }
     // The line of each message is read.
     ensures read { (m : Message) → HasLine m → line.now ≡ message_line m → result ≡ Ok m }
 {

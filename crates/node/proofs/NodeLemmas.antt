@@ -79,7 +79,8 @@ Brings-client_below clients client (asks.Relinquish s) c t lt p = absurd p
 Brings-client_below clients client (asks.Release s) c t lt p = absurd p
 
 -- the number of a grant that the seat has to offer
-new_number : (v w : VoterState) (seat : SeatState) → seat.current ≡ seat_grant v.held → (b : Bool) → VoteMoves b v w → (settled b seat).current ≡ None → (g : Grant) → w.held ≡ Some g → (g.grant ≡ v.granted + 1) × (w.granted ≡ v.granted + 1)
+new_number : (v w : VoterState) (seat : SeatState) → seat.current ≡ seat_grant v.held → (b : Bool) → VoteMoves b v w → (settled b seat).current ≡ None → (g : Grant)
+    → w.held ≡ Some g → (g.grant ≡ v.granted + 1) × (w.granted ≡ v.granted + 1)
 new_number v w seat cur true (inl ends) free g is = absurd (not_both w.held g ends.held is)
 new_number v w seat cur true (inr n) free g is = (ap (λ (h : Grant). h.grant) (same_grant g n.grant w.held is n.held) ∙ n.number, n.granted)
 new_number v w seat cur false (inl stays) free g is =

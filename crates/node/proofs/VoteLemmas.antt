@@ -10,7 +10,7 @@ use Rattle.numbers.specs.Sets.{has}
 use Rattle.numbers.proofs.SetLemmas.{has-tail}
 use Rattle.message.specs.declared.message.ToClient.{ToClient}
 use Rattle.message.specs.declared.message.ClientBody.{ClientBody}
-use Rattle.message.specs.declared.message.ClientBody.TheVariants as tells
+use Rattle.message.specs.declared.message.ClientBody.TheVariants as to_client
 use Rattle.requester.specs.declared.state.ClientState.{ClientState}
 use Rattle.requester.specs.Held.{HoldsBesides}
 use Rattle.requester.specs.Steps.{would_hold, would_hold_body, is_fresh}
@@ -38,11 +38,13 @@ Compared-first voters quorum held seat len within fewer only = record {
   fewer = fewer;
 }
 
-pub Compared-more : (voters i : ℕ) (rest held seat after : List ℕ) → Compared voters (i ∷ rest) held seat → slice_index after i ≡ slice_index held i → ((v : ℕ) → v ≢ i → slice_index after v ≡ slice_index seat v) → length after ≡ length seat → Compared voters rest held after
+pub Compared-more : (voters i : ℕ) (rest held seat after : List ℕ) → Compared voters (i ∷ rest) held seat → slice_index after i ≡ slice_index held i
+    → ((v : ℕ) → v ≢ i → slice_index after v ≡ slice_index seat v) → length after ≡ length seat → Compared voters rest held after
 Compared-more voters i rest held seat after r kept others len = record {
   len = len ∙ r.len;
   within = λ v some. dite (ℕ_discrete v i)
-      (λ e. r.within v (λ free. some (ap (slice_index after) e ∙ kept ∙ sym (ap (slice_index held) e) ∙ ⊎_elim (λ (same : slice_index held v ≡ slice_index seat v). same ∙ free) (λ (gone : slice_index held v ≡ 0). gone) (r.fewer v))))
+      (λ e. r.within v (λ free. some (ap (slice_index after) e ∙ kept ∙ sym (ap (slice_index held) e)
+      ∙ ⊎_elim (λ (same : slice_index held v ≡ slice_index seat v). same ∙ free) (λ (gone : slice_index held v ≡ 0). gone) (r.fewer v))))
       (λ ne. r.within v (λ free. some (others v ne ∙ free)));
   same = λ v out. dite (ℕ_discrete v i)
       (λ e. ap (slice_index after) e ∙ kept ∙ sym (ap (slice_index held) e))
@@ -74,18 +76,18 @@ fresh_free x voter grant e =
     not_held (slice_index x.held voter) (and_right (is_member x voter) (not (holds x voter)) (and_left (is_member x voter && not (holds x voter)) (nat_lt (last_of x voter) grant) e))
 
 would_free : (x : ClientState) (voter : ℕ) (b : ClientBody) → would_hold_body x voter b ≡ true → slice_index x.held voter ≡ 0
-would_free x voter (tells.Locked stamp grant) e = fresh_free x voter grant (and_right (is_current x stamp) _ e)
-would_free x voter (tells.Fail stamp) e = absurd (true≢false (sym e))
-would_free x voter (tells.Inquire grant) e = absurd (true≢false (sym e))
+would_free x voter (to_client.Locked stamp grant) e = fresh_free x voter grant (and_right (is_current x stamp) _ e)
+would_free x voter (to_client.Fail stamp) e = absurd (true≢false (sym e))
+would_free x voter (to_client.Inquire grant) e = absurd (true≢false (sym e))
 
 fresh_member : (x : ClientState) (voter grant : ℕ) → is_fresh x voter grant ≡ true → is_member x voter ≡ true
 fresh_member x voter grant e =
     and_left (is_member x voter) (not (holds x voter)) (and_left (is_member x voter && not (holds x voter)) (nat_lt (last_of x voter) grant) e)
 
 would_member : (x : ClientState) (voter : ℕ) (b : ClientBody) → would_hold_body x voter b ≡ true → is_member x voter ≡ true
-would_member x voter (tells.Locked stamp grant) e = fresh_member x voter grant (and_right (is_current x stamp) _ e)
-would_member x voter (tells.Fail stamp) e = absurd (true≢false (sym e))
-would_member x voter (tells.Inquire grant) e = absurd (true≢false (sym e))
+would_member x voter (to_client.Locked stamp grant) e = fresh_member x voter grant (and_right (is_current x stamp) _ e)
+would_member x voter (to_client.Fail stamp) e = absurd (true≢false (sym e))
+would_member x voter (to_client.Inquire grant) e = absurd (true≢false (sym e))
 
 -- it is of a member's vote
 pub member_before : (x : ClientState) (m : ToClient) → would_hold x m ≡ true → is_member x m.voter ≡ true
@@ -99,26 +101,26 @@ free_before x m e = would_free x m.voter m.body e
 
 -- the seat then holds what the client will hold
 pub HoldsFewer-locked : (x y : ClientState) (voter : ℕ) (b : ClientBody) (seat after : List ℕ) → seat ≡ x.held → HoldsBesides x voter b y → HoldsLocked seat voter b after → HoldsFewer y.held after
-HoldsFewer-locked x y voter (tells.Locked stamp grant) seat after same besides locked =
+HoldsFewer-locked x y voter (to_client.Locked stamp grant) seat after same besides locked =
     λ v. inl (ap (λ l. slice_index l v) (besides ∙ ap (λ l. slice_set l voter grant) (sym same) ∙ sym locked))
-HoldsFewer-locked x y voter (tells.Fail stamp) seat after same besides locked = absurd locked
-HoldsFewer-locked x y voter (tells.Inquire grant) seat after same besides locked = absurd locked
+HoldsFewer-locked x y voter (to_client.Fail stamp) seat after same besides locked = absurd locked
+HoldsFewer-locked x y voter (to_client.Inquire grant) seat after same besides locked = absurd locked
 
 pub HoldsWithin-locked : (voters voter : ℕ) (b : ClientBody) (seat after : List ℕ) → voter < voters → HoldsWithin voters seat → HoldsLocked seat voter b after → HoldsWithin voters after
-HoldsWithin-locked voters voter (tells.Locked stamp grant) seat after lt within locked = λ v some. dite (ℕ_discrete v voter)
+HoldsWithin-locked voters voter (to_client.Locked stamp grant) seat after lt within locked = λ v some. dite (ℕ_discrete v voter)
     (λ e. subst (λ n. n < voters) (sym e) lt)
     (λ ne. within v (λ free. some (ap (λ l. slice_index l v) locked ∙ get_or-set_other seat voter v grant 0 ne ∙ free)))
-HoldsWithin-locked voters voter (tells.Fail stamp) seat after lt within locked = absurd locked
-HoldsWithin-locked voters voter (tells.Inquire grant) seat after lt within locked = absurd locked
+HoldsWithin-locked voters voter (to_client.Fail stamp) seat after lt within locked = absurd locked
+HoldsWithin-locked voters voter (to_client.Inquire grant) seat after lt within locked = absurd locked
 
 -- the seat then holds only votes of the client's quorum
 
 HoldsOnly-locked : (voters : List ℕ) (voter : ℕ) (b : ClientBody) (seat after : List ℕ) → has voters voter ≡ true → HoldsOnly voters seat → HoldsLocked seat voter b after → HoldsOnly voters after
-HoldsOnly-locked voters voter (tells.Locked stamp grant) seat after member only locked = λ v out. dite (ℕ_discrete v voter)
+HoldsOnly-locked voters voter (to_client.Locked stamp grant) seat after member only locked = λ v out. dite (ℕ_discrete v voter)
     (λ e. absurd (true≢false (sym member ∙ sym (ap (has voters) e) ∙ out)))
     (λ ne. ap (λ l. slice_index l v) locked ∙ get_or-set_other seat voter v grant 0 ne ∙ only v out)
-HoldsOnly-locked voters voter (tells.Fail stamp) seat after member only locked = absurd locked
-HoldsOnly-locked voters voter (tells.Inquire grant) seat after member only locked = absurd locked
+HoldsOnly-locked voters voter (to_client.Fail stamp) seat after member only locked = absurd locked
+HoldsOnly-locked voters voter (to_client.Inquire grant) seat after member only locked = absurd locked
 
 pub HoldsOnly-hold : (voters : List ℕ) (voter : ℕ) (b : ClientBody) (taken : Bool) (seat after : List ℕ) → has voters voter ≡ true → HoldsOnly voters seat
     → (taken ≡ true → HoldsLocked seat voter b after) → (taken ≡ false → after ≡ seat) → HoldsOnly voters after

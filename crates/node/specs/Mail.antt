@@ -3,14 +3,14 @@ use Rattle.std.specs.Prelude.{◌≡◌, ℕ, ◌<◌, ◌++◌, ◌∷◌, [], 
 use Rattle.numbers.specs.Bounds.{max_stamp}
 use Rattle.message.specs.declared.message.ToClient.{ToClient}
 use Rattle.message.specs.declared.message.ClientBody.{ClientBody}
-use Rattle.message.specs.declared.message.ClientBody.TheVariants as tells
+use Rattle.message.specs.declared.message.ClientBody.TheVariants as to_client
 use Rattle.board.specs.Seats.{BoardState}
 
 -- whether the grant of a LOCKED is from 1 to 2^40; true for other messages
 abbrev pub has_grant : ClientBody → Bool
-has_grant (tells.Locked stamp grant) = nat_le 1 grant && nat_le grant max_stamp
-has_grant (tells.Fail stamp) = true
-has_grant (tells.Inquire grant) = true
+has_grant (to_client.Locked stamp grant) = nat_le 1 grant && nat_le grant max_stamp
+has_grant (to_client.Fail stamp) = true
+has_grant (to_client.Inquire grant) = true
 
 -- the message names this client and a voter of the board, and a LOCKED has a grant from 1 to 2^40
 pub record IsMail (board : BoardState) (client : ℕ) (m : ToClient) : Type 0 where

@@ -3,7 +3,7 @@
 use Rattle.std.specs.Prelude.{◌≡◌, ◌≢◌, ◌⊎◌, ℕ, ◌<◌, false, List, slice_index, slice_set}
 use Rattle.numbers.specs.Sets.{has}
 use Rattle.message.specs.declared.message.ClientBody.{ClientBody}
-use Rattle.message.specs.declared.message.ClientBody.TheVariants as tells
+use Rattle.message.specs.declared.message.ClientBody.TheVariants as to_client
 
 -- only votes of the board's voters are held
 abbrev pub HoldsWithin : ℕ → List ℕ → Type 0
@@ -19,6 +19,6 @@ HoldsFewer held others = (v : ℕ) → (slice_index held v ≡ slice_index other
 
 -- the message is a LOCKED, and afterwards the vote that it brings is held too
 abbrev pub HoldsLocked : List ℕ → ℕ → ClientBody → List ℕ → Type 0
-HoldsLocked before voter (tells.Locked stamp grant) after = after ≡ slice_set before voter grant
-HoldsLocked before voter (tells.Fail stamp) after = ⊥
-HoldsLocked before voter (tells.Inquire grant) after = ⊥
+HoldsLocked before voter (to_client.Locked stamp grant) after = after ≡ slice_set before voter grant
+HoldsLocked before voter (to_client.Fail stamp) after = ⊥
+HoldsLocked before voter (to_client.Inquire grant) after = ⊥

@@ -1,8 +1,7 @@
 //! A voter with its seat on the board, to be put behind a lock.
-ghost use Rattle.std.specs.Prelude.{◌≡◌, ◌⊎◌, ◌<◌, ◌≤◌, ◌++◌, ◌∷◌, [], true, false, None, Some, IfOk, IfErr, IfSome, MatchBool, MatchOption, IsSome};
+ghost use Rattle.std.specs.Prelude.{◌≡◌, ◌⊎◌, ◌<◌, ◌≤◌, ◌++◌, ◌∷◌, [], true, false, None, Some, IfOk, IfErr, IfSome, MatchBool, IsSome};
 ghost use Rattle.numbers.specs.Bounds.{max_voters, max_clients, max_stamp};
 ghost use Rattle.voter.specs.Steps.{effect_of, remind, start, step};
-ghost use Rattle.board.specs.Seats.{BoardState};
 ghost use Rattle.node.specs.Names.{ClusterState};
 ghost use Rattle.node.specs.Nodes.{NodeState, IsFor, offered, seat_grant, settled};
 

@@ -1,16 +1,15 @@
 //! How a client's votes move on the board.
 ghost use Rattle.std.specs.Prelude.{◌≡◌, ◌≢◌, ◌⊎◌, ℕ, ◌<◌, true, false, None, length, slice_index};
 ghost use Rattle.numbers.specs.Bounds.{max_voters};
-ghost use Rattle.board.specs.Seats.{BoardState, ClientSeatState};
 ghost use Rattle.requester.specs.Soundness.{IsSound};
 ghost use Rattle.requester.specs.Steps.{take, would_hold};
-ghost use Rattle.requester.specs.Words.{held_of, members};
+ghost use Rattle.requester.specs.Words.{members};
 ghost use Rattle.node.specs.Mail.{IsMail, has_grant};
 ghost use Rattle.node.specs.Votes.{HoldsWithin, HoldsLocked, HoldsFewer, HoldsOnly};
 
 use board::{Board, ClientSeat};
 use message::{ClientBody, ToClient};
-use requester::{Requester, messages_move_votes, phases_tell_votes};
+use requester::{Requester, messages_move_votes, phases_show_votes};
 
 /// Gives a vote back if the seat holds it.
 #[tactic(auto, using(crate::proofs::VoteLemmas::dropped_is_0))]
@@ -118,7 +117,7 @@ pub fn accept(
     ensures lost { result ≡ false → (seat.new ≡ seat.old) × (would_hold requester.now message.now ≡ true) }
 {
     messages_move_votes();
-    phases_tell_votes();
+    phases_show_votes();
     if !requester.would_hold(message) {
         return true;
     }

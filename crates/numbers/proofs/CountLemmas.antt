@@ -105,7 +105,7 @@ sum_by-none_above n (x ∷ xs) none =
           absurd (omega (arith, none x above, times-cons x x xs, here))
     ]
 
--- what stands in a list stands there at least once
+-- a member of a list is in it at least once
 pub times-get_or : (list : List ℕ) (i : ℕ) → i < length list → 0 < times (get_or list i 0) list
 times-get_or [] i lt = absurd (omega arith)
 times-get_or (x ∷ xs) zero lt =

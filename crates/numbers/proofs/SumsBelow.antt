@@ -125,7 +125,7 @@ pub sum_by-one : {A : Type 0} (list : List A) → sum_by (λ _. 1) list ≡ leng
 sum_by-one [] = refl
 sum_by-one {A} (x ∷ xs) = omega (arith, sum_by-cons (λ (_ : A). 1) x xs, sum_by-one xs)
 
--- where no number from n on stands in a list, nothing is summed over those
+-- if no number from n on is in a list, the sum over those is 0
 pub sum_by-zero_above : (n : ℕ) (f : ℕ → ℕ) (list : List ℕ) → sum_by (λ x. cond (leb n x) 1 0) list ≡ 0 → sum_by (λ x. cond (leb n x) (f x) 0) list ≡ 0
 sum_by-zero_above n f [] none = refl
 sum_by-zero_above n f (x ∷ xs) none =

@@ -15,11 +15,13 @@ found_Some P false f e rest own others is = others is
 right_lengths : (a b c d : ℕ) → a ≡ b → c ≡ d → not ((a == b) && (c == d)) ≡ false
 right_lengths a b c d first second = rw (eq-eqb a b first, eq-eqb c d second) refl
 
-CanCome-unbalanced : (capacities : List ℕ) (b : Bool) (most total lightest len p q all : ℕ) → are_unit capacities ≡ b → CanCome capacities (of_plan_fault (cond b (NotOptimal most total lightest len) (NotOptimalRatio p q all lightest len)))
+CanCome-unbalanced : (capacities : List ℕ) (b : Bool) (most total lightest len p q all : ℕ) → are_unit capacities ≡ b
+    → CanCome capacities (of_plan_fault (cond b (NotOptimal most total lightest len) (NotOptimalRatio p q all lightest len)))
 CanCome-unbalanced capacities true most total lightest len p q all is = is
 CanCome-unbalanced capacities false most total lightest len p q all is = is
 
-CanCome-weights_fault : (w : Weighted) (e : PlanFault) → length w.quorum_weights ≡ length w.system.quorums → length w.voter_weights ≡ w.system.voters → weights_fault w ≡ Some e → CanCome w.capacities (of_plan_fault e)
+CanCome-weights_fault : (w : Weighted) (e : PlanFault) → length w.quorum_weights ≡ length w.system.quorums → length w.voter_weights ≡ w.system.voters → weights_fault w ≡ Some e
+    → CanCome w.capacities (of_plan_fault e)
 CanCome-weights_fault w e quorums voters is =
     let P : PlanFault → Type 0 = λ f. CanCome w.capacities (of_plan_fault f) in
     let right = right_lengths _ _ _ _ quorums voters in
@@ -36,6 +38,7 @@ CanCome-weights_fault w e quorums voters is =
     nothing_found is = cc
 
 -- the fault of a check of weights that are not too few and not too many
-pub CanCome-check : (w : Weighted) (e : PlanFault) → length w.quorum_weights ≡ length w.system.quorums → length w.voter_weights ≡ w.system.voters → AnswersPlan w (Err e) → CanCome w.capacities (of_plan_fault e)
+pub CanCome-check : (w : Weighted) (e : PlanFault) → length w.quorum_weights ≡ length w.system.quorums → length w.voter_weights ≡ w.system.voters → AnswersPlan w (Err e)
+    → CanCome w.capacities (of_plan_fault e)
 CanCome-check w OutOfMemory quorums voters is = tt
 CanCome-check w e quorums voters is = CanCome-weights_fault w e quorums voters is

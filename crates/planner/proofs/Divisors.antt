@@ -42,14 +42,18 @@ HaveNoCommonDivisor-ones zero some = absurd (omega arith)
 HaveNoCommonDivisor-ones (suc n) some = λ d all. eq-one_of_dvd-one (all 0 0 (omega arith))
 
 -- a plan of all weights 1
-pub HaveNoCommonDivisor-all_ones : (s : QuorumSystem) (capacities : List ℕ) (p : Weighted) → p ≡ all_ones s capacities → IsCertificate p → HaveNoCommonDivisor p.quorum_weights × HaveNoCommonDivisor p.voter_weights
+pub HaveNoCommonDivisor-all_ones : (s : QuorumSystem) (capacities : List ℕ) (p : Weighted) → p ≡ all_ones s capacities → IsCertificate p → HaveNoCommonDivisor p.quorum_weights
+    × HaveNoCommonDivisor p.voter_weights
 HaveNoCommonDivisor-all_ones s capacities p e is =
     let quorums = subst (λ (w : Weighted). 0 < length w.system.quorums) e is.coterie.some_quorum in
-    let voters = subst (λ (w : Weighted). 0 < w.system.voters) e is.coterie.some_voter in
-    (subst HaveNoCommonDivisor (sym (ap (λ (w : Weighted). w.quorum_weights) e)) (HaveNoCommonDivisor-ones (length s.quorums) quorums), subst HaveNoCommonDivisor (sym (ap (λ (w : Weighted). w.voter_weights) e)) (HaveNoCommonDivisor-ones s.voters voters))
+    let voters = subst (λ (w : Weighted). 0 < w.system.voters) e is.coterie.some_voter in (
+      subst HaveNoCommonDivisor (sym (ap (λ (w : Weighted). w.quorum_weights) e)) (HaveNoCommonDivisor-ones (length s.quorums) quorums),
+      subst HaveNoCommonDivisor (sym (ap (λ (w : Weighted). w.voter_weights) e)) (HaveNoCommonDivisor-ones s.voters voters),
+    )
 
 -- a plan of weights that were divided
-pub HaveNoCommonDivisor-divided_plan : (p w : Weighted) (qs vs : List ℕ) → p ≡ w → w.quorum_weights ≡ qs → w.voter_weights ≡ vs → IsCertificate p → (0 < sum qs → HaveNoCommonDivisor qs) → (0 < sum vs → HaveNoCommonDivisor vs) → HaveNoCommonDivisor p.quorum_weights × HaveNoCommonDivisor p.voter_weights
+pub HaveNoCommonDivisor-divided_plan : (p w : Weighted) (qs vs : List ℕ) → p ≡ w → w.quorum_weights ≡ qs → w.voter_weights ≡ vs → IsCertificate p → (0 < sum qs → HaveNoCommonDivisor qs)
+    → (0 < sum vs → HaveNoCommonDivisor vs) → HaveNoCommonDivisor p.quorum_weights × HaveNoCommonDivisor p.voter_weights
 HaveNoCommonDivisor-divided_plan p w qs vs e eq ev is low_q low_v =
     let at_q = ap (λ (x : Weighted). x.quorum_weights) e ∙ eq in
     let at_v = ap (λ (x : Weighted). x.voter_weights) e ∙ ev in

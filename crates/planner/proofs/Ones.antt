@@ -84,13 +84,15 @@ abbrev pub HasTop : QuorumSystem → List ℕ → Type 0
 HasTop s capacities = IsTop s.voters capacities (cycle_count (all_ones s capacities)) (cycle_ratio (all_ones s capacities))
 
 -- the count of the voter that reaches the ratio p / q, for capacities that are all c
-reached-degree : (s : QuorumSystem) (capacities : List ℕ) → AreCapacities capacities s.voters → (equal : AreEqual capacities) → HasTop s capacities → (i : ℕ) × (i < s.voters) × (degree_of s i * (cycle_ratio (all_ones s capacities)).1 ≡ (cycle_ratio (all_ones s capacities)).0 * equal.0)
+reached-degree : (s : QuorumSystem) (capacities : List ℕ) → AreCapacities capacities s.voters → (equal : AreEqual capacities) → HasTop s capacities → (i : ℕ) × (i < s.voters)
+    × (degree_of s i * (cycle_ratio (all_ones s capacities)).1 ≡ (cycle_ratio (all_ones s capacities)).0 * equal.0)
 reached-degree s capacities are equal top =
     let r : ℕ × ℕ = cycle_ratio (all_ones s capacities) in
     let at = top.reached in
     (at.0, at.1, ap (λ d. d * r.1) (sym (weight_on-ones at.0 s.quorums)) ∙ at.2 ∙ ap (λ c. r.0 * c) (get_or-equal capacities s.voters are equal at.0 at.1))
 
-pub IsCertificate-uniform : (s : QuorumSystem) (capacities : List ℕ) → IsCoterie s → AreCapacities capacities s.voters → AreEqual capacities → HasTop s capacities → IsUniform s → IsCertificate (all_ones s capacities)
+pub IsCertificate-uniform : (s : QuorumSystem) (capacities : List ℕ) → IsCoterie s → AreCapacities capacities s.voters → AreEqual capacities → HasTop s capacities → IsUniform s
+    → IsCertificate (all_ones s capacities)
 IsCertificate-uniform s capacities h are equal top u =
     let n : ℕ = s.voters in
     let q : ℕ = length s.quorums in
@@ -102,7 +104,8 @@ IsCertificate-uniform s capacities h are equal top u =
     let total = sum-ones n in
     let at = reached-degree s capacities are equal top in
     let most = ap (λ d. d * (cycle_ratio (all_ones s capacities)).1) (sym (u.voters at.0 at.1)) ∙ at.2 in
-    let least : lightest_quorum (all_ones s capacities) ≡ u.size = least_of-level (weight_within (ones n)) s.quorums u.size some_quorum (λ j d lt. weight_within-ones_at s h j d lt ∙ u.quorums j d lt) in
+    let least : lightest_quorum (all_ones s capacities) ≡ u.size = least_of-level (weight_within (ones n)) s.quorums u.size some_quorum
+    (λ j d lt. weight_within-ones_at s h j d lt ∙ u.quorums j d lt) in
     let degrees = sum_below-degrees n s.quorums (Ascends-quorums s h) in
     let level : sum_below (degree_of s) n ≡ n * u.degree = sum_below-level n u.degree (degree_of s) u.voters in
     let sizes = sum_by-level u.size s.quorums u.quorums in
@@ -134,7 +137,8 @@ denominator-some d p zero c e some is = absurd (off d c some (subst (λ x. d * 0
     off d c some e = omega (arith, some, e)
 denominator-some d p (suc r) c e some is = omega arith
 
-pub IsUniform-certificate : (s : QuorumSystem) (capacities : List ℕ) → IsCoterie s → AreCapacities capacities s.voters → AreEqual capacities → HasTop s capacities → IsCertificate (all_ones s capacities) → IsUniform s
+pub IsUniform-certificate : (s : QuorumSystem) (capacities : List ℕ) → IsCoterie s → AreCapacities capacities s.voters → AreEqual capacities → HasTop s capacities
+    → IsCertificate (all_ones s capacities) → IsUniform s
 IsUniform-certificate s capacities h are equal top c =
     let n : ℕ = s.voters in
     let q : ℕ = length s.quorums in
@@ -146,7 +150,9 @@ IsUniform-certificate s capacities h are equal top c =
     let over : 0 < r.1 = denominator-some m r.0 r.1 equal.0 at.2 some top.lowest in
     let degrees = sum_below-degrees n s.quorums (Ascends-quorums s h) in
     let balanced : m * n ≡ t * q = scaled r.0 r.1 _ t _ m n q equal.0 over at.2 (capacity_total-ones s capacities are equal) (sum-ones q) c.balanced in
-    let most : (i : ℕ) → i < n → degree_of s i ≤ m = λ i lt. le_of_mul-le-mul_right {k = r.1} (subst (λ x. x * r.1 ≤ m * r.1) (weight_on-ones i s.quorums) (subst (λ x. cycle_count (all_ones s capacities) i * r.1 ≤ x) (ap (λ x. r.0 * x) (get_or-equal capacities n are equal i lt) ∙ sym at.2) (top.bound i lt))) over in
+    let most : (i : ℕ) → i < n → degree_of s i ≤ m = λ i lt. le_of_mul-le-mul_right {k = r.1}
+    (subst (λ x. x * r.1 ≤ m * r.1) (weight_on-ones i s.quorums) (subst (λ x. cycle_count (all_ones s capacities) i * r.1 ≤ x)
+    (ap (λ x. r.0 * x) (get_or-equal capacities n are equal i lt) ∙ sym at.2) (top.bound i lt))) over in
     let least : All (λ r. t ≤ length r) s.quorums = λ j d lt. subst (λ x. t ≤ x) (weight_within-ones_at s h j d lt) (least_of-le (weight_within (ones n)) s.quorums j d lt) in
     let low = sum_by-least t s.quorums least in
     let high = sum_below-most n m (degree_of s) most in
@@ -167,5 +173,6 @@ IsUniform-certificate s capacities h are equal top c =
     scaled p r total t d m n q c over at eb ed balanced =
         eq_of_mul-eq-mul_left r over (m * n) (t * q) (left r m n ∙ ap (λ x. x * n) at ∙ right p c n ∙ ap (λ x. p * x) (sym eb) ∙ balanced ∙ ap (λ x. r * t * x) ed ∙ mul_assoc r t q)
 
-pub IsCertificate-all_ones : (s : QuorumSystem) (capacities : List ℕ) → IsCoterie s → AreCapacities capacities s.voters → AreEqual capacities → HasTop s capacities → IsCertificate (all_ones s capacities) ↔ IsUniform s
+pub IsCertificate-all_ones : (s : QuorumSystem) (capacities : List ℕ) → IsCoterie s → AreCapacities capacities s.voters → AreEqual capacities → HasTop s capacities
+    → IsCertificate (all_ones s capacities) ↔ IsUniform s
 IsCertificate-all_ones s capacities h are equal top = (IsUniform-certificate s capacities h are equal top, IsCertificate-uniform s capacities h are equal top)

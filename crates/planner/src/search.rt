@@ -120,7 +120,7 @@ fn checked(
     }
 }
 
-/// Returns at most how many pivots were made before this fault, if so many were allowed.
+/// Returns a bound on the number of pivots that were made before this fault, if that many were allowed.
 fn spent_before(fault: SimplexFault, pivots: u32) -> u32
     requires { NamesAtMost pivots fault }
     ensures { result ≤ pivots }

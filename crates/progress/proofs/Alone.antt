@@ -18,7 +18,8 @@ use Rattle.progress.specs.WayIn.{AsksAlone, HasGrants, IsWayIn}
 use Rattle.progress.proofs.Fitting.{Fits-reached, not_true}
 use Rattle.progress.proofs.Known.{AloneLaws}
 use Rattle.progress.proofs.Moves.{with_state}
-use Rattle.progress.proofs.Ways.{Enters, Enters-after, Got, Here, Here-went, Leads, Stands, Went, Went-self, asks_again, enters_by, frees_up, gave_back, got_or, has_range, held_some, length_range, not_current, own_stamp}
+use Rattle.progress.proofs.Ways.{Enters, Enters-after, Got, Here, Here-went, Leads, IsKnown, Went, Went-self, asks_again, enters_by, frees_up, gave_back, got_or, has_range}
+use Rattle.progress.proofs.Ways.{held_some, length_range, not_current, own_stamp}
 
 abbrev OthersIdle : ℕ → WorldState → Type 0
 OthersIdle c u = (d : ℕ) → d ≢ c → is_idle (client_at u.clients d).phase ≡ true
@@ -49,7 +50,7 @@ Leads-alone u c asks others = record {
 
 -- ---- the request waits at the voter
 
-known_gets : (laws : AloneLaws) (p : Planned) (c v top : ℕ) (alive : List ℕ) (u : WorldState) → Stands p c v top alive u → OthersIdle c u → Got p c v top u
+known_gets : (laws : AloneLaws) (p : Planned) (c v top : ℕ) (alive : List ℕ) (u : WorldState) → IsKnown p c v top alive u → OthersIdle c u → Got p c v top u
 known_gets laws p c v top alive u k others =
     let ok = laws.fitting.coherent (with_state p u) k.spot.reached in
     let x = client_at u.clients c in
@@ -70,24 +71,25 @@ known_gets laws p c v top alive u k others =
 
 -- ---- a vote that the client lacks
 
-asks_for : (laws : AloneLaws) (p : Planned) (c v : ℕ) (u : WorldState) → Here p c v u → OthersIdle c u → holds (client_at u.clients c) v ≡ false → (voter_at u.voters v).granted + (length u.clients + 2) ≤ (voter_at u.voters v).limit → Got p c v (voter_at u.voters v).limit u
+asks_for : (laws : AloneLaws) (p : Planned) (c v : ℕ) (u : WorldState) → Here p c v u → OthersIdle c u → holds (client_at u.clients c) v ≡ false
+    → (voter_at u.voters v).granted + (length u.clients + 2) ≤ (voter_at u.voters v).limit → Got p c v (voter_at u.voters v).limit u
 asks_for laws p c v u h others free left =
     let top = (voter_at u.voters v).limit in
-    let told = asks_again laws p c v u h free (omega arith) in
-    let z = told.world in
-    let few = told.few in
-    let spot = Here-went p c v v u z told.went h in
+    let heard = asks_again laws p c v u h free (omega arith) in
+    let z = heard.world in
+    let few = heard.few in
+    let spot = Here-went p c v v u z heard.went h in
     let now = laws.fitting.coherent (with_state p z) spot.reached in
     let alive = range_with_len 0 (length u.clients) in
     let count = length_range 0 (length u.clients) in
-    let idle : OthersIdle c z = λ d other. ap is_idle (told.went.gains d).phase ∙ others d other in
-    let same = told.went.clients in
-    let limit = told.went.limit in
-    got_or p c v top u z told.went (omega arith) (λ lacks. known_gets laws p c v top alive z (record {
+    let idle : OthersIdle c z = λ d other. ap is_idle (heard.went.gains d).phase ∙ others d other in
+    let same = heard.went.clients in
+    let limit = heard.went.limit in
+    got_or p c v top u z heard.went (omega arith) (λ lacks. known_gets laws p c v top alive z (record {
       spot = spot;
       leads = Leads-alone z c spot.asks idle;
       free = lacks;
-      entry = told.entry;
+      entry = heard.entry;
       covers = λ d s is past. (let below = (now.made v d s is).client in has_range 0 (length u.clients) d (omega arith) (omega arith));
       left = omega arith;
       room = omega arith;
@@ -111,7 +113,8 @@ Left-went deal c v w u x a has h = record {
     | inl same ↦ absurd (false≢true (sym free ∙ ap (λ i. holds (client_at x.clients c) i) same ∙ has))
     | inr other ↦
         let before = h.grants q (subst (λ n. q < n) a.voters within) (lacked q free) in
-        subst (λ (y : VoterState). y.granted + (length x.clients + 2) ≤ y.limit) (sym (a.others q other)) (subst (λ n. (voter_at u.voters q).granted + (n + 2) ≤ (voter_at u.voters q).limit) (sym a.clients) before)
+        subst (λ (y : VoterState). y.granted + (length x.clients + 2) ≤ y.limit) (sym (a.others q other))
+        (subst (λ n. (voter_at u.voters q).granted + (n + 2) ≤ (voter_at u.voters q).limit) (sym a.clients) before)
   ];
 }
   where
@@ -130,7 +133,8 @@ record Reaches (p : Planned) (c : ℕ) (u : WorldState) (vs : List ℕ) : Type 0
 both_hold : (a b : Bool) → a ≡ true → b ≡ true → (a && b) ≡ true
 both_hold a b e f = grind (arith, nat_tests)
 
-collects : (laws : AloneLaws) (p : Planned) (c : ℕ) (w : WorldState) (vs : List ℕ) (u : WorldState) → IsReached (with_state p u) → AsksAlone u c → Left c w u → ((v : ℕ) → has vs v ≡ true → is_member (client_at u.clients c) v ≡ true)
+collects : (laws : AloneLaws) (p : Planned) (c : ℕ) (w : WorldState) (vs : List ℕ) (u : WorldState) → IsReached (with_state p u) → AsksAlone u c → Left c w u
+    → ((v : ℕ) → has vs v ≡ true → is_member (client_at u.clients c) v ≡ true)
     → Enters (dealing_of p.plans) c u ⊎ Reaches p c u vs
 collects laws p c w [] u r alone left members = inr (record { world = u; reached = r; alone = alone; quorum = refl; all = λ q h. h; held = refl })
 collects laws p c w (v ∷ vs) u r alone left members =
@@ -148,7 +152,8 @@ collects laws p c w (v ∷ vs) u r alone left members =
           let went = on.1 in
           let next = Here-went p c v v u x went spot in
           let still : AsksAlone x c = record { client = next.client; asks = next.asks; others = λ d other. ap is_idle (went.gains d).phase ∙ alone.others d other } in
-          elim (collects laws p c w vs x next.reached still (Left-went (dealing_of p.plans) c v w u x went on.2 left) (λ q is. ap (λ l. has l q) (went.gains c).quorum ∙ members q (grind (arith, nat_tests)))) [
+          elim (collects laws p c w vs x next.reached still (Left-went (dealing_of p.plans) c v w u x went on.2 left) (λ q is. ap (λ l. has l q) (went.gains c).quorum
+          ∙ members q (grind (arith, nat_tests)))) [
             | inl e ↦ inl (Enters-after (dealing_of p.plans) c v u x went e)
             | inr all ↦ inr (record {
               world = all.world;
@@ -161,7 +166,8 @@ collects laws p c w (v ∷ vs) u r alone left members =
           ]
     ]
 
-pub gets_in_alone : AloneLaws → (w : Planned) (c : ℕ) → IsReached w → AsksAlone w.state c → HasGrants (length w.state.clients + 2) w.state → (steps : List Step) × IsWayIn (dealing_of w.plans) w.state c steps
+pub gets_in_alone : AloneLaws → (w : Planned) (c : ℕ) → IsReached w → AsksAlone w.state c → HasGrants (length w.state.clients + 2) w.state → (steps : List Step)
+    × IsWayIn (dealing_of w.plans) w.state c steps
 gets_in_alone laws w c r alone grants =
     let u = w.state in
     let left : Left c u u = record { clients = refl; voters = refl; quorum = refl; grants = λ v within free. grants v within } in

@@ -13,14 +13,14 @@ use Rattle.message.specs.declared.message.Message.TheVariants as kinds
 use Rattle.message.specs.declared.message.ToClient.{ToClient}
 use Rattle.message.specs.declared.message.ToVoter.{ToVoter}
 use Rattle.message.specs.declared.message.ClientBody.{ClientBody}
-use Rattle.message.specs.declared.message.ClientBody.TheVariants as tells
+use Rattle.message.specs.declared.message.ClientBody.TheVariants as to_client
 use Rattle.message.specs.declared.message.VoterBody.{VoterBody}
 use Rattle.message.specs.declared.message.VoterBody.TheVariants as asks
 use Rattle.voter.specs.declared.state.VoterState.{VoterState}
 use Rattle.voter.specs.Replies.{AllCarry, seen_after}
 use Rattle.voter.specs.Steps as voter
 use Rattle.voter.specs.VoteMoves.{VoteMoves}
-use Rattle.voter.specs.VoterContract.{AllTell, Brings, IsEntry, TellsVote}
+use Rattle.voter.specs.VoterContract.{AllReport, Brings, IsEntry, ReportsVote}
 use Rattle.world.specs.declared.step.Step.{Step}
 use Rattle.world.specs.Coherence.{IsCoherent}
 use Rattle.world.specs.Ranges.{IsAddressed}
@@ -35,9 +35,9 @@ HasSeen vs = (v c s : ℕ) → IsEntry (voter_at vs v) c s → s ≤ (voter_at v
 
 -- the grant of a LOCKED is one of the first n
 abbrev pub IsUpTo : ℕ → ClientBody → Type 0
-IsUpTo n (tells.Locked stamp grant) = grant ≤ n
-IsUpTo n (tells.Fail stamp) = Unit {0}
-IsUpTo n (tells.Inquire grant) = Unit {0}
+IsUpTo n (to_client.Locked stamp grant) = grant ≤ n
+IsUpTo n (to_client.Fail stamp) = Unit {0}
+IsUpTo n (to_client.Inquire grant) = Unit {0}
 
 -- the grant of a LOCKED was given by its voter
 abbrev pub WasGiven : List VoterState → Message → Type 0
@@ -62,12 +62,12 @@ asks_given : (vs : List VoterState) (out : List ToVoter) → AllByRecursion (Was
 asks_given vs [] = tt
 asks_given vs (m ∷ ms) = (tt, asks_given vs ms)
 
-up_to : (y : VoterState) → voter.IsSound y → (c : ℕ) (body : ClientBody) → TellsVote y.held c body → IsUpTo y.granted body
-up_to y ok c (tells.Locked s g) told = ok.numbered (record { client = c; stamp = s; grant = g }) told
-up_to y ok c (tells.Fail s) told = tt
-up_to y ok c (tells.Inquire g) told = tt
+up_to : (y : VoterState) → voter.IsSound y → (c : ℕ) (body : ClientBody) → ReportsVote y.held c body → IsUpTo y.granted body
+up_to y ok c (to_client.Locked s g) heard = ok.numbered (record { client = c; stamp = s; grant = g }) heard
+up_to y ok c (to_client.Fail s) heard = tt
+up_to y ok c (to_client.Inquire g) heard = tt
 
-replies_given : (vs : List VoterState) (v seen : ℕ) (y : VoterState) → voter_at vs v ≡ y → voter.IsSound y → (rs : List ToClient) → AllTell y.held rs → AllCarry v seen rs
+replies_given : (vs : List VoterState) (v seen : ℕ) (y : VoterState) → voter_at vs v ≡ y → voter.IsSound y → (rs : List ToClient) → AllReport y.held rs → AllCarry v seen rs
     → AllByRecursion (WasGiven vs) (map kinds.ToClient rs)
 replies_given vs v seen y is ok [] tell carry = tt
 replies_given vs v seen y is ok (r ∷ rs) tell carry = (
@@ -96,9 +96,9 @@ still_given vs us later (kinds.ToVoter m) given = tt
 still_given vs us later (kinds.ToClient m) given = still_up_to (voter_at vs m.voter).granted (voter_at us m.voter).granted m.body (later m.voter) given
   where
     still_up_to : (a b : ℕ) (body : ClientBody) → a ≤ b → IsUpTo a body → IsUpTo b body
-    still_up_to a b (tells.Locked s g) most up = omega arith
-    still_up_to a b (tells.Fail s) most up = tt
-    still_up_to a b (tells.Inquire g) most up = tt
+    still_up_to a b (to_client.Locked s g) most up = omega arith
+    still_up_to a b (to_client.Fail s) most up = tt
+    still_up_to a b (to_client.Inquire g) most up = tt
 
 seen_before : (seen s : ℕ) (body : VoterBody) → s ≤ seen → s ≤ seen_after seen body
 seen_before seen s (asks.Request t) most = grind (arith, nat_tests)
@@ -110,7 +110,8 @@ seen_brought seen client c s (asks.Request t) brings = let same = brings.1 in gr
 seen_brought seen client c s (asks.Relinquish g) brings = absurd brings
 seen_brought seen client c s (asks.Release t) brings = absurd brings
 
-seen_by : (laws : VoterLaws) (y : VoterState) (m : ToVoter) (o : voter.Outcome) → voter.step y m ≡ Some o → ((c s : ℕ) → IsEntry y c s → s ≤ y.seen) → (c s : ℕ) → IsEntry o.state c s → s ≤ o.state.seen
+seen_by : (laws : VoterLaws) (y : VoterState) (m : ToVoter) (o : voter.Outcome) → voter.step y m ≡ Some o → ((c s : ℕ) → IsEntry y c s → s ≤ y.seen) → (c s : ℕ)
+    → IsEntry o.state c s → s ≤ o.state.seen
 seen_by laws y m o step was c s entry =
     subst (λ n. s ≤ n) (sym (laws.carries y m o step).seen) (elim ((laws.meets y m o step).entries c s entry) [
       | inl before ↦ seen_before y.seen s m.body (was c s before)
@@ -136,7 +137,7 @@ Always-voter laws w u ok now k a =
       seen = HasSeen-voter laws w u k a.seen;
       given = subst (λ ms. AllByRecursion (WasGiven u.voters) ms) (sym k.sent) (AllByRecursion-append (WasGiven u.voters) w.sent _
           (AllByRecursion-weaker (WasGiven w.voters) (WasGiven u.voters) (still_given w.voters u.voters (granted_later laws w u ok k)) w.sent a.given)
-          (replies_given u.voters k.message.voter _ k.outcome.state k.here (subst voter.IsSound k.here (now.voters k.message.voter)) k.outcome.replies (laws.meets y k.message k.outcome k.step).told
+          (replies_given u.voters k.message.voter _ k.outcome.state k.here (subst voter.IsSound k.here (now.voters k.message.voter)) k.outcome.replies (laws.meets y k.message k.outcome k.step).heard
           (subst (λ i. AllCarry i (seen_after y.seen k.message.body) k.outcome.replies) (is_named w u ok k) carried)));
     }
 

@@ -11,7 +11,7 @@ use Rattle.message.specs.declared.message.Message.TheVariants as kinds
 use Rattle.message.specs.declared.message.ToClient.{ToClient}
 use Rattle.message.specs.declared.message.ToVoter.{ToVoter}
 use Rattle.message.specs.declared.message.ClientBody.{ClientBody}
-use Rattle.message.specs.declared.message.ClientBody.TheVariants as tells
+use Rattle.message.specs.declared.message.ClientBody.TheVariants as to_client
 use Rattle.message.specs.declared.message.VoterBody.{VoterBody}
 use Rattle.message.specs.declared.message.VoterBody.TheVariants as asks
 use Rattle.message.specs.declared.request.Request.{Request}
@@ -97,7 +97,8 @@ IsLater-then x y z a b =
 
 later_client : (laws : ClientLaws) (w u : WorldState) → IsCoherent w → IsCoherent u → ClientMoved w u → (c : ℕ) → IsLater (client_at w.clients c) (client_at u.clients c)
 later_client laws w u ok now k c = elim (cases_eq c k.who) [
-  | inl same ↦ subst (λ n. IsLater (client_at w.clients n) (client_at u.clients n)) (sym same) (subst (λ (y : ClientState). IsLater (client_at w.clients k.who) y) (sym k.here) (meets laws w u ok now k).later)
+  | inl same ↦ subst (λ n. IsLater (client_at w.clients n) (client_at u.clients n)) (sym same)
+      (subst (λ (y : ClientState). IsLater (client_at w.clients k.who) y) (sym k.here) (meets laws w u ok now k).later)
   | inr other ↦ subst (λ (y : ClientState). IsLater (client_at w.clients c) y) (sym (k.others c other)) (IsLater-self (client_at w.clients c))
 ]
 
@@ -145,9 +146,9 @@ pub record Clients (w : WorldState) (c : ℕ) (cs : List ClientState) : Type 0 w
 
 -- a LOCKED of a grant that was given since then carries a stamp that is not behind the request
 abbrev Carries : WorldState → ℕ → ℕ → ℕ → ClientBody → Type 0
-Carries w c v seen (tells.Locked s g) = IsAsked w c v → given_at w v < g → stamp_of w c ≤ seen
-Carries w c v seen (tells.Fail s) = Unit {0}
-Carries w c v seen (tells.Inquire g) = Unit {0}
+Carries w c v seen (to_client.Locked s g) = IsAsked w c v → given_at w v < g → stamp_of w c ≤ seen
+Carries w c v seen (to_client.Fail s) = Unit {0}
+Carries w c v seen (to_client.Inquire g) = Unit {0}
 
 abbrev pub IsLate : WorldState → ℕ → Message → Type 0
 IsLate w c (kinds.ToVoter m) = Unit {0}
@@ -165,9 +166,9 @@ asks_late w c [] = tt
 asks_late w c (m ∷ ms) = (tt, asks_late w c ms)
 
 carries : (w : WorldState) (c v seen : ℕ) (body : ClientBody) → (IsAsked w c v → stamp_of w c ≤ seen) → Carries w c v seen body
-carries w c v seen (tells.Locked s g) high = λ asked new. high asked
-carries w c v seen (tells.Fail s) high = tt
-carries w c v seen (tells.Inquire g) high = tt
+carries w c v seen (to_client.Locked s g) high = λ asked new. high asked
+carries w c v seen (to_client.Fail s) high = tt
+carries w c v seen (to_client.Inquire g) high = tt
 
 replies_late : (w : WorldState) (c v seen : ℕ) → (IsAsked w c v → stamp_of w c ≤ seen) → (rs : List ToClient) → AllCarry v seen rs → AllByRecursion (IsLate w c) (map kinds.ToClient rs)
 replies_late w c v seen high [] carry = tt
@@ -178,15 +179,17 @@ replies_late w c v seen high (r ∷ rs) carry = (
 
 -- ---- a client moves
 
-locked_late : (w : WorldState) (c v s n sender seen clock : ℕ) (body : ClientBody) → Carries w c sender seen body → Locks sender body v s n → seen ≤ clock → IsAsked w c v → given_at w v < n → stamp_of w c ≤ clock
-locked_late w c v s n sender seen clock (tells.Locked t g) carry locks high asked new =
+locked_late : (w : WorldState) (c v s n sender seen clock : ℕ) (body : ClientBody) → Carries w c sender seen body → Locks sender body v s n → seen ≤ clock → IsAsked w c v
+    → given_at w v < n → stamp_of w c ≤ clock
+locked_late w c v s n sender seen clock (to_client.Locked t g) carry locks high asked new =
     let at = locks.0 in
-    let told = carry (subst (λ q. IsAsked w c q) locks.0 asked) (subst (λ q. given_at w q < g) locks.0 (subst (λ q. given_at w v < q) locks.2 new)) in
+    let asked_again = carry (subst (λ q. IsAsked w c q) locks.0 asked) (subst (λ q. given_at w q < g) locks.0 (subst (λ q. given_at w v < q) locks.2 new)) in
     omega arith
-locked_late w c v s n sender seen clock (tells.Fail t) carry locks high asked new = absurd locks
-locked_late w c v s n sender seen clock (tells.Inquire g) carry locks high asked new = absurd locks
+locked_late w c v s n sender seen clock (to_client.Fail t) carry locks high asked new = absurd locks
+locked_late w c v s n sender seen clock (to_client.Inquire g) carry locks high asked new = absurd locks
 
-cause_late : (w u : WorldState) (c e v s n : ℕ) (y : ClientState) (cause : requester.Cause) → AllByRecursion (IsLate w c) u.sent → Came u e cause → Hears cause y → IsLocked cause v s n → IsAsked w c v → given_at w v < n → stamp_of w c ≤ y.clock
+cause_late : (w u : WorldState) (c e v s n : ℕ) (y : ClientState) (cause : requester.Cause) → AllByRecursion (IsLate w c) u.sent → Came u e cause → Hears cause y
+    → IsLocked cause v s n → IsAsked w c v → given_at w v < n → stamp_of w c ≤ y.clock
 cause_late w u c e v s n y (requester.Asks q) late came heard locked asked new = absurd locked
 cause_late w u c e v s n y (requester.Takes m) late came heard locked asked new =
     locked_late w c v s n m.voter m.seen y.clock m.body (AllByRecursion-get (IsLate w c) u.sent came.1 (kinds.ToClient m) late came.2) locked heard asked new
@@ -203,16 +206,19 @@ heard_by laws w u x c ok now late was k v n asked holds new =
       | inr got ↦ cause_late w u c k.who v k.outcome.state.stamp n k.outcome.state k.cause late k.came time.heard got.0 asked new
     ]
 
-quorum_by : (laws : ClientLaws) (x y : ClientState) (cause : requester.Cause) (o : requester.Outcome) → is_idle x.phase ≡ false → requester.step x cause ≡ Ok o → KeepsQuorum x cause y → members y ≡ members x
+quorum_by : (laws : ClientLaws) (x y : ClientState) (cause : requester.Cause) (o : requester.Outcome) → is_idle x.phase ≡ false → requester.step x cause ≡ Ok o
+    → KeepsQuorum x cause y → members y ≡ members x
 quorum_by laws x y (requester.Asks q) o busy step keeps = absurd (ask-busy x q o (laws.busy x q busy) step)
 quorum_by laws x y (requester.Takes m) o busy step keeps = keeps.0
 quorum_by laws x y requester.Leaves o busy step keeps = keeps.0
 quorum_by laws x y requester.GivesUp o busy step keeps = keeps.0
 
-quorum_kept : (laws : ClientLaws) (u x : WorldState) (c : ℕ) → IsCoherent u → IsCoherent x → is_idle (client_at u.clients c).phase ≡ false → ClientMoved u x → members (client_at x.clients c) ≡ members (client_at u.clients c)
+quorum_kept : (laws : ClientLaws) (u x : WorldState) (c : ℕ) → IsCoherent u → IsCoherent x → is_idle (client_at u.clients c).phase ≡ false → ClientMoved u x
+    → members (client_at x.clients c) ≡ members (client_at u.clients c)
 quorum_kept laws u x c ok now busy k = elim (cases_eq c k.who) [
   | inl same ↦
-      let here = quorum_by laws (client_at u.clients k.who) k.outcome.state k.cause k.outcome (subst (λ n. is_idle (client_at u.clients n).phase ≡ false) same busy) k.step (meets laws u x ok now k).quorum in
+      let here = quorum_by laws (client_at u.clients k.who) k.outcome.state k.cause k.outcome (subst (λ n. is_idle (client_at u.clients n).phase ≡ false) same busy) k.step
+      (meets laws u x ok now k).quorum in
       subst (λ n. members (client_at x.clients n) ≡ members (client_at u.clients n)) (sym same) (ap (λ (y : ClientState). members y) k.here ∙ here)
   | inr other ↦ ap (λ (y : ClientState). members y) (k.others c other)
 ]
@@ -265,8 +271,10 @@ grant_moves true y z g (inr new) held = inr (ap (λ (h : Grant). h.grant) (same_
 grant_moves false y z g (inl stays) held = inl (sym stays.held ∙ held)
 grant_moves false y z g (inr new) held = inr (ap (λ (h : Grant). h.grant) (same_Some g new.1.grant (sym held ∙ new.1.held)) ∙ new.1.number)
 
-pub grant_moved : (laws : VoterLaws) (u x : WorldState) → IsCoherent u → (k : VoterMoved u x) → (g : Grant) → k.outcome.state.held ≡ Some g → ((voter_at u.voters k.message.voter).held ≡ Some g) ⊎ (g.grant ≡ (voter_at u.voters k.message.voter).granted + 1)
-grant_moved laws u x ok k g held = grant_moves _ (voter_at u.voters k.message.voter) k.outcome.state g (laws.numbers (voter_at u.voters k.message.voter) k.message k.outcome (ok.voters k.message.voter) k.step) held
+pub grant_moved : (laws : VoterLaws) (u x : WorldState) → IsCoherent u → (k : VoterMoved u x) → (g : Grant) → k.outcome.state.held ≡ Some g → ((voter_at u.voters k.message.voter).held ≡ Some g)
+    ⊎ (g.grant ≡ (voter_at u.voters k.message.voter).granted + 1)
+grant_moved laws u x ok k g held = grant_moves _ (voter_at u.voters k.message.voter) k.outcome.state g
+    (laws.numbers (voter_at u.voters k.message.voter) k.message k.outcome (ok.voters k.message.voter) k.step) held
 
 -- what holds of the voter with this number
 pub record OneVoter (w : WorldState) (c v : ℕ) (y : VoterState) : Type 0 where
@@ -287,9 +295,11 @@ OneVoter-moved laws w u x c ok runs k h =
     let y = voter_at u.voters k.message.voter in
     let asked : c ≡ k.message.client → AskOk (client_at u.clients c) k.message.voter k.message.body = λ same. subst (λ n. AskOk (client_at u.clients n) k.message.voter k.message.body) (sym same)
     (AllByRecursion-get (MessageOk (client_at u.clients) (voter_at u.voters)) u.sent k.place (kinds.ToVoter k.message) ok.messages k.came) in
-    let known : IsAsked w c k.message.voter → IsEntry k.outcome.state c (stamp_of w c) = λ is. elim (laws.stays y k.message k.outcome c (stamp_of w c) (ok.voters k.message.voter) k.step (h.known is)) [
+    let known : IsAsked w c k.message.voter → IsEntry k.outcome.state c (stamp_of w c) = λ is.
+    elim (laws.stays y k.message k.outcome c (stamp_of w c) (ok.voters k.message.voter) k.step (h.known is)) [
       | inl stays ↦ stays
-      | inr finishes ↦ absurd (not_finished (client_at u.clients c) k.message.voter k.message.client c k.message.body asked runs.runs (subst (λ n. Finishes k.message.client k.message.body c n) (sym runs.same) finishes))
+      | inr finishes ↦ absurd (not_finished (client_at u.clients c) k.message.voter k.message.client c k.message.body asked runs.runs
+          (subst (λ n. Finishes k.message.client k.message.body c n) (sym runs.same) finishes))
     ] in
     let rises = granted_rises _ y k.outcome.state (laws.numbers y k.message k.outcome (ok.voters k.message.voter) k.step) in
     record {
@@ -307,7 +317,8 @@ OneVoter-moved laws w u x c ok runs k h =
 
 Voters-moved : (laws : VoterLaws) (w u x : WorldState) (c : ℕ) → IsCoherent u → StillRuns w u c → VoterMoved u x → Voters w c u.voters → Voters w c x.voters
 Voters-moved laws w u x c ok runs k h = all_voters w c x.voters (λ v. elim (cases_eq v k.message.voter) [
-  | inl same ↦ subst (λ n. OneVoter w c n (voter_at x.voters n)) (sym same) (subst (λ (y : VoterState). OneVoter w c k.message.voter y) (sym k.here) (OneVoter-moved laws w u x c ok runs k (one_voter w c u.voters h k.message.voter)))
+  | inl same ↦ subst (λ n. OneVoter w c n (voter_at x.voters n)) (sym same)
+      (subst (λ (y : VoterState). OneVoter w c k.message.voter y) (sym k.here) (OneVoter-moved laws w u x c ok runs k (one_voter w c u.voters h k.message.voter)))
   | inr other ↦ subst (λ (y : VoterState). OneVoter w c v y) (sym (k.others v other)) (one_voter w c u.voters h v)
 ])
 
@@ -322,7 +333,8 @@ Behind-voter laws w u x c ok always runs k h =
       voters = voters;
       clients = subst (λ (cs : List ClientState). Clients w c cs) (sym k.clients) h.clients;
       late = subst (λ ms. AllByRecursion (IsLate w c) ms) (sym k.sent) (AllByRecursion-append (IsLate w c) u.sent _ h.late
-          (replies_late w c k.message.voter (seen_after y.seen k.message.body) high k.outcome.replies (subst (λ i. AllCarry i (seen_after y.seen k.message.body) k.outcome.replies) (is_named u x ok k) carry.carried)));
+          (replies_late w c k.message.voter (seen_after y.seen k.message.body) high k.outcome.replies
+          (subst (λ i. AllCarry i (seen_after y.seen k.message.body) k.outcome.replies) (is_named u x ok k) carry.carried)));
     }
 
 -- ---- messages alone
@@ -357,9 +369,9 @@ first_late w c (kinds.ToVoter m) given = tt
 first_late w c (kinds.ToClient m) given = first_carries w c m.voter m.seen m.body given
   where
     first_carries : (w : WorldState) (c v seen : ℕ) (body : ClientBody) → IsUpTo (given_at w v) body → Carries w c v seen body
-    first_carries w c v seen (tells.Locked s g) few = λ asked new. absurd (omega arith)
-    first_carries w c v seen (tells.Fail s) few = tt
-    first_carries w c v seen (tells.Inquire g) few = tt
+    first_carries w c v seen (to_client.Locked s g) few = λ asked new. absurd (omega arith)
+    first_carries w c v seen (to_client.Fail s) few = tt
+    first_carries w c v seen (to_client.Inquire g) few = tt
 
 pub Behind-first : (w : WorldState) (c : ℕ) → IsCoherent w → Always w → IsKnownEverywhere w c → Behind w c w
 Behind-first w c ok always known = record {

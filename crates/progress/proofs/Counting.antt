@@ -73,7 +73,8 @@ third w c d n x y asks later by h = elim (cases_lt n 2) [
       ]
 ]
 
-Counted-enters : (w : WorldState) (c d n : ℕ) (x y : ClientState) → is_asking x.phase ≡ true → is_asking y.phase ≡ false → x.stamp ≤ y.stamp → EntersBy w c d y → Counted w c d n x → Counted w c d (n + 1) y
+Counted-enters : (w : WorldState) (c d n : ℕ) (x y : ClientState) → is_asking x.phase ≡ true → is_asking y.phase ≡ false → x.stamp ≤ y.stamp → EntersBy w c d y → Counted w c d n x
+    → Counted w c d (n + 1) y
 Counted-enters w c d n x y asks not_asks later by h =
     let less = third w c d n x y asks later by h in
     record {
@@ -103,7 +104,8 @@ inside_not_asks Idle inside = refl
 inside_not_asks Asking inside = absurd (false≢true inside)
 inside_not_asks Inside inside = refl
 
-asked_before : (x : ClientState) (cause : requester.Cause) (o : requester.Outcome) → requester.step x cause ≡ Ok o → KeepsQuorum x cause o.state → is_inside x.phase ≡ false → is_inside o.state.phase ≡ true → is_asking x.phase ≡ true
+asked_before : (x : ClientState) (cause : requester.Cause) (o : requester.Outcome) → requester.step x cause ≡ Ok o → KeepsQuorum x cause o.state → is_inside x.phase ≡ false
+    → is_inside o.state.phase ≡ true → is_asking x.phase ≡ true
 asked_before x (requester.Asks q) o step keeps out now =
     absurd (false≢true (subst (λ (p : requester.Outcome). is_inside p.state.phase ≡ true) (sym (ask-Ok x q o step)) now))
 asked_before x (requester.Takes m) o step keeps out now = outside_asks x.phase (sym keeps.1 ∙ inside_busy o.state.phase now) out
@@ -159,14 +161,18 @@ one_more : (n m : ℕ) → m ≡ 1 → n + 1 ≡ n + m
 one_more n m one = omega arith
 
 -- the client that moved
-counted_own : (laws : ClientLaws) (w u x : WorldState) (c n : ℕ) → IsCoherent u → IsCoherent x → Behind w c u → Behind w c x → is_idle (client_at x.clients c).phase ≡ false → (k : ClientMoved u x) → k.who ≢ c
-    → (seen : Seen) → Sees (client_at u.clients k.who).phase seen k.outcome.state.phase → Counted w c k.who n (client_at u.clients k.who) → Counted w c k.who (n + entered_by k.who (events k.who seen)) k.outcome.state
+counted_own : (laws : ClientLaws) (w u x : WorldState) (c n : ℕ) → IsCoherent u → IsCoherent x → Behind w c u → Behind w c x → is_idle (client_at x.clients c).phase ≡ false
+    → (k : ClientMoved u x) → k.who ≢ c
+    → (seen : Seen) → Sees (client_at u.clients k.who).phase seen k.outcome.state.phase → Counted w c k.who n (client_at u.clients k.who)
+    → Counted w c k.who (n + entered_by k.who (events k.who seen)) k.outcome.state
 counted_own laws w u x c n ok now before h busy k other Nothing sees count =
     subst (λ i. Counted w c k.who i k.outcome.state) (none_more n (entered_by k.who (events k.who Nothing)) refl)
-    (Counted-on w c k.who n (client_at u.clients k.who) k.outcome.state k.cause (laws.clock (client_at u.clients k.who) k.cause k.outcome (ok.clients k.who) k.step) (before.clients.later k.who) (ok.clients k.who).clock count)
+    (Counted-on w c k.who n (client_at u.clients k.who) k.outcome.state k.cause (laws.clock (client_at u.clients k.who) k.cause k.outcome (ok.clients k.who) k.step)
+    (before.clients.later k.who) (ok.clients k.who).clock count)
 counted_own laws w u x c n ok now before h busy k other Left sees count =
     subst (λ i. Counted w c k.who i k.outcome.state) (none_more n (entered_by k.who (events k.who Left)) (left_not_entered k.who))
-    (Counted-on w c k.who n (client_at u.clients k.who) k.outcome.state k.cause (laws.clock (client_at u.clients k.who) k.cause k.outcome (ok.clients k.who) k.step) (before.clients.later k.who) (ok.clients k.who).clock count)
+    (Counted-on w c k.who n (client_at u.clients k.who) k.outcome.state k.cause (laws.clock (client_at u.clients k.who) k.cause k.outcome (ok.clients k.who) k.step)
+    (before.clients.later k.who) (ok.clients k.who).clock count)
 counted_own laws w u x c n ok now before h busy k other Entered sees count =
     let contract = meets laws u x ok now k in
     let asks = asked_before (client_at u.clients k.who) k.cause k.outcome k.step contract.quorum sees.0 sees.1 in
@@ -180,21 +186,25 @@ pub record Entries (w : WorldState) (c d : ℕ) (u : WorldState) : Type 0 where
   pub visible : u.visible ≡ w.visible ++ more
   pub counted : Counted w c d (entered_by d more) (client_at u.clients d)
 
-counted_client : (laws : ClientLaws) (w u x : WorldState) (c d : ℕ) → IsCoherent u → IsCoherent x → Behind w c u → Behind w c x → is_idle (client_at x.clients c).phase ≡ false → d ≢ c → (k : ClientMoved u x)
+counted_client : (laws : ClientLaws) (w u x : WorldState) (c d : ℕ) → IsCoherent u → IsCoherent x → Behind w c u → Behind w c x → is_idle (client_at x.clients c).phase ≡ false
+    → d ≢ c → (k : ClientMoved u x)
     → (more : List Event) → Counted w c d (entered_by d more) (client_at u.clients d) → Counted w c d (entered_by d (more ++ events k.who k.outcome.seen)) (client_at x.clients d)
-counted_client laws w u x c d ok now before h busy other k more = elim (cases_eq d k.who) as (λ _. Counted w c d (entered_by d more) (client_at u.clients d) → Counted w c d (entered_by d (more ++ events k.who k.outcome.seen)) (client_at x.clients d)) [
-  | inl same ↦
-      let apart : k.who ≢ c = subst (λ i. i ≢ c) same other in
-      let own : Counted w c k.who (entered_by k.who more) (client_at u.clients k.who) → Counted w c k.who (entered_by k.who (more ++ events k.who k.outcome.seen)) (client_at x.clients k.who) =
-      λ count. subst (λ (y : ClientState). Counted w c k.who (entered_by k.who (more ++ events k.who k.outcome.seen)) y) (sym k.here)
-      (subst (λ i. Counted w c k.who i k.outcome.state) (sym (entered_by-append k.who more (events k.who k.outcome.seen)))
-      (counted_own laws w u x c (entered_by k.who more) ok now before h busy k apart k.outcome.seen (meets laws u x ok now k).seen count)) in
-      subst (λ i. Counted w c i (entered_by i more) (client_at u.clients i) → Counted w c i (entered_by i (more ++ events k.who k.outcome.seen)) (client_at x.clients i)) (sym same) own
-  | inr apart ↦ λ count. subst (λ (y : ClientState). Counted w c d (entered_by d (more ++ events k.who k.outcome.seen)) y) (sym (k.others d apart))
-      (subst (λ i. Counted w c d i (client_at u.clients d)) (none_more (entered_by d more) _ (not_entered d k.who k.outcome.seen apart) ∙ sym (entered_by-append d more (events k.who k.outcome.seen))) count)
-]
+counted_client laws w u x c d ok now before h busy other k more = elim (cases_eq d k.who) as (λ _. Counted w c d (entered_by d more) (client_at u.clients d)
+    → Counted w c d (entered_by d (more ++ events k.who k.outcome.seen)) (client_at x.clients d)) [
+      | inl same ↦
+          let apart : k.who ≢ c = subst (λ i. i ≢ c) same other in
+          let own : Counted w c k.who (entered_by k.who more) (client_at u.clients k.who) → Counted w c k.who (entered_by k.who (more ++ events k.who k.outcome.seen)) (client_at x.clients k.who) =
+          λ count. subst (λ (y : ClientState). Counted w c k.who (entered_by k.who (more ++ events k.who k.outcome.seen)) y) (sym k.here)
+          (subst (λ i. Counted w c k.who i k.outcome.state) (sym (entered_by-append k.who more (events k.who k.outcome.seen)))
+          (counted_own laws w u x c (entered_by k.who more) ok now before h busy k apart k.outcome.seen (meets laws u x ok now k).seen count)) in
+          subst (λ i. Counted w c i (entered_by i more) (client_at u.clients i) → Counted w c i (entered_by i (more ++ events k.who k.outcome.seen)) (client_at x.clients i)) (sym same) own
+      | inr apart ↦ λ count. subst (λ (y : ClientState). Counted w c d (entered_by d (more ++ events k.who k.outcome.seen)) y) (sym (k.others d apart))
+          (subst (λ i. Counted w c d i (client_at u.clients d)) (none_more (entered_by d more) _ (not_entered d k.who k.outcome.seen apart)
+          ∙ sym (entered_by-append d more (events k.who k.outcome.seen))) count)
+    ]
 
-Entries-client : (laws : ClientLaws) (w u x : WorldState) (c d : ℕ) → IsCoherent u → IsCoherent x → Behind w c u → Behind w c x → is_idle (client_at x.clients c).phase ≡ false → d ≢ c → ClientMoved u x → Entries w c d u → Entries w c d x
+Entries-client : (laws : ClientLaws) (w u x : WorldState) (c d : ℕ) → IsCoherent u → IsCoherent x → Behind w c u → Behind w c x → is_idle (client_at x.clients c).phase ≡ false
+    → d ≢ c → ClientMoved u x → Entries w c d u → Entries w c d x
 Entries-client laws w u x c d ok now before h busy other k e = record {
   more = e.more ++ events k.who k.outcome.seen;
   visible = k.visible ∙ ap (λ es. es ++ events k.who k.outcome.seen) e.visible ∙ append_assoc w.visible e.more (events k.who k.outcome.seen);
@@ -208,7 +218,8 @@ Entries-same w u x c d clients visible e = record {
   counted = subst (λ (cs : List ClientState). Counted w c d (entered_by d e.more) (client_at cs d)) (sym clients) e.counted;
 }
 
-Entries-moved : (laws : ClientLaws) (w u x : WorldState) (c d : ℕ) → IsCoherent u → IsCoherent x → Behind w c u → Behind w c x → is_idle (client_at x.clients c).phase ≡ false → d ≢ c → Moved u x → Entries w c d u → Entries w c d x
+Entries-moved : (laws : ClientLaws) (w u x : WorldState) (c d : ℕ) → IsCoherent u → IsCoherent x → Behind w c u → Behind w c x → is_idle (client_at x.clients c).phase ≡ false
+    → d ≢ c → Moved u x → Entries w c d u → Entries w c d x
 Entries-moved laws w u x c d ok now before h busy other moved e = elim moved [
   | inl client ↦ Entries-client laws w u x c d ok now before h busy other client e
   | inr (inl voter) ↦ Entries-same w u x c d voter.clients voter.visible e
@@ -217,7 +228,8 @@ Entries-moved laws w u x c d ok now before h busy other moved e = elim moved [
 
 -- ---- over all steps
 
-IsLater-run : (laws : Laws) (w : Planned) (steps : List Step) (u : WorldState) → IsReached (with_state w u) → (c : ℕ) → IsLater (client_at u.clients c) (client_at (run_of (dealing_of w.plans) steps u).clients c)
+IsLater-run : (laws : Laws) (w : Planned) (steps : List Step) (u : WorldState) → IsReached (with_state w u) → (c : ℕ)
+    → IsLater (client_at u.clients c) (client_at (run_of (dealing_of w.plans) steps u).clients c)
 IsLater-run laws w [] u r c = record { stamp = omega arith; last = λ v. omega arith; idle = λ _ idle. idle }
 IsLater-run laws w (s ∷ steps) u r c =
     let ok = laws.coherent (with_state w u) r in
@@ -239,7 +251,8 @@ still_before w u z c least later runs =
     record { runs = busy_by _ _ (later.idle same) runs.runs; same = omega arith }
 
 -- a request that runs, the steps so far, and those that are left
-Entries-run : (laws : Laws) (w : Planned) (c d : ℕ) → d ≢ c → (steps : List Step) (u : WorldState) → IsReached (with_state w u) → Always u → StillRuns w.state u c → Behind w.state c u → Entries w.state c d u
+Entries-run : (laws : Laws) (w : Planned) (c d : ℕ) → d ≢ c → (steps : List Step) (u : WorldState) → IsReached (with_state w u) → Always u → StillRuns w.state u c
+    → Behind w.state c u → Entries w.state c d u
     → StillRuns w.state (run_of (dealing_of w.plans) steps u) c → Entries w.state c d (run_of (dealing_of w.plans) steps u)
 Entries-run laws w c d other [] u r always still behind e end = e
 Entries-run laws w c d other (s ∷ steps) u r always still behind e end =
@@ -261,7 +274,8 @@ Entries-first w c d = record {
   counted = record { few = omega arith; once = λ one. absurd (omega arith); twice = λ two. absurd (omega arith); clock = λ two. absurd (omega arith) };
 }
 
-pub nobody_overtakes : Laws → (w : Planned) (c d : ℕ) (steps : List Step) (more : List Event) → IsReached w → IsKnownEverywhere w.state c → d ≢ c → StillRuns w.state (run_of (dealing_of w.plans) steps w.state) c
+pub nobody_overtakes : Laws → (w : Planned) (c d : ℕ) (steps : List Step) (more : List Event) → IsReached w → IsKnownEverywhere w.state c → d ≢ c
+    → StillRuns w.state (run_of (dealing_of w.plans) steps w.state) c
     → (run_of (dealing_of w.plans) steps w.state).visible ≡ w.state.visible ++ more → entered_by d more ≤ 2
 nobody_overtakes laws w c d steps more r known other end visible =
     let ok = laws.coherent w r in

@@ -222,16 +222,17 @@ leaves laws deal d u within inside =
 
 inside_below : (u : WorldState) (n : ℕ) → ((d : ℕ) → d < n → is_inside (client_at u.clients d).phase ≡ false) ⊎ ((d : ℕ) × (d < n) × (is_inside (client_at u.clients d).phase ≡ true))
 inside_below u zero = inl (λ d less. absurd (omega arith))
-inside_below u (suc n) = elim (is_inside (client_at u.clients n).phase) as (λ b. is_inside (client_at u.clients n).phase ≡ b → ((d : ℕ) → d < suc n → is_inside (client_at u.clients d).phase ≡ false) ⊎ ((d : ℕ) × (d < suc n) × (is_inside (client_at u.clients d).phase ≡ true))) [
-  | true ↦ λ is. inr (n, omega arith, is)
-  | false ↦ λ not. elim (inside_below u n) [
-    | inl none ↦ inl (λ d less. elim (cases_eq d n) [
-      | inl same ↦ ap (λ i. is_inside (client_at u.clients i).phase) same ∙ not
-      | inr other ↦ none d (omega arith)
-    ])
-    | inr one ↦ inr (one.0, (let less = one.1 in omega arith), one.2)
-  ]
-] refl
+inside_below u (suc n) = elim (is_inside (client_at u.clients n).phase) as (λ b. is_inside (client_at u.clients n).phase ≡ b
+    → ((d : ℕ) → d < suc n → is_inside (client_at u.clients d).phase ≡ false) ⊎ ((d : ℕ) × (d < suc n) × (is_inside (client_at u.clients d).phase ≡ true))) [
+      | true ↦ λ is. inr (n, omega arith, is)
+      | false ↦ λ not. elim (inside_below u n) [
+        | inl none ↦ inl (λ d less. elim (cases_eq d n) [
+          | inl same ↦ ap (λ i. is_inside (client_at u.clients i).phase) same ∙ not
+          | inr other ↦ none d (omega arith)
+        ])
+        | inr one ↦ inr (one.0, (let less = one.1 in omega arith), one.2)
+      ]
+    ] refl
 
 outside_beyond : (u : WorldState) (d : ℕ) → length u.clients ≤ d → is_inside (client_at u.clients d).phase ≡ false
 unfolding client_at
@@ -245,7 +246,8 @@ Reached-served p u x a r = subst (λ (z : WorldState). IsReached (with_state p z
 same_entry : (u x : WorldState) → length x.voters ≡ length u.voters → length x.clients ≡ length u.clients → one_entry x ≡ one_entry u
 same_entry u x voters clients i = voters i + clients i + 3
 
-serves_all : (laws : LeavingLaws) (p : Planned) (c k t : ℕ) (u : WorldState) → one_entry u ≡ k → total weight u ≤ t → IsReached (with_state p u) → Asks u c → HasGrants (total asking_one u * k) u → (steps : List Step) × GetsIn (dealing_of p.plans) u c steps
+serves_all : (laws : LeavingLaws) (p : Planned) (c k t : ℕ) (u : WorldState) → one_entry u ≡ k → total weight u ≤ t → IsReached (with_state p u) → Asks u c
+    → HasGrants (total asking_one u * k) u → (steps : List Step) × GetsIn (dealing_of p.plans) u c steps
 unfolding total weight asking_one
 serves_all laws p c k zero u is most r asks left =
     let some = sum_some (length u.clients) c (λ d. weight (client_at u.clients d).phase) asks.client in
@@ -264,7 +266,8 @@ serves_all laws p c k (suc t) u is most r asks left = elim (inside_below u (leng
       let same = total_same asking_one u x d gone.clients (ap asking_one gone.idle ∙ sym (ap asking_one was)) gone.others in
       let rest = serves_all laws p c k t x (same_entry u x (ap (λ vs. length vs) gone.voters) gone.clients ∙ is) (omega arith) (Reached-served p u x gone.served r)
       (record { client = subst (λ n. c < n) (sym gone.clients) asks.client; asks = ap is_asking (gone.others c apart) ∙ asks.asks })
-      (λ v within. subst (λ vs. v < length vs → (voter_at vs v).granted + total asking_one x * k ≤ (voter_at vs v).limit) (sym gone.voters) (λ there. subst (λ n. (voter_at u.voters v).granted + n * k ≤ (voter_at u.voters v).limit) (sym same) (left v there)) within) in
+      (λ v within. subst (λ vs. v < length vs → (voter_at vs v).granted + total asking_one x * k ≤ (voter_at vs v).limit) (sym gone.voters)
+      (λ there. subst (λ n. (voter_at u.voters v).granted + n * k ≤ (voter_at u.voters v).limit) (sym same) (left v there)) within) in
       (gone.served.steps ++ rest.0, GetsIn-after (dealing_of p.plans) c u x rest.0 gone.served rest.1)
   | inl none ↦
       let free : IsFree u = λ d. elim (cases_lt d (length u.clients)) [ inl within ↦ none d within | inr beyond ↦ outside_beyond u d beyond ] in

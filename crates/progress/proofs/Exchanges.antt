@@ -8,7 +8,7 @@ use Rattle.message.specs.declared.message.Message.{Message}
 use Rattle.message.specs.declared.message.Message.TheVariants as kinds
 use Rattle.message.specs.declared.message.ToClient.{ToClient}
 use Rattle.message.specs.declared.message.ToVoter.{ToVoter}
-use Rattle.message.specs.declared.message.ClientBody.TheVariants as tells
+use Rattle.message.specs.declared.message.ClientBody.TheVariants as to_client
 use Rattle.message.specs.declared.message.VoterBody.TheVariants as asks
 use Rattle.voter.specs.declared.state.Grant.{Grant}
 use Rattle.voter.specs.declared.state.VoterState.{VoterState}
@@ -64,7 +64,7 @@ get_next (x ∷ xs) y ys = get_next xs y ys
 
 -- the LOCKED that the voter sends again, and the RELEASE that answers it
 abbrev again : WorldState → ℕ → Grant → ToClient
-again w v g = voter.reply (voter_at w.voters v) g.client (tells.Locked g.stamp g.grant)
+again w v g = voter.reply (voter_at w.voters v) g.client (to_client.Locked g.stamp g.grant)
 
 abbrev pub answer : WorldState → ℕ → Grant → ToVoter
 answer w v g = requester.tell (client_at w.clients g.client) (voter_at w.voters v).id (asks.Release g.stamp)
@@ -72,7 +72,8 @@ answer w v g = requester.tell (client_at w.clients g.client) (voter_at w.voters 
 abbrev pub answered : WorldState → ℕ → Grant → WorldState
 answered w v g = (client_did (reminded w v) g.client (record { out = answer w v g ∷ []; seen = Nothing; state = requester.see (client_at w.clients g.client) (voter_at w.voters v).seen })).state
 
-pub after-answer : (laws : ReturnLaws) (deal : Dealing) (w : WorldState) (v : ℕ) (g : Grant) → HasLostVote w v g → after (reminded w v) (step deal (reminded w v) (Deliver (length w.sent))) ≡ answered w v g
+pub after-answer : (laws : ReturnLaws) (deal : Dealing) (w : WorldState) (v : ℕ) (g : Grant) → HasLostVote w v g
+    → after (reminded w v) (step deal (reminded w v) (Deliver (length w.sent))) ≡ answered w v g
 unfolding reminded
 after-answer laws deal w v g lost =
     let more = laws.repeats (voter_at w.voters v) g lost.held in
@@ -101,7 +102,8 @@ comes_back laws plan v g r lost =
     let takes : voter.step (voter_at w.voters y.id) m ≡ Some o = subst (λ n. voter.step (voter_at w.voters n) m ≡ Some o) (sym id) taken.1 in
     let second = length (reminded w v).sent in
     let run : run_of deal (reminder_and_two v (length w.sent) second) w ≡ (voter_did (answered w v g) y.id o).state =
-    ap (λ (u : WorldState). after (after u (step deal u (Deliver (length w.sent)))) (step deal (after u (step deal u (Deliver (length w.sent)))) (Deliver second))) (after-remind_voter deal w v lost.voter)
+    ap (λ (u : WorldState). after (after u (step deal u (Deliver (length w.sent)))) (step deal (after u (step deal u (Deliver (length w.sent)))) (Deliver second)))
+    (after-remind_voter deal w v lost.voter)
     ∙ ap (λ (u : WorldState). after u (step deal u (Deliver second))) (after-answer laws deal w v g lost)
     ∙ after-release laws deal w v g o takes in
     let here : voter_at (run_of deal (reminder_and_two v (length w.sent) second) w).voters v ≡ o.state =
@@ -133,13 +135,16 @@ place_of [] k m within is = absurd (omega arith)
 place_of (x ∷ xs) zero m within is = ap (λ (n : ToVoter). Some (kinds.ToVoter n)) is
 place_of (x ∷ xs) (suc k) m within is = place_of xs k m (omega arith) is
 
-pub get_sent : (sent : List Message) (out : List ToVoter) (k : ℕ) (m : ToVoter) → k < length out → slice_index_or out k m ≡ m → slice_get (sent ++ map kinds.ToVoter out) (length sent + k) ≡ Some (kinds.ToVoter m)
+pub get_sent : (sent : List Message) (out : List ToVoter) (k : ℕ) (m : ToVoter) → k < length out → slice_index_or out k m ≡ m
+    → slice_get (sent ++ map kinds.ToVoter out) (length sent + k) ≡ Some (kinds.ToVoter m)
 get_sent [] out k m within is = subst (λ n. slice_get (map kinds.ToVoter out) n ≡ Some (kinds.ToVoter m)) (let same : k ≡ 0 + k = omega arith in same) (place_of out k m within is)
 get_sent (x ∷ sent) out k m within is =
-    subst (λ n. slice_get (x ∷ (sent ++ map kinds.ToVoter out)) n ≡ Some (kinds.ToVoter m)) (let same : suc (length sent + k) ≡ suc (length sent) + k = omega arith in same) (get_sent sent out k m within is)
+    subst (λ n. slice_get (x ∷ (sent ++ map kinds.ToVoter out)) n ≡ Some (kinds.ToVoter m)) (let same : suc (length sent + k) ≡ suc (length sent) + k = omega arith in same)
+    (get_sent sent out k m within is)
 
 -- a message of the reminder arrives
-pub after-said : (deal : Dealing) (w : WorldState) (c : ℕ) (m : ToVoter) (o : voter.Outcome) → c < length w.clients → (there : Contains (requester.remind (client_at w.clients c)) m) → voter.step (voter_at w.voters m.voter) m ≡ Some o
+pub after-said : (deal : Dealing) (w : WorldState) (c : ℕ) (m : ToVoter) (o : voter.Outcome) → c < length w.clients → (there : Contains (requester.remind (client_at w.clients c)) m)
+    → voter.step (voter_at w.voters m.voter) m ≡ Some o
     → run_of deal (RemindClient c ∷ Deliver (length w.sent + there.0) ∷ []) w ≡ (voter_did (spoken w c) m.voter o).state
 unfolding spoken
 after-said deal w c m o within there takes =
@@ -148,7 +153,8 @@ after-said deal w c m o within there takes =
 
 -- ---- a vote that was given back
 
-pub not_held : (x : ClientState) (v n : ℕ) (held : Option Grant) (g : Grant) (c : ℕ) → IsSound x → held ≡ Some g → g.grant ≤ last_of x v → ((k : ℕ) → holds_under x v k ≡ true → Names held c x.stamp k) → holds x v ≡ false
+pub not_held : (x : ClientState) (v n : ℕ) (held : Option Grant) (g : Grant) (c : ℕ) → IsSound x → held ≡ Some g → g.grant ≤ last_of x v
+    → ((k : ℕ) → holds_under x v k ≡ true → Names held c x.stamp k) → holds x v ≡ false
 not_held x v n held g c sound is few names = not_true (holds x v) (λ has.
     let number = held_of x v in
     let under : holds_under x v number ≡ true = grind (arith, nat_tests) in

@@ -12,7 +12,7 @@ use Rattle.numbers.specs.Bounds.{max_voters}
 use Rattle.message.specs.declared.message.Message.TheVariants as kinds
 use Rattle.message.specs.declared.message.ToClient.{ToClient}
 use Rattle.message.specs.declared.message.ClientBody.{ClientBody}
-use Rattle.message.specs.declared.message.ClientBody.TheVariants as tells
+use Rattle.message.specs.declared.message.ClientBody.TheVariants as to_client
 use Rattle.message.specs.declared.message.VoterBody.{VoterBody}
 use Rattle.message.specs.declared.message.VoterBody.TheVariants as asks
 use Rattle.voter.specs.declared.state.Grant.{Grant}
@@ -134,7 +134,8 @@ given_by c v x z y st marks stamp asked was g held own asks same few = elim mark
       (given.1 ∙ sym n, given.2)
 ]
 
-GivenBack-client : (laws : FittingLaws) (c v : ℕ) (x z : ClientState) (y : VoterState) (cause : requester.Cause) (o : requester.Outcome) → IsSound x → v < max_voters → Vote c v x z y → o.state ≡ z → requester.step x cause ≡ Ok o
+GivenBack-client : (laws : FittingLaws) (c v : ℕ) (x z : ClientState) (y : VoterState) (cause : requester.Cause) (o : requester.Outcome) → IsSound x → v < max_voters
+    → Vote c v x z y → o.state ≡ z → requester.step x cause ≡ Ok o
     → MeetsContract x cause o → KeepsTime x cause z → GivenBack x c v y → GivenBack z c v y
 GivenBack-client laws c v x z y (requester.Asks q) o sound below st is step contract time was g held own asks same few =
     let stamp : x.clock + 1 ≡ z.stamp = ap (λ (p : requester.Outcome). p.state.stamp) (ask-Ok x q o step) ∙ ap (λ (w : ClientState). w.stamp) is in
@@ -159,7 +160,8 @@ last_by x z v c y last held sound ok = elim last [
   | inr was ↦ sound.numbered (record { client = c; stamp = x.stamp; grant = last_of z v }) (held (last_of z v) was)
 ]
 
-Pair-client : (laws : FittingLaws) (u x : WorldState) → IsCoherent u → IsCoherent x → (k : ClientMoved u x) → (v : ℕ) → Pair k.who v (client_at u.clients k.who) (voter_at u.voters v) → Pair k.who v (client_at x.clients k.who) (voter_at u.voters v)
+Pair-client : (laws : FittingLaws) (u x : WorldState) → IsCoherent u → IsCoherent x → (k : ClientMoved u x) → (v : ℕ) → Pair k.who v (client_at u.clients k.who) (voter_at u.voters v)
+    → Pair k.who v (client_at x.clients k.who) (voter_at u.voters v)
 Pair-client laws u x ok now k v h =
     let old = client_at u.clients k.who in
     let new = client_at x.clients k.who in
@@ -242,14 +244,14 @@ unfolding requester.inquired
 phase-inquired x v g = phase-inquired_by _ _ x v
 
 abbrev NotLocked : ClientBody → Type 0
-NotLocked (tells.Locked s g) = ⊥
-NotLocked (tells.Fail s) = Unit {0}
-NotLocked (tells.Inquire g) = Unit {0}
+NotLocked (to_client.Locked s g) = ⊥
+NotLocked (to_client.Fail s) = Unit {0}
+NotLocked (to_client.Inquire g) = Unit {0}
 
 not_locked : (sender v s g : ℕ) (b : ClientBody) → NotLocked b → Locks sender b v s g → ⊥
-not_locked sender v s g (tells.Locked t h) other locks = other
-not_locked sender v s g (tells.Fail t) other locks = locks
-not_locked sender v s g (tells.Inquire h) other locks = locks
+not_locked sender v s g (to_client.Locked t h) other locks = other
+not_locked sender v s g (to_client.Fail t) other locks = locks
+not_locked sender v s g (to_client.Inquire h) other locks = locks
 
 -- a message that is no LOCKED adds no vote
 Lacks-other : (x : ClientState) (m : ToClient) (o : requester.Outcome) → MeetsContract x (requester.Takes m) o → o.state.phase ≡ x.phase → NotLocked m.body → Lacks x → Lacks o.state
@@ -261,11 +263,13 @@ Lacks-other x m o contract phase other h asks =
 
 Lacks-take : (x : ClientState) (m : ToClient) → MeetsContract x (requester.Takes m) (requester.take x m) → Lacks x → (b : ClientBody) → m.body ≡ b → Lacks (requester.take x m).state
 unfolding requester.take
-Lacks-take x m contract h (tells.Locked t g) is = subst (λ c. Lacks (requester.take_body (requester.see x m.seen) m.voter c).state) (sym is) (Lacks-locked (requester.see x m.seen) m.voter t g h)
-Lacks-take x m contract h (tells.Fail t) is =
-    Lacks-other x m (requester.take x m) contract (ap (λ c. (requester.take_body (requester.see x m.seen) m.voter c).state.phase) is ∙ phase-failed (requester.see x m.seen) m.voter t) (subst NotLocked (sym is) tt) h
-Lacks-take x m contract h (tells.Inquire g) is =
-    Lacks-other x m (requester.take x m) contract (ap (λ c. (requester.take_body (requester.see x m.seen) m.voter c).state.phase) is ∙ phase-inquired (requester.see x m.seen) m.voter g) (subst NotLocked (sym is) tt) h
+Lacks-take x m contract h (to_client.Locked t g) is = subst (λ c. Lacks (requester.take_body (requester.see x m.seen) m.voter c).state) (sym is) (Lacks-locked (requester.see x m.seen) m.voter t g h)
+Lacks-take x m contract h (to_client.Fail t) is =
+    Lacks-other x m (requester.take x m) contract (ap (λ c. (requester.take_body (requester.see x m.seen) m.voter c).state.phase) is ∙ phase-failed (requester.see x m.seen) m.voter t)
+    (subst NotLocked (sym is) tt) h
+Lacks-take x m contract h (to_client.Inquire g) is =
+    Lacks-other x m (requester.take x m) contract (ap (λ c. (requester.take_body (requester.see x m.seen) m.voter c).state.phase) is ∙ phase-inquired (requester.see x m.seen) m.voter g)
+    (subst NotLocked (sym is) tt) h
 
 zeros : (n v : ℕ) → slice_index (replicate n 0) v ≡ 0
 zeros zero v = refl
@@ -298,7 +302,8 @@ Fits-client laws u x ok now k h = subst (λ (vs : List VoterState). Fits x.clien
     | inr other ↦ subst (λ (z : ClientState). Pair c v z (voter_at u.voters v)) (sym (k.others c other)) (h.pairs c v)
   ];
   lacks = λ c. elim (cases_eq c k.who) as (λ _. Lacks (client_at x.clients c)) [
-    | inl same ↦ subst (λ i. Lacks (client_at x.clients i)) (sym same) (Lacks-client (client_at u.clients k.who) (client_at x.clients k.who) k.cause k.outcome (now.clients k.who) (sym k.here) k.step (meets laws.client u x ok now k) (h.lacks k.who))
+    | inl same ↦ subst (λ i. Lacks (client_at x.clients i)) (sym same) (Lacks-client (client_at u.clients k.who) (client_at x.clients k.who) k.cause k.outcome (now.clients k.who)
+        (sym k.here) k.step (meets laws.client u x ok now k) (h.lacks k.who))
     | inr other ↦ subst (λ (z : ClientState). Lacks z) (sym (k.others c other)) (h.lacks c)
   ];
 })
@@ -320,7 +325,8 @@ Unfinished-voter x v c client b y z asked by ok = elim (by c) [
   | inr may ↦ let k = finished_ok x v c client (slice_index z.finished c) b asked may in record { most = k.0; busy = k.1 }
 ]
 
-Pair-voter : (laws : FittingLaws) (u x : WorldState) → IsCoherent u → (k : VoterMoved u x) → (c : ℕ) → Pair c k.message.voter (client_at u.clients c) (voter_at u.voters k.message.voter) → Pair c k.message.voter (client_at u.clients c) k.outcome.state
+Pair-voter : (laws : FittingLaws) (u x : WorldState) → IsCoherent u → (k : VoterMoved u x) → (c : ℕ) → Pair c k.message.voter (client_at u.clients c) (voter_at u.voters k.message.voter)
+    → Pair c k.message.voter (client_at u.clients c) k.outcome.state
 Pair-voter laws u x ok k c h =
     let y = voter_at u.voters k.message.voter in
     let asked : c ≡ k.message.client → AskOk (client_at u.clients c) k.message.voter k.message.body = λ same. subst (λ n. AskOk (client_at u.clients n) k.message.voter k.message.body) (sym same)
@@ -339,7 +345,8 @@ Pair-voter laws u x ok k c h =
 Fits-voter : (laws : FittingLaws) (u x : WorldState) → IsCoherent u → VoterMoved u x → Fits u.clients u.voters → Fits x.clients x.voters
 Fits-voter laws u x ok k h = subst (λ (cs : List ClientState). Fits cs x.voters) (sym k.clients) (record {
   pairs = λ c v. elim (cases_eq v k.message.voter) [
-    | inl same ↦ subst (λ i. Pair c i (client_at u.clients c) (voter_at x.voters i)) (sym same) (subst (λ (y : VoterState). Pair c k.message.voter (client_at u.clients c) y) (sym k.here) (Pair-voter laws u x ok k c (h.pairs c k.message.voter)))
+    | inl same ↦ subst (λ i. Pair c i (client_at u.clients c) (voter_at x.voters i)) (sym same)
+        (subst (λ (y : VoterState). Pair c k.message.voter (client_at u.clients c) y) (sym k.here) (Pair-voter laws u x ok k c (h.pairs c k.message.voter)))
     | inr other ↦ subst (λ (y : VoterState). Pair c v (client_at u.clients c) y) (sym (k.others v other)) (h.pairs c v)
   ];
   lacks = h.lacks;
@@ -354,7 +361,8 @@ Fits-moved laws u x ok now moved h = elim moved [
 
 -- ---- every run
 
-Fits-run : (laws : FittingLaws) (w : Planned) (steps : List Step) (u : WorldState) → IsReached (with_state w u) → Fits u.clients u.voters → Fits (run_of (dealing_of w.plans) steps u).clients (run_of (dealing_of w.plans) steps u).voters
+Fits-run : (laws : FittingLaws) (w : Planned) (steps : List Step) (u : WorldState) → IsReached (with_state w u) → Fits u.clients u.voters
+    → Fits (run_of (dealing_of w.plans) steps u).clients (run_of (dealing_of w.plans) steps u).voters
 Fits-run laws w [] u r h = h
 Fits-run laws w (s ∷ steps) u r h =
     let next = IsReached-after (with_state w u) r s in
@@ -385,7 +393,8 @@ Fits-start voters clients limit = record {
   pairs = λ c v.
       let x = new_client clients limit c in
       let y = new_voter voters limit v in
-      subst (λ (z : ClientState). Pair c v z (voter_at (new_voters voters limit) v)) (sym x.2) (subst (λ (z : VoterState). Pair c v (requester.start x.0 x.1) z) (sym y.2) (Pair-start c v x.0 x.1 y.0 y.1));
+      subst (λ (z : ClientState). Pair c v z (voter_at (new_voters voters limit) v)) (sym x.2)
+      (subst (λ (z : VoterState). Pair c v (requester.start x.0 x.1) z) (sym y.2) (Pair-start c v x.0 x.1 y.0 y.1));
   lacks = λ c. (let x = new_client clients limit c in subst (λ (z : ClientState). Lacks z) (sym x.2) (λ asks. absurd (false≢true asks)));
 }
 

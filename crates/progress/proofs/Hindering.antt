@@ -1,5 +1,6 @@
 -- how a client that has a vote, and does not precede another one, comes to give the vote back
-use Rattle.std.proofs.Common.{◌≡◌, ◌≢◌, ℕ, zero, suc, ◌+◌, ◌<◌, ◌≤◌, Bool, true, false, List, [], ◌∷◌, ◌++◌, map, length, set, Option, Some, None, refl, sym, ap, subst, ◌∙◌, ◌⊎◌, inl, inr, arith, length-append}
+use Rattle.std.proofs.Common.{◌≡◌, ◌≢◌, ℕ, zero, suc, ◌+◌, ◌<◌, ◌≤◌, Bool, true, false, List, [], ◌∷◌, ◌++◌, map, length, set, Option, Some, None, refl, sym, ap, subst, ◌∙◌, ◌⊎◌}
+use Rattle.std.proofs.Common.{inl, inr, arith, length-append}
 use Rattle.std.specs.Prelude.{◌||◌, nat_le, nat_lt, ◌==◌, if◌then◌else◌, max, slice_get, slice_index, slice_index_or}
 use Rattle.std.specs.FinMap.{get}
 use Rattle.std.specs.List.{filter, list_all, list_any, range_with_len}
@@ -11,7 +12,7 @@ use Rattle.numbers.specs.Sets.{has}
 use Rattle.message.specs.declared.message.Message.TheVariants as kinds
 use Rattle.message.specs.declared.message.ToClient.{ToClient}
 use Rattle.message.specs.declared.message.ToVoter.{ToVoter}
-use Rattle.message.specs.declared.message.ClientBody.TheVariants as tells
+use Rattle.message.specs.declared.message.ClientBody.TheVariants as to_client
 use Rattle.message.specs.declared.message.VoterBody.TheVariants as asks
 use Rattle.message.specs.declared.request.Request.{Request}
 use Rattle.voter.specs.declared.state.Grant.{Grant}
@@ -72,13 +73,13 @@ Stays-inquired_by false hindered x v = record { phase = refl; stamp = refl; quor
 Stays-inquired_by true false x v = record { phase = refl; stamp = refl; quorum = refl; seen = refl }
 Stays-inquired_by true true x v = Stays-relinquish x v
 
-Stays-fail : (x : ClientState) (m : ToClient) (t : ℕ) → m.body ≡ tells.Fail t → Stays x (requester.take x m)
+Stays-fail : (x : ClientState) (m : ToClient) (t : ℕ) → m.body ≡ to_client.Fail t → Stays x (requester.take x m)
 unfolding requester.take requester.failed
 Stays-fail x m t is = subst (λ b. Stays x (requester.take_body (requester.see x m.seen) m.voter b)) (sym is) (
     let h = Stays-failed_by _ (requester.see x m.seen) m.voter in
     record { phase = h.phase; stamp = h.stamp; quorum = h.quorum; seen = h.seen })
 
-Stays-inquire : (x : ClientState) (m : ToClient) (g : ℕ) → m.body ≡ tells.Inquire g → Stays x (requester.take x m)
+Stays-inquire : (x : ClientState) (m : ToClient) (g : ℕ) → m.body ≡ to_client.Inquire g → Stays x (requester.take x m)
 unfolding requester.take requester.inquired
 Stays-inquire x m g is = subst (λ b. Stays x (requester.take_body (requester.see x m.seen) m.voter b)) (sym is) (
     let h = Stays-inquired_by _ _ (requester.see x m.seen) m.voter in
@@ -86,7 +87,8 @@ Stays-inquire x m g is = subst (λ b. Stays x (requester.take_body (requester.se
 
 -- ---- another client takes a message
 
-Led-takes : (deal : Dealing) (c : ℕ) (n : ℕ → ℕ) (k : ℕ) (u x : WorldState) (m : ToClient) → Led deal c n u x → length u.sent ≤ k → slice_get x.sent k ≡ Some (kinds.ToClient m) → m.client < length x.clients → m.client ≢ c
+Led-takes : (deal : Dealing) (c : ℕ) (n : ℕ → ℕ) (k : ℕ) (u x : WorldState) (m : ToClient) → Led deal c n u x → length u.sent ≤ k → slice_get x.sent k ≡ Some (kinds.ToClient m)
+    → m.client < length x.clients → m.client ≢ c
     → Stays (client_at x.clients m.client) (requester.take (client_at x.clients m.client) m) → Led deal c n u (client_did x m.client (requester.take (client_at x.clients m.client) m)).state
 Led-takes deal c n k u x m a new is within other st =
     let d = m.client in
@@ -100,7 +102,8 @@ Led-takes deal c n k u x m a new is within other st =
       clients = length-set x.clients d o.state ∙ a.clients;
       voters = a.voters;
       same = λ e. elim (cases_eq e d) [
-        | inl one ↦ subst (λ i. SameRequest (client_at u.clients i) (client_at (set x.clients d o.state) i)) (sym one) (subst (λ (z : ClientState). SameRequest (client_at u.clients d) z) (sym (client_here x.clients d o.state within))
+        | inl one ↦ subst (λ i. SameRequest (client_at u.clients i) (client_at (set x.clients d o.state) i)) (sym one)
+            (subst (λ (z : ClientState). SameRequest (client_at u.clients d) z) (sym (client_here x.clients d o.state within))
             (record { phase = st.phase ∙ (a.same d).phase; stamp = st.stamp ∙ (a.same d).stamp; quorum = st.quorum ∙ (a.same d).quorum }))
         | inr unlike ↦ subst (λ (z : ClientState). SameRequest (client_at u.clients e) z) (sym (client_others x.clients d o.state e unlike)) (a.same e)
       ];
@@ -111,7 +114,8 @@ Led-takes deal c n k u x m a new is within other st =
 
 -- ---- what a message takes from a client
 
-says_at : (x : ClientState) (cause : requester.Cause) (y : ClientState) (out : List ToVoter) (k : ℕ) (m : ToVoter) → AllSay x cause y out → k < length out → slice_index_or out k m ≡ m → Says x cause y m.voter m.body
+says_at : (x : ClientState) (cause : requester.Cause) (y : ClientState) (out : List ToVoter) (k : ℕ) (m : ToVoter) → AllSay x cause y out → k < length out → slice_index_or out k m ≡ m
+    → Says x cause y m.voter m.body
 says_at x cause y [] k m all within is = absurd (omega arith)
 says_at x cause y (n ∷ out) zero m all within is = subst (λ (l : ToVoter). Says x cause y l.voter l.body) is all.0.1
 says_at x cause y (n ∷ out) (suc k) m all within is = says_at x cause y out k m all.1 (omega arith) is
@@ -122,12 +126,14 @@ given_last x cause o v contract given =
     let there = given.2 in
     sym (says_at x cause o.state o.out there.0 (requester.tell x v (asks.Relinquish (held_of x v))) contract.out there.1 there.2).0
 
-takes_meets : (laws : AloneLaws) (x : ClientState) (m : ToClient) → (p : Planned) (u : WorldState) (d : ℕ) → IsReached (with_state p u) → client_at u.clients d ≡ x → d < length u.clients → m.client ≡ d → m.voter < length u.voters → MeetsContract x (requester.Takes m) (requester.take x m)
+takes_meets : (laws : AloneLaws) (x : ClientState) (m : ToClient) → (p : Planned) (u : WorldState) (d : ℕ) → IsReached (with_state p u) → client_at u.clients d ≡ x
+    → d < length u.clients → m.client ≡ d → m.voter < length u.voters → MeetsContract x (requester.Takes m) (requester.take x m)
 unfolding requester.step
 takes_meets laws x m p u d r is within own voter =
     let ok = laws.fitting.coherent (with_state p u) r in
     let few = ok.numbered.few_voters in
-    laws.fitting.client.meets x (requester.Takes m) (requester.take x m) (subst (λ (z : ClientState). IsSound z) is (ok.clients d)) (own ∙ sym (ap (λ (z : ClientState). z.id) (sym is) ∙ ok.numbered.clients d within), omega arith) refl
+    laws.fitting.client.meets x (requester.Takes m) (requester.take x m) (subst (λ (z : ClientState). IsSound z) is (ok.clients d))
+    (own ∙ sym (ap (λ (z : ClientState). z.id) (sym is) ∙ ok.numbered.clients d within), omega arith) refl
 
 -- ---- a request that waits is answered by FAIL again
 
@@ -139,11 +145,12 @@ not_held_by : (b : Bool) (t : ℕ) → b ≡ false → (if b then Some t else No
 not_held_by true t e = absurd (false≢true (sym e))
 not_held_by false t e = refl
 
-again_fails : (b : Bool) (v : VoterState) (g : Grant) (client s : ℕ) → b ≡ false → voter.again_by b v g client s ≡ voter.reply v client (tells.Fail s) ∷ []
+again_fails : (b : Bool) (v : VoterState) (g : Grant) (client s : ℕ) → b ≡ false → voter.again_by b v g client s ≡ voter.reply v client (to_client.Fail s) ∷ []
 again_fails true v g client s e = absurd (false≢true (sym e))
 again_fails false v g client s e = refl
 
-compared_same : (less same : Bool) (v : VoterState) (client s t : ℕ) → less ≡ false → same ≡ true → voter.compared_by less same v client s t ≡ record { replies = voter.again v v.held client s; state = v }
+compared_same : (less same : Bool) (v : VoterState) (client s t : ℕ) → less ≡ false → same ≡ true
+    → voter.compared_by less same v client s t ≡ record { replies = voter.again v v.held client s; state = v }
 compared_same true same v client s t e f = absurd (false≢true (sym e))
 compared_same false true v client s t e f = refl
 compared_same false false v client s t e f = absurd (false≢true f)
@@ -162,16 +169,18 @@ le_false a b less = grind (arith, nat_tests)
 eq_false : (a b : ℕ) → a ≢ b → (a == b) ≡ false
 eq_false a b other = not_true (a == b) (λ is. other (grind (arith, nat_tests)))
 
-fails_again : (y : VoterState) (m : ToVoter) (s : ℕ) (g : Grant) (o : voter.Outcome) → m.body ≡ asks.Request s → slice_index y.finished m.client < s → y.held ≡ Some g → g.client ≢ m.client → get y.waiting m.client ≡ Some s → voter.step y m ≡ Some o
-    → o ≡ record { replies = voter.reply (voter.see y s) m.client (tells.Fail s) ∷ []; state = voter.see y s }
+fails_again : (y : VoterState) (m : ToVoter) (s : ℕ) (g : Grant) (o : voter.Outcome) → m.body ≡ asks.Request s → slice_index y.finished m.client < s → y.held ≡ Some g
+    → g.client ≢ m.client → get y.waiting m.client ≡ Some s → voter.step y m ≡ Some o
+    → o ≡ record { replies = voter.reply (voter.see y s) m.client (to_client.Fail s) ∷ []; state = voter.see y s }
 unfolding voter.step voter.requested
 fails_again y m s g o is unfinished held other waits step =
     let c = m.client in
     let v = voter.see y s in
-    let stands : voter.standing v c ≡ Some s =
-    ap (λ h. voter.first_some (voter.held_stamp h c) (get y.waiting c)) held ∙ ap (λ h. voter.first_some h (get y.waiting c)) (not_held_by (g.client == c) g.stamp (eq_false g.client c other)) ∙ waits in
-    let out : voter.outcome_of y c m.body ≡ record { replies = voter.reply v c (tells.Fail s) ∷ []; state = v } =
-    ap (voter.outcome_of y c) is ∙ requested_not (nat_le s (slice_index y.finished c)) v c s (le_false s (slice_index y.finished c) unfinished) ∙ beside_same v c s (voter.standing v c) stands
+    let present : voter.standing v c ≡ Some s =
+    ap (λ h. voter.first_some (voter.held_stamp h c) (get y.waiting c)) held ∙ ap (λ h. voter.first_some h (get y.waiting c)) (not_held_by (g.client == c) g.stamp (eq_false g.client c other))
+    ∙ waits in
+    let out : voter.outcome_of y c m.body ≡ record { replies = voter.reply v c (to_client.Fail s) ∷ []; state = v } =
+    ap (voter.outcome_of y c) is ∙ requested_not (nat_le s (slice_index y.finished c)) v c s (le_false s (slice_index y.finished c) unfinished) ∙ beside_same v c s (voter.standing v c) present
     ∙ ap (λ rs. record { replies = rs; state = v }) (ap (λ h. voter.again v h c s) held ∙ again_fails (g.client == c) v g c s (eq_false g.client c other)) in
     sym (unless-Some _ (voter.outcome_of y c m.body) o step) ∙ out
 
@@ -183,7 +192,8 @@ record Failed (p : Planned) (c d q : ℕ) (u : WorldState) : Type 0 where
   votes : (v : ℕ) → (held_of (client_at world.clients d) v ≡ held_of (client_at u.clients d) v) ⊎ (last_of (client_at world.clients d) v ≡ held_of (client_at u.clients d) v)
   others : (v : ℕ) → v ≢ q → voter_at world.voters v ≡ voter_at u.voters v
 
-fails : (laws : TogetherLaws) (p : Planned) (c d q : ℕ) (u : WorldState) → Here p d q u → d ≢ c → holds (client_at u.clients d) q ≡ false → (g : Grant) → (voter_at u.voters q).held ≡ Some g → g.client ≢ d
+fails : (laws : TogetherLaws) (p : Planned) (c d q : ℕ) (u : WorldState) → Here p d q u → d ≢ c → holds (client_at u.clients d) q ≡ false → (g : Grant)
+    → (voter_at u.voters q).held ≡ Some g → g.client ≢ d
     → IsEntry (voter_at u.voters q) d (client_at u.clients d).stamp → (voter_at u.voters q).granted < (voter_at u.voters q).limit → Failed p c d q u
 unfolding spoken requester.would_hold
 fails laws p c d q u h apart free g held other entry left =
@@ -203,11 +213,12 @@ fails laws p c d q u h apart free g held other entry left =
     let unfinished = subst (λ i. slice_index y.finished i < s) (sym id) (pair.unfinished.busy busy) in
     let waits = subst (λ i. get y.waiting i ≡ Some s) (sym id) (entry_waits y d s g entry held other) in
     let outcome = fails_again y ask s g heard.outcome refl unfinished held (λ own. other (own ∙ id)) waits heard.step in
-    let m : ToClient = record { voter = q; client = d; seen = max y.seen s; body = tells.Fail s } in
-    let is : voter.reply (voter.see y s) old.id (tells.Fail s) ≡ m = λ i. record { voter = voter_id i; client = id i; seen = max y.seen s; body = tells.Fail s } in
+    let m : ToClient = record { voter = q; client = d; seen = max y.seen s; body = to_client.Fail s } in
+    let is : voter.reply (voter.see y s) old.id (to_client.Fail s) ≡ m = λ i. record { voter = voter_id i; client = id i; seen = max y.seen s; body = to_client.Fail s } in
     let before = (spoken u d).sent in
     let sent : slice_get w.sent (length before) ≡ Some (kinds.ToClient m) =
-    ap (λ ms. slice_get ms (length before)) (heard.sent ∙ ap (λ (o : voter.Outcome). before ++ map kinds.ToClient o.replies) outcome) ∙ get_next before (kinds.ToClient (voter.reply (voter.see y s) old.id (tells.Fail s))) [] ∙ ap (λ (n : ToClient). Some (kinds.ToClient n)) is in
+    ap (λ ms. slice_get ms (length before)) (heard.sent ∙ ap (λ (o : voter.Outcome). before ++ map kinds.ToClient o.replies) outcome)
+    ∙ get_next before (kinds.ToClient (voter.reply (voter.see y s) old.id (to_client.Fail s))) [] ∙ ap (λ (n : ToClient). Some (kinds.ToClient n)) is in
     let here = Here-went p d q q u w heard.went h in
     let now = laws.alone.fitting.coherent (with_state p w) here.reached in
     let x = client_at w.clients d in
@@ -219,8 +230,9 @@ fails laws p c d q u h apart free g held other entry left =
     let contract = takes_meets laws.alone x m p w d here.reached refl here.client refl (now.members d q here.asked) in
     record {
       world = (client_did w d o).state;
-      led = Led-takes deal c (only q 0) (length before) u w m (Led-went deal c q 0 u w heard.went few) (omega (arith, length-append u.sent (map kinds.ToVoter (requester.remind old)))) sent here.client apart (Stays-fail x m s refl);
-      hindered = ap is_hindered at ∙ laws.hinders x m (now.clients d) here.asks here.asked lacks (ap (λ n. tells.Fail n) (sym (ap (λ (z : ClientState). z.stamp) same)));
+      led = Led-takes deal c (only q 0) (length before) u w m (Led-went deal c q 0 u w heard.went few)
+          (omega (arith, length-append u.sent (map kinds.ToVoter (requester.remind old)))) sent here.client apart (Stays-fail x m s refl);
+      hindered = ap is_hindered at ∙ laws.hinders x m (now.clients d) here.asks here.asked lacks (ap (λ n. to_client.Fail n) (sym (ap (λ (z : ClientState). z.stamp) same)));
       votes = λ v. subst (λ (z : ClientState). (held_of z v ≡ held_of old v) ⊎ (last_of z v ≡ held_of old v)) (sym at) (elim (laws.kept x m (now.clients d) refl v) [
         | inl kept ↦ inl (kept ∙ ap (λ (z : ClientState). held_of z v) same)
         | inr given ↦ inr (given_last x (requester.Takes m) o v contract given ∙ ap (λ (z : ClientState). held_of z v) same)
@@ -257,13 +269,15 @@ Led-reminded deal c v u within = record {
 }
 
 -- the grant by which a client holds a vote is the one that has it
-held_grant : (laws : AloneLaws) (p : Planned) (d v : ℕ) (u : WorldState) → IsReached (with_state p u) → (g : Grant) → (voter_at u.voters v).held ≡ Some g → holds (client_at u.clients d) v ≡ true → g.grant ≡ held_of (client_at u.clients d) v
+held_grant : (laws : AloneLaws) (p : Planned) (d v : ℕ) (u : WorldState) → IsReached (with_state p u) → (g : Grant) → (voter_at u.voters v).held ≡ Some g
+    → holds (client_at u.clients d) v ≡ true → g.grant ≡ held_of (client_at u.clients d) v
 held_grant laws p d v u r g held has =
     let ok = laws.fitting.coherent (with_state p u) r in
     let x = client_at u.clients d in
     grant_is (voter_at u.voters v).held g d x.stamp (held_of x v) held (ok.held d v (held_of x v) (held_under x v has))
 
-gives_back : (laws : TogetherLaws) (p : Planned) (c d v : ℕ) (u : WorldState) → Here p d v u → d ≢ c → holds (client_at u.clients d) v ≡ true → is_hindered (client_at u.clients d) ≡ true → (g : Grant) → (voter_at u.voters v).held ≡ Some g → g.client ≡ d
+gives_back : (laws : TogetherLaws) (p : Planned) (c d v : ℕ) (u : WorldState) → Here p d v u → d ≢ c → holds (client_at u.clients d) v ≡ true → is_hindered (client_at u.clients d) ≡ true
+    → (g : Grant) → (voter_at u.voters v).held ≡ Some g → g.client ≡ d
     → (voter_at u.voters v).inquiring ≡ true → Returns p c d v none g u
 unfolding reminded
 gives_back laws p c d v u h apart has hindered g held own inquiring =
@@ -274,15 +288,15 @@ gives_back laws p c d v u h apart has hindered g held own inquiring =
     let within = ok.members d v h.asked in
     let few = ok.numbered.few_voters in
     let id : y.id ≡ v = ok.numbered.voters v within in
-    let first = voter.reply y g.client (tells.Locked g.stamp g.grant) in
-    let m : ToClient = record { voter = v; client = d; seen = y.seen; body = tells.Inquire g.grant } in
-    let is : voter.reply y g.client (tells.Inquire g.grant) ≡ m = λ i. record { voter = id i; client = own i; seen = y.seen; body = tells.Inquire g.grant } in
+    let first = voter.reply y g.client (to_client.Locked g.stamp g.grant) in
+    let m : ToClient = record { voter = v; client = d; seen = y.seen; body = to_client.Inquire g.grant } in
+    let is : voter.reply y g.client (to_client.Inquire g.grant) ≡ m = λ i. record { voter = id i; client = own i; seen = y.seen; body = to_client.Inquire g.grant } in
     let more : voter.remind y ≡ first ∷ m ∷ [] = laws.alone.returns.repeats y g held ∙ ap (λ b. first ∷ voter.inquiry_again b y g) inquiring ∙ ap (λ (n : ToClient). first ∷ n ∷ []) is in
     let sent : slice_get (reminded u v).sent (suc (length u.sent)) ≡ Some (kinds.ToClient m) =
     ap (λ rs. slice_get (u.sent ++ map kinds.ToClient rs) (suc (length u.sent))) more ∙ second_next u.sent (kinds.ToClient first) (kinds.ToClient m) [] in
     let o = requester.take x m in
     let number = held_grant laws.alone p d v u h.reached g held has in
-    let given = laws.gives x m (ok.clients d) h.asks has hindered (omega arith) (ap (λ n. tells.Inquire n) number) in
+    let given = laws.gives x m (ok.clients d) h.asks has hindered (omega arith) (ap (λ n. to_client.Inquire n) number) in
     let contract = takes_meets laws.alone x m p u d h.reached refl h.client refl within in
     record {
       world = (client_did (reminded u v) d o).state;
@@ -303,7 +317,8 @@ record Loose (p : Planned) (c d v : ℕ) (n : ℕ → ℕ) (g : Grant) (u : Worl
   voter : voter_at world.voters v ≡ voter_at u.voters v
   loose : IsLoose v g (client_at world.clients d)
 
-Loose-then : (p : Planned) (c d v : ℕ) (n m k : ℕ → ℕ) (g : Grant) (u x : WorldState) → ((q : ℕ) → n q + m q ≤ k q) → Led (dealing_of p.plans) c n u x → voter_at x.voters v ≡ voter_at u.voters v → Loose p c d v m g x → Loose p c d v k g u
+Loose-then : (p : Planned) (c d v : ℕ) (n m k : ℕ → ℕ) (g : Grant) (u x : WorldState) → ((q : ℕ) → n q + m q ≤ k q) → Led (dealing_of p.plans) c n u x
+    → voter_at x.voters v ≡ voter_at u.voters v → Loose p c d v m g x → Loose p c d v k g u
 Loose-then p c d v n m k g u x most a same h = record {
   world = h.world;
   led = Led-more (dealing_of p.plans) c (λ q. n q + m q) k u h.world most (Led-then (dealing_of p.plans) c n m u x h.world a h.led);
@@ -338,16 +353,19 @@ loose_by x z v g hindered has number votes = elim votes [
   | inr given ↦ inr (given ∙ sym number)
 ]
 
-loose_from : (p : Planned) (c d v q : ℕ) (g : Grant) (u w : WorldState) → Led (dealing_of p.plans) c (only q 1) u w → v ≢ q → voter_at w.voters v ≡ voter_at u.voters v → holds (client_at w.clients d) v ≡ true
+loose_from : (p : Planned) (c d v q : ℕ) (g : Grant) (u w : WorldState) → Led (dealing_of p.plans) c (only q 1) u w → v ≢ q → voter_at w.voters v ≡ voter_at u.voters v
+    → holds (client_at w.clients d) v ≡ true
     → g.grant ≡ held_of (client_at w.clients d) v → Failed p c d q w → Loose p c d v (only q 1) g u
 loose_from p c d v q g u w led other same has number f = record {
   world = f.world;
-  led = Led-more (dealing_of p.plans) c (λ r. only q 1 r + only q 0 r) (only q 1) u f.world (λ r. (let nothing = only_zero q r in omega arith)) (Led-then (dealing_of p.plans) c (only q 1) (only q 0) u w f.world led f.led);
+  led = Led-more (dealing_of p.plans) c (λ r. only q 1 r + only q 0 r) (only q 1) u f.world (λ r. (let nothing = only_zero q r in omega arith))
+      (Led-then (dealing_of p.plans) c (only q 1) (only q 0) u w f.world led f.led);
   voter = f.others v other ∙ same;
   loose = loose_by (client_at w.clients d) (client_at f.world.clients d) v g f.hindered has number (f.votes v);
 }
 
-tries : (laws : TogetherLaws) (p : Planned) (c d v q : ℕ) (g : Grant) (u : WorldState) → Here p d v u → d ≢ c → (voter_at u.voters v).held ≡ Some g → holds (client_at u.clients d) v ≡ true → is_member (client_at u.clients d) q ≡ true
+tries : (laws : TogetherLaws) (p : Planned) (c d v q : ℕ) (g : Grant) (u : WorldState) → Here p d v u → d ≢ c → (voter_at u.voters v).held ≡ Some g → holds (client_at u.clients d) v ≡ true
+    → is_member (client_at u.clients d) q ≡ true
     → (voter_at u.voters q).granted + 2 ≤ (voter_at u.voters q).limit → Tried p c d v q g u
 tries laws p c d v q g u h apart held has member left = elim (holds (client_at u.clients d) q) as (λ b. holds (client_at u.clients d) q ≡ b → Tried p c d v q g u) [
   | true ↦ λ got. inr (inr (record { world = u; led = Led-self (dealing_of p.plans) c (only q 1) u; voter = refl; held = λ r was. was }, λ _. got))
@@ -355,26 +373,26 @@ tries laws p c d v q g u h apart held has member left = elim (holds (client_at u
       let deal = dealing_of p.plans in
       let spot : Here p d q u = record { reached = h.reached; client = h.client; asks = h.asks; asked = member } in
       let other : v ≢ q = λ same. false≢true (sym free ∙ ap (λ i. holds (client_at u.clients d) i) (sym same) ∙ has) in
-      let told = asks_again laws.alone p d q u spot free (omega arith) in
-      let w = told.world in
+      let asked_again = asks_again laws.alone p d q u spot free (omega arith) in
+      let w = asked_again.world in
       let x = client_at w.clients d in
       let y = voter_at w.voters q in
-      let same : x ≡ client_at u.clients d = ap (λ cs. client_at cs d) told.same in
-      let here = Here-went p d q q u w told.went spot in
+      let same : x ≡ client_at u.clients d = ap (λ cs. client_at cs d) asked_again.same in
+      let here = Here-went p d q q u w asked_again.went spot in
       let ok = laws.alone.fitting.coherent (with_state p w) here.reached in
-      let led = Led-went deal c q 1 u w told.went told.few in
+      let led = Led-went deal c q 1 u w asked_again.went asked_again.few in
       let one_only : (r : ℕ) → only q 1 r + only q 0 r ≤ only q 1 r = λ r. (let nothing = only_zero q r in omega arith) in
       let lacks = ap (λ (z : ClientState). holds z q) same ∙ free in
       let has_it = ap (λ (z : ClientState). holds z v) same ∙ has in
-      let kept = told.went.others v other in
-      let k = held_some y d x.stamp (ok.voters q) told.entry y.held refl in
-      let limit = told.went.limit in
-      let few = told.few in
+      let kept = asked_again.went.others v other in
+      let k = held_some y d x.stamp (ok.voters q) asked_again.entry y.held refl in
+      let limit = asked_again.went.limit in
+      let few = asked_again.few in
       let voters = ok.numbered.few_voters in
       let within = ok.members d q here.asked in
       elim (cases_eq k.0.client d) [
         | inl mine ↦
-            let stamp = own_stamp y d x.stamp k.0 (ok.voters q) told.entry k.1 mine in
+            let stamp = own_stamp y d x.stamp k.0 (ok.voters q) asked_again.entry k.1 mine in
             elim (cases_lt (last_of x q) k.0.grant) [
               | inl less ↦ elim (gets laws.alone p d q w here lacks k.0 k.1 mine stamp less) [
                 | inl e ↦ inl (Somebody-led p c (only q 1) (only q 0) (only q 1) u w one_only led (somebody_at p d q (voter_at w.voters q).granted 0 w here.asks (omega arith) e))
@@ -396,7 +414,7 @@ tries laws p c d v q g u h apart held has member left = elim (holds (client_at u
                   inr (inl (record { world = w; led = led; voter = kept; loose = inl (hindered_by x q here.asked back.1, has_it) }))
             ]
         | inr unlike ↦
-            let f = fails laws p c d q w here apart lacks k.0 k.1 unlike told.entry (omega arith) in
+            let f = fails laws p c d q w here apart lacks k.0 k.1 unlike asked_again.entry (omega arith) in
             let number = held_grant laws.alone p d v w here.reached g (ap (λ (z : VoterState). z.held) kept ∙ held) has_it in
             inr (inl (loose_from p c d v q g u w led other kept has_it number f))
       ]
@@ -414,7 +432,8 @@ record AllTried (p : Planned) (c d v : ℕ) (n : ℕ → ℕ) (qs : List ℕ) (u
 pub has_rest : (q r : ℕ) (qs : List ℕ) → r ≢ q → has (q ∷ qs) r ≡ true → has qs r ≡ true
 has_rest q r qs other there = grind (arith, nat_tests)
 
-tries_all : (laws : TogetherLaws) (p : Planned) (c d v : ℕ) (g : Grant) (qs : List ℕ) (u : WorldState) → Here p d v u → d ≢ c → (voter_at u.voters v).held ≡ Some g → holds (client_at u.clients d) v ≡ true → CanGive (and_one qs) u
+tries_all : (laws : TogetherLaws) (p : Planned) (c d v : ℕ) (g : Grant) (qs : List ℕ) (u : WorldState) → Here p d v u → d ≢ c → (voter_at u.voters v).held ≡ Some g
+    → holds (client_at u.clients d) v ≡ true → CanGive (and_one qs) u
     → Somebody p (times_in qs) u ⊎ Loose p c d v (times_in qs) g u ⊎ AllTried p c d v (times_in qs) qs u
 tries_all laws p c d v g [] u h apart held has_v left =
     inr (inr (record { more = record { world = u; led = Led-self (dealing_of p.plans) c (times_in []) u; voter = refl; held = λ r was. was }; all = λ r there. absurd (false≢true there) }))
@@ -424,7 +443,8 @@ tries_all laws p c d v g (q ∷ qs) u h apart held has_v left =
     let sum : (r : ℕ) → only q 1 r + times_in qs r ≤ times_in (q ∷ qs) r = λ r. (let more = times_more q r qs in omega arith) in
     let first : (r : ℕ) → only q 1 r ≤ times_in (q ∷ qs) r = λ r. (let more = times_more q r qs in omega arith) in
     let one : Tried p c d v q g u = elim (is_member (client_at u.clients d) q) as (λ b. is_member (client_at u.clients d) q ≡ b → Tried p c d v q g u) [
-      | true ↦ λ member. tries laws p c d v q g u h apart held has_v member (let count = left q (ok.members d q member) in let more = times_more q q qs in let first = only_here q 1 q refl in omega arith)
+      | true ↦ λ member. tries laws p c d v q g u h apart held has_v member
+          (let count = left q (ok.members d q member) in let more = times_more q q qs in let first = only_here q 1 q refl in omega arith)
       | false ↦ λ none. inr (inr (record { world = u; led = Led-self deal c (only q 1) u; voter = refl; held = λ r was. was }, λ member. absurd (false≢true (sym none ∙ member))))
     ] refl in
     elim one [
@@ -434,7 +454,8 @@ tries_all laws p c d v g (q ∷ qs) u h apart held has_v left =
           let m = on.0 in
           let x = m.world in
           let next = Here-led p c (only q 1) d v u x m.led h in
-          elim (tries_all laws p c d v g qs x next apart (ap (λ (z : VoterState). z.held) m.voter ∙ held) (m.held v has_v) (CanGive-led deal c (only q 1) (and_one qs) (and_one (q ∷ qs)) u x (λ r. (let all = sum r in omega arith)) m.led left)) [
+          elim (tries_all laws p c d v g qs x next apart (ap (λ (z : VoterState). z.held) m.voter ∙ held) (m.held v has_v)
+          (CanGive-led deal c (only q 1) (and_one qs) (and_one (q ∷ qs)) u x (λ r. (let all = sum r in omega arith)) m.led left)) [
             | inl e ↦ inl (Somebody-led p c (only q 1) (times_in qs) (times_in (q ∷ qs)) u x sum m.led e)
             | inr (inl loose) ↦ inr (inl (Loose-then p c d v (only q 1) (times_in qs) (times_in (q ∷ qs)) g u x sum m.led m.voter loose))
             | inr (inr rest) ↦ inr (inr (record {
@@ -459,7 +480,8 @@ all_hold f (x ∷ xs) all =
     let rest = all_hold f xs (λ q there. all q (grind (arith, nat_tests))) in
     grind (arith, nat_tests)
 
-loosens : (laws : TogetherLaws) (p : Planned) (c d v : ℕ) (g : Grant) (u : WorldState) → Here p d v u → d ≢ c → (voter_at u.voters v).held ≡ Some g → holds (client_at u.clients d) v ≡ true → CanGive (λ r. 2) u
+loosens : (laws : TogetherLaws) (p : Planned) (c d v : ℕ) (g : Grant) (u : WorldState) → Here p d v u → d ≢ c → (voter_at u.voters v).held ≡ Some g → holds (client_at u.clients d) v ≡ true
+    → CanGive (λ r. 2) u
     → Somebody p one_each u ⊎ Loose p c d v one_each g u
 loosens laws p c d v g u h apart held has_v left =
     let deal = dealing_of p.plans in
@@ -482,7 +504,8 @@ loosens laws p c d v g u h apart held has_v left =
 
 -- ---- the vote goes back
 
-pub returns : (laws : TogetherLaws) (p : Planned) (c d v : ℕ) (g : Grant) (u : WorldState) → Leads u c → Here p d v u → d ≢ c → IsEntry (voter_at u.voters v) c (client_at u.clients c).stamp → (voter_at u.voters v).held ≡ Some g → g.client ≡ d
+pub returns : (laws : TogetherLaws) (p : Planned) (c d v : ℕ) (g : Grant) (u : WorldState) → Leads u c → Here p d v u → d ≢ c → IsEntry (voter_at u.voters v) c (client_at u.clients c).stamp
+    → (voter_at u.voters v).held ≡ Some g → g.client ≡ d
     → g.stamp ≡ (client_at u.clients d).stamp → holds (client_at u.clients d) v ≡ true → CanGive (λ r. 2) u → Somebody p one_each u ⊎ Returns p c d v one_each g u
 returns laws p c d v g u leads h apart entry held own stamp has_v left =
     let deal = dealing_of p.plans in
@@ -498,7 +521,8 @@ returns laws p c d v g u leads h apart entry held own stamp has_v left =
                 let waits = entry_waits (voter_at u.voters v) c (client_at u.clients c).stamp g entry held (λ same. apart (sym own ∙ same)) in
                 let ahead = subst (λ (r : Request). precedes (request_at u c) r ≡ true) (sym (λ i. record { stamp = stamp i; client = own i })) (leads.first d apart h.asks) in
                 let inquiring = (Placed-reached laws (with_state p u) h.reached).back v g c (client_at u.clients c).stamp held waits ahead in
-                let back = gives_back laws p c d v x here apart stuck.1 stuck.0 g (ap (λ (z : VoterState). z.held) loose.voter ∙ held) own (ap (λ (z : VoterState). z.inquiring) loose.voter ∙ inquiring) in
+                let back = gives_back laws p c d v x here apart stuck.1 stuck.0 g (ap (λ (z : VoterState). z.held) loose.voter ∙ held) own
+                (ap (λ (z : VoterState). z.inquiring) loose.voter ∙ inquiring) in
                 inr (record {
                   world = back.world;
                   led = Led-more deal c (λ r. one_each r + none r) one_each u back.world (λ r. omega arith) (Led-then deal c one_each none u x back.world led back.led);

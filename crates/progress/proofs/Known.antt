@@ -2,7 +2,7 @@
 use Rattle.std.specs.Prelude.{slice_index, ℕ, ◌≡◌, ◌<◌, ◌≤◌, ◌⊎◌, List, [], ◌∷◌, Ok, Err, Some, true, false}
 use Rattle.std.specs.FinMap.{get}
 use Rattle.std.specs.List.{Contains}
-use Rattle.message.specs.declared.message.ClientBody.TheVariants as tells
+use Rattle.message.specs.declared.message.ClientBody.TheVariants as to_client
 use Rattle.message.specs.declared.message.ToClient.{ToClient}
 use Rattle.message.specs.declared.message.ToVoter.{ToVoter}
 use Rattle.message.specs.declared.message.VoterBody.TheVariants as asks
@@ -36,7 +36,7 @@ pub record ClientLaws : Type 0 where
 
 pub record VoterLaws : Type 0 where
   pub meets : (v : VoterState) (m : ToVoter) (o : voter.Outcome) → voter.step v m ≡ Some o → votes.MeetsContract v m o
-  pub repeats : (v : VoterState) → votes.AllTell v.held (voter.remind v)
+  pub repeats : (v : VoterState) → votes.AllReport v.held (voter.remind v)
   pub numbers : (v : VoterState) (m : ToVoter) (o : voter.Outcome) → voter.IsSound v → voter.step v m ≡ Some o → VoteMoves (voter.effect_of v m).frees v o.state
   pub carries : (v : VoterState) (m : ToVoter) (o : voter.Outcome) → voter.step v m ≡ Some o → CarrySeen v m o
   pub remembers : (v : VoterState) → AllCarry v.id v.seen (voter.remind v)
@@ -52,8 +52,8 @@ pub record Laws : Type 0 where
 
 -- what a vote that comes back depends on
 pub record ReturnLaws : Type 0 where
-  pub repeats : (v : VoterState) (g : Grant) → v.held ≡ Some g → voter.remind v ≡ voter.reply v g.client (tells.Locked g.stamp g.grant) ∷ voter.inquiry_again v.inquiring v g
-  pub released : (x : ClientState) (m : ToClient) (stamp grant : ℕ) → m.body ≡ tells.Locked stamp grant → is_current x stamp ≡ false
+  pub repeats : (v : VoterState) (g : Grant) → v.held ≡ Some g → voter.remind v ≡ voter.reply v g.client (to_client.Locked g.stamp g.grant) ∷ voter.inquiry_again v.inquiring v g
+  pub released : (x : ClientState) (m : ToClient) (stamp grant : ℕ) → m.body ≡ to_client.Locked stamp grant → is_current x stamp ≡ false
       → requester.take x m ≡ record { out = requester.tell x m.voter (asks.Release stamp) ∷ []; seen = Nothing; state = requester.see x m.seen }
   pub takes : (v : VoterState) (m : ToVoter) → voter.IsSound v → v.granted < v.limit → (o : voter.Outcome) × (voter.step v m ≡ Some o)
   pub ends : (v : VoterState) (m : ToVoter) (o : voter.Outcome) (g : Grant) (stamp : ℕ) → voter.IsSound v → v.held ≡ Some g → m.client ≡ g.client → m.body ≡ asks.Release stamp → g.stamp ≤ stamp
@@ -75,7 +75,8 @@ pub record BackLaws : Type 0 where
   pub takes : (v : VoterState) (m : ToVoter) → voter.IsSound v → v.granted < v.limit → (o : voter.Outcome) × (voter.step v m ≡ Some o)
   pub stays : (v : VoterState) (m : ToVoter) (o : voter.Outcome) (client stamp : ℕ) → voter.IsSound v → voter.step v m ≡ Some o
       → votes.IsEntry v client stamp → votes.IsEntry o.state client stamp ⊎ Finishes m.client m.body client stamp
-  pub goes_on : (v : VoterState) (m : ToVoter) (o : voter.Outcome) (g : Grant) → voter.IsSound v → v.held ≡ Some g → m.client ≡ g.client → m.body ≡ asks.Relinquish g.grant → voter.step v m ≡ Some o → GrantIsNew v o.state
+  pub goes_on : (v : VoterState) (m : ToVoter) (o : voter.Outcome) (g : Grant) → voter.IsSound v → v.held ≡ Some g → m.client ≡ g.client → m.body ≡ asks.Relinquish g.grant
+      → voter.step v m ≡ Some o → GrantIsNew v o.state
   pub gives : (x : ClientState) (v : ℕ) → is_asking x.phase ≡ true → is_member x v ≡ true → holds x v ≡ false → is_relinquished x v ≡ true
       → Contains (requester.remind x) (requester.tell x v (asks.Relinquish (last_of x v)))
   pub coherent : (w : Planned) → IsReached w → IsCoherent w.state
@@ -98,9 +99,10 @@ pub record TogetherLaws : Type 0 where
   pub repeats : (x : ClientState) → AllRepeat x (requester.remind x)
   pub in_range : (x : ClientState) → IsSound x → RemindersInRange x (requester.remind x)
   pub kept : (x : ClientState) (m : ToClient) → IsSound x → requester.would_hold x m ≡ false → (v : ℕ) → IsKeptOrGiven x (requester.take x m) v
-  pub hinders : (x : ClientState) (m : ToClient) → IsSound x → is_asking x.phase ≡ true → is_member x m.voter ≡ true → holds x m.voter ≡ false → m.body ≡ tells.Fail x.stamp
+  pub hinders : (x : ClientState) (m : ToClient) → IsSound x → is_asking x.phase ≡ true → is_member x m.voter ≡ true → holds x m.voter ≡ false → m.body ≡ to_client.Fail x.stamp
       → is_hindered (requester.take x m).state ≡ true
-  pub gives : (x : ClientState) (m : ToClient) → IsSound x → is_asking x.phase ≡ true → holds x m.voter ≡ true → is_hindered x ≡ true → m.voter < max_voters → m.body ≡ tells.Inquire (held_of x m.voter)
+  pub gives : (x : ClientState) (m : ToClient) → IsSound x → is_asking x.phase ≡ true → holds x m.voter ≡ true → is_hindered x ≡ true → m.voter < max_voters
+      → m.body ≡ to_client.Inquire (held_of x m.voter)
       → IsGivenBack x (requester.take x m) m.voter × (is_relinquished (requester.take x m).state m.voter ≡ true)
 
 -- what depends on clients that leave, too

@@ -93,7 +93,8 @@ Led-went deal c v n u x a few = record {
   same = λ d. record { phase = (a.gains d).phase; stamp = (a.gains d).stamp; quorum = (a.gains d).quorum };
   held = (a.gains c).held;
   few = λ q. elim (cases_eq q v) [
-    | inl one ↦ (let here : (voter_at x.voters q).granted ≤ (voter_at u.voters q).granted + n = subst (λ i. (voter_at x.voters i).granted ≤ (voter_at u.voters i).granted + n) (sym one) few in let count = only_here v n q one in omega arith)
+    | inl one ↦ (let here : (voter_at x.voters q).granted ≤ (voter_at u.voters q).granted + n = subst (λ i. (voter_at x.voters i).granted ≤ (voter_at u.voters i).granted + n)
+        (sym one) few in let count = only_here v n q one in omega arith)
     | inr other ↦ (let same = ap (λ (y : VoterState). y.granted) (a.others q other) in omega arith)
   ];
   limit = λ q. elim (cases_eq q v) [
@@ -160,7 +161,8 @@ Somebody-led p c n m k u x most a one =
 pub Somebody-more : (p : Planned) (n k : ℕ → ℕ) (u : WorldState) → ((q : ℕ) → n q ≤ k q) → Somebody p n u → Somebody p k u
 Somebody-more p n k u most one = Somebody-led p 0 none n k u u (λ q. (let all = most q in omega arith)) (Led-self (dealing_of p.plans) 0 none u) one
 
-pub somebody_at : (p : Planned) (e v top n : ℕ) (u : WorldState) → is_asking (client_at u.clients e).phase ≡ true → top ≤ (voter_at u.voters v).granted + n → EntersAt (dealing_of p.plans) e v top u → Somebody p (only v n) u
+pub somebody_at : (p : Planned) (e v top n : ℕ) (u : WorldState) → is_asking (client_at u.clients e).phase ≡ true → top ≤ (voter_at u.voters v).granted + n
+    → EntersAt (dealing_of p.plans) e v top u → Somebody p (only v n) u
 somebody_at p e v top n u asks most a = record {
   who = e;
   asks = asks;
@@ -176,7 +178,8 @@ somebody_at p e v top n u asks most a = record {
     inside = a.inside;
     phases = a.phases;
     few = λ q. elim (cases_eq q v) [
-      | inl one ↦ (let here : (voter_at a.world.voters q).granted ≤ (voter_at u.voters q).granted + n = subst (λ i. (voter_at a.world.voters i).granted ≤ (voter_at u.voters i).granted + n) (sym one) (let few = a.few in omega arith) in let count = only_here v n q one in omega arith)
+      | inl one ↦ (let here : (voter_at a.world.voters q).granted ≤ (voter_at u.voters q).granted + n = subst (λ i. (voter_at a.world.voters i).granted ≤ (voter_at u.voters i).granted + n)
+          (sym one) (let few = a.few in omega arith) in let count = only_here v n q one in omega arith)
       | inr other ↦ (let same = ap (λ (y : VoterState). y.granted) (a.others q other) in omega arith)
     ];
     limit = λ q. elim (cases_eq q v) [

@@ -20,7 +20,8 @@ use Rattle.world.specs.declared.step.Step.{Step}
 use Rattle.world.specs.declared.step.Step.TheVariants.{Ask, Deliver, Leave, GiveUp, RemindClient, RemindVoter, Exchange}
 use Rattle.world.specs.Ranges.{IsAddressed, IsNumbered}
 use Rattle.world.specs.Runs.{IsReached, after, run_of, start_by}
-use Rattle.world.specs.Steps.{Dealing, Outcome, Planned, WorldState, after_client, after_voter, client_at, come, dealing_of, draw_of, events, exchange, if_client, if_voter, next_ticket, quorum_dealt, say, step, voter_at}
+use Rattle.world.specs.Steps.{Dealing, Outcome, Planned, WorldState, after_client, after_voter, client_at, come, dealing_of, draw_of, events, exchange, if_client, if_voter}
+use Rattle.world.specs.Steps.{next_ticket, quorum_dealt, say, step, voter_at}
 
 pub AllByRecursion-get : (P : Message → Type 0) (ms : List Message) (k : ℕ) (m : Message) → AllByRecursion P ms → slice_get ms k ≡ Some m → P m
 AllByRecursion-get P [] k m h is = absurd (none-some m is)

@@ -9,7 +9,7 @@ use Rattle.message.specs.declared.message.Message.TheVariants as kinds
 use Rattle.message.specs.declared.message.ToClient.{ToClient}
 use Rattle.message.specs.declared.message.ToVoter.{ToVoter}
 use Rattle.message.specs.declared.message.ClientBody.{ClientBody}
-use Rattle.message.specs.declared.message.ClientBody.TheVariants as tells
+use Rattle.message.specs.declared.message.ClientBody.TheVariants as to_client
 use Rattle.message.specs.declared.message.VoterBody.{VoterBody}
 use Rattle.message.specs.declared.message.VoterBody.TheVariants as asks
 use Rattle.voter.specs.declared.state.VoterState.{VoterState}
@@ -73,7 +73,8 @@ ran_before x z s later most is =
     let mine : s ≡ x.stamp = omega arith in
     (stamp, is_current_of x s (not_idle _ _ (later.idle (sym stamp)) (current_busy z s is)) mine)
 
-same_members : (x z : ClientState) (cause : requester.Cause) (o : requester.Outcome) → IsSound x → requester.step x cause ≡ Ok o → o.state ≡ z → KeepsQuorum x cause z → z.stamp ≡ x.stamp → members z ≡ members x
+same_members : (x z : ClientState) (cause : requester.Cause) (o : requester.Outcome) → IsSound x → requester.step x cause ≡ Ok o → o.state ≡ z → KeepsQuorum x cause z
+    → z.stamp ≡ x.stamp → members z ≡ members x
 same_members x z (requester.Asks q) o sound taken is keeps same =
     let stamp : x.clock + 1 ≡ z.stamp = ap (λ (p : requester.Outcome). p.state.stamp) (ask-Ok x q o taken) ∙ ap (λ (w : ClientState). w.stamp) is in
     let behind = sound.clock in
@@ -131,9 +132,9 @@ no-locked_by true true x v t g = no-enter_if _ (requester.hold x v g)
 
 no-take_body : (x : ClientState) (v : ℕ) (b : ClientBody) → NoAsks (requester.take_body x v b).out
 unfolding requester.locked requester.failed requester.inquired
-no-take_body x v (tells.Locked t g) = no-locked_by _ _ x v t g
-no-take_body x v (tells.Fail t) = no-failed_by _ x v
-no-take_body x v (tells.Inquire g) = no-inquired_by _ _ x v
+no-take_body x v (to_client.Locked t g) = no-locked_by _ _ x v t g
+no-take_body x v (to_client.Fail t) = no-failed_by _ x v
+no-take_body x v (to_client.Inquire g) = no-inquired_by _ _ x v
 
 no-take : (x : ClientState) (m : ToClient) → NoAsks (requester.take x m).out
 unfolding requester.take
@@ -174,7 +175,8 @@ asked_out x z requester.Leaves o taken is keeps = idle_asked z o.out keeps.1
 asked_out x z requester.GivesUp o taken is keeps = idle_asked z o.out keeps.1
 
 -- messages of one client
-sent_asked : (cs : List ClientState) (x z : ClientState) (cause : requester.Cause) (who : ℕ) (y : ClientState) (out : List ToVoter) → client_at cs who ≡ z → x.id ≡ who → AllSay x cause y out → AllAsked z out → AllByRecursion (AskedAt cs) (map kinds.ToVoter out)
+sent_asked : (cs : List ClientState) (x z : ClientState) (cause : requester.Cause) (who : ℕ) (y : ClientState) (out : List ToVoter) → client_at cs who ≡ z → x.id ≡ who
+    → AllSay x cause y out → AllAsked z out → AllByRecursion (AskedAt cs) (map kinds.ToVoter out)
 sent_asked cs x z cause who y [] is id says all = tt
 sent_asked cs x z cause who y (m ∷ out) is id says all =
     (subst (λ (w : ClientState). AskedBy w m.voter m.body) (sym (ap (client_at cs) (says.0.0 ∙ id) ∙ is)) all.0, sent_asked cs x z cause who y out is id says.1 all.1)
@@ -199,7 +201,8 @@ asked_still who cs ds Y k (kinds.ToVoter m) ok h = elim (cases_eq m.client who) 
   | inr other ↦ subst (λ (w : ClientState). AskedBy w m.voter m.body) (sym (k.others m.client other)) h
 ]
 
-all_still : (who : ℕ) (cs ds : List ClientState) (Y : ℕ → VoterState) → Later who cs ds → (ms : List Message) → AllByRecursion (MessageOk (client_at cs) Y) ms → AllByRecursion (AskedAt cs) ms → AllByRecursion (AskedAt ds) ms
+all_still : (who : ℕ) (cs ds : List ClientState) (Y : ℕ → VoterState) → Later who cs ds → (ms : List Message) → AllByRecursion (MessageOk (client_at cs) Y) ms
+    → AllByRecursion (AskedAt cs) ms → AllByRecursion (AskedAt ds) ms
 all_still who cs ds Y k [] ok h = tt
 all_still who cs ds Y k (m ∷ ms) ok h = (asked_still who cs ds Y k m ok.0 h.0, all_still who cs ds Y k ms ok.1 h.1)
 
@@ -218,23 +221,26 @@ Placed-client laws u x ok now k h =
     record {
       asked = subst (λ ms. AllByRecursion (AskedAt x.clients) ms) (sym k.sent) (AllByRecursion-append (AskedAt x.clients) u.sent _
           (all_still k.who u.clients x.clients (voter_at u.voters) moved u.sent ok.messages h.asked)
-          (sent_asked x.clients old new k.cause k.who k.outcome.state k.outcome.out refl (ok.numbered.clients k.who k.within) contract.out (asked_out old new k.cause k.outcome k.step (sym k.here) quorum)));
-      places = subst (λ (vs : List VoterState). (v c : ℕ) → IsPlaced c (client_at x.clients c) v (voter_at vs v)) (sym k.voters) (λ v c. elim (cases_eq c k.who) as (λ _. IsPlaced c (client_at x.clients c) v (voter_at u.voters v)) [
-        | inl same ↦ subst (λ i. IsPlaced i (client_at x.clients i) v (voter_at u.voters v)) (sym same) (λ s entry is.
-            let before = ran_before old new s later (ok.made v k.who s entry).reached is in
-            ap (λ l. has l v) (moved.same before.0) ∙ h.places v k.who s entry before.1)
-        | inr other ↦ subst (λ (z : ClientState). IsPlaced c z v (voter_at u.voters v)) (sym (k.others c other)) (h.places v c)
-      ]);
+          (sent_asked x.clients old new k.cause k.who k.outcome.state k.outcome.out refl (ok.numbered.clients k.who k.within) contract.out
+          (asked_out old new k.cause k.outcome k.step (sym k.here) quorum)));
+      places = subst (λ (vs : List VoterState). (v c : ℕ) → IsPlaced c (client_at x.clients c) v (voter_at vs v)) (sym k.voters)
+          (λ v c. elim (cases_eq c k.who) as (λ _. IsPlaced c (client_at x.clients c) v (voter_at u.voters v)) [
+            | inl same ↦ subst (λ i. IsPlaced i (client_at x.clients i) v (voter_at u.voters v)) (sym same) (λ s entry is.
+                let before = ran_before old new s later (ok.made v k.who s entry).reached is in
+                ap (λ l. has l v) (moved.same before.0) ∙ h.places v k.who s entry before.1)
+            | inr other ↦ subst (λ (z : ClientState). IsPlaced c z v (voter_at u.voters v)) (sym (k.others c other)) (h.places v c)
+          ]);
       back = subst (λ (vs : List VoterState). (v : ℕ) → AsksBack (voter_at vs v)) (sym k.voters) h.back;
     }
 
 -- ---- a voter moves
 
-told_none : (cs : List ClientState) (rs : List ToClient) → AllByRecursion (AskedAt cs) (map kinds.ToClient rs)
-told_none cs [] = tt
-told_none cs (r ∷ rs) = (tt, told_none cs rs)
+reported_none : (cs : List ClientState) (rs : List ToClient) → AllByRecursion (AskedAt cs) (map kinds.ToClient rs)
+reported_none cs [] = tt
+reported_none cs (r ∷ rs) = (tt, reported_none cs rs)
 
-brought : (cs : List ClientState) (v client c s : ℕ) (b : VoterBody) → AskedBy (client_at cs client) v b → Brings client b c s → is_current (client_at cs c) s ≡ true → is_member (client_at cs c) v ≡ true
+brought : (cs : List ClientState) (v client c s : ℕ) (b : VoterBody) → AskedBy (client_at cs client) v b → Brings client b c s → is_current (client_at cs c) s ≡ true
+    → is_member (client_at cs c) v ≡ true
 brought cs v client c s (asks.Request t) asked brings is =
     subst (λ i. is_member (client_at cs i) v ≡ true) (sym brings.0) (asked (subst (λ i. is_current (client_at cs i) t ≡ true) brings.0 (subst (λ n. is_current (client_at cs c) n ≡ true) brings.1 is)))
 brought cs v client c s (asks.Relinquish g) asked brings is = absurd brings
@@ -242,17 +248,20 @@ brought cs v client c s (asks.Release t) asked brings is = absurd brings
 
 Placed-voter : (laws : TogetherLaws) (u x : WorldState) → VoterMoved u x → Placed u.clients u.voters u.sent → Placed x.clients x.voters x.sent
 Placed-voter laws u x k h = subst (λ (cs : List ClientState). Placed cs x.voters x.sent) (sym k.clients) (record {
-  asked = subst (λ ms. AllByRecursion (AskedAt u.clients) ms) (sym k.sent) (AllByRecursion-append (AskedAt u.clients) u.sent _ h.asked (told_none u.clients k.outcome.replies));
+  asked = subst (λ ms. AllByRecursion (AskedAt u.clients) ms) (sym k.sent) (AllByRecursion-append (AskedAt u.clients) u.sent _ h.asked (reported_none u.clients k.outcome.replies));
   places = λ v c. elim (cases_eq v k.message.voter) as (λ _. IsPlaced c (client_at u.clients c) v (voter_at x.voters v)) [
-    | inl same ↦ subst (λ i. IsPlaced c (client_at u.clients c) i (voter_at x.voters i)) (sym same) (subst (λ (y : VoterState). IsPlaced c (client_at u.clients c) k.message.voter y) (sym k.here) (λ s entry is.
+    | inl same ↦ subst (λ i. IsPlaced c (client_at u.clients c) i (voter_at x.voters i)) (sym same)
+        (subst (λ (y : VoterState). IsPlaced c (client_at u.clients c) k.message.voter y) (sym k.here) (λ s entry is.
         elim ((laws.alone.fitting.voter.meets (voter_at u.voters k.message.voter) k.message k.outcome k.step).entries c s entry) [
           | inl before ↦ h.places k.message.voter c s before is
-          | inr brings ↦ brought u.clients k.message.voter k.message.client c s k.message.body (AllByRecursion-get (AskedAt u.clients) u.sent k.place (kinds.ToVoter k.message) h.asked k.came) brings is
+          | inr brings ↦ brought u.clients k.message.voter k.message.client c s k.message.body
+              (AllByRecursion-get (AskedAt u.clients) u.sent k.place (kinds.ToVoter k.message) h.asked k.came) brings is
         ]))
     | inr other ↦ subst (λ (y : VoterState). IsPlaced c (client_at u.clients c) v y) (sym (k.others v other)) (h.places v c)
   ];
   back = λ v. elim (cases_eq v k.message.voter) as (λ _. AsksBack (voter_at x.voters v)) [
-    | inl same ↦ subst (λ i. AsksBack (voter_at x.voters i)) (sym same) (subst (λ (y : VoterState). AsksBack y) (sym k.here) (laws.back (voter_at u.voters k.message.voter) k.message k.outcome (h.back k.message.voter) k.step))
+    | inl same ↦ subst (λ i. AsksBack (voter_at x.voters i)) (sym same)
+        (subst (λ (y : VoterState). AsksBack y) (sym k.here) (laws.back (voter_at u.voters k.message.voter) k.message k.outcome (h.back k.message.voter) k.step))
     | inr other ↦ subst (λ (y : VoterState). AsksBack y) (sym (k.others v other)) (h.back v)
   ];
 })
@@ -263,7 +272,8 @@ members_said : (z : ClientState) (out : List ToVoter) → RemindersInRange z out
 members_said z [] range = tt
 members_said z (m ∷ out) range = (member_ask z m.voter m.body range.0.0, members_said z out range.1)
 
-repeats_asked : (cs : List ClientState) (x : ClientState) (who : ℕ) (out : List ToVoter) → client_at cs who ≡ x → x.id ≡ who → AllRepeat x out → AllAsked x out → AllByRecursion (AskedAt cs) (map kinds.ToVoter out)
+repeats_asked : (cs : List ClientState) (x : ClientState) (who : ℕ) (out : List ToVoter) → client_at cs who ≡ x → x.id ≡ who → AllRepeat x out → AllAsked x out
+    → AllByRecursion (AskedAt cs) (map kinds.ToVoter out)
 repeats_asked cs x who [] is id says all = tt
 repeats_asked cs x who (m ∷ out) is id says all =
     (subst (λ (w : ClientState). AskedBy w m.voter m.body) (sym (ap (client_at cs) (says.0.0 ∙ id) ∙ is)) all.0, repeats_asked cs x who out is id says.1 all.1)
@@ -277,7 +287,7 @@ reminder_asked laws u ok more said = elim said [
         subst (λ l. AllByRecursion (AskedAt u.clients) (map kinds.ToVoter l)) (sym own.2)
         (repeats_asked u.clients x own.0 (requester.remind x) refl (ok.numbered.clients own.0 own.1) (laws.repeats x) (members_said x (requester.remind x) (laws.in_range x (ok.clients own.0))))
   ])
-  | inr v ↦ subst (λ ms. AllByRecursion (AskedAt u.clients) ms) (sym v.2) (told_none u.clients (voter.remind (voter_at u.voters v.0)))
+  | inr v ↦ subst (λ ms. AllByRecursion (AskedAt u.clients) ms) (sym v.2) (reported_none u.clients (voter.remind (voter_at u.voters v.0)))
 ]
 
 Placed-sent : (laws : TogetherLaws) (u x : WorldState) → IsCoherent u → OnlySent u x → Placed u.clients u.voters u.sent → Placed x.clients x.voters x.sent

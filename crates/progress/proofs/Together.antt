@@ -25,7 +25,7 @@ use Rattle.progress.proofs.Led.{CanGive-led, Here-led, Leads-led, Led, Led-more,
 use Rattle.progress.proofs.Known.{AloneLaws, TogetherLaws}
 use Rattle.progress.proofs.Moves.{with_state}
 use Rattle.progress.proofs.Placed.{Placed-reached}
-use Rattle.progress.proofs.Ways.{Got, Here, Leads, Settled, Stands, asks_again, current_asks, IsReached-run, frees_up, gave_back, gets, has_range, held_some, length_range, request_at}
+use Rattle.progress.proofs.Ways.{Got, Here, Leads, Settled, IsKnown, asks_again, current_asks, IsReached-run, frees_up, gave_back, gets, has_range, held_some, length_range, request_at}
 
 -- ---- one vote
 
@@ -68,9 +68,9 @@ Waits-led p c v n u x a same h = record {
   entry = subst (λ s. IsEntry (voter_at x.voters v) c s) (sym (a.same c).stamp) (subst (λ (y : VoterState). IsEntry y c (client_at u.clients c).stamp) (sym same) h.entry);
 }
 
-stands : (laws : AloneLaws) (p : Planned) (c v : ℕ) (u : WorldState) → Waits p c v u → holds (client_at u.clients c) v ≡ false → (voter_at u.voters v).granted + turns u ≤ (voter_at u.voters v).limit
-    → Stands p c v ((voter_at u.voters v).granted + turns u) (range_with_len 0 (length u.clients)) u
-stands laws p c v u h free left =
+present : (laws : AloneLaws) (p : Planned) (c v : ℕ) (u : WorldState) → Waits p c v u → holds (client_at u.clients c) v ≡ false → (voter_at u.voters v).granted + turns u ≤ (voter_at u.voters v).limit
+    → IsKnown p c v ((voter_at u.voters v).granted + turns u) (range_with_len 0 (length u.clients)) u
+present laws p c v u h free left =
     let ok = laws.fitting.coherent (with_state p u) h.spot.reached in
     let count = length_range 0 (length u.clients) in
     record {
@@ -84,20 +84,22 @@ stands laws p c v u h free left =
     }
 
 -- a grant that its client gave back
-wins_back : (laws : AloneLaws) (p : Planned) (c v d : ℕ) (g : Grant) (u : WorldState) → Waits p c v u → Here p d v u → (voter_at u.voters v).held ≡ Some g → g.client ≡ d → g.stamp ≡ (client_at u.clients d).stamp → g.grant ≤ last_of (client_at u.clients d) v
+wins_back : (laws : AloneLaws) (p : Planned) (c v d : ℕ) (g : Grant) (u : WorldState) → Waits p c v u → Here p d v u → (voter_at u.voters v).held ≡ Some g → g.client ≡ d
+    → g.stamp ≡ (client_at u.clients d).stamp → g.grant ≤ last_of (client_at u.clients d) v
     → (voter_at u.voters v).granted + turns u ≤ (voter_at u.voters v).limit → Wins p c v (only v (turns u)) u
 wins_back laws p c v d g u h there held own stamp few left = elim (holds (client_at u.clients c) v) as (λ b. holds (client_at u.clients c) v ≡ b → Wins p c v (only v (turns u)) u) [
   | true ↦ λ has. inr (record { world = u; led = Led-self (dealing_of p.plans) c (only v (turns u)) u; has = has })
   | false ↦ λ free. wins_by p c v ((voter_at u.voters v).granted + turns u) (turns u) u h.spot.asks (omega arith)
-      (gave_back laws p c v ((voter_at u.voters v).granted + turns u) d (range_with_len 0 (length u.clients)) u (stands laws p c v u h free left) there g held own stamp few)
+      (gave_back laws p c v ((voter_at u.voters v).granted + turns u) d (range_with_len 0 (length u.clients)) u (present laws p c v u h free left) there g held own stamp few)
 ] refl
 
 -- the voter gave no grant to another request that runs
-wins_settled : (laws : AloneLaws) (p : Planned) (c v : ℕ) (u : WorldState) → Waits p c v u → Settled c v u → (voter_at u.voters v).granted + turns u ≤ (voter_at u.voters v).limit → Wins p c v (only v (turns u)) u
+wins_settled : (laws : AloneLaws) (p : Planned) (c v : ℕ) (u : WorldState) → Waits p c v u → Settled c v u → (voter_at u.voters v).granted + turns u ≤ (voter_at u.voters v).limit
+    → Wins p c v (only v (turns u)) u
 wins_settled laws p c v u h settled left = elim (holds (client_at u.clients c) v) as (λ b. holds (client_at u.clients c) v ≡ b → Wins p c v (only v (turns u)) u) [
   | true ↦ λ has. inr (record { world = u; led = Led-self (dealing_of p.plans) c (only v (turns u)) u; has = has })
   | false ↦ λ free. wins_by p c v ((voter_at u.voters v).granted + turns u) (turns u) u h.spot.asks (omega arith)
-      (frees_up laws p c v ((voter_at u.voters v).granted + turns u) (range_with_len 0 (length u.clients)) u (stands laws p c v u h free left) settled)
+      (frees_up laws p c v ((voter_at u.voters v).granted + turns u) (range_with_len 0 (length u.clients)) u (present laws p c v u h free left) settled)
 ] refl
 
 -- what one vote takes, once the request is known: n grants of its voter, and one grant of each voter
@@ -109,7 +111,8 @@ abbrev pub kept_for : ℕ → ℕ → ℕ → ℕ
 kept_for v n r = 2 + only v n r
 
 -- another client has the vote
-wins_from : (laws : TogetherLaws) (p : Planned) (c v d : ℕ) (g : Grant) (u : WorldState) → Waits p c v u → Here p d v u → d ≢ c → (voter_at u.voters v).held ≡ Some g → g.client ≡ d → g.stamp ≡ (client_at u.clients d).stamp → holds (client_at u.clients d) v ≡ true
+wins_from : (laws : TogetherLaws) (p : Planned) (c v d : ℕ) (g : Grant) (u : WorldState) → Waits p c v u → Here p d v u → d ≢ c → (voter_at u.voters v).held ≡ Some g
+    → g.client ≡ d → g.stamp ≡ (client_at u.clients d).stamp → holds (client_at u.clients d) v ≡ true
     → CanGive (kept_for v (turns u)) u → Wins p c v (one_vote v (turns u)) u
 wins_from laws p c v d g u h there apart held own stamp has left =
     let deal = dealing_of p.plans in
@@ -128,7 +131,8 @@ wins_from laws p c v d g u h there apart held own stamp has left =
           let count = grants v (ok.members c v waits.spot.asked) in
           let here = only_here v (turns u) v refl in
           Wins-then p c v one_each (only v (turns x)) (one_vote v (turns u)) u x (λ r. (let only_same = ap (λ n. only v n r) number in omega arith)) led
-          (wins_back laws.alone p c v d g x waits (Here-led p c one_each d v u x led there) (ap (λ (y : VoterState). y.held) same ∙ held) own (stamp ∙ sym (led.same d).stamp) (omega arith) (omega arith))
+          (wins_back laws.alone p c v d g x waits (Here-led p c one_each d v u x led there) (ap (λ (y : VoterState). y.held) same ∙ held) own (stamp ∙ sym (led.same d).stamp)
+          (omega arith) (omega arith))
     ]
 
 -- the request is known
@@ -144,7 +148,8 @@ wins_known laws p c v u h left =
     let d = g.client in
     let z = client_at u.clients d in
     let count = left v (ok.members c v h.spot.asked) in
-    let more : Wins p c v (only v (turns u)) u → Wins p c v (one_vote v (turns u)) u = λ w. Wins-then p c v none (only v (turns u)) (one_vote v (turns u)) u u (λ r. omega arith) (Led-self deal c none u) w in
+    let more : Wins p c v (only v (turns u)) u → Wins p c v (one_vote v (turns u)) u = λ w. Wins-then p c v none (only v (turns u)) (one_vote v (turns u)) u u (λ r. omega arith)
+    (Led-self deal c none u) w in
     elim (is_current z g.stamp) as (λ b. is_current z g.stamp ≡ b → Wins p c v (one_vote v (turns u)) u) [
       | false ↦ λ over. more (wins_settled laws.alone p c v u h (λ l held runs.
           absurd (false≢true (sym over ∙ subst (λ (m : Grant). is_current (client_at u.clients m.client) m.stamp ≡ true) (same_Some l g (sym held ∙ k.1)) runs))) (omega arith))
@@ -169,9 +174,12 @@ wins_known laws p c v u h left =
                       let led = Led-went deal c v 0 u w on.1 (let few = ap (λ (s : VoterState). s.granted) same in omega arith) in
                       let clients = led.clients in
                       let number : turns w ≡ turns u = omega arith in
-                      Wins-then p c v (only v 0) (one_vote v (turns w)) (one_vote v (turns u)) u w (λ r. (let nothing = only_zero v r in let only_same = ap (λ n. only v n r) number in omega arith)) led
-                      (wins_from laws p c v d g w (Waits-led p c v (only v 0) u w led same h) (Here-led p c (only v 0) d v u w led there) apart (ap (λ (s : VoterState). s.held) same ∙ k.1) refl (stamp ∙ sym (led.same d).stamp) on.2
-                      (CanGive-led deal c (only v 0) (kept_for v (turns w)) (kept_for v (turns u)) u w (λ r. (let nothing = only_zero v r in let only_same = ap (λ n. only v n r) number in omega arith)) led left))
+                      Wins-then p c v (only v 0) (one_vote v (turns w)) (one_vote v (turns u)) u w
+                      (λ r. (let nothing = only_zero v r in let only_same = ap (λ n. only v n r) number in omega arith)) led
+                      (wins_from laws p c v d g w (Waits-led p c v (only v 0) u w led same h) (Here-led p c (only v 0) d v u w led there) apart (ap (λ (s : VoterState). s.held) same ∙ k.1) refl
+                      (stamp ∙ sym (led.same d).stamp) on.2
+                      (CanGive-led deal c (only v 0) (kept_for v (turns w)) (kept_for v (turns u)) u w
+                      (λ r. (let nothing = only_zero v r in let only_same = ap (λ n. only v n r) number in omega arith)) led left))
                 ]
               ] refl
             ]
@@ -182,19 +190,20 @@ wins_known laws p c v u h left =
 abbrev pub own_turns : WorldState → ℕ
 own_turns u = 2 + length u.clients
 
-wins : (laws : TogetherLaws) (p : Planned) (c v : ℕ) (u : WorldState) → Here p c v u → Leads u c → holds (client_at u.clients c) v ≡ false → CanGive (kept_for v (own_turns u)) u → Wins p c v (one_vote v (own_turns u)) u
+wins : (laws : TogetherLaws) (p : Planned) (c v : ℕ) (u : WorldState) → Here p c v u → Leads u c → holds (client_at u.clients c) v ≡ false → CanGive (kept_for v (own_turns u)) u
+    → Wins p c v (one_vote v (own_turns u)) u
 wins laws p c v u h leads free left =
     let deal = dealing_of p.plans in
     let ok = laws.alone.fitting.coherent (with_state p u) h.reached in
     let count = left v (ok.members c v h.asked) in
-    let told = asks_again laws.alone p c v u h free (omega arith) in
-    let w = told.world in
-    let led = Led-went deal c v 1 u w told.went told.few in
+    let heard = asks_again laws.alone p c v u h free (omega arith) in
+    let w = heard.world in
+    let led = Led-went deal c v 1 u w heard.went heard.few in
     let clients = led.clients in
     let number : 1 + turns w ≡ own_turns u = omega arith in
     let sum : (r : ℕ) → only v 1 r + only v (turns w) r ≡ only v (own_turns u) r = λ r. only_sum v 1 (turns w) r ∙ ap (λ n. only v n r) number in
     Wins-then p c v (only v 1) (one_vote v (turns w)) (one_vote v (own_turns u)) u w (λ r. (let all = sum r in omega arith)) led
-    (wins_known laws p c v w (record { spot = Here-led p c (only v 1) c v u w led h; leads = Leads-led deal c (only v 1) u w led leads; entry = told.entry })
+    (wins_known laws p c v w (record { spot = Here-led p c (only v 1) c v u w led h; leads = Leads-led deal c (only v 1) u w led leads; entry = heard.entry })
     (CanGive-led deal c (only v 1) (kept_for v (turns w)) (kept_for v (own_turns u)) u w (λ r. (let all = sum r in omega arith)) led left))
 
 -- what the votes of these members take
@@ -234,7 +243,8 @@ record Collects (p : Planned) (c : ℕ) (n : ℕ → ℕ) (vs : List ℕ) (u : W
   led : Led (dealing_of p.plans) c n u world
   all : (v : ℕ) → has vs v ≡ true → is_member (client_at u.clients c) v ≡ true → holds (client_at world.clients c) v ≡ true
 
-collects : (laws : TogetherLaws) (p : Planned) (c k : ℕ) (vs : List ℕ) (u : WorldState) → own_turns u ≡ k → IsReached (with_state p u) → Asks u c → Leads u c → CanGive (and_one k vs) u → Somebody p (budget k vs) u ⊎ Collects p c (budget k vs) vs u
+collects : (laws : TogetherLaws) (p : Planned) (c k : ℕ) (vs : List ℕ) (u : WorldState) → own_turns u ≡ k → IsReached (with_state p u) → Asks u c → Leads u c
+    → CanGive (and_one k vs) u → Somebody p (budget k vs) u ⊎ Collects p c (budget k vs) vs u
 collects laws p c k [] u is r asks leads left = inr (record { world = u; led = Led-self (dealing_of p.plans) c (budget k []) u; all = λ v there. absurd (false≢true there) })
 collects laws p c k (v ∷ vs) u is r asks leads left =
     let deal = dealing_of p.plans in
@@ -242,15 +252,18 @@ collects laws p c k (v ∷ vs) u is r asks leads left =
     let sum : (r : ℕ) → f r + budget k vs r ≤ budget k (v ∷ vs) r = λ r. (let more = budget_more k v r vs in omega arith) in
     let first : (r : ℕ) → f r ≤ budget k (v ∷ vs) r = λ r. (let more = budget_more k v r vs in omega arith) in
     let one : Somebody p f u ⊎ ((x : WorldState) × Led deal c f u x × (is_member (client_at u.clients c) v ≡ true → holds (client_at x.clients c) v ≡ true)) =
-    elim (is_member (client_at u.clients c) v) as (λ b. is_member (client_at u.clients c) v ≡ b → Somebody p f u ⊎ ((x : WorldState) × Led deal c f u x × (is_member (client_at u.clients c) v ≡ true → holds (client_at x.clients c) v ≡ true))) [
+    elim (is_member (client_at u.clients c) v) as (λ b. is_member (client_at u.clients c) v ≡ b → Somebody p f u
+    ⊎ ((x : WorldState) × Led deal c f u x × (is_member (client_at u.clients c) v ≡ true → holds (client_at x.clients c) v ≡ true))) [
       | false ↦ λ none. inr (u, Led-self deal c f u, λ member. absurd (false≢true (sym none ∙ member)))
-      | true ↦ λ member. elim (holds (client_at u.clients c) v) as (λ b. holds (client_at u.clients c) v ≡ b → Somebody p f u ⊎ ((x : WorldState) × Led deal c f u x × (is_member (client_at u.clients c) v ≡ true → holds (client_at x.clients c) v ≡ true))) [
-        | true ↦ λ has. inr (u, Led-self deal c f u, λ _. has)
-        | false ↦ λ free. elim (wins laws p c v u (record { reached = r; client = asks.client; asks = asks.asks; asked = member }) leads free (λ r within. (let count = left r within in let all = first r in let only_same = ap (λ n. only v n r) is in omega arith))) [
-          | inl e ↦ inl (Somebody-more p (one_vote v (own_turns u)) f u (λ r. (let only_same = ap (λ n. only v n r) is in omega arith)) e)
-          | inr won ↦ inr (won.world, Led-more deal c (one_vote v (own_turns u)) f u won.world (λ r. (let only_same = ap (λ n. only v n r) is in omega arith)) won.led, λ _. won.has)
-        ]
-      ] refl
+      | true ↦ λ member. elim (holds (client_at u.clients c) v) as (λ b. holds (client_at u.clients c) v ≡ b → Somebody p f u
+          ⊎ ((x : WorldState) × Led deal c f u x × (is_member (client_at u.clients c) v ≡ true → holds (client_at x.clients c) v ≡ true))) [
+            | true ↦ λ has. inr (u, Led-self deal c f u, λ _. has)
+            | false ↦ λ free. elim (wins laws p c v u (record { reached = r; client = asks.client; asks = asks.asks; asked = member }) leads free
+                (λ r within. (let count = left r within in let all = first r in let only_same = ap (λ n. only v n r) is in omega arith))) [
+                  | inl e ↦ inl (Somebody-more p (one_vote v (own_turns u)) f u (λ r. (let only_same = ap (λ n. only v n r) is in omega arith)) e)
+                  | inr won ↦ inr (won.world, Led-more deal c (one_vote v (own_turns u)) f u won.world (λ r. (let only_same = ap (λ n. only v n r) is in omega arith)) won.led, λ _. won.has)
+                ]
+          ] refl
     ] refl in
     elim one [
       | inl e ↦ inl (Somebody-more p f (budget k (v ∷ vs)) u first e)
@@ -260,7 +273,8 @@ collects laws p c k (v ∷ vs) u is r asks leads left =
           let clients = led.clients in
           let voters = led.voters in
           let reached = subst (λ (z : WorldState). IsReached (with_state p z)) led.run (IsReached-run p led.steps u r) in
-          elim (collects laws p c k vs x (let same : own_turns x ≡ k = omega arith in same) reached (record { client = omega arith; asks = ap is_asking (led.same c).phase ∙ asks.asks }) (Leads-led deal c f u x led leads)
+          elim (collects laws p c k vs x (let same : own_turns x ≡ k = omega arith in same) reached (record { client = omega arith; asks = ap is_asking (led.same c).phase ∙ asks.asks })
+          (Leads-led deal c f u x led leads)
           (CanGive-led deal c f (and_one k vs) (and_one k (v ∷ vs)) u x (λ r. (let all = sum r in omega arith)) led left)) [
             | inl e ↦ inl (Somebody-led p c f (budget k vs) (budget k (v ∷ vs)) u x sum led e)
             | inr rest ↦ inr (record {
@@ -312,46 +326,48 @@ Precedes u c n = (d : ℕ) → d < n → d ≢ c → is_asking (client_at u.clie
 
 first_below : (u : WorldState) (n : ℕ) → ((d : ℕ) → d < n → is_asking (client_at u.clients d).phase ≡ false) ⊎ ((c : ℕ) × (is_asking (client_at u.clients c).phase ≡ true) × Precedes u c n)
 first_below u zero = inl (λ d below. absurd (omega arith))
-first_below u (suc n) = elim (is_asking (client_at u.clients n).phase) as (λ b. is_asking (client_at u.clients n).phase ≡ b → ((d : ℕ) → d < suc n → is_asking (client_at u.clients d).phase ≡ false) ⊎ ((c : ℕ) × (is_asking (client_at u.clients c).phase ≡ true) × Precedes u c (suc n))) [
-  | false ↦ λ quiet. elim (first_below u n) [
-    | inl none ↦ inl (λ d below. elim (cases_eq d n) [
-      | inl same ↦ ap (λ i. is_asking (client_at u.clients i).phase) same ∙ quiet
-      | inr other ↦ none d (omega arith)
-    ])
-    | inr best ↦ inr (
-      best.0,
-      best.1,
-      λ d below other asks. elim (cases_eq d n) [
-        | inl same ↦ absurd (false≢true (sym quiet ∙ ap (λ i. is_asking (client_at u.clients i).phase) (sym same) ∙ asks))
-        | inr unlike ↦ best.2 d (omega arith) other asks
-      ],
-    )
-  ]
-  | true ↦ λ loud. elim (first_below u n) [
-    | inl none ↦ inr (n, loud, λ d below other asks. absurd (false≢true (sym (none d (omega arith)) ∙ asks)))
-    | inr best ↦ elim (cases_eq n best.0) [
-      | inl same ↦ inr (best.0, best.1, λ d below other asks. best.2 d (omega arith) other asks)
-      | inr apart ↦ elim (precedes (request_at u best.0) (request_at u n)) as (λ b. precedes (request_at u best.0) (request_at u n) ≡ b → ((d : ℕ) → d < suc n → is_asking (client_at u.clients d).phase ≡ false) ⊎ ((c : ℕ) × (is_asking (client_at u.clients c).phase ≡ true) × Precedes u c (suc n))) [
-        | true ↦ λ first. inr (
+first_below u (suc n) = elim (is_asking (client_at u.clients n).phase) as (λ b. is_asking (client_at u.clients n).phase ≡ b
+    → ((d : ℕ) → d < suc n → is_asking (client_at u.clients d).phase ≡ false) ⊎ ((c : ℕ) × (is_asking (client_at u.clients c).phase ≡ true) × Precedes u c (suc n))) [
+      | false ↦ λ quiet. elim (first_below u n) [
+        | inl none ↦ inl (λ d below. elim (cases_eq d n) [
+          | inl same ↦ ap (λ i. is_asking (client_at u.clients i).phase) same ∙ quiet
+          | inr other ↦ none d (omega arith)
+        ])
+        | inr best ↦ inr (
           best.0,
           best.1,
           λ d below other asks. elim (cases_eq d n) [
-            | inl same ↦ subst (λ i. precedes (request_at u best.0) (request_at u i) ≡ true) (sym same) first
+            | inl same ↦ absurd (false≢true (sym quiet ∙ ap (λ i. is_asking (client_at u.clients i).phase) (sym same) ∙ asks))
             | inr unlike ↦ best.2 d (omega arith) other asks
           ],
         )
-        | false ↦ λ later. (let ahead = precedes-one (request_at u best.0) (request_at u n) (λ same. apart (sym same)) later in inr (
-          n,
-          loud,
-          λ d below other asks. elim (cases_eq d best.0) [
-            | inl same ↦ subst (λ i. precedes (request_at u n) (request_at u i) ≡ true) (sym same) ahead
-            | inr unlike ↦ precedes-trans (request_at u n) (request_at u best.0) (request_at u d) ahead (best.2 d (omega arith) unlike asks)
-          ],
-        ))
-      ] refl
-    ]
-  ]
-] refl
+      ]
+      | true ↦ λ loud. elim (first_below u n) [
+        | inl none ↦ inr (n, loud, λ d below other asks. absurd (false≢true (sym (none d (omega arith)) ∙ asks)))
+        | inr best ↦ elim (cases_eq n best.0) [
+          | inl same ↦ inr (best.0, best.1, λ d below other asks. best.2 d (omega arith) other asks)
+          | inr apart ↦ elim (precedes (request_at u best.0) (request_at u n)) as (λ b. precedes (request_at u best.0) (request_at u n) ≡ b
+              → ((d : ℕ) → d < suc n → is_asking (client_at u.clients d).phase ≡ false) ⊎ ((c : ℕ) × (is_asking (client_at u.clients c).phase ≡ true) × Precedes u c (suc n))) [
+                | true ↦ λ first. inr (
+                  best.0,
+                  best.1,
+                  λ d below other asks. elim (cases_eq d n) [
+                    | inl same ↦ subst (λ i. precedes (request_at u best.0) (request_at u i) ≡ true) (sym same) first
+                    | inr unlike ↦ best.2 d (omega arith) other asks
+                  ],
+                )
+                | false ↦ λ later. (let ahead = precedes-one (request_at u best.0) (request_at u n) (λ same. apart (sym same)) later in inr (
+                  n,
+                  loud,
+                  λ d below other asks. elim (cases_eq d best.0) [
+                    | inl same ↦ subst (λ i. precedes (request_at u n) (request_at u i) ≡ true) (sym same) ahead
+                    | inr unlike ↦ precedes-trans (request_at u n) (request_at u best.0) (request_at u d) ahead (best.2 d (omega arith) unlike asks)
+                  ],
+                ))
+              ] refl
+        ]
+      ]
+    ] refl
 
 pub asks_within : (u : WorldState) (d : ℕ) → is_asking (client_at u.clients d).phase ≡ true → d < length u.clients
 unfolding client_at
@@ -370,7 +386,8 @@ lets_in laws w c r asks free left =
           leader_gets_in laws w best.0 u r (record { client = asks_within u best.0 best.1; asks = best.1 }) leads left
     ]
 
-pub gets_in : TogetherLaws → (w : Planned) (c : ℕ) → IsReached w → Asks w.state c → IsFree w.state → HasGrants (length w.state.voters + length w.state.clients + 3) w.state → (steps : List Step) × (d : ℕ) × IsWayIn (dealing_of w.plans) w.state d steps
+pub gets_in : TogetherLaws → (w : Planned) (c : ℕ) → IsReached w → Asks w.state c → IsFree w.state → HasGrants (length w.state.voters + length w.state.clients + 3) w.state
+    → (steps : List Step) × (d : ℕ) × IsWayIn (dealing_of w.plans) w.state d steps
 gets_in laws w c r asks free left =
     let one = lets_in laws w c r asks free left in
     (one.enters.steps, one.who, record { helps = one.enters.helps; enters = ap (λ (z : WorldState). z.visible) one.enters.run ∙ one.enters.visible })

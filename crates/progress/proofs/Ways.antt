@@ -1,5 +1,6 @@
 -- the steps by which a client that asks, and precedes the others, gets one vote
-use Rattle.std.proofs.Common.{◌≡◌, ◌≢◌, ℕ, zero, suc, ◌+◌, ◌<◌, ◌≤◌, Bool, true, false, cond, List, [], ◌∷◌, ◌++◌, map, length, set, Option, Some, None, refl, sym, ap, subst, ◌∙◌, ◌⊎◌, inl, inr, arith, eqb, length-append}
+use Rattle.std.proofs.Common.{◌≡◌, ◌≢◌, ℕ, zero, suc, ◌+◌, ◌<◌, ◌≤◌, Bool, true, false, cond, List, [], ◌∷◌, ◌++◌, map, length, set, Option, Some, None, refl, sym, ap, subst, ◌∙◌}
+use Rattle.std.proofs.Common.{◌⊎◌, inl, inr, arith, eqb, length-append}
 use Rattle.std.specs.Prelude.{◌&&◌, ◌||◌, not, nat_lt, ◌==◌, slice_get, slice_index, slice_set}
 use Rattle.std.specs.FinMap.{get}
 use Rattle.std.specs.List.{AllByRecursion, Contains, range_with_len}
@@ -11,7 +12,7 @@ use Rattle.numbers.specs.Sets.{has}
 use Rattle.message.specs.declared.message.Message.TheVariants as kinds
 use Rattle.message.specs.declared.message.ToClient.{ToClient}
 use Rattle.message.specs.declared.message.ToVoter.{ToVoter}
-use Rattle.message.specs.declared.message.ClientBody.TheVariants as tells
+use Rattle.message.specs.declared.message.ClientBody.TheVariants as to_client
 use Rattle.message.specs.declared.message.VoterBody.{VoterBody}
 use Rattle.message.specs.declared.message.VoterBody.TheVariants as asks
 use Rattle.message.specs.declared.request.Request.{Request}
@@ -63,7 +64,7 @@ pub IsReached-run : (p : Planned) (steps : List Step) (u : WorldState) → IsRea
 IsReached-run p [] u r = r
 IsReached-run p (s ∷ steps) u r = IsReached-run p steps _ (IsReached-after (with_state p u) r s)
 
--- the client is as before, but for its clock and more votes
+-- the client is as before, except that its clock is later and it has more votes
 pub record Gains (x y : ClientState) : Type 0 where
   pub phase : y.phase ≡ x.phase
   pub stamp : y.stamp ≡ x.stamp
@@ -80,7 +81,7 @@ Gains-then x y z a b = record { phase = b.phase ∙ a.phase; stamp = b.stamp ∙
 pub Gains-see : (x : ClientState) (n : ℕ) → Gains x (requester.see x n)
 Gains-see x n = record { phase = refl; stamp = refl; quorum = refl; last = λ q. refl; held = λ q h. h }
 
--- helping steps that ask the voter v: each client is as before but for its clock and more votes, and the
+-- helping steps that ask the voter v: each client is as before except for its clock and more votes, and the
 -- other voters are as before
 pub record Went (deal : Dealing) (v : ℕ) (u x : WorldState) : Type 0 where
   pub steps : List Step
@@ -198,7 +199,8 @@ pub record Leads (u : WorldState) (c : ℕ) : Type 0 where
   pub outside : (d : ℕ) → is_inside (client_at u.clients d).phase ≡ false
   pub first : (d : ℕ) → d ≢ c → is_asking (client_at u.clients d).phase ≡ true → precedes (request_at u c) (request_at u d) ≡ true
 
-pub Leads-same : (u x : WorldState) (c : ℕ) → ((d : ℕ) → (client_at x.clients d).phase ≡ (client_at u.clients d).phase) → ((d : ℕ) → (client_at x.clients d).stamp ≡ (client_at u.clients d).stamp) → Leads u c → Leads x c
+pub Leads-same : (u x : WorldState) (c : ℕ) → ((d : ℕ) → (client_at x.clients d).phase ≡ (client_at u.clients d).phase) → ((d : ℕ) → (client_at x.clients d).stamp ≡ (client_at u.clients d).stamp)
+    → Leads u c → Leads x c
 Leads-same u x c phase stamp h = record {
   outside = λ d. ap is_inside (phase d) ∙ h.outside d;
   first = λ d other asks.
@@ -246,7 +248,8 @@ pub record Heard (p : Planned) (c v : ℕ) (u : WorldState) (m : ToVoter) : Type
   pub here : voter_at world.voters v ≡ outcome.state
   pub sent : world.sent ≡ (spoken u c).sent ++ map kinds.ToClient outcome.replies
 
-pub hears : (laws : AloneLaws) (p : Planned) (c v : ℕ) (u : WorldState) → Here p c v u → (body : VoterBody) → Contains (requester.remind (client_at u.clients c)) (requester.tell (client_at u.clients c) v body)
+pub hears : (laws : AloneLaws) (p : Planned) (c v : ℕ) (u : WorldState) → Here p c v u → (body : VoterBody)
+    → Contains (requester.remind (client_at u.clients c)) (requester.tell (client_at u.clients c) v body)
     → (voter_at u.voters v).granted < (voter_at u.voters v).limit → Heard p c v u (requester.tell (client_at u.clients c) v body)
 unfolding spoken
 hears laws p c v u h body there left =
@@ -284,7 +287,7 @@ new-locked_by false d x v t g e f = absurd (false≢true e)
 new-locked_by true false x v t g e f = absurd (false≢true f)
 new-locked_by true true x v t g e f = refl
 
-pub new-take : (x : ClientState) (m : ToClient) (stamp grant : ℕ) → m.body ≡ tells.Locked stamp grant → is_current x stamp ≡ true → requester.is_fresh x m.voter grant ≡ true
+pub new-take : (x : ClientState) (m : ToClient) (stamp grant : ℕ) → m.body ≡ to_client.Locked stamp grant → is_current x stamp ≡ true → requester.is_fresh x m.voter grant ≡ true
     → requester.take x m ≡ requester.enter_if (is_covered (requester.hold (requester.see x m.seen) m.voter grant)) (requester.hold (requester.see x m.seen) m.voter grant)
 unfolding requester.take requester.locked
 new-take x m stamp grant is current fresh = ap (requester.take_body (requester.see x m.seen) m.voter) is ∙ new-locked_by _ _ (requester.see x m.seen) m.voter stamp grant current fresh
@@ -306,7 +309,8 @@ Gains-hold x n v g some within = record {
 
 -- the client gets in, or has the vote of this voter, and all voters are as before
 abbrev pub Gets : Planned → ℕ → ℕ → WorldState → Type 0
-Gets p c v u = EntersAt (dealing_of p.plans) c v (voter_at u.voters v).granted u ⊎ ((x : WorldState) × Went (dealing_of p.plans) v u x × (holds (client_at x.clients c) v ≡ true) × (x.voters ≡ u.voters))
+Gets p c v u = EntersAt (dealing_of p.plans) c v (voter_at u.voters v).granted u
+    ⊎ ((x : WorldState) × Went (dealing_of p.plans) v u x × (holds (client_at x.clients c) v ≡ true) × (x.voters ≡ u.voters))
 
 pub current_is : (x : ClientState) (s : ℕ) → is_asking x.phase ≡ true → s ≡ x.stamp → is_current x s ≡ true
 current_is x s asks same = by_phase x.phase (let e : (s == x.stamp) ≡ true = grind (arith, nat_tests) in e) asks
@@ -319,7 +323,8 @@ current_is x s asks same = by_phase x.phase (let e : (s == x.stamp) ≡ true = g
 pub fresh_is : (x : ClientState) (v g : ℕ) → is_member x v ≡ true → holds x v ≡ false → last_of x v < g → requester.is_fresh x v g ≡ true
 fresh_is x v g member free newer = grind (arith, nat_tests)
 
-pub gets : (laws : AloneLaws) (p : Planned) (c v : ℕ) (u : WorldState) → Here p c v u → holds (client_at u.clients c) v ≡ false → (g : Grant) → (voter_at u.voters v).held ≡ Some g → g.client ≡ c → g.stamp ≡ (client_at u.clients c).stamp
+pub gets : (laws : AloneLaws) (p : Planned) (c v : ℕ) (u : WorldState) → Here p c v u → holds (client_at u.clients c) v ≡ false → (g : Grant) → (voter_at u.voters v).held ≡ Some g
+    → g.client ≡ c → g.stamp ≡ (client_at u.clients c).stamp
     → last_of (client_at u.clients c) v < g.grant → Gets p c v u
 unfolding reminded
 gets laws p c v u h free g held own same newer =
@@ -329,11 +334,12 @@ gets laws p c v u h free g held own same newer =
     let y = voter_at u.voters v in
     let within = ok.members c v h.asked in
     let id : y.id ≡ v = ok.numbered.voters v within in
-    let m : ToClient = record { voter = v; client = c; seen = y.seen; body = tells.Locked g.stamp g.grant } in
-    let is : voter.reply y g.client (tells.Locked g.stamp g.grant) ≡ m = λ i. record { voter = id i; client = own i; seen = y.seen; body = tells.Locked g.stamp g.grant } in
+    let m : ToClient = record { voter = v; client = c; seen = y.seen; body = to_client.Locked g.stamp g.grant } in
+    let is : voter.reply y g.client (to_client.Locked g.stamp g.grant) ≡ m = λ i. record { voter = id i; client = own i; seen = y.seen; body = to_client.Locked g.stamp g.grant } in
     let more = laws.returns.repeats y g held in
     let next : slice_get (reminded u v).sent (length u.sent) ≡ Some (kinds.ToClient m) =
-    ap (λ rs. slice_get (u.sent ++ map kinds.ToClient rs) (length u.sent)) more ∙ get_next u.sent (kinds.ToClient (voter.reply y g.client (tells.Locked g.stamp g.grant))) _ ∙ ap (λ (n : ToClient). Some (kinds.ToClient n)) is in
+    ap (λ rs. slice_get (u.sent ++ map kinds.ToClient rs) (length u.sent)) more ∙ get_next u.sent (kinds.ToClient (voter.reply y g.client (to_client.Locked g.stamp g.grant))) _
+    ∙ ap (λ (n : ToClient). Some (kinds.ToClient n)) is in
     let k = requester.hold (requester.see x y.seen) v g.grant in
     let take = new-take x m g.stamp g.grant refl (current_is x g.stamp h.asks same) (fresh_is x v g.grant h.asked free newer) in
     let run : run_of deal (RemindVoter v ∷ Deliver (length u.sent) ∷ []) u ≡ (client_did (reminded u v) c (requester.enter_if (is_covered k) k)).state =
@@ -413,15 +419,22 @@ comes laws p c v u h g lost =
       went = record {
         steps = reminder_and_two v (length u.sent) second;
         helps = (tt, (omega arith, (omega (arith, length-append u.sent (map kinds.ToClient (voter.remind y))), tt)));
-        run = ap (λ (z : WorldState). after (after z (step deal z (Deliver (length u.sent)))) (step deal (after z (step deal z (Deliver (length u.sent)))) (Deliver second))) (after-remind_voter deal u v lost.voter)
+        run = ap (λ (z : WorldState). after (after z (step deal z (Deliver (length u.sent)))) (step deal (after z (step deal z (Deliver (length u.sent)))) (Deliver second)))
+            (after-remind_voter deal u v lost.voter)
             ∙ ap (λ (z : WorldState). after z (step deal z (Deliver second))) (after-answer laws.returns deal u v g lost)
             ∙ after-release laws.returns deal u v g o takes;
-        sent = omega (arith, length-append u.sent (map kinds.ToClient (voter.remind y)), length-append (reminded u v).sent (map kinds.ToVoter (m ∷ [])), length-append (answered u v g).sent (map kinds.ToClient o.replies));
+        sent = omega (
+          arith,
+          length-append u.sent (map kinds.ToClient (voter.remind y)),
+          length-append (reminded u v).sent (map kinds.ToVoter (m ∷ [])),
+          length-append (answered u v g).sent (map kinds.ToClient o.replies),
+        );
         visible = append-nil u.visible;
         clients = length-set u.clients g.client seen;
         voters = length-set u.voters y.id o.state;
         gains = λ d. elim (cases_eq d g.client) [
-          | inl one ↦ subst (λ i. Gains (client_at u.clients i) (client_at (set u.clients g.client seen) i)) (sym one) (subst (λ (z : ClientState). Gains (client_at u.clients g.client) z) (sym (client_here u.clients g.client seen client)) (Gains-see (client_at u.clients g.client) y.seen))
+          | inl one ↦ subst (λ i. Gains (client_at u.clients i) (client_at (set u.clients g.client seen) i)) (sym one)
+              (subst (λ (z : ClientState). Gains (client_at u.clients g.client) z) (sym (client_here u.clients g.client seen client)) (Gains-see (client_at u.clients g.client) y.seen))
           | inr other ↦ subst (λ (z : ClientState). Gains (client_at u.clients d) z) (sym (client_others u.clients g.client seen d other)) (Gains-self (client_at u.clients d))
         ];
         others = λ q other. voter_others u.voters y.id o.state q (λ e. other (e ∙ id));
@@ -439,7 +452,8 @@ remove_from d (x ∷ xs) = cond (eqb x d) (remove_from d xs) (x ∷ remove_from 
 pub shorter_or_same : (d : ℕ) (l : List ℕ) → length (remove_from d l) ≤ length l
 unfolding remove_from
 shorter_or_same d [] = omega arith
-shorter_or_same d (x ∷ xs) = (let rest = shorter_or_same d xs in elim (eqb x d) as (λ b. length (cond b (remove_from d xs) (x ∷ remove_from d xs)) ≤ suc (length xs)) [ true ↦ omega arith | false ↦ omega arith ])
+shorter_or_same d (x ∷ xs) = (let rest = shorter_or_same d xs in elim (eqb x d) as (λ b. length (cond b (remove_from d xs) (x ∷ remove_from d xs)) ≤ suc (length xs))
+    [ true ↦ omega arith | false ↦ omega arith ])
 
 pub shorter : (d : ℕ) (l : List ℕ) → has l d ≡ true → length (remove_from d l) < length l
 unfolding remove_from
@@ -486,7 +500,8 @@ Got-after p c v top u x a got = elim got [
 ]
 
 -- either the client has the vote, or the rest does it
-pub got_or : (p : Planned) (c v top : ℕ) (u x : WorldState) → Went (dealing_of p.plans) v u x → (voter_at x.voters v).granted ≤ top → (holds (client_at x.clients c) v ≡ false → Got p c v top x) → Got p c v top u
+pub got_or : (p : Planned) (c v top : ℕ) (u x : WorldState) → Went (dealing_of p.plans) v u x → (voter_at x.voters v).granted ≤ top → (holds (client_at x.clients c) v ≡ false → Got p c v top x)
+    → Got p c v top u
 got_or p c v top u x a few rest = elim (holds (client_at x.clients c) v) as (λ b. holds (client_at x.clients c) v ≡ b → Got p c v top u) [
   | true ↦ λ has. inr (x, a, has, few)
   | false ↦ λ free. Got-after p c v top u x a (rest free)
@@ -548,7 +563,8 @@ current_asks u c d s leads is = asks_by (client_at u.clients d).phase (current_b
 
 -- A grant that is new goes to the client, if its request is known and the grant is for a request that runs.
 pub new_is_own : (laws : AloneLaws) (c : ℕ) (y : VoterState) (m : ToVoter) (o : voter.Outcome) (x : WorldState) (k : Grant) → voter.IsSound y → voter.step y m ≡ Some o → Leads x c
-    → IsEntry y c (client_at x.clients c).stamp → IsEntry o.state c (client_at x.clients c).stamp → o.state.held ≡ Some k → y.granted < k.grant → is_current (client_at x.clients k.client) k.stamp ≡ true → k.client ≡ c
+    → IsEntry y c (client_at x.clients c).stamp → IsEntry o.state c (client_at x.clients c).stamp → o.state.held ≡ Some k → y.granted < k.grant
+    → is_current (client_at x.clients k.client) k.stamp ≡ true → k.client ≡ c
 new_is_own laws c y m o x k ok step leads before after held newer runs = elim (cases_eq k.client c) [
   | inl own ↦ own
   | inr other ↦
@@ -556,12 +572,13 @@ new_is_own laws c y m o x k ok step leads before after held newer runs = elim (c
       let waits = entry_waits o.state c s k after held other in
       let behind = laws.fitting.voter.first y m o k c s ok step held newer before waits in
       let asks = current_asks x c k.client k.stamp leads runs in
-      let ahead = subst (λ t. precedes (request_at x c) (record { stamp = t; client = k.client }) ≡ true) (sym (current_stamp (client_at x.clients k.client) k.stamp runs)) (leads.first k.client other asks) in
+      let ahead = subst (λ t. precedes (request_at x c) (record { stamp = t; client = k.client }) ≡ true) (sym (current_stamp (client_at x.clients k.client) k.stamp runs))
+      (leads.first k.client other asks) in
       absurd (false≢true (sym behind ∙ ahead))
 ]
 
 -- The request is known. The other requests that are known and over are of clients in this list.
-pub record Stands (p : Planned) (c v top : ℕ) (alive : List ℕ) (u : WorldState) : Type 0 where
+pub record IsKnown (p : Planned) (c v top : ℕ) (alive : List ℕ) (u : WorldState) : Type 0 where
   pub spot : Here p c v u
   pub leads : Leads u c
   pub free : holds (client_at u.clients c) v ≡ false
@@ -585,7 +602,8 @@ pub record Ready (p : Planned) (c v top : ℕ) (alive : List ℕ) (u : WorldStat
   pub left : (voter_at u.voters v).granted + length alive ≤ top
   pub room : top ≤ (voter_at u.voters v).limit
 
-pub Ready-back : (laws : AloneLaws) (p : Planned) (c v top : ℕ) (alive : List ℕ) (u : WorldState) → Ready p c v top alive u → (g : Grant) → (voter_at u.voters v).held ≡ Some g → is_current (client_at u.clients g.client) g.stamp ≡ false → has alive g.client ≡ true
+pub Ready-back : (laws : AloneLaws) (p : Planned) (c v top : ℕ) (alive : List ℕ) (u : WorldState) → Ready p c v top alive u → (g : Grant) → (voter_at u.voters v).held ≡ Some g
+    → is_current (client_at u.clients g.client) g.stamp ≡ false → has alive g.client ≡ true
     → (back : Returned p v u g) → holds (client_at back.world.clients c) v ≡ false → Ready p c v top (remove_from g.client alive) back.world
 Ready-back laws p c v top alive u r g held over there back free =
     let x = back.world in
@@ -600,28 +618,33 @@ Ready-back laws p c v top alive u r g held over there back free =
     let left = r.left in
     let leads = Leads-went (dealing_of p.plans) c v u x back.went r.leads in
     let ends : (s : ℕ) → IsEntry o.state g.client s → ⊥ = laws.returns.ends y m o g g.stamp (ok.voters v) held back.own refl (omega arith) back.step in
-    let other : g.client ≢ c = λ own. false≢true (sym (ap (λ d. is_current (client_at u.clients d) g.stamp) (sym own) ∙ over) ∙ current_is (client_at u.clients c) g.stamp r.spot.asks (own_stamp y c own_stamp_of g (ok.voters v) r.entry held own)) in
+    let other : g.client ≢ c = λ own. false≢true (sym (ap (λ d. is_current (client_at u.clients d) g.stamp) (sym own) ∙ over)
+    ∙ current_is (client_at u.clients c) g.stamp r.spot.asks (own_stamp y c own_stamp_of g (ok.voters v) r.entry held own)) in
     let entry : IsEntry o.state c own_stamp_of = elim (laws.returns.stays y m o c own_stamp_of (ok.voters v) back.step r.entry) [
       | inl stays ↦ stays
       | inr finishes ↦ absurd (other (sym (finishes.0 ∙ back.own)))
     ] in
-    let runs : (d s : ℕ) → is_current (client_at x.clients d) s ≡ is_current (client_at u.clients d) s = λ d s. current_same (client_at u.clients d) (client_at x.clients d) s (back.went.gains d).phase (back.went.gains d).stamp in
+    let runs : (d s : ℕ) → is_current (client_at x.clients d) s ≡ is_current (client_at u.clients d) s = λ d s. current_same (client_at u.clients d) (client_at x.clients d) s
+    (back.went.gains d).phase (back.went.gains d).stamp in
     record {
       spot = Here-went p c v v u x back.went r.spot;
       leads = leads;
       free = free;
       entry = subst (λ s. IsEntry (voter_at x.voters v) c s) (sym gains.stamp) (subst (λ (z : VoterState). IsEntry z c own_stamp_of) (sym back.here) entry);
-      covers = subst (λ (z : VoterState). (d s : ℕ) → IsEntry z d s → is_current (client_at x.clients d) s ≡ false → has (remove_from g.client alive) d ≡ true) (sym back.here) (λ d s is past. elim (cases_eq d g.client) [
-        | inl same ↦ absurd (ends s (subst (λ i. IsEntry o.state i s) same is))
-        | inr unlike ↦ still_there g.client d alive unlike (r.covers d s (less.known d s unlike is) (sym (runs d s) ∙ past))
-      ]);
-      settled = subst (λ (z : VoterState). (k : Grant) → z.held ≡ Some k → is_current (client_at x.clients k.client) k.stamp ≡ true → (k.client ≡ c) × (last_of (client_at x.clients c) v < k.grant)) (sym back.here) (λ k has now.
+      covers = subst (λ (z : VoterState). (d s : ℕ) → IsEntry z d s → is_current (client_at x.clients d) s ≡ false → has (remove_from g.client alive) d ≡ true) (sym back.here)
+          (λ d s is past. elim (cases_eq d g.client) [
+            | inl same ↦ absurd (ends s (subst (λ i. IsEntry o.state i s) same is))
+            | inr unlike ↦ still_there g.client d alive unlike (r.covers d s (less.known d s unlike is) (sym (runs d s) ∙ past))
+          ]);
+      settled = subst (λ (z : VoterState). (k : Grant) → z.held ≡ Some k → is_current (client_at x.clients k.client) k.stamp ≡ true → (k.client ≡ c)
+          × (last_of (client_at x.clients c) v < k.grant)) (sym back.here) (λ k has now.
           let last = ((Fits-reached laws.fitting (with_state p u) r.spot.reached).pairs c v).last in
           let same = gains.last v in
           elim (grant_moves _ y o.state k (laws.fitting.voter.numbers y m o (ok.voters v) back.step) has) [
             | inl was ↦ absurd (ends k.stamp (inl (k, has, ap (λ (n : Grant). n.client) (same_Some k g (sym was ∙ held)), refl)))
             | inr next ↦ (
-              new_is_own laws c y m o x k (ok.voters v) back.step leads (subst (λ s. IsEntry y c s) (sym gains.stamp) r.entry) (subst (λ s. IsEntry o.state c s) (sym gains.stamp) entry) has (omega arith) now,
+              new_is_own laws c y m o x k (ok.voters v) back.step leads (subst (λ s. IsEntry y c s) (sym gains.stamp) r.entry)
+                  (subst (λ s. IsEntry o.state c s) (sym gains.stamp) entry) has (omega arith) now,
               omega arith,
             )
           ]);
@@ -629,7 +652,8 @@ Ready-back laws p c v top alive u r g held over there back free =
       room = subst (λ n. top ≤ n) (sym back.went.limit) r.room;
     }
 
-pub look : (laws : AloneLaws) (p : Planned) (c v top : ℕ) (alive : List ℕ) (u : WorldState) → Ready p c v top alive u → ((rest : List ℕ) (x : WorldState) → length rest < length alive → Ready p c v top rest x → Got p c v top x) → Got p c v top u
+pub look : (laws : AloneLaws) (p : Planned) (c v top : ℕ) (alive : List ℕ) (u : WorldState) → Ready p c v top alive u
+    → ((rest : List ℕ) (x : WorldState) → length rest < length alive → Ready p c v top rest x → Got p c v top x) → Got p c v top u
 look laws p c v top alive u r again =
     let y = voter_at u.voters v in
     let ok = laws.fitting.coherent (with_state p u) r.spot.reached in
@@ -647,19 +671,30 @@ look laws p c v top alive u r again =
           let back = comes laws p c v u r.spot g.0 lost in
           let less = Less-step laws g.0.client y (answer u v g.0) back.outcome (ok.voters v) back.own back.step in
           let few = less.few in
-          got_or p c v top u back.world back.went (subst (λ (z : VoterState). z.granted ≤ top) (sym back.here) (omega arith)) (λ free. again (remove_from g.0.client alive) back.world short (Ready-back laws p c v top alive u r g.0 g.1 over there back free))
+          got_or p c v top u back.world back.went (subst (λ (z : VoterState). z.granted ≤ top) (sym back.here) (omega arith))
+          (λ free. again (remove_from g.0.client alive) back.world short (Ready-back laws p c v top alive u r g.0 g.1 over there back free))
     ] refl
 
 pub frees : (laws : AloneLaws) (p : Planned) (c v top fuel : ℕ) (alive : List ℕ) (u : WorldState) → length alive ≤ fuel → Ready p c v top alive u → Got p c v top u
 frees laws p c v top zero alive u most r = look laws p c v top alive u r (λ rest x less ready. absurd (omega arith))
 frees laws p c v top (suc n) alive u most r = look laws p c v top alive u r (λ rest x less ready. frees laws p c v top n rest x (omega arith) ready)
 
-pub frees_up : (laws : AloneLaws) (p : Planned) (c v top : ℕ) (alive : List ℕ) (u : WorldState) → Stands p c v top alive u → Settled c v u → Got p c v top u
+pub frees_up : (laws : AloneLaws) (p : Planned) (c v top : ℕ) (alive : List ℕ) (u : WorldState) → IsKnown p c v top alive u → Settled c v u → Got p c v top u
 frees_up laws p c v top alive u k settled =
-    frees laws p c v top (length alive) alive u (omega arith) (record { spot = k.spot; leads = k.leads; free = k.free; entry = k.entry; covers = k.covers; settled = settled; left = (let left = k.left in omega arith); room = k.room })
+    frees laws p c v top (length alive) alive u (omega arith) (record {
+      spot = k.spot;
+      leads = k.leads;
+      free = k.free;
+      entry = k.entry;
+      covers = k.covers;
+      settled = settled;
+      left = (let left = k.left in omega arith);
+      room = k.room;
+    })
 
 -- a grant that its client, which asks, gave back
-pub gave_back : (laws : AloneLaws) (p : Planned) (c v top d : ℕ) (alive : List ℕ) (u : WorldState) → Stands p c v top alive u → Here p d v u → (g : Grant) → (voter_at u.voters v).held ≡ Some g → g.client ≡ d → g.stamp ≡ (client_at u.clients d).stamp
+pub gave_back : (laws : AloneLaws) (p : Planned) (c v top d : ℕ) (alive : List ℕ) (u : WorldState) → IsKnown p c v top alive u → Here p d v u → (g : Grant)
+    → (voter_at u.voters v).held ≡ Some g → g.client ≡ d → g.stamp ≡ (client_at u.clients d).stamp
     → g.grant ≤ last_of (client_at u.clients d) v → Got p c v top u
 gave_back laws p c v top d alive u k there g held own stamp few =
     let ok = laws.fitting.coherent (with_state p u) there.reached in
@@ -701,12 +736,16 @@ gave_back laws p c v top d alive u k there g held own stamp few =
       entry = subst (λ t. IsEntry (voter_at z.voters v) c t) (sym gains.stamp) (subst (λ (w : VoterState). IsEntry w c s) (sym heard.here) entry);
       covers = subst (λ (w : VoterState). (e t : ℕ) → IsEntry w e t → is_current (client_at z.clients e) t ≡ false → has alive e ≡ true) (sym heard.here) (λ e t is past.
           k.covers e t (known e t is) (sym (current_same (client_at u.clients e) (client_at z.clients e) t (heard.went.gains e).phase (heard.went.gains e).stamp) ∙ past));
-      settled = subst (λ (w : VoterState). (h : Grant) → w.held ≡ Some h → is_current (client_at z.clients h.client) h.stamp ≡ true → (h.client ≡ c) × (last_of (client_at z.clients c) v < h.grant)) (sym heard.here) (λ h now runs.
+      settled = subst (λ (w : VoterState). (h : Grant) → w.held ≡ Some h → is_current (client_at z.clients h.client) h.stamp ≡ true → (h.client ≡ c)
+          × (last_of (client_at z.clients c) v < h.grant)) (sym heard.here) (λ h now runs.
           let same = ap (λ (n : Grant). n.grant) (same_Some new.grant h (sym new.held ∙ now)) in
           let number = new.number in
           let last = (fits.pairs c v).last in
-          let kept = gains.last v in
-          (new_is_own laws c y m o z h (ok.voters v) heard.step leads (subst (λ t. IsEntry y c t) (sym gains.stamp) k.entry) (subst (λ t. IsEntry o.state c t) (sym gains.stamp) entry) now (omega arith) runs, omega arith));
+          let kept = gains.last v in (
+            new_is_own laws c y m o z h (ok.voters v) heard.step leads (subst (λ t. IsEntry y c t) (sym gains.stamp) k.entry) (subst (λ t. IsEntry o.state c t) (sym gains.stamp) entry) now
+                (omega arith) runs,
+            omega arith,
+          ));
       left = subst (λ (w : VoterState). w.granted + length alive ≤ top) (sym heard.here) (omega arith);
       room = subst (λ n. top ≤ n) (sym heard.went.limit) k.room;
     }))
@@ -720,7 +759,8 @@ pub record Requested (p : Planned) (c v : ℕ) (u : WorldState) : Type 0 where
   pub entry : IsEntry (voter_at world.voters v) c (client_at world.clients c).stamp
   pub few : (voter_at world.voters v).granted ≤ (voter_at u.voters v).granted + 1
 
-pub asks_again : (laws : AloneLaws) (p : Planned) (c v : ℕ) (u : WorldState) → Here p c v u → holds (client_at u.clients c) v ≡ false → (voter_at u.voters v).granted < (voter_at u.voters v).limit → Requested p c v u
+pub asks_again : (laws : AloneLaws) (p : Planned) (c v : ℕ) (u : WorldState) → Here p c v u → holds (client_at u.clients c) v ≡ false → (voter_at u.voters v).granted < (voter_at u.voters v).limit
+    → Requested p c v u
 asks_again laws p c v u h free left =
     let ok = laws.fitting.coherent (with_state p u) h.reached in
     let x = client_at u.clients c in

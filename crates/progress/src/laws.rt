@@ -11,7 +11,7 @@ ghost use Rattle.world.specs.Steps.{Planned, dealing_of};
 
 use requester::{
     clocks_never_fall, hindered_clients_give_votes_back, messages_are_in_range,
-    messages_move_votes, old_votes_go_back, phases_tell_refusals, phases_tell_votes,
+    messages_move_votes, old_votes_go_back, phases_show_refusals, phases_show_votes,
     reminders_ask_again, requesters_meet_the_contract, votes_given_back_are_marked,
 };
 use voter::{
@@ -34,8 +34,8 @@ pub fn nobody_overtakes_often()
 {
     requesters_meet_the_contract();
     clocks_never_fall();
-    phases_tell_votes();
-    phases_tell_refusals();
+    phases_show_votes();
+    phases_show_refusals();
     voters_meet_the_contract();
     grants_are_numbered();
     replies_carry_what_was_seen();
@@ -72,8 +72,8 @@ pub fn returned_votes_go_on()
 {
     requesters_meet_the_contract();
     clocks_never_fall();
-    phases_tell_votes();
-    phases_tell_refusals();
+    phases_show_votes();
+    phases_show_refusals();
     votes_given_back_are_marked();
     reminders_ask_again();
     voters_meet_the_contract();
@@ -98,8 +98,8 @@ pub fn who_asks_alone_gets_in()
 {
     requesters_meet_the_contract();
     clocks_never_fall();
-    phases_tell_votes();
-    phases_tell_refusals();
+    phases_show_votes();
+    phases_show_refusals();
     votes_given_back_are_marked();
     old_votes_go_back();
     reminders_ask_again();
@@ -129,8 +129,8 @@ pub fn somebody_can_enter()
 {
     requesters_meet_the_contract();
     clocks_never_fall();
-    phases_tell_votes();
-    phases_tell_refusals();
+    phases_show_votes();
+    phases_show_refusals();
     votes_given_back_are_marked();
     old_votes_go_back();
     reminders_ask_again();
@@ -164,8 +164,8 @@ pub fn everybody_can_enter()
 {
     requesters_meet_the_contract();
     clocks_never_fall();
-    phases_tell_votes();
-    phases_tell_refusals();
+    phases_show_votes();
+    phases_show_refusals();
     votes_given_back_are_marked();
     old_votes_go_back();
     reminders_ask_again();

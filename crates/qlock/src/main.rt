@@ -1,28 +1,34 @@
 //! The program `qlock`: plans of coteries, and the lock that they serve, from the command line.
 //!
-//! The crate `qlock_cli` reads the words and serves the command. The crate `host` takes the words from
-//! the system. It turns the result of the command into an exit status, and into a fault's line or
-//! a text about usage on standard error.
+//! The crate `qlock_cli` reads the words and serves the command. The crate `host` takes the words and
+//! the files from the system. It turns the result of the command into an exit status, and into a
+//! fault's line or a text about usage on standard error.
 #![tactic(auto)]
 
-ghost use Rattle.qlock_cli.specs.Commands.{IsInRange};
+ghost use Rattle.commands.specs.Commands.{IsInRange};
 
-use host::{refuse_words, report, words_of};
+use host::{command_line_of, read_files, refuse_words, report, report_unread};
 use qlock_cli::{
     Command, NoGate, Usage, Watched, execute, execute_run, named_commands_are_in_range, read_words,
 };
 use std::io;
+use std::io::Read;
 use std::process::ExitCode;
 use std::sync::Wait;
 use std::thread::Threads;
 use std::time::Clock;
 
-/// Serves the command over standard input and output. Returns the exit status. `threads` is the
+/// Serves the command over an input, and standard output. Returns the exit status. `threads` is the
 /// runtime again: it starts the threads.
-fn serve<T: Threads + Wait + Clock + Sync>(rt: &HostRuntime, threads: &T, command: &Command) -> u8
+fn serve_input<R: Read + Drop, T: Threads + Wait + Clock + Sync>(
+    rt: &HostRuntime,
+    threads: &T,
+    command: &Command,
+    input: R,
+) -> u8
     requires in_range { IsInRange command.now }
 {
-    let mut reader = Watched::of(rt.reader());
+    let mut reader = Watched::of(input);
     let mut writer = Watched::of(io::writer(rt));
     let served = match command {
         Command::Run { .. } => {
@@ -40,12 +46,31 @@ fn serve<T: Threads + Wait + Clock + Sync>(rt: &HostRuntime, threads: &T, comman
     report(rt, &served)
 }
 
+/// Serves the command over these files, or over standard input if there are none. Returns the exit
+/// status.
+fn serve<T: Threads + Wait + Clock + Sync>(
+    rt: &HostRuntime,
+    threads: &T,
+    command: &Command,
+    files: &[String],
+) -> u8
+    requires in_range { IsInRange command.now }
+{
+    if files.is_empty() {
+        return serve_input(rt, threads, command, rt.reader());
+    }
+    match read_files(rt, files) {
+        Ok(input) => serve_input(rt, threads, command, input.as_slice()),
+        Err(unread) => report_unread(rt, &unread),
+    }
+}
+
 /// Serves the command that the words of the command line name. Returns the exit status.
 fn run<T: Threads + Wait + Clock + Sync>(rt: &HostRuntime, threads: &T) -> Result<u8, Usage> {
     named_commands_are_in_range();
-    let words = words_of(rt)?;
-    let command = read_words(rt.alloc(), words.as_slice())?;
-    Ok(serve(rt, threads, &command))
+    let line = command_line_of(rt)?;
+    let command = read_words(rt.alloc(), line.words.as_slice())?;
+    Ok(serve(rt, threads, &command, line.files.as_slice()))
 }
 
 fn main(rt: HostRuntime) -> ExitCode {

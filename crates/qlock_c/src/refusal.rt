@@ -16,15 +16,15 @@ pub enum Refusal {
     BadMessage,
     /// `out` is too short for the lines.
     NoRoom,
-    /// C1: the client is asking already, or is inside.
+    /// The client is asking already, or is inside.
     Busy,
-    /// C2: the client is not inside.
+    /// The client is not inside.
     NotInside,
-    /// C3: the client is not asking.
+    /// The client is not asking.
     NotAsking,
-    /// C4: the client's clock is at the limit, so no stamp is left for a request.
+    /// The client's clock is at the limit, so no stamp is left for a request.
     StampsSpent,
-    /// V1: the message needs a new grant, and none is left within the limit.
+    /// The message needs a new grant, and none is left within the limit.
     GrantsSpent,
     /// The pass shows an older grant than the guard saw before.
     OlderGrant,

@@ -1,5 +1,1 @@
-pub mod CommandLemmas
-pub mod DealingLemmas
-pub mod ExecuteLemmas
-pub mod PartLemmas
-pub mod TextLemmas
+mod RunLemmas

@@ -1,24 +1,16 @@
-//! The commands of the program `qlock`: what each writes for its input.
+//! The commands of the program `qlock`, with the command `run`.
 //!
 //! [`read_words`] reads the words of a command line. [`execute`] then serves a [`Command`] over a
 //! reader and a writer, and [`execute_run`] serves the command `run`, whose clients work in
-//! threads. Each reads the whole input, makes the whole output, and only then writes it. The reader
-//! and the writer are [`Watched`], so a caller sees which of them failed.
-//!
-//! The module `parts` splits the input, `answer` makes the output, `dealing` draws its tickets, and
-//! `lines` makes its lines.
+//! threads. All but `execute_run` is of the crate `commands`, which says what each command writes.
 //!
 //! # What is proved
 //!
-//! What is written is a stated function of what was read. For `plan` it is the text of an optimal
-//! plan of the coterie that was read. For `run` it is the text of the record of a run, as the crate
-//! `runs` promises. A [`Fault`] comes only for an input with this fault, for a device that failed,
-//! or if memory ran out. A fault other than a failed write writes nothing. After a failed write a
-//! beginning of the output was written.
+//! What `run` writes is the text of the record of a run by the plan that was read, as the crate
+//! `runs` promises. A [`Fault`] comes only for an input with this fault, for a run that ended early,
+//! for a device that failed, or if memory ran out.
 //!
-//! The program `qlock` calls this crate, and other programs can embed it. Programs that show more
-//! of the same inputs read them by [`coterie_of`], [`planned_of`], [`staged_of`] and
-//! [`split_part`], and deal by [`dealt`].
+//! The program `qlock` calls this crate, and other programs can embed it.
 //!
 //! ```
 //! let command = read_words(alloc, words)?; // of `qlock plan`: Command::Plan
@@ -28,25 +20,12 @@
 //! ```
 #![tactic(auto)]
 
-mod answer;
-mod dealing;
-mod fault;
-mod laws;
-mod lines;
-mod parts;
 mod running;
-mod serving;
-mod statuses;
 
-pub use answer::{Planned, coterie_of, planned_of, staged_of};
 pub use cluster::{Gate, NoGate};
-pub use command_line::{Command, Shape, Usage, read_words};
-pub use dealing::dealt;
-pub use fault::Fault;
-pub use laws::named_commands_are_in_range;
-pub use lines::{push_account, push_ratio};
-pub use parts::split_part;
+pub use commands::{
+    Command, DeviceFault, Fault, Planned, Shape, Usage, Watched, coterie_of, dealt, execute,
+    named_commands_are_in_range, planned_of, push_account, push_ratio, read_words, split_part,
+    staged_of, status_of, usage_status,
+};
 pub use running::execute_run;
-pub use serving::execute;
-pub use statuses::{status_of, usage_status};
-pub use whole_io::{DeviceFault, Watched};

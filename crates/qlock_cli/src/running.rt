@@ -1,16 +1,13 @@
 //! The command `run`: clients in threads that share the lock of a plan, and the record of what they
 //! did.
-ghost use Rattle.std.specs.Prelude.{◌≡◌, ◌≤◌, false, IfErr, IfSome, OnOk, string_bytes};
-ghost use Rattle.qlock_cli.specs.Devices.{FailsAs, IsOwn, LeavesUnread};
-ghost use Rattle.qlock_cli.specs.Commands.{Answers, ComesOf, HasTurns, IsAnswered, IsRunnable, LeavesWritten, LetsAll};
+ghost use Rattle.std.specs.Prelude.{◌≡◌, false, IfErr, IfSome, OnOk, string_bytes};
+ghost use Rattle.commands.specs.Devices.{FailsAs, IsOwn, LeavesUnread};
+ghost use Rattle.commands.specs.Commands.{Answers, ComesOf, HasTurns, IsAnswered, IsRunnable, LeavesWritten, LetsAll};
 ghost use Rattle.std.specs.Io.KnownBytes.{IsAtEnd};
-ghost use Rattle.runs.specs.Runs.{IsRun};
 
-use crate::answer::planned_of;
-use crate::fault::Fault;
-use crate::serving::{input_for, write_answer};
-use cluster::{Gate, RunRecord};
+use cluster::Gate;
 use command_line::Command;
+use commands::{Fault, input_for, planned_of, refusals_come_of_the_input, write_answer};
 use replay::write_record;
 use runs::record_of_run;
 use std::alloc::Global;
@@ -21,7 +18,7 @@ use std::time::Clock;
 use whole_io::Watched;
 
 /// Returns what `run` writes for an input: the text of the record of a run.
-#[tactic(auto, using(crate::proofs::CommandLemmas::run_told))]
+#[tactic(auto, using(crate::proofs::RunLemmas::run_is_answer))]
 fn run_answer<T: Threads + Wait + Clock + Sync, G: Gate>(
     rt: &T,
     alloc: Global,
@@ -101,6 +98,7 @@ pub fn execute_run<T: Threads + Wait + Clock + Sync, R: Read, W: Write, G: Gate>
     // A read fault or a write fault is returned if and only if that device failed.
     ensures devices { FailsAs reader.new.failed writer.new.failed result }
 {
+    refusals_come_of_the_input();
     let input = match input_for(alloc, command, reader) {
         Ok(input) => input,
         Err(fault) => return Err(fault),

@@ -1,28 +1,35 @@
 //! The program `qlock-show`: plans, faults and scripts of `qlock` for people to read.
 //!
-//! The crate `show_cli` reads the words and serves the command. The crate `host` takes the words from
-//! the system. It turns the result of the command into an exit status, and into a fault's line or
-//! a text about usage on standard error. Help and the version, which were asked for, go to standard
-//! output.
+//! The crate `show_cli` reads the words and serves the command. The crate `host` takes the words and
+//! the files from the system. It turns the result of the command into an exit status, and into a
+//! fault's line or a text about usage on standard error. Help and the version, which were asked for,
+//! go to standard output.
 #![tactic(auto)]
 
 ghost use Rattle.std.specs.Prelude.{◌≡◌, ◌⊎◌};
-ghost use Rattle.qlock_cli.specs.Statuses.{usage_status};
+ghost use Rattle.commands.specs.Statuses.{usage_status};
 ghost use Rattle.show_cli.specs.Commands.{IsShown};
 ghost use Rattle.qlock_show.specs.Requests.{AsksForText};
 
-use host::{refuse_words, report, words_of};
-use qlock_cli::{DeviceFault, Fault, Usage, Watched};
+use commands::{DeviceFault, Fault, Usage, Watched};
+use host::{command_line_of, files_help, read_files, refuse_words, report, report_unread};
 use show_cli::{ShowCommand, read_show_words, show};
 use std::io;
+use std::io::Read;
 use std::process::ExitCode;
+
+/// Prints a text that was asked for, and behind help how files are named.
+fn print_text(rt: &HostRuntime, text: &clap::Error) -> io::Result<()> {
+    rt.print(text)?;
+    rt.print(files_help(text))
+}
 
 /// Prints a text that was asked for, help or the version, on standard output. Returns the exit
 /// status: 0, or 3 if the write failed.
 fn show_text(rt: &HostRuntime, text: &clap::Error) -> u8
     ensures { (result ≡ 0) ⊎ (result ≡ 3) }
 {
-    let written = match rt.print(text) {
+    let written = match print_text(rt, text) {
         Ok(()) => Ok(()),
         Err(_) => Err(Fault::Device(DeviceFault::WriteFault)),
     };
@@ -40,20 +47,34 @@ fn answer_words(rt: &HostRuntime, usage: &Usage) -> u8
     }
 }
 
-/// Serves the command over standard input and output. Returns the exit status.
-fn serve(rt: &HostRuntime, command: &ShowCommand) -> u8
+/// Serves the command over an input, and standard output. Returns the exit status.
+fn serve_input<R: Read + Drop>(rt: &HostRuntime, command: &ShowCommand, input: R) -> u8
     requires { IsShown command.now }
 {
-    let mut reader = Watched::of(rt.reader());
+    let mut reader = Watched::of(input);
     let mut writer = Watched::of(io::writer(rt));
     report(rt, &show(rt.alloc(), command, &mut reader, &mut writer))
 }
 
+/// Serves the command over these files, or over standard input if there are none. Returns the exit
+/// status.
+fn serve(rt: &HostRuntime, command: &ShowCommand, files: &[String]) -> u8
+    requires { IsShown command.now }
+{
+    if files.is_empty() {
+        return serve_input(rt, command, rt.reader());
+    }
+    match read_files(rt, files) {
+        Ok(input) => serve_input(rt, command, input.as_slice()),
+        Err(unread) => report_unread(rt, &unread),
+    }
+}
+
 /// Serves the command that the words of the command line name. Returns the exit status.
 fn run(rt: &HostRuntime) -> Result<u8, Usage> {
-    let words = words_of(rt)?;
-    let command = read_show_words(rt.alloc(), words.as_slice())?;
-    Ok(serve(rt, &command))
+    let line = command_line_of(rt)?;
+    let command = read_show_words(rt.alloc(), line.words.as_slice())?;
+    Ok(serve(rt, &command, line.files.as_slice()))
 }
 
 fn main(rt: HostRuntime) -> ExitCode {

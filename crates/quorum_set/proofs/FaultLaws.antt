@@ -30,7 +30,8 @@ none_with test s sets j k all least = (omega (arith, least.0), omega (arith, lea
           | inr same ↦ inr (ap suc same.0, omega (arith, same.1))
         ]
 
-one_with : (test : List ℕ → List ℕ → Bool) (s : List ℕ) (sets : List (List ℕ)) (i : ℕ) → i < length sets → test s (get_or sets i []) ≡ true → ((k : ℕ) → k < i → test s (get_or sets k []) ≡ false) → IsLeastPair test (s ∷ sets) 0 (suc i)
+one_with : (test : List ℕ → List ℕ → Bool) (s : List ℕ) (sets : List (List ℕ)) (i : ℕ) → i < length sets → test s (get_or sets i []) ≡ true → ((k : ℕ) → k < i → test s (get_or sets k []) ≡ false)
+    → IsLeastPair test (s ∷ sets) 0 (suc i)
 one_with test s sets i lt passes fails = (omega arith, omega arith, passes, first)
   where
     first : (a b : ℕ) → a < b → b < length (s ∷ sets) → test (get_or (s ∷ sets) a []) (get_or (s ∷ sets) b []) ≡ true → (0 < a) ⊎ ((0 ≡ a) × (suc i ≤ b))
@@ -42,7 +43,8 @@ one_with test s sets i lt passes fails = (omega arith, omega arith, passes, firs
         ]
     first (suc a) b ab lower both = inl (omega arith)
 
-least_step : (test : List ℕ → List ℕ → Bool) (d : ℕ) (s : List ℕ) (sets : List (List ℕ)) (p : ℕ × ℕ) (o : Option ℕ) → position (test s) sets ≡ o → (first_pair test (d + 1) sets ≡ Some p → LeastFrom test (d + 1) sets p)
+least_step : (test : List ℕ → List ℕ → Bool) (d : ℕ) (s : List ℕ) (sets : List (List ℕ)) (p : ℕ × ℕ) (o : Option ℕ) → position (test s) sets ≡ o
+    → (first_pair test (d + 1) sets ≡ Some p → LeastFrom test (d + 1) sets p)
     → option_or (option_map (λ k. (d, d + 1 + k)) o) (first_pair test (d + 1) sets) ≡ Some p → LeastFrom test d (s ∷ sets) p
 least_step test d s sets p None none later h =
     let found = later h in

@@ -1,11 +1,14 @@
 -- Lemmas on sets in one word, whose bits say which numbers are members.
-use Rattle.std.proofs.Common.{◌≡◌, ℕ, zero, suc, ◌+◌, ◌-◌, ◌*◌, ◌/◌, ◌%◌, ◌^◌, ◌<◌, ◌≤◌, max, Bool, true, false, cond, not, ◌&&◌, ◌||◌, eqb, List, [], ◌∷◌, ◌++◌, length, get_or, w64, lit<, sym, refl, ap, ap₂, ◌∙◌, inl, inr, subst, add-one, arith, mod-lt, mod-eq_of_lt, length-append, append_assoc, append-nil, pow_pos}
+use Rattle.std.proofs.Common.{◌≡◌, ℕ, zero, suc, ◌+◌, ◌-◌, ◌*◌, ◌/◌, ◌%◌, ◌^◌, ◌<◌, ◌≤◌, max, Bool, true, false, cond, not, ◌&&◌, ◌||◌, eqb, List, [], ◌∷◌, ◌++◌, length, get_or}
+use Rattle.std.proofs.Common.{w64, lit<, sym, refl, ap, ap₂, ◌∙◌, inl, inr, subst, add-one, arith, mod-lt, mod-eq_of_lt, length-append, append_assoc, append-nil, pow_pos}
 use Rattle.std.specs.Prelude.{bit_and, bit_or, count_ones}
 use Rattle.std.specs.Int.{bit_at, bit_not, trailing_zeros}
 use Rattle.std.proofs.lemmas.Bool.{cases_lt, cases_eq, eqb-true, eq-eqb, ne_eqb, true≢false, false≢true, true_from_ne_false, not_from_false, not-true}
 use Rattle.std.proofs.lemmas.Nat.{or_lt, and_le_l, and_le_r, ones-le, zero_from_ones, ones_cat, div-add-mod'}
 use Rattle.std.proofs.Math.Nat.{pow-suc}
-use Rattle.std.proofs.lemmas.Nat.Bits.{bit_at-zero, bit_at_and, bit_at_or, bit_at_not, bit_at_above, bit_at-lt, bit_at_set_same, bit_at_set_other, bit_at_clear_same, bit_at_clear_other, bit_at-trailing_zeros, bit_at_cat_low, bit_at_cat_high, bit_at_ones_above, same_from_bits, same_from_bits_below, shr_and_one}
+use Rattle.std.proofs.lemmas.Nat.Bits.{bit_at-zero, bit_at_and, bit_at_or, bit_at_not, bit_at_above, bit_at-lt, bit_at_set_same, bit_at_set_other, bit_at_clear_same}
+use Rattle.std.proofs.lemmas.Nat.Bits.{bit_at_clear_other, bit_at-trailing_zeros, bit_at_cat_low, bit_at_cat_high, bit_at_ones_above, same_from_bits, same_from_bits_below}
+use Rattle.std.proofs.lemmas.Nat.Bits.{shr_and_one}
 use Rattle.std.proofs.lemmas.List.Folds.{list_any_at, Any-from_list_any}
 use Rattle.std.proofs.lemmas.List.Sums.{AllPass-from_list_all, list_all-from_AllPass}
 use Rattle.numbers.specs.Sets.{has, meet, within, union, IsSet, Ascends, set_where, members_of}
@@ -218,7 +221,8 @@ module _ (m : ℕ) (some : 0 < m) (fits : m < 2 ^ 64) where
 
   cleared_at : bit_at (bit_and m (m - 1)) place ≡ 0
   cleared_at =
-      let zero_there : bit_at (m - 1) place ≡ 0 = ap (λ n. bit_at n place) one_less ∙ bit_at_cat_low above (suc place) (2 ^ place - 1) place (omega arith) ∙ bit_at_ones_above place place (omega arith) in
+      let zero_there : bit_at (m - 1) place ≡ 0 = ap (λ n. bit_at n place) one_less ∙ bit_at_cat_low above (suc place) (2 ^ place - 1) place (omega arith)
+      ∙ bit_at_ones_above place place (omega arith) in
       omega (arith, bit_at_and m (m - 1) place, zero_there)
 
   kept_after : (i : ℕ) → place < i → bit_at (bit_and m (m - 1)) i ≡ bit_at m i

@@ -1,6 +1,5 @@
 //! Bridges from one coterie to another, over which a plan is exchanged while clients run.
-ghost use Rattle.std.specs.Prelude.{◌≡◌, None, Some, IfErr, IfOk};
-ghost use Rattle.quorum_set.specs.Coteries.{IsCoterie};
+ghost use Rattle.std.specs.Prelude.{◌≡◌, None, Some, IfErr};
 ghost use Rattle.quorum_set.specs.Bridges.{Bridged, IsBridge, Gives, bridge_of, first_apart};
 ghost use Rattle.quorum_set.specs.declared.fault.BridgeFault.TheVariants.{OutOfMemory};
 

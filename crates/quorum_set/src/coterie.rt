@@ -1,5 +1,5 @@
 //! Coteries, and the check that a list of sets is a coterie.
-ghost use Rattle.std.specs.Prelude.{◌≡◌, ◌==◌, ◌<◌, ◌+◌, ◌≤◌, length, None, Some, IfOk, IfNone, MatchResult, position, slice_index_or, slice_get, All};
+ghost use Rattle.std.specs.Prelude.{◌≡◌, ◌==◌, ◌<◌, ◌+◌, length, None, Some, IfOk, IfNone, position, slice_get, All};
 ghost use Rattle.numbers.specs.Sets.{IsSet};
 ghost use Rattle.quorum_set.specs.Coteries.{IsCoterie, first_outside, first_from, first_pair, are_disjoint, is_one_within, first_fault, coterie_of};
 

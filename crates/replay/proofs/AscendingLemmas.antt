@@ -79,7 +79,7 @@ pub IsCounted-more : (xs : List ℕ) (p : ℕ) → IsNonDecreasing xs → NoneTw
 IsCounted-more xs p up single so_far lt at = record {
   seen = λ n below. elim (cases_lt n p) [
     | inl less ↦ so_far.seen n less
-    | inr more ↦ subst (λ x. 1 ≤ times x xs) (omega arith) stands
+    | inr more ↦ subst (λ x. 1 ≤ times x xs) (omega arith) present
   ];
   left = λ n le. omega (arith, so_far.left n (omega arith), times-drop_more n p xs lt, cond_eqb-other (get_or xs p 0) n (λ e. omega arith));
   low = λ i le below. elim (cases_eq (get_or xs i 0) p) [
@@ -88,8 +88,8 @@ IsCounted-more xs p up single so_far lt at = record {
   ];
 }
   where
-    stands : 1 ≤ times p xs
-    stands = omega (arith, so_far.left p (omega arith), times-drop_more p p xs lt, cond_eqb-same (get_or xs p 0) p at)
+    present : 1 ≤ times p xs
+    present = omega (arith, so_far.left p (omega arith), times-drop_more p p xs lt, cond_eqb-same (get_or xs p 0) p at)
 
     again : (i : ℕ) → p + 1 ≤ i → i < length xs → get_or xs i 0 ≡ p → 1 ≤ times p (drop (p + 1) xs)
     again i le below same =
@@ -155,16 +155,16 @@ NoneTwice-EachOnce ns counts = λ n twice. elim (cases_lt n (length ns)) [
       let size = length ns in
       let none : sum_by (λ x. cond (leb size x) 1 0) ns ≡ 0 =
       omega (arith, length-sum_below size ns, sum_below-same size (λ y. times y ns) (λ y. 1) counts.each_once, sum_below-one size) in
-      omega (arith, stands_above size n ns more none)
+      omega (arith, present_above size n ns more none)
 ]
   where
-    stands_above : (size n : ℕ) (xs : List ℕ) → size ≤ n → sum_by (λ x. cond (leb size x) 1 0) xs ≡ 0 → times n xs ≡ 0
-    stands_above size n [] le none = refl
-    stands_above size n (x ∷ xs) le none =
+    present_above : (size n : ℕ) (xs : List ℕ) → size ≤ n → sum_by (λ x. cond (leb size x) 1 0) xs ≡ 0 → times n xs ≡ 0
+    present_above size n [] le none = refl
+    present_above size n (x ∷ xs) le none =
         let added = sum_by-cons (λ z. cond (leb size z) 1 0) x xs in
         elim (cases_eq x n) [
           | inl same ↦ let one = ap (λ b. cond {A = ℕ} b 1 0) (le-leb size x (omega arith)) in absurd (omega (arith, added, one))
-          | inr other ↦ omega (arith, times-cons n x xs, cond_eqb-other x n other, stands_above size n xs le (omega (arith, added)))
+          | inr other ↦ omega (arith, times-cons n x xs, cond_eqb-other x n other, present_above size n xs le (omega (arith, added)))
         ]
 
 pub IsMissing-EachOnce : (ns : List ℕ) (n : ℕ) → EachOnce ns → ¬ (IsMissing ns n)

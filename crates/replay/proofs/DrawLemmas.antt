@@ -5,7 +5,7 @@ use Rattle.std.proofs.lemmas.Bool.{cases_lt}
 use Rattle.std.proofs.lemmas.List.{take_all}
 use Rattle.std.proofs.lemmas.List.Elements.{All-contains, All-more, All-same, All-weaker, Contains-get_or}
 use Rattle.certificate.specs.Certificates.{Weighted}
-use Rattle.members.specs.Records.{Draw}
+use Rattle.run_outcome.specs.Entries.{Draw}
 use Rattle.replay.specs.Records.{IsLeast, IsRight, IsWrong}
 
 -- the draw is right, or its ticket is no lower

@@ -1,12 +1,6 @@
 mod AscendingLemmas
 mod DrawLemmas
-mod LineLemmas
-mod RecordBodyLemmas
-mod RecordLineLemmas
 mod RecordReadings
-mod RecordTextLemmas
 mod OutputLemmas
 mod Readings
-mod RunLemmas
 mod SoundLemmas
-mod StepsLemmas

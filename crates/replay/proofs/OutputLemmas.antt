@@ -6,7 +6,8 @@ use Rattle.message.specs.declared.message.Message.{Message}
 use Rattle.replay.specs.Outputs.{sent_line, sent_lines}
 
 -- the line of one more message
-pub sent_line-next : (sent : List Message) (n : ℕ) (m : Message) (written more whole : List ℕ) → slice_get sent n ≡ Some m → more ≡ written ++ sent_line n m → written ++ sent_lines n (drop n sent) ≡ whole
+pub sent_line-next : (sent : List Message) (n : ℕ) (m : Message) (written more whole : List ℕ) → slice_get sent n ≡ Some m → more ≡ written ++ sent_line n m → written
+    ++ sent_lines n (drop n sent) ≡ whole
     → more ++ sent_lines (n + 1) (drop (n + 1) sent) ≡ whole
 sent_line-next sent n m written more whole here pushed left =
     let rest = sent_lines (n + 1) (drop (n + 1) sent) in

@@ -7,7 +7,7 @@ use Rattle.certificate.specs.Certificates.{Weighted, cycle_len}
 use Rattle.dealer.specs.Accounts.{IsWholeCycles}
 use Rattle.replay.specs.declared.fault.ReplayFault.{ReplayFault}
 use Rattle.replay.specs.declared.fault.ReplayFault.TheVariants.{TicketTwice, TicketMissing, WrongQuorum, PassTwice, PassMissing, WrongRegister, BadLine, OutOfMemory}
-use Rattle.members.specs.Records.{Draw}
+use Rattle.run_outcome.specs.Entries.{Draw}
 use Rattle.replay.specs.Records.{EachOnce, Entries, IsFirstFault, IsFound, IsNumberFault, IsRegisterFault, IsRight, IsSoundRecord, IsTicketFault, numbers_of, tickets_of}
 use Rattle.replay.proofs.AscendingLemmas.{IsMissing-EachOnce, NoneTwice-EachOnce}
 
@@ -33,7 +33,8 @@ IsFound-numbers w e (WrongQuorum t) counts right h = absurd h
 IsFound-numbers w e (WrongRegister q) counts right h = absurd h
 IsFound-numbers w e (BadLine line) counts right h = h
 
-pub IsFound-register : (w : Weighted) (e : Entries) (fault : ReplayFault) → EachOnce (tickets_of e.draws) → All (IsRight w) e.draws → EachOnce (numbers_of e.passes) → IsRegisterFault e fault → IsFound w e fault
+pub IsFound-register : (w : Weighted) (e : Entries) (fault : ReplayFault) → EachOnce (tickets_of e.draws) → All (IsRight w) e.draws → EachOnce (numbers_of e.passes)
+    → IsRegisterFault e fault → IsFound w e fault
 IsFound-register w e (WrongRegister q) counts right up h = ((counts, right), up, h.0, h.1)
 IsFound-register w e (PassTwice p) counts right up h = absurd h
 IsFound-register w e (PassMissing p) counts right up h = absurd h
@@ -43,7 +44,7 @@ IsFound-register w e (WrongQuorum t) counts right up h = absurd h
 IsFound-register w e (BadLine line) counts right up h = h
 IsFound-register w e OutOfMemory counts right up h = h
 
--- only want of memory stops a sound record
+-- a sound record has no fault, except out of memory
 pub IsSoundRecord-no_fault : (w : Weighted) (e : Entries) (fault : ReplayFault) → IsSoundRecord w e → IsFirstFault w e fault → fault ≡ OutOfMemory
 IsSoundRecord-no_fault w e (TicketTwice t) sound h = absurd (NoneTwice-EachOnce (tickets_of e.draws) sound.tickets t h.0)
 IsSoundRecord-no_fault w e (TicketMissing t) sound h = absurd (IsMissing-EachOnce (tickets_of e.draws) t sound.tickets h.1.0)
@@ -55,7 +56,8 @@ IsSoundRecord-no_fault w e (BadLine line) sound h = absurd h
 IsSoundRecord-no_fault w e OutOfMemory sound h = refl
 
 -- the tickets of a sound record fill cycles, where they are as many
-pub IsWholeCycles-tickets : (v w : Weighted) (draws : List Draw) (tickets : List ℕ) (k : ℕ) → v ≡ w → tickets ≡ tickets_of draws → EachOnce (tickets_of draws) → length draws ≡ k * cycle_len w → IsWholeCycles v k tickets
+pub IsWholeCycles-tickets : (v w : Weighted) (draws : List Draw) (tickets : List ℕ) (k : ℕ) → v ≡ w → tickets ≡ tickets_of draws → EachOnce (tickets_of draws)
+    → length draws ≡ k * cycle_len w → IsWholeCycles v k tickets
 IsWholeCycles-tickets v w draws tickets k same are counts long =
     let all : length (tickets_of draws) ≡ k * cycle_len w = length-map draws (λ d. d.1) ∙ long in
     let whole : IsWholeCycles w k (tickets_of draws) = record { in_all = all; each_once = λ t lt. counts.each_once t (omega (arith, all)) } in

@@ -81,5 +81,5 @@ script_output plan s = run_output (dealing_of (single plan)) s.steps (start_by (
 pub record IsOutput (plan : Weighted) (text output : List ℕ) : Type 0 where
   pub script : Script
   pub is_script : IsScript script
-  pub spelled : text ≡ script_text script
+  pub written : text ≡ script_text script
   pub output_is : output ≡ script_output plan script

@@ -10,8 +10,8 @@ use Rattle.certificate.specs.Certificates.{Weighted}
 use Rattle.dealer.specs.Cycles.{quorum_of_ticket}
 use Rattle.quorum_set.specs.declared.bridge.Side.{Side}
 use Rattle.quorum_set.specs.declared.bridge.Side.TheVariants.{First, Second}
-use Rattle.members.specs.declared.record.RunRecord.{RunRecord}
-use Rattle.members.specs.Records.{Draw, Pass}
+use Rattle.run_outcome.specs.declared.record.RunRecord.{RunRecord}
+use Rattle.run_outcome.specs.Entries.{Draw, Pass}
 use Rattle.replay.specs.declared.check.Gap.{Gap}
 use Rattle.replay.specs.declared.check.Gap.TheVariants.{Twice, Missing}
 use Rattle.replay.specs.declared.fault.ReplayFault.{ReplayFault}

@@ -10,11 +10,11 @@
 --
 -- C and V are at most 255, and K is below 2^64. A number is decimal, without a leading zero. One
 -- space is between two words, and each line ends with a newline.
-use Rattle.std.specs.Prelude.{ℕ, ◌≡◌, ◌≢◌, ◌<◌, ◌≤◌, ◌+◌, ◌^◌, ◌⊎◌, List, [], ◌∷◌, ◌++◌, length, map, codes}
-use Rattle.std.specs.List.{AllByRecursion}
+use Rattle.std.specs.Prelude.{ℕ, ◌≡◌, ◌≢◌, ◌<◌, ◌≤◌, ◌+◌, ◌^◌, ◌⊎◌, List, [], ◌∷◌, ◌++◌, length, codes, Option, Some, None, if◌then◌else◌}
+use Rattle.std.specs.Str.{bytes_eq}
+use Rattle.std.proofs.Common.{ap, ap₂, sym, ◌∙◌, refl, get_or, arith, rules}
 use Rattle.numbers.specs.Bounds.{max_clients, max_stamp}
-use Rattle.texts.specs.Lines.{text_of_lines}
-use Rattle.texts.specs.Fields.{fields}
+use Rattle.text_lines.specs.Forms.{AreFirst, Form, HaveLines, IsForm, IsNext, IsWord, line_of, text_of}
 use Rattle.world.specs.declared.step.Step.{Step}
 use Rattle.world.specs.declared.step.Step.TheVariants.{Ask, Deliver, Leave, GiveUp, RemindClient, RemindVoter, Exchange}
 use Rattle.replay.specs.declared.fault.ReplayFault.{ReplayFault}
@@ -60,13 +60,9 @@ HasStepLine (RemindClient client) = client ≤ 255
 HasStepLine (RemindVoter voter) = voter ≤ 255
 HasStepLine Exchange = ⊥
 
--- the one line of a step, without its newline
-abbrev pub step_line : Step → List ℕ
-step_line s = step_word s ++ fields (step_number s ∷ [])
-
--- the first line, without its newline
-abbrev pub world_line : ℕ → ℕ → List ℕ
-world_line clients limit = codes "world" ++ fields (clients ∷ limit ∷ [])
+-- the line of a step
+abbrev pub step_form : Form Step
+step_form = record { word = step_word; numbers = λ s. step_number s ∷ []; fits = HasStepLine }
 
 -- how large a world may be
 pub record AreSizes (clients limit : ℕ) : Type 0 where
@@ -75,32 +71,32 @@ pub record AreSizes (clients limit : ℕ) : Type 0 where
   pub some_stamp : 1 ≤ limit
   pub few_stamps : limit ≤ max_stamp
 
--- each of these steps has a line
-abbrev pub HaveLines : List Step → Type 0
-HaveLines steps = AllByRecursion HasStepLine steps
+-- the first line: how many clients, and the highest stamp
+abbrev pub world_form : Form (ℕ × ℕ)
+world_form = record { word = λ s. codes "world"; numbers = λ s. s.0 ∷ s.1 ∷ []; fits = λ s. AreSizes s.0 s.1 }
 
 -- the script has a text: its sizes are in range, and each step has a line
 pub record IsScript (s : Script) : Type 0 where
   pub sizes : AreSizes s.clients s.limit
-  pub steps : HaveLines s.steps
+  pub steps : HaveLines step_form s.steps
 
 -- the lines of these steps, each with a newline at its end
 abbrev pub steps_text : List Step → List ℕ
-steps_text steps = text_of_lines (map step_line steps)
+steps_text steps = text_of step_form steps
 
 -- the one text of a script
 abbrev pub script_text : Script → List ℕ
-script_text s = world_line s.clients s.limit ++ 10 ∷ steps_text s.steps
+script_text s = line_of world_form (s.clients, s.limit) ++ 10 ∷ steps_text s.steps
 
 -- The first bad line
 
 -- the line is one of a world's sizes
 abbrev pub IsWorldLine : List ℕ → Type 0
-IsWorldLine line = (clients : ℕ) × (limit : ℕ) × AreSizes clients limit × (line ≡ world_line clients limit)
+IsWorldLine line = (sizes : ℕ × ℕ) × AreSizes sizes.0 sizes.1 × (line ≡ line_of world_form sizes)
 
 -- the line is one of a step
 abbrev pub IsStepLine : List ℕ → Type 0
-IsStepLine line = (s : Step) × HasStepLine s × (line ≡ step_line s)
+IsStepLine line = (s : Step) × HasStepLine s × (line ≡ line_of step_form s)
 
 -- a line of some script, without its newline
 abbrev pub IsLine : List ℕ → Type 0
@@ -112,19 +108,15 @@ BeginsWith IsLine text = (line : List ℕ) × (rest : List ℕ) × IsLine line �
 
 -- after these steps' lines the text goes on, but not with a step's line
 pub record EndsBadly (text : List ℕ) (steps : List Step) : Type 0 where
-  pub steps_have_lines : HaveLines steps
   pub rest : List ℕ
-  pub text_is : text ≡ steps_text steps ++ rest
+  pub steps_are : AreFirst step_form text steps rest
   pub some : rest ≢ []
-  pub bad : ¬ (BeginsWith IsStepLine rest)
 
 -- the lines before this one are a world's and its steps', and this one is not a step's
 pub record IsBadStep (text : List ℕ) (line : ℕ) : Type 0 where
-  pub clients : ℕ
-  pub limit : ℕ
-  pub sizes : AreSizes clients limit
+  pub sizes : ℕ × ℕ
   pub body : List ℕ
-  pub text_is : text ≡ world_line clients limit ++ 10 ∷ body
+  pub world : IsNext world_form text sizes body
   pub steps : List Step
   pub ends : EndsBadly body steps
   pub line_is : line ≡ length steps + 2
@@ -139,17 +131,67 @@ IsBadText text (BadLine line) = IsFirstBad text line
 IsBadText text OutOfMemory = Unit {0}
 IsBadText text fault = ⊥
 
--- Facts of the parts of a line
-
--- the step of this word and this number
-pub record IsStepOf (s : Step) (word : List ℕ) (number : ℕ) : Type 0 where
-  pub has_line : HasStepLine s
-  pub word_is : word ≡ step_word s
-  pub number_is : number ≡ step_number s
-
 -- The fault is the first line that is not a step's, or memory ran out. The first line of `body` has
 -- number 2.
 abbrev pub IsBadRest : List ℕ → ReplayFault → Type 0
 IsBadRest body (BadLine line) = (steps : List Step) × EndsBadly body steps × (line ≡ length steps + 2)
 IsBadRest body OutOfMemory = Unit {0}
 IsBadRest body fault = ⊥
+
+-- The forms are those of lines
+
+pub worlds_have_form : IsForm world_form
+worlds_have_form = record {
+  words = λ s h. search rules;
+  small = λ s h. (omega arith, (omega arith, tt));
+  few = λ s h. omega arith;
+  one = λ s t hs ht word numbers. ap (λ (ns : List ℕ). (get_or ns 0 0, get_or ns 1 0)) numbers;
+}
+
+-- the step of a word and a number
+step_by : List ℕ → ℕ → Option Step
+step_by word n =
+    if bytes_eq word (codes "ask") then Some (Ask n) else
+    if bytes_eq word (codes "deliver") then Some (Deliver n) else
+    if bytes_eq word (codes "leave") then Some (Leave n) else
+    if bytes_eq word (codes "give-up") then Some (GiveUp n) else
+    if bytes_eq word (codes "remind-client") then Some (RemindClient n) else
+    if bytes_eq word (codes "remind-voter") then Some (RemindVoter n) else None
+
+step_by-word : (s : Step) → HasStepLine s → step_by (step_word s) (step_number s) ≡ Some s
+unfolding step_by
+step_by-word (Ask c) h = refl
+step_by-word (Deliver k) h = refl
+step_by-word (Leave c) h = refl
+step_by-word (GiveUp c) h = refl
+step_by-word (RemindClient c) h = refl
+step_by-word (RemindVoter v) h = refl
+step_by-word Exchange h = absurd h
+
+step_words : (s : Step) → HasStepLine s → IsWord (step_word s)
+step_words (Ask c) h = search rules
+step_words (Deliver k) h = search rules
+step_words (Leave c) h = search rules
+step_words (GiveUp c) h = search rules
+step_words (RemindClient c) h = search rules
+step_words (RemindVoter v) h = search rules
+step_words Exchange h = absurd h
+
+step_fits : (s : Step) → HasStepLine s → step_number s < 2 ^ 64
+step_fits (Ask c) h = omega arith
+step_fits (Deliver k) h = h
+step_fits (Leave c) h = omega arith
+step_fits (GiveUp c) h = omega arith
+step_fits (RemindClient c) h = omega arith
+step_fits (RemindVoter v) h = omega arith
+step_fits Exchange h = absurd h
+
+pub steps_have_form : IsForm step_form
+steps_have_form = record {
+  words = step_words;
+  small = λ s h. (step_fits s h, tt);
+  few = λ s h. omega arith;
+  one = λ s t hs ht word numbers.
+      let by : ◌≡◌ {A = Option Step} (Some s) (Some t) = sym (step_by-word s hs) ∙ ap₂ step_by word (ap (λ (ns : List ℕ). get_or ns 0 0) numbers) ∙ step_by-word t ht in
+      cc;
+}

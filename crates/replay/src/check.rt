@@ -11,9 +11,9 @@ ghost use Rattle.replay.specs.declared.fault.ReplayFault.TheVariants.{OutOfMemor
 
 use crate::fault::ReplayFault;
 use certificate::Plan;
-use cluster::RunRecord;
 use dealer::{Account, Cycle};
 use quorum_set::Side;
+use run_outcome::RunRecord;
 use std::alloc::{AllocError, Global};
 
 /// The reason why n numbers are not 0 to n - 1, each once.

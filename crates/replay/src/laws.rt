@@ -1,11 +1,6 @@
 //! Laws of the definitions.
-ghost use Rattle.std.specs.Prelude.{◌≡◌, ◌≢◌, ◌++◌, ◌∷◌, ℕ, List, [], IfSome};
-ghost use Rattle.members.specs.declared.record.RunRecord.{RunRecord};
-ghost use Rattle.members.specs.Clusters.{ClusterState};
-ghost use Rattle.members.specs.Members.{MemberState};
-ghost use Rattle.quorum_set.specs.declared.bridge.Side.TheVariants.{First, Second};
-ghost use Rattle.members.specs.Records.{IsRecordOf};
-ghost use Rattle.replay.specs.Records.{Entries, IsSoundRecord, entries_on};
+ghost use Rattle.std.specs.Prelude.{◌≡◌, ◌≢◌, ◌++◌, ◌∷◌, ℕ, List, []};
+ghost use Rattle.replay.specs.Records.{Entries};
 ghost use Rattle.replay.specs.RecordTexts as record_texts;
 ghost use Rattle.replay.specs.RecordTexts.{HasText, record_text};
 ghost use Rattle.replay.specs.Scripts.{IsFirstBad, IsLine, IsScript, Script, script_text};
@@ -34,13 +29,4 @@ pub fn records_are_read_in_one_way()
     ensures line { (text : List ℕ) (m n : ℕ) → record_texts.IsFirstBad text m → record_texts.IsFirstBad text n → m ≡ n }
     ensures never_both { (text : List ℕ) (line : ℕ) (e : Entries)
         → record_texts.IsFirstBad text line → HasText e → text ≢ record_text e }
-{}
-
-/// States that the record of a closed cluster is sound for each plan of the cluster, with the draws
-/// of that plan. So `check_record` accepts it for each, unless it runs out of memory.
-pub fn records_of_runs_are_sound()
-    ensures first { (c : ClusterState) (members : List MemberState) (r : RunRecord) → IsRecordOf c members r →
-        IsSoundRecord c.office.cycle (entries_on First r) }
-    ensures second { (c : ClusterState) (members : List MemberState) (r : RunRecord) → IsRecordOf c members r →
-        IfSome c.second (λ o. IsSoundRecord o.cycle (entries_on Second r)) }
 {}

@@ -59,8 +59,8 @@
 //! - `world`, whose steps it takes;
 //! - `certificate` for the plan;
 //! - `dealer` for the account of tickets;
-//! - `cluster` for the record of a run;
-//! - `message` and `texts` for the lines;
+//! - `run_outcome` for the record of a run;
+//! - `text_lines`, `message` and `texts` for the lines;
 //! - `numbers` for counts and bounds.
 //!
 //! ```text
@@ -86,9 +86,7 @@ mod script;
 
 pub use check::check_record;
 pub use fault::ReplayFault;
-pub use laws::{
-    lines_end, records_are_read_in_one_way, records_of_runs_are_sound, texts_are_read_in_one_way,
-};
+pub use laws::{lines_end, records_are_read_in_one_way, texts_are_read_in_one_way};
 pub use output::run_script;
 pub use reading::read_script;
 pub use record_reading::read_record;

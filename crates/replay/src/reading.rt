@@ -1,23 +1,42 @@
 //! Reading a script.
-ghost use Rattle.std.specs.Prelude.{◌≡◌, ◌++◌, ◌∷◌, ℕ, List, IfErr, IfOk, IfSome, MatchOption, MatchResult, codes};
+ghost use Rattle.std.specs.Prelude.{◌≡◌, ◌∷◌, [], IfErr, IfOk, IfSome, MatchResult};
+ghost use Rattle.text_lines.specs.Forms.{HaveLines, IsLineOf};
 ghost use Rattle.world.specs.declared.step.Step.{Step};
-ghost use Rattle.replay.specs.Scripts.{AreSizes, BeginsWith, HasStepLine, HaveLines, IsBadRest, IsBadText, IsScript, IsStepOf, IsWorldLine, Script, script_text, step_line, steps_text, world_line};
+ghost use Rattle.replay.specs.Scripts.{BeginsWith, IsBadRest, IsBadText, IsScript, IsWorldLine, Script, script_text, step_form, steps_have_form, steps_text, world_form, worlds_have_form};
 ghost use Rattle.replay.specs.declared.fault.ReplayFault.TheVariants.{BadLine, OutOfMemory};
 
 use crate::fault::ReplayFault;
 use crate::script::Script;
 use numbers::{MAX_CLIENTS, MAX_STAMP};
 use std::alloc::Global;
-use texts::{cut, cut_at, fields};
+use text_lines::{Line, first_lines, next_line};
 use world::Step;
 
 /// The most clients of a world.
 const MOST_CLIENTS: u64 = MAX_CLIENTS as u64;
 
+/// The line of a step.
+struct StepLine;
+
+impl Line for StepLine {
+    type Value = Step;
+
+    ghost form = { step_form };
+
+    fn value_of(word: &[u8], numbers: &[u64]) -> Option<Step> {
+        match numbers {
+            [number] => step_of(word, *number),
+            _ => None,
+        }
+    }
+
+    ghost is_form = { steps_have_form };
+}
+
 /// Returns the step of a word and its number.
 fn step_of(word: &[u8], number: u64) -> Option<Step>
-    ensures spelled { IfSome result (λ s. IsStepOf s word.now number) }
-    ensures read { (s : Step) → IsStepOf s word.now number → result ≡ Some s }
+    ensures text { IfSome result (λ s. IsLineOf step_form s word.now (number ∷ [])) }
+    ensures read { (s : Step) → IsLineOf step_form s word.now (number ∷ []) → result ≡ Some s }
 {
     if word == b"deliver".as_slice() {
         return Some(Step::Deliver(number));
@@ -35,113 +54,38 @@ fn step_of(word: &[u8], number: u64) -> Option<Step>
     }
 }
 
-/// Reads a step from its line, without its newline.
-fn read_step(line: &[u8]) -> Option<Step>
-    ensures spelled { IfSome result (λ s. HasStepLine s × (line.now ≡ step_line s)) }
-    ensures read { (s : Step) → HasStepLine s → line.now ≡ step_line s → result ≡ Some s }
-{
-    let (word, rest) = cut(line);
-    match fields::<1>(rest) {
-        Some(numbers) => step_of(word, numbers[0]),
-        None => None,
-    }
-}
+/// The line of a world: how many clients, and the highest stamp.
+struct WorldLine;
 
-/// Reads the step at the front of a text. Returns it, and what follows its line.
-fn first_step(text: &[u8]) -> Option<(Step, &[u8])>
-    ensures line { IfSome result (λ x. HasStepLine x.0) }
-    ensures spelled { IfSome result (λ x. text.now ≡ step_line x.0 ++ 10 ∷ x.1.now) }
-    ensures read { (s : Step) (rest : List ℕ) → HasStepLine s → text.now ≡ step_line s ++ 10 ∷ rest
-        → MatchOption result ⊥ (λ x. (x.0 ≡ s) × (x.1.now ≡ rest)) }
-{
-    match cut_at(text, b'\n') {
-        Some((line, rest)) => match read_step(line) {
-            Some(step) => Some((step, rest)),
-            None => None,
-        },
-        None => None,
+impl Line for WorldLine {
+    type Value = (u8, u64);
+
+    ghost form = { world_form };
+
+    fn value_of(word: &[u8], numbers: &[u64]) -> Option<(u8, u64)> {
+        match numbers {
+            [clients, limit]
+                if word == b"world".as_slice()
+                    && (1..=MOST_CLIENTS).contains(clients)
+                    && (1..=MAX_STAMP).contains(limit) => { Some((*clients as u8, *limit)) }
+            _ => None,
+        }
     }
+
+    ghost is_form = { worlds_have_form };
 }
 
 /// Reads the steps whose lines are the text. The text's first line has number 2.
 fn read_steps(alloc: Global, text: &[u8]) -> Result<Vec<Step>, ReplayFault>
-    ensures lines { IfOk result (λ steps. HaveLines steps.items) }
-    ensures spelled { IfOk result (λ steps. text.now ≡ steps_text steps.items) }
-    ensures read { (steps : List Step) → HaveLines steps → text.now ≡ steps_text steps
-        → MatchResult result (λ found. found.items ≡ steps) (λ fault. fault ≡ OutOfMemory) }
+    ensures lines { IfOk result (λ steps. HaveLines step_form steps.items) }
+    ensures written { IfOk result (λ steps. text.now ≡ steps_text steps.items) }
     ensures bad { IfErr result (IsBadRest text.now) }
 {
-    let mut steps = Vec::new(alloc);
-    let mut rest = text;
-    'lines: while !rest.is_empty() {
-        let Some((step, after)) = first_step(rest) else {
-            return Err(ReplayFault::BadLine(steps.len() + 2));
-        };
-        match steps.push(step) {
-            Ok(()) => rest = after,
-            Err(_) => return Err(ReplayFault::OutOfMemory),
-        }
+    let (steps, rest) = first_lines::<StepLine>(alloc, text)?;
+    if !rest.is_empty() {
+        return Err(ReplayFault::BadLine(steps.len() + 2));
     }
     Ok(steps)
-}
-
-/// How large a world is, as the first line of a script says.
-#[derive(Clone, Copy)]
-struct Sizes {
-    clients: u8,
-    limit: u64,
-}
-
-/// Returns the sizes that a word and two numbers give.
-fn sizes_of(word: &[u8], clients: u64, limit: u64) -> Option<Sizes>
-    ensures sizes { IfSome result (λ s. AreSizes s.clients s.limit) }
-    ensures word { IfSome result (λ s. word.now ≡ codes "world") }
-    ensures same { IfSome result (λ s. (s.clients ≡ clients) × (s.limit ≡ limit)) }
-    ensures read { AreSizes clients limit → word.now ≡ codes "world"
-        → MatchOption result ⊥ (λ s. (s.clients ≡ clients) × (s.limit ≡ limit)) }
-{
-    if word == b"world".as_slice()
-        && (1..=MOST_CLIENTS).contains(&clients)
-        && (1..=MAX_STAMP).contains(&limit)
-    {
-        Some(Sizes {
-            clients: clients as u8,
-            limit,
-        })
-    } else {
-        None
-    }
-}
-
-/// Reads the sizes of a world from their line, without its newline.
-fn read_sizes(line: &[u8]) -> Option<Sizes>
-    ensures sizes { IfSome result (λ s. AreSizes s.clients s.limit) }
-    ensures spelled { IfSome result (λ s. line.now ≡ world_line s.clients s.limit) }
-    ensures read { (clients limit : ℕ) → AreSizes clients limit → line.now ≡ world_line clients limit
-        → MatchOption result ⊥ (λ s. (s.clients ≡ clients) × (s.limit ≡ limit)) }
-{
-    let (word, rest) = cut(line);
-    match fields::<2>(rest) {
-        Some(numbers) => sizes_of(word, numbers[0], numbers[1]),
-        None => None,
-    }
-}
-
-/// Reads the sizes at the front of a text. Returns them, and what follows their line.
-fn first_sizes(text: &[u8]) -> Option<(Sizes, &[u8])>
-    ensures sizes { IfSome result (λ x. AreSizes x.0.clients x.0.limit) }
-    ensures spelled { IfSome result (λ x. text.now ≡ world_line x.0.clients x.0.limit ++ 10 ∷ x.1.now) }
-    ensures read { (clients limit : ℕ) (rest : List ℕ) → AreSizes clients limit
-        → text.now ≡ world_line clients limit ++ 10 ∷ rest
-        → MatchOption result ⊥ (λ x. (x.0.clients ≡ clients) × (x.0.limit ≡ limit) × (x.1.now ≡ rest)) }
-{
-    match cut_at(text, b'\n') {
-        Some((line, rest)) => match read_sizes(line) {
-            Some(sizes) => Some((sizes, rest)),
-            None => None,
-        },
-        None => None,
-    }
 }
 
 /// Reads a script from its text.
@@ -150,7 +94,7 @@ fn first_sizes(text: &[u8]) -> Option<(Sizes, &[u8])>
 /// may run out at any point after the first line.
 pub fn read_script(alloc: Global, text: &[u8]) -> Result<Script, ReplayFault>
     // What is read has this text.
-    ensures spelled { IfOk result (λ s. IsScript s × (text.now ≡ script_text s)) }
+    ensures written { IfOk result (λ s. IsScript s × (text.now ≡ script_text s)) }
     // What has this text is read, unless memory runs out.
     ensures read { (s : Script) → IsScript s → text.now ≡ script_text s
         → MatchResult result (λ script. script ≡ s) (λ fault. fault ≡ OutOfMemory) }
@@ -159,11 +103,12 @@ pub fn read_script(alloc: Global, text: &[u8]) -> Result<Script, ReplayFault>
     // The first line is read before any memory is allocated.
     ensures first { ¬ (BeginsWith IsWorldLine text.now) → IfErr result (λ fault. fault ≡ BadLine 1) }
 {
-    let Some((sizes, rest)) = first_sizes(text) else {
+    let Some((sizes, rest)) = next_line::<WorldLine>(text) else {
         return Err(ReplayFault::BadLine(1));
     };
+    let (clients, limit) = sizes;
     match read_steps(alloc, rest) {
-        Ok(steps) => Ok(Script::of(sizes.clients, sizes.limit, steps)),
+        Ok(steps) => Ok(Script::of(clients, limit, steps)),
         Err(fault) => Err(fault),
     }
 }

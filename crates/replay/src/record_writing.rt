@@ -2,13 +2,14 @@
 ghost use Rattle.std.specs.Prelude.{◌≡◌, ◌≤◌, ◌++◌, ◌∷◌, [], IfOk, OnOk, string_bytes};
 ghost use Rattle.std.specs.List.{All};
 ghost use Rattle.replay.specs.Records.{entries_of};
-ghost use Rattle.replay.specs.RecordTexts.{draw_line, draws_text, pass_line, passes_text, record_text, register_text};
+ghost use Rattle.text_lines.specs.Forms.{line_of};
+ghost use Rattle.replay.specs.RecordTexts.{draw_form, draws_text, pass_form, passes_text, record_text, register_text};
 
-use cluster::RunRecord;
+use run_outcome::RunRecord;
 use std::alloc::{AllocError, Global};
 
 fn push_draw(text: &mut String, draw: &(u8, u64, usize)) -> Result<(), AllocError>
-    ensures { OnOk result (string_bytes text.new ≡ string_bytes text.old ++ (draw_line draw.now ++ 10 ∷ [])) }
+    ensures { OnOk result (string_bytes text.new ≡ string_bytes text.old ++ (line_of draw_form draw.now ++ 10 ∷ [])) }
 {
     let (client, ticket, quorum) = *draw;
     write!(text, "draw {client} {ticket} {quorum}\n")
@@ -24,7 +25,7 @@ fn push_draws(text: &mut String, draws: &[(u8, u64, usize)]) -> Result<(), Alloc
 }
 
 fn push_pass(text: &mut String, pass: &(u8, u64)) -> Result<(), AllocError>
-    ensures { OnOk result (string_bytes text.new ≡ string_bytes text.old ++ (pass_line pass.now ++ 10 ∷ [])) }
+    ensures { OnOk result (string_bytes text.new ≡ string_bytes text.old ++ (line_of pass_form pass.now ++ 10 ∷ [])) }
 {
     let (client, number) = *pass;
     write!(text, "pass {client} {number}\n")

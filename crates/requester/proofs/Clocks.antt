@@ -9,7 +9,7 @@ use Rattle.numbers.specs.Sets.{has}
 use Rattle.message.specs.declared.message.ToClient.{ToClient}
 use Rattle.message.specs.declared.message.ToVoter.{ToVoter}
 use Rattle.message.specs.declared.message.ClientBody.{ClientBody}
-use Rattle.message.specs.declared.message.ClientBody.TheVariants as tells
+use Rattle.message.specs.declared.message.ClientBody.TheVariants as to_client
 use Rattle.message.specs.declared.message.VoterBody.TheVariants as asks
 use Rattle.requester.specs.declared.state.ClientState.{ClientState}
 use Rattle.requester.specs.declared.state.Phase.{Phase}
@@ -18,7 +18,8 @@ use Rattle.requester.specs.declared.state.Seen.TheVariants.{Nothing}
 use Rattle.requester.specs.Clocks.{KeepsTime}
 use Rattle.requester.specs.Words.{holds, is_asking, is_current, is_member, is_relinquished, last_of, members}
 use Rattle.requester.specs.Soundness.{IsSound}
-use Rattle.requester.specs.Steps.{Outcome, Cause, Asks, Takes, Leaves, GivesUp, step, take, take_body, see, tell, locked, locked_by, enter_if, hold, failed, failed_by, inquired, inquired_by, remind, remind_in, remind_by, remind_member}
+use Rattle.requester.specs.Steps.{Outcome, Cause, Asks, Takes, Leaves, GivesUp, step, take, take_body, see, tell, locked, locked_by, enter_if, hold, failed, failed_by, inquired}
+use Rattle.requester.specs.Steps.{inquired_by, remind, remind_in, remind_by, remind_member}
 use Rattle.requester.proofs.Giving.{GivesBack, GivesBack-relinquish}
 use Rattle.requester.proofs.SoundSteps.{GivesBack-failed_by, IsSound-see, Ok-same, ask-Ok, leave-Ok, give_up-Ok}
 
@@ -56,9 +57,9 @@ Stays-inquired_by true true x v s = Stays-GivesBack x (inquired_by true true x v
 
 Stays-body : (x : ClientState) (v : ℕ) (b : ClientBody) → IsSound x → Stays x (take_body x v b).state
 unfolding locked failed inquired
-Stays-body x v (tells.Locked t g) s = Stays-locked_by _ _ x v t g
-Stays-body x v (tells.Fail t) s = Stays-failed_by _ x v s
-Stays-body x v (tells.Inquire g) s = Stays-inquired_by _ _ x v s
+Stays-body x v (to_client.Locked t g) s = Stays-locked_by _ _ x v t g
+Stays-body x v (to_client.Fail t) s = Stays-failed_by _ x v s
+Stays-body x v (to_client.Inquire g) s = Stays-inquired_by _ _ x v s
 
 Stays-take : (x : ClientState) (m : ToClient) → IsSound x → Stays (see x m.seen) (take x m).state
 unfolding take
@@ -88,11 +89,12 @@ old-locked_by : (b fresh : Bool) (x : ClientState) (v t g : ℕ) → b ≡ false
 old-locked_by true fresh x v t g e = absurd (false≢true (sym e))
 old-locked_by false fresh x v t g e = refl
 
-old-body : (x : ClientState) (v t g : ℕ) (b : ClientBody) → b ≡ tells.Locked t g → is_current x t ≡ false → take_body x v b ≡ record { out = tell x v (asks.Release t) ∷ []; seen = Nothing; state = x }
+old-body : (x : ClientState) (v t g : ℕ) (b : ClientBody) → b ≡ to_client.Locked t g → is_current x t ≡ false
+    → take_body x v b ≡ record { out = tell x v (asks.Release t) ∷ []; seen = Nothing; state = x }
 unfolding locked
 old-body x v t g b is over = ap (take_body x v) is ∙ old-locked_by _ _ x v t g over
 
-pub old-take : (x : ClientState) (m : ToClient) (stamp grant : ℕ) → m.body ≡ tells.Locked stamp grant → is_current x stamp ≡ false
+pub old-take : (x : ClientState) (m : ToClient) (stamp grant : ℕ) → m.body ≡ to_client.Locked stamp grant → is_current x stamp ≡ false
     → take x m ≡ record { out = tell x m.voter (asks.Release stamp) ∷ []; seen = Nothing; state = see x m.seen }
 unfolding take
 old-take x m stamp grant is over = old-body (see x m.seen) m.voter stamp grant m.body is over
@@ -126,6 +128,7 @@ pub reminds-request : (x : ClientState) (v : ℕ) → is_asking x.phase ≡ true
 unfolding remind
 reminds-request x v asking member free = reminds_in x.phase x v _ asking member (asks_by (holds x v) (is_relinquished x v) x v free)
 
-pub reminds-relinquish : (x : ClientState) (v : ℕ) → is_asking x.phase ≡ true → is_member x v ≡ true → holds x v ≡ false → is_relinquished x v ≡ true → Contains (remind x) (tell x v (asks.Relinquish (last_of x v)))
+pub reminds-relinquish : (x : ClientState) (v : ℕ) → is_asking x.phase ≡ true → is_member x v ≡ true → holds x v ≡ false → is_relinquished x v ≡ true
+    → Contains (remind x) (tell x v (asks.Relinquish (last_of x v)))
 unfolding remind
 reminds-relinquish x v asking member free marked = reminds_in x.phase x v _ asking member (gives_by (holds x v) (is_relinquished x v) x v free marked)

@@ -8,7 +8,7 @@ use Rattle.message.specs.declared.message.ToClient.{ToClient}
 use Rattle.message.specs.declared.message.VoterBody.{VoterBody}
 use Rattle.message.specs.declared.message.VoterBody.TheVariants as asks
 use Rattle.message.specs.declared.message.ClientBody.{ClientBody}
-use Rattle.message.specs.declared.message.ClientBody.TheVariants as tells
+use Rattle.message.specs.declared.message.ClientBody.TheVariants as to_client
 use Rattle.requester.specs.declared.state.Phase.{Phase}
 use Rattle.requester.specs.declared.state.Phase.TheVariants.{Idle, Asking, Inside}
 use Rattle.requester.specs.declared.state.Seen.{Seen}
@@ -17,10 +17,12 @@ use Rattle.requester.specs.declared.state.ClientState.{ClientState}
 use Rattle.requester.specs.Words.{is_idle, is_inside, members, is_current, held_of, holds, holds_under, last_of}
 use Rattle.requester.specs.Soundness.{IsSound}
 use Rattle.requester.specs.RequesterContract.{Accepts, IsLive, IsLocked, Locks, Sees, KeepsQuorum, Says, MeetsContract, Repeats, AllRepeat}
-use Rattle.requester.specs.Steps.{Outcome, silent, cleared, begun, asked, tell, is_fresh, hold, enter_if, locked, locked_by, failed, failed_by, inquired, inquired_by, see, take_body, take, released, Cause, Asks, Takes, Leaves, GivesUp, step, remind, remind_in, remind_by, remind_member}
+use Rattle.requester.specs.Steps.{Outcome, silent, cleared, begun, asked, tell, is_fresh, hold, enter_if, locked, locked_by, failed, failed_by, inquired, inquired_by, see}
+use Rattle.requester.specs.Steps.{take_body, take, released, Cause, Asks, Takes, Leaves, GivesUp, step, remind, remind_in, remind_by, remind_member}
 use Rattle.requester.proofs.Members.{absurd-true_false, both_true-from_and, AllByRecursion-weaker, AllByRecursion-map_members, AllByRecursion-flat_map_members, get_or-zeros}
 use Rattle.requester.proofs.Giving.{GivesBack, IsGiving, Given, GivesBack-silent, GivesBack-relinquish}
-use Rattle.requester.proofs.SoundSteps.{Counts, Counts-is_fresh, is_current-busy, HoldsMore-hold, is_inside-from_Counts, GivesBack-failed_by, is_asking-outside, IsSound-see, Ok-same, ask-Ok, leave-Ok, give_up-Ok}
+use Rattle.requester.proofs.SoundSteps.{Counts, Counts-is_fresh, is_current-busy, HoldsMore-hold, is_inside-from_Counts, GivesBack-failed_by, is_asking-outside, IsSound-see}
+use Rattle.requester.proofs.SoundSteps.{Ok-same, ask-Ok, leave-Ok, give_up-Ok}
 
 -- Steps that give votes back
 
@@ -81,7 +83,7 @@ is_current-false Idle s t e = inl refl
 is_current-false Asking s t e = inr (λ same. grind (arith, nat_tests))
 is_current-false Inside s t e = inr (λ same. grind (arith, nat_tests))
 
-MeetsContract-enter : (b : Bool) (x : ClientState) (m : ToClient) (t g : ℕ) → m.body ≡ tells.Locked t g → IsSound x → Counts x m.voter g → is_idle x.phase ≡ false → t ≡ x.stamp
+MeetsContract-enter : (b : Bool) (x : ClientState) (m : ToClient) (t g : ℕ) → m.body ≡ to_client.Locked t g → IsSound x → Counts x m.voter g → is_idle x.phase ≡ false → t ≡ x.stamp
     → MeetsContract x (Takes m) (enter_if b (hold x m.voter g))
 MeetsContract-enter b x m t g body s c busy current = elim b as (λ b. MeetsContract x (Takes m) (enter_if b (hold x m.voter g))) [
   | true ↦ record {
@@ -123,7 +125,7 @@ MeetsContract-enter b x m t g body s c busy current = elim b as (λ b. MeetsCont
           inl (holds_under-same_held x (hold x m.voter g) v h (more.other_held v other) e, refl)
     ]
 
-MeetsContract-locked_by : (current fresh : Bool) (x : ClientState) (m : ToClient) (t g : ℕ) → m.body ≡ tells.Locked t g → IsSound x → is_current x t ≡ current → is_fresh x m.voter g ≡ fresh
+MeetsContract-locked_by : (current fresh : Bool) (x : ClientState) (m : ToClient) (t g : ℕ) → m.body ≡ to_client.Locked t g → IsSound x → is_current x t ≡ current → is_fresh x m.voter g ≡ fresh
     → MeetsContract x (Takes m) (locked_by current fresh x m.voter t g)
 MeetsContract-locked_by false fresh x m t g body s c f = record {
   id = refl;
@@ -162,9 +164,9 @@ MeetsContract-inquired_by true true x m s = MeetsContract-GivesBack x m (inquire
 
 MeetsContract-body : (x : ClientState) (m : ToClient) (b : ClientBody) → m.body ≡ b → IsSound x → MeetsContract x (Takes m) (take_body x m.voter b)
 unfolding locked failed inquired
-MeetsContract-body x m (tells.Locked t g) body s = MeetsContract-locked_by _ _ x m t g body s refl refl
-MeetsContract-body x m (tells.Fail t) body s = MeetsContract-failed_by _ x m s
-MeetsContract-body x m (tells.Inquire g) body s = MeetsContract-inquired_by _ _ x m s
+MeetsContract-body x m (to_client.Locked t g) body s = MeetsContract-locked_by _ _ x m t g body s refl refl
+MeetsContract-body x m (to_client.Fail t) body s = MeetsContract-failed_by _ x m s
+MeetsContract-body x m (to_client.Inquire g) body s = MeetsContract-inquired_by _ _ x m s
 
 pub MeetsContract-take : (x : ClientState) (m : ToClient) → IsSound x → MeetsContract x (Takes m) (take x m)
 unfolding take

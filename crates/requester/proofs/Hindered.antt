@@ -8,11 +8,12 @@ use Rattle.numbers.specs.Sets.{has}
 use Rattle.numbers.proofs.SetLemmas.{has-set_where}
 use Rattle.message.specs.declared.message.ToClient.{ToClient}
 use Rattle.message.specs.declared.message.ClientBody.{ClientBody}
-use Rattle.message.specs.declared.message.ClientBody.TheVariants as tells
+use Rattle.message.specs.declared.message.ClientBody.TheVariants as to_client
 use Rattle.requester.specs.declared.state.ClientState.{ClientState}
 use Rattle.requester.specs.Words.{is_asking, members, is_member, held_of, holds, holds_under, last_of, is_failed, is_inquired, is_relinquished, is_hindered, with_voter}
 use Rattle.requester.specs.Soundness.{HasPlaces, IsSound}
-use Rattle.requester.specs.Steps.{Outcome, relinquish, relinquish_if, relinquish_each, fail, failed, failed_by, inquired, inquired_by, hold, is_fresh, locked, locked_by, enter_if, see, take, take_body}
+use Rattle.requester.specs.Steps.{Outcome, relinquish, relinquish_if, relinquish_each, fail, failed, failed_by, inquired, inquired_by, hold, is_fresh, locked, locked_by, enter_if}
+use Rattle.requester.specs.Steps.{see, take, take_body}
 use Rattle.requester.specs.Held.{IsGivenBack, KeepsMark}
 use Rattle.requester.proofs.Members.{absurd-true_false, has-IsSet_below, get_or-some_below, has-without_voter-other}
 use Rattle.std.proofs.lemmas.List.{get_or-set_same, get_or-set_other}
@@ -133,17 +134,20 @@ returned-inquire x v asking held hindered below places =
 
 -- ---- any message
 
-fails-body : (x : ClientState) (v : ℕ) (b : ClientBody) → IsSound x → is_asking x.phase ≡ true → is_member x v ≡ true → holds x v ≡ false → b ≡ tells.Fail x.stamp → is_hindered (take_body x v b).state ≡ true
+fails-body : (x : ClientState) (v : ℕ) (b : ClientBody) → IsSound x → is_asking x.phase ≡ true → is_member x v ≡ true → holds x v ≡ false → b ≡ to_client.Fail x.stamp
+    → is_hindered (take_body x v b).state ≡ true
 fails-body x v b s asking member free is = subst (λ c. is_hindered (take_body x v c).state ≡ true) (sym is) (hinders-fail x v asking member free s)
 
-pub hinders-take : (x : ClientState) (m : ToClient) → IsSound x → is_asking x.phase ≡ true → is_member x m.voter ≡ true → holds x m.voter ≡ false → m.body ≡ tells.Fail x.stamp → is_hindered (take x m).state ≡ true
+pub hinders-take : (x : ClientState) (m : ToClient) → IsSound x → is_asking x.phase ≡ true → is_member x m.voter ≡ true → holds x m.voter ≡ false → m.body ≡ to_client.Fail x.stamp
+    → is_hindered (take x m).state ≡ true
 unfolding take
 hinders-take x m s asking member free is = fails-body (see x m.seen) m.voter m.body (IsSound-see x m.seen s) asking member free is
 
-inquires-body : (x : ClientState) (v : ℕ) (b : ClientBody) → HasPlaces x → is_asking x.phase ≡ true → holds x v ≡ true → is_hindered x ≡ true → v < 64 → b ≡ tells.Inquire (held_of x v) → IsReturned x (take_body x v b) v
+inquires-body : (x : ClientState) (v : ℕ) (b : ClientBody) → HasPlaces x → is_asking x.phase ≡ true → holds x v ≡ true → is_hindered x ≡ true → v < 64 → b ≡ to_client.Inquire (held_of x v)
+    → IsReturned x (take_body x v b) v
 inquires-body x v b places asking held hindered below is = subst (λ c. IsReturned x (take_body x v c) v) (sym is) (returned-inquire x v asking held hindered below places)
 
-pub gives-take : (x : ClientState) (m : ToClient) → IsSound x → is_asking x.phase ≡ true → holds x m.voter ≡ true → is_hindered x ≡ true → m.voter < 64 → m.body ≡ tells.Inquire (held_of x m.voter)
+pub gives-take : (x : ClientState) (m : ToClient) → IsSound x → is_asking x.phase ≡ true → holds x m.voter ≡ true → is_hindered x ≡ true → m.voter < 64 → m.body ≡ to_client.Inquire (held_of x m.voter)
     → IsGivenBack x (take x m) m.voter × (is_relinquished (take x m).state m.voter ≡ true)
 unfolding take
 gives-take x m s asking held hindered below is =
@@ -229,9 +233,9 @@ marks-locked_by true true x v t g u f s below = marks-enter _ x (hold x v g) u (
 
 marks-body : (x : ClientState) (v : ℕ) (b : ClientBody) (u : ℕ) → IsSound x → u < 64 → KeepsMark x (take_body x v b).state u
 unfolding locked failed inquired
-marks-body x v (tells.Locked t g) u s below = marks-locked_by _ _ x v t g u refl s below
-marks-body x v (tells.Fail t) u s below = marks-failed_by _ x v u s.places below
-marks-body x v (tells.Inquire g) u s below = marks-inquired_by _ _ x v u s.places below
+marks-body x v (to_client.Locked t g) u s below = marks-locked_by _ _ x v t g u refl s below
+marks-body x v (to_client.Fail t) u s below = marks-failed_by _ x v u s.places below
+marks-body x v (to_client.Inquire g) u s below = marks-inquired_by _ _ x v u s.places below
 
 pub marks-take : (x : ClientState) (m : ToClient) (u : ℕ) → IsSound x → u < 64 → KeepsMark x (take x m).state u
 unfolding take

@@ -1,5 +1,6 @@
 -- Facts on the members of a quorum, on sets of voters, and on lists with a place for each voter.
-use Rattle.std.proofs.Common.{◌≡◌, ◌≢◌, ℕ, zero, suc, ◌+◌, ◌<◌, ◌≤◌, Bool, true, false, ◌&&◌, ◌||◌, not, map, eqb, ltb, List, [], ◌∷◌, ◌++◌, length, get_or, replicate, refl, sym, ap, subst, ◌∙◌, ◌⊎◌, inl, inr, arith}
+use Rattle.std.proofs.Common.{◌≡◌, ◌≢◌, ℕ, zero, suc, ◌+◌, ◌<◌, ◌≤◌, Bool, true, false, ◌&&◌, ◌||◌, not, map, eqb, ltb, List, [], ◌∷◌, ◌++◌, length, get_or, replicate, refl, sym}
+use Rattle.std.proofs.Common.{ap, subst, ◌∙◌, ◌⊎◌, inl, inr, arith}
 use Rattle.std.specs.List.{AllByRecursion, IsDistinct, list_all, flat_map}
 use Rattle.std.proofs.lemmas.Bool.{false≢true, cases_lt, cases_eq, eq-eqb, ne_eqb}
 use Rattle.std.proofs.lemmas.Bool.Decides.{nat_tests}
@@ -94,7 +95,8 @@ AllByRecursion-map_members P f (v ∷ vs) h = (h v (grind (arith, nat_tests)), A
 
 pub AllByRecursion-flat_map_members : {A : Type 0} (P : A → Type 0) (f : ℕ → List A) (vs : List ℕ) → ((v : ℕ) → has vs v ≡ true → AllByRecursion P (f v)) → AllByRecursion P (flat_map f vs)
 AllByRecursion-flat_map_members P f [] h = tt
-AllByRecursion-flat_map_members P f (v ∷ vs) h = AllByRecursion-append P (f v) (flat_map f vs) (h v (grind (arith, nat_tests))) (AllByRecursion-flat_map_members P f vs (λ u member. h u (grind (arith, nat_tests))))
+AllByRecursion-flat_map_members P f (v ∷ vs) h = AllByRecursion-append P (f v) (flat_map f vs) (h v (grind (arith, nat_tests)))
+    (AllByRecursion-flat_map_members P f vs (λ u member. h u (grind (arith, nat_tests))))
 
 -- Places
 

@@ -6,7 +6,7 @@ use Rattle.message.specs.declared.message.ToVoter.{ToVoter}
 use Rattle.message.specs.declared.message.ToClient.{ToClient}
 use Rattle.message.specs.declared.message.VoterBody.TheVariants as asks
 use Rattle.message.specs.declared.message.ClientBody.{ClientBody}
-use Rattle.message.specs.declared.message.ClientBody.TheVariants as tells
+use Rattle.message.specs.declared.message.ClientBody.TheVariants as to_client
 use Rattle.requester.specs.declared.state.Phase.{Phase}
 use Rattle.requester.specs.declared.state.Phase.TheVariants.{Idle, Asking, Inside}
 use Rattle.requester.specs.declared.state.Seen.{Seen}
@@ -15,7 +15,8 @@ use Rattle.requester.specs.declared.state.ClientState.{ClientState}
 use Rattle.requester.specs.Words.{is_idle, is_inside, members, is_member, held_of, is_relinquished}
 use Rattle.requester.specs.Soundness.{IsSound}
 use Rattle.requester.specs.RequesterContract.{Accepts, AllInRange, ComesInRange, IsLocked, IsReached, Locks, RemindersInRange, SaysInRange}
-use Rattle.requester.specs.Steps.{Outcome, asked, begun, tell, hold, enter_if, locked, locked_by, failed, failed_by, inquired, inquired_by, see, take, take_body, released, Cause, Asks, Takes, Leaves, GivesUp, step, remind, remind_in, remind_by, remind_member}
+use Rattle.requester.specs.Steps.{Outcome, asked, begun, tell, hold, enter_if, locked, locked_by, failed, failed_by, inquired, inquired_by, see, take, take_body, released, Cause}
+use Rattle.requester.specs.Steps.{Asks, Takes, Leaves, GivesUp, step, remind, remind_in, remind_by, remind_member}
 use Rattle.requester.proofs.Members.{AllByRecursion-map_members, AllByRecursion-flat_map_members, AllByRecursion-weaker, has-IsSet_below}
 use Rattle.requester.proofs.Giving.{GivesBack, IsGiving, GivesBack-relinquish}
 use Rattle.requester.proofs.SoundSteps.{is_asking-busy, ask-Ok, GivesBack-failed_by, give_up-Ok, leave-Ok, Ok-same, IsSound-see}
@@ -44,7 +45,7 @@ AllInRange-enter : (b : Bool) (cause : Cause) (x : ClientState) → AllInRange c
 AllInRange-enter false cause x = tt
 AllInRange-enter true cause x = tt
 
-AllInRange-locked_by : (current fresh : Bool) (x : ClientState) (m : ToClient) (t g : ℕ) → m.body ≡ tells.Locked t g → m.voter < 64 → ComesInRange x.limit (Takes m)
+AllInRange-locked_by : (current fresh : Bool) (x : ClientState) (m : ToClient) (t g : ℕ) → m.body ≡ to_client.Locked t g → m.voter < 64 → ComesInRange x.limit (Takes m)
     → AllInRange (Takes m) (locked_by current fresh x m.voter t g).state (locked_by current fresh x m.voter t g).out
 AllInRange-locked_by false fresh x m t g body below came =
     let locks : IsLocked (Takes m) m.voter t g = subst (λ b. Locks m.voter b m.voter t g) (sym body) (refl, refl, refl) in
@@ -64,9 +65,9 @@ AllInRange-inquired_by true true x m s = AllInRange-GivesBack x (Takes m) (inqui
 AllInRange-body : (x : ClientState) (m : ToClient) (b : ClientBody) → m.body ≡ b → IsSound x → m.voter < 64 → ComesInRange x.limit (Takes m)
     → AllInRange (Takes m) (take_body x m.voter b).state (take_body x m.voter b).out
 unfolding locked failed inquired
-AllInRange-body x m (tells.Locked t g) body s below came = AllInRange-locked_by _ _ x m t g body below came
-AllInRange-body x m (tells.Fail t) body s below came = AllInRange-failed_by _ x m s
-AllInRange-body x m (tells.Inquire g) body s below came = AllInRange-inquired_by _ _ x m s
+AllInRange-body x m (to_client.Locked t g) body s below came = AllInRange-locked_by _ _ x m t g body below came
+AllInRange-body x m (to_client.Fail t) body s below came = AllInRange-failed_by _ x m s
+AllInRange-body x m (to_client.Inquire g) body s below came = AllInRange-inquired_by _ _ x m s
 
 AllInRange-take : (x : ClientState) (m : ToClient) → IsSound x → m.voter < 64 → ComesInRange x.limit (Takes m) → AllInRange (Takes m) (take x m).state (take x m).out
 unfolding take

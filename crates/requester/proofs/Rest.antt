@@ -27,7 +27,8 @@ filter-relinquish : (s : ClientState) (v : ℕ) (vs : List ℕ) → AllByRecursi
 unfolding relinquish
 filter-relinquish s v vs below h = filter-relinquish_if (holds s v) s v vs below h
 
-pub relinquish_inquired-cons_state : (s : ClientState) (v : ℕ) (vs : List ℕ) → AllByRecursion (λ u. u < 64) vs → AllByRecursion (λ u. eqb v u ≡ false) vs → (relinquish_inquired s (v ∷ vs)).state ≡ (relinquish_inquired (relinquish_marked s v).state vs).state
+pub relinquish_inquired-cons_state : (s : ClientState) (v : ℕ) (vs : List ℕ) → AllByRecursion (λ u. u < 64) vs → AllByRecursion (λ u. eqb v u ≡ false) vs
+    → (relinquish_inquired s (v ∷ vs)).state ≡ (relinquish_inquired (relinquish_marked s v).state vs).state
 relinquish_inquired-cons_state s v vs below h =
     let F = filter (is_inquired s) vs in
     elim (is_inquired s v) as (λ b. (relinquish_each s (cond b (v ∷ F) F)).state ≡ (relinquish_inquired (relinquish_marked_if b s v).state vs).state) [
@@ -35,7 +36,8 @@ relinquish_inquired-cons_state s v vs below h =
       | false ↦ refl
     ]
 
-pub relinquish_inquired-cons_out : (s : ClientState) (v : ℕ) (vs : List ℕ) → AllByRecursion (λ u. u < 64) vs → AllByRecursion (λ u. eqb v u ≡ false) vs → (relinquish_inquired s (v ∷ vs)).out ≡ (relinquish_marked s v).out ++ (relinquish_inquired (relinquish_marked s v).state vs).out
+pub relinquish_inquired-cons_out : (s : ClientState) (v : ℕ) (vs : List ℕ) → AllByRecursion (λ u. u < 64) vs → AllByRecursion (λ u. eqb v u ≡ false) vs
+    → (relinquish_inquired s (v ∷ vs)).out ≡ (relinquish_marked s v).out ++ (relinquish_inquired (relinquish_marked s v).state vs).out
 relinquish_inquired-cons_out s v vs below h =
     let F = filter (is_inquired s) vs in
     elim (is_inquired s v) as (λ b. (relinquish_each s (cond b (v ∷ F) F)).out ≡ (relinquish_marked_if b s v).out ++ (relinquish_inquired (relinquish_marked_if b s v).state vs).out) [

@@ -9,7 +9,7 @@ use Rattle.std.proofs.lemmas.List.{get_or-set_other, get_or-set_same, length-set
 use Rattle.numbers.specs.Sets.{has, IsSet}
 use Rattle.message.specs.declared.message.ToClient.{ToClient}
 use Rattle.message.specs.declared.message.ClientBody.{ClientBody}
-use Rattle.message.specs.declared.message.ClientBody.TheVariants as tells
+use Rattle.message.specs.declared.message.ClientBody.TheVariants as to_client
 use Rattle.requester.specs.declared.state.Phase.{Phase}
 use Rattle.requester.specs.declared.state.Phase.TheVariants.{Idle, Asking, Inside}
 use Rattle.requester.specs.declared.state.Seen.{Seen}
@@ -18,7 +18,8 @@ use Rattle.requester.specs.declared.state.ClientState.{ClientState}
 use Rattle.requester.specs.Words.{is_idle, is_asking, is_inside, members, is_member, is_current, held_of, holds, holds_under, is_covered, last_of, is_relinquished, is_inquired, is_spent}
 use Rattle.requester.specs.Soundness.{IsHeldWell, HasPlaces, IsSound}
 use Rattle.requester.specs.RequesterContract.{Accepts}
-use Rattle.requester.specs.Steps.{Outcome, cleared, begun, asked, ask, ask_in, ask_unless, is_fresh, hold, enter_if, locked, locked_by, fail, failed, failed_by, inquire, inquired, inquired_by, see, take_body, take, released, leave, leave_in, give_up, give_up_in, Cause, Asks, Takes, Leaves, GivesUp, step, start}
+use Rattle.requester.specs.Steps.{Outcome, cleared, begun, asked, ask, ask_in, ask_unless, is_fresh, hold, enter_if, locked, locked_by, fail, failed, failed_by, inquire, inquired}
+use Rattle.requester.specs.Steps.{inquired_by, see, take_body, take, released, leave, leave_in, give_up, give_up_in, Cause, Asks, Takes, Leaves, GivesUp, step, start}
 use Rattle.requester.proofs.Members.{absurd-true_false, both_true-from_and, AllByRecursion-weaker, false-from_not, has-IsSet_below, list_all-member, has-with_voter, has-without_voter, get_or-zeros}
 use Rattle.requester.proofs.Giving.{GivesBack, IsGiving, Kept, Given, GivesBack-relinquish, GivesBack-relinquish_each}
 
@@ -251,15 +252,16 @@ IsSound-inquire x v s h =
 IsSound-inquired_by : (b hindered : Bool) (x : ClientState) (v g : ℕ) → IsSound x → (is_asking x.phase && holds_under x v g) ≡ b → IsSound (inquired_by b hindered x v).state
 IsSound-inquired_by false hindered x v g s e = s
 IsSound-inquired_by true false x v g s e = IsSound-inquire x v s (holds_under-holds x v g (both_true-from_and (is_asking x.phase) (holds_under x v g) e).1)
-IsSound-inquired_by true true x v g s e = IsSound-GivesBack x (inquired_by true true x v) s (is_asking-outside x.phase (both_true-from_and (is_asking x.phase) (holds_under x v g) e).0) (GivesBack-relinquish x v s.places)
+IsSound-inquired_by true true x v g s e = IsSound-GivesBack x (inquired_by true true x v) s (is_asking-outside x.phase (both_true-from_and (is_asking x.phase) (holds_under x v g) e).0)
+    (GivesBack-relinquish x v s.places)
 
 -- Any message
 
 IsSound-body : (x : ClientState) (v : ℕ) (b : ClientBody) → IsSound x → IsSound (take_body x v b).state
 unfolding locked failed inquired
-IsSound-body x v (tells.Locked t g) s = IsSound-locked_by _ _ x v t g s refl refl
-IsSound-body x v (tells.Fail t) s = IsSound-failed_by _ x v s (is_asking-from_failed x v t)
-IsSound-body x v (tells.Inquire g) s = IsSound-inquired_by _ _ x v g s refl
+IsSound-body x v (to_client.Locked t g) s = IsSound-locked_by _ _ x v t g s refl refl
+IsSound-body x v (to_client.Fail t) s = IsSound-failed_by _ x v s (is_asking-from_failed x v t)
+IsSound-body x v (to_client.Inquire g) s = IsSound-inquired_by _ _ x v g s refl
 
 pub IsSound-see : (x : ClientState) (t : ℕ) → IsSound x → IsSound (see x t)
 IsSound-see x t s = IsSound-raised x (see x t).clock x.inquired s (omega arith) s.inquired

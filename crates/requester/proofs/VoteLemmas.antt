@@ -3,7 +3,7 @@ use Rattle.std.proofs.Common.{◌≡◌, ℕ, Bool, true, false, ◌&&◌, List,
 use Rattle.std.proofs.lemmas.Bool.Decides.{nat_tests}
 use Rattle.message.specs.declared.message.ToClient.{ToClient}
 use Rattle.message.specs.declared.message.ClientBody.{ClientBody}
-use Rattle.message.specs.declared.message.ClientBody.TheVariants as tells
+use Rattle.message.specs.declared.message.ClientBody.TheVariants as to_client
 use Rattle.requester.specs.declared.state.ClientState.{ClientState}
 use Rattle.requester.specs.Words.{is_idle, is_inside, is_member, members, held_of, holds}
 use Rattle.requester.specs.Soundness.{IsSound}
@@ -26,9 +26,9 @@ held-locked_by true true x v t g e = held-enter_if _ (hold x v g)
 
 HoldsBesides-take_body : (x : ClientState) (n v : ℕ) (b : ClientBody) → would_hold_body x v b ≡ true → HoldsBesides x v b (take_body (see x n) v b).state
 unfolding locked
-HoldsBesides-take_body x n v (tells.Locked t g) e = held-locked_by _ _ (see x n) v t g e
-HoldsBesides-take_body x n v (tells.Fail t) e = absurd-true_false false e refl
-HoldsBesides-take_body x n v (tells.Inquire g) e = absurd-true_false false e refl
+HoldsBesides-take_body x n v (to_client.Locked t g) e = held-locked_by _ _ (see x n) v t g e
+HoldsBesides-take_body x n v (to_client.Fail t) e = absurd-true_false false e refl
+HoldsBesides-take_body x n v (to_client.Inquire g) e = absurd-true_false false e refl
 
 pub HoldsBesides-take : (x : ClientState) (m : ToClient) → would_hold x m ≡ true → HoldsBesides x m.voter m.body (take x m).state
 unfolding would_hold take
@@ -58,14 +58,14 @@ IsKeptOrGiven-inquired_by true true x v s u = IsKeptOrGiven-GivesBack x (inquire
 
 IsKeptOrGiven-take_body : (x : ClientState) (v : ℕ) (b : ClientBody) → IsSound x → would_hold_body x v b ≡ false → (u : ℕ) → IsKeptOrGiven x (take_body x v b) u
 unfolding locked failed inquired
-IsKeptOrGiven-take_body x v (tells.Locked t g) s e u = IsKeptOrGiven-locked_by _ _ x v t g e u
-IsKeptOrGiven-take_body x v (tells.Fail t) s e u = IsKeptOrGiven-failed_by _ x v s u
-IsKeptOrGiven-take_body x v (tells.Inquire g) s e u = IsKeptOrGiven-inquired_by _ _ x v s u
+IsKeptOrGiven-take_body x v (to_client.Locked t g) s e u = IsKeptOrGiven-locked_by _ _ x v t g e u
+IsKeptOrGiven-take_body x v (to_client.Fail t) s e u = IsKeptOrGiven-failed_by _ x v s u
+IsKeptOrGiven-take_body x v (to_client.Inquire g) s e u = IsKeptOrGiven-inquired_by _ _ x v s u
 
 would_hold-see : (x : ClientState) (n v : ℕ) (b : ClientBody) → would_hold_body (see x n) v b ≡ would_hold_body x v b
-would_hold-see x n v (tells.Locked t g) = refl
-would_hold-see x n v (tells.Fail t) = refl
-would_hold-see x n v (tells.Inquire g) = refl
+would_hold-see x n v (to_client.Locked t g) = refl
+would_hold-see x n v (to_client.Fail t) = refl
+would_hold-see x n v (to_client.Inquire g) = refl
 
 pub IsKeptOrGiven-take : (x : ClientState) (m : ToClient) → IsSound x → would_hold x m ≡ false → (v : ℕ) → IsKeptOrGiven x (take x m) v
 unfolding would_hold take

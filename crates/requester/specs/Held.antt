@@ -2,7 +2,7 @@
 use Rattle.std.specs.Prelude.{ℕ, ◌≡◌, ◌⊎◌, true, slice_set}
 use Rattle.std.specs.List.{Contains}
 use Rattle.message.specs.declared.message.ClientBody.{ClientBody}
-use Rattle.message.specs.declared.message.ClientBody.TheVariants as tells
+use Rattle.message.specs.declared.message.ClientBody.TheVariants as to_client
 use Rattle.message.specs.declared.message.VoterBody.TheVariants as asks
 use Rattle.requester.specs.declared.state.ClientState.{ClientState}
 use Rattle.requester.specs.Words.{held_of, holds, is_relinquished, last_of}
@@ -10,9 +10,9 @@ use Rattle.requester.specs.Steps.{Outcome, tell}
 
 -- the vote of the LOCKED is added to the held ones, and no other is
 abbrev pub HoldsBesides : ClientState → ℕ → ClientBody → ClientState → Type 0
-HoldsBesides x voter (tells.Locked stamp grant) y = y.held ≡ slice_set x.held voter grant
-HoldsBesides x voter (tells.Fail stamp) y = ⊥
-HoldsBesides x voter (tells.Inquire grant) y = ⊥
+HoldsBesides x voter (to_client.Locked stamp grant) y = y.held ≡ slice_set x.held voter grant
+HoldsBesides x voter (to_client.Fail stamp) y = ⊥
+HoldsBesides x voter (to_client.Inquire grant) y = ⊥
 
 -- the vote was held, no longer is, and its RELINQUISH is sent
 abbrev pub IsGivenBack : ClientState → Outcome → ℕ → Type 0

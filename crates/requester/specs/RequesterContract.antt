@@ -8,7 +8,7 @@ use Rattle.message.specs.declared.message.ToVoter.{ToVoter}
 use Rattle.message.specs.declared.message.VoterBody.{VoterBody}
 use Rattle.message.specs.declared.message.VoterBody.TheVariants as asks
 use Rattle.message.specs.declared.message.ClientBody.{ClientBody}
-use Rattle.message.specs.declared.message.ClientBody.TheVariants as tells
+use Rattle.message.specs.declared.message.ClientBody.TheVariants as to_client
 use Rattle.requester.specs.declared.state.Phase.{Phase}
 use Rattle.requester.specs.declared.state.Seen.{Seen}
 use Rattle.requester.specs.declared.state.Seen.TheVariants.{Nothing, Entered, Left}
@@ -28,9 +28,9 @@ Accepts x GivesUp = Unit {0}
 
 -- the message is a LOCKED of this voter, with this stamp and this grant
 abbrev pub Locks : ℕ → ClientBody → ℕ → ℕ → ℕ → Type 0
-Locks sender (tells.Locked s g) voter stamp grant = (voter ≡ sender) × (stamp ≡ s) × (grant ≡ g)
-Locks sender (tells.Fail s) voter stamp grant = ⊥
-Locks sender (tells.Inquire g) voter stamp grant = ⊥
+Locks sender (to_client.Locked s g) voter stamp grant = (voter ≡ sender) × (stamp ≡ s) × (grant ≡ g)
+Locks sender (to_client.Fail s) voter stamp grant = ⊥
+Locks sender (to_client.Inquire g) voter stamp grant = ⊥
 
 -- the cause of the step is this LOCKED
 abbrev pub IsLocked : Cause → ℕ → ℕ → ℕ → Type 0

@@ -9,7 +9,7 @@ use Rattle.message.specs.declared.message.ToClient.{ToClient}
 use Rattle.message.specs.declared.message.VoterBody.{VoterBody}
 use Rattle.message.specs.declared.message.VoterBody.TheVariants as asks
 use Rattle.message.specs.declared.message.ClientBody.{ClientBody}
-use Rattle.message.specs.declared.message.ClientBody.TheVariants as tells
+use Rattle.message.specs.declared.message.ClientBody.TheVariants as to_client
 use Rattle.requester.specs.declared.fault.ClientFault.{ClientFault}
 use Rattle.requester.specs.declared.fault.ClientFault.TheVariants.{Busy, NotInside, NotAsking, StampsSpent}
 use Rattle.requester.specs.declared.state.Phase.{Phase}
@@ -34,8 +34,8 @@ abbrev pub tell : ClientState → ℕ → VoterBody → ToVoter
 tell x voter body = record { client = x.id; voter = voter; body = body }
 
 -- the same message to each member of the quorum, in ascending order
-abbrev pub tell_members : ClientState → VoterBody → List ToVoter
-tell_members x body = map (λ v. tell x v body) (members x)
+abbrev pub send_to_members : ClientState → VoterBody → List ToVoter
+send_to_members x body = map (λ v. tell x v body) (members x)
 
 -- no vote is held, and no voter is marked
 abbrev pub cleared : ClientState → ClientState
@@ -60,7 +60,7 @@ begun x quorum = record (cleared x) {
 -- REQUEST to each member
 abbrev pub asked : ClientState → List ℕ → Outcome
 asked x quorum = record {
-  out = tell_members (begun x quorum) (asks.Request (x.clock + 1));
+  out = send_to_members (begun x quorum) (asks.Request (x.clock + 1));
   seen = Nothing;
   state = begun x quorum;
 }
@@ -201,9 +201,9 @@ see x stamp = record x { clock = max x.clock stamp }
 
 -- a message, by its kind
 abbrev pub take_body : ClientState → ℕ → ClientBody → Outcome
-take_body x voter (tells.Locked stamp grant) = locked x voter stamp grant
-take_body x voter (tells.Fail stamp) = failed x voter stamp
-take_body x voter (tells.Inquire grant) = inquired x voter grant
+take_body x voter (to_client.Locked stamp grant) = locked x voter stamp grant
+take_body x voter (to_client.Fail stamp) = failed x voter stamp
+take_body x voter (to_client.Inquire grant) = inquired x voter grant
 
 -- the client takes a message
 unfoldable pub take : ClientState → ToClient → Outcome
@@ -211,9 +211,9 @@ take x m = take_body (see x m.seen) m.voter m.body
 
 -- whether the client would hold the vote of a message: the message is a LOCKED that counts
 abbrev pub would_hold_body : ClientState → ℕ → ClientBody → Bool
-would_hold_body x voter (tells.Locked stamp grant) = is_current x stamp && is_fresh x voter grant
-would_hold_body x voter (tells.Fail stamp) = false
-would_hold_body x voter (tells.Inquire grant) = false
+would_hold_body x voter (to_client.Locked stamp grant) = is_current x stamp && is_fresh x voter grant
+would_hold_body x voter (to_client.Fail stamp) = false
+would_hold_body x voter (to_client.Inquire grant) = false
 
 -- whether the message is a LOCKED that counts
 unfoldable pub would_hold : ClientState → ToClient → Bool
@@ -224,7 +224,7 @@ would_hold x m = would_hold_body x m.voter m.body
 -- RELEASE to each member, and the request is over
 abbrev pub released : ClientState → Seen → Outcome
 released x seen = record {
-  out = tell_members x (asks.Release x.stamp);
+  out = send_to_members x (asks.Release x.stamp);
   seen = seen;
   state = record (cleared x) { phase = Idle };
 }
@@ -266,9 +266,9 @@ step x Leaves = leave x
 step x GivesUp = give_up x
 
 -- what is known of a step beforehand: the fault with which it would fail, or none if it would not
-abbrev pub Foretells : {F G : Type 0} → Option G → Result F G → Type 0
-Foretells (Some fault) result = result ≡ Err fault
-Foretells {F = F} None result = (o : F) × (result ≡ Ok o)
+abbrev pub Predicts : {F G : Type 0} → Option G → Result F G → Type 0
+Predicts (Some fault) result = result ≡ Err fault
+Predicts {F = F} None result = (o : F) × (result ≡ Ok o)
 
 -- Reminders
 

@@ -1,8 +1,8 @@
 //! Laws: what is proved about the definitions.
 ghost use Rattle.std.specs.List.{Contains};
-ghost use Rattle.std.specs.Prelude.{◌≡◌, ◌<◌, ◌≤◌, ◌^◌, ◌∷◌, ℕ, Err, Ok, List, [], true, false};
+ghost use Rattle.std.specs.Prelude.{◌≡◌, ◌<◌, ◌≤◌, ◌∷◌, ℕ, Err, Ok, List, [], true, false};
 ghost use Rattle.numbers.specs.Bounds.{max_clients, max_stamp, max_voters};
-ghost use Rattle.message.specs.declared.message.ClientBody.TheVariants as tells;
+ghost use Rattle.message.specs.declared.message.ClientBody.TheVariants as to_client;
 ghost use Rattle.message.specs.declared.message.ToClient.{ToClient};
 ghost use Rattle.message.specs.declared.message.VoterBody.TheVariants as asks;
 ghost use Rattle.requester.specs.declared.state.ClientState.{ClientState};
@@ -62,7 +62,7 @@ pub fn messages_move_votes()
 
 /// A client holds only votes of members of its quorum. While it is idle it holds nothing, and while
 /// it is inside it holds the vote of each member.
-pub fn phases_tell_votes()
+pub fn phases_show_votes()
     ensures of_members { (x : ClientState) → IsSound x → HoldsOfMembers x }
     ensures idle { (x : ClientState) → IsSound x → is_idle x.phase ≡ true → HoldsNothing x }
     ensures inside { (x : ClientState) (v : ℕ) → IsSound x → is_inside x.phase ≡ true → is_member x v ≡ true
@@ -74,7 +74,7 @@ pub fn phases_tell_votes()
 
 /// The phase shows whether a call fails, and with which fault. Whether `ask` fails also depends on
 /// whether the stamps are spent.
-pub fn phases_tell_refusals()
+pub fn phases_show_refusals()
     ensures busy { (x : ClientState) (quorum : List ℕ) → is_idle x.phase ≡ false → ask x quorum ≡ Err ClientFault.Busy }
     ensures spent { (x : ClientState) (quorum : List ℕ) → is_idle x.phase ≡ true → is_spent x ≡ true
         → ask x quorum ≡ Err ClientFault.StampsSpent }
@@ -95,7 +95,7 @@ pub fn clocks_never_fall()
 
 /// A vote for a request that is over goes back by RELEASE, and nothing else changes but the clock.
 pub fn old_votes_go_back()
-    ensures { (x : ClientState) (m : ToClient) (stamp grant : ℕ) → m.body ≡ tells.Locked stamp grant
+    ensures { (x : ClientState) (m : ToClient) (stamp grant : ℕ) → m.body ≡ to_client.Locked stamp grant
         → is_current x stamp ≡ false
         → take x m ≡ record { out = tell x m.voter (asks.Release stamp) ∷ []; seen = Seen.Nothing; state = see x m.seen } }
 {}
@@ -110,10 +110,10 @@ pub fn votes_given_back_are_marked()
 /// gives a vote back when its voter asks for it.
 pub fn hindered_clients_give_votes_back()
     ensures hinders { (x : ClientState) (m : ToClient) → IsSound x → is_asking x.phase ≡ true
-        → is_member x m.voter ≡ true → holds x m.voter ≡ false → m.body ≡ tells.Fail x.stamp
+        → is_member x m.voter ≡ true → holds x m.voter ≡ false → m.body ≡ to_client.Fail x.stamp
         → is_hindered (take x m).state ≡ true }
     ensures gives { (x : ClientState) (m : ToClient) → IsSound x → is_asking x.phase ≡ true → holds x m.voter ≡ true
-        → is_hindered x ≡ true → m.voter < max_voters → m.body ≡ tells.Inquire (held_of x m.voter)
+        → is_hindered x ≡ true → m.voter < max_voters → m.body ≡ to_client.Inquire (held_of x m.voter)
         → IsGivenBack x (take x m) m.voter × (is_relinquished (take x m).state m.voter ≡ true) }
 {}
 

@@ -75,7 +75,7 @@ mod state;
 pub use fault::ClientFault;
 pub use laws::{
     clocks_never_fall, hindered_clients_give_votes_back, messages_are_in_range,
-    messages_move_votes, old_votes_go_back, phases_tell_refusals, phases_tell_votes,
+    messages_move_votes, old_votes_go_back, phases_show_refusals, phases_show_votes,
     reminders_ask_again, requesters_meet_the_contract, requesters_stay_sound,
     votes_given_back_are_marked,
 };

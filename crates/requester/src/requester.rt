@@ -5,7 +5,7 @@ ghost use Rattle.requester.specs.declared.state.ClientState.{ClientState};
 ghost use Rattle.requester.specs.Saved.{IsKept, least_client, words_of};
 ghost use Rattle.requester.specs.Soundness.{IsSound};
 ghost use Rattle.requester.specs.Words.{grant_of, is_spent};
-ghost use Rattle.requester.specs.Steps.{Foretells, ask, give_up, leave, remind, start, take, would_hold};
+ghost use Rattle.requester.specs.Steps.{Predicts, ask, give_up, leave, remind, start, take, would_hold};
 
 use crate::fault::ClientFault;
 use crate::saved::SavedWords;
@@ -154,21 +154,21 @@ impl Requester {
 
     /// Returns why [`Requester::ask`] would fail now, or `None` if it would not.
     pub fn ask_fault(&self) -> Option<ClientFault>
-        ensures { (quorum : List ℕ) → Foretells result (ask self.now quorum) }
+        ensures { (quorum : List ℕ) → Predicts result (ask self.now quorum) }
     {
         self.state.ask_fault()
     }
 
     /// Returns why [`Requester::leave`] would fail now, or `None` if it would not.
     pub fn leave_fault(&self) -> Option<ClientFault>
-        ensures { Foretells result (leave self.now) }
+        ensures { Predicts result (leave self.now) }
     {
         self.state.leave_fault()
     }
 
     /// Returns why [`Requester::give_up`] would fail now, or `None` if it would not.
     pub fn give_up_fault(&self) -> Option<ClientFault>
-        ensures { Foretells result (give_up self.now) }
+        ensures { Predicts result (give_up self.now) }
     {
         self.state.give_up_fault()
     }
@@ -176,7 +176,7 @@ impl Requester {
     /// Starts a request for the votes of a quorum that is not empty. The reply has a REQUEST under
     /// the next stamp for each member, in ascending order.
     ///
-    /// Fails with C1 unless the client is idle, and then with C4 if no stamp is left.
+    /// Fails with `Busy` unless the client is idle, and then with `StampsSpent` if no stamp is left.
     pub fn ask(&mut self, quorum: &QSet) -> Result<Reply, ClientFault>
         requires { 1 ≤ length quorum.now }
         ensures asked { IfOk result (λ r. ask self.old quorum.now
@@ -240,8 +240,8 @@ impl Requester {
         self.state.would_hold(message)
     }
 
-    /// Leaves. The reply has a RELEASE for each member, in ascending order. Fails with C2 unless
-    /// the client is inside.
+    /// Leaves. The reply has a RELEASE for each member, in ascending order. Fails with
+    /// `NotInside` unless the client is inside.
     pub fn leave(&mut self) -> Result<Reply, ClientFault>
         ensures left { IfOk result (λ r. leave self.old
             ≡ Ok (record { out = r.out.items; seen = r.seen; state = self.new })) }
@@ -269,7 +269,7 @@ impl Requester {
     }
 
     /// Gives up the request. The reply has a RELEASE for each member, in ascending order. Fails
-    /// with C3 unless the client is asking.
+    /// with `NotAsking` unless the client is asking.
     pub fn give_up(&mut self) -> Result<Reply, ClientFault>
         ensures given_up { IfOk result (λ r. give_up self.old
             ≡ Ok (record { out = r.out.items; seen = r.seen; state = self.new })) }

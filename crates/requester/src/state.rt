@@ -6,7 +6,7 @@ ghost use Rattle.arrayvec.specs.ArrayVec.{array_vec_len};
 ghost use Rattle.numbers.specs.Sets.{IsSet};
 ghost use Rattle.requester.specs.Words.{held_of, holds, holds_under, is_covered, is_current, is_hindered, is_idle, is_member, last_of};
 ghost use Rattle.requester.specs.Soundness.{HoldsOfMembers};
-ghost use Rattle.requester.specs.Steps.{Foretells, ask, cleared, failed, give_up, hold, inquired, is_fresh, leave, locked, relinquish, relinquish_inquired, relinquish_marked, remind, remind_member, take, take_body, tell, tell_members, would_hold};
+ghost use Rattle.requester.specs.Steps.{Predicts, ask, cleared, failed, give_up, hold, inquired, is_fresh, leave, locked, relinquish, relinquish_inquired, relinquish_marked, remind, remind_member, take, take_body, tell, send_to_members, would_hold};
 
 use crate::fault::ClientFault;
 use arrayvec::ArrayVec;
@@ -92,10 +92,10 @@ impl ClientState {
         }
     }
 
-    fn tell_members(&self, body: VoterBody, out: &mut Messages)
+    fn send_to_members(&self, body: VoterBody, out: &mut Messages)
         requires few { array_vec_len self.now.quorum ≤ max_voters }
         requires room { out.old.items ≡ [] }
-        ensures { out.new.items ≡ tell_members self.now body }
+        ensures { out.new.items ≡ send_to_members self.now body }
     {
         for v in self.quorum.as_slice() {
             out.push(self.tell(*v, body));
@@ -199,7 +199,7 @@ impl ClientState {
     /// Returns why `ask` would fail, if it would.
     #[tactic(auto, unfolding(crate::specs::Steps::ask))]
     pub fn ask_fault(&self) -> Option<ClientFault>
-        ensures fault { (quorum : List ℕ) → Foretells result (ask self.now quorum) }
+        ensures fault { (quorum : List ℕ) → Predicts result (ask self.now quorum) }
         ensures stamp { IfNone result (self.now.clock < self.now.limit) }
     {
         match self.phase {
@@ -229,7 +229,7 @@ impl ClientState {
         self.stamp = self.clock;
         self.phase = Phase::Asking;
         self.quorum = quorum.members();
-        self.tell_members(VoterBody::Request { stamp: self.stamp }, out);
+        self.send_to_members(VoterBody::Request { stamp: self.stamp }, out);
         Ok(Seen::Nothing)
     }
 
@@ -407,9 +407,9 @@ impl ClientState {
         requires voters { AllByRecursion (λ v. v < max_voters) self.old.quorum.items }
         requires room { out.old.items ≡ [] }
         ensures state { self.new ≡ record (cleared self.old) { phase = Phase.Idle } }
-        ensures out { out.new.items ≡ tell_members self.old (VoterBody.Release self.old.stamp) }
+        ensures out { out.new.items ≡ send_to_members self.old (VoterBody.Release self.old.stamp) }
     {
-        self.tell_members(VoterBody::Release { stamp: self.stamp }, out);
+        self.send_to_members(VoterBody::Release { stamp: self.stamp }, out);
         self.drop_votes();
         self.unmark();
         self.phase = Phase::Idle;
@@ -418,7 +418,7 @@ impl ClientState {
     /// Returns why `leave` would fail, if it would.
     #[tactic(auto, unfolding(crate::specs::Steps::leave))]
     pub fn leave_fault(&self) -> Option<ClientFault>
-        ensures { Foretells result (leave self.now) }
+        ensures { Predicts result (leave self.now) }
     {
         match self.phase {
             Phase::Inside => None,
@@ -449,7 +449,7 @@ impl ClientState {
     /// Returns why `give_up` would fail, if it would.
     #[tactic(auto, unfolding(crate::specs::Steps::give_up))]
     pub fn give_up_fault(&self) -> Option<ClientFault>
-        ensures { Foretells result (give_up self.now) }
+        ensures { Predicts result (give_up self.now) }
     {
         match self.phase {
             Phase::Asking => None,

@@ -1,5 +1,6 @@
 -- What a run of driven members comes to.
-use Rattle.std.proofs.Common.{◌≡◌, ℕ, zero, suc, ◌+◌, ◌*◌, ◌/◌, ◌<◌, Option, None, ◌≤◌, ◌++◌, ◌==◌, List, [], ◌∷◌, Bool, true, Some, IsPermutation, map, flat_map, length, sum_by, count_by, get_or, refl, sym, ap, ◌∙◌, subst, cond, inl, inr, arith}
+use Rattle.std.proofs.Common.{◌≡◌, ℕ, zero, suc, ◌+◌, ◌*◌, ◌/◌, ◌<◌, Option, None, ◌≤◌, ◌++◌, ◌==◌, List, [], ◌∷◌, Bool, true, Some, IsPermutation, map, flat_map, length, sum_by}
+use Rattle.std.proofs.Common.{count_by, get_or, refl, sym, ap, ◌∙◌, subst, cond, inl, inr, arith}
 use Rattle.std.specs.List.{All, AllZip, range_with_len}
 use Rattle.std.proofs.lemmas.List.{length-map}
 use Rattle.std.proofs.lemmas.List.FromFn.{get_or-map-range_with_len, get_or-range_with_len, length-range_with_len}
@@ -14,15 +15,15 @@ use Rattle.quorum_set.specs.declared.bridge.Side.{Side}
 use Rattle.quorum_set.specs.declared.bridge.Side.TheVariants.{First, Second}
 use Rattle.board.specs.Quorums.{HasQuorum}
 use Rattle.dealer.specs.Offices.{OfficeName}
-use Rattle.members.specs.Clerks.{ClerksState, IsDealt, fresh_clerks, receipts_of, rest_of}
+use Rattle.clerks.specs.Clerks.{ClerksState, IsDealt, fresh_clerks, receipts_of, rest_of}
 use Rattle.members.specs.Clusters.{ClusterState}
 use Rattle.cluster.specs.Drives.{HasMore, HasServed, HasEnded, IsBack, IsBackBy, IsLeastFault, EndsWork, TookTurns, WasLet, draws_by, side_after}
 use Rattle.members.specs.Members.{AreIdle, MemberState, fresh_member}
 use Rattle.members.specs.Records.{Draw, Pass, IsDraw, IsRecordOf, draws_of, idle_count, passes_of}
 use Rattle.dealer.specs.declared.receipt.Receipt.{Receipt}
-use Rattle.members.specs.declared.record.RunRecord.{RunRecord}
-use Rattle.members.specs.declared.fault.ClusterFault.{ClusterFault}
-use Rattle.members.specs.declared.fault.ClusterFault.TheVariants as ends
+use Rattle.run_outcome.specs.declared.record.RunRecord.{RunRecord}
+use Rattle.run_outcome.specs.declared.fault.ClusterFault.{ClusterFault}
+use Rattle.run_outcome.specs.declared.fault.ClusterFault.TheVariants as ends
 use Rattle.board.specs.declared.fault.BoardFault.TheVariants as board
 use Rattle.dealer.specs.declared.fault.DealFault.TheVariants as deal
 use Rattle.requester.specs.declared.fault.ClientFault.TheVariants as client
@@ -93,17 +94,21 @@ are_fresh c members alone e = subst (All (IsFresh c)) (sym e) (All-map (IsFresh 
 more_than_none : {A : Type 0} (n : ℕ) (xs ys : List A) → xs ≡ [] → HasMore n xs ys → length ys ≡ n
 more_than_none n xs ys none_before more = ap length (more.1 ∙ ap (λ l. l ++ more.0) none_before) ∙ more.2
 
-as_many : (c : ClusterState) (before after : List MemberState) (R : MemberState → MemberState → Type 0) → before ≡ map (fresh_member c) (range_with_len 0 c.board.clients) → AllZip R before after → length after ≡ c.board.clients
+as_many : (c : ClusterState) (before after : List MemberState) (R : MemberState → MemberState → Type 0) → before ≡ map (fresh_member c) (range_with_len 0 c.board.clients)
+    → AllZip R before after → length after ≡ c.board.clients
 as_many c before after R e zip = AllZip-long R before after zip ∙ ap length e ∙ length-map (range_with_len 0 c.board.clients) (fresh_member c) ∙ length-range_with_len 0 c.board.clients
 
--- each made so many passes
-pub All-passed : (c : ClusterState) (passes : ℕ) (before after : List MemberState) → c.second ≡ None → before ≡ map (fresh_member c) (range_with_len 0 c.board.clients) → AllZip (HasServed passes) before after
+-- each made `passes` passes
+pub All-passed : (c : ClusterState) (passes : ℕ) (before after : List MemberState) → c.second ≡ None → before ≡ map (fresh_member c) (range_with_len 0 c.board.clients)
+    → AllZip (HasServed passes) before after
     → All (λ m. length m.seat.passes ≡ passes) after
 All-passed c passes before after alone e served =
-    zip_right (IsFresh c) (HasServed passes) (λ m. length m.seat.passes ≡ passes) (λ x y fresh s. more_than_none passes x.seat.passes y.seat.passes fresh.passes s.worked.passes) before after (are_fresh c before alone e) served
+    zip_right (IsFresh c) (HasServed passes) (λ m. length m.seat.passes ≡ passes) (λ x y fresh s. more_than_none passes x.seat.passes y.seat.passes fresh.passes s.worked.passes) before after
+    (are_fresh c before alone e) served
 
--- each drew so many tickets
-pub All-drew : (c : ClusterState) (passes : ℕ) (before after : List MemberState) → c.second ≡ None → before ≡ map (fresh_member c) (range_with_len 0 c.board.clients) → AllZip (HasServed passes) before after
+-- each drew `passes` tickets
+pub All-drew : (c : ClusterState) (passes : ℕ) (before after : List MemberState) → c.second ≡ None → before ≡ map (fresh_member c) (range_with_len 0 c.board.clients)
+    → AllZip (HasServed passes) before after
     → All (λ m. length (receipts_of m.clerks First) ≡ passes) after
 All-drew c passes before after alone e served =
     zip_right (IsFresh c) (HasServed passes) (λ m. length (receipts_of m.clerks First) ≡ passes)
@@ -112,7 +117,8 @@ All-drew c passes before after alone e served =
     before after (are_fresh c before alone e) served
 
 -- what became of the client of this number
-AllZip-at_client : (c : ClusterState) (R : MemberState → MemberState → Type 0) (before after : List MemberState) → before ≡ map (fresh_member c) (range_with_len 0 c.board.clients) → AllZip R before after
+AllZip-at_client : (c : ClusterState) (R : MemberState → MemberState → Type 0) (before after : List MemberState) → before ≡ map (fresh_member c) (range_with_len 0 c.board.clients)
+    → AllZip R before after
     → (k : ℕ) → k < c.board.clients → R (fresh_member c k) (get_or after k (fresh_member c k))
 AllZip-at_client c R before after e zip k less =
     let d = fresh_member c k in
@@ -121,14 +127,16 @@ AllZip-at_client c R before after e zip k less =
     subst (λ (x : MemberState). R x (get_or after k d)) first (AllZip-get_or R before after k d d zip there)
 
 -- each passed, so each was let pass
-pub AreLet-served : (c : ClusterState) (lets : ℕ → Bool) (passes : ℕ) (before after : List MemberState) → before ≡ map (fresh_member c) (range_with_len 0 c.board.clients) → AllZip (HasServed passes) before after → AllZip (WasLet lets) before after
+pub AreLet-served : (c : ClusterState) (lets : ℕ → Bool) (passes : ℕ) (before after : List MemberState) → before ≡ map (fresh_member c) (range_with_len 0 c.board.clients)
+    → AllZip (HasServed passes) before after → AllZip (WasLet lets) before after
     → 0 < passes → AreLet lets c.board.clients
 AreLet-served c lets passes before after e served zip some k less =
     let s = AllZip-at_client c (HasServed passes) before after e served k less in
     subst (λ n. lets n ≡ true) s.worked.client (AllZip-at_client c (WasLet lets) before after e zip k less (omega (arith, some, more_than_none passes [] _ refl s.worked.passes)))
 
 -- and each had two turns for each pass
-pub turns-served : (c : ClusterState) (turns passes : ℕ) (before after : List MemberState) → before ≡ map (fresh_member c) (range_with_len 0 c.board.clients) → AllZip (HasServed passes) before after → AllZip (TookTurns turns) before after
+pub turns-served : (c : ClusterState) (turns passes : ℕ) (before after : List MemberState) → before ≡ map (fresh_member c) (range_with_len 0 c.board.clients)
+    → AllZip (HasServed passes) before after → AllZip (TookTurns turns) before after
     → 1 ≤ c.board.clients → 2 * passes ≤ turns
 turns-served c turns passes before after e served zip some =
     let s = AllZip-at_client c (HasServed passes) before after e served 0 some in
@@ -145,7 +153,8 @@ all_ready c passes missing before after e served idle some out =
 -- Why a run ends
 
 -- a client with a ticket for each pass
-ends_by : (client clients tickets passed passes : ℕ) (fault : ClusterFault) → client < clients → passed < passes → passes ≤ tickets → EndsWork client tickets passed fault → EndsRun clients (run_refusal fault)
+ends_by : (client clients tickets passed passes : ℕ) (fault : ClusterFault) → client < clients → passed < passes → passes ≤ tickets → EndsWork client tickets passed fault
+    → EndsRun clients (run_refusal fault)
 ends_by id clients tickets passed passes (ends.Client client.StampsSpent) less fewer quota h = tt
 ends_by id clients tickets passed passes (ends.Client client.Busy) less fewer quota h = absurd h
 ends_by id clients tickets passed passes (ends.Client client.NotInside) less fewer quota h = absurd h
@@ -171,8 +180,8 @@ EndsRun-driven c passes before after fault alone e quota back least =
     subst (EndsWell c.board.clients) r.among.2 found fault r.ended
   where
     one : (x y : MemberState) → IsFresh c x → IsBack passes x y → EndsWell c.board.clients y
-    one x y fresh h fault told =
-        let ended : HasEnded passes fault x y = subst (λ f. IsBackBy passes f x y) told h in
+    one x y fresh h fault heard =
+        let ended : HasEnded passes fault x y = subst (λ f. IsBackBy passes f x y) heard h in
         let side : y.clerks.side ≡ First = ended.side ∙ ap (λ (k : ClerksState). side_after k (passes / 2) ended.passed) fresh.clerks in
         let by : EndsWork y.requester.id c.quota ended.passed fault =
         subst (λ (k : ClerksState). EndsWork y.requester.id (rest_of k First) (draws_by k (passes / 2) ended.passed First) fault) fresh.clerks
@@ -238,7 +247,8 @@ no_second c [] alone all = refl
 no_second c (d ∷ ds) alone all =
     absurd (subst (λ (s : Option OfficeName). IsDealt (c.office, s) Second d.1 d.2) alone (all 0 d (omega arith)).quorum)
 
-pub run_of : (c : ClusterState) (passes : ℕ) (before after : List MemberState) (r : RunRecord) → c.second ≡ None → before ≡ map (fresh_member c) (range_with_len 0 c.board.clients) → AllZip (HasServed passes) before after
+pub run_of : (c : ClusterState) (passes : ℕ) (before after : List MemberState) (r : RunRecord) → c.second ≡ None → before ≡ map (fresh_member c) (range_with_len 0 c.board.clients)
+    → AllZip (HasServed passes) before after
     → c.board.firsts ≡ length c.office.cycle.system.quorums → IsRecordOf c after r → IsSoundRecord c.office.cycle (entries_of r)
     → length r.draws.items ≡ sum_by (λ m. length (receipts_of m.clerks First)) after → r.register ≡ length after * passes
     → All (λ d. HasQuorum c.board.firsts c.board.quorums First d.2) r.draws.items
@@ -255,7 +265,8 @@ run_of c passes before after r alone e served firsts is sound drawn register in_
       each_draw = λ k d lt. ((is.first.each k d lt).client, omega (arith, in_range k d lt, firsts));
       each_pass = is.each_pass;
       draws_of_each = times_of_each (λ (d : Draw). d.0) (draws_of First) c.board.clients passes after r.draws.items is.first.same (ids-are_range c passes before after e served)
-          (λ k m lt. length-map (receipts_of (get_or after k m).clerks First) (λ (x : Receipt). ((get_or after k m).requester.id, x.ticket, x.quorum)) ∙ All-drew c passes before after alone e served k m lt)
+          (λ k m lt. length-map (receipts_of (get_or after k m).clerks First) (λ (x : Receipt). ((get_or after k m).requester.id, x.ticket, x.quorum))
+          ∙ All-drew c passes before after alone e served k m lt)
           (λ m. All-map (λ (d : Draw). d.0 ≡ m.requester.id) (λ (x : Receipt). (m.requester.id, x.ticket, x.quorum)) (receipts_of m.clerks First) (λ k x lt. refl));
       passes_of_each = times_of_each (λ (p : Pass). p.0) passes_of c.board.clients passes after r.passes.items is.passes (ids-are_range c passes before after e served)
           (λ k m lt. length-map (get_or after k m).seat.passes (λ (x : ℕ). ((get_or after k m).requester.id, x)) ∙ All-passed c passes before after alone e served k m lt)

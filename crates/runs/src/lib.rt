@@ -20,8 +20,9 @@
 //! records. The program's command `run` depends on it.
 #![tactic(auto)]
 
-mod fault;
+mod laws;
 mod run;
 
-pub use fault::RunFault;
+pub use laws::records_of_runs_are_sound;
 pub use run::record_of_run;
+pub use run_outcome::RunFault;

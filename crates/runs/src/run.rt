@@ -2,17 +2,17 @@
 ghost use Rattle.std.specs.Prelude.{◌≡◌, ◌*◌, ◌<◌, ◌≤◌, None, IfOk, IfErr};
 ghost use Rattle.numbers.specs.Bounds.{max_clients, max_tickets};
 ghost use Rattle.certificate.specs.Certificates.{IsCertificate};
-ghost use Rattle.members.specs.Clusters.{ClusterState, IsCluster};
+ghost use Rattle.members.specs.Clusters.{IsCluster};
 ghost use Rattle.runs.specs.Runs.{AreLet, IsRun, EndsRun};
 
-use crate::fault::RunFault;
+use crate::laws::records_of_runs_are_sound;
 use certificate::Plan;
 use cluster::{
     Blank, CloseFault, ClusterName, Gate, RunRecord, drive, records_are_in_range,
     records_count_passes,
 };
 use dealer::Plans;
-use replay::records_of_runs_are_sound;
+use run_outcome::RunFault;
 use std::alloc::Global;
 use std::marker::Brand;
 use std::sync::Wait;

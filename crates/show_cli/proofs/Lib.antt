@@ -1,4 +1,2 @@
-pub mod FaultLemmas
-pub mod PageLemmas
 pub mod ShowLemmas
 pub mod WordLemmas

@@ -1,5 +1,5 @@
 -- Lemmas on what is shown for what was read, and on faults.
-use Rattle.std.proofs.Common.{◌≡◌, ℕ, ◌≤◌, ◌<◌, Bool, true, false, cond, length, List, [], Option, None, Some, Ok, subst, refl}
+use Rattle.std.proofs.Common.{◌≡◌, ℕ, ◌≤◌, Bool, true, false, cond, length, List, [], Option, None, Some, Ok, subst, refl}
 use Rattle.std.specs.Prelude.{IfSome}
 use Rattle.std.specs.Io.KnownBytes.{Appends}
 use Rattle.whole_io.specs.Devices.{AppendsBeginning}
@@ -8,19 +8,21 @@ use Rattle.whole_io.specs.declared.fault.DeviceFault.TheVariants.{ReadFault, Too
 use Rattle.replay.specs.Scripts.{IsBadText}
 use Rattle.replay.specs.declared.fault.ReplayFault.{ReplayFault}
 use Rattle.replay.specs.declared.fault.ReplayFault.TheVariants as replay
-use Rattle.qlock_cli.specs.Commands.{IsRefusedBy, staged_in}
-use Rattle.qlock_cli.specs.Devices.{IsOfReading, IsOwn}
-use Rattle.qlock_cli.specs.Faults.{replay_refusal}
-use Rattle.qlock_cli.specs.declared.answer.Planned.{Planned}
-use Rattle.qlock_cli.specs.declared.fault.Fault.{Fault}
-use Rattle.qlock_cli.specs.declared.fault.Fault.TheVariants as faults
-use Rattle.qlock_cli.specs.declared.fault.Fault.TheVariants.{MissingPart, Device, Construct, File, Planner, Replay, Cluster, OutOfMemory}
+use Rattle.commands.specs.Commands.{IsRefusedBy, Refuses, coterie_part, staged_in}
+use Rattle.commands.specs.Devices.{IsOfReading, IsOwn}
+use Rattle.commands.specs.Faults.{IsOfFile, replay_refusal}
+use Rattle.commands.specs.declared.answer.Planned.{Planned}
+use Rattle.commands.specs.declared.fault.Fault.{Fault}
+use Rattle.commands.specs.declared.fault.Fault.TheVariants as faults
+use Rattle.commands.specs.declared.fault.Fault.TheVariants.{MissingPart, UnknownVoter, Device, Construct, File, Planner, Replay, Cluster, OutOfMemory}
 use Rattle.command_line.specs.declared.command.Command.TheVariants as commands
+use Rattle.show_cli.specs.Failures.{RefusesWithout}
 use Rattle.show_cli.specs.Pages.{BeginsShowing, ComesOfShowing, IsPage, OfRead, RefusesPage, Shows, reads_page_input}
 use Rattle.show_cli.specs.declared.command.ShowCommand.{ShowCommand}
 
 -- a refusal of the script is one of the command `world`
-pub script_refused : (input script : List ℕ) (planned : Planned) (fault : ReplayFault) → staged_in input ≡ Ok (planned, script) → IsBadText script fault → IsRefusedBy commands.World input (replay_refusal fault)
+pub script_refused : (input script : List ℕ) (planned : Planned) (fault : ReplayFault) → staged_in input ≡ Ok (planned, script) → IsBadText script fault
+    → IsRefusedBy commands.World input (replay_refusal fault)
 script_refused input script planned replay.OutOfMemory e h = tt
 script_refused input script planned (replay.BadLine line) e h = record { planned = planned; script = script; parts = e; bad = h }
 script_refused input script planned fault e h = absurd h
@@ -33,19 +35,22 @@ of_seen P true (Some known) input all nothing h = subst P (all refl) h
 of_seen P false (Some known) input all nothing h = subst P (nothing refl) h
 
 -- a page was written
-pub page_shown : (command : ShowCommand) (bytes old new : Option (List ℕ)) (input page : List ℕ) → (reads_page_input command ≡ true → IfSome bytes (λ known. input ≡ known)) → (reads_page_input command ≡ false → input ≡ [])
+pub page_shown : (command : ShowCommand) (bytes old new : Option (List ℕ)) (input page : List ℕ) → (reads_page_input command ≡ true → IfSome bytes (λ known. input ≡ known))
+    → (reads_page_input command ≡ false → input ≡ [])
     → length input ≤ 16777216 → IsPage command input page → Appends old new page → OfRead command bytes (Shows command old new)
 page_shown command bytes old new input page all nothing short is_page written =
     of_seen (Shows command old new) (reads_page_input command) bytes input all nothing (record { short = short; page = page; is_page = is_page; written = written })
 
 -- a beginning of a page was written
-pub page_begun : (command : ShowCommand) (bytes old new : Option (List ℕ)) (input page : List ℕ) → (reads_page_input command ≡ true → IfSome bytes (λ known. input ≡ known)) → (reads_page_input command ≡ false → input ≡ [])
+pub page_begun : (command : ShowCommand) (bytes old new : Option (List ℕ)) (input page : List ℕ) → (reads_page_input command ≡ true → IfSome bytes (λ known. input ≡ known))
+    → (reads_page_input command ≡ false → input ≡ [])
     → length input ≤ 16777216 → IsPage command input page → AppendsBeginning old new page → OfRead command bytes (BeginsShowing command old new)
 page_begun command bytes old new input page all nothing short is_page begun =
     of_seen (BeginsShowing command old new) (reads_page_input command) bytes input all nothing (record { short = short; page = page; is_page = is_page; begun = begun })
 
 -- there is a page that could not be written
-pub write_fault_comes : (command : ShowCommand) (bytes : Option (List ℕ)) (input page : List ℕ) → (reads_page_input command ≡ true → IfSome bytes (λ known. input ≡ known)) → (reads_page_input command ≡ false → input ≡ [])
+pub write_fault_comes : (command : ShowCommand) (bytes : Option (List ℕ)) (input page : List ℕ) → (reads_page_input command ≡ true → IfSome bytes (λ known. input ≡ known))
+    → (reads_page_input command ≡ false → input ≡ [])
     → IsPage command input page → OfRead command bytes (ComesOfShowing command (Device WriteFault))
 write_fault_comes command bytes input page all nothing is_page =
     of_seen (ComesOfShowing command (Device WriteFault)) (reads_page_input command) bytes input all nothing (page, is_page)
@@ -55,6 +60,7 @@ own_of_seen : (command : ShowCommand) (seen : List ℕ) (fault : Fault) → IsOw
 own_of_seen command seen (Device fault) own h = absurd own
 own_of_seen command seen OutOfMemory own h = tt
 own_of_seen command seen (MissingPart k) own h = h
+own_of_seen command seen (UnknownVoter k) own h = h
 own_of_seen command seen (Construct fault) own h = h
 own_of_seen command seen (File fault) own h = h
 own_of_seen command seen (faults.Plan fault) own h = h
@@ -62,13 +68,15 @@ own_of_seen command seen (Planner fault) own h = h
 own_of_seen command seen (Replay fault) own h = h
 own_of_seen command seen (Cluster fault) own h = h
 
-pub own_fault_comes : (command : ShowCommand) (bytes : Option (List ℕ)) (input : List ℕ) (fault : Fault) → (reads_page_input command ≡ true → IfSome bytes (λ known. input ≡ known)) → (reads_page_input command ≡ false → input ≡ [])
+pub own_fault_comes : (command : ShowCommand) (bytes : Option (List ℕ)) (input : List ℕ) (fault : Fault) → (reads_page_input command ≡ true → IfSome bytes (λ known. input ≡ known))
+    → (reads_page_input command ≡ false → input ≡ [])
     → IsOwn fault → RefusesPage command input fault → OfRead command bytes (ComesOfShowing command fault)
 own_fault_comes command bytes input fault all nothing own h =
     of_seen (ComesOfShowing command fault) (reads_page_input command) bytes input all nothing (own_of_seen command input fault own h)
 
 -- a fault of reading comes of what was read
-reading_of_seen : (command : ShowCommand) (known : List ℕ) (reads : Bool) (fault : Fault) → reads_page_input command ≡ true → reads ≡ true → IsOfReading (Some known) fault → ComesOfShowing command fault (cond reads known [])
+reading_of_seen : (command : ShowCommand) (known : List ℕ) (reads : Bool) (fault : Fault) → reads_page_input command ≡ true → reads ≡ true → IsOfReading (Some known) fault
+    → ComesOfShowing command fault (cond reads known [])
 reading_of_seen command known false fault reads e h = absurd cc
 reading_of_seen command known true (Device TooLong) reads e h = h
 reading_of_seen command known true (Device ReadFault) reads e h = reads
@@ -76,6 +84,7 @@ reading_of_seen command known true OutOfMemory reads e h = tt
 reading_of_seen command known true (Device WriteFault) reads e h = absurd h
 reading_of_seen command known true (Device device.OutOfMemory) reads e h = absurd h
 reading_of_seen command known true (MissingPart k) reads e h = absurd h
+reading_of_seen command known true (UnknownVoter k) reads e h = absurd h
 reading_of_seen command known true (Construct fault) reads e h = absurd h
 reading_of_seen command known true (File fault) reads e h = absurd h
 reading_of_seen command known true (faults.Plan fault) reads e h = absurd h
@@ -83,6 +92,13 @@ reading_of_seen command known true (Planner fault) reads e h = absurd h
 reading_of_seen command known true (Replay fault) reads e h = absurd h
 reading_of_seen command known true (Cluster fault) reads e h = absurd h
 
-pub reading_fault_comes : (command : ShowCommand) (bytes : Option (List ℕ)) (fault : Fault) → reads_page_input command ≡ true → IsOfReading bytes fault → OfRead command bytes (ComesOfShowing command fault)
+pub reading_fault_comes : (command : ShowCommand) (bytes : Option (List ℕ)) (fault : Fault) → reads_page_input command ≡ true → IsOfReading bytes fault
+    → OfRead command bytes (ComesOfShowing command fault)
 reading_fault_comes command None fault reads h = tt
 reading_fault_comes command (Some known) fault reads h = reading_of_seen command known (reads_page_input command) fault reads reads h
+
+-- an input that is no coterie is refused for that
+pub no_coterie_left : (words : List (List ℕ)) (input : List ℕ) (fault : Fault) → IsOfFile fault → Refuses fault (coterie_part input) → RefusesWithout words input fault
+no_coterie_left words input OutOfMemory of_file h = h
+no_coterie_left words input (File fault) of_file h = h
+no_coterie_left words input fault of_file h = absurd of_file

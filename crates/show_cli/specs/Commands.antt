@@ -1,11 +1,12 @@
 -- The commands that are served.
-use Rattle.std.specs.Prelude.{ℕ, ◌≤◌, ⊤}
-use Rattle.qlock_cli.specs.Commands.{IsInRange}
+use Rattle.std.specs.Prelude.{◌≤◌, ⊤}
+use Rattle.commands.specs.Commands.{IsInRange}
 use Rattle.show_cli.specs.declared.command.ShowCommand.{ShowCommand}
-use Rattle.show_cli.specs.declared.command.ShowCommand.TheVariants.{Deal, Fault}
+use Rattle.show_cli.specs.declared.command.ShowCommand.TheVariants.{Deal, DealEven, Fault}
 
 -- the numbers of a command are in range
 abbrev pub IsShown : ShowCommand → Type 0
 IsShown (Deal n) = n ≤ 100000
+IsShown (DealEven n) = n ≤ 100000
 IsShown (Fault command) = IsInRange command
 IsShown command = ⊤

@@ -1,4 +1,4 @@
-pub mod Codes
 pub mod Commands
+pub mod Failures
 pub mod Pages
 pub mod Words

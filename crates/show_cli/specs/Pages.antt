@@ -1,54 +1,27 @@
 -- What each command writes, as far as it is determined, and its faults.
-use Rattle.std.specs.Prelude.{◌≡◌, ◌⊎◌, ℕ, ◌<◌, ◌≤◌, Bool, true, false, if◌then◌else◌, List, [], ◌∷◌, ◌++◌, length, codes, decimal, slice_index_or, Option, Result, Ok, Err, IfSome, ⊤}
-use Rattle.std.specs.Bool.{OnFalse}
-use Rattle.std.specs.List.{flat_map, range_with_len}
+use Rattle.std.specs.Prelude.{◌≡◌, ℕ, ◌<◌, ◌≤◌, Bool, true, false, if◌then◌else◌, List, [], length, map, string_bytes, Option, Result, Ok, Err, IfSome, ⊤}
 use Rattle.std.specs.Io.KnownBytes.{Appends, IsAtEnd, Keeps}
-use Rattle.coterie_file.specs.Named.{NamedSystem}
-use Rattle.dealer.specs.Accounts.{account_of}
-use Rattle.dealer.specs.Offices.{receipt_of}
-use Rattle.dealer.specs.declared.receipt.Receipt.{Receipt}
 use Rattle.show_faults.specs.Pages.{IsFaultsList, IsFaultsPage}
 use Rattle.show_faults.specs.Texts.{text_of}
 use Rattle.replay.specs.Scripts.{IsScript, Script, script_text}
-use Rattle.show_words.specs.Lines.{names_text}
+use Rattle.show_report.specs.Reports.{IsReport}
+use Rattle.show_tickets.specs.EvenOrder.{IsEvenPage}
+use Rattle.show_tickets.specs.Rounds.{deal_page_text}
 use Rattle.show_words.specs.Plans.{IsPlanPage}
 use Rattle.show_words.specs.Worlds.{IsWorldPage}
 use Rattle.show_svg.specs.Pictures.{IsEnded}
-use Rattle.qlock_cli.specs.Commands.{IsAnswer, IsRefusal, IsRefusedBy, Refuses, account_text, planned_in, ratio_part, reads_input, staged_in}
-use Rattle.qlock_cli.specs.declared.answer.Planned.{Planned}
-use Rattle.qlock_cli.specs.declared.fault.Fault.{Fault}
-use Rattle.qlock_cli.specs.declared.fault.Fault.TheVariants.{Cluster, Device, OutOfMemory}
-use Rattle.command_line.specs.declared.command.Command.{Command}
+use Rattle.commands.specs.Commands.{IsRefusedBy, Refuses, coterie_part, planned_in, reads_input, staged_in}
+use Rattle.commands.specs.declared.answer.Planned.{Planned}
+use Rattle.commands.specs.declared.fault.Fault.{Fault}
+use Rattle.commands.specs.declared.fault.Fault.TheVariants.{Device, OutOfMemory}
 use Rattle.command_line.specs.declared.command.Command.TheVariants as qlock
 use Rattle.whole_io.specs.Devices.{AppendsBeginning}
 use Rattle.whole_io.specs.declared.fault.DeviceFault.TheVariants.{ReadFault, TooLong, WriteFault}
-use Rattle.show_cli.specs.Codes.{code_of}
+use Rattle.show_refusals.specs.Pages.{IsFaultPage}
+use Rattle.show_cli.specs.Failures.{IsBridgeOf, IsResilienceOf, IsWithoutOf, RefusesWithout, pair_in}
 use Rattle.show_cli.specs.declared.command.Picture.TheVariants as pictures
 use Rattle.show_cli.specs.declared.command.ShowCommand.{ShowCommand}
 use Rattle.show_cli.specs.declared.command.ShowCommand.TheVariants as show
-
--- Dealt tickets
-
--- the members of a quorum, by the number of the quorum
-abbrev pub members_of : NamedSystem → ℕ → List ℕ
-members_of named quorum = slice_index_or named.system.quorums quorum []
-
--- the line of a ticket that was drawn: its number, its quorum, and the names of the voters to ask
-abbrev pub named_receipt_line : NamedSystem → Receipt → List ℕ
-named_receipt_line named r =
-    decimal r.ticket ++ (codes " " ++ (decimal r.quorum ++ (codes " "
-    ++ (names_text named.names (codes " ") (members_of named r.quorum) ++ codes "\n"))))
-
--- a line for each ticket below n
-abbrev pub named_ticket_lines : Planned → ℕ → List ℕ
-named_ticket_lines p n = flat_map (λ ticket. named_receipt_line p.named (receipt_of p.plan ticket)) (range_with_len 0 n)
-
--- the tickets below n with their quorums and the names of the voters to ask, their account, and its
--- ratio if some capacity is not 1
-unfoldable pub deal_page_text : Planned → ℕ → List ℕ
-deal_page_text p n =
-    let account = account_of p.plan (range_with_len 0 n) in
-    named_ticket_lines p n ++ (account_text p.named.names account ++ ratio_part p.named.capacities account)
 
 -- Pages
 
@@ -58,11 +31,23 @@ pub record IsDealPage (n : ℕ) (input page : List ℕ) : Type 0 where
   pub parts : planned_in input ≡ Ok planned
   pub is : page ≡ deal_page_text planned n
 
+-- the page is that of the tickets below n, in the even order of the plan in the input
+pub record IsEvenDealPage (n : ℕ) (input page : List ℕ) : Type 0 where
+  pub planned : Planned
+  pub parts : planned_in input ≡ Ok planned
+  pub is : IsEvenPage planned n page
+
 -- the page is one of the plan in the input, with the names in the input
 pub record IsPlanWords (input page : List ℕ) : Type 0 where
   pub planned : Planned
   pub parts : planned_in input ≡ Ok planned
   pub words : IsPlanPage planned.named.names planned.plan page
+
+-- the page is a report of the plan in the input, with the names in the input
+pub record IsPlanReport (input page : List ℕ) : Type 0 where
+  pub planned : Planned
+  pub parts : planned_in input ≡ Ok planned
+  pub report : IsReport planned.named.names planned.plan page
 
 -- the input is a coterie and a plan of it, and the page ends as a picture does
 pub record IsPlanPicture (input page : List ℕ) : Type 0 where
@@ -86,45 +71,15 @@ pub record IsScriptPicture (input page : List ℕ) : Type 0 where
   pub parts : staged_in input ≡ Ok (planned, script_text script)
   pub ended : IsEnded page
 
--- the page's last line names the command that explains the fault with this code
-pub record NamesCode (code page : List ℕ) : Type 0 where
-  pub before : List ℕ
-  pub is : page ≡ before ++ (codes "  more: qlock-show explain " ++ (code ++ codes "\n"))
-
--- the command takes the input: it has an output for it, or, for `run`, which is not run here, the
--- input is a coterie and a plan of it
-abbrev pub IsTaken : Command → List ℕ → Type 0
-IsTaken (qlock.Run clients passes turns) input = (planned : Planned) × (planned_in input ≡ Ok planned)
-IsTaken command input = (output : List ℕ) × IsAnswer command input output
-
--- the fault is none of the input: it is of a device, of a run, or of memory
-abbrev pub is_outside : Fault → Bool
-is_outside (Device fault) = true
-is_outside (Cluster fault) = true
-is_outside OutOfMemory = true
-is_outside fault = false
-
--- the fault is none of the input, or the command refuses the input with it
-abbrev pub MayTurnDown : Command → List ℕ → Fault → Type 0
-MayTurnDown command input fault = OnFalse (is_outside fault) (IsRefusal command input fault)
-
--- the command refuses the input, and the page names the code of a fault with which it does
-pub record IsRefusalPage (command : Command) (input page : List ℕ) : Type 0 where
-  pub fault : Fault
-  pub inside : is_outside fault ≡ false
-  pub refused : IsRefusal command input fault
-  pub names : NamesCode (code_of fault) page
-
--- The page says that there is no fault, and the command takes the input. Or the page names the code
--- of a fault with which the command refuses the input.
-abbrev pub IsFaultPage : Command → List ℕ → List ℕ → Type 0
-IsFaultPage command input page =
-    ((page ≡ codes "qlock does not refuse this input\n") × IsTaken command input) ⊎ IsRefusalPage command input page
-
 -- the page is one of the command for the input
 abbrev pub IsPage : ShowCommand → List ℕ → List ℕ → Type 0
 IsPage show.Plan input page = IsPlanWords input page
+IsPage show.Report input page = IsPlanReport input page
 IsPage (show.Deal n) input page = IsDealPage n input page
+IsPage (show.DealEven n) input page = IsEvenDealPage n input page
+IsPage (show.Without words) input page = IsWithoutOf (map string_bytes words.items) input page
+IsPage show.Resilience input page = IsResilienceOf input page
+IsPage show.Bridge input page = IsBridgeOf input page
 IsPage show.World input page = IsScriptWords input page
 IsPage (show.Explain explanation) input page = page ≡ text_of explanation.now
 IsPage show.ExplainAll input page = IsFaultsPage page
@@ -135,10 +90,15 @@ IsPage (show.Picture pictures.Cycle) input page = IsPlanPicture input page
 IsPage (show.Picture pictures.World) input page = IsScriptPicture input page
 
 -- the fault is out of memory, or the command fails with it for the input: a part is missing or has a
--- fault, or the third part is no script
+-- fault, a word is no voter's name, or the third part is no script
 abbrev pub RefusesPage : ShowCommand → List ℕ → Fault → Type 0
 RefusesPage show.Plan input fault = Refuses fault (planned_in input)
+RefusesPage show.Report input fault = Refuses fault (planned_in input)
 RefusesPage (show.Deal n) input fault = Refuses fault (planned_in input)
+RefusesPage (show.DealEven n) input fault = Refuses fault (planned_in input)
+RefusesPage (show.Without words) input fault = RefusesWithout (map string_bytes words.items) input fault
+RefusesPage show.Resilience input fault = Refuses fault (coterie_part input)
+RefusesPage show.Bridge input fault = Refuses fault (pair_in input)
 RefusesPage show.World input fault = IsRefusedBy qlock.World input fault
 RefusesPage (show.Explain explanation) input fault = fault ≡ OutOfMemory
 RefusesPage show.ExplainAll input fault = fault ≡ OutOfMemory
@@ -162,7 +122,12 @@ reads_page_input show.ExplainAll = false
 reads_page_input show.ListFaults = false
 reads_page_input (show.Fault command) = reads_input command
 reads_page_input show.Plan = true
+reads_page_input show.Report = true
 reads_page_input (show.Deal n) = true
+reads_page_input (show.DealEven n) = true
+reads_page_input (show.Without words) = true
+reads_page_input show.Resilience = true
+reads_page_input show.Bridge = true
 reads_page_input show.World = true
 reads_page_input (show.Picture picture) = true
 

@@ -1,7 +1,9 @@
 -- The command line: which command its words name.
-use Rattle.std.specs.Prelude.{◌≡◌, ◌⊎◌, ℕ, List, [], ◌∷◌, Option, None, Some, codes, true, unwrap_or, ⊤}
+use Rattle.std.specs.Prelude.{◌≡◌, ◌⊎◌, List, [], ◌∷◌, Option, None, Some, String, codes, map, string_bytes, true, unwrap_or, ⊤}
+use Rattle.std.specs.declared.alloc.Global.{Global}
 use Rattle.clap.specs.Lexer.{usize_max}
 use Rattle.clap.specs.Words.{App, IsAmong, Row, Rule, Text, all_of, fault_of, first_of, kind_of, new_app, new_rule, subcommand_of, with_rule, with_subcommand}
+use Rattle.clap.specs.declared.builder.action.ArgAction.TheVariants.{SetTrue}
 use Rattle.clap.specs.declared.builder.range.ValueRange.{ValueRange}
 use Rattle.show_faults.specs.Codes.{IsFaultCode, code_in}
 use Rattle.show_faults.specs.declared.explanation.Explanation.{Explanation}
@@ -12,9 +14,41 @@ use Rattle.command_line.specs.declared.usage.Usage.TheVariants.{Arguments, OutOf
 use Rattle.show_cli.specs.declared.command.Picture.{Picture}
 use Rattle.show_cli.specs.declared.command.Picture.TheVariants.{Cycle, Load, World as Messages}
 use Rattle.show_cli.specs.declared.command.ShowCommand.{ShowCommand}
-use Rattle.show_cli.specs.declared.command.ShowCommand.TheVariants.{Deal, Explain, ExplainAll, Fault, ListFaults, Picture as Show, Plan, World}
+use Rattle.show_cli.specs.declared.command.ShowCommand.TheVariants.{Bridge, Deal, DealEven, Explain, ExplainAll, Fault, ListFaults, Picture as Show, Plan, Report, Resilience, Without, World}
 
--- The command lines of the program. Those of `plan`, `deal` and `world` are as for `qlock`.
+-- The command lines of the program. Those of `plan` and `world` are as for `qlock`.
+
+-- one value or more, up to the greatest possible count
+abbrev pub some_count : ValueRange
+some_count = record { start_inclusive = 1; end_inclusive = usize_max }
+
+-- --even, for `deal`: a flag
+abbrev pub even_rule : Rule
+even_rule = record (new_rule (codes "even")) { long = Some (codes "even"); action = Some SetTrue }
+
+-- qlock-show deal: as for `qlock`, with the flag
+abbrev pub tickets_app : App
+tickets_app = with_rule deal_app even_rule
+
+-- NAMES, for `without`: one word or more
+abbrev pub names_rule : Rule
+names_rule = record (new_rule (codes "NAMES")) { required = true; range = Some some_count }
+
+-- qlock-show without
+abbrev pub without_app : App
+without_app = with_rule (new_app (codes "without")) names_rule
+
+-- qlock-show report
+abbrev pub report_app : App
+report_app = new_app (codes "report")
+
+-- qlock-show resilience
+abbrev pub resilience_app : App
+resilience_app = new_app (codes "resilience")
+
+-- qlock-show bridge
+abbrev pub bridge_app : App
+bridge_app = new_app (codes "bridge")
 
 -- CODE, for `explain`: a word, which may be left out
 abbrev pub code_rule : Rule
@@ -23,10 +57,6 @@ code_rule = new_rule (codes "CODE")
 -- qlock-show explain
 abbrev pub explain_app : App
 explain_app = with_rule (new_app (codes "explain")) code_rule
-
--- one value or more, up to the greatest possible count
-abbrev pub some_count : ValueRange
-some_count = record { start_inclusive = 1; end_inclusive = usize_max }
 
 -- WORDS, for `fault`: one word or more
 abbrev pub words_rule : Rule
@@ -52,11 +82,20 @@ with_version a = record a { top = record a.top { has_version = true } }
 abbrev pub pages_app : App
 pages_app =
     with_subcommand (with_subcommand (with_subcommand
-    (required_subcommand (with_version (new_app (codes "qlock-show")))) plan_app.top) deal_app.top) world_app.top
+    (required_subcommand (with_version (new_app (codes "qlock-show")))) plan_app.top) tickets_app.top) world_app.top
+
+-- and with `report`
+abbrev pub reports_app : App
+reports_app = with_subcommand pages_app report_app.top
+
+-- and with `without`, `resilience` and `bridge`
+abbrev pub coteries_app : App
+coteries_app =
+    with_subcommand (with_subcommand (with_subcommand reports_app without_app.top) resilience_app.top) bridge_app.top
 
 -- and with `explain`, `fault` and `picture`: the whole command line
 abbrev pub show_app : App
-show_app = with_subcommand (with_subcommand (with_subcommand pages_app explain_app.top) fault_app.top) picture_app.top
+show_app = with_subcommand (with_subcommand (with_subcommand coteries_app explain_app.top) fault_app.top) picture_app.top
 
 -- Which command words name.
 
@@ -64,6 +103,14 @@ show_app = with_subcommand (with_subcommand (with_subcommand pages_app explain_a
 abbrev pub HasCode : List Row → Explanation → Type 0
 HasCode rows e =
     ((text : Text) × (first_of (codes "CODE") rows ≡ Some text) × (e.code.now ≡ code_in text)) × IsFaultCode e.code.now
+
+-- the flag --even is there
+abbrev pub IsEven : List Row → Type 0
+IsEven rows = first_of (codes "even") rows ≡ Some (codes "true")
+
+-- these texts are the values of NAMES
+abbrev pub HasNames : List Row → List (String Global) → Type 0
+HasNames rows names = all_of (codes "NAMES") rows ≡ Some (map string_bytes names)
 
 -- a command line of `qlock`: the words behind `fault`
 abbrev pub qlock_words : List Row → List Text
@@ -79,8 +126,13 @@ picture_word Messages = codes "world"
 abbrev pub IsNamedBy : Option (Text × List Row) → ShowCommand → Type 0
 IsNamedBy None command = ⊥
 IsNamedBy (Some used) Plan = used.0 ≡ codes "plan"
-IsNamedBy (Some used) (Deal n) = (used.0 ≡ codes "deal") × HasNumber (codes "N") 0 100000 used.1 n
+IsNamedBy (Some used) (Deal n) = (used.0 ≡ codes "deal") × HasNumber (codes "N") 0 100000 used.1 n × ¬ IsEven used.1
+IsNamedBy (Some used) (DealEven n) = (used.0 ≡ codes "deal") × HasNumber (codes "N") 0 100000 used.1 n × IsEven used.1
+IsNamedBy (Some used) (Without names) = (used.0 ≡ codes "without") × HasNames used.1 names.items
+IsNamedBy (Some used) Resilience = used.0 ≡ codes "resilience"
+IsNamedBy (Some used) Bridge = used.0 ≡ codes "bridge"
 IsNamedBy (Some used) World = used.0 ≡ codes "world"
+IsNamedBy (Some used) Report = used.0 ≡ codes "report"
 IsNamedBy (Some used) (Explain explanation) = (used.0 ≡ codes "explain") × HasCode used.1 explanation.now
 IsNamedBy (Some used) ExplainAll = (used.0 ≡ codes "explain") × (first_of (codes "CODE") used.1 ≡ Some (codes "all"))
 IsNamedBy (Some used) ListFaults = (used.0 ≡ codes "explain") × (first_of (codes "CODE") used.1 ≡ None)

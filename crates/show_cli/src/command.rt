@@ -1,5 +1,5 @@
 //! The commands of the program.
-use qlock_cli::Command;
+use commands::Command;
 use show_faults::Explanation;
 
 /// What a picture shows.
@@ -18,8 +18,18 @@ pub enum Picture {
 pub enum ShowCommand {
     /// Show a plan: whom to ask how often, and why no plan is better.
     Plan,
+    /// Report on a plan as one HTML document.
+    Report,
     /// Deal this many tickets, 0 to 100,000, with the names of the voters to ask.
     Deal(u32),
+    /// Deal as many in the order that is even from the first ticket.
+    DealEven(u32),
+    /// Write the coterie that is left when the voters with these names fail.
+    Without(Vec<String>),
+    /// Show how many voters may fail, and which groups of them.
+    Resilience,
+    /// Show whether each quorum of one coterie meets each quorum of another.
+    Bridge,
     /// Tell a script's run in words.
     World,
     /// Explain a fault.

@@ -1,10 +1,10 @@
-//! The commands of the program `qlock-show`: plans, faults and scripts for people to read.
+//! The commands of the program `qlock-show`: plans, coteries, faults and scripts for people to read.
 //!
 //! The texts of `qlock` are exact and for machines. This crate reads the same inputs and shows them
 //! with the names of voters: in words, and as pictures.
 //!
 //! [`read_show_words`] reads the words of a command line, and [`show`] serves a [`ShowCommand`] over
-//! a reader and a writer. Faults, statuses and limits are those of `qlock_cli`.
+//! a reader and a writer. Faults, statuses and limits are those of `commands`.
 //!
 //! # What is proved
 //!
@@ -13,8 +13,9 @@
 //!
 //! The input is read to its end, and what is written is a page of the command for what was read:
 //!
-//! - of `deal` and `explain` the whole page is determined; the page of all faults and the list of
-//!   their lines have each code once, in order;
+//! - of `deal`, also with `--even`, of `explain`, `without`, `resilience` and `bridge` the whole page is determined; the page
+//!   of all faults and the list of their lines have each code once, in order;
+//! - of `report` it is, except its styles and its picture;
 //! - of `plan` the load line and the tables of quorums and voters are, from the plan and the names in
 //!   the input; the paragraphs behind them are only tested;
 //! - a `fault` page ends with the code of a fault with which `qlock` refuses the input, or it says that
@@ -33,14 +34,10 @@
 //! ```
 #![tactic(auto)]
 
-mod codes;
 mod command;
-mod excerpt;
-mod faults;
-mod input_parts;
+mod losses;
 mod pages;
 mod serving;
-mod text_faults;
 mod words;
 
 pub use command::{Picture, ShowCommand};

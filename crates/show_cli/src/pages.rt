@@ -1,77 +1,26 @@
 //! What each command writes for its input.
-ghost use Rattle.std.specs.Prelude.{◌≡◌, ◌≤◌, ◌++◌, IfErr, IfOk, Ok, OnOk, codes, string_bytes};
-ghost use Rattle.std.specs.List.{flat_map};
+ghost use Rattle.std.specs.Prelude.{◌≡◌, ◌≤◌, IfErr, IfOk, Ok, string_bytes};
 ghost use Rattle.show_faults.specs.Pages.{IsFaultsList, IsFaultsPage};
 ghost use Rattle.show_faults.specs.Texts.{text_of};
 ghost use Rattle.replay.specs.Scripts.{IsScript, script_text};
-ghost use Rattle.show_words.specs.Lines.{names_text};
-ghost use Rattle.qlock_cli.specs.Commands.{IsInRange, IsRefusedBy, staged_in};
-ghost use Rattle.qlock_cli.specs.Devices.{IsOwn};
+ghost use Rattle.commands.specs.Commands.{IsInRange, IsRefusedBy, staged_in};
+ghost use Rattle.commands.specs.Devices.{IsOwn};
 ghost use Rattle.show_cli.specs.Commands.{IsShown};
-ghost use Rattle.show_cli.specs.Pages.{IsFaultPage, IsShownBy, deal_page_text, members_of, named_receipt_line};
+ghost use Rattle.show_refusals.specs.Pages.{IsFaultPage};
+ghost use Rattle.show_cli.specs.Pages.{IsShownBy};
 
 use crate::command::{Picture, ShowCommand};
-use crate::faults::fault_page;
-use coterie_file::Named;
-use dealer::Receipt;
-use qlock_cli::{Command, Fault, Planned, dealt, planned_of, push_account, push_ratio, staged_of};
+use crate::losses::{borne_page, left_page, pair_page};
+use commands::{Command, Fault, Planned, planned_of, staged_of};
 use replay::{Script, read_script};
 use show_faults::{Explanation, explanation_text, faults_list, faults_page};
 use show_plans::{cycle_picture, load_picture};
-use show_words::{plan_words, push_members, world_words};
+use show_refusals::fault_page;
+use show_report::report_page;
+use show_tickets::{even_page, rounds_page};
+use show_words::{plan_words, world_words};
 use show_worlds::world_picture;
 use std::alloc::{AllocError, Global};
-
-/// Appends the names of a quorum's members, if there is a quorum of this number.
-fn push_asked(text: &mut String, named: &Named, quorum: usize) -> Result<(), AllocError>
-    ensures { OnOk result (string_bytes text.new
-        ≡ string_bytes text.old ++ names_text named.now.names (codes " ") (members_of named.now quorum)) }
-{
-    if quorum < named.coterie().count() {
-        push_members(text, named, named.coterie().quorum(quorum), " ")
-    } else {
-        Ok(())
-    }
-}
-
-/// Appends the line of a ticket: its number, its quorum, and the names of the voters to ask.
-fn push_ticket(text: &mut String, named: &Named, receipt: &Receipt) -> Result<(), AllocError>
-    ensures { OnOk result (string_bytes text.new
-        ≡ string_bytes text.old ++ named_receipt_line named.now receipt.now) }
-{
-    let ticket = receipt.ticket;
-    let quorum = receipt.quorum;
-    write!(text, "{ticket} {quorum} ")?;
-    push_asked(text, named, quorum)?;
-    text.push_str("\n")
-}
-
-/// Appends a line for each of these tickets.
-fn push_tickets(text: &mut String, named: &Named, receipts: &[Receipt]) -> Result<(), AllocError>
-    ensures { OnOk result (string_bytes text.new
-        ≡ string_bytes text.old ++ flat_map (named_receipt_line named.now) receipts.now) }
-{
-    for receipt in receipts {
-        push_ticket(text, named, receipt)?;
-    }
-    Ok(())
-}
-
-/// Returns the page of the tickets below `count`.
-fn deal_words(alloc: Global, planned: Planned, count: u64) -> Result<String, AllocError>
-    requires same { planned.plan.system ≡ planned.named.system }
-    requires count { count ≤ 100000 }
-    ensures { IfOk result (λ page. string_bytes page ≡ deal_page_text planned count) }
-{
-    let Planned { named, plan } = planned;
-    let (account, receipts) = dealt(alloc, plan, count)?;
-    let _ = named.coterie();
-    let mut text = String::new(alloc);
-    push_tickets(&mut text, &named, &receipts)?;
-    push_account(&mut text, &named, &account)?;
-    push_ratio(&mut text, named.capacities(), &account)?;
-    Ok(text)
-}
 
 /// Returns the page of dealt tickets for an input.
 fn deal_page(alloc: Global, input: &[u8], count: u32) -> Result<String, Fault>
@@ -83,7 +32,22 @@ fn deal_page(alloc: Global, input: &[u8], count: u32) -> Result<String, Fault>
         Ok(planned) => planned,
         Err(fault) => return Err(fault),
     };
-    match deal_words(alloc, planned, u64::from(count)) {
+    match rounds_page(alloc, planned, u64::from(count)) {
+        Ok(page) => Ok(page),
+        Err(_) => Err(Fault::OutOfMemory),
+    }
+}
+
+/// Returns the page of tickets that are dealt in the even order, for an input.
+fn deal_even_page(alloc: Global, input: &[u8], count: u32) -> Result<String, Fault>
+    ensures shown { IsShownBy string_bytes (ShowCommand.DealEven count) input.now result }
+    ensures own { IfErr result IsOwn }
+{
+    let planned = match planned_of(alloc, input) {
+        Ok(planned) => planned,
+        Err(fault) => return Err(fault),
+    };
+    match even_page(alloc, planned, u64::from(count)) {
         Ok(page) => Ok(page),
         Err(_) => Err(Fault::OutOfMemory),
     }
@@ -99,6 +63,21 @@ fn plan_page(alloc: Global, input: &[u8]) -> Result<String, Fault>
         Err(fault) => return Err(fault),
     };
     match plan_words(alloc, &planned.named, &planned.plan) {
+        Ok(page) => Ok(page),
+        Err(_) => Err(Fault::OutOfMemory),
+    }
+}
+
+/// Returns the report of a plan for an input.
+fn plan_report(alloc: Global, input: &[u8]) -> Result<String, Fault>
+    ensures shown { IsShownBy string_bytes ShowCommand.Report input.now result }
+    ensures own { IfErr result IsOwn }
+{
+    let planned = match planned_of(alloc, input) {
+        Ok(planned) => planned,
+        Err(fault) => return Err(fault),
+    };
+    match report_page(alloc, &planned.named, &planned.plan) {
         Ok(page) => Ok(page),
         Err(_) => Err(Fault::OutOfMemory),
     }
@@ -135,7 +114,6 @@ fn cycle_page(alloc: Global, input: &[u8]) -> Result<String, Fault>
 }
 
 /// Returns a script, its coterie and its plan.
-#[tactic(auto, using(crate::proofs::ShowLemmas::script_refused))]
 fn script_of(alloc: Global, input: &[u8]) -> Result<(Planned, Script), Fault>
     ensures parts { IfOk result (λ read. staged_in input.now ≡ Ok (read.0, script_text read.1)) }
     ensures script { IfOk result (λ read. IsScript read.1) }
@@ -237,9 +215,14 @@ pub(crate) fn page_of(alloc: Global, command: &ShowCommand, input: &[u8]) -> Res
 {
     match command {
         ShowCommand::Plan => plan_page(alloc, input),
+        ShowCommand::Report => plan_report(alloc, input),
         ShowCommand::Picture(Picture::Load) => load_page(alloc, input),
         ShowCommand::Picture(Picture::Cycle) => cycle_page(alloc, input),
         ShowCommand::Deal(count) => deal_page(alloc, input, *count),
+        ShowCommand::DealEven(count) => deal_even_page(alloc, input, *count),
+        ShowCommand::Without(words) => left_page(alloc, words, input),
+        ShowCommand::Resilience => borne_page(alloc, input),
+        ShowCommand::Bridge => pair_page(alloc, input),
         ShowCommand::World => world_page(alloc, input),
         ShowCommand::Picture(Picture::World) => script_picture(alloc, input),
         ShowCommand::Explain(explanation) => explain_page(alloc, explanation),

@@ -3,15 +3,15 @@ ghost use Rattle.std.specs.Prelude.{◌≡◌, ◌≤◌, [], true, false, lengt
 ghost use Rattle.std.specs.Io.KnownBytes.{Appends};
 ghost use Rattle.whole_io.specs.Devices.{AppendsBeginning};
 ghost use Rattle.whole_io.specs.declared.fault.DeviceFault.TheVariants.{WriteFault};
-ghost use Rattle.qlock_cli.specs.Commands.{reads_input};
-ghost use Rattle.qlock_cli.specs.Devices.{FailsAs, IsOfReading};
-ghost use Rattle.qlock_cli.specs.declared.fault.Fault.TheVariants.{Device};
+ghost use Rattle.commands.specs.Commands.{reads_input};
+ghost use Rattle.commands.specs.Devices.{FailsAs, IsOfReading};
+ghost use Rattle.commands.specs.declared.fault.Fault.TheVariants.{Device};
 ghost use Rattle.show_cli.specs.Commands.{IsShown};
 ghost use Rattle.show_cli.specs.Pages.{ComesOfShowing, EndsAfterPage, LeavesShown, OfRead, Shows, reads_page_input};
 
 use crate::command::ShowCommand;
 use crate::pages::page_of;
-use qlock_cli::{Command, Fault, Watched};
+use commands::{Command, Fault, Watched};
 use std::alloc::Global;
 use std::io::{Read, Write};
 use whole_io::{read_input, write_output};
@@ -38,8 +38,15 @@ fn reads_page_input(command: &ShowCommand) -> bool
     match command {
         ShowCommand::Explain(_) | ShowCommand::ExplainAll | ShowCommand::ListFaults => false,
         ShowCommand::Fault(command) => reads_qlock_input(command),
-        ShowCommand::Plan | ShowCommand::Deal(_) | ShowCommand::World | ShowCommand::Picture(_) =>
-            true,
+        ShowCommand::Plan
+        | ShowCommand::Report
+        | ShowCommand::Deal(_)
+        | ShowCommand::DealEven(_)
+        | ShowCommand::Without(_)
+        | ShowCommand::Resilience
+        | ShowCommand::Bridge
+        | ShowCommand::World
+        | ShowCommand::Picture(_) => true,
     }
 }
 
@@ -86,7 +93,7 @@ fn write_page<W: Write>(writer: &mut Watched<W>, page: &[u8]) -> Result<(), Faul
 
 /// Serves a command: reads the input to its end, and writes the command's page and nothing else.
 ///
-/// Faults come in the same order as those of `qlock_cli::execute`. A fault other than a failed write
+/// Faults come in the same order as those of `commands::execute`. A fault other than a failed write
 /// writes nothing. After a failed write a beginning of the page was written.
 #[tactic(auto, using(crate::proofs::ShowLemmas::page_shown, crate::proofs::ShowLemmas::page_begun, crate::proofs::ShowLemmas::write_fault_comes))]
 pub fn show<R: Read, W: Write>(

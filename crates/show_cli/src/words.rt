@@ -1,17 +1,17 @@
 //! The command line: which command its words name.
-ghost use Rattle.std.specs.Prelude.{◌≡◌, ◌<◌, ◌++◌, ◌∷◌, ℕ, [], length, slice_index_or, false, IfErr, IfOk, IfSome, None, OnOk, Some, codes, map, string_bytes};
-ghost use Rattle.clap.specs.Words.{app_of, found_of, rows_of, rule_of, subcommand_of, subcommand_rows_of};
+ghost use Rattle.std.specs.Prelude.{◌≡◌, ◌<◌, ◌++◌, ◌∷◌, ℕ, [], length, slice_index_or, false, true, IfErr, IfOk, IfSome, None, OnOk, Some, codes, map, string_bytes};
+ghost use Rattle.clap.specs.Words.{app_of, found_of, rows_of, rule_of, subcommand_rows_of};
 ghost use Rattle.command_line.specs.Words as qlock;
-ghost use Rattle.command_line.specs.Words.{HasNumber, IsLocal, deal_app, plan_app, tickets_rule, world_app};
-ghost use Rattle.qlock_cli.specs.Commands.{IsInRange};
+ghost use Rattle.command_line.specs.Words.{HasNumber, IsLocal, plan_app, tickets_rule, world_app};
+ghost use Rattle.commands.specs.Commands.{IsInRange};
 ghost use Rattle.show_cli.specs.Commands.{IsShown};
 ghost use Rattle.show_cli.specs.declared.command.Picture.{Picture};
-ghost use Rattle.show_cli.specs.Words.{IsNamedBy, Names, Refuses, RefusesUse, code_rule, explain_app, fault_app, kind_rule, pages_app, picture_app, picture_word, qlock_words, show_app, words_rule};
+ghost use Rattle.show_cli.specs.Words.{IsEven, IsNamedBy, Names, Refuses, RefusesUse, bridge_app, code_rule, coteries_app, even_rule, explain_app, fault_app, kind_rule, names_rule, pages_app, picture_app, picture_word, qlock_words, report_app, reports_app, resilience_app, show_app, tickets_app, without_app, words_rule};
 
 use crate::command::{Picture, ShowCommand};
 use clap::builder::ValueParser;
-use clap::{Arg, ArgMatches};
-use qlock_cli::{Command, Usage, named_commands_are_in_range, read_words};
+use clap::{Arg, ArgAction, ArgMatches};
+use commands::{Command, Usage, named_commands_are_in_range, read_words};
 use show_faults::explanation_of;
 use std::alloc::{AllocError, Global};
 
@@ -31,6 +31,16 @@ fn plan_command<'a>(alloc: Global) -> clap::Command<'a>
     )
 }
 
+/// Returns the subcommand `report`, which has no arguments.
+fn report_command<'a>(alloc: Global) -> clap::Command<'a>
+    ensures app { app_of result ≡ report_app }
+    ensures local { IsLocal result }
+{
+    clap::Command::new(alloc, "report").about(
+        "Report on a plan as one HTML page: load, quorums, failures borne, evenness, certificate: a coterie, a line %%, and a plan",
+    )
+}
+
 /// Returns the argument N: 0 to 100,000.
 fn tickets_argument<'a>(alloc: Global) -> Arg<'a>
     ensures rule { rule_of result ≡ tickets_rule }
@@ -42,14 +52,26 @@ fn tickets_argument<'a>(alloc: Global) -> Arg<'a>
         .value_parser(ValueParser::unsigned(0, MOST_TICKETS))
 }
 
-/// Returns the subcommand `deal N`.
+/// Returns the flag `--even`.
+fn even_argument<'a>(alloc: Global) -> Arg<'a>
+    ensures rule { rule_of result ≡ even_rule }
+    ensures local { result.global ≡ false }
+{
+    Arg::new(alloc, "even")
+        .help("Deal in the order that is even from the first ticket")
+        .long("even")
+        .action(ArgAction::SetTrue)
+}
+
+/// Returns the subcommand `deal N`, with the flag `--even`.
 fn deal_command<'a>(alloc: Global) -> Result<clap::Command<'a>, AllocError>
-    ensures app { IfOk result (λ c. app_of c ≡ deal_app) }
+    ensures app { IfOk result (λ c. app_of c ≡ tickets_app) }
     ensures local { IfOk result IsLocal }
 {
     clap::Command::new(alloc, "deal")
         .about("Deal tickets with the names of the voters to ask: a coterie, a line %%, and a plan")
-        .arg(tickets_argument(alloc))
+        .arg(tickets_argument(alloc))?
+        .arg(even_argument(alloc))
 }
 
 /// Returns the subcommand `world`, which has no arguments.
@@ -59,6 +81,47 @@ fn world_command<'a>(alloc: Global) -> clap::Command<'a>
 {
     clap::Command::new(alloc, "world").about(
         "Tell a script in words: a coterie, a line %%, a plan, a line %%, and a script",
+    )
+}
+
+/// Returns the argument NAMES: one text or more.
+fn names_argument<'a>(alloc: Global) -> Arg<'a>
+    ensures rule { rule_of result ≡ names_rule }
+    ensures local { result.global ≡ false }
+{
+    Arg::new(alloc, "NAMES")
+        .help("The names of the voters that fail")
+        .required(true)
+        .num_args(1..)
+}
+
+/// Returns the subcommand `without NAMES..`.
+fn without_command<'a>(alloc: Global) -> Result<clap::Command<'a>, AllocError>
+    ensures app { IfOk result (λ c. app_of c ≡ without_app) }
+    ensures local { IfOk result IsLocal }
+{
+    clap::Command::new(alloc, "without")
+        .about("Write the coterie that is left when these voters fail, for qlock plan: a coterie")
+        .arg(names_argument(alloc))
+}
+
+/// Returns the subcommand `resilience`, which has no arguments.
+fn resilience_command<'a>(alloc: Global) -> clap::Command<'a>
+    ensures app { app_of result ≡ resilience_app }
+    ensures local { IsLocal result }
+{
+    clap::Command::new(alloc, "resilience").about(
+        "Show how many voters may fail, and which groups of them: a coterie",
+    )
+}
+
+/// Returns the subcommand `bridge`, which has no arguments.
+fn bridge_command<'a>(alloc: Global) -> clap::Command<'a>
+    ensures app { app_of result ≡ bridge_app }
+    ensures local { IsLocal result }
+{
+    clap::Command::new(alloc, "bridge").about(
+        "Show whether each quorum of one coterie meets each of another: a coterie, a line %%, and a coterie",
     )
 }
 
@@ -128,7 +191,9 @@ fn pages_command<'a>(alloc: Global) -> Result<clap::Command<'a>, AllocError>
     ensures { IfOk result (λ c. app_of c ≡ pages_app) }
 {
     clap::Command::new(alloc, "qlock-show")
-        .about("Show plans, faults and scripts of qlock, with names, in words and as pictures")
+        .about(
+            "Show plans, coteries, faults and scripts of qlock, with names, in words and as pictures",
+        )
         .version(VERSION)
         .subcommand_required(true)
         .subcommand(plan_command(alloc))?
@@ -136,11 +201,28 @@ fn pages_command<'a>(alloc: Global) -> Result<clap::Command<'a>, AllocError>
         .subcommand(world_command(alloc))
 }
 
+/// Returns the command line with `report` too.
+fn reports_command<'a>(alloc: Global) -> Result<clap::Command<'a>, AllocError>
+    ensures { IfOk result (λ c. app_of c ≡ reports_app) }
+{
+    pages_command(alloc)?.subcommand(report_command(alloc))
+}
+
+/// Returns the command line with `without`, `resilience` and `bridge` too.
+fn coteries_command<'a>(alloc: Global) -> Result<clap::Command<'a>, AllocError>
+    ensures { IfOk result (λ c. app_of c ≡ coteries_app) }
+{
+    reports_command(alloc)?
+        .subcommand(without_command(alloc)?)?
+        .subcommand(resilience_command(alloc))?
+        .subcommand(bridge_command(alloc))
+}
+
 /// Returns the whole command line.
 fn show_command<'a>(alloc: Global) -> Result<clap::Command<'a>, AllocError>
     ensures { IfOk result (λ c. app_of c ≡ show_app) }
 {
-    pages_command(alloc)?
+    coteries_command(alloc)?
         .subcommand(explain_command(alloc)?)?
         .subcommand(fault_command(alloc)?)?
         .subcommand(picture_command(alloc)?)
@@ -160,15 +242,41 @@ fn tickets_of(used: &ArgMatches) -> Option<u32>
     }
 }
 
-/// Returns `deal` with its number of tickets.
+/// Returns whether a flag with this value is there.
+fn is_set(value: &str) -> bool
+    ensures set { result ≡ true → value.now ≡ codes "true" }
+    ensures unset { result ≡ false → ¬ (value.now ≡ codes "true") }
+{
+    match value {
+        "true" => true,
+        _ => false,
+    }
+}
+
+/// Returns whether the tickets are dealt in the even order.
+fn is_even(used: &ArgMatches) -> bool
+    ensures even { result ≡ true → IsEven (rows_of (found_of used.now)) }
+    ensures plain { result ≡ false → ¬ IsEven (rows_of (found_of used.now)) }
+{
+    match used.get_str("even") {
+        Some(value) => is_set(value),
+        None => false,
+    }
+}
+
+/// Returns `deal` with its number of tickets, and in the order that its flag says.
 fn deal_of(used: &ArgMatches) -> Result<ShowCommand, Usage>
     ensures named { IfOk result (IsNamedBy (Some (codes "deal", rows_of (found_of used.now)))) }
     ensures refused { IfErr result (RefusesUse (Some (codes "deal", rows_of (found_of used.now)))) }
     ensures shown { IfOk result IsShown }
 {
-    match tickets_of(used) {
-        Some(tickets) => Ok(ShowCommand::Deal(tickets)),
-        None => Err(Usage::Arguments),
+    let Some(tickets) = tickets_of(used) else {
+        return Err(Usage::Arguments);
+    };
+    if is_even(used) {
+        Ok(ShowCommand::DealEven(tickets))
+    } else {
+        Ok(ShowCommand::Deal(tickets))
     }
 }
 
@@ -226,15 +334,38 @@ fn text_at<'a>(texts: &[&'a str], i: usize) -> &'a str
     texts[i]
 }
 
+/// Appends these texts to a list.
+fn push_texts(alloc: Global, words: &mut Vec<String>, texts: &[&str]) -> Result<(), AllocError>
+    ensures { OnOk result (map string_bytes words.new.items
+        ≡ map string_bytes words.old.items ++ map (λ t. t.now) texts.now) }
+{
+    for i in 0..texts.len() {
+        words.push(String::from_str(alloc, text_at(texts, i))?)?;
+    }
+    Ok(())
+}
+
+/// Returns `without` with the names that its words are.
+fn without_of(alloc: Global, used: &ArgMatches) -> Result<ShowCommand, Usage>
+    ensures named { IfOk result (IsNamedBy (Some (codes "without", rows_of (found_of used.now)))) }
+    ensures refused { IfErr result (RefusesUse (Some (codes "without", rows_of (found_of used.now)))) }
+    ensures shown { IfOk result IsShown }
+{
+    let Some(texts) = used.get_strs("NAMES") else {
+        return Err(Usage::Arguments);
+    };
+    let mut names = Vec::new(alloc);
+    push_texts(alloc, &mut names, texts)?;
+    Ok(ShowCommand::Without(names))
+}
+
 /// Returns a command line of `qlock` with these words behind its name.
 fn qlock_line(alloc: Global, texts: &[&str]) -> Result<Vec<String>, AllocError>
     ensures { IfOk result (λ words. map string_bytes words.items ≡ codes "qlock" ∷ map (λ t. t.now) texts.now) }
 {
     let mut words = Vec::new(alloc);
     words.push(String::from_str(alloc, "qlock")?)?;
-    for i in 0..texts.len() {
-        words.push(String::from_str(alloc, text_at(texts, i))?)?;
-    }
+    push_texts(alloc, &mut words, texts)?;
     Ok(words)
 }
 
@@ -282,6 +413,18 @@ fn command_of(alloc: Global, matches: &ArgMatches) -> Result<ShowCommand, Usage>
     }
     if matches.subcommand_matches("world").is_some() {
         return Ok(ShowCommand::World);
+    }
+    if matches.subcommand_matches("report").is_some() {
+        return Ok(ShowCommand::Report);
+    }
+    if matches.subcommand_matches("resilience").is_some() {
+        return Ok(ShowCommand::Resilience);
+    }
+    if matches.subcommand_matches("bridge").is_some() {
+        return Ok(ShowCommand::Bridge);
+    }
+    if let Some(used) = matches.subcommand_matches("without") {
+        return without_of(alloc, used);
     }
     if let Some(used) = matches.subcommand_matches("deal") {
         return deal_of(used);

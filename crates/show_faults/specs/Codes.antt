@@ -15,7 +15,7 @@ codes_of rows = map (λ row. row.code.now) rows
 -- the codes of the faults of the input, the output and memory
 abbrev pub input_codes : List (List ℕ)
 input_codes =
-    codes "I1" ∷ codes "I2" ∷ codes "I3" ∷ codes "I4" ∷ codes "I5" ∷
+    codes "I1" ∷ codes "I2" ∷ codes "I3" ∷ codes "I4" ∷ codes "I5" ∷ codes "I6" ∷
     codes "O1" ∷
     []
 

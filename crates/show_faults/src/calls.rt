@@ -176,8 +176,8 @@ const J1: Explanation = Explanation {
     example: "Bridge::of(alloc, &any_two_of_three, &voter_0_alone)\n\
         J1 NotBridged 2 0",
     mistakes: "The new quorums are too small, or the voters of the new coterie are in\n\
-        another order. Exchange in two steps, over a coterie whose one quorum is\n\
-        all voters.",
+        another order. Exchange in two steps, over any n - c + 1 of the n voters,\n\
+        where the smallest quorum of the two coteries has c members.",
 };
 
 /// Returns the explanations of the faults of calls of the crates.

@@ -23,7 +23,8 @@ const I2: Explanation = Explanation {
     code: "I2",
     name: "TooLong",
     arguments: "",
-    meaning: "The input has more than 16,777,216 bytes. What they are does not matter.",
+    meaning: "The input has more than 16,777,216 bytes. What they are does not matter. If\n\
+        one file behind `-f` has more, its name follows.",
     example: "$ head -c 16777217 /dev/zero | ./qlock plan\n\
         I2 TooLong",
     mistakes: "Another file was passed than the one that was meant. Or the voters of a\n\
@@ -34,10 +35,12 @@ const I3: Explanation = Explanation {
     code: "I3",
     name: "ReadFault",
     arguments: "",
-    meaning: "A read of the standard input failed. Nothing was written.",
+    meaning: "A read of the standard input failed, or a file behind `-f` can't be opened or\n\
+        read. The name of the file follows. Nothing was written.",
     example: "$ ./qlock plan < .\n\
         I3 ReadFault",
-    mistakes: "The standard input is a folder. Or its device failed: try again.",
+    mistakes: "The standard input or the file is a folder, there is no file of this name, or\n\
+        it may not be read. Or its device failed: try again.",
 };
 
 const I4: Explanation = Explanation {
@@ -65,6 +68,18 @@ const I5: Explanation = Explanation {
         voters and then the base.",
 };
 
+const I6: Explanation = Explanation {
+    code: "I6",
+    name: "UnknownVoter",
+    arguments: "i",
+    meaning: "Word i behind `without` is not the name of a voter of the coterie. Words count\n\
+        from 0.",
+    example: "$ ./qlock-show without hub rim9 < examples/wheel-3.toml\n\
+        I6 UnknownVoter 1",
+    mistakes: "The name is in capitals, or is the number of a voter. Or another coterie\n\
+        was passed: names are in the line `voters` of the input.",
+};
+
 const O1: Explanation = Explanation {
     code: "O1",
     name: "OutOfMemory",
@@ -82,5 +97,5 @@ const O1: Explanation = Explanation {
 pub(crate) fn inputs() -> &'static [Explanation]
     ensures { codes_of result.now ≡ input_codes }
 {
-    &[I1, I2, I3, I4, I5, O1]
+    &[I1, I2, I3, I4, I5, I6, O1]
 }

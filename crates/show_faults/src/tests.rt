@@ -67,7 +67,7 @@ fn counts() -> (usize, usize) {
 
 #[test]
 fn explanations_are_whole(rt: HostRuntime) {
-    assert_eq!(rt; counts(), (66, 66));
+    assert_eq!(rt; counts(), (67, 67));
 }
 
 const CONTAINED: &str = "\

@@ -2,18 +2,22 @@
 use crate::columns::Columns;
 use certificate::Plan;
 use coterie_file::Named;
+use quorum_set::are_unit;
 use show_svg::{
     Area, Point, close_group, close_text, close_title, line, open_text, open_titled, push_escaped,
     rect,
 };
-use show_words::{VoterFigure, name_of, push_percent, scaled};
+use show_words::{VoterFigure, name_of, push_percent, push_quotient, push_tenths, scaled};
 use std::alloc::AllocError;
 
 /// How high the room for the bars is.
 pub const ROOM: u64 = 160;
 
 /// How wide a column is at least so that its bar is labelled.
-const LABELLED: u64 = 44;
+const LABELLED: u64 = 42;
+
+/// How wide it is at least so that there is room for a sign behind the label.
+const ROOMY: u64 = 60;
 
 /// An axis for shares of the whole.
 #[derive(Clone, Copy, Debug)]
@@ -63,6 +67,12 @@ pub struct Bars {
     base: u64,
     /// The axis.
     axis: Axis,
+    /// How many tickets a cycle has.
+    len: u64,
+    /// Whether all capacities are 1.
+    unit: bool,
+    /// The greatest ratio of uses to capacity, of the busiest voter.
+    ratio: (u64, u64),
 }
 
 /// Returns how high a bar of this part is, if one of the whole has the full height.
@@ -82,14 +92,36 @@ fn axis_for(part: u64, whole: u64) -> Axis {
     best
 }
 
+/// Returns the axis of a plan: for its load, or for parts of the busiest voter if some capacity is
+/// not 1.
+fn axis_of(plan: &Plan) -> Axis {
+    if are_unit(plan.capacities()) {
+        let (part, whole) = plan.load();
+        axis_for(part, whole)
+    } else {
+        axis_for(1, 1)
+    }
+}
+
 impl Bars {
     /// Returns the bars of a plan, with their lower ends at this height.
     pub fn of(plan: &Plan, base: u64) -> Bars {
-        let (part, whole) = plan.load();
         Bars {
             base,
-            axis: axis_for(part, whole),
+            axis: axis_of(plan),
+            len: plan.cycle_len(),
+            unit: are_unit(plan.capacities()),
+            ratio: plan.ratio(),
         }
+    }
+
+    /// Returns how high the bar of a voter is: a part and the whole of the axis.
+    fn part(&self, figure: VoterFigure) -> (u64, u64) {
+        if self.unit {
+            return (figure.count, self.len);
+        }
+        let part = figure.count.saturating_mul(self.ratio.1);
+        (part, figure.capacity.saturating_mul(self.ratio.0))
     }
 
     /// Returns how far the upper end of a bar of this part is from the upper edge.
@@ -122,15 +154,14 @@ impl Bars {
         self.push_mark(out, columns, self.axis.end)
     }
 
-    /// Appends a voter's load in percent, in its bar, if there is room.
+    /// Appends a voter's share of the requests in percent, in its bar, if there is room.
     fn push_label(
         &self,
         out: &mut String,
         columns: &Columns,
         figure: VoterFigure,
-        whole: u64,
+        top: u64,
     ) -> Result<(), AllocError> {
-        let top = self.top(figure.count, whole);
         if columns.width < LABELLED || top.saturating_add(16) > self.base {
             return Ok(());
         }
@@ -140,7 +171,10 @@ impl Bars {
             place,
             "text-anchor=\"middle\" font-size=\"10\" fill=\"#ffffff\"",
         )?;
-        push_percent(out, figure.count, whole)?;
+        push_tenths(out, figure.count.saturating_mul(100), self.len)?;
+        if columns.width >= ROOMY {
+            out.push_str(" %")?;
+        }
         close_text(out)
     }
 
@@ -150,9 +184,9 @@ impl Bars {
         out: &mut String,
         columns: &Columns,
         figure: VoterFigure,
-        whole: u64,
     ) -> Result<(), AllocError> {
-        let top = self.top(figure.count, whole);
+        let (part, whole) = self.part(figure);
+        let top = self.top(part, whole);
         let gap = columns.width / 6;
         let area = Area {
             x: columns.start(figure.voter).saturating_add(gap),
@@ -161,49 +195,75 @@ impl Bars {
             height: self.base.saturating_sub(top),
         };
         rect(out, area, "fill=\"#4c78a8\"")?;
-        self.push_label(out, columns, figure, whole)
+        self.push_label(out, columns, figure, top)
     }
 
-    /// Appends the bar of a voter with its title, in a plan with cycles of this length.
+    /// Appends how busy a voter is for its capacity, if some capacity is not 1.
+    fn push_busy(&self, out: &mut String, figure: VoterFigure) -> Result<(), AllocError> {
+        if self.unit {
+            return Ok(());
+        }
+        let capacity = figure.capacity;
+        let (part, whole) = self.part(figure);
+        write!(out, "; capacity {capacity}, ")?;
+        push_percent(out, part, whole)?;
+        out.push_str(" as busy as the busiest voter")
+    }
+
+    /// Appends the bar of a voter with its title.
     fn push_voter(
         &self,
         out: &mut String,
         named: &Named,
         columns: &Columns,
         figure: VoterFigure,
-        len: u64,
     ) -> Result<(), AllocError> {
-        let VoterFigure {
-            voter,
-            count,
-            capacity,
-        } = figure;
-        let whole = len.saturating_mul(capacity);
+        let VoterFigure { voter, count, .. } = figure;
+        let len = self.len;
         open_titled(out)?;
         push_escaped(out, name_of(named, voter))?;
-        write!(
-            out,
-            ": used {count} times by a cycle of {len}, capacity {capacity}, load"
-        )?;
-        push_percent(out, count, whole)?;
+        write!(out, ": used {count} times by a cycle of {len},")?;
+        push_percent(out, count, len)?;
+        out.push_str(" of the requests")?;
+        self.push_busy(out, figure)?;
         close_title(out)?;
-        self.push_bar(out, columns, figure, whole)?;
+        self.push_bar(out, columns, figure)?;
         close_group(out)
     }
 
-    /// Appends a bar for each voter, in a plan with cycles of this length.
+    /// Appends a bar for each voter.
     pub fn push_voters(
         &self,
         out: &mut String,
         named: &Named,
         columns: &Columns,
         voters: &[VoterFigure],
-        len: u64,
     ) -> Result<(), AllocError> {
         for figure in voters {
-            self.push_voter(out, named, columns, *figure, len)?;
+            self.push_voter(out, named, columns, *figure)?;
         }
         Ok(())
+    }
+
+    /// Returns how far the line below which no plan can go is from the upper edge.
+    fn limit(&self, load: (u64, u64)) -> u64 {
+        if self.unit {
+            self.top(load.0, load.1)
+        } else {
+            self.top(1, 1)
+        }
+    }
+
+    /// Appends the load below which no plan can go, in percent or with its throughput.
+    fn push_load(&self, out: &mut String, load: (u64, u64)) -> Result<(), AllocError> {
+        let (part, whole) = load;
+        write!(out, "no plan is below {part}/{whole}")?;
+        if self.unit {
+            out.push_str(",")?;
+            return push_percent(out, part, whole);
+        }
+        out.push_str(": throughput ")?;
+        push_quotient(out, whole, part)
     }
 
     /// Appends the line at the plan's load, below which no plan can go.
@@ -213,8 +273,8 @@ impl Bars {
         columns: &Columns,
         plan: &Plan,
     ) -> Result<(), AllocError> {
-        let (part, whole) = plan.load();
-        let y = self.top(part, whole);
+        let load = plan.load();
+        let y = self.limit(load);
         let left = columns.left();
         let to = Point::at(columns.right().saturating_add(8), y);
         line(
@@ -225,7 +285,7 @@ impl Bars {
         )?;
         let place = Point::at(left.saturating_add(4), y.saturating_sub(5));
         open_text(out, place, "fill=\"#b22222\" font-weight=\"bold\"")?;
-        write!(out, "no plan is below {part}/{whole}")?;
+        self.push_load(out, load)?;
         close_text(out)
     }
 }

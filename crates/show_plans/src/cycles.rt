@@ -3,19 +3,25 @@ ghost use Rattle.std.specs.Prelude.{IfOk, string_bytes};
 ghost use Rattle.show_svg.specs.Pictures.{IsEnded};
 
 use crate::growth::Growth;
+use crate::order::Order;
 use crate::strip::Strip;
+use crate::tally::samples_of;
 use certificate::Plan;
 use coterie_file::Named;
 use dealer::Cycle;
+use even::EvenCycle;
 use show_svg::{Point, close_picture, open_picture, words};
 use show_words::voter_figures;
 use std::alloc::{AllocError, Global};
 
 /// How much room there is between the strip and the graph.
-const BETWEEN: u64 = 84;
+const BETWEEN: u64 = 102;
+
+/// How many points of a cycle the graph has at most.
+const POINTS: u64 = 360;
 
 /// How wide a picture is at least, for its heading.
-const LEAST_WIDTH: u64 = 560;
+const LEAST_WIDTH: u64 = 680;
 
 /// Returns the cycle of a plan, of which it makes a copy.
 fn cycle_of(alloc: Global, plan: &Plan) -> Result<Cycle, AllocError> {
@@ -23,6 +29,34 @@ fn cycle_of(alloc: Global, plan: &Plan) -> Result<Cycle, AllocError> {
         Ok(cycle) => Ok(cycle),
         Err((_, error)) => Err(error),
     }
+}
+
+/// Returns the even cycle of a plan, of which it makes a copy.
+fn even_of(alloc: Global, plan: &Plan) -> Result<EvenCycle, AllocError> {
+    match EvenCycle::of(alloc, plan.copy(alloc)?) {
+        Ok(cycle) => Ok(cycle),
+        Err((_, error)) => Err(error),
+    }
+}
+
+/// Appends how the count of the busiest voter grows, in both orders, below the strip.
+fn push_growth(
+    alloc: Global,
+    out: &mut String,
+    growth: &Growth,
+    plan: &Plan,
+    cycle: &Cycle,
+) -> Result<(), AllocError> {
+    let even = even_of(alloc, plan)?;
+    let rounds = samples_of(alloc, plan, Order::Rounds(cycle), POINTS)?;
+    let evenly = samples_of(alloc, plan, Order::Even(&even), POINTS)?;
+    growth.push_legend(out, plan, even.slack())?;
+    growth.push_band(out)?;
+    growth.push_counts(out)?;
+    growth.push_numbers(out)?;
+    growth.push_limit(out)?;
+    growth.push_curves(out, plan, &rounds, &evenly)?;
+    growth.push_end(out)
 }
 
 /// Appends the heading, which says what the strip is.
@@ -47,16 +81,17 @@ fn push_heading(out: &mut String) -> Result<(), AllocError> {
     )
 }
 
-/// Returns a picture of the first cycle of a plan: a column for each ticket, filled in the rows of
-/// its quorum's voters, and below it how the count of the busiest voter grows beside the least that
-/// is possible. The plan is one of the named coterie. Fails only if memory runs out.
+/// Returns a picture of the first cycle of a plan: a column for each of its first tickets, filled in
+/// the rows of its quorum's voters. Below it is how the count of the busiest voter grows over the
+/// whole cycle, beside the least that is possible, and the same in the even order of the crate
+/// `even`. The plan is one of the named coterie. Fails only if memory runs out.
 pub fn cycle_picture(alloc: Global, named: &Named, plan: &Plan) -> Result<String, AllocError>
     ensures { IfOk result (λ page. IsEnded (string_bytes page)) }
 {
     let voters = voter_figures(alloc, plan)?;
     let cycle = cycle_of(alloc, plan)?;
     let strip = Strip::of(named, &voters, plan.cycle_len());
-    let growth = Growth::of(&strip, &cycle, BETWEEN);
+    let growth = Growth::of(&strip, plan, BETWEEN);
     let width = strip.right().saturating_add(60).max(LEAST_WIDTH);
     let height = growth.base().saturating_add(50);
     let mut out = String::new(alloc);
@@ -65,13 +100,7 @@ pub fn cycle_picture(alloc: Global, named: &Named, plan: &Plan) -> Result<String
     strip.push_voters(&mut out, named, &voters)?;
     strip.push_tickets(&mut out, named, &cycle)?;
     strip.push_rest(&mut out)?;
-    growth.push_legend(&mut out, plan)?;
-    growth.push_counts(&mut out)?;
-    growth.push_numbers(&mut out)?;
-    growth.push_limit(&mut out, plan)?;
-    growth.push_steps(&mut out, &cycle)?;
-    growth.push_dots(&mut out, &cycle)?;
-    growth.push_end(&mut out)?;
+    push_growth(alloc, &mut out, &growth, plan, &cycle)?;
     close_picture(&mut out)?;
     Ok(out)
 }

@@ -17,7 +17,7 @@ const ROWS: usize = 100;
 const ROW: u64 = 14;
 
 /// The least radius of a dot, in tenths of a pixel: a smaller one would not be seen.
-const LEAST: u64 = 6;
+const LEAST: u64 = 12;
 
 /// The style of numbers beside a row.
 const NUMBER: &str = "text-anchor=\"end\"";

@@ -31,6 +31,7 @@ mod cycles;
 mod dots;
 mod growth;
 mod loads;
+mod order;
 mod roots;
 mod strip;
 mod tally;

@@ -13,7 +13,7 @@ use show_words::{quorum_figures, voter_figures};
 use std::alloc::{AllocError, Global};
 
 /// How far the bars' upper ends are from the upper edge at least.
-const TOP: u64 = 100;
+const TOP: u64 = 128;
 
 /// How far the bars' lower ends are from the upper edge.
 const BASE: u64 = TOP + ROOM;
@@ -24,26 +24,53 @@ const HEADS: u64 = 18;
 /// How wide a picture is at least, for its heading.
 const LEAST_WIDTH: u64 = 680;
 
-/// Appends the heading, which says what bars and dots are.
-fn push_heading(out: &mut String, plan: &Plan) -> Result<(), AllocError> {
-    let bar = if are_unit(plan.capacities()) {
-        "Bar: a voter's load, the share of all requests that use it."
+/// Returns what the picture is about.
+fn title_of(unit: bool) -> &'static str {
+    if unit {
+        "How much each voter is used"
     } else {
-        "Bar: a voter's load, the share of all requests that use it, divided by its capacity."
-    };
+        "How busy each voter is for its capacity"
+    }
+}
+
+/// What bars and dots are, if all capacities are 1.
+const UNIT_LINES: [&str; 3] = [
+    "Bar: a voter's load, the share of all requests that use it.",
+    "Row of dots: a quorum with its voters, the most used first.",
+    "A dot's area shows how many of a cycle's requests use the quorum.",
+];
+
+/// What they are for other capacities.
+const CAPACITY_LINES: [&str; 4] = [
+    "Bar: a voter's uses, divided by its capacity. The busiest voter has 100 %.",
+    "Number in a bar: the share of all requests that use the voter.",
+    "Row of dots: a quorum with its voters, the most used first.",
+    "A dot's area shows how many of a cycle's requests use the quorum.",
+];
+
+/// Appends the heading, which says what bars and dots are.
+fn push_heading(out: &mut String, unit: bool) -> Result<(), AllocError> {
     words(
         out,
         Point::at(20, 26),
         "font-size=\"15\" font-weight=\"bold\"",
-        "How much each voter is used",
+        title_of(unit),
     )?;
-    words(out, Point::at(20, 44), "", bar)?;
-    words(
-        out,
-        Point::at(20, 60),
-        "",
-        "Row of dots: a quorum with its voters, the most used first. A dot's area shows how many of a cycle's requests use the quorum.",
-    )
+    if unit {
+        push_lines(out, &UNIT_LINES)
+    } else {
+        push_lines(out, &CAPACITY_LINES)
+    }
+}
+
+/// Appends lines below the title.
+fn push_lines(out: &mut String, lines: &[&str]) -> Result<(), AllocError> {
+    let mut y: u64 = 44;
+    for line in lines {
+        words(out, Point::at(20, y), "", line)?;
+        y = y.saturating_add(16);
+    }
+    Ok(())
 }
 
 /// Returns how wide the picture is.
@@ -53,7 +80,8 @@ fn width_of(columns: &Columns) -> u64 {
 
 /// Returns a picture of how much a plan uses each voter: a bar for each voter's load, the line
 /// below which no plan can go, and the quorums that a cycle uses as rows of dots, the most used
-/// first. The plan is one of the named coterie. Fails only if memory runs out.
+/// first. If some capacity is not 1, a bar is how busy the voter is for its capacity, beside the
+/// busiest voter. The plan is one of the named coterie. Fails only if memory runs out.
 pub fn load_picture(alloc: Global, named: &Named, plan: &Plan) -> Result<String, AllocError>
     ensures { IfOk result (λ page. IsEnded (string_bytes page)) }
 {
@@ -65,15 +93,11 @@ pub fn load_picture(alloc: Global, named: &Named, plan: &Plan) -> Result<String,
     let dots = Dots::of(plan, &columns, &quorums, top);
     let height = dots.foot(quorums.len());
     let mut out = String::new(alloc);
-    open_picture(
-        &mut out,
-        width_of(&columns),
-        height,
-        "The load of each voter",
-    )?;
-    push_heading(&mut out, plan)?;
+    let unit = are_unit(plan.capacities());
+    open_picture(&mut out, width_of(&columns), height, title_of(unit))?;
+    push_heading(&mut out, unit)?;
     bars.push_axis(&mut out, &columns)?;
-    bars.push_voters(&mut out, named, &columns, &voters, plan.cycle_len())?;
+    bars.push_voters(&mut out, named, &columns, &voters)?;
     bars.push_limit(&mut out, &columns, plan)?;
     columns.push_names(&mut out, named, &voters, BASE)?;
     dots.push_heads(&mut out, &columns)?;

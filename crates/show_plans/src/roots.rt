@@ -1,5 +1,5 @@
 //! Square roots, for dots of which the area is given.
-ghost use Rattle.std.specs.Prelude.{◌≡◌, ◌<◌, ◌≤◌, ◌+◌, ◌*◌};
+ghost use Rattle.std.specs.Prelude.{◌<◌, ◌≤◌, ◌+◌, ◌*◌};
 
 /// The greatest root that `square_root` looks for.
 pub const MOST: u64 = 60;

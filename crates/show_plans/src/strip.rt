@@ -35,6 +35,9 @@ const MOST: u64 = 120;
 /// How wide a cell is at least.
 const LEAST: u64 = 6;
 
+/// How wide a cell is at least so that each number fits above its cell.
+const NARROW: u64 = 11;
+
 /// How wide a cell is at most.
 const WIDEST: u64 = 48;
 
@@ -50,7 +53,7 @@ pub struct Strip {
     /// How many voters it has.
     voters: u64,
     /// How many tickets the cycle has.
-    len: u64,
+    pub len: u64,
 }
 
 impl Strip {
@@ -121,12 +124,18 @@ impl Strip {
         rect(out, area, "fill=\"none\" stroke=\"#888888\"")
     }
 
+    /// Returns whether the number of a ticket's quorum is written: of narrow cells every other one,
+    /// so that the numbers do not overlap.
+    fn is_numbered(&self, ticket: u64) -> bool {
+        self.cell >= NARROW || ticket % 2 == 0
+    }
+
     /// Appends the number of a quorum above the cell of its ticket.
     fn push_number(&self, out: &mut String, ticket: u64, quorum: usize) -> Result<(), AllocError> {
         let middle = self.start(ticket).saturating_add(self.cell / 2);
         if self.cell >= 26 {
             open_text(out, Point::at(middle, TOP - 5), "text-anchor=\"middle\"")?;
-        } else if self.cell >= 11 {
+        } else if self.cell >= NARROW {
             open_upright(
                 out,
                 Point::at(middle.saturating_add(3), TOP - 4),
@@ -174,7 +183,9 @@ impl Strip {
         write!(out, "ticket {ticket}, quorum {quorum}:")?;
         push_members_escaped(out, named, set)?;
         close_title(out)?;
-        self.push_number(out, ticket, quorum)?;
+        if self.is_numbered(ticket) {
+            self.push_number(out, ticket, quorum)?;
+        }
         self.push_cells(out, ticket, set)?;
         close_group(out)
     }

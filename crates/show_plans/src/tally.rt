@@ -1,16 +1,28 @@
-//! How often the first tickets of a cycle use each voter.
+//! How often the first tickets of a cycle use the busiest voter.
+use crate::order::Order;
 use certificate::Plan;
-use dealer::Cycle;
 use numbers::MAX_VOTERS;
+use std::alloc::{AllocError, Global};
 
 /// How often some tickets use each voter.
 #[derive(Clone, Copy, Debug)]
-pub struct Tally {
+struct Tally {
     /// How often they use each voter.
     counts: [u64; MAX_VOTERS],
     /// The count of the busiest voter: its count divided by its capacity is the greatest.
-    pub count: u64,
+    count: u64,
     /// The capacity of the busiest voter.
+    capacity: u64,
+}
+
+/// How often the first tickets use their busiest voter.
+#[derive(Clone, Copy, Debug)]
+pub struct Sample {
+    /// How many tickets these are.
+    pub tickets: u64,
+    /// The count of the busiest voter: its count divided by its capacity is the greatest.
+    pub count: u64,
+    /// The capacity of this voter.
     pub capacity: u64,
 }
 
@@ -24,7 +36,7 @@ fn capacity_of(plan: &Plan, voter: u8) -> u64 {
 
 impl Tally {
     /// Returns the tally of no tickets.
-    pub fn new() -> Tally {
+    fn new() -> Tally {
         Tally {
             counts: [0; MAX_VOTERS],
             count: 0,
@@ -52,10 +64,8 @@ impl Tally {
         }
     }
 
-    /// Counts a ticket.
-    pub fn add(&mut self, cycle: &Cycle, ticket: u64) {
-        let plan = cycle.plan();
-        let quorum = cycle.quorum_at(ticket);
+    /// Counts a ticket of a quorum.
+    fn add(&mut self, plan: &Plan, quorum: usize) {
         if quorum >= plan.coterie().count() {
             return;
         }
@@ -65,12 +75,41 @@ impl Tally {
         }
     }
 
-    /// Returns the tally of the first tickets.
-    pub fn after(cycle: &Cycle, tickets: u64) -> Tally {
-        let mut tally = Tally::new();
-        for ticket in 0..tickets {
-            tally.add(cycle, ticket);
+    /// Counts the tickets from the first to the one before the last.
+    fn add_tickets(&mut self, plan: &Plan, order: Order, first: u64, last: u64) {
+        for ticket in first..last {
+            self.add(plan, order.quorum_at(ticket));
         }
-        tally
     }
+
+    /// Returns the sample after this number of tickets.
+    fn sample(&self, tickets: u64) -> Sample {
+        Sample {
+            tickets,
+            count: self.count,
+            capacity: self.capacity,
+        }
+    }
+}
+
+/// Returns samples of a whole cycle in this order, at most `most` and at equal distances. The last one
+/// is at its end.
+pub fn samples_of(
+    alloc: Global,
+    plan: &Plan,
+    order: Order,
+    most: u64,
+) -> Result<Vec<Sample>, AllocError> {
+    let len = plan.cycle_len();
+    let points = len.min(most).max(1);
+    let mut samples = Vec::new(alloc);
+    let mut tally = Tally::new();
+    let mut drawn: u64 = 0;
+    for point in 0..points {
+        let until = point.saturating_add(1).saturating_mul(len) / points;
+        tally.add_tickets(plan, order, drawn, until);
+        drawn = until;
+        samples.push(tally.sample(until))?;
+    }
+    Ok(samples)
 }

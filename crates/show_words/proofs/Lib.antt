@@ -1,2 +1,3 @@
 mod FigureLemmas
 mod LineLemmas
+mod WeightLemmas

@@ -19,3 +19,8 @@ pub four_parts : (a b c d start one two three all : List ℕ) → start ≡ [] �
 four_parts a b c d start one two three all empty first second third fourth =
     fourth ∙ ap (λ t. t ++ d) (third ∙ ap (λ t. t ++ c) (second ∙ ap (λ t. t ++ b) (first ∙ ap (λ t. t ++ a) empty)))
     ∙ append_assoc (a ++ b) c d ∙ append_assoc a b (c ++ d)
+
+-- three parts that were written one after the other, behind what there was
+pub three_parts : (before a b c one two all : List ℕ) → one ≡ before ++ a → two ≡ one ++ b → all ≡ two ++ c → all ≡ before ++ (a ++ (b ++ c))
+three_parts before a b c one two all first second third =
+    third ∙ ap (λ t. t ++ c) (second ∙ ap (λ t. t ++ b) first) ∙ append_assoc (before ++ a) b c ∙ append_assoc before a (b ++ c)

@@ -1,5 +1,6 @@
 pub mod Figures
 pub mod Lines
 pub mod Plans
+pub mod Reasons
 pub mod Stories
 pub mod Worlds

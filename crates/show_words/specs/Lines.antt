@@ -1,5 +1,5 @@
 -- The texts of names, shares and bars.
-use Rattle.std.specs.Prelude.{ℕ, ◌+◌, ◌-◌, ◌*◌, ◌/◌, ◌%◌, ◌^◌, min, max, false, List, [], ◌∷◌, ◌++◌, codes, decimal, slice_index_or}
+use Rattle.std.specs.Prelude.{ℕ, ◌+◌, ◌-◌, ◌*◌, ◌/◌, ◌%◌, ◌^◌, min, max, false, ◌==◌, if◌then◌else◌, List, [], ◌∷◌, ◌++◌, codes, decimal, slice_index_or}
 use Rattle.std.specs.Fmt.{format_spec, padded_integral}
 use Rattle.std.specs.List.{flat_map, repeat}
 
@@ -39,3 +39,21 @@ percent_text part whole =
 abbrev pub bar_text : ℕ → ℕ → List ℕ
 bar_text part whole =
     let filled = share_of 40 part whole in repeat filled (codes "#") ++ repeat (40 - filled) (codes ".")
+
+-- a quotient as a fraction, or as a number if it is divided by 1
+unfoldable pub fraction_text : ℕ → ℕ → List ℕ
+fraction_text part whole = if whole == 1 then decimal part else decimal part ++ (codes "/" ++ decimal whole)
+
+-- a quotient in tenths, rounded to the nearest; both numbers count as 2^32 - 1 at most, and a divisor of
+-- 0 as 1
+abbrev pub tenths_of : ℕ → ℕ → ℕ
+tenths_of part whole = (min part (2 ^ 32 - 1) * 10 + whole_of whole / 2) / whole_of whole
+
+-- a quotient with one digit after the point
+unfoldable pub tenths_text : ℕ → ℕ → List ℕ
+tenths_text part whole =
+    let tenths = tenths_of part whole in decimal (tenths / 10) ++ (codes "." ++ decimal (tenths % 10))
+
+-- a quotient as a fraction, and with one digit after the point
+unfoldable pub quotient_text : ℕ → ℕ → List ℕ
+quotient_text part whole = fraction_text part whole ++ (codes ", about " ++ tenths_text part whole)

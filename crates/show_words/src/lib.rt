@@ -2,8 +2,9 @@
 //!
 //! [`quorum_figures`] and [`voter_figures`] say how often a cycle of a plan uses each quorum and
 //! each voter. [`plan_words`] makes a page of them: the load, whom to ask how often, and why no
-//! plan is better. [`story_of`] plays a script and keeps what each step did, and [`world_words`]
-//! tells it in sentences.
+//! plan is better. With capacities the page also has the throughput, and how busy each voter is for
+//! its capacity. [`story_of`] plays a script and keeps what each step did, and [`world_words`] says
+//! it in sentences.
 //!
 //! # What is proved
 //!
@@ -11,15 +12,14 @@
 //! there, with its weight, the most used first, of equally used ones the smaller number first. Each
 //! voter is there with its count and its capacity.
 //!
-//! The page of [`plan_words`] begins with the load and the tables of quorums and voters, letter by
-//! letter as `specs/Plans.antt` defines them from the plan, the figures and the names. The
-//! paragraphs behind them, why no plan has a smaller load, are only tested.
+//! The page of [`plan_words`] is determined letter by letter: `specs/Plans.antt` and
+//! `specs/Reasons.antt` define it from the plan, the figures and the names.
 //!
 //! A story has a moment for each step of the script, in order. What a moment says of its step is
 //! only tested, and so is the page of [`world_words`], except that it has the heading of its end.
 //!
-//! Depends on `certificate` for plans, on `coterie_file` for names, on `replay` for scripts, and on
-//! `world`, which plays them.
+//! Depends on `certificate` for plans, on `coterie_file` for names, on `known_loads` for bounds, on
+//! `replay` for scripts, and on `world`, which plays them.
 //!
 //! ```
 //! // Of the wheel with three rims:
@@ -29,16 +29,21 @@
 //! ```
 #![tactic(auto)]
 
+mod bounds;
 mod figures;
 mod names;
 mod plans;
+mod reasons;
 mod share;
 mod story;
+mod voters;
+mod weights;
 mod worlds;
 
 pub use figures::{QuorumFigure, VoterFigure, quorum_figures, voter_figures};
 pub use names::{name_of, push_members, push_names};
 pub use plans::plan_words;
-pub use share::{push_bar, push_percent, scaled};
+pub use share::{push_bar, push_fraction, push_percent, push_quotient, push_tenths, scaled};
 pub use story::{Happening, Moment, Story, story_of};
+pub use weights::{WeightFigure, weight_figures};
 pub use worlds::{push_message_words, world_words};

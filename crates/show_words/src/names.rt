@@ -1,5 +1,5 @@
 //! Names of voters.
-ghost use Rattle.std.specs.Prelude.{◌≡◌, ◌<◌, ◌++◌, OnOk, Some, codes, slice_get, string_bytes};
+ghost use Rattle.std.specs.Prelude.{◌≡◌, ◌<◌, ◌++◌, OnOk, Some, slice_get, string_bytes};
 ghost use Rattle.std.specs.List.{flat_map};
 ghost use Rattle.show_words.specs.Lines.{name_behind, names_text, shown_name};
 

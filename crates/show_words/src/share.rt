@@ -1,7 +1,7 @@
 //! Parts of a whole, in percent and as bars.
 ghost use Rattle.std.specs.Prelude.{◌≡◌, ◌<◌, ◌≤◌, ◌+◌, ◌++◌, ◌*◌, ◌/◌, ◌^◌, OnOk, string_bytes};
 ghost use Rattle.std.specs.List.{repeat};
-ghost use Rattle.show_words.specs.Lines.{bar_text, percent_text, share_of};
+ghost use Rattle.show_words.specs.Lines.{bar_text, fraction_text, percent_text, quotient_text, share_of, tenths_of, tenths_text};
 
 use std::alloc::AllocError;
 
@@ -41,6 +41,50 @@ pub fn push_percent(text: &mut String, part: u64, whole: u64) -> Result<(), Allo
     let ones = tenths / 10;
     let tenth = tenths % 10;
     write!(text, "{ones:>3}.{tenth} %")
+}
+
+/// Appends a quotient as a fraction, as `6125/3`, or as a number if it is divided by 1.
+#[tactic(auto, unfolding(crate::specs::Lines::fraction_text))]
+pub fn push_fraction(text: &mut String, part: u64, whole: u64) -> Result<(), AllocError>
+    ensures { OnOk result (string_bytes text.new ≡ string_bytes text.old ++ fraction_text part whole) }
+{
+    if whole == 1 {
+        write!(text, "{part}")
+    } else {
+        write!(text, "{part}/{whole}")
+    }
+}
+
+/// Returns a quotient in tenths, rounded to the nearest. Both numbers count as 2^32 - 1 at most, and
+/// a divisor of 0 as 1.
+fn tenths(part: u64, whole: u64) -> u64
+    ensures { result ≡ tenths_of part whole }
+{
+    let most = u64::from(u32::MAX);
+    let whole = whole.clamp(1, most);
+    (part.min(most) * 10 + whole / 2) / whole
+}
+
+/// Appends a quotient with one digit after the point, as `2041.7`. Both numbers count as 2^32 - 1 at
+/// most, and a divisor of 0 as 1.
+#[tactic(auto, unfolding(crate::specs::Lines::tenths_text))]
+pub fn push_tenths(text: &mut String, part: u64, whole: u64) -> Result<(), AllocError>
+    ensures { OnOk result (string_bytes text.new ≡ string_bytes text.old ++ tenths_text part whole) }
+{
+    let tenths = tenths(part, whole);
+    let ones = tenths / 10;
+    let tenth = tenths % 10;
+    write!(text, "{ones}.{tenth}")
+}
+
+/// Appends a quotient as a fraction and with one digit after the point, as `6125/3, about 2041.7`.
+#[tactic(auto, unfolding(crate::specs::Lines::quotient_text))]
+pub fn push_quotient(text: &mut String, part: u64, whole: u64) -> Result<(), AllocError>
+    ensures { OnOk result (string_bytes text.new ≡ string_bytes text.old ++ quotient_text part whole) }
+{
+    push_fraction(text, part, whole)?;
+    text.push_str(", about ")?;
+    push_tenths(text, part, whole)
 }
 
 /// Appends a text this many times.

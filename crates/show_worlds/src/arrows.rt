@@ -10,6 +10,9 @@ use std::alloc::{AllocError, Global};
 /// How far before its receiver's column the line of a message ends that never came.
 const SHORT: u64 = 14;
 
+/// How far down the line of a message begins that would else lie on the line of another one.
+const SHIFT: u64 = 8;
+
 /// The style of what is under a label, so that it can be read on a line.
 const HALO: &str =
     "font-size=\"9\" stroke=\"#ffffff\" stroke-width=\"3\" stroke-linejoin=\"round\"";
@@ -68,6 +71,68 @@ fn open_message(
     write!(out, "; sent in step {step}, ")
 }
 
+/// A message, and its line from where it was sent to where it came.
+#[derive(Clone, Copy, Debug)]
+struct Flight {
+    message: Message,
+    from: Point,
+    to: Point,
+}
+
+impl Flight {
+    /// Returns a message that came in a row, and its line, if there is such a message.
+    fn of(story: &Story, chart: &Chart, number: usize, row: u64) -> Option<Flight> {
+        if number >= story.world.sent() {
+            return None;
+        }
+        let message = story.world.message(number);
+        let (start, end) = chart.lanes.ends(&message);
+        Some(Flight {
+            message,
+            from: chart.place(start, chart.sender(number)),
+            to: chart.place(end, row),
+        })
+    }
+
+    /// Returns how far it goes to the side and down.
+    fn size(self) -> (u64, u64) {
+        let Flight { from, to, .. } = self;
+        (from.x.abs_diff(to.x), from.y.abs_diff(to.y))
+    }
+
+    /// Returns whether it begins at the same place as another line, and goes to the same side.
+    fn begins_as(self, other: Flight) -> bool {
+        let is_right = self.from.x <= self.to.x;
+        let is_other_right = other.from.x <= other.to.x;
+        self.from.x == other.from.x && self.from.y == other.from.y && is_right == is_other_right
+    }
+
+    /// Returns whether the whole of a shorter line lies on this one.
+    fn covers(self, shorter: Flight) -> bool {
+        let (width, height) = self.size();
+        let (less, low) = shorter.size();
+        self.begins_as(shorter)
+            && less < width
+            && less.saturating_mul(height) == width.saturating_mul(low)
+    }
+}
+
+/// Returns how far down the line of a message has to begin, so that no other line lies on it.
+fn shift_of(story: &Story, chart: &Chart, flight: Flight) -> u64 {
+    let mut shift: u64 = 0;
+    for (row, moment) in shown_moments(story).iter().enumerate() {
+        let Some(number) = arrival(moment) else {
+            continue;
+        };
+        if let Some(other) = Flight::of(story, chart, number, row as u64) {
+            if flight.covers(other) {
+                shift = SHIFT;
+            }
+        }
+    }
+    shift
+}
+
 /// Appends the arrow of a message that came in a row.
 fn push_arrow(
     alloc: Global,
@@ -78,19 +143,16 @@ fn push_arrow(
     number: usize,
     row: u64,
 ) -> Result<(), AllocError> {
-    if number >= story.world.sent() {
+    let Some(flight) = Flight::of(story, chart, number, row) else {
         return Ok(());
-    }
-    let message = story.world.message(number);
-    let sender = chart.sender(number);
-    let (start, end) = chart.lanes.ends(&message);
-    let from = chart.place(start, sender);
-    let to = chart.place(end, row);
-    open_message(alloc, out, named, number, sender, &message)?;
+    };
+    let Flight { message, from, to } = flight;
+    let y = from.y.saturating_add(shift_of(story, chart, flight));
+    open_message(alloc, out, named, number, chart.sender(number), &message)?;
     let step = row.saturating_add(1);
     write!(out, "arrives in step {step}")?;
     close_title(out)?;
-    arrow(out, from, to, kind_of(&message).0)?;
+    arrow(out, Point::at(from.x, y), to, kind_of(&message).0)?;
     close_group(out)
 }
 
@@ -119,13 +181,10 @@ fn push_arrow_label(
     number: usize,
     row: u64,
 ) -> Result<(), AllocError> {
-    if number >= story.world.sent() {
+    let Some(flight) = Flight::of(story, chart, number, row) else {
         return Ok(());
-    }
-    let message = story.world.message(number);
-    let (start, end) = chart.lanes.ends(&message);
-    let from = chart.place(start, chart.sender(number));
-    push_label(out, from, chart.place(end, row), &message)
+    };
+    push_label(out, flight.from, flight.to, &flight.message)
 }
 
 /// Appends a label for each arrival, over the arrows.
@@ -170,7 +229,7 @@ fn push_lost(
     out.push_str("never arrives")?;
     close_title(out)?;
     lost(out, from, cross, kind_of(&message).0)?;
-    push_label(out, from, Point::at(end, y), &message)?;
+    push_label(out, from, cross, &message)?;
     close_group(out)
 }
 

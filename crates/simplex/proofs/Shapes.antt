@@ -7,7 +7,7 @@ use Rattle.std.proofs.lemmas.Int.{ints, to_z-of_z}
 use Rattle.fraction.specs.declared.fault.FracFault.{FracFault}
 use Rattle.fraction.specs.Tables.{Table, IsPivoted, row_of}
 
--- a table has so many rows and columns
+-- a table has these numbers of rows and columns
 abbrev pub HasSize : Table → ℕ → ℕ → Type 0
 HasSize t rows columns = (length t.rows ≡ rows) × ((i : ℕ) → i < rows → length (row_of t i) ≡ columns)
 

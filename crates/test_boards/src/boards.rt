@@ -1,7 +1,5 @@
 //! Votes and the register, on one thread and on two.
-ghost use Rattle.std.specs.Prelude.{◌≡◌, ◌≢◌, ◌<◌, ◌≤◌, ◌^◌, ◌∷◌, [], length, Some, None, IsSome, IfOk, IfSome, MatchBool, MatchResult, slice_index};
-ghost use Rattle.board.specs.Quorums.{quorum_at, HoldsAll};
-ghost use Rattle.board.specs.Seats.{BoardState, ClientSeatState, RootState, VoterSeatState};
+ghost use Rattle.std.specs.Prelude.{◌≡◌, ◌<◌, ◌≤◌, ◌∷◌, [], Some, None, IsSome, IfOk, IfSome, MatchBool, MatchResult, slice_index};
 ghost use Rattle.board.specs.Words.{nobody};
 
 use board::{Board, BoardFault, BoardRoot, ClientSeat, Total, VoterSeat};
@@ -199,7 +197,7 @@ fn closed_without_voter(board: Board, mut root: BoardRoot, client: ClientSeat) -
 }
 
 #[test]
-fn seat_that_is_out_is_told(rt: HostRuntime) -> Result<(), Fail> {
+fn seat_that_is_out_is_reported(rt: HostRuntime) -> Result<(), Fail> {
     let fault = match seated(rt.alloc(), 1, 1)? {
         Some((board, root, _voter, client)) => closed_without_voter(board, root, client),
         None => None,
@@ -209,7 +207,7 @@ fn seat_that_is_out_is_told(rt: HostRuntime) -> Result<(), Fail> {
 }
 
 #[test]
-fn seats_that_are_lost_are_told(rt: HostRuntime) -> Result<(), Fail> {
+fn seats_that_are_lost_are_reported(rt: HostRuntime) -> Result<(), Fail> {
     let fault = match seated(rt.alloc(), 1, 1)? {
         Some((board, root, voter, client)) => {
             drop(voter);

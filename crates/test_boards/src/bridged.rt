@@ -1,8 +1,6 @@
 //! A board of two coteries: any two of three voters, and then all three.
-ghost use Rattle.std.specs.Prelude.{◌≡◌, ◌++◌, ◌≤◌, length, IfOk, IsTrue};
+ghost use Rattle.std.specs.Prelude.{◌≡◌, ◌++◌, length, IsTrue};
 ghost use Rattle.board.specs.Quorums.{HoldsAll};
-ghost use Rattle.board.specs.Seats.{BoardState, ClientSeatState, RootState};
-ghost use Rattle.quorum_set.specs.Bridges.{Bridged};
 
 use board::{Board, BoardRoot, ClientSeat};
 use quorum_set::{Bridge, QSet, Side};

@@ -1,7 +1,5 @@
 //! What only a run can show: calls find memory, and the board grants and settles what it has.
 ghost use Rattle.std.specs.Prelude.{◌≡◌, ◌<◌, ◌≤◌, None};
-ghost use Rattle.board.specs.Seats.{BoardState, ClientSeatState, VoterSeatState};
-ghost use Rattle.node.specs.Names.{ClusterState};
 
 use crate::boards::seated;
 use board::{Board, ClientSeat, VoterSeat};

@@ -1,8 +1,6 @@
 //! Every voter serves every client. It drops no message that it has to take, and takes none that
 //! would free a vote that is taken.
 ghost use Rattle.std.specs.Prelude.{◌≡◌, ◌<◌, ◌≤◌, None};
-ghost use Rattle.board.specs.Seats.{BoardState, ClientSeatState, VoterSeatState};
-ghost use Rattle.node.specs.Names.{ClusterState};
 
 use board::{Board, ClientSeat, VoterSeat};
 use message::{ClientBody, ToClient, ToVoter, VoterBody};
@@ -22,7 +20,7 @@ struct Turn {
     /// The message.
     says: VoterBody,
     /// The only reply and whether it goes to the early client, or no reply.
-    told: Option<(bool, ClientBody)>,
+    heard: Option<(bool, ClientBody)>,
     /// Whether the node has to drop the message.
     drops: bool,
 }
@@ -34,49 +32,49 @@ const TURNS: [Turn; 7] = [
         early: false,
         gives: false,
         says: VoterBody::Request { stamp: 2 },
-        told: Some((false, ClientBody::Locked { stamp: 2, grant: 1 })),
+        heard: Some((false, ClientBody::Locked { stamp: 2, grant: 1 })),
         drops: false,
     },
     Turn {
         early: true,
         gives: false,
         says: VoterBody::Request { stamp: 1 },
-        told: Some((false, ClientBody::Inquire { grant: 1 })),
+        heard: Some((false, ClientBody::Inquire { grant: 1 })),
         drops: false,
     },
     Turn {
         early: false,
         gives: false,
         says: VoterBody::Relinquish { grant: 1 },
-        told: None,
+        heard: None,
         drops: true,
     },
     Turn {
         early: false,
         gives: true,
         says: VoterBody::Relinquish { grant: 1 },
-        told: Some((true, ClientBody::Locked { stamp: 1, grant: 2 })),
+        heard: Some((true, ClientBody::Locked { stamp: 1, grant: 2 })),
         drops: false,
     },
     Turn {
         early: true,
         gives: false,
         says: VoterBody::Release { stamp: 1 },
-        told: None,
+        heard: None,
         drops: true,
     },
     Turn {
         early: true,
         gives: true,
         says: VoterBody::Release { stamp: 1 },
-        told: Some((false, ClientBody::Locked { stamp: 2, grant: 3 })),
+        heard: Some((false, ClientBody::Locked { stamp: 2, grant: 3 })),
         drops: false,
     },
     Turn {
         early: false,
         gives: true,
         says: VoterBody::Release { stamp: 2 },
-        told: None,
+        heard: None,
         drops: false,
     },
 ];
@@ -97,8 +95,8 @@ fn replies<N: ClusterName>(
         return Ok(false);
     }
     match (node.take(board, message)?, wanted) {
-        (Some(told), Some(wanted)) => Ok(told.as_slice() == [wanted].as_slice()),
-        (Some(told), None) => Ok(told.is_empty() & !drops),
+        (Some(heard), Some(wanted)) => Ok(heard.as_slice() == [wanted].as_slice()),
+        (Some(heard), None) => Ok(heard.is_empty() & !drops),
         (None, _) => Ok(drops),
     }
 }
@@ -159,7 +157,7 @@ fn takes_after(board: &Board, clients: &mut Clients, voter: u8, turn: &Turn) -> 
     ensures late { clients.new.late.table ≡ clients.old.late.table }
     ensures early { clients.new.early.table ≡ clients.old.early.table }
 {
-    match turn.told {
+    match turn.heard {
         None => true,
         Some((true, body)) => takes(board, &mut clients.early, voter, body),
         Some((false, body)) => takes(board, &mut clients.late, voter, body),
@@ -177,7 +175,7 @@ fn message_of(voter: u8, late: u8, early: u8, turn: &Turn) -> ToVoter {
 
 /// Returns the reply of a turn.
 fn wanted_of(voter: u8, late: u8, early: u8, turn: &Turn) -> Option<ToClient> {
-    let (to_early, body) = turn.told?;
+    let (to_early, body) = turn.heard?;
     Some(ToClient {
         voter,
         client: if to_early { early } else { late },

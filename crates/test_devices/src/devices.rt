@@ -1,5 +1,5 @@
 //! Devices that fail at each read and at each write, and that move few bytes at a time.
-ghost use Rattle.qlock_cli.specs.Commands.{IsInRange};
+ghost use Rattle.commands.specs.Commands.{IsInRange};
 
 use crate::tables::{
     CHECKING_AND_DEALING, MAKING_AND_PLANNING, PLAYING_AND_REPLAYING, RUNNING, Row, Wanted,

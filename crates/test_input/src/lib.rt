@@ -1,7 +1,7 @@
 //! Tests of the program's input and output through public calls. This crate has nothing but tests.
 //!
-//! `words` has the words of the command line, and `devices` has readers and writers that move bytes
-//! in pieces or fail.
+//! `words` has the words of the command line, `files` has words that name files, and `devices` has
+//! readers and writers that move bytes in pieces or fail.
 //!
 //! The tests are not in the crates that they test, so these are proved once, and not again together
 //! with their tests.
@@ -9,5 +9,7 @@
 
 #[cfg(test)]
 mod devices;
+#[cfg(test)]
+mod files;
 #[cfg(test)]
 mod words;

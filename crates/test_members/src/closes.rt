@@ -1,6 +1,5 @@
 //! Closing a cluster: worked records, and members that are missing or inside.
 ghost use Rattle.std.specs.Prelude.{◌≡◌};
-ghost use Rattle.members.specs.Clusters.{ClusterState};
 
 use crate::scripts::{Act, ENTERED, NOTHING, majority_blank, plays};
 use board::BoardFault;

@@ -1,7 +1,6 @@
 //! A plan that is exchanged for another while members run: any two of three voters, and then all
 //! three.
 ghost use Rattle.std.specs.Prelude.{◌≡◌, ◌≤◌};
-ghost use Rattle.members.specs.Clusters.{ClusterState};
 
 use dealer::{Plans, Receipt};
 use members::{Blank, Cluster, ClusterFault, ClusterName, Member};

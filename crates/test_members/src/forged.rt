@@ -1,7 +1,6 @@
 //! Members in threads, while other threads give nodes and mailboxes messages that no client and no
 //! voter of the cluster would send.
 ghost use Rattle.std.specs.Prelude.{◌≡◌};
-ghost use Rattle.members.specs.Clusters.{ClusterState};
 
 use dealer::Plans;
 use members::{Blank, Cluster, ClusterName, Member, RunRecord};

@@ -1,9 +1,8 @@
 //! Lost messages: each is counted once, and what gets into a mailbox is not.
 //!
 //! Here messages are lost because they belong to nobody, or because they would move a vote that is
-//! taken. `hostile/run.sh` has messages lost for want of memory.
-ghost use Rattle.std.specs.Prelude.{◌≡◌, ◌≤◌};
-ghost use Rattle.members.specs.Clusters.{ClusterState};
+//! taken. In `hostile/run.sh` messages are lost because memory runs out.
+ghost use Rattle.std.specs.Prelude.{◌≡◌};
 
 use crate::scripts::majority_blank;
 use members::{Blank, Cluster, ClusterName, Member};

@@ -1,6 +1,5 @@
 //! Scripts: calls of members on one thread, each with what it has to return.
-ghost use Rattle.std.specs.Prelude.{◌≡◌, ◌*◌, ◌≤◌, ◌^◌};
-ghost use Rattle.members.specs.Clusters.{ClusterState};
+ghost use Rattle.std.specs.Prelude.{◌≡◌, ◌*◌, ◌≤◌};
 
 use dealer::{Plans, Receipt};
 use members::{Blank, Cluster, ClusterFault, ClusterName, Member};

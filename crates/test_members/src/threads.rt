@@ -1,6 +1,5 @@
 //! Members that enter: all that there can be, and two in threads of their own.
-ghost use Rattle.std.specs.Prelude.{◌≡◌, ◌*◌, ◌≤◌, ◌^◌};
-ghost use Rattle.members.specs.Clusters.{ClusterState};
+ghost use Rattle.std.specs.Prelude.{◌≡◌};
 
 use crate::scripts::majority_blank;
 use dealer::Plans;

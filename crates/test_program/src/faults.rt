@@ -1,7 +1,6 @@
 //! The line of every fault, in a table for each kind. `examples/check.sh` compares the lines with
 //! those that `qlock-show explain` lists.
 ghost use Rattle.std.specs.Prelude.{◌≡◌};
-ghost use Rattle.members.specs.Clusters.{ClusterState};
 
 use board::BoardFault;
 use certificate::PlanFault;
@@ -213,8 +212,9 @@ const DEVICES: [(DeviceFault, &str); 4] = [
     (DeviceFault::OutOfMemory, "O1 OutOfMemory"),
 ];
 
-const COMMANDS: [(Fault, &str); 9] = [
+const COMMANDS: [(Fault, &str); 10] = [
     (Fault::MissingPart(3), "I1 MissingPart 3"),
+    (Fault::UnknownVoter(63), "I6 UnknownVoter 63"),
     (Fault::Device(DeviceFault::TooLong), "I2 TooLong"),
     (Fault::Construct(ConstructFault::BadSize), "G1 BadSize"),
     (Fault::File(FileFault::Keys), "F2 Keys"),

@@ -14,7 +14,7 @@ use std::test::Fail;
 use test_plans::set_of;
 
 /// Returns the message to client 0 of this line, if it is one.
-fn told(line: &str) -> Option<ToClient>
+fn heard(line: &str) -> Option<ToClient>
     ensures client { IfSome result (λ m. m.client ≡ 0) }
     ensures voter { IfSome result (λ m. m.voter < 64) }
 {
@@ -80,7 +80,7 @@ fn reply_to(client: &mut Requester, step: &str) -> Result<Reply, ClientFault>
         "ask" => ask(client),
         "leave" => client.leave(),
         "give up" => client.give_up(),
-        _ => match told(step) {
+        _ => match heard(step) {
             Some(message) => Ok(client.take(&message)),
             None => Err(ClientFault::Busy),
         },
@@ -96,7 +96,7 @@ fn seen_at(client: &mut Requester, step: &str, out: &mut Messages) -> Result<See
         "ask" => ask_into(client, out),
         "leave" => client.leave_into(out),
         "give up" => client.give_up_into(out),
-        _ => match told(step) {
+        _ => match heard(step) {
             Some(message) => Ok(client.take_into(&message, out)),
             None => Err(ClientFault::Busy),
         },
@@ -258,7 +258,7 @@ fn vote_that_is_asked_for_goes_back_on_the_next_fail(rt: HostRuntime) -> Result<
 }
 
 #[test]
-fn refusals_are_foretold(rt: HostRuntime) -> Result<(), Fail> {
+fn refusals_are_predicted(rt: HostRuntime) -> Result<(), Fail> {
     assert!(rt; plays(rt.alloc(), 1, REFUSED)?);
     Ok(())
 }
@@ -291,7 +291,7 @@ fn readers(rt: HostRuntime) {
     let mut client = Requester::new(0, 9);
     let first = client.phase();
     let asked = ask(&mut client).is_ok();
-    let read = match told("locked 0 0 1 4 9") {
+    let read = match heard("locked 0 0 1 4 9") {
         Some(message) => holds_once(&mut client, &message),
         None => false,
     };

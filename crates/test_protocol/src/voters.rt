@@ -97,7 +97,7 @@ fn requests_in_their_places(rt: HostRuntime) -> Result<(), Fail> {
 }
 
 #[test]
-fn former_front_is_told(rt: HostRuntime) -> Result<(), Fail> {
+fn former_front_receives_fail(rt: HostRuntime) -> Result<(), Fail> {
     let script = [
         ("request 0 0 5", "locked 0 0 5 1 5;"),
         ("request 1 0 7", "fail 0 1 7 7;"),
@@ -136,7 +136,7 @@ fn holds(voter: &Voter, release: Option<ToVoter>) -> bool {
 }
 
 #[test]
-fn vote_is_held_and_told_again(rt: HostRuntime) -> Result<(), Fail> {
+fn vote_is_held_and_reported_again(rt: HostRuntime) -> Result<(), Fail> {
     let script = [
         ("request 1 0 5", "locked 0 1 5 1 5;"),
         ("request 0 0 4", "inquire 0 1 1 5;"),

@@ -49,7 +49,7 @@ impl Fold {
     }
 
     /// Returns whether a run made the same messages, events and refusals.
-    pub fn is_told_by(&self, trace: &Trace) -> bool {
+    pub fn is_written_in(&self, trace: &Trace) -> bool {
         if self.world.sent() != trace.messages.len() {
             return false;
         }

@@ -246,8 +246,8 @@ impl Tally {
             (Message::ToVoter(_), Err(WorldFault::Voter(_))) => {
                 self.spent = self.spent.saturating_add(1);
             }
-            (Message::ToClient(told), Ok(stepped)) => {
-                if matches!(told.body, ClientBody::Locked { .. }) && stepped.sent > 0 {
+            (Message::ToClient(heard), Ok(stepped)) => {
+                if matches!(heard.body, ClientBody::Locked { .. }) && stepped.sent > 0 {
                     self.late = self.late.saturating_add(1);
                 }
                 if stepped.seen == Seen::Entered {

@@ -36,7 +36,7 @@ fn tried(alloc: Global, kind: Kind, first: u64, end: u64) -> Result<Option<Tally
         if seed % kinds == first % kinds {
             let schedule = drawn(alloc, kind, seed, &mut tally)?;
             let trace = trace_of(alloc, kind, &schedule)?;
-            if !schedule.fold.is_told_by(&trace) || !is_exclusive(&trace.visible) {
+            if !schedule.fold.is_written_in(&trace) || !is_exclusive(&trace.visible) {
                 return Ok(None);
             }
         }
@@ -160,9 +160,9 @@ fn skipped_deliveries_are_seen(rt: HostRuntime) -> Result<(), Fail> {
         let schedule = drawn(alloc, kind, SEEDS, &mut tally)?;
         let trace = trace_of(alloc, kind, &schedule)?;
         let whole = skipping(alloc, kind, &schedule, u32::MAX)?;
-        assert!(rt; whole.is_told_by(&trace));
+        assert!(rt; whole.is_written_in(&trace));
         let skipped = skipping(alloc, kind, &schedule, 3)?;
-        assert!(rt; !skipped.is_told_by(&trace));
+        assert!(rt; !skipped.is_written_in(&trace));
     }
     Ok(())
 }

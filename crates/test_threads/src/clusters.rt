@@ -1,6 +1,5 @@
 //! Clusters to be driven, and the results of drives.
-ghost use Rattle.std.specs.Prelude.{◌≡◌, ◌*◌, ◌≤◌, ◌^◌, nat_lt};
-ghost use Rattle.members.specs.Clusters.{ClusterState};
+ghost use Rattle.std.specs.Prelude.{◌≡◌, ◌≤◌, nat_lt};
 
 use certificate::Plan;
 use cluster::{Blank, ClusterFault, ClusterName, Gate, Member, drive};

@@ -1,6 +1,5 @@
 //! Drives: two members at once, gates that stay shut, and members that run out.
 ghost use Rattle.std.specs.Prelude.{◌≡◌};
-ghost use Rattle.members.specs.Clusters.{ClusterState};
 
 use crate::clusters::{MANY, Outcome, blank_of, done, driven};
 use cluster::{Blank, Cluster, ClusterFault, ClusterName, Member, NoGate, drive};

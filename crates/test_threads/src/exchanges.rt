@@ -1,6 +1,5 @@
 //! Plans that are exchanged while threads use the lock.
 ghost use Rattle.std.specs.Prelude.{◌≡◌};
-ghost use Rattle.members.specs.Clusters.{ClusterState};
 
 use crate::clusters::{MANY, blank_by};
 use certificate::Plan;

@@ -1,6 +1,5 @@
 //! The record of a closed cluster is accepted, even if a client had no turns left.
 ghost use Rattle.std.specs.Prelude.{◌≡◌};
-ghost use Rattle.members.specs.Clusters.{ClusterState};
 
 use crate::clusters::{Outcome, Shut, blank_of, shown};
 use cluster::{Blank, ClusterFault, ClusterName, RunRecord, drive};

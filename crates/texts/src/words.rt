@@ -19,7 +19,7 @@ fn is_plain(digits: &[u8]) -> bool
 /// `None` if they are no such number below 2^64.
 pub fn number(digits: &[u8]) -> Option<u64>
     // The bytes are the text of the number that is returned.
-    ensures spelled { IfSome result (λ n. digits.now ≡ decimal n) }
+    ensures written { IfSome result (λ n. digits.now ≡ decimal n) }
     // The text of each number is read.
     ensures read { (n : ℕ) → n < 2 ^ 64 → digits.now ≡ decimal n → result ≡ Some n }
 {
@@ -66,7 +66,7 @@ pub fn cut(bytes: &[u8]) -> (&[u8], &[u8])
 /// Reads a space and a number from the front. Returns the number and what follows it, or `None` if
 /// the bytes begin otherwise.
 pub fn field(bytes: &[u8]) -> Option<(u64, &[u8])>
-    ensures spelled { IfSome result (λ x. bytes.now ≡ (32 ∷ decimal x.0) ++ x.1.now) }
+    ensures written { IfSome result (λ x. bytes.now ≡ (32 ∷ decimal x.0) ++ x.1.now) }
     ensures border { IfSome result (λ x. IsBorder x.1.now) }
     ensures read { (n : ℕ) (rest : List ℕ) → n < 2 ^ 64 → IsBorder rest → bytes.now ≡ (32 ∷ decimal n) ++ rest
         → MatchOption result ⊥ (λ x. (x.0 ≡ n) × (x.1.now ≡ rest)) }
@@ -85,7 +85,7 @@ pub fn field(bytes: &[u8]) -> Option<(u64, &[u8])>
 
 /// Reads the numbers of exactly `N` fields. Returns `None` if the bytes are anything else.
 pub fn fields<const N: usize>(bytes: &[u8]) -> Option<[u64; N]>
-    ensures spelled { IfSome result (λ ns. bytes.now ≡ fields ns) }
+    ensures written { IfSome result (λ ns. bytes.now ≡ fields ns) }
     ensures read { (ns : List ℕ) → length ns ≡ N → AllFit ns → bytes.now ≡ fields ns → result ≡ Some ns }
 {
     let mut numbers = [0; N];

@@ -13,7 +13,8 @@ use Rattle.message.specs.declared.message.VoterBody.TheVariants as asks
 use Rattle.voter.specs.declared.state.Grant.{Grant}
 use Rattle.voter.specs.declared.state.VoterState.{VoterState}
 use Rattle.voter.specs.Waiting.{Waiting, precedes, least, front}
-use Rattle.voter.specs.Steps.{grant_to, grant_front, released, released_by, queued, queued_by, admitted, admitted_by, queue, freed, finish, is_before, start, standing, requested, requested_by, requested_beside, compared_by, relinquished, relinquished_by, put_back, see, outcome_of, Outcome, step}
+use Rattle.voter.specs.Steps.{grant_to, grant_front, released, released_by, queued, queued_by, admitted, admitted_by, queue, freed, finish, is_before, start, standing, requested}
+use Rattle.voter.specs.Steps.{requested_by, requested_beside, compared_by, relinquished, relinquished_by, put_back, see, outcome_of, Outcome, step}
 use Rattle.voter.specs.Entries.{AsksBack, request_of}
 use Rattle.voter.proofs.Front.{IsLeastOf, least-is, front-found}
 use Rattle.voter.proofs.Soundness.{get-removed, get-inserted}
@@ -60,7 +61,8 @@ before_all : (o : Option Request) (r : Request) → is_before o r ≡ true → (
 before_all None r e = absurd (false≢true e)
 before_all (Some q) r e = (q, refl, e)
 
-asked-queued_by : (waits granted : Bool) (v : VoterState) (g : Grant) (c s : ℕ) → v.held ≡ Some g → is_before (front v.waiting) (record { stamp = s; client = c }) ≡ waits → precedes (request_of g) (record { stamp = s; client = c }) ≡ granted
+asked-queued_by : (waits granted : Bool) (v : VoterState) (g : Grant) (c s : ℕ) → v.held ≡ Some g → is_before (front v.waiting) (record { stamp = s; client = c }) ≡ waits
+    → precedes (request_of g) (record { stamp = s; client = c }) ≡ granted
     → AsksBack v → AsksBack (queued_by waits granted v g c s).state
 asked-queued_by true granted v g c s is e f h k d t held waits before = elim (inserted_cases v.waiting c s d t waits) [
   | inl new ↦

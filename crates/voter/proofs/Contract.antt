@@ -10,13 +10,15 @@ use Rattle.message.specs.declared.message.ToClient.{ToClient}
 use Rattle.message.specs.declared.message.VoterBody.{VoterBody}
 use Rattle.message.specs.declared.message.VoterBody.TheVariants as asks
 use Rattle.message.specs.declared.message.ClientBody.{ClientBody}
-use Rattle.message.specs.declared.message.ClientBody.TheVariants as tells
+use Rattle.message.specs.declared.message.ClientBody.TheVariants as to_client
 use Rattle.voter.specs.declared.state.Grant.{Grant}
 use Rattle.voter.specs.declared.state.VoterState.{VoterState}
 use Rattle.voter.specs.Waiting.{Waiting, front}
 use Rattle.voter.specs.VoteMoves.{VoteMoves}
-use Rattle.voter.specs.VoterContract.{TellsVote, AllTell, Ends, IsEntry, Brings, MeetsContract}
-use Rattle.voter.specs.Steps.{Outcome, grant_to, grant_front, released, released_by, queued, queued_by, inquiry, fail_former, admitted, admitted_by, queue, freed, finish, held_stamp, is_up_to, is_older, is_grant, standing, first_some, requested, requested_by, requested_beside, compared_by, again, again_by, relinquished, relinquished_by, put_back, see, outcome_of, ends_grant, step, remind, remind_of, inquiry_again}
+use Rattle.voter.specs.VoterContract.{ReportsVote, AllReport, Ends, IsEntry, Brings, MeetsContract}
+use Rattle.voter.specs.Steps.{Outcome, grant_to, grant_front, released, released_by, queued, queued_by, inquiry, fail_former, admitted, admitted_by, queue, freed, finish}
+use Rattle.voter.specs.Steps.{held_stamp, is_up_to, is_older, is_grant, standing, first_some, requested, requested_by, requested_beside, compared_by, again, again_by, relinquished}
+use Rattle.voter.specs.Steps.{relinquished_by, put_back, see, outcome_of, ends_grant, step, remind, remind_of, inquiry_again}
 use Rattle.voter.proofs.Front.{front-found}
 use Rattle.voter.proofs.Moves.{VoteMoves-outcome_of, VoteMoves-admitted}
 use Rattle.voter.proofs.Soundness.{get-removed, get-inserted}
@@ -155,13 +157,13 @@ module _ (P : ℕ → ℕ → Type 0) where
   stamps-relinquished_by true v h = stamps-put_back v.held v refl h
   stamps-relinquished_by false v h = h
 
-  -- what a REQUEST tells is so
-  abbrev pub Tells : ℕ → VoterBody → Type 0
-  Tells c (asks.Request s) = P c s
-  Tells c (asks.Relinquish g) = Unit {0}
-  Tells c (asks.Release s) = Unit {0}
+  -- what a REQUEST says is so
+  abbrev pub Says : ℕ → VoterBody → Type 0
+  Says c (asks.Request s) = P c s
+  Says c (asks.Relinquish g) = Unit {0}
+  Says c (asks.Release s) = Unit {0}
 
-  pub Stamps-outcome_of : (v : VoterState) (c : ℕ) (b : VoterBody) → Tells c b → Stamps P v → Stamps P (outcome_of v c b).state
+  pub Stamps-outcome_of : (v : VoterState) (c : ℕ) (b : VoterBody) → Says c b → Stamps P v → Stamps P (outcome_of v c b).state
   unfolding relinquished requested
   Stamps-outcome_of v c (asks.Request s) p h = stamps-requested_by _ (see v s) c s p (record { held = h.held; waiting = h.waiting })
   Stamps-outcome_of v c (asks.Relinquish n) p h = stamps-relinquished_by _ v h
@@ -170,10 +172,10 @@ module _ (P : ℕ → ℕ → Type 0) where
 abbrev pub Came : VoterState → ℕ → VoterBody → ℕ → ℕ → Type 0
 Came v c b d t = IsEntry v d t ⊎ Brings c b d t
 
-Tells-Came : (v : VoterState) (c : ℕ) (b : VoterBody) → Tells (Came v c b) c b
-Tells-Came v c (asks.Request s) = inr (refl, refl)
-Tells-Came v c (asks.Relinquish n) = tt
-Tells-Came v c (asks.Release s) = tt
+Says-Came : (v : VoterState) (c : ℕ) (b : VoterBody) → Says (Came v c b) c b
+Says-Came v c (asks.Request s) = inr (refl, refl)
+Says-Came v c (asks.Relinquish n) = tt
+Says-Came v c (asks.Release s) = tt
 
 came_before : (v : VoterState) (c : ℕ) (b : VoterBody) → Stamps (Came v c b) v
 came_before v c b = record { held = λ g is. inl (inl (g, is, refl, refl)); waiting = λ d t is. inl (inr is) }
@@ -183,125 +185,126 @@ entry_of P w h d t (inl e) = subst (λ n. P d n) e.3 (subst (λ n. P n e.0.stamp
 entry_of P w h d t (inr e) = h.waiting d t e
 
 pub IsEntry-outcome_of : (v : VoterState) (c : ℕ) (b : VoterBody) (d t : ℕ) → IsEntry (outcome_of v c b).state d t → IsEntry v d t ⊎ Brings c b d t
-IsEntry-outcome_of v c b d t e = entry_of (Came v c b) (outcome_of v c b).state (Stamps-outcome_of (Came v c b) v c b (Tells-Came v c b) (came_before v c b)) d t e
+IsEntry-outcome_of v c b d t e = entry_of (Came v c b) (outcome_of v c b).state (Stamps-outcome_of (Came v c b) v c b (Says-Came v c b) (came_before v c b)) d t e
 
--- Each LOCKED tells the vote as it stands.
+-- Each LOCKED reports the vote as it is.
 
-told-grant_to : (v : VoterState) (o : Option Request) → AllTell (grant_to v o).state.held (grant_to v o).replies
-told-grant_to v None = tt
-told-grant_to v (Some r) = (refl, tt)
+heard-grant_to : (v : VoterState) (o : Option Request) → AllReport (grant_to v o).state.held (grant_to v o).replies
+heard-grant_to v None = tt
+heard-grant_to v (Some r) = (refl, tt)
 
-told-grant_front : (v : VoterState) → AllTell (grant_front v).state.held (grant_front v).replies
+heard-grant_front : (v : VoterState) → AllReport (grant_front v).state.held (grant_front v).replies
 unfolding grant_front
-told-grant_front v = told-grant_to v (front v.waiting)
+heard-grant_front v = heard-grant_to v (front v.waiting)
 
-told-released_by : (holds waits : Bool) (v : VoterState) (c s : ℕ) → AllTell (released_by holds waits v c s).state.held (released_by holds waits v c s).replies
-told-released_by true waits v c s = told-grant_front (freed (finish v c s))
-told-released_by false true v c s = tt
-told-released_by false false v c s = tt
+heard-released_by : (holds waits : Bool) (v : VoterState) (c s : ℕ) → AllReport (released_by holds waits v c s).state.held (released_by holds waits v c s).replies
+heard-released_by true waits v c s = heard-grant_front (freed (finish v c s))
+heard-released_by false true v c s = tt
+heard-released_by false false v c s = tt
 
-told-released : (v : VoterState) (c s : ℕ) → AllTell (released v c s).state.held (released v c s).replies
+heard-released : (v : VoterState) (c s : ℕ) → AllReport (released v c s).state.held (released v c s).replies
 unfolding released
-told-released v c s = told-released_by _ _ v c s
+heard-released v c s = heard-released_by _ _ v c s
 
-told_former : (v : VoterState) (held : Option Grant) (o : Option Request) → AllTell held (fail_former v o)
-told_former v held None = tt
-told_former v held (Some q) = (tt, tt)
+reported_former : (v : VoterState) (held : Option Grant) (o : Option Request) → AllReport held (fail_former v o)
+reported_former v held None = tt
+reported_former v held (Some q) = (tt, tt)
 
-told_inquiry : (out : Bool) (v : VoterState) (held : Option Grant) (g : Grant) (o : Option Request) → AllTell held (inquiry out v g ++ fail_former v o)
-told_inquiry true v held g o = told_former v held o
-told_inquiry false v held g o = (tt, told_former v held o)
+reported_inquiry : (out : Bool) (v : VoterState) (held : Option Grant) (g : Grant) (o : Option Request) → AllReport held (inquiry out v g ++ fail_former v o)
+reported_inquiry true v held g o = reported_former v held o
+reported_inquiry false v held g o = (tt, reported_former v held o)
 
--- nobody is told of a grant while another holds the vote
-told-queued_by : (waits granted : Bool) (v : VoterState) (g : Grant) (c s : ℕ) → AllTell (queued_by waits granted v g c s).state.held (queued_by waits granted v g c s).replies
-told-queued_by true granted v g c s = (tt, tt)
-told-queued_by false true v g c s = (tt, told_former v v.held (front v.waiting))
-told-queued_by false false v g c s = told_inquiry v.inquiring v v.held g (front v.waiting)
+-- nobody receives a grant while another holds the vote
+heard-queued_by : (waits granted : Bool) (v : VoterState) (g : Grant) (c s : ℕ) → AllReport (queued_by waits granted v g c s).state.held (queued_by waits granted v g c s).replies
+heard-queued_by true granted v g c s = (tt, tt)
+heard-queued_by false true v g c s = (tt, reported_former v v.held (front v.waiting))
+heard-queued_by false false v g c s = reported_inquiry v.inquiring v v.held g (front v.waiting)
 
-told-admitted_by : (o : Option Grant) (v : VoterState) (c s : ℕ) → AllTell (admitted_by o v c s).state.held (admitted_by o v c s).replies
+heard-admitted_by : (o : Option Grant) (v : VoterState) (c s : ℕ) → AllReport (admitted_by o v c s).state.held (admitted_by o v c s).replies
 unfolding queued
-told-admitted_by None v c s = told-grant_front (queue v c s)
-told-admitted_by (Some g) v c s = told-queued_by _ _ v g c s
+heard-admitted_by None v c s = heard-grant_front (queue v c s)
+heard-admitted_by (Some g) v c s = heard-queued_by _ _ v g c s
 
-told-admitted : (v : VoterState) (c s : ℕ) → AllTell (admitted v c s).state.held (admitted v c s).replies
+heard-admitted : (v : VoterState) (c s : ℕ) → AllReport (admitted v c s).state.held (admitted v c s).replies
 unfolding admitted
-told-admitted v c s = told-admitted_by v.held v c s
+heard-admitted v c s = heard-admitted_by v.held v c s
 
-all_append : (held : Option Grant) (xs ys : List ToClient) → AllTell held xs → AllTell held ys → AllTell held (xs ++ ys)
+all_append : (held : Option Grant) (xs ys : List ToClient) → AllReport held xs → AllReport held ys → AllReport held (xs ++ ys)
 all_append held [] ys h k = k
 all_append held (x ∷ xs) ys h k = (h.0, all_append held xs ys h.1 k)
 
--- what told the vote before a step that ends no grant tells it after
-still_one : (v w : VoterState) → VoteMoves false v w → (client : ℕ) (body : ClientBody) → TellsVote v.held client body → TellsVote w.held client body
-still_one v w (inl k) client (tells.Locked stamp grant) t = k.held ∙ t
-still_one v w (inr k) client (tells.Locked stamp grant) t = absurd (none-some _ (sym k.0 ∙ t))
-still_one v w k client (tells.Fail stamp) t = tt
-still_one v w k client (tells.Inquire grant) t = tt
+-- a reply that reports the vote before a step that ends no grant reports it afterwards
+still_one : (v w : VoterState) → VoteMoves false v w → (client : ℕ) (body : ClientBody) → ReportsVote v.held client body → ReportsVote w.held client body
+still_one v w (inl k) client (to_client.Locked stamp grant) t = k.held ∙ t
+still_one v w (inr k) client (to_client.Locked stamp grant) t = absurd (none-some _ (sym k.0 ∙ t))
+still_one v w k client (to_client.Fail stamp) t = tt
+still_one v w k client (to_client.Inquire grant) t = tt
 
-still_all : (v w : VoterState) → VoteMoves false v w → (rs : List ToClient) → AllTell v.held rs → AllTell w.held rs
+still_all : (v w : VoterState) → VoteMoves false v w → (rs : List ToClient) → AllReport v.held rs → AllReport w.held rs
 still_all v w k [] t = tt
 still_all v w k (r ∷ rs) t = (still_one v w k r.client r.body t.0, still_all v w k rs t.1)
 
 same_stamp : (o : Option Grant) (w : Option ℕ) (c : ℕ) (g : Grant) (s : ℕ) → o ≡ Some g → g.client ≡ c → first_some (held_stamp o c) w ≡ Some s → g.stamp ≡ s
-same_stamp None w c g s is own stands = absurd (none-some g is)
-same_stamp (Some h) w c g s is own stands =
+same_stamp None w c g s is own present = absurd (none-some g is)
+same_stamp (Some h) w c g s is own present =
     let client = ap (λ (k : Grant). k.client) (same_Some h g is) in
     let stamp = ap (λ (k : Grant). k.stamp) (same_Some h g is) in
     grind (arith, nat_tests)
 
-told_again_by : (b : Bool) (v : VoterState) (g : Grant) (c s : ℕ) → (g.client == c) ≡ b → v.held ≡ Some g → standing v c ≡ Some s → AllTell v.held (again_by b v g c s)
-told_again_by true v g c s e is stands =
+reported_again_by : (b : Bool) (v : VoterState) (g : Grant) (c s : ℕ) → (g.client == c) ≡ b → v.held ≡ Some g → standing v c ≡ Some s → AllReport v.held (again_by b v g c s)
+reported_again_by true v g c s e is present =
     let own : g.client ≡ c = grind (arith, nat_tests) in
-    let same : g.stamp ≡ s = same_stamp v.held (get v.waiting c) c g s is own stands in
+    let same : g.stamp ≡ s = same_stamp v.held (get v.waiting c) c g s is own present in
     (is ∙ (λ i. Some (record { client = own i; stamp = same i; grant = g.grant })), tt)
-told_again_by false v g c s e is stands = (tt, tt)
+reported_again_by false v g c s e is present = (tt, tt)
 
-told_again : (o : Option Grant) (v : VoterState) (c s : ℕ) → v.held ≡ o → standing v c ≡ Some s → AllTell v.held (again v o c s)
-told_again None v c s is stands = (tt, tt)
-told_again (Some g) v c s is stands = told_again_by _ v g c s refl is stands
+reported_again : (o : Option Grant) (v : VoterState) (c s : ℕ) → v.held ≡ o → standing v c ≡ Some s → AllReport v.held (again v o c s)
+reported_again None v c s is present = (tt, tt)
+reported_again (Some g) v c s is present = reported_again_by _ v g c s refl is present
 
-told-compared_by : (less same : Bool) (v : VoterState) (c s t : ℕ) → (s == t) ≡ same → standing v c ≡ Some t → AllTell (compared_by less same v c s t).state.held (compared_by less same v c s t).replies
-told-compared_by true same v c s t e stands = tt
-told-compared_by false true v c s t e stands = let same : t ≡ s = grind (arith, nat_tests) in told_again v.held v c s refl (stands ∙ ap (λ (n : ℕ). Some n) same)
-told-compared_by false false v c s t e stands =
+heard-compared_by : (less same : Bool) (v : VoterState) (c s t : ℕ) → (s == t) ≡ same → standing v c ≡ Some t
+    → AllReport (compared_by less same v c s t).state.held (compared_by less same v c s t).replies
+heard-compared_by true same v c s t e present = tt
+heard-compared_by false true v c s t e present = let same : t ≡ s = grind (arith, nat_tests) in reported_again v.held v c s refl (present ∙ ap (λ (n : ℕ). Some n) same)
+heard-compared_by false false v c s t e present =
     let w = (released v c t).state in
     let a = admitted w c s in
-    all_append a.state.held (released v c t).replies a.replies (still_all w a.state (VoteMoves-admitted w c s) (released v c t).replies (told-released v c t)) (told-admitted w c s)
+    all_append a.state.held (released v c t).replies a.replies (still_all w a.state (VoteMoves-admitted w c s) (released v c t).replies (heard-released v c t)) (heard-admitted w c s)
 
-told-beside : (v : VoterState) (c s : ℕ) (o : Option ℕ) → standing v c ≡ o → AllTell (requested_beside v c s o).state.held (requested_beside v c s o).replies
+heard-beside : (v : VoterState) (c s : ℕ) (o : Option ℕ) → standing v c ≡ o → AllReport (requested_beside v c s o).state.held (requested_beside v c s o).replies
 unfolding requested_beside
-told-beside v c s None stands = told-admitted v c s
-told-beside v c s (Some t) stands = told-compared_by _ _ v c s t refl stands
+heard-beside v c s None present = heard-admitted v c s
+heard-beside v c s (Some t) present = heard-compared_by _ _ v c s t refl present
 
-told-requested_by : (done : Bool) (v : VoterState) (c s : ℕ) → AllTell (requested_by done v c s).state.held (requested_by done v c s).replies
-told-requested_by true v c s = tt
-told-requested_by false v c s = told-beside v c s (standing v c) refl
+heard-requested_by : (done : Bool) (v : VoterState) (c s : ℕ) → AllReport (requested_by done v c s).state.held (requested_by done v c s).replies
+heard-requested_by true v c s = tt
+heard-requested_by false v c s = heard-beside v c s (standing v c) refl
 
-told-put_back : (o : Option Grant) (v : VoterState) → AllTell (put_back o v).state.held (put_back o v).replies
-told-put_back None v = tt
-told-put_back (Some g) v = told-grant_front (queue (freed v) g.client g.stamp)
+heard-put_back : (o : Option Grant) (v : VoterState) → AllReport (put_back o v).state.held (put_back o v).replies
+heard-put_back None v = tt
+heard-put_back (Some g) v = heard-grant_front (queue (freed v) g.client g.stamp)
 
-told-relinquished_by : (b : Bool) (v : VoterState) → AllTell (relinquished_by b v).state.held (relinquished_by b v).replies
-told-relinquished_by true v = told-put_back v.held v
-told-relinquished_by false v = tt
+heard-relinquished_by : (b : Bool) (v : VoterState) → AllReport (relinquished_by b v).state.held (relinquished_by b v).replies
+heard-relinquished_by true v = heard-put_back v.held v
+heard-relinquished_by false v = tt
 
-pub AllTell-outcome_of : (v : VoterState) (c : ℕ) (b : VoterBody) → AllTell (outcome_of v c b).state.held (outcome_of v c b).replies
+pub AllReport-outcome_of : (v : VoterState) (c : ℕ) (b : VoterBody) → AllReport (outcome_of v c b).state.held (outcome_of v c b).replies
 unfolding relinquished requested
-AllTell-outcome_of v c (asks.Request s) = told-requested_by _ (see v s) c s
-AllTell-outcome_of v c (asks.Relinquish n) = told-relinquished_by _ v
-AllTell-outcome_of v c (asks.Release s) = told-released (see v s) c s
+AllReport-outcome_of v c (asks.Request s) = heard-requested_by _ (see v s) c s
+AllReport-outcome_of v c (asks.Relinquish n) = heard-relinquished_by _ v
+AllReport-outcome_of v c (asks.Release s) = heard-released (see v s) c s
 
-told_again_all : (out : Bool) (v : VoterState) (held : Option Grant) (g : Grant) → AllTell held (inquiry_again out v g)
-told_again_all true v held g = (tt, tt)
-told_again_all false v held g = tt
+reported_again_all : (out : Bool) (v : VoterState) (held : Option Grant) (g : Grant) → AllReport held (inquiry_again out v g)
+reported_again_all true v held g = (tt, tt)
+reported_again_all false v held g = tt
 
-told_remind : (o : Option Grant) (v : VoterState) → AllTell o (remind_of o v)
-told_remind None v = tt
-told_remind (Some g) v = (refl, told_again_all v.inquiring v (Some g) g)
+reported_remind : (o : Option Grant) (v : VoterState) → AllReport o (remind_of o v)
+reported_remind None v = tt
+reported_remind (Some g) v = (refl, reported_again_all v.inquiring v (Some g) g)
 
-pub AllTell-remind : (v : VoterState) → AllTell v.held (remind v)
+pub AllReport-remind : (v : VoterState) → AllReport v.held (remind v)
 unfolding remind
-AllTell-remind v = told_remind v.held v
+AllReport-remind v = reported_remind v.held v
 
 -- The step.
 
@@ -311,6 +314,6 @@ MeetsContract-step v m o e =
     let met : MeetsContract v m (outcome_of v m.client m.body) = record {
       kept = held-kept v m.client m.body;
       entries = IsEntry-outcome_of v m.client m.body;
-      told = AllTell-outcome_of v m.client m.body;
+      heard = AllReport-outcome_of v m.client m.body;
     } in
     subst P (step-Some v m o e).1 met

@@ -10,7 +10,8 @@ use Rattle.message.specs.declared.message.VoterBody.TheVariants as asks
 use Rattle.voter.specs.declared.state.Grant.{Grant}
 use Rattle.voter.specs.declared.state.VoterState.{VoterState}
 use Rattle.voter.specs.Waiting.{front}
-use Rattle.voter.specs.Steps.{grant_to, grant_front, released, released_by, queued, queued_by, admitted, admitted_by, queue, freed, finish, standing, requested, requested_by, requested_beside, compared_by, relinquished, relinquished_by, put_back, see, outcome_of, Outcome, step}
+use Rattle.voter.specs.Steps.{grant_to, grant_front, released, released_by, queued, queued_by, admitted, admitted_by, queue, freed, finish, standing, requested, requested_by}
+use Rattle.voter.specs.Steps.{requested_beside, compared_by, relinquished, relinquished_by, put_back, see, outcome_of, Outcome, step}
 use Rattle.voter.specs.Entries.{FinishesBy}
 use Rattle.voter.proofs.Effects.{step-Some}
 

@@ -9,7 +9,9 @@ use Rattle.message.specs.declared.message.VoterBody.TheVariants as asks
 use Rattle.voter.specs.declared.state.Grant.{Grant}
 use Rattle.voter.specs.declared.state.VoterState.{VoterState}
 use Rattle.voter.specs.Waiting.{front}
-use Rattle.voter.specs.Steps.{grant_to, grant_front, released, released_by, queued, queued_by, admitted, admitted_by, queue, freed, finish, held_stamp, is_up_to, standing, first_some, requested, requested_by, requested_beside, compared_by, relinquished, relinquished_by, put_back, see, outcome_of, needs_grant, is_later, is_grant}
+use Rattle.voter.specs.Steps.{grant_to, grant_front, released, released_by, queued, queued_by, admitted, admitted_by, queue, freed, finish, held_stamp, is_up_to, standing}
+use Rattle.voter.specs.Steps.{first_some, requested, requested_by, requested_beside, compared_by, relinquished, relinquished_by, put_back, see, outcome_of, needs_grant, is_later}
+use Rattle.voter.specs.Steps.{is_grant}
 use Rattle.voter.specs.Replies.{seen_after}
 use Rattle.voter.proofs.Queues.{front-insert}
 
@@ -77,17 +79,20 @@ first_none : (o w : Option ℕ) → first_some o w ≡ None → is_some o ≡ fa
 first_none None w e = refl
 first_none (Some u) w e = grind (arith, nat_tests)
 
-pub granted-compared_by : (less same : Bool) (v : VoterState) (c s t : ℕ) → nat_lt s t ≡ less → (s == t) ≡ same → standing v c ≡ Some t → (compared_by less same v c s t).state.granted ≡ more (nat_lt t s && (is_none v.held || is_some (held_stamp v.held c))) v.granted
-granted-compared_by true same v c s t l e stands = grind (arith, nat_tests)
-granted-compared_by false true v c s t l e stands = grind (arith, nat_tests)
-granted-compared_by false false v c s t l e stands =
+pub granted-compared_by : (less same : Bool) (v : VoterState) (c s t : ℕ) → nat_lt s t ≡ less → (s == t) ≡ same → standing v c ≡ Some t
+    → (compared_by less same v c s t).state.granted ≡ more (nat_lt t s && (is_none v.held || is_some (held_stamp v.held c))) v.granted
+granted-compared_by true same v c s t l e present = grind (arith, nat_tests)
+granted-compared_by false true v c s t l e present = grind (arith, nat_tests)
+granted-compared_by false false v c s t l e present =
     let w = (released v c t).state in
-    let up = up_to_own (held_stamp v.held c) (get v.waiting c) t stands in
-    let all = granted-admitted w c s ∙ ap (λ b. more b w.granted) (held-released v c t) ∙ ap (more (cond (is_up_to (held_stamp v.held c) t) (is_none (front v.waiting)) (is_none v.held))) (granted-released v c t)
+    let up = up_to_own (held_stamp v.held c) (get v.waiting c) t present in
+    let all = granted-admitted w c s ∙ ap (λ b. more b w.granted) (held-released v c t)
+    ∙ ap (more (cond (is_up_to (held_stamp v.held c) t) (is_none (front v.waiting)) (is_none v.held))) (granted-released v c t)
     ∙ more-release_and_request v.granted 0 (is_none v.held) (is_some (front v.waiting)) (is_up_to (held_stamp v.held c) t) in
     grind (arith, nat_tests)
 
-granted-beside : (v : VoterState) (c s : ℕ) (o : Option ℕ) → standing v c ≡ o → (requested_beside v c s o).state.granted ≡ more (is_later o s && (is_none v.held || is_some (held_stamp v.held c))) v.granted
+granted-beside : (v : VoterState) (c s : ℕ) (o : Option ℕ) → standing v c ≡ o
+    → (requested_beside v c s o).state.granted ≡ more (is_later o s && (is_none v.held || is_some (held_stamp v.held c))) v.granted
 unfolding requested_beside
 granted-beside v c s None e =
     let n = first_none (held_stamp v.held c) (get v.waiting c) e in
@@ -95,11 +100,13 @@ granted-beside v c s None e =
     grind (arith, nat_tests)
 granted-beside v c s (Some t) e = granted-compared_by _ _ v c s t refl refl e
 
-granted-requested_by : (done : Bool) (v : VoterState) (c s : ℕ) → nat_le s (slice_index v.finished c) ≡ done → (requested_by done v c s).state.granted ≡ more (nat_lt (slice_index v.finished c) s && is_later (standing v c) s && (is_none v.held || is_some (held_stamp v.held c))) v.granted
+granted-requested_by : (done : Bool) (v : VoterState) (c s : ℕ) → nat_le s (slice_index v.finished c) ≡ done
+    → (requested_by done v c s).state.granted ≡ more (nat_lt (slice_index v.finished c) s && is_later (standing v c) s && (is_none v.held || is_some (held_stamp v.held c))) v.granted
 granted-requested_by true v c s e = grind (arith, nat_tests)
 granted-requested_by false v c s e = let b = granted-beside v c s (standing v c) refl in grind (arith, nat_tests)
 
-granted-requested : (v : VoterState) (c s : ℕ) → (requested v c s).state.granted ≡ more (nat_lt (slice_index v.finished c) s && is_later (standing v c) s && (is_none v.held || is_some (held_stamp v.held c))) v.granted
+granted-requested : (v : VoterState) (c s : ℕ) → (requested v c s).state.granted ≡ more
+    (nat_lt (slice_index v.finished c) s && is_later (standing v c) s && (is_none v.held || is_some (held_stamp v.held c))) v.granted
 unfolding requested
 granted-requested v c s = granted-requested_by _ v c s refl
 

@@ -11,7 +11,8 @@ use Rattle.voter.specs.declared.state.Grant.{Grant}
 use Rattle.voter.specs.declared.state.VoterState.{VoterState}
 use Rattle.voter.specs.Waiting.{front}
 use Rattle.voter.specs.VoteMoves.{VoteMoves}
-use Rattle.voter.specs.Steps.{grant_to, grant_front, released, released_by, queued, queued_by, admitted, admitted_by, queue, freed, finish, held_stamp, is_up_to, is_older, standing, first_some, requested, requested_by, requested_beside, compared_by, relinquished, relinquished_by, put_back, see, outcome_of, ends_grant}
+use Rattle.voter.specs.Steps.{grant_to, grant_front, released, released_by, queued, queued_by, admitted, admitted_by, queue, freed, finish, held_stamp, is_up_to, is_older}
+use Rattle.voter.specs.Steps.{standing, first_some, requested, requested_by, requested_beside, compared_by, relinquished, relinquished_by, put_back, see, outcome_of, ends_grant}
 use Rattle.voter.proofs.Grants.{up_to_own}
 
 VoteMoves-same : (v w : VoterState) → w.granted ≡ v.granted → w.held ≡ v.held → VoteMoves false v w
@@ -20,7 +21,12 @@ VoteMoves-same v w n h = inl (record { granted = n; held = h })
 -- the vote is free, and goes to the front
 moves_to : (v u : VoterState) (o : Option Request) → u.granted ≡ v.granted → u.held ≡ None → VoteMoves true v (grant_to u o).state
 moves_to v u None n free = inl (record { granted = n; held = free })
-moves_to v u (Some r) n free = inr (record { granted = ap (λ (k : ℕ). k + 1) n; grant = record { client = r.client; stamp = r.stamp; grant = u.granted + 1 }; held = refl; number = ap (λ (k : ℕ). k + 1) n })
+moves_to v u (Some r) n free = inr (record {
+  granted = ap (λ (k : ℕ). k + 1) n;
+  grant = record { client = r.client; stamp = r.stamp; grant = u.granted + 1 };
+  held = refl;
+  number = ap (λ (k : ℕ). k + 1) n;
+})
 
 moves-grant_front : (v u : VoterState) → u.granted ≡ v.granted → u.held ≡ None → VoteMoves true v (grant_front u).state
 unfolding grant_front
@@ -60,11 +66,26 @@ VoteMoves-admitted v c s = moves-admitted_by v.held v c s refl
 -- one step, and then one that ends no grant
 VoteMoves-then : (e : Bool) (u v w : VoterState) → VoteMoves e u v → VoteMoves false v w → VoteMoves e u w
 VoteMoves-then true u v w (inl h) (inl k) = inl (record { granted = k.granted ∙ h.granted; held = k.held ∙ h.held })
-VoteMoves-then true u v w (inl h) (inr k) = inr (record { granted = k.1.granted ∙ ap (λ (n : ℕ). n + 1) h.granted; grant = k.1.grant; held = k.1.held; number = k.1.number ∙ ap (λ (n : ℕ). n + 1) h.granted })
+VoteMoves-then true u v w (inl h) (inr k) = inr (record {
+  granted = k.1.granted ∙ ap (λ (n : ℕ). n + 1) h.granted;
+  grant = k.1.grant;
+  held = k.1.held;
+  number = k.1.number
+      ∙ ap (λ (n : ℕ). n + 1) h.granted;
+})
 VoteMoves-then true u v w (inr h) (inl k) = inr (record { granted = k.granted ∙ h.granted; grant = h.grant; held = k.held ∙ h.held; number = h.number })
 VoteMoves-then true u v w (inr h) (inr k) = absurd (none-some h.grant (sym k.0 ∙ h.held))
 VoteMoves-then false u v w (inl h) (inl k) = inl (record { granted = k.granted ∙ h.granted; held = k.held ∙ h.held })
-VoteMoves-then false u v w (inl h) (inr k) = inr (sym h.held ∙ k.0, record { granted = k.1.granted ∙ ap (λ (n : ℕ). n + 1) h.granted; grant = k.1.grant; held = k.1.held; number = k.1.number ∙ ap (λ (n : ℕ). n + 1) h.granted })
+VoteMoves-then false u v w (inl h) (inr k) = inr (
+  sym h.held ∙ k.0,
+  record {
+    granted = k.1.granted ∙ ap (λ (n : ℕ). n + 1) h.granted;
+    grant = k.1.grant;
+    held = k.1.held;
+    number = k.1.number
+        ∙ ap (λ (n : ℕ). n + 1) h.granted;
+  },
+)
 VoteMoves-then false u v w (inr h) (inl k) = inr (h.0, record { granted = k.granted ∙ h.1.granted; grant = h.1.grant; held = k.held ∙ h.1.held; number = h.1.number })
 VoteMoves-then false u v w (inr h) (inr k) = absurd (none-some h.1.grant (sym k.0 ∙ h.1.held))
 
@@ -72,18 +93,19 @@ older_own : (o w : Option ℕ) (s t : ℕ) → first_some o w ≡ Some t → is_
 older_own None w s t e = refl
 older_own (Some u) w s t e = grind (arith, nat_tests)
 
-moves-compared_by : (less same : Bool) (v : VoterState) (c s t : ℕ) → nat_lt s t ≡ less → (s == t) ≡ same → standing v c ≡ Some t → VoteMoves (is_older (held_stamp v.held c) s) v (compared_by less same v c s t).state
-moves-compared_by true same v c s t l e stands =
-    let own = older_own (held_stamp v.held c) (get v.waiting c) s t stands in
+moves-compared_by : (less same : Bool) (v : VoterState) (c s t : ℕ) → nat_lt s t ≡ less → (s == t) ≡ same → standing v c ≡ Some t
+    → VoteMoves (is_older (held_stamp v.held c) s) v (compared_by less same v c s t).state
+moves-compared_by true same v c s t l e present =
+    let own = older_own (held_stamp v.held c) (get v.waiting c) s t present in
     let no : is_older (held_stamp v.held c) s ≡ false = grind (arith, nat_tests) in
     subst (λ b. VoteMoves b v v) (sym no) (VoteMoves-same v v refl refl)
-moves-compared_by false true v c s t l e stands =
-    let own = older_own (held_stamp v.held c) (get v.waiting c) s t stands in
+moves-compared_by false true v c s t l e present =
+    let own = older_own (held_stamp v.held c) (get v.waiting c) s t present in
     let no : is_older (held_stamp v.held c) s ≡ false = grind (arith, nat_tests) in
     subst (λ b. VoteMoves b v v) (sym no) (VoteMoves-same v v refl refl)
-moves-compared_by false false v c s t l e stands =
-    let own = older_own (held_stamp v.held c) (get v.waiting c) s t stands in
-    let up = up_to_own (held_stamp v.held c) (get v.waiting c) t stands in
+moves-compared_by false false v c s t l e present =
+    let own = older_own (held_stamp v.held c) (get v.waiting c) s t present in
+    let up = up_to_own (held_stamp v.held c) (get v.waiting c) t present in
     let same_test : is_up_to (held_stamp v.held c) t ≡ is_older (held_stamp v.held c) s = grind (arith, nat_tests) in
     let w = (released v c t).state in
     subst (λ b. VoteMoves b v (admitted w c s).state) same_test (VoteMoves-then _ v w (admitted w c s).state (moves-released v c t) (VoteMoves-admitted w c s))
@@ -94,10 +116,11 @@ none_older (Some u) w s e = grind (arith, nat_tests)
 
 moves-beside : (v : VoterState) (c s : ℕ) (o : Option ℕ) → standing v c ≡ o → VoteMoves (is_older (held_stamp v.held c) s) v (requested_beside v c s o).state
 unfolding requested_beside
-moves-beside v c s None stands = subst (λ b. VoteMoves b v (admitted v c s).state) (sym (none_older (held_stamp v.held c) (get v.waiting c) s stands)) (VoteMoves-admitted v c s)
-moves-beside v c s (Some t) stands = moves-compared_by _ _ v c s t refl refl stands
+moves-beside v c s None present = subst (λ b. VoteMoves b v (admitted v c s).state) (sym (none_older (held_stamp v.held c) (get v.waiting c) s present)) (VoteMoves-admitted v c s)
+moves-beside v c s (Some t) present = moves-compared_by _ _ v c s t refl refl present
 
-moves-requested_by : (done : Bool) (v : VoterState) (c s : ℕ) → nat_le s (slice_index v.finished c) ≡ done → VoteMoves (nat_lt (slice_index v.finished c) s && is_older (held_stamp v.held c) s) v (requested_by done v c s).state
+moves-requested_by : (done : Bool) (v : VoterState) (c s : ℕ) → nat_le s (slice_index v.finished c) ≡ done
+    → VoteMoves (nat_lt (slice_index v.finished c) s && is_older (held_stamp v.held c) s) v (requested_by done v c s).state
 moves-requested_by true v c s e =
     let no : (nat_lt (slice_index v.finished c) s && is_older (held_stamp v.held c) s) ≡ false = grind (arith, nat_tests) in
     subst (λ b. VoteMoves b v v) (sym no) (VoteMoves-same v v refl refl)

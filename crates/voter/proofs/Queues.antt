@@ -112,7 +112,8 @@ stamp_placed_choice : (c : ℕ) (b : Bool) (xs ys : List Request) → stamp_in c
 stamp_placed_choice c true xs ys = refl
 stamp_placed_choice c false xs ys = refl
 
-placed_cases : (c k s l t : ℕ) (b : Bool) (o p : Option ℕ) → k ≢ l → p ≡ cond (eqb c k) (Some s) o → cond b (cond (eqb c l) (Some t) p) (cond (eqb c k) (Some s) (cond (eqb c l) (Some t) o)) ≡ cond (eqb c k) (Some s) (cond (eqb c l) (Some t) o)
+placed_cases : (c k s l t : ℕ) (b : Bool) (o p : Option ℕ) → k ≢ l → p ≡ cond (eqb c k) (Some s) o
+    → cond b (cond (eqb c l) (Some t) p) (cond (eqb c k) (Some s) (cond (eqb c l) (Some t) o)) ≡ cond (eqb c k) (Some s) (cond (eqb c l) (Some t) o)
 placed_cases c k s l t b o p ne e = grind (arith, nat_tests)
 
 -- the client of r is none of these
@@ -126,7 +127,8 @@ stamp_placed r c (q ∷ rs) h = stamp_placed_choice c (precedes q r) (q ∷ plac
 
 pub waiting_of-placed : (r : Request) (rs : List Request) → IsNew r rs → waiting_of (placed r rs) ≡ fin.insert (waiting_of rs) r.client r.stamp
 waiting_of-placed r rs h = Waiting-same _ _ (λ q. get-waiting_of (placed r rs) q ∙ stamp_placed r q rs h
-    ∙ sym (fin.get-insert nat_cmp_total (waiting_of rs) r.client r.stamp q ∙ ap (λ b. cond b (Some r.stamp) (get (waiting_of rs) q)) (eq_by_cmp-nat q r.client) ∙ ap (cond (eqb q r.client) (Some r.stamp)) (get-waiting_of rs q)))
+    ∙ sym (fin.get-insert nat_cmp_total (waiting_of rs) r.client r.stamp q ∙ ap (λ b. cond b (Some r.stamp) (get (waiting_of rs) q)) (eq_by_cmp-nat q r.client)
+    ∙ ap (cond (eqb q r.client) (Some r.stamp)) (get-waiting_of rs q)))
 
 follows_placed : (q r : Request) (rs : List Request) → Follows q r → AllByRecursion (Follows q) rs → AllByRecursion (Follows q) (placed r rs)
 follows_placed q r [] f h = (f, tt)

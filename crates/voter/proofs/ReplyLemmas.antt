@@ -12,12 +12,14 @@ use Rattle.message.specs.declared.message.ToClient.{ToClient}
 use Rattle.message.specs.declared.message.VoterBody.{VoterBody}
 use Rattle.message.specs.declared.message.VoterBody.TheVariants as asks
 use Rattle.message.specs.declared.message.ClientBody.{ClientBody}
-use Rattle.message.specs.declared.message.ClientBody.TheVariants as tells
+use Rattle.message.specs.declared.message.ClientBody.TheVariants as to_client
 use Rattle.voter.specs.declared.state.Grant.{Grant}
 use Rattle.voter.specs.declared.state.VoterState.{VoterState}
 use Rattle.voter.specs.Waiting.{Waiting, front}
-use Rattle.voter.specs.Replies.{AllTellPlace, locked_in, locked_count, AllCarry, seen_after, AreAnswers, CarrySeen}
-use Rattle.voter.specs.Steps.{Outcome, grant_to, grant_front, released, released_by, queued, queued_by, inquiry, fail_former, admitted, admitted_by, queue, freed, finish, held_stamp, is_up_to, standing, first_some, requested, requested_by, requested_beside, compared_by, again, again_by, relinquished, relinquished_by, put_back, see, outcome_of, step, remind, remind_of, inquiry_again, IsSound}
+use Rattle.voter.specs.Replies.{AllReportPlace, locked_in, locked_count, AllCarry, seen_after, AreAnswers, CarrySeen}
+use Rattle.voter.specs.Steps.{Outcome, grant_to, grant_front, released, released_by, queued, queued_by, inquiry, fail_former, admitted, admitted_by, queue, freed, finish}
+use Rattle.voter.specs.Steps.{held_stamp, is_up_to, standing, first_some, requested, requested_by, requested_beside, compared_by, again, again_by, relinquished, relinquished_by}
+use Rattle.voter.specs.Steps.{put_back, see, outcome_of, step, remind, remind_of, inquiry_again, IsSound}
 use Rattle.voter.proofs.Front.{front-found}
 use Rattle.voter.proofs.Grants.{granted-compared_by, granted-admitted, KeepsBut-outcome_of, Keeps-released, up_to_own, more}
 use Rattle.voter.proofs.Soundness.{IsOrderly, get-inserted, get-removed_none, get-removed_self, held_stamp-holder, IsOrderly-see}
@@ -26,20 +28,20 @@ use Rattle.voter.proofs.Effects.{step-Some}
 -- FAIL goes to a client that waits, INQUIRE to the holder.
 
 -- the replies to a grant are LOCKED alone
-place-grant_to : (w v : VoterState) (o : Option Request) → AllTellPlace w (grant_to v o).replies
+place-grant_to : (w v : VoterState) (o : Option Request) → AllReportPlace w (grant_to v o).replies
 place-grant_to w v None = tt
 place-grant_to w v (Some r) = (tt, tt)
 
-place-grant_front : (w v : VoterState) → AllTellPlace w (grant_front v).replies
+place-grant_front : (w v : VoterState) → AllReportPlace w (grant_front v).replies
 unfolding grant_front
 place-grant_front w v = place-grant_to w v (front v.waiting)
 
-place-released_by : (w : VoterState) (holds waits : Bool) (v : VoterState) (c s : ℕ) → AllTellPlace w (released_by holds waits v c s).replies
+place-released_by : (w : VoterState) (holds waits : Bool) (v : VoterState) (c s : ℕ) → AllReportPlace w (released_by holds waits v c s).replies
 place-released_by w true waits v c s = place-grant_front w (freed (finish v c s))
 place-released_by w false true v c s = tt
 place-released_by w false false v c s = tt
 
-place-released : (w v : VoterState) (c s : ℕ) → AllTellPlace w (released v c s).replies
+place-released : (w v : VoterState) (c s : ℕ) → AllReportPlace w (released v c s).replies
 unfolding released
 place-released w v c s = place-released_by w _ _ v c s
 
@@ -56,48 +58,50 @@ still_waits w c s d t none is = elim (eqb d c) as (λ b. eqb d c ≡ b → cond 
   | false ↦ λ e. is
 ] refl)
 
-place_former : (v w : VoterState) (o : Option Request) → ((q : Request) → o ≡ Some q → get w.waiting q.client ≡ Some q.stamp) → AllTellPlace w (fail_former v o)
+place_former : (v w : VoterState) (o : Option Request) → ((q : Request) → o ≡ Some q → get w.waiting q.client ≡ Some q.stamp) → AllReportPlace w (fail_former v o)
 place_former v w None waits = tt
 place_former v w (Some q) waits = (waits q refl, tt)
 
-place_inquiry : (out : Bool) (v w : VoterState) (g : Grant) (o : Option Request) → w.held ≡ Some g → ((q : Request) → o ≡ Some q → get w.waiting q.client ≡ Some q.stamp) → AllTellPlace w (inquiry out v g ++ fail_former v o)
+place_inquiry : (out : Bool) (v w : VoterState) (g : Grant) (o : Option Request) → w.held ≡ Some g → ((q : Request) → o ≡ Some q → get w.waiting q.client ≡ Some q.stamp)
+    → AllReportPlace w (inquiry out v g ++ fail_former v o)
 place_inquiry true v w g o is waits = place_former v w o waits
 place_inquiry false v w g o is waits = ((g, is, refl, refl), place_former v w o waits)
 
 front_waits : (v : VoterState) (c s : ℕ) → get v.waiting c ≡ None → (q : Request) → front v.waiting ≡ Some q → get (insert v.waiting c s) q.client ≡ Some q.stamp
 front_waits v c s none q is = still_waits v.waiting c s q.client q.stamp none (front-found v.waiting q is)
 
-place-queued_by : (waits granted : Bool) (v : VoterState) (g : Grant) (c s : ℕ) → v.held ≡ Some g → get v.waiting c ≡ None → AllTellPlace (queued_by waits granted v g c s).state (queued_by waits granted v g c s).replies
+place-queued_by : (waits granted : Bool) (v : VoterState) (g : Grant) (c s : ℕ) → v.held ≡ Some g → get v.waiting c ≡ None
+    → AllReportPlace (queued_by waits granted v g c s).state (queued_by waits granted v g c s).replies
 place-queued_by true granted v g c s is none = (inserted_self v.waiting c s, tt)
 place-queued_by false true v g c s is none = (inserted_self v.waiting c s, place_former v (queue v c s) (front v.waiting) (front_waits v c s none))
 place-queued_by false false v g c s is none = place_inquiry v.inquiring v (record (queue v c s) { inquiring = true }) g (front v.waiting) is (front_waits v c s none)
 
-place-admitted_by : (o : Option Grant) (v : VoterState) (c s : ℕ) → v.held ≡ o → get v.waiting c ≡ None → AllTellPlace (admitted_by o v c s).state (admitted_by o v c s).replies
+place-admitted_by : (o : Option Grant) (v : VoterState) (c s : ℕ) → v.held ≡ o → get v.waiting c ≡ None → AllReportPlace (admitted_by o v c s).state (admitted_by o v c s).replies
 unfolding queued
 place-admitted_by None v c s is none = place-grant_front (grant_front (queue v c s)).state (queue v c s)
 place-admitted_by (Some g) v c s is none = place-queued_by _ _ v g c s is none
 
-place-admitted : (v : VoterState) (c s : ℕ) → get v.waiting c ≡ None → AllTellPlace (admitted v c s).state (admitted v c s).replies
+place-admitted : (v : VoterState) (c s : ℕ) → get v.waiting c ≡ None → AllReportPlace (admitted v c s).state (admitted v c s).replies
 unfolding admitted
 place-admitted v c s none = place-admitted_by v.held v c s refl none
 
 waits_free : (o : Option Grant) (w : Option ℕ) (c s : ℕ) → o ≡ None → first_some (held_stamp o c) w ≡ Some s → w ≡ Some s
-waits_free None w c s free stands = stands
-waits_free (Some g) w c s free stands = absurd (none-some g (sym free))
+waits_free None w c s free present = present
+waits_free (Some g) w c s free present = absurd (none-some g (sym free))
 
 waits_beside : (o : Option Grant) (w : Option ℕ) (c : ℕ) (g : Grant) (s : ℕ) → o ≡ Some g → (g.client == c) ≡ false → first_some (held_stamp o c) w ≡ Some s → w ≡ Some s
-waits_beside None w c g s is other stands = absurd (none-some g is)
-waits_beside (Some h) w c g s is other stands = let client = ap (λ (k : Grant). k.client) (same_Some h g is) in grind (arith, nat_tests)
+waits_beside None w c g s is other present = absurd (none-some g is)
+waits_beside (Some h) w c g s is other present = let client = ap (λ (k : Grant). k.client) (same_Some h g is) in grind (arith, nat_tests)
 
-place_again_by : (b : Bool) (v : VoterState) (g : Grant) (c s : ℕ) → (g.client == c) ≡ b → v.held ≡ Some g → standing v c ≡ Some s → AllTellPlace v (again_by b v g c s)
-place_again_by true v g c s e is stands = (tt, tt)
-place_again_by false v g c s e is stands = (waits_beside v.held (get v.waiting c) c g s is e stands, tt)
+place_again_by : (b : Bool) (v : VoterState) (g : Grant) (c s : ℕ) → (g.client == c) ≡ b → v.held ≡ Some g → standing v c ≡ Some s → AllReportPlace v (again_by b v g c s)
+place_again_by true v g c s e is present = (tt, tt)
+place_again_by false v g c s e is present = (waits_beside v.held (get v.waiting c) c g s is e present, tt)
 
-place_again : (o : Option Grant) (v : VoterState) (c s : ℕ) → v.held ≡ o → standing v c ≡ Some s → AllTellPlace v (again v o c s)
-place_again None v c s is stands = (waits_free v.held (get v.waiting c) c s is stands, tt)
-place_again (Some g) v c s is stands = place_again_by _ v g c s refl is stands
+place_again : (o : Option Grant) (v : VoterState) (c s : ℕ) → v.held ≡ o → standing v c ≡ Some s → AllReportPlace v (again v o c s)
+place_again None v c s is present = (waits_free v.held (get v.waiting c) c s is present, tt)
+place_again (Some g) v c s is present = place_again_by _ v g c s refl is present
 
-all_append : (w : VoterState) (xs ys : List ToClient) → AllTellPlace w xs → AllTellPlace w ys → AllTellPlace w (xs ++ ys)
+all_append : (w : VoterState) (xs ys : List ToClient) → AllReportPlace w xs → AllReportPlace w ys → AllReportPlace w (xs ++ ys)
 all_append w [] ys h k = k
 all_append w (x ∷ xs) ys h k = (h.0, all_append w xs ys h.1 k)
 
@@ -112,50 +116,52 @@ unfolding grant_front
 gone-grant_front v c none = gone-grant_to v (front v.waiting) c none
 
 gone_by : (o w : Option ℕ) (t : ℕ) → first_some o w ≡ Some t → is_up_to o t ≡ false → is_up_to w t ≡ false → w ≡ None
-gone_by None w t stands held waits = absurd (false≢true (sym waits ∙ ap (λ x. is_up_to x t) stands ∙ grind (arith, nat_tests)))
-gone_by (Some u) w t stands held waits = let same = same_Some u t stands in absurd (false≢true (sym held ∙ grind (arith, nat_tests)))
+gone_by None w t present held waits = absurd (false≢true (sym waits ∙ ap (λ x. is_up_to x t) present ∙ grind (arith, nat_tests)))
+gone_by (Some u) w t present held waits = let same = same_Some u t present in absurd (false≢true (sym held ∙ grind (arith, nat_tests)))
 
-gone-released_by : (holds waits : Bool) (v : VoterState) (c t : ℕ) → is_up_to (held_stamp v.held c) t ≡ holds → is_up_to (get v.waiting c) t ≡ waits → standing v c ≡ Some t → IsOrderly v → get (released_by holds waits v c t).state.waiting c ≡ None
-gone-released_by true waits v c t e f stands h =
-    let own = held_stamp-holder v.held c (sym (up_to_own (held_stamp v.held c) (get v.waiting c) t stands) ∙ e) in
+gone-released_by : (holds waits : Bool) (v : VoterState) (c t : ℕ) → is_up_to (held_stamp v.held c) t ≡ holds → is_up_to (get v.waiting c) t ≡ waits → standing v c ≡ Some t
+    → IsOrderly v → get (released_by holds waits v c t).state.waiting c ≡ None
+gone-released_by true waits v c t e f present h =
+    let own = held_stamp-holder v.held c (sym (up_to_own (held_stamp v.held c) (get v.waiting c) t present) ∙ e) in
     gone-grant_front (freed (finish v c t)) c (ap (get v.waiting) (sym own.2) ∙ h.apart own.0 own.1)
-gone-released_by false true v c t e f stands h = get-removed_self v.waiting c
-gone-released_by false false v c t e f stands h = gone_by (held_stamp v.held c) (get v.waiting c) t stands e f
+gone-released_by false true v c t e f present h = get-removed_self v.waiting c
+gone-released_by false false v c t e f present h = gone_by (held_stamp v.held c) (get v.waiting c) t present e f
 
 gone-released : (v : VoterState) (c t : ℕ) → standing v c ≡ Some t → IsOrderly v → get (released v c t).state.waiting c ≡ None
 unfolding released
-gone-released v c t stands h = gone-released_by _ _ v c t refl refl stands h
+gone-released v c t present h = gone-released_by _ _ v c t refl refl present h
 
-place-compared_by : (less same : Bool) (v : VoterState) (c s t : ℕ) → (s == t) ≡ same → standing v c ≡ Some t → IsOrderly v → AllTellPlace (compared_by less same v c s t).state (compared_by less same v c s t).replies
-place-compared_by true same v c s t e stands h = tt
-place-compared_by false true v c s t e stands h = let same : t ≡ s = grind (arith, nat_tests) in place_again v.held v c s refl (stands ∙ ap (λ (n : ℕ). Some n) same)
-place-compared_by false false v c s t e stands h =
+place-compared_by : (less same : Bool) (v : VoterState) (c s t : ℕ) → (s == t) ≡ same → standing v c ≡ Some t → IsOrderly v
+    → AllReportPlace (compared_by less same v c s t).state (compared_by less same v c s t).replies
+place-compared_by true same v c s t e present h = tt
+place-compared_by false true v c s t e present h = let same : t ≡ s = grind (arith, nat_tests) in place_again v.held v c s refl (present ∙ ap (λ (n : ℕ). Some n) same)
+place-compared_by false false v c s t e present h =
     let w = (released v c t).state in
     let a = admitted w c s in
-    all_append a.state (released v c t).replies a.replies (place-released a.state v c t) (place-admitted w c s (gone-released v c t stands h))
+    all_append a.state (released v c t).replies a.replies (place-released a.state v c t) (place-admitted w c s (gone-released v c t present h))
 
 none_waits : (o w : Option ℕ) → first_some o w ≡ None → w ≡ None
 none_waits None w e = e
 none_waits (Some s) w e = absurd (none-some s (sym e))
 
-place-beside : (v : VoterState) (c s : ℕ) (o : Option ℕ) → standing v c ≡ o → IsOrderly v → AllTellPlace (requested_beside v c s o).state (requested_beside v c s o).replies
+place-beside : (v : VoterState) (c s : ℕ) (o : Option ℕ) → standing v c ≡ o → IsOrderly v → AllReportPlace (requested_beside v c s o).state (requested_beside v c s o).replies
 unfolding requested_beside
-place-beside v c s None stands h = place-admitted v c s (none_waits (held_stamp v.held c) (get v.waiting c) stands)
-place-beside v c s (Some t) stands h = place-compared_by _ _ v c s t refl stands h
+place-beside v c s None present h = place-admitted v c s (none_waits (held_stamp v.held c) (get v.waiting c) present)
+place-beside v c s (Some t) present h = place-compared_by _ _ v c s t refl present h
 
-place-requested_by : (done : Bool) (v : VoterState) (c s : ℕ) → IsOrderly v → AllTellPlace (requested_by done v c s).state (requested_by done v c s).replies
+place-requested_by : (done : Bool) (v : VoterState) (c s : ℕ) → IsOrderly v → AllReportPlace (requested_by done v c s).state (requested_by done v c s).replies
 place-requested_by true v c s h = tt
 place-requested_by false v c s h = place-beside v c s (standing v c) refl h
 
-place-put_back : (o : Option Grant) (v : VoterState) → AllTellPlace (put_back o v).state (put_back o v).replies
+place-put_back : (o : Option Grant) (v : VoterState) → AllReportPlace (put_back o v).state (put_back o v).replies
 place-put_back None v = tt
 place-put_back (Some g) v = place-grant_front (grant_front (queue (freed v) g.client g.stamp)).state (queue (freed v) g.client g.stamp)
 
-place-relinquished_by : (b : Bool) (v : VoterState) → AllTellPlace (relinquished_by b v).state (relinquished_by b v).replies
+place-relinquished_by : (b : Bool) (v : VoterState) → AllReportPlace (relinquished_by b v).state (relinquished_by b v).replies
 place-relinquished_by true v = place-put_back v.held v
 place-relinquished_by false v = tt
 
-place_after : (v : VoterState) (c : ℕ) (b : VoterBody) → IsOrderly v → AllTellPlace (outcome_of v c b).state (outcome_of v c b).replies
+place_after : (v : VoterState) (c : ℕ) (b : VoterBody) → IsOrderly v → AllReportPlace (outcome_of v c b).state (outcome_of v c b).replies
 unfolding relinquished requested
 place_after v c (asks.Request s) h = place-requested_by _ (see v s) c s (IsOrderly-see v s h)
 place_after v c (asks.Relinquish n) h = place-relinquished_by _ v
@@ -172,9 +178,9 @@ count_append [] ys = sym (zero-add (locked_count ys))
 count_append (x ∷ xs) ys = let rest = count_append xs ys in omega arith
 
 one_at_most : (b : ClientBody) → locked_in b ≤ 1
-one_at_most (tells.Locked stamp grant) = omega arith
-one_at_most (tells.Fail stamp) = omega arith
-one_at_most (tells.Inquire grant) = omega arith
+one_at_most (to_client.Locked stamp grant) = omega arith
+one_at_most (to_client.Fail stamp) = omega arith
+one_at_most (to_client.Inquire grant) = omega arith
 
 count_le : (xs : List ToClient) → locked_count xs ≤ length xs
 count_le [] = omega arith
@@ -246,23 +252,24 @@ brief_again : (o : Option Grant) (v : VoterState) (c s : ℕ) → IsBrief (again
 brief_again None v c s = record { few = omega arith; locked = omega arith }
 brief_again (Some g) v c s = brief_again_by _ v g c s
 
-both_brief : (b : Bool) (v w : VoterState) (r a : List ToClient) (n : ℕ) → length r ≤ 1 → length a ≤ 2 → v.granted + locked_count r ≡ w.granted → w.granted + locked_count a ≡ n → n ≡ more b v.granted → IsBrief (r ++ a)
+both_brief : (b : Bool) (v w : VoterState) (r a : List ToClient) (n : ℕ) → length r ≤ 1 → length a ≤ 2 → v.granted + locked_count r ≡ w.granted → w.granted + locked_count a ≡ n
+    → n ≡ more b v.granted → IsBrief (r ++ a)
 both_brief true v w r a n fr fa lr la g = let c = count_append r a in let l = length-append r a in record { few = omega arith; locked = omega arith }
 both_brief false v w r a n fr fa lr la g = let c = count_append r a in let l = length-append r a in record { few = omega arith; locked = omega arith }
 
 brief-compared_by : (less same : Bool) (v : VoterState) (c s t : ℕ) → nat_lt s t ≡ less → (s == t) ≡ same → standing v c ≡ Some t → IsBrief (compared_by less same v c s t).replies
-brief-compared_by true same v c s t l e stands = brief_none
-brief-compared_by false true v c s t l e stands = brief_again v.held v c s
-brief-compared_by false false v c s t l e stands =
+brief-compared_by true same v c s t l e present = brief_none
+brief-compared_by false true v c s t l e present = brief_again v.held v c s
+brief-compared_by false false v c s t l e present =
     let w = (released v c t).state in
     let r = few-released v c t in
     let a = few-admitted w c s in
-    both_brief _ v w (released v c t).replies (admitted w c s).replies (admitted w c s).state.granted r.few a.few r.locked a.locked (granted-compared_by false false v c s t l e stands)
+    both_brief _ v w (released v c t).replies (admitted w c s).replies (admitted w c s).state.granted r.few a.few r.locked a.locked (granted-compared_by false false v c s t l e present)
 
 brief-beside : (v : VoterState) (c s : ℕ) (o : Option ℕ) → standing v c ≡ o → IsBrief (requested_beside v c s o).replies
 unfolding requested_beside
-brief-beside v c s None stands = brief_few _ v (admitted v c s) (few-admitted v c s) (granted-admitted v c s)
-brief-beside v c s (Some t) stands = brief-compared_by _ _ v c s t refl refl stands
+brief-beside v c s None present = brief_few _ v (admitted v c s) (few-admitted v c s) (granted-admitted v c s)
+brief-beside v c s (Some t) present = brief-compared_by _ _ v c s t refl refl present
 
 brief-requested_by : (done : Bool) (v : VoterState) (c s : ℕ) → IsBrief (requested_by done v c s).replies
 brief-requested_by true v c s = brief_none
@@ -388,17 +395,17 @@ CarrySeen-step v m o e =
 
 -- A reminder.
 
-remind_again : (out : Bool) (v : VoterState) (g : Grant) → v.held ≡ Some g → AllTellPlace v (inquiry_again out v g) × AllCarry v.id v.seen (inquiry_again out v g)
+remind_again : (out : Bool) (v : VoterState) (g : Grant) → v.held ≡ Some g → AllReportPlace v (inquiry_again out v g) × AllCarry v.id v.seen (inquiry_again out v g)
 remind_again true v g is = (((g, is, refl, refl), tt), ((refl, refl), tt))
 remind_again false v g is = (tt, tt)
 
-remind_by : (o : Option Grant) (v : VoterState) → v.held ≡ o → AllTellPlace v (remind_of o v) × AllCarry v.id v.seen (remind_of o v)
+remind_by : (o : Option Grant) (v : VoterState) → v.held ≡ o → AllReportPlace v (remind_of o v) × AllCarry v.id v.seen (remind_of o v)
 remind_by None v is = (tt, tt)
 remind_by (Some g) v is = let k = remind_again v.inquiring v g is in ((tt, k.0), ((refl, refl), k.1))
 
-pub AllTellPlace-remind : (v : VoterState) → AllTellPlace v (remind v)
+pub AllReportPlace-remind : (v : VoterState) → AllReportPlace v (remind v)
 unfolding remind
-AllTellPlace-remind v = (remind_by v.held v refl).0
+AllReportPlace-remind v = (remind_by v.held v refl).0
 
 pub AllCarry-remind : (v : VoterState) → AllCarry v.id v.seen (remind v)
 unfolding remind

@@ -14,7 +14,9 @@ use Rattle.message.specs.declared.message.VoterBody.TheVariants as asks
 use Rattle.voter.specs.declared.state.Grant.{Grant}
 use Rattle.voter.specs.declared.state.VoterState.{VoterState}
 use Rattle.voter.specs.Waiting.{Waiting, front}
-use Rattle.voter.specs.Steps.{grant_to, grant_front, released, released_by, queued, queued_by, admitted, admitted_by, queue, freed, finish, held_stamp, is_up_to, standing, first_some, requested, requested_by, requested_beside, compared_by, relinquished, relinquished_by, put_back, see, outcome_of, is_refused, IsSound, start}
+use Rattle.voter.specs.Steps.{grant_to, grant_front, released, released_by, queued, queued_by, admitted, admitted_by, queue, freed, finish, held_stamp, is_up_to, standing}
+use Rattle.voter.specs.Steps.{first_some, requested, requested_by, requested_beside, compared_by, relinquished, relinquished_by, put_back, see, outcome_of, is_refused, IsSound}
+use Rattle.voter.specs.Steps.{start}
 use Rattle.voter.proofs.Front.{front-found, get-no_front, eq_by_cmp-nat}
 use Rattle.voter.proofs.Grants.{granted-outcome_of, KeepsBut-outcome_of, up_to_own}
 
@@ -120,21 +122,22 @@ pub held_stamp-holder : (o : Option Grant) (c : ℕ) → is_some (held_stamp o c
 held_stamp-holder None c e = absurd (false≢true e)
 held_stamp-holder (Some g) c e = (g, refl, grind (arith, nat_tests))
 
-away-released_by : (holds waits : Bool) (v : VoterState) (c t : ℕ) → is_up_to (held_stamp v.held c) t ≡ holds → standing v c ≡ Some t → IsOrderly v → held_stamp (released_by holds waits v c t).state.held c ≡ None
-away-released_by true waits v c t e stands h =
-    let own = held_stamp-holder v.held c (sym (up_to_own (held_stamp v.held c) (get v.waiting c) t stands) ∙ e) in
+away-released_by : (holds waits : Bool) (v : VoterState) (c t : ℕ) → is_up_to (held_stamp v.held c) t ≡ holds → standing v c ≡ Some t → IsOrderly v
+    → held_stamp (released_by holds waits v c t).state.held c ≡ None
+away-released_by true waits v c t e present h =
+    let own = held_stamp-holder v.held c (sym (up_to_own (held_stamp v.held c) (get v.waiting c) t present) ∙ e) in
     away-grant_front (freed (finish v c t)) c refl (ap (get v.waiting) (sym own.2) ∙ h.apart own.0 own.1)
-away-released_by false true v c t e stands h = none_of (held_stamp v.held c) (sym (up_to_own (held_stamp v.held c) (get v.waiting c) t stands) ∙ e)
-away-released_by false false v c t e stands h = none_of (held_stamp v.held c) (sym (up_to_own (held_stamp v.held c) (get v.waiting c) t stands) ∙ e)
+away-released_by false true v c t e present h = none_of (held_stamp v.held c) (sym (up_to_own (held_stamp v.held c) (get v.waiting c) t present) ∙ e)
+away-released_by false false v c t e present h = none_of (held_stamp v.held c) (sym (up_to_own (held_stamp v.held c) (get v.waiting c) t present) ∙ e)
 
 pub held_stamp-released : (v : VoterState) (c t : ℕ) → standing v c ≡ Some t → IsOrderly v → held_stamp (released v c t).state.held c ≡ None
 unfolding released
-held_stamp-released v c t stands h = away-released_by _ _ v c t refl stands h
+held_stamp-released v c t present h = away-released_by _ _ v c t refl present h
 
 orderly-compared_by : (less same : Bool) (v : VoterState) (c s t : ℕ) → standing v c ≡ Some t → IsOrderly v → IsOrderly (compared_by less same v c s t).state
-orderly-compared_by true same v c s t stands h = h
-orderly-compared_by false true v c s t stands h = h
-orderly-compared_by false false v c s t stands h = orderly-admitted (released v c t).state c s (held_stamp-released v c t stands h) (orderly-released v c t h)
+orderly-compared_by true same v c s t present h = h
+orderly-compared_by false true v c s t present h = h
+orderly-compared_by false false v c s t present h = orderly-admitted (released v c t).state c s (held_stamp-released v c t present h) (orderly-released v c t h)
 
 away_none : (o w : Option ℕ) → first_some o w ≡ None → o ≡ None
 away_none None w e = refl
@@ -142,8 +145,8 @@ away_none (Some s) w e = absurd (none-some s (sym e))
 
 orderly-beside : (v : VoterState) (c s : ℕ) (o : Option ℕ) → standing v c ≡ o → IsOrderly v → IsOrderly (requested_beside v c s o).state
 unfolding requested_beside
-orderly-beside v c s None stands h = orderly-admitted v c s (away_none (held_stamp v.held c) (get v.waiting c) stands) h
-orderly-beside v c s (Some t) stands h = orderly-compared_by _ _ v c s t stands h
+orderly-beside v c s None present h = orderly-admitted v c s (away_none (held_stamp v.held c) (get v.waiting c) present) h
+orderly-beside v c s (Some t) present h = orderly-compared_by _ _ v c s t present h
 
 orderly-requested_by : (done : Bool) (v : VoterState) (c s : ℕ) → IsOrderly v → IsOrderly (requested_by done v c s).state
 orderly-requested_by true v c s h = h

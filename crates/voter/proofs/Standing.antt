@@ -11,7 +11,8 @@ use Rattle.voter.specs.declared.state.Grant.{Grant}
 use Rattle.voter.specs.declared.state.VoterState.{VoterState}
 use Rattle.voter.specs.Waiting.{Waiting, front}
 use Rattle.voter.specs.VoterContract.{IsEntry}
-use Rattle.voter.specs.Steps.{grant_to, grant_front, released, released_by, queued, queued_by, admitted, admitted_by, queue, freed, finish, held_stamp, is_up_to, standing, first_some, requested, requested_by, requested_beside, compared_by, see, outcome_of}
+use Rattle.voter.specs.Steps.{grant_to, grant_front, released, released_by, queued, queued_by, admitted, admitted_by, queue, freed, finish, held_stamp, is_up_to, standing}
+use Rattle.voter.specs.Steps.{first_some, requested, requested_by, requested_beside, compared_by, see, outcome_of}
 use Rattle.voter.specs.Entries.{KnowsUpTo}
 use Rattle.voter.proofs.Front.{front-found}
 use Rattle.voter.proofs.Soundness.{IsOrderly, IsOrderly-see, get-removed, get-inserted, orderly-released}
@@ -71,10 +72,10 @@ queue_entry v c s d t other entry = elim entry [ inl held ↦ inl held | inr wai
 pub here_inserted : (w : Waiting) (c s : ℕ) → get (insert w c s) c ≡ Some s
 here_inserted w c s = get-inserted w c s c ∙ grind (arith, nat_tests)
 
-stands-queued_by : (waits granted : Bool) (v : VoterState) (g : Grant) (c s : ℕ) → IsEntry (queued_by waits granted v g c s).state c s × OthersStay v c (queued_by waits granted v g c s).state
-stands-queued_by true granted v g c s = (inr (here_inserted v.waiting c s), λ d t other entry. queue_entry v c s d t other entry)
-stands-queued_by false true v g c s = (inr (here_inserted v.waiting c s), λ d t other entry. queue_entry v c s d t other entry)
-stands-queued_by false false v g c s = (inr (here_inserted v.waiting c s), λ d t other entry. queue_entry v c s d t other entry)
+present-queued_by : (waits granted : Bool) (v : VoterState) (g : Grant) (c s : ℕ) → IsEntry (queued_by waits granted v g c s).state c s × OthersStay v c (queued_by waits granted v g c s).state
+present-queued_by true granted v g c s = (inr (here_inserted v.waiting c s), λ d t other entry. queue_entry v c s d t other entry)
+present-queued_by false true v g c s = (inr (here_inserted v.waiting c s), λ d t other entry. queue_entry v c s d t other entry)
+present-queued_by false false v g c s = (inr (here_inserted v.waiting c s), λ d t other entry. queue_entry v c s d t other entry)
 
 pub no_entry : (v : VoterState) → v.held ≡ None → IsOrderly v → (d t : ℕ) → IsEntry v d t → ⊥
 no_entry v free ok d t entry = elim entry [
@@ -82,14 +83,14 @@ no_entry v free ok d t entry = elim entry [
   | inr waits ↦ none-some t (sym (ok.free free d) ∙ waits)
 ]
 
-stands-admitted_by : (o : Option Grant) (v : VoterState) (c s : ℕ) → v.held ≡ o → IsOrderly v → IsEntry (admitted_by o v c s).state c s × OthersStay v c (admitted_by o v c s).state
+present-admitted_by : (o : Option Grant) (v : VoterState) (c s : ℕ) → v.held ≡ o → IsOrderly v → IsEntry (admitted_by o v c s).state c s × OthersStay v c (admitted_by o v c s).state
 unfolding queued
-stands-admitted_by None v c s is ok = (entry-grant_front (queue v c s) is c s (here_inserted v.waiting c s), λ d t other entry. absurd (no_entry v is ok d t entry))
-stands-admitted_by (Some g) v c s is ok = stands-queued_by _ _ v g c s
+present-admitted_by None v c s is ok = (entry-grant_front (queue v c s) is c s (here_inserted v.waiting c s), λ d t other entry. absurd (no_entry v is ok d t entry))
+present-admitted_by (Some g) v c s is ok = present-queued_by _ _ v g c s
 
-pub stands-admitted : (v : VoterState) (c s : ℕ) → IsOrderly v → IsEntry (admitted v c s).state c s × OthersStay v c (admitted v c s).state
+pub present-admitted : (v : VoterState) (c s : ℕ) → IsOrderly v → IsEntry (admitted v c s).state c s × OthersStay v c (admitted v c s).state
 unfolding admitted
-stands-admitted v c s ok = stands-admitted_by v.held v c s refl ok
+present-admitted v c s ok = present-admitted_by v.held v c s refl ok
 
 pub entry_by : (v : VoterState) (c t : ℕ) (o : Option Grant) → v.held ≡ o → first_some (held_stamp o c) (get v.waiting c) ≡ Some t → IsEntry v c t
 entry_by v c t None is e = inr e
@@ -98,28 +99,30 @@ entry_by v c t (Some g) is e = elim (same_or_other g.client c) [
   | inr other ↦ inr (grind (arith, nat_tests))
 ]
 
-stands-compared_by : (less same : Bool) (v : VoterState) (c s t : ℕ) → nat_lt s t ≡ less → (s == t) ≡ same → standing v c ≡ Some t → t ≤ s → IsOrderly v
+present-compared_by : (less same : Bool) (v : VoterState) (c s t : ℕ) → nat_lt s t ≡ less → (s == t) ≡ same → standing v c ≡ Some t → t ≤ s → IsOrderly v
     → IsEntry (compared_by less same v c s t).state c s × OthersStay v c (compared_by less same v c s t).state
-stands-compared_by true same v c s t l e stands most ok = absurd (let x : ⊥ = grind (arith, nat_tests) in x)
-stands-compared_by false true v c s t l e stands most ok =
+present-compared_by true same v c s t l e present most ok = absurd (let x : ⊥ = grind (arith, nat_tests) in x)
+present-compared_by false true v c s t l e present most ok =
     let equal : t ≡ s = grind (arith, nat_tests) in
-    (subst (λ n. IsEntry v c n) equal (entry_by v c t v.held refl stands), λ d u other entry. entry)
-stands-compared_by false false v c s t l e stands most ok =
+    (subst (λ n. IsEntry v c n) equal (entry_by v c t v.held refl present), λ d u other entry. entry)
+present-compared_by false false v c s t l e present most ok =
     let w = (released v c t).state in
-    let a = stands-admitted w c s (orderly-released v c t ok) in
+    let a = present-admitted w c s (orderly-released v c t ok) in
     (a.0, λ d u other entry. a.1 d u other (OthersStay-released v c t d u other entry))
 
-stands-beside : (v : VoterState) (c s : ℕ) (o : Option ℕ) → standing v c ≡ o → KnowsUpTo v c s → IsOrderly v → IsEntry (requested_beside v c s o).state c s × OthersStay v c (requested_beside v c s o).state
+present-beside : (v : VoterState) (c s : ℕ) (o : Option ℕ) → standing v c ≡ o → KnowsUpTo v c s → IsOrderly v → IsEntry (requested_beside v c s o).state c s
+    × OthersStay v c (requested_beside v c s o).state
 unfolding requested_beside
-stands-beside v c s None stands most ok = stands-admitted v c s ok
-stands-beside v c s (Some t) stands most ok = stands-compared_by _ _ v c s t refl refl stands (most t (entry_by v c t v.held refl stands)) ok
+present-beside v c s None present most ok = present-admitted v c s ok
+present-beside v c s (Some t) present most ok = present-compared_by _ _ v c s t refl refl present (most t (entry_by v c t v.held refl present)) ok
 
-stands-requested_by : (done : Bool) (v : VoterState) (c s : ℕ) → done ≡ false → KnowsUpTo v c s → IsOrderly v → IsEntry (requested_by done v c s).state c s × OthersStay v c (requested_by done v c s).state
-stands-requested_by true v c s new most ok = absurd (false≢true (sym new))
-stands-requested_by false v c s new most ok = stands-beside v c s (standing v c) refl most ok
+present-requested_by : (done : Bool) (v : VoterState) (c s : ℕ) → done ≡ false → KnowsUpTo v c s → IsOrderly v → IsEntry (requested_by done v c s).state c s
+    × OthersStay v c (requested_by done v c s).state
+present-requested_by true v c s new most ok = absurd (false≢true (sym new))
+present-requested_by false v c s new most ok = present-beside v c s (standing v c) refl most ok
 
 -- a REQUEST that is not finished, and no older than what the voter knows of its client, stands; the others stay
-pub stands-requested : (v : VoterState) (c s : ℕ) → slice_index v.finished c < s → KnowsUpTo v c s → IsOrderly v
+pub present-requested : (v : VoterState) (c s : ℕ) → slice_index v.finished c < s → KnowsUpTo v c s → IsOrderly v
     → IsEntry (outcome_of v c (asks.Request s)).state c s × OthersStay v c (outcome_of v c (asks.Request s)).state
 unfolding requested
-stands-requested v c s new most ok = stands-requested_by _ (see v s) c s (grind (arith, nat_tests)) most (IsOrderly-see v s ok)
+present-requested v c s new most ok = present-requested_by _ (see v s) c s (grind (arith, nat_tests)) most (IsOrderly-see v s ok)

@@ -6,7 +6,7 @@ use Rattle.std.proofs.lemmas.Bool.Decides.{nat_tests}
 use Rattle.std.proofs.lemmas.Option.{none-some, same_Some}
 use Rattle.message.specs.declared.request.Request.{Request}
 use Rattle.message.specs.declared.message.ToVoter.{ToVoter}
-use Rattle.message.specs.declared.message.ClientBody.TheVariants as tells
+use Rattle.message.specs.declared.message.ClientBody.TheVariants as to_client
 use Rattle.message.specs.declared.message.VoterBody.{VoterBody}
 use Rattle.message.specs.declared.message.VoterBody.TheVariants as asks
 use Rattle.voter.specs.declared.state.Grant.{Grant}
@@ -14,7 +14,9 @@ use Rattle.voter.specs.declared.state.VoterState.{VoterState}
 use Rattle.voter.specs.Entries.{Finishes, KnowsUpTo, request_of}
 use Rattle.voter.specs.Waiting.{Waiting, precedes}
 use Rattle.voter.specs.VoterContract.{IsEntry}
-use Rattle.voter.specs.Steps.{released, released_by, queued, queued_by, admitted, admitted_by, queue, freed, finish, held_stamp, is_up_to, standing, first_some, requested, requested_by, requested_beside, compared_by, relinquished, relinquished_by, put_back, see, outcome_of, is_refused, Outcome, step, IsSound, remind, remind_of, reply, inquiry_again, ends_grant}
+use Rattle.voter.specs.Steps.{released, released_by, queued, queued_by, admitted, admitted_by, queue, freed, finish, held_stamp, is_up_to, standing, first_some, requested}
+use Rattle.voter.specs.Steps.{requested_by, requested_beside, compared_by, relinquished, relinquished_by, put_back, see, outcome_of, is_refused, Outcome, step, IsSound, remind}
+use Rattle.voter.specs.Steps.{remind_of, reply, inquiry_again, ends_grant}
 use Rattle.voter.proofs.AskedBack.{inserted_cases}
 use Rattle.voter.specs.VoteMoves.{GrantIsNew, VoteMoves}
 use Rattle.voter.proofs.Effects.{IsSound-step, step-Some, step-taken}
@@ -22,7 +24,7 @@ use Rattle.voter.proofs.Moves.{VoteMoves-outcome_of}
 use Rattle.voter.proofs.Finished.{same_or_other}
 use Rattle.voter.proofs.Freeing.{HolderFirst-grant_front, own_grant, requeues-relinquish, requeues_by, frees-release}
 use Rattle.voter.proofs.Soundness.{IsOrderly, IsOrderly-see, orderly-released}
-use Rattle.voter.proofs.Standing.{OthersStay, OthersStay-released, entry-grant_front, kept_removed, stands-admitted, stands-requested}
+use Rattle.voter.proofs.Standing.{OthersStay, OthersStay-released, entry-grant_front, kept_removed, present-admitted, present-requested}
 
 orderly : (v : VoterState) → IsSound v → IsOrderly v
 orderly v ok = record { numbered = ok.numbered; apart = ok.apart; free = ok.free }
@@ -72,11 +74,11 @@ others-compared_by : (less same : Bool) (v : VoterState) (c s t : ℕ) → IsOrd
 others-compared_by true same v c s t ok d u other entry = entry
 others-compared_by false true v c s t ok d u other entry = entry
 others-compared_by false false v c s t ok d u other entry =
-    (stands-admitted (released v c t).state c s (orderly-released v c t ok)).1 d u other (OthersStay-released v c t d u other entry)
+    (present-admitted (released v c t).state c s (orderly-released v c t ok)).1 d u other (OthersStay-released v c t d u other entry)
 
 others-beside : (v : VoterState) (c s : ℕ) (o : Option ℕ) → IsOrderly v → OthersStay v c (requested_beside v c s o).state
 unfolding requested_beside
-others-beside v c s None ok = (stands-admitted v c s ok).1
+others-beside v c s None ok = (present-admitted v c s ok).1
 others-beside v c s (Some t) ok = others-compared_by _ _ v c s t ok
 
 others-requested_by : (done : Bool) (v : VoterState) (c s : ℕ) → IsOrderly v → OthersStay v c (requested_by done v c s).state
@@ -146,7 +148,8 @@ stay-outcome_of v c (asks.Request t) ok d s entry = stay-requested _ (see v t) c
 stay-outcome_of v c (asks.Relinquish n) ok d s entry = inl (stay-relinquished_by _ v ok d s entry)
 stay-outcome_of v c (asks.Release t) ok d s entry = stay-released (see v t) c t d s entry
 
-pub requests_stay-step : (v : VoterState) (m : ToVoter) (o : Outcome) (client stamp : ℕ) → IsSound v → step v m ≡ Some o → IsEntry v client stamp → IsEntry o.state client stamp ⊎ Finishes m.client m.body client stamp
+pub requests_stay-step : (v : VoterState) (m : ToVoter) (o : Outcome) (client stamp : ℕ) → IsSound v → step v m ≡ Some o → IsEntry v client stamp → IsEntry o.state client stamp
+    ⊎ Finishes m.client m.body client stamp
 requests_stay-step v m o client stamp ok e entry =
     subst (λ (p : Outcome). IsEntry p.state client stamp ⊎ Finishes m.client m.body client stamp) (step-Some v m o e).1
     (stay-outcome_of v m.client m.body (orderly v ok) client stamp entry)
@@ -204,13 +207,13 @@ unfolding admitted
 first-admitted v c s n first = first-admitted_by v.held v c s n refl first
 
 first-compared_by : (less same : Bool) (v : VoterState) (c s t : ℕ) → (s == t) ≡ same → standing v c ≡ Some t → IsOrderly v → NewFirstOf v (compared_by less same v c s t).state
-first-compared_by true same v c s t e stands ok g d u held new entry waits = first-old v ok g d u held new waits
-first-compared_by false true v c s t e stands ok g d u held new entry waits = first-old v ok g d u held new waits
-first-compared_by false false v c s t e stands ok g d u held new entry waits =
+first-compared_by true same v c s t e present ok g d u held new entry waits = first-old v ok g d u held new waits
+first-compared_by false true v c s t e present ok g d u held new entry waits = first-old v ok g d u held new waits
+first-compared_by false false v c s t e present ok g d u held new entry waits =
     first-admitted (released v c t).state c s v.granted (first-released v c t ok) g d u held new
     (λ here.
     let now = standing-entry v c u ok (subst (λ n. IsEntry v n u) here.0 entry) in
-    let old = same_Some t u (sym stands ∙ now) in
+    let old = same_Some t u (sym present ∙ now) in
     let same = here.1 in
     (let x : ⊥ = grind (arith, nat_tests) in x))
     waits
@@ -220,9 +223,9 @@ no_standing v c u none ok entry = none-some u (sym none ∙ standing-entry v c u
 
 first-beside : (v : VoterState) (c s : ℕ) (o : Option ℕ) → standing v c ≡ o → IsOrderly v → NewFirstOf v (requested_beside v c s o).state
 unfolding requested_beside
-first-beside v c s None stands ok g d u held new entry waits =
-    first-admitted v c s v.granted (first-old v ok) g d u held new (λ here. no_standing v c u stands ok (subst (λ n. IsEntry v n u) here.0 entry)) waits
-first-beside v c s (Some t) stands ok g d u held new entry waits = first-compared_by _ _ v c s t refl stands ok g d u held new entry waits
+first-beside v c s None present ok g d u held new entry waits =
+    first-admitted v c s v.granted (first-old v ok) g d u held new (λ here. no_standing v c u present ok (subst (λ n. IsEntry v n u) here.0 entry)) waits
+first-beside v c s (Some t) present ok g d u held new entry waits = first-compared_by _ _ v c s t refl present ok g d u held new entry waits
 
 first-requested_by : (done : Bool) (v : VoterState) (c s : ℕ) → IsOrderly v → NewFirstOf v (requested_by done v c s).state
 first-requested_by true v c s ok g d u held new entry waits = first-old v ok g d u held new waits
@@ -245,7 +248,8 @@ first-outcome_of v c (asks.Release s) ok g d t held new entry waits = first-rele
 pub first-step : (v : VoterState) (m : ToVoter) (o : Outcome) (g : Grant) (client stamp : ℕ) → IsSound v → step v m ≡ Some o → o.state.held ≡ Some g → v.granted < g.grant
     → IsEntry v client stamp → get o.state.waiting client ≡ Some stamp → precedes (record { stamp = stamp; client = client }) (request_of g) ≡ false
 first-step v m o g client stamp ok e =
-    subst (λ (p : Outcome). p.state.held ≡ Some g → v.granted < g.grant → IsEntry v client stamp → get p.state.waiting client ≡ Some stamp → precedes (record { stamp = stamp; client = client }) (request_of g) ≡ false)
+    subst (λ (p : Outcome). p.state.held ≡ Some g → v.granted < g.grant → IsEntry v client stamp → get p.state.waiting client ≡ Some stamp
+    → precedes (record { stamp = stamp; client = client }) (request_of g) ≡ false)
     (step-Some v m o e).1 (first-outcome_of v m.client m.body (orderly v ok) g client stamp)
 
 -- ---- what a REQUEST and a RELEASE do, as steps
@@ -253,7 +257,7 @@ first-step v m o g client stamp ok e =
 pub taken_up-step : (v : VoterState) (m : ToVoter) (o : Outcome) (stamp : ℕ) → IsSound v → m.body ≡ asks.Request stamp → slice_index v.finished m.client < stamp → KnowsUpTo v m.client stamp
     → step v m ≡ Some o → IsEntry o.state m.client stamp
 taken_up-step v m o stamp ok is new most e =
-    subst (λ (p : Outcome). IsEntry p.state m.client stamp) (ap (outcome_of v m.client) (sym is) ∙ (step-Some v m o e).1) (stands-requested v m.client stamp new most (orderly v ok)).0
+    subst (λ (p : Outcome). IsEntry p.state m.client stamp) (ap (outcome_of v m.client) (sym is) ∙ (step-Some v m o e).1) (present-requested v m.client stamp new most (orderly v ok)).0
 
 pub ended-step : (v : VoterState) (m : ToVoter) (o : Outcome) (g : Grant) (stamp : ℕ) → IsSound v → v.held ≡ Some g → m.client ≡ g.client → m.body ≡ asks.Release stamp → g.stamp ≤ stamp
     → step v m ≡ Some o → (s : ℕ) → IsEntry o.state g.client s → ⊥
@@ -273,7 +277,8 @@ relinquishes : (v : VoterState) (g : Grant) → v.held ≡ Some g → VoteMoves 
 unfolding ends_grant
 relinquishes v g held = subst (λ b. VoteMoves b v (outcome_of v g.client (asks.Relinquish g.grant)).state) (own_grant v.held g held) (VoteMoves-outcome_of v g.client (asks.Relinquish g.grant))
 
-pub goes_on-step : (v : VoterState) (m : ToVoter) (o : Outcome) (g : Grant) → IsSound v → v.held ≡ Some g → m.client ≡ g.client → m.body ≡ asks.Relinquish g.grant → step v m ≡ Some o → GrantIsNew v o.state
+pub goes_on-step : (v : VoterState) (m : ToVoter) (o : Outcome) (g : Grant) → IsSound v → v.held ≡ Some g → m.client ≡ g.client → m.body ≡ asks.Relinquish g.grant
+    → step v m ≡ Some o → GrantIsNew v o.state
 goes_on-step v m o g ok held own is e =
     let same : outcome_of v g.client (asks.Relinquish g.grant) ≡ o = ap (λ n. outcome_of v n (asks.Relinquish g.grant)) (sym own) ∙ ap (outcome_of v m.client) (sym is) ∙ (step-Some v m o e).1 in
     goes_on_by v o.state g (subst (λ (p : Outcome). IsEntry p.state g.client g.stamp) same ((requeues-relinquish v g held (orderly v ok)).0 g.client g.stamp (inl (g, held, refl, refl))))
@@ -289,6 +294,6 @@ takes-step v m ok left = (outcome_of v m.client m.body, step-taken v m ok (enoug
 
 -- ---- reminders
 
-pub reminds : (v : VoterState) (g : Grant) → v.held ≡ Some g → remind v ≡ reply v g.client (tells.Locked g.stamp g.grant) ∷ inquiry_again v.inquiring v g
+pub reminds : (v : VoterState) (g : Grant) → v.held ≡ Some g → remind v ≡ reply v g.client (to_client.Locked g.stamp g.grant) ∷ inquiry_again v.inquiring v g
 unfolding remind
 reminds v g is = ap (λ (o : Option Grant). remind_of o v) is

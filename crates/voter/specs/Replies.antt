@@ -7,27 +7,27 @@ use Rattle.message.specs.declared.message.ToVoter.{ToVoter}
 use Rattle.message.specs.declared.message.VoterBody.{VoterBody}
 use Rattle.message.specs.declared.message.VoterBody.TheVariants as asks
 use Rattle.message.specs.declared.message.ClientBody.{ClientBody}
-use Rattle.message.specs.declared.message.ClientBody.TheVariants as tells
+use Rattle.message.specs.declared.message.ClientBody.TheVariants as to_client
 use Rattle.voter.specs.declared.state.Grant.{Grant}
 use Rattle.voter.specs.declared.state.VoterState.{VoterState}
 use Rattle.voter.specs.Steps.{Outcome}
 
 -- FAIL goes to a client that waits, with the stamp of its request. INQUIRE goes to the holder, with
 -- the number of its grant.
-abbrev pub TellsPlace : VoterState → ℕ → ClientBody → Type 0
-TellsPlace v client (tells.Locked stamp grant) = Unit {0}
-TellsPlace v client (tells.Fail stamp) = get v.waiting client ≡ Some stamp
-TellsPlace v client (tells.Inquire grant) = (g : Grant) × (v.held ≡ Some g) × (g.client ≡ client) × (g.grant ≡ grant)
+abbrev pub ReportsPlace : VoterState → ℕ → ClientBody → Type 0
+ReportsPlace v client (to_client.Locked stamp grant) = Unit {0}
+ReportsPlace v client (to_client.Fail stamp) = get v.waiting client ≡ Some stamp
+ReportsPlace v client (to_client.Inquire grant) = (g : Grant) × (v.held ≡ Some g) × (g.client ≡ client) × (g.grant ≡ grant)
 
 -- each FAIL and each INQUIRE among these replies does so
-abbrev pub AllTellPlace : VoterState → List ToClient → Type 0
-AllTellPlace v replies = AllByRecursion (λ r. TellsPlace v r.client r.body) replies
+abbrev pub AllReportPlace : VoterState → List ToClient → Type 0
+AllReportPlace v replies = AllByRecursion (λ r. ReportsPlace v r.client r.body) replies
 
 -- 1 for a LOCKED, else 0
 abbrev pub locked_in : ClientBody → ℕ
-locked_in (tells.Locked stamp grant) = 1
-locked_in (tells.Fail stamp) = 0
-locked_in (tells.Inquire grant) = 0
+locked_in (to_client.Locked stamp grant) = 1
+locked_in (to_client.Fail stamp) = 0
+locked_in (to_client.Inquire grant) = 0
 
 -- how many of the replies are LOCKED
 abbrev pub locked_count : List ToClient → ℕ
@@ -47,7 +47,7 @@ AllCarry id seen replies = AllByRecursion (λ r. (r.voter ≡ id) × (r.seen ≡
 -- The replies of one step: at most three, and at most one of them a LOCKED. Each FAIL goes to a
 -- client that waits, each INQUIRE to the holder.
 pub record AreAnswers (o : Outcome) : Type 0 where
-  pub place : AllTellPlace o.state o.replies
+  pub place : AllReportPlace o.state o.replies
   pub few : length o.replies ≤ 3
   pub locked : locked_count o.replies ≤ 1
 

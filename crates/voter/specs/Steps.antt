@@ -9,7 +9,7 @@ use Rattle.message.specs.declared.message.ToClient.{ToClient}
 use Rattle.message.specs.declared.message.VoterBody.{VoterBody}
 use Rattle.message.specs.declared.message.VoterBody.TheVariants as asks
 use Rattle.message.specs.declared.message.ClientBody.{ClientBody}
-use Rattle.message.specs.declared.message.ClientBody.TheVariants as tells
+use Rattle.message.specs.declared.message.ClientBody.TheVariants as to_client
 use Rattle.voter.specs.declared.state.Grant.{Grant}
 use Rattle.voter.specs.declared.state.VoterState.{VoterState}
 use Rattle.voter.specs.declared.state.Effect.{Effect}
@@ -47,7 +47,7 @@ granted_to v r = record v {
 abbrev pub grant_to : VoterState → Option Request → Outcome
 grant_to v None = silent v
 grant_to v (Some r) = record {
-  replies = reply v r.client (tells.Locked r.stamp (v.granted + 1)) ∷ [];
+  replies = reply v r.client (to_client.Locked r.stamp (v.granted + 1)) ∷ [];
   state = granted_to v r;
 }
 
@@ -110,12 +110,12 @@ queue v client stamp = record v { waiting = insert v.waiting client stamp }
 -- INQUIRE to the holder, unless one is outstanding
 abbrev pub inquiry : Bool → VoterState → Grant → List ToClient
 inquiry true v g = []
-inquiry false v g = reply v g.client (tells.Inquire g.grant) ∷ []
+inquiry false v g = reply v g.client (to_client.Inquire g.grant) ∷ []
 
 -- FAIL to the request that was first in the queue until now, if any
 abbrev pub fail_former : VoterState → Option Request → List ToClient
 fail_former v None = []
-fail_former v (Some q) = reply v q.client (tells.Fail q.stamp) ∷ []
+fail_former v (Some q) = reply v q.client (to_client.Fail q.stamp) ∷ []
 
 -- A new request while another one holds the vote, by whether a waiting request precedes it, and
 -- whether the granted one does. If one of them does, the new request receives FAIL. Otherwise the
@@ -123,11 +123,11 @@ fail_former v (Some q) = reply v q.client (tells.Fail q.stamp) ∷ []
 -- former first one receives FAIL.
 abbrev pub queued_by : Bool → Bool → VoterState → Grant → ℕ → ℕ → Outcome
 queued_by true granted v g client stamp = record {
-  replies = reply v client (tells.Fail stamp) ∷ [];
+  replies = reply v client (to_client.Fail stamp) ∷ [];
   state = queue v client stamp;
 }
 queued_by false true v g client stamp = record {
-  replies = reply v client (tells.Fail stamp) ∷ fail_former v (front v.waiting);
+  replies = reply v client (to_client.Fail stamp) ∷ fail_former v (front v.waiting);
   state = queue v client stamp;
 }
 queued_by false false v g client stamp = record {
@@ -160,12 +160,12 @@ admitted v client stamp = admitted_by v.held v client stamp
 -- the reply to a repeated request: LOCKED again if its client holds the vote, FAIL again if it
 -- waits
 abbrev pub again_by : Bool → VoterState → Grant → ℕ → ℕ → List ToClient
-again_by true v g client stamp = reply v client (tells.Locked stamp g.grant) ∷ []
-again_by false v g client stamp = reply v client (tells.Fail stamp) ∷ []
+again_by true v g client stamp = reply v client (to_client.Locked stamp g.grant) ∷ []
+again_by false v g client stamp = reply v client (to_client.Fail stamp) ∷ []
 
 -- the reply to a repeated request, by who holds the vote
 abbrev pub again : VoterState → Option Grant → ℕ → ℕ → List ToClient
-again v None client stamp = reply v client (tells.Fail stamp) ∷ []
+again v None client stamp = reply v client (to_client.Fail stamp) ∷ []
 again v (Some g) client stamp = again_by (g.client == client) v g client stamp
 
 -- A request of a client with a current request, by whether it is older than that, and whether it is
@@ -237,13 +237,13 @@ step v m = unless_spent (nat_lt v.limit (outcome_of v m.client m.body).state.gra
 
 -- INQUIRE again, if one is outstanding
 abbrev pub inquiry_again : Bool → VoterState → Grant → List ToClient
-inquiry_again true v g = reply v g.client (tells.Inquire g.grant) ∷ []
+inquiry_again true v g = reply v g.client (to_client.Inquire g.grant) ∷ []
 inquiry_again false v g = []
 
 -- LOCKED again for the holder, and INQUIRE again if one is outstanding
 abbrev pub remind_of : Option Grant → VoterState → List ToClient
 remind_of None v = []
-remind_of (Some g) v = reply v g.client (tells.Locked g.stamp g.grant) ∷ inquiry_again v.inquiring v g
+remind_of (Some g) v = reply v g.client (to_client.Locked g.stamp g.grant) ∷ inquiry_again v.inquiring v g
 
 -- what to send to the holder again, in case messages were lost
 unfoldable pub remind : VoterState → List ToClient

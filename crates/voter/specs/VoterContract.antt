@@ -7,21 +7,21 @@ use Rattle.message.specs.declared.message.ToClient.{ToClient}
 use Rattle.message.specs.declared.message.VoterBody.{VoterBody}
 use Rattle.message.specs.declared.message.VoterBody.TheVariants as asks
 use Rattle.message.specs.declared.message.ClientBody.{ClientBody}
-use Rattle.message.specs.declared.message.ClientBody.TheVariants as tells
+use Rattle.message.specs.declared.message.ClientBody.TheVariants as to_client
 use Rattle.voter.specs.declared.state.Grant.{Grant}
 use Rattle.voter.specs.declared.state.VoterState.{VoterState}
 use Rattle.voter.specs.Steps.{Outcome}
 
 -- a LOCKED to this client carries the current grant
-abbrev pub TellsVote : Option Grant → ℕ → ClientBody → Type 0
-TellsVote held client (tells.Locked stamp grant) =
+abbrev pub ReportsVote : Option Grant → ℕ → ClientBody → Type 0
+ReportsVote held client (to_client.Locked stamp grant) =
     held ≡ Some (record { client = client; stamp = stamp; grant = grant })
-TellsVote held client (tells.Fail stamp) = Unit {0}
-TellsVote held client (tells.Inquire grant) = Unit {0}
+ReportsVote held client (to_client.Fail stamp) = Unit {0}
+ReportsVote held client (to_client.Inquire grant) = Unit {0}
 
 -- each LOCKED among these replies carries the current grant
-abbrev pub AllTell : Option Grant → List ToClient → Type 0
-AllTell held replies = AllByRecursion (λ r. TellsVote held r.client r.body) replies
+abbrev pub AllReport : Option Grant → List ToClient → Type 0
+AllReport held replies = AllByRecursion (λ r. ReportsVote held r.client r.body) replies
 
 -- The message ends the grant. It comes from the grant's client: a REQUEST with a greater stamp, a
 -- RELEASE with a stamp at least as great, or a RELINQUISH with the grant's number.
@@ -49,4 +49,4 @@ pub record MeetsContract (v : VoterState) (m : ToVoter) (o : Outcome) : Type 0 w
   pub entries : (client stamp : ℕ) → IsEntry o.state client stamp
       → IsEntry v client stamp ⊎ Brings m.client m.body client stamp
   -- each LOCKED carries the vote as it is after the step
-  pub told : AllTell o.state.held o.replies
+  pub heard : AllReport o.state.held o.replies

@@ -2,18 +2,18 @@
 ghost use Rattle.std.specs.FinMap.{get};
 ghost use Rattle.std.specs.Prelude.{◌≡◌, ◌<◌, ◌≤◌, ◌⊎◌, ◌∷◌, ℕ, Some, false, length, slice_index};
 ghost use Rattle.numbers.specs.Bounds.{max_clients, max_stamp, max_voters};
-ghost use Rattle.message.specs.declared.message.ClientBody.TheVariants as tells;
+ghost use Rattle.message.specs.declared.message.ClientBody.TheVariants as to_client;
 ghost use Rattle.message.specs.declared.message.ToVoter.{ToVoter};
 ghost use Rattle.message.specs.declared.message.VoterBody.TheVariants as asks;
 ghost use Rattle.message.specs.Lines.{voter_number};
 ghost use Rattle.voter.specs.declared.state.Grant.{Grant};
 ghost use Rattle.voter.specs.declared.state.VoterState.{VoterState};
 ghost use Rattle.voter.specs.Entries.{AsksBack, Finishes, FinishesBy, KnowsUpTo, request_of};
-ghost use Rattle.voter.specs.Replies.{AllCarry, AllTellPlace, AreAnswers, CarrySeen};
+ghost use Rattle.voter.specs.Replies.{AllCarry, AllReportPlace, AreAnswers, CarrySeen};
 ghost use Rattle.voter.specs.Saved.{IsKept, least_voter};
 ghost use Rattle.voter.specs.Steps.{IsSound, Outcome, effect_of, inquiry_again, remind, reply, start, step};
 ghost use Rattle.voter.specs.VoteMoves.{GrantIsNew, VoteMoves};
-ghost use Rattle.voter.specs.VoterContract.{AllTell, IsEntry, MeetsContract};
+ghost use Rattle.voter.specs.VoterContract.{AllReport, IsEntry, MeetsContract};
 ghost use Rattle.voter.specs.Waiting.{precedes};
 
 /// A voter keeps its contract:
@@ -24,7 +24,7 @@ ghost use Rattle.voter.specs.Waiting.{precedes};
 ///   the current vote.
 pub fn voters_meet_the_contract()
     ensures steps { (v : VoterState) (m : ToVoter) (o : Outcome) → step v m ≡ Some o → MeetsContract v m o }
-    ensures reminders { (v : VoterState) → AllTell v.held (remind v) }
+    ensures reminders { (v : VoterState) → AllReport v.held (remind v) }
 {}
 
 /// A message that ends the grant leaves no grant, or a new one with the next number. Any other
@@ -55,9 +55,9 @@ pub fn voters_stay_kept()
 
 /// A message causes at most three replies, and at most one of them is LOCKED. Each FAIL goes to a
 /// client that waits after the step, and each INQUIRE to the holder.
-pub fn replies_tell_the_state()
+pub fn replies_report_the_state()
     ensures steps { (v : VoterState) (m : ToVoter) (o : Outcome) → IsSound v → step v m ≡ Some o → AreAnswers o }
-    ensures reminders { (v : VoterState) → AllTellPlace v (remind v) }
+    ensures reminders { (v : VoterState) → AllReportPlace v (remind v) }
 {}
 
 /// Each reply names the voter and carries the highest stamp that it saw, including that of the
@@ -121,7 +121,7 @@ pub fn messages_finish_requests()
 /// A reminder begins with LOCKED for the request that has the vote, under its grant.
 pub fn reminders_repeat_the_vote()
     ensures { (v : VoterState) (g : Grant) → v.held ≡ Some g
-        → remind v ≡ reply v g.client (tells.Locked g.stamp g.grant) ∷ inquiry_again v.inquiring v g }
+        → remind v ≡ reply v g.client (to_client.Locked g.stamp g.grant) ∷ inquiry_again v.inquiring v g }
 {}
 
 /// A voter that has grants left takes every message.

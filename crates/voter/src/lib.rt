@@ -63,7 +63,7 @@ mod voter;
 pub use fault::VoterFault;
 pub use laws::{
     grants_are_numbered, messages_finish_requests, releases_end_requests,
-    reminders_repeat_the_vote, replies_carry_what_was_seen, replies_tell_the_state,
+    reminders_repeat_the_vote, replies_carry_what_was_seen, replies_report_the_state,
     requests_are_taken_up, requests_stay, voters_meet_the_contract, voters_stay_kept,
     voters_stay_sound, voters_with_grants_take_messages, votes_are_asked_back,
     votes_given_back_go_on, votes_go_to_the_first,

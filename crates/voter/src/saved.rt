@@ -1,5 +1,5 @@
 //! A voter as numbers, to be saved and restored, and the least of it.
-ghost use Rattle.std.specs.Prelude.{◌≡◌, ◌<◌, ◌≤◌, ◌+◌, ◌++◌, ◌∷◌, [], ℕ, Bool, Option, IsTrue, IfSome, Some, None, IsSome, length, slice_index};
+ghost use Rattle.std.specs.Prelude.{◌≡◌, ◌<◌, ◌≤◌, ◌+◌, ◌++◌, ◌∷◌, [], ℕ, Bool, Option, IsTrue, IfSome, Some, None, length, slice_index};
 ghost use Rattle.std.specs.FinMap as map;
 ghost use Rattle.arrayvec.specs.ArrayVec.{array_vec_len};
 ghost use Rattle.numbers.specs.Bounds.{max_clients, max_voters};

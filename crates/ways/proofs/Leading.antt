@@ -1,9 +1,8 @@
 -- one more step of a way
 use Rattle.std.proofs.Common.{ℕ, ◌≡◌, List, [], ◌∷◌, ◌++◌, length, Ok, refl, sym, ap, subst, ◌∙◌}
 use Rattle.std.specs.List.{AllByRecursion}
-use Rattle.requester.specs.declared.state.Seen.{Seen}
 use Rattle.requester.specs.declared.state.Seen.TheVariants.{Nothing, Entered, Left}
-use Rattle.progress.specs.WayIn.{Helps, IsWayIn}
+use Rattle.progress.specs.WayIn.{Helps}
 use Rattle.world.specs.declared.step.Event.{Event}
 use Rattle.world.specs.declared.step.Step.{Step}
 use Rattle.world.specs.declared.step.Stepped.{Stepped}
@@ -11,7 +10,7 @@ use Rattle.world.specs.Runs.{after, run_of}
 use Rattle.world.specs.Steps.{Adds, Dealing, Outcome, Planned, WorldState, dealing_of, events, outcome_of, step, step_of}
 use Rattle.ways.specs.declared.make.Went.{Went}
 use Rattle.ways.specs.declared.make.Went.TheVariants.{On, In, Lost}
-use Rattle.ways.specs.Leads.{Lead, Leads, LeadsIn, LeadsOn}
+use Rattle.ways.specs.Leads.{Lead, Leads, LeadsOn}
 
 run_more : (deal : Dealing) (steps : List Step) (s : Step) (w : WorldState) → run_of deal (steps ++ s ∷ []) w ≡ after (run_of deal steps w) (step deal (run_of deal steps w) s)
 run_more deal [] s w = refl

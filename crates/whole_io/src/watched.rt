@@ -1,5 +1,5 @@
 //! A reader or a writer that remembers whether it has failed.
-ghost use Rattle.std.specs.Prelude.{◌≡◌, ◌<◌, IsTrue, true, false, OnErr, OnOk, IfOk, length, ◌⊎◌};
+ghost use Rattle.std.specs.Prelude.{◌≡◌, ◌<◌, true, false, OnErr, OnOk, IfOk, length, ◌⊎◌};
 ghost use Rattle.std.specs.Io.{ReadsAtMost, WritesAtMost};
 ghost use Rattle.std.specs.Io.KnownBytes.{ReadConsumes, WriteAppends, Keeps};
 ghost use Rattle.whole_io.specs.Watching.{Watching};

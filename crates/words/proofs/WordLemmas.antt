@@ -23,7 +23,8 @@ take_parts zero m xs = ap (λ k. take k xs) (let e : m ≡ 0 + m = omega arith i
 take_parts (suc n) m [] = take_empty m ∙ sym (take_empty (suc n + m))
 take_parts (suc n) m (x ∷ xs) = ap (λ l. x ∷ l) (take_parts n m xs) ∙ ap (λ k. take k (x ∷ xs)) (let e : suc (n + m) ≡ suc n + m = omega arith in e)
 
-pub bytes_of-more : (bytes words after : List ℕ) (i word : ℕ) → bytes_of words ≡ take (8 * i) bytes → to_le_bytes w64 word ≡ take 8 (drop (8 * i) bytes) → after ≡ words ++ word ∷ [] → bytes_of after ≡ take (8 * (i + 1)) bytes
+pub bytes_of-more : (bytes words after : List ℕ) (i word : ℕ) → bytes_of words ≡ take (8 * i) bytes → to_le_bytes w64 word ≡ take 8 (drop (8 * i) bytes) → after ≡ words
+    ++ word ∷ [] → bytes_of after ≡ take (8 * (i + 1)) bytes
 bytes_of-more bytes words after i word h is e =
     ap bytes_of e ∙ bytes_of-push words word ∙ (λ k. h k ++ is k) ∙ take_parts (8 * i) 8 bytes ∙ ap (λ k. take k bytes) (let n : 8 * i + 8 ≡ 8 * (i + 1) = omega arith in n)
 

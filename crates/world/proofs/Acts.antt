@@ -55,10 +55,12 @@ pub act-Ok : (w : WorldState) (os cs ds : List ClientState) (c : ℕ) (cause : c
 act-Ok w os cs ds c cause out seen s u is step wrote same sent saw state =
     after_client-Ok w os cs ds c out seen _ s u is (read_step w os (client_at os c) c cause _ is refl step) wrote same sent saw state
 
-pub act-Err : (w : WorldState) (os : List ClientState) (x : ClientState) (c : ℕ) (cause : client.Cause) (fault : ClientFault) → os ≡ w.clients → x ≡ client_at os c → client.step x cause ≡ Err fault → act w c cause ≡ Err (faults.Client fault)
+pub act-Err : (w : WorldState) (os : List ClientState) (x : ClientState) (c : ℕ) (cause : client.Cause) (fault : ClientFault) → os ≡ w.clients → x ≡ client_at os c
+    → client.step x cause ≡ Err fault → act w c cause ≡ Err (faults.Client fault)
 act-Err w os x c cause fault is who step = ap (λ r. after_client w c r) (read_step w os x c cause (Err fault) is who step)
 
-pub act-some_Ok : (w : WorldState) (os : List ClientState) (x : ClientState) (c : ℕ) (cause : client.Cause) → os ≡ w.clients → x ≡ client_at os c → (o : client.Outcome) × (client.step x cause ≡ Ok o) → (p : Outcome) × (act w c cause ≡ Ok p)
+pub act-some_Ok : (w : WorldState) (os : List ClientState) (x : ClientState) (c : ℕ) (cause : client.Cause) → os ≡ w.clients → x ≡ client_at os c → (o : client.Outcome)
+    × (client.step x cause ≡ Ok o) → (p : Outcome) × (act w c cause ≡ Ok p)
 act-some_Ok w os x c cause is who step = (client_did w c step.0, ap (λ r. after_client w c r) (read_step w os x c cause (Ok step.0) is who step.1))
 
 -- ---- a client that asks
@@ -73,10 +75,12 @@ pub ask-Ok : (w : WorldState) (os cs ds : List ClientState) (c : ℕ) (quorum : 
 ask-Ok w os cs ds c quorum out seen s u is step wrote same sent saw state =
     after_client-Ok (draw w c) os cs ds c out seen _ s u (is ∙ sym (draw_of-clients w.side w c)) (read_step w os (client_at os c) c (client.Asks quorum) _ is refl step) wrote same sent saw state
 
-pub ask-Err : (w : WorldState) (os : List ClientState) (x : ClientState) (c : ℕ) (quorum : List ℕ) (fault : ClientFault) → os ≡ w.clients → x ≡ client_at os c → client.step x (client.Asks quorum) ≡ Err fault → ask w c quorum ≡ Err (faults.Client fault)
+pub ask-Err : (w : WorldState) (os : List ClientState) (x : ClientState) (c : ℕ) (quorum : List ℕ) (fault : ClientFault) → os ≡ w.clients → x ≡ client_at os c
+    → client.step x (client.Asks quorum) ≡ Err fault → ask w c quorum ≡ Err (faults.Client fault)
 ask-Err w os x c quorum fault is who step = ap (λ r. after_client (draw w c) c r) (read_step w os x c (client.Asks quorum) (Err fault) is who step)
 
-pub ask-some_Ok : (w : WorldState) (os : List ClientState) (x : ClientState) (c : ℕ) (quorum : List ℕ) → os ≡ w.clients → x ≡ client_at os c → (o : client.Outcome) × (client.step x (client.Asks quorum) ≡ Ok o) → (p : Outcome) × (ask w c quorum ≡ Ok p)
+pub ask-some_Ok : (w : WorldState) (os : List ClientState) (x : ClientState) (c : ℕ) (quorum : List ℕ) → os ≡ w.clients → x ≡ client_at os c → (o : client.Outcome)
+    × (client.step x (client.Asks quorum) ≡ Ok o) → (p : Outcome) × (ask w c quorum ≡ Ok p)
 ask-some_Ok w os x c quorum is who step = (client_did (draw w c) c step.0, ap (λ r. after_client (draw w c) c r) (read_step w os x c (client.Asks quorum) (Ok step.0) is who step.1))
 
 -- ---- a voter
@@ -97,7 +101,8 @@ vote-not_voted w os m is step = ap (λ r. after_voter w m.voter r) (subst (λ (l
 
 -- ---- messages alone
 
-pub say-outcome : (w : WorldState) (more : List Message) (n : ℕ) (u : WorldState) → n ≡ length more → u ≡ record w { sent = w.sent ++ more } → say w more ≡ outcome_of (record { sent = n; seen = Nothing }) u
+pub say-outcome : (w : WorldState) (more : List Message) (n : ℕ) (u : WorldState) → n ≡ length more → u ≡ record w { sent = w.sent ++ more }
+    → say w more ≡ outcome_of (record { sent = n; seen = Nothing }) u
 say-outcome w more n u len state = λ i. record { sent = sym len i; seen = Nothing; state = sym state i }
 
 -- ---- whether a voter takes a message

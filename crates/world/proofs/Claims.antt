@@ -10,7 +10,7 @@ use Rattle.message.specs.declared.message.Message.TheVariants as kinds
 use Rattle.message.specs.declared.message.VoterBody.{VoterBody}
 use Rattle.message.specs.declared.message.VoterBody.TheVariants as asks
 use Rattle.message.specs.declared.message.ClientBody.{ClientBody}
-use Rattle.message.specs.declared.message.ClientBody.TheVariants as tells
+use Rattle.message.specs.declared.message.ClientBody.TheVariants as to_client
 use Rattle.voter.specs.declared.state.Grant.{Grant}
 use Rattle.voter.specs.declared.state.VoterState.{VoterState}
 use Rattle.voter.specs.Steps as voter
@@ -19,7 +19,7 @@ use Rattle.requester.specs.declared.state.ClientState.{ClientState}
 use Rattle.requester.specs.RequesterContract.{IsLater, IsLive}
 use Rattle.requester.specs.Soundness as sound
 use Rattle.requester.specs.Words.{is_idle, members, last_of}
-pub use Rattle.world.specs.Coherence.{Names, AskOk, TellOk, MessageOk, HeldOk}
+pub use Rattle.world.specs.Coherence.{Names, AskOk, ReportOk, MessageOk, HeldOk}
 use Rattle.world.specs.Ranges.{AreInRange, IsWithin}
 use Rattle.world.specs.Visible.{IsAmong}
 
@@ -99,20 +99,20 @@ ask_later x y v (asks.Release s) later ok =
       ],
     )
 
-tell_later : (x y : ClientState) (held : Option Grant) (v c : ℕ) (b : ClientBody) → IsLater x y → TellOk x held v c b → TellOk y held v c b
-tell_later x y held v c (tells.Locked s g) later ok =
+report_later : (x y : ClientState) (held : Option Grant) (v c : ℕ) (b : ClientBody) → IsLater x y → ReportOk x held v c b → ReportOk y held v c b
+report_later x y held v c (to_client.Locked s g) later ok =
     let rises = later.stamp in
     let known = ok.0 in
     (omega arith, λ live. ok.1 (IsLive-before x y v s g later known live))
-tell_later x y held v c (tells.Fail s) later ok = tt
-tell_later x y held v c (tells.Inquire g) later ok = tt
+report_later x y held v c (to_client.Fail s) later ok = tt
+report_later x y held v c (to_client.Inquire g) later ok = tt
 
 pub IsLater-self : (x : ClientState) → IsLater x x
 IsLater-self x = record { stamp = omega arith; last = λ v. omega arith; idle = λ _ idle. idle }
 
 message_later : (X W : ℕ → ClientState) (Y : ℕ → VoterState) → ((c : ℕ) → IsLater (X c) (W c)) → (m : Message) → MessageOk X Y m → MessageOk W Y m
 message_later X W Y later (kinds.ToVoter m) ok = ask_later (X m.client) (W m.client) m.voter m.body (later m.client) ok
-message_later X W Y later (kinds.ToClient m) ok = tell_later (X m.client) (W m.client) (Y m.voter).held m.voter m.client m.body (later m.client) ok
+message_later X W Y later (kinds.ToClient m) ok = report_later (X m.client) (W m.client) (Y m.voter).held m.voter m.client m.body (later m.client) ok
 
 pub VoterOk-later : (b : Bounds) (X W : ℕ → ClientState) → ((c : ℕ) → IsLater (X c) (W c)) → (y : VoterState) → VoterOk b X y → VoterOk b W y
 VoterOk-later b X W later y ok = record {
@@ -155,16 +155,16 @@ Names-still Y Z X Killed keep spares v c s g live names = elim (keep v (record {
   | inr killed ↦ absurd (spares v (record { client = c; stamp = s; grant = g }) live killed)
 ]
 
-tell_keeps : (X : ℕ → ClientState) (Y Z : ℕ → VoterState) (Killed : ℕ → Grant → Type 0) → VotesKeep Y Z Killed → SparesLive X Killed
-    → (v c : ℕ) (b : ClientBody) → TellOk (X c) (Y v).held v c b → TellOk (X c) (Z v).held v c b
-tell_keeps X Y Z Killed keep spares v c (tells.Locked s g) ok = (ok.0, λ live. Names-still Y Z X Killed keep spares v c s g live (ok.1 live))
-tell_keeps X Y Z Killed keep spares v c (tells.Fail s) ok = tt
-tell_keeps X Y Z Killed keep spares v c (tells.Inquire g) ok = tt
+report_keeps : (X : ℕ → ClientState) (Y Z : ℕ → VoterState) (Killed : ℕ → Grant → Type 0) → VotesKeep Y Z Killed → SparesLive X Killed
+    → (v c : ℕ) (b : ClientBody) → ReportOk (X c) (Y v).held v c b → ReportOk (X c) (Z v).held v c b
+report_keeps X Y Z Killed keep spares v c (to_client.Locked s g) ok = (ok.0, λ live. Names-still Y Z X Killed keep spares v c s g live (ok.1 live))
+report_keeps X Y Z Killed keep spares v c (to_client.Fail s) ok = tt
+report_keeps X Y Z Killed keep spares v c (to_client.Inquire g) ok = tt
 
 message_keeps : (X : ℕ → ClientState) (Y Z : ℕ → VoterState) (Killed : ℕ → Grant → Type 0) → VotesKeep Y Z Killed → SparesLive X Killed
     → (m : Message) → MessageOk X Y m → MessageOk X Z m
 message_keeps X Y Z Killed keep spares (kinds.ToVoter m) ok = ok
-message_keeps X Y Z Killed keep spares (kinds.ToClient m) ok = tell_keeps X Y Z Killed keep spares m.voter m.client m.body ok
+message_keeps X Y Z Killed keep spares (kinds.ToClient m) ok = report_keeps X Y Z Killed keep spares m.voter m.client m.body ok
 
 -- ---- lists of messages
 

@@ -20,7 +20,8 @@ use Rattle.requester.specs.Words.{is_member, members, holds_under, last_of}
 use Rattle.world.specs.Ranges.{AreInRange, IsInRange, IsWithin}
 use Rattle.world.specs.Visible.{DoMeet, IsAmong}
 use Rattle.world.proofs.Known.{ClientLaws}
-use Rattle.world.proofs.Claims.{Bounds, Names, AskOk, MessageOk, ClientOk, IsClient, VoterOk, WorldOk, IsLive-before, IsLater-self, VoterOk-later, AllByRecursion-append, MessageOk-later, put, put-each, put-same}
+use Rattle.world.proofs.Claims.{Bounds, Names, AskOk, MessageOk, ClientOk, IsClient, VoterOk, WorldOk, IsLive-before, IsLater-self, VoterOk-later, AllByRecursion-append}
+use Rattle.world.proofs.Claims.{MessageOk-later, put, put-each, put-same}
 
 -- what came: each LOCKED names voters and stamps that are in range, and is so
 abbrev pub Came : Bounds → ClientState → (ℕ → VoterState) → ℕ → client.Cause → Type 0
@@ -90,7 +91,8 @@ reached_below b meet x y Y c cause came quorum v reached = elim reached [
   | inr locked ↦ (came v locked.0 locked.1.0 locked.1.1).0
 ]
 
-quorum_after : (b : Bounds) (x y : ClientState) (cause : client.Cause) → Draws b cause → KeepsQuorum x cause y → (members x ≡ []) ⊎ IsAmong b.quorums (members x) → (members y ≡ []) ⊎ IsAmong b.quorums (members y)
+quorum_after : (b : Bounds) (x y : ClientState) (cause : client.Cause) → Draws b cause → KeepsQuorum x cause y → (members x ≡ []) ⊎ IsAmong b.quorums (members x)
+    → (members y ≡ []) ⊎ IsAmong b.quorums (members y)
 quorum_after b x y (client.Asks quorum) draws keeps was = inr (subst (λ (q : List ℕ). IsAmong b.quorums q) (sym keeps) draws)
 quorum_after b x y (client.Takes m) draws keeps was = subst (λ (q : List ℕ). (q ≡ []) ⊎ IsAmong b.quorums q) (sym keeps.0) was
 quorum_after b x y client.Leaves draws keeps was = subst (λ (q : List ℕ). (q ≡ []) ⊎ IsAmong b.quorums q) (sym keeps.0) was
@@ -103,7 +105,8 @@ record Sent (b : Bounds) (c : ℕ) (y : ClientState) (m : ToVoter) : Type 0 wher
   number : IsWithin b.limit (voter_number m.body)
   ok : AskOk y m.voter m.body
 
-asks_ok : (b : Bounds) (W : ℕ → ClientState) (Y : ℕ → VoterState) (c : ℕ) (y : ClientState) → W c ≡ y → (out : List ToVoter) → AllByRecursion (Sent b c y) out → AllByRecursion (MessageOk W Y) (map kinds.ToVoter out)
+asks_ok : (b : Bounds) (W : ℕ → ClientState) (Y : ℕ → VoterState) (c : ℕ) (y : ClientState) → W c ≡ y → (out : List ToVoter) → AllByRecursion (Sent b c y) out
+    → AllByRecursion (MessageOk W Y) (map kinds.ToVoter out)
 asks_ok b W Y c y is [] h = tt
 asks_ok b W Y c y is (m ∷ ms) h = (subst (λ (w : ClientState). AskOk w m.voter m.body) (sym (ap W h.0.client ∙ is)) h.0.ok, asks_ok b W Y c y is ms h.1)
 
@@ -151,7 +154,7 @@ client_moves laws b meet X Y sent ok c within cause o accepts step came draws =
       held = put-each (λ q y. (v g : ℕ) → holds_under y v g ≡ true → Names (Y v).held q y.stamp g) X c o.state
           (λ v g holds. elim (move.held v g holds) [
             | inl was ↦ subst (λ s. Names (Y v).held c s g) (sym was.1) (held v g was.0)
-            | inr got ↦ let told = came v o.state.stamp g got.0 in told.3 (IsLive-before x o.state v o.state.stamp g move.later told.2 got.1)
+            | inr got ↦ let heard = came v o.state.stamp g got.0 in heard.3 (IsLive-before x o.state v o.state.stamp g move.later heard.2 got.1)
           ]) ok.held;
       clients = put-each (λ q y. ClientOk b y) X c o.state
           (record {
@@ -179,7 +182,8 @@ repeat_within b x ok limit v (asks.Request s) says within = let most = within.1 
 repeat_within b x ok limit v (asks.Relinquish g) says within = let least = within in let most = ok.last v in let same = says in (least, omega arith)
 repeat_within b x ok limit v (asks.Release s) says within = absurd says
 
-all_repeated : (b : Bounds) → DoMeet b.voters b.quorums → (c : ℕ) (x : ClientState) → ClientOk b x → x.id ≡ c → x.limit ≡ b.limit → (out : List ToVoter) → AllRepeat x out → RemindersInRange x out → AllByRecursion (Sent b c x) out
+all_repeated : (b : Bounds) → DoMeet b.voters b.quorums → (c : ℕ) (x : ClientState) → ClientOk b x → x.id ≡ c → x.limit ≡ b.limit → (out : List ToVoter) → AllRepeat x out
+    → RemindersInRange x out → AllByRecursion (Sent b c x) out
 all_repeated b meet c x ok id limit [] say range = tt
 all_repeated b meet c x ok id limit (m ∷ ms) say range = (
   record {

@@ -1,6 +1,6 @@
 -- The numbers of a voter's grants rise, also over restarts. So whoever has a vote later has it by a
 -- greater number, unless it is the same request of the same client.
-use Rattle.std.proofs.Common.{◌≡◌, ℕ, ◌+◌, ◌<◌, ◌≤◌, Bool, true, false, List, [], ◌∷◌, map, Option, Some, None, Result, Ok, Err, refl, sym, ap, subst, ◌∙◌, ◌⊎◌, inl, inr, arith}
+use Rattle.std.proofs.Common.{◌≡◌, ℕ, ◌<◌, ◌≤◌, Bool, true, false, List, [], ◌∷◌, map, Option, Some, None, Result, Ok, Err, refl, sym, ap, subst, ◌∙◌, ◌⊎◌, inl, inr, arith}
 use Rattle.std.specs.Prelude.{is_some, length, nat_lt, slice_get, slice_set}
 use Rattle.std.proofs.lemmas.Bool.Decides.{nat_tests}
 use Rattle.std.proofs.lemmas.Option.{none-some, same_Some}
@@ -16,15 +16,17 @@ use Rattle.voter.specs.VoteMoves.{VoteMoves, GrantIsNew}
 use Rattle.requester.specs.declared.fault.ClientFault.{ClientFault}
 use Rattle.requester.specs.Steps as client
 use Rattle.requester.specs.declared.state.ClientState.{ClientState}
-use Rattle.requester.specs.Words.{held_of, holds, holds_under}
+use Rattle.requester.specs.Words.{held_of, holds}
 use Rattle.quorum_set.specs.declared.bridge.Side.{Side}
 use Rattle.quorum_set.specs.declared.bridge.Side.TheVariants.{First, Second}
 use Rattle.world.specs.declared.fault.WorldFault.{WorldFault}
 use Rattle.world.specs.declared.step.Step.{Step}
 use Rattle.world.specs.declared.step.Step.TheVariants.{Ask, Deliver, Leave, GiveUp, RemindClient, RemindVoter, Exchange}
-use Rattle.world.specs.Restarts.{Node, OneClient, OneVoter, Nobody, Saved, Happening, Goes, Saves, Forgets, Restarts, HasVote, IsIn, IsNewer, IsSameRequest, pass_of, stamp_of, forget, come_back, if_there, is_silent, maker, save, restart, save_unless, gone, happens, all_happen, begin}
+use Rattle.world.specs.Restarts.{Node, OneClient, OneVoter, Nobody, Saved, Happening, Goes, Saves, Forgets, Restarts, HasVote, IsIn, IsNewer, IsSameRequest, pass_of, stamp_of}
+use Rattle.world.specs.Restarts.{forget, come_back, if_there, is_silent, maker, save, restart, save_unless, gone, happens, all_happen, begin}
 use Rattle.world.specs.Runs.{AreLimits, start}
-use Rattle.world.specs.Steps.{Dealing, Outcome, WorldState, act, after_client, ask, next_ticket, quorum_dealt, say, after_voter, client_at, come, draw_of, exchange, if_client, if_voter, step, voter_at}
+use Rattle.world.specs.Steps.{Dealing, Outcome, WorldState, act, after_client, ask, next_ticket, quorum_dealt, say, after_voter, client_at, come, draw_of, exchange, if_client}
+use Rattle.world.specs.Steps.{if_voter, step, voter_at}
 use Rattle.world.specs.Visible.{DealsFrom, DoMeet}
 use Rattle.world.proofs.Known.{ClientLaws, VoterLaws}
 use Rattle.world.proofs.Claims.{Bounds, Names, put-each}

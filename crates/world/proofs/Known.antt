@@ -2,7 +2,7 @@
 use Rattle.std.specs.Prelude.{ℕ, ◌≡◌, ◌<◌, ◌≤◌, ◌^◌, Ok, Some}
 use Rattle.message.specs.declared.message.ToVoter.{ToVoter}
 use Rattle.voter.specs.declared.state.VoterState.{VoterState}
-use Rattle.voter.specs.Replies.{AllCarry, AllTellPlace, AreAnswers, CarrySeen}
+use Rattle.voter.specs.Replies.{AllCarry, AllReportPlace, AreAnswers, CarrySeen}
 use Rattle.voter.specs.Steps as voter
 use Rattle.voter.specs.VoteMoves.{VoteMoves}
 use Rattle.voter.specs.VoterContract as votes
@@ -16,16 +16,17 @@ pub record ClientLaws : Type 0 where
   pub repeats : (x : ClientState) → AllRepeat x (client.remind x)
   pub first : (id limit : ℕ) → id < 64 → 1 ≤ limit → limit ≤ 2 ^ 40 → sound.IsSound (client.start id limit)
   pub stays : (x : ClientState) (cause : client.Cause) (o : client.Outcome) → sound.IsSound x → Accepts x cause → client.step x cause ≡ Ok o → sound.IsSound o.state
-  pub ranges : (x : ClientState) (cause : client.Cause) (o : client.Outcome) → sound.IsSound x → Accepts x cause → ComesInRange x.limit cause → client.step x cause ≡ Ok o → AllInRange cause o.state o.out
+  pub ranges : (x : ClientState) (cause : client.Cause) (o : client.Outcome) → sound.IsSound x → Accepts x cause → ComesInRange x.limit cause → client.step x cause ≡ Ok o
+      → AllInRange cause o.state o.out
   pub reminders : (x : ClientState) → sound.IsSound x → RemindersInRange x (client.remind x)
 
 pub record VoterLaws : Type 0 where
   pub meets : (v : VoterState) (m : ToVoter) (o : voter.Outcome) → voter.step v m ≡ Some o → votes.MeetsContract v m o
-  pub tells : (v : VoterState) → votes.AllTell v.held (voter.remind v)
+  pub reminds : (v : VoterState) → votes.AllReport v.held (voter.remind v)
   pub numbers : (v : VoterState) (m : ToVoter) (o : voter.Outcome) → voter.IsSound v → voter.step v m ≡ Some o → VoteMoves (voter.effect_of v m).frees v o.state
   pub first : (id limit : ℕ) → limit ≤ 2 ^ 40 → voter.IsSound (voter.start id limit)
   pub stays : (v : VoterState) (m : ToVoter) (o : voter.Outcome) → voter.IsSound v → voter.step v m ≡ Some o → voter.IsSound o.state
   pub answers : (v : VoterState) (m : ToVoter) (o : voter.Outcome) → voter.IsSound v → voter.step v m ≡ Some o → AreAnswers o
-  pub places : (v : VoterState) → AllTellPlace v (voter.remind v)
+  pub places : (v : VoterState) → AllReportPlace v (voter.remind v)
   pub carries : (v : VoterState) (m : ToVoter) (o : voter.Outcome) → voter.step v m ≡ Some o → CarrySeen v m o
   pub remembers : (v : VoterState) → AllCarry v.id v.seen (voter.remind v)

@@ -5,7 +5,7 @@ pub mod Claims
 pub mod ClientMoves
 pub mod Exclusion
 pub mod Fences
-pub mod Foretold
+pub mod Predicted
 pub mod Known
 pub mod Places
 pub mod Plans

@@ -33,7 +33,8 @@ client_at-set cs c x within = λ i q. same_choice q c x (get_or (set cs c x) q (
 pub seen_at : {A : Type 0} (d : A) (P : A → Type 0) (xs : List A) (p n : ℕ) (x : A) → p ≡ n → n < length xs → x ≡ get_or xs p x → P (get_or xs p x) → P (get_or xs n d)
 seen_at d P xs p n x same within is h = subst P (sym is ∙ sym (sym (get_or_read xs n x within (is ∙ ap (λ k. get_or xs k x) same) d))) h
 
-pub moved_at : {A : Type 0} (d : A) (P : A → A → Type 0) (xs : List A) (p n : ℕ) (x y : A) → p ≡ n → n < length xs → x ≡ get_or xs p x → P (get_or xs p x) y → P (get_or xs n d) (get_or (set xs p y) n d)
+pub moved_at : {A : Type 0} (d : A) (P : A → A → Type 0) (xs : List A) (p n : ℕ) (x y : A) → p ≡ n → n < length xs → x ≡ get_or xs p x → P (get_or xs p x) y
+    → P (get_or xs n d) (get_or (set xs p y) n d)
 moved_at d P xs p n x y same within is h =
     let written : get_or (set xs p y) n d ≡ y = ap (λ k. get_or (set xs k y) n d) same ∙ get_or-set_same xs n y d within in
     seen_at d (λ a. P a (get_or (set xs p y) n d)) xs p n x same within is (subst (λ b. P (get_or xs p x) b) (sym written) h)

@@ -12,14 +12,14 @@ use Rattle.quorum_set.specs.Meetings.{AllMeet}
 use Rattle.message.specs.declared.message.Message.{Message}
 use Rattle.message.specs.declared.message.Message.TheVariants as kinds
 use Rattle.message.specs.declared.message.ClientBody.{ClientBody}
-use Rattle.message.specs.declared.message.ClientBody.TheVariants as tells
+use Rattle.message.specs.declared.message.ClientBody.TheVariants as to_client
 use Rattle.message.specs.Lines.{AreCounts, HasLine, IsCount}
 use Rattle.certificate.specs.Certificates.{Weighted, IsCertificate}
 use Rattle.dealer.specs.Cycles.{quorum_of_ticket}
 use Rattle.dealer.specs.Plans.{coteries_of}
 use Rattle.world.specs.declared.step.Step.{Step}
 use Rattle.world.specs.Coherence.{IsCoherent}
-use Rattle.world.specs.Ranges.{IsInRange, IsSound, IsWithin, TellsWithin}
+use Rattle.world.specs.Ranges.{IsInRange, IsSound, IsWithin, ReportsWithin}
 use Rattle.world.specs.Runs.{AreLimits, IsReached, after, run_of, start, start_by}
 use Rattle.world.specs.declared.fault.WorldFault.{WorldFault}
 use Rattle.world.specs.declared.step.Stepped.{Stepped}
@@ -87,10 +87,10 @@ plans_deal all_name w is (Some v) follows Second ticket = IsAmong-right w.system
 IsCount-within : (limit n : ℕ) → limit ≤ 2 ^ 40 → IsWithin limit n → IsCount n
 IsCount-within limit n most within = let least = within.0 in let far = within.1 in (least, omega arith)
 
-AreCounts-within : (limit : ℕ) (body : ClientBody) → limit ≤ 2 ^ 40 → TellsWithin limit body → AreCounts body
-AreCounts-within limit (tells.Locked stamp grant) most within = (IsCount-within limit stamp most within.0, IsCount-within limit grant most within.1)
-AreCounts-within limit (tells.Fail stamp) most within = IsCount-within limit stamp most within
-AreCounts-within limit (tells.Inquire grant) most within = IsCount-within limit grant most within
+AreCounts-within : (limit : ℕ) (body : ClientBody) → limit ≤ 2 ^ 40 → ReportsWithin limit body → AreCounts body
+AreCounts-within limit (to_client.Locked stamp grant) most within = (IsCount-within limit stamp most within.0, IsCount-within limit grant most within.1)
+AreCounts-within limit (to_client.Fail stamp) most within = IsCount-within limit stamp most within
+AreCounts-within limit (to_client.Inquire grant) most within = IsCount-within limit grant most within
 
 HasLine-in_range : (voters clients limit : ℕ) → AreLimits voters clients limit → (m : Message) → IsInRange voters clients limit m → HasLine m
 HasLine-in_range voters clients limit limits (kinds.ToVoter m) range =

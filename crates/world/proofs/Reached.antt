@@ -1,5 +1,6 @@
 -- every run
-use Rattle.std.proofs.Common.{◌≡◌, ℕ, zero, suc, ◌+◌, ◌<◌, ◌≤◌, ◌^◌, Bool, true, false, List, [], ◌∷◌, ◌++◌, map, length, Option, Some, None, Result, Ok, Err, refl, sym, ap, subst, ◌∙◌, ◌⊎◌, inl, inr, arith, ltb, length-append}
+use Rattle.std.proofs.Common.{◌≡◌, ℕ, zero, suc, ◌+◌, ◌<◌, ◌≤◌, ◌^◌, Bool, true, false, List, [], ◌∷◌, ◌++◌, map, length, Option, Some, None, Result, Ok, Err, refl, sym, ap, subst}
+use Rattle.std.proofs.Common.{◌∙◌, ◌⊎◌, inl, inr, arith, ltb, length-append}
 use Rattle.std.specs.Prelude.{nat_lt, slice_get, slice_index, slice_set, replicate}
 use Rattle.std.specs.List.{range_with_len}
 use Rattle.std.specs.FinMap as fin
@@ -14,7 +15,7 @@ use Rattle.message.specs.declared.message.ToVoter.{ToVoter}
 use Rattle.message.specs.declared.message.Message.{Message}
 use Rattle.message.specs.declared.message.Message.TheVariants as kinds
 use Rattle.message.specs.declared.message.ClientBody.{ClientBody}
-use Rattle.message.specs.declared.message.ClientBody.TheVariants as tells
+use Rattle.message.specs.declared.message.ClientBody.TheVariants as to_client
 use Rattle.voter.specs.declared.state.VoterState.{VoterState}
 use Rattle.voter.specs.VoterContract.{IsEntry}
 use Rattle.voter.specs.Steps as voter
@@ -28,13 +29,14 @@ use Rattle.quorum_set.specs.declared.bridge.Side.TheVariants.{First, Second}
 use Rattle.world.specs.declared.fault.WorldFault.{WorldFault}
 use Rattle.world.specs.declared.step.Step.{Step}
 use Rattle.world.specs.declared.step.Step.TheVariants.{Ask, Deliver, Leave, GiveUp, RemindClient, RemindVoter, Exchange}
-use Rattle.world.specs.Ranges.{IsAddressed, IsInRange, IsSound, IsWithin, TellsWithin}
+use Rattle.world.specs.Ranges.{IsAddressed, IsInRange, IsSound, IsWithin, ReportsWithin}
 use Rattle.world.specs.Runs.{AreLimits, DrawsInOrder, after, run_of, start}
-use Rattle.world.specs.Steps.{WorldState, Dealing, Outcome, after_client, after_voter, client_at, client_did, come, draw_of, events, exchange, if_client, if_voter, next_ticket, quorum_dealt, step, voter_at}
+use Rattle.world.specs.Steps.{WorldState, Dealing, Outcome, after_client, after_voter, client_at, client_did, come, draw_of, events, exchange, if_client, if_voter, next_ticket}
+use Rattle.world.specs.Steps.{quorum_dealt, step, voter_at}
 use Rattle.world.specs.Visible.{DealsFrom, DoMeet, IsAmong}
 use Rattle.world.proofs.Known.{ClientLaws, VoterLaws}
 use Rattle.world.specs.Coherence.{IsCoherent}
-use Rattle.world.proofs.Claims.{Bounds, Names, AskOk, TellOk, MessageOk, ClientOk, IsClient, VoterOk, WorldOk, AllByRecursion-get, AllByRecursion-map, put}
+use Rattle.world.proofs.Claims.{Bounds, Names, AskOk, ReportOk, MessageOk, ClientOk, IsClient, VoterOk, WorldOk, AllByRecursion-get, AllByRecursion-map, put}
 use Rattle.world.proofs.ClientMoves.{Came, Draws, client_moves, client_reminds, member_below}
 use Rattle.world.proofs.VoterMoves.{voter_moves, voter_reminds}
 use Rattle.world.proofs.Exclusion.{Walked, one_inside, Walked-step}
@@ -93,7 +95,8 @@ DrawsInOrder-push : (draws : List (ℕ × ℕ)) (c : ℕ) → DrawsInOrder draws
 DrawsInOrder-push draws c is =
     let n = length draws in
     let len : length (draws ++ (c, n) ∷ []) ≡ suc n = omega (arith, length-append draws ((c, n) ∷ [])) in
-    map-append (λ (d : ℕ × ℕ). d.1) draws ((c, n) ∷ []) ∙ ap (λ (l : List ℕ). l ++ n ∷ []) is ∙ ap (λ k. range_with_len 0 n ++ k ∷ []) (let same : n ≡ 0 + n = omega arith in same) ∙ sym (range_suc 0 n) ∙ ap (λ k. range_with_len 0 k) (sym len)
+    map-append (λ (d : ℕ × ℕ). d.1) draws ((c, n) ∷ []) ∙ ap (λ (l : List ℕ). l ++ n ∷ []) is ∙ ap (λ k. range_with_len 0 n ++ k ∷ []) (let same : n ≡ 0 + n = omega arith in same)
+    ∙ sym (range_suc 0 n) ∙ ap (λ k. range_with_len 0 k) (sym len)
 
 RunOk-after_draw : (b : Bounds) → Given b → (w : WorldState) → RunOk b w → (c : ℕ) → c < length w.clients → (cause : client.Cause)
     → Accepts (client_at w.clients c) cause → Came b (client_at w.clients c) (voter_at w.voters) c cause → Draws b cause
@@ -147,9 +150,9 @@ accepts_among b meets q among =
     let self = meets.meets among.0 among.0 among.1 among.1 in
     subst (λ (s : List ℕ). IsSet s × (1 ≤ length s)) (sym among.2) (meets.sets among.0 [] among.1, not_empty _ self.0 self.2)
 
-pub came_by : (b : Bounds) (x : ClientState) (Y : ℕ → VoterState) (sender c : ℕ) (body : ClientBody) → sender < b.voters → TellsWithin b.limit body → TellOk x (Y sender).held sender c body
+pub came_by : (b : Bounds) (x : ClientState) (Y : ℕ → VoterState) (sender c : ℕ) (body : ClientBody) → sender < b.voters → ReportsWithin b.limit body → ReportOk x (Y sender).held sender c body
     → (v s g : ℕ) → Locks sender body v s g → (v < b.voters) × IsWithin b.limit s × (s ≤ x.stamp) × (IsLive x v s g → Names (Y v).held c s g)
-came_by b x Y sender c (tells.Locked stamp grant) within numbers ok v s g locks = (
+came_by b x Y sender c (to_client.Locked stamp grant) within numbers ok v s g locks = (
   subst (λ n. n < b.voters) (sym locks.0) within,
   subst (λ n. IsWithin b.limit n) (sym locks.1) numbers.0,
   subst (λ n. n ≤ x.stamp) (sym locks.1) ok.0,
@@ -157,8 +160,8 @@ came_by b x Y sender c (tells.Locked stamp grant) within numbers ok v s g locks 
       (subst (λ n. IsLive x sender n g → Names (Y sender).held c n g) (sym locks.1)
       (subst (λ n. IsLive x sender stamp n → Names (Y sender).held c stamp n) (sym locks.2) ok.1)),
 )
-came_by b x Y sender c (tells.Fail stamp) within numbers ok v s g locks = absurd locks
-came_by b x Y sender c (tells.Inquire grant) within numbers ok v s g locks = absurd locks
+came_by b x Y sender c (to_client.Fail stamp) within numbers ok v s g locks = absurd locks
+came_by b x Y sender c (to_client.Inquire grant) within numbers ok v s g locks = absurd locks
 
 comes_ok : (b : Bounds) → Given b → (w : WorldState) → RunOk b w → (k : ℕ) (o : Option Message)
     → ((m : Message) → o ≡ Some m → MessageOk (client_at w.clients) (voter_at w.voters) m) → ((m : Message) → o ≡ Some m → IsInRange b.voters b.clients b.limit m) → RunOk b (after w (come w k o))
@@ -183,7 +186,8 @@ step_ok : (b : Bounds) → Given b → (deal : Dealing) → DealsFrom b.quorums 
 unfolding step
 step_ok b given deal deals w ok (Ask c) = if_one b w ok _ c _ (λ t.
     let among = deals w.side (next_ticket w) in
-    RunOk-after_draw b given w ok c (less_than _ _ t) (client.Asks (quorum_dealt deal w.side (next_ticket w))) (accepts_among b given.meet (quorum_dealt deal w.side (next_ticket w)) among) (λ v s g never. absurd never) among w.side _ refl)
+    RunOk-after_draw b given w ok c (less_than _ _ t) (client.Asks (quorum_dealt deal w.side (next_ticket w))) (accepts_among b given.meet (quorum_dealt deal w.side (next_ticket w)) among)
+    (λ v s g never. absurd never) among w.side _ refl)
 step_ok b given deal deals w ok (Deliver k) = comes_ok b given w ok k (slice_get w.sent k)
     (λ m is. AllByRecursion-get (MessageOk (client_at w.clients) (voter_at w.voters)) w.sent k m ok.world.messages is)
     (λ m is. AllByRecursion-get (IsInRange b.voters b.clients b.limit) w.sent k m ok.world.ranges is)
@@ -231,7 +235,7 @@ Fresh-start b given id limit few least most = record {
   held = λ v. slice_index-replicate_zero 64 v;
 }
 
--- a voter that was told nothing
+-- a voter that received nothing
 pub record Unused (b : Bounds) (y : VoterState) : Type 0 where
   pub sound : voter.IsSound y
   pub held : y.held ≡ None
@@ -305,7 +309,7 @@ unused_at b given v = elim (below_or v b.voters) [
   | inr beyond ↦ subst (λ (y : VoterState). Unused b y) (sym (voter_past b.voters b.limit v beyond)) (Unused-start b given 0 1 (omega arith) given.limits.some_stamp)
 ]
 
--- no voter of the first world was told anything
+-- no voter of the first world received anything
 pub start_unused : (b : Bounds) → Given b → (v : ℕ) → Unused b (voter_at (start b.voters b.clients b.limit).voters v)
 unfolding new_voters
 start_unused b given v = unused_at b given v

@@ -62,12 +62,15 @@ use Rattle.quorum_set.specs.declared.bridge.Side.TheVariants.{First, Second}
 use Rattle.world.specs.declared.fault.WorldFault.{WorldFault}
 use Rattle.world.specs.declared.step.Step.TheVariants.{Ask, Deliver, Leave, GiveUp, RemindClient, RemindVoter, Exchange}
 use Rattle.world.specs.Ranges.{IsInRange}
-use Rattle.world.specs.Restarts.{Node, OneClient, OneVoter, Nobody, Saved, Happening, Goes, Saves, Forgets, Restarts, forget, crash_seen, come_back, if_there, receiver, save, restart, is_silent, save_unless, gone, happens, all_happen, begin}
+use Rattle.world.specs.Restarts.{Node, OneClient, OneVoter, Nobody, Saved, Happening, Goes, Saves, Forgets, Restarts, forget, crash_seen, come_back, if_there, receiver, save}
+use Rattle.world.specs.Restarts.{restart, is_silent, save_unless, gone, happens, all_happen, begin}
 use Rattle.world.specs.Runs.{AreLimits, start}
-use Rattle.world.specs.Steps.{Dealing, Outcome, after_client, after_voter, client_at, client_did, come, draw_of, events, exchange, if_client, if_voter, next_ticket, quorum_dealt, say, step, voter_at, voter_did}
+use Rattle.world.specs.Steps.{Dealing, Outcome, after_client, after_voter, client_at, client_did, come, draw_of, events, exchange, if_client, if_voter, next_ticket, quorum_dealt}
+use Rattle.world.specs.Steps.{say, step, voter_at, voter_did}
 use Rattle.world.specs.Visible.{DealsFrom, DoMeet, IsExclusive}
 use Rattle.world.proofs.Known.{ClientLaws, VoterLaws}
-use Rattle.world.proofs.Claims.{Bounds, Names, AskOk, TellOk, MessageOk, ClientOk, IsClient, VoterOk, WorldOk, IsLater-self, VoterOk-later, AllByRecursion-get, AllByRecursion-map, MessageOk-later, put, put-each, put-same}
+use Rattle.world.proofs.Claims.{Bounds, Names, AskOk, ReportOk, MessageOk, ClientOk, IsClient, VoterOk, WorldOk, IsLater-self, VoterOk-later, AllByRecursion-get}
+use Rattle.world.proofs.Claims.{AllByRecursion-map, MessageOk-later, put, put-each, put-same}
 use Rattle.world.proofs.ClientMoves.{Came, Draws, client_moves, client_reminds}
 use Rattle.world.proofs.VoterMoves.{voter_moves, voter_reminds}
 use Rattle.world.proofs.Exclusion.{Walked, one_inside, Walked-step}
@@ -499,9 +502,9 @@ nothing_held v is = let none = slice_index-replicate_zero 64 v in grind (arith, 
 nothing_held_under : (v g : ℕ) → (nat_lt 0 (slice_index (replicate 64 0) v) && (slice_index (replicate 64 0) v == g)) ≡ true → ⊥
 nothing_held_under v g is = let none = slice_index-replicate_zero 64 v in grind (arith, nat_tests)
 
-told_same : (X : ℕ → ClientState) (Y Z : ℕ → VoterState) → ((q : ℕ) → (Y q).held ≡ (Z q).held) → (m : Message) → MessageOk X Y m → MessageOk X Z m
-told_same X Y Z same (kinds.ToVoter m) ok = ok
-told_same X Y Z same (kinds.ToClient m) ok = subst (λ held. TellOk (X m.client) held m.voter m.client m.body) (same m.voter) ok
+reported_same : (X : ℕ → ClientState) (Y Z : ℕ → VoterState) → ((q : ℕ) → (Y q).held ≡ (Z q).held) → (m : Message) → MessageOk X Y m → MessageOk X Z m
+reported_same X Y Z same (kinds.ToVoter m) ok = ok
+reported_same X Y Z same (kinds.ToClient m) ok = subst (λ held. ReportOk (X m.client) held m.voter m.client m.body) (same m.voter) ok
 
 least_voter_ok : (b : Bounds) (X : ℕ → ClientState) (y : VoterState) → VoterOk b X y → VoterOk b X (least_voter y)
 least_voter_ok b X y ok = record {
@@ -526,7 +529,7 @@ voter_less b X Y sent v ok =
     let Z = put Y v (least_voter (Y v)) in
     let same : (q : ℕ) → (Y q).held ≡ (Z q).held = λ q. by_number (λ z. (Y q).held ≡ z.held) Y v (least_voter (Y v)) q (λ is. ap (λ n. (Y n).held) is) (λ _. refl) in
     record {
-      messages = AllByRecursion-map (MessageOk X Y) (MessageOk X Z) (told_same X Y Z same) sent ok.messages;
+      messages = AllByRecursion-map (MessageOk X Y) (MessageOk X Z) (reported_same X Y Z same) sent ok.messages;
       ranges = ok.ranges;
       held = λ c q g is. sym (same q) ∙ ok.held c q g is;
       clients = ok.clients;

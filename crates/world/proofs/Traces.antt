@@ -39,15 +39,17 @@ Ran-one_step plans clients limit steps place w u refused more s ran next same is
 by_plans : (plans : PlanPair) (w : Planned) (s : Step) (r : Result Outcome WorldFault) → w.plans ≡ plans → step_of w s ≡ r → step (dealing_of plans) w.state s ≡ r
 by_plans plans w s r by is = subst (λ (p : PlanPair). step (dealing_of p) w.state s ≡ r) by is
 
-pub Ran-on : (plans : PlanPair) (clients limit : ℕ) (steps : List Step) (place : ℕ) (w u : Planned) (refused : List (ℕ × WorldFault)) (s : Step) (told : Stepped) → Ran plans clients limit steps place w refused
-    → place < length steps → u.plans ≡ w.plans → step_of w (get_or steps place s) ≡ Ok (outcome_of told u.state) → Ran plans clients limit steps (place + 1) u refused
-Ran-on plans clients limit steps place w u refused s told ran within same done =
+pub Ran-on : (plans : PlanPair) (clients limit : ℕ) (steps : List Step) (place : ℕ) (w u : Planned) (refused : List (ℕ × WorldFault)) (s : Step) (heard : Stepped)
+    → Ran plans clients limit steps place w refused
+    → place < length steps → u.plans ≡ w.plans → step_of w (get_or steps place s) ≡ Ok (outcome_of heard u.state) → Ran plans clients limit steps (place + 1) u refused
+Ran-on plans clients limit steps place w u refused s heard ran within same done =
     let next = drop_more steps place s within in
     let is = by_plans plans w (get_or steps place s) _ ran.by done in
     subst (λ (l : List (ℕ × WorldFault)). Ran plans clients limit steps (place + 1) u l) (append-nil refused)
     (Ran-one_step plans clients limit steps place w u refused [] (get_or steps place s) ran next same (sym (ap (λ r. after w.state r) is)) (ap (λ r. refusal_at place r) is))
 
-pub Ran-past : (plans : PlanPair) (clients limit : ℕ) (steps : List Step) (place : ℕ) (w u : Planned) (refused : List (ℕ × WorldFault)) (s : Step) (fault : WorldFault) → Ran plans clients limit steps place w refused
+pub Ran-past : (plans : PlanPair) (clients limit : ℕ) (steps : List Step) (place : ℕ) (w u : Planned) (refused : List (ℕ × WorldFault)) (s : Step) (fault : WorldFault)
+    → Ran plans clients limit steps place w refused
     → place < length steps → u ≡ w → Refuses (step_of w (get_or steps place s)) fault → (fault ≡ faults.OutOfMemory → ⊥) → Ran plans clients limit steps (place + 1) u (refused ++ (place, fault) ∷ [])
 Ran-past plans clients limit steps place w u refused s fault ran within same refuses other =
     let next = drop_more steps place s within in

@@ -10,36 +10,37 @@ use Rattle.message.specs.declared.message.Message.TheVariants as kinds
 use Rattle.message.specs.declared.message.VoterBody.{VoterBody}
 use Rattle.message.specs.declared.message.VoterBody.TheVariants as asks
 use Rattle.message.specs.declared.message.ClientBody.{ClientBody}
-use Rattle.message.specs.declared.message.ClientBody.TheVariants as tells
+use Rattle.message.specs.declared.message.ClientBody.TheVariants as to_client
 use Rattle.message.specs.Lines.{voter_number}
 use Rattle.voter.specs.declared.state.Grant.{Grant}
 use Rattle.voter.specs.declared.state.VoterState.{VoterState}
-use Rattle.voter.specs.Replies.{AllCarry, AllTellPlace, TellsPlace, seen_after}
+use Rattle.voter.specs.Replies.{AllCarry, AllReportPlace, ReportsPlace, seen_after}
 use Rattle.voter.specs.Steps as voter
 use Rattle.voter.specs.VoteMoves.{VoteMoves}
-use Rattle.voter.specs.VoterContract.{AllTell, Brings, Ends, TellsVote}
+use Rattle.voter.specs.VoterContract.{AllReport, Brings, Ends, ReportsVote}
 use Rattle.requester.specs.declared.state.ClientState.{ClientState}
 use Rattle.requester.specs.RequesterContract.{IsLive}
 use Rattle.requester.specs.Soundness as sound
 use Rattle.requester.specs.Words.{holds, holds_under, held_of}
-use Rattle.world.specs.Ranges.{AreInRange, IsInRange, IsWithin, TellsWithin}
+use Rattle.world.specs.Ranges.{AreInRange, IsInRange, IsWithin, ReportsWithin}
 use Rattle.world.proofs.Known.{VoterLaws}
-use Rattle.world.proofs.Claims.{Bounds, AskOk, TellOk, MessageOk, HeldOk, ClientOk, EntryOk, VoterOk, WorldOk, VotesKeep, SparesLive, AskOk-not_ends, Ends-client, Names-still, AllByRecursion-append, MessageOk-keep, put, put-each, put-same}
+use Rattle.world.proofs.Claims.{Bounds, AskOk, ReportOk, MessageOk, HeldOk, ClientOk, EntryOk, VoterOk, WorldOk, VotesKeep, SparesLive, AskOk-not_ends, Ends-client, Names-still}
+use Rattle.world.proofs.Claims.{AllByRecursion-append, MessageOk-keep, put, put-each, put-same}
 
 -- ---- what is replied
 
 -- what a reply says of the voter afterwards
-record Told (b : Bounds) (v : ℕ) (y : VoterState) (r : ToClient) : Type 0 where
+record Reported (b : Bounds) (v : ℕ) (y : VoterState) (r : ToClient) : Type 0 where
   voter : r.voter ≡ v
   seen : r.seen ≤ b.limit
-  vote : TellsVote y.held r.client r.body
-  place : TellsPlace y r.client r.body
+  vote : ReportsVote y.held r.client r.body
+  place : ReportsPlace y r.client r.body
 
-all_told : (b : Bounds) (v seen : ℕ) (y : VoterState) → seen ≤ b.limit → (rs : List ToClient) → AllTell y.held rs → AllTellPlace y rs → AllCarry v seen rs → AllByRecursion (Told b v y) rs
-all_told b v seen y few [] votes places carry = tt
-all_told b v seen y few (r ∷ rs) votes places carry = (
+all_reported : (b : Bounds) (v seen : ℕ) (y : VoterState) → seen ≤ b.limit → (rs : List ToClient) → AllReport y.held rs → AllReportPlace y rs → AllCarry v seen rs → AllByRecursion (Reported b v y) rs
+all_reported b v seen y few [] votes places carry = tt
+all_reported b v seen y few (r ∷ rs) votes places carry = (
   record { voter = carry.0.0; seen = (let same = carry.0.1 in omega arith); vote = votes.0; place = places.0 },
-  all_told b v seen y few rs votes.1 places.1 carry.1,
+  all_reported b v seen y few rs votes.1 places.1 carry.1,
 )
 
 EntryOk-holder : (b : Bounds) (X : ℕ → ClientState) (y : VoterState) → VoterOk b X y → (g : Grant) → y.held ≡ Some g → EntryOk b X g.client g.stamp
@@ -56,15 +57,15 @@ grant_within b X y ok g is =
 -- what is so of the client and the numbers of a reply
 record ReplyOk (b : Bounds) (X : ℕ → ClientState) (held : Option Grant) (v c : ℕ) (body : ClientBody) : Type 0 where
   client : c < b.clients
-  numbers : TellsWithin b.limit body
-  ok : TellOk (X c) held v c body
+  numbers : ReportsWithin b.limit body
+  ok : ReportOk (X c) held v c body
 
-reply_ok : (b : Bounds) (X : ℕ → ClientState) (y : VoterState) → VoterOk b X y → (v c : ℕ) (body : ClientBody) → TellsVote y.held c body → TellsPlace y c body → ReplyOk b X y.held v c body
-reply_ok b X y ok v c (tells.Locked s g) vote place =
+reply_ok : (b : Bounds) (X : ℕ → ClientState) (y : VoterState) → VoterOk b X y → (v c : ℕ) (body : ClientBody) → ReportsVote y.held c body → ReportsPlace y c body → ReplyOk b X y.held v c body
+reply_ok b X y ok v c (to_client.Locked s g) vote place =
     let e = EntryOk-holder b X y ok _ vote in
     record { client = e.client; numbers = (e.stamp, grant_within b X y ok _ vote); ok = (e.reached, λ _. vote) }
-reply_ok b X y ok v c (tells.Fail s) vote place = let e = ok.entries c s (inr place) in record { client = e.client; numbers = e.stamp; ok = tt }
-reply_ok b X y ok v c (tells.Inquire g) vote place =
+reply_ok b X y ok v c (to_client.Fail s) vote place = let e = ok.entries c s (inr place) in record { client = e.client; numbers = e.stamp; ok = tt }
+reply_ok b X y ok v c (to_client.Inquire g) vote place =
     let e = EntryOk-holder b X y ok place.0 place.1 in
     record {
       client = subst (λ n. n < b.clients) place.2 e.client;
@@ -72,24 +73,26 @@ reply_ok b X y ok v c (tells.Inquire g) vote place =
       ok = tt;
     }
 
-replies_ok : (b : Bounds) (X : ℕ → ClientState) (Z : ℕ → VoterState) (v : ℕ) (y : VoterState) → Z v ≡ y → VoterOk b X y → (rs : List ToClient) → AllByRecursion (Told b v y) rs
+replies_ok : (b : Bounds) (X : ℕ → ClientState) (Z : ℕ → VoterState) (v : ℕ) (y : VoterState) → Z v ≡ y → VoterOk b X y → (rs : List ToClient) → AllByRecursion (Reported b v y) rs
     → AllByRecursion (MessageOk X Z) (map kinds.ToClient rs)
-replies_ok b X Z v y is ok [] told = tt
-replies_ok b X Z v y is ok (r ∷ rs) told = (
-  subst (λ (held : Option Grant). TellOk (X r.client) held r.voter r.client r.body) (sym (ap (λ n. (Z n).held) told.0.voter ∙ ap (λ (z : VoterState). z.held) is)) (reply_ok b X y ok r.voter r.client r.body told.0.vote told.0.place).ok,
-  replies_ok b X Z v y is ok rs told.1,
+replies_ok b X Z v y is ok [] heard = tt
+replies_ok b X Z v y is ok (r ∷ rs) heard = (
+  subst (λ (held : Option Grant). ReportOk (X r.client) held r.voter r.client r.body) (sym (ap (λ n. (Z n).held) heard.0.voter ∙ ap (λ (z : VoterState). z.held) is))
+      (reply_ok b X y ok r.voter r.client r.body heard.0.vote heard.0.place).ok,
+  replies_ok b X Z v y is ok rs heard.1,
 )
 
-replies_range : (b : Bounds) (X : ℕ → ClientState) (v : ℕ) (y : VoterState) → v < b.voters → VoterOk b X y → (rs : List ToClient) → AllByRecursion (Told b v y) rs
+replies_range : (b : Bounds) (X : ℕ → ClientState) (v : ℕ) (y : VoterState) → v < b.voters → VoterOk b X y → (rs : List ToClient) → AllByRecursion (Reported b v y) rs
     → AreInRange b.voters b.clients b.limit (map kinds.ToClient rs)
-replies_range b X v y within ok [] told = tt
-replies_range b X v y within ok (r ∷ rs) told =
-    let is = reply_ok b X y ok r.voter r.client r.body told.0.vote told.0.place in
-    ((is.client, subst (λ n. n < b.voters) (sym told.0.voter) within, told.0.seen, is.numbers), replies_range b X v y within ok rs told.1)
+replies_range b X v y within ok [] heard = tt
+replies_range b X v y within ok (r ∷ rs) heard =
+    let is = reply_ok b X y ok r.voter r.client r.body heard.0.vote heard.0.place in
+    ((is.client, subst (λ n. n < b.voters) (sym heard.0.voter) within, heard.0.seen, is.numbers), replies_range b X v y within ok rs heard.1)
 
 -- ---- the voter afterwards
 
-EntryOk-brought : (b : Bounds) (X : ℕ → ClientState) (v c : ℕ) (body : VoterBody) → c < b.clients → IsWithin b.limit (voter_number body) → AskOk (X c) v body → (d s : ℕ) → Brings c body d s → EntryOk b X d s
+EntryOk-brought : (b : Bounds) (X : ℕ → ClientState) (v c : ℕ) (body : VoterBody) → c < b.clients → IsWithin b.limit (voter_number body) → AskOk (X c) v body → (d s : ℕ)
+    → Brings c body d s → EntryOk b X d s
 EntryOk-brought b X v c (asks.Request stamp) client within ok d s brings = record {
   client = subst (λ n. n < b.clients) (sym brings.0) client;
   stamp = subst (λ n. IsWithin b.limit n) (sym brings.1) within;
@@ -122,7 +125,8 @@ numbered_after false y w moves was = elim moves [
   | inr new ↦ new_numbered w y.granted new.1.grant new.1.held new.1.number
 ]
 
-voter_after : VoterLaws → (b : Bounds) (X : ℕ → ClientState) (y : VoterState) → VoterOk b X y → (m : ToVoter) → m.client < b.clients → IsWithin b.limit (voter_number m.body) → AskOk (X m.client) m.voter m.body
+voter_after : VoterLaws → (b : Bounds) (X : ℕ → ClientState) (y : VoterState) → VoterOk b X y → (m : ToVoter) → m.client < b.clients → IsWithin b.limit (voter_number m.body)
+    → AskOk (X m.client) m.voter m.body
     → (o : voter.Outcome) → voter.step y m ≡ Some o → VoterOk b X o.state
 voter_after laws b X y ok m client within asked o step =
     let meets = laws.meets y m o step in
@@ -152,12 +156,14 @@ live_held x ok v g is =
     let same = u.1 in
     record { busy = well.busy; current = refl; fresh = omega arith }
 
-held_keeps : (b : Bounds) (X : ℕ → ClientState) (Y Z : ℕ → VoterState) (Killed : ℕ → Grant → Type 0) → VotesKeep Y Z Killed → SparesLive X Killed → ((c : ℕ) → ClientOk b (X c)) → HeldOk X Y → HeldOk X Z
+held_keeps : (b : Bounds) (X : ℕ → ClientState) (Y Z : ℕ → VoterState) (Killed : ℕ → Grant → Type 0) → VotesKeep Y Z Killed → SparesLive X Killed → ((c : ℕ) → ClientOk b (X c))
+    → HeldOk X Y → HeldOk X Z
 held_keeps b X Y Z Killed keep spares clients ok c v g is = Names-still Y Z X Killed keep spares v c (X c).stamp g (live_held (X c) (clients c).sound v g is) (ok c v g is)
 
 -- ---- a voter takes a step
 
-pub voter_moves : VoterLaws → (b : Bounds) (X : ℕ → ClientState) (Y : ℕ → VoterState) (sent : List Message) → WorldOk b X Y sent → (m : ToVoter) → IsInRange b.voters b.clients b.limit (kinds.ToVoter m) → AskOk (X m.client) m.voter m.body
+pub voter_moves : VoterLaws → (b : Bounds) (X : ℕ → ClientState) (Y : ℕ → VoterState) (sent : List Message) → WorldOk b X Y sent → (m : ToVoter)
+    → IsInRange b.voters b.clients b.limit (kinds.ToVoter m) → AskOk (X m.client) m.voter m.body
     → (o : voter.Outcome) → voter.step (Y m.voter) m ≡ Some o
     → WorldOk b X (put Y m.voter o.state) (sent ++ map kinds.ToClient o.replies)
 voter_moves laws b X Y sent ok m range asked o step =
@@ -172,12 +178,14 @@ voter_moves laws b X Y sent ok m range asked o step =
     let keep : VotesKeep Y Z Killed = λ v. put-each (λ v z. (h : Grant) → (Y v).held ≡ Some h → (z.held ≡ Some h) ⊎ Killed v h) Y m.voter o.state
     (λ h is. elim (meets.kept h is) [ inl stays ↦ inl stays | inr ended ↦ inr (refl, ended) ]) (λ v h is. inl is) v in
     let spares : SparesLive X Killed = λ v h live killed.
-    AskOk-not_ends (X h.client) v m.client m.body h (subst (λ n. AskOk (X h.client) n m.body) (sym killed.0) (subst (λ n. AskOk (X n) m.voter m.body) (sym (Ends-client m.client m.body h killed.1)) asked)) live killed.1 in
-    let told = all_told b m.voter (seen_after y.seen m.body) o.state (seen_within b.limit y.seen m.body before.seen range.2) o.replies meets.told (laws.answers y m o before.sound step).place
+    AskOk-not_ends (X h.client) v m.client m.body h (subst (λ n. AskOk (X h.client) n m.body) (sym killed.0)
+    (subst (λ n. AskOk (X n) m.voter m.body) (sym (Ends-client m.client m.body h killed.1)) asked)) live killed.1 in
+    let heard = all_reported b m.voter (seen_after y.seen m.body) o.state (seen_within b.limit y.seen m.body before.seen range.2) o.replies meets.heard (laws.answers y m o before.sound step).place
     (subst (λ i. AllCarry i (seen_after y.seen m.body) o.replies) id carry.carried) in
     record {
-      messages = AllByRecursion-append (MessageOk X Z) sent _ (MessageOk-keep X Y Z Killed keep spares sent ok.messages) (replies_ok b X Z m.voter o.state (put-same Y m.voter o.state) after o.replies told);
-      ranges = AllByRecursion-append (IsInRange b.voters b.clients b.limit) sent _ ok.ranges (replies_range b X m.voter o.state range.1 after o.replies told);
+      messages = AllByRecursion-append (MessageOk X Z) sent _ (MessageOk-keep X Y Z Killed keep spares sent ok.messages)
+          (replies_ok b X Z m.voter o.state (put-same Y m.voter o.state) after o.replies heard);
+      ranges = AllByRecursion-append (IsInRange b.voters b.clients b.limit) sent _ ok.ranges (replies_range b X m.voter o.state range.1 after o.replies heard);
       held = held_keeps b X Y Z Killed keep spares ok.clients ok.held;
       clients = ok.clients;
       voters = put-each (λ v z. VoterOk b X z) Y m.voter o.state after ok.voters;
@@ -185,16 +193,16 @@ voter_moves laws b X Y sent ok m range asked o step =
       voter_ids = put-each (λ v z. v < b.voters → z.id ≡ v) Y m.voter o.state (λ _. carry.id ∙ id) ok.voter_ids;
     }
 
--- a vote is told again
+-- a vote is reported again
 pub voter_reminds : VoterLaws → (b : Bounds) (X : ℕ → ClientState) (Y : ℕ → VoterState) (sent : List Message) → WorldOk b X Y sent → (v : ℕ) → v < b.voters
     → WorldOk b X Y (sent ++ map kinds.ToClient (voter.remind (Y v)))
 voter_reminds laws b X Y sent ok v within =
     let y = Y v in
     let here = ok.voters v in
-    let told = all_told b v y.seen y here.seen (voter.remind y) (laws.tells y) (laws.places y) (subst (λ i. AllCarry i y.seen (voter.remind y)) (ok.voter_ids v within) (laws.remembers y)) in
+    let heard = all_reported b v y.seen y here.seen (voter.remind y) (laws.reminds y) (laws.places y) (subst (λ i. AllCarry i y.seen (voter.remind y)) (ok.voter_ids v within) (laws.remembers y)) in
     record {
-      messages = AllByRecursion-append (MessageOk X Y) sent _ ok.messages (replies_ok b X Y v y refl here (voter.remind y) told);
-      ranges = AllByRecursion-append (IsInRange b.voters b.clients b.limit) sent _ ok.ranges (replies_range b X v y within here (voter.remind y) told);
+      messages = AllByRecursion-append (MessageOk X Y) sent _ ok.messages (replies_ok b X Y v y refl here (voter.remind y) heard);
+      ranges = AllByRecursion-append (IsInRange b.voters b.clients b.limit) sent _ ok.ranges (replies_range b X v y within here (voter.remind y) heard);
       held = ok.held;
       clients = ok.clients;
       voters = ok.voters;

@@ -6,7 +6,7 @@ use Rattle.message.specs.declared.message.Message.TheVariants as kinds
 use Rattle.message.specs.declared.message.VoterBody.{VoterBody}
 use Rattle.message.specs.declared.message.VoterBody.TheVariants as asks
 use Rattle.message.specs.declared.message.ClientBody.{ClientBody}
-use Rattle.message.specs.declared.message.ClientBody.TheVariants as tells
+use Rattle.message.specs.declared.message.ClientBody.TheVariants as to_client
 use Rattle.voter.specs.declared.state.Grant.{Grant}
 use Rattle.voter.specs.declared.state.VoterState.{VoterState}
 use Rattle.voter.specs.Steps as voter
@@ -32,16 +32,16 @@ AskOk x voter (asks.Release stamp) = (stamp ≤ x.stamp) × (is_idle x.phase ≡
 
 -- What holds of a message to a client, by the client and the voter's vote. A LOCKED carries a stamp
 -- that the client reached, and while it may still count, its grant has the vote.
-abbrev pub TellOk : ClientState → Option Grant → ℕ → ℕ → ClientBody → Type 0
-TellOk x held voter client (tells.Locked stamp grant) =
+abbrev pub ReportOk : ClientState → Option Grant → ℕ → ℕ → ClientBody → Type 0
+ReportOk x held voter client (to_client.Locked stamp grant) =
     (stamp ≤ x.stamp) × (IsLive x voter stamp grant → Names held client stamp grant)
-TellOk x held voter client (tells.Fail stamp) = Unit {0}
-TellOk x held voter client (tells.Inquire grant) = Unit {0}
+ReportOk x held voter client (to_client.Fail stamp) = Unit {0}
+ReportOk x held voter client (to_client.Inquire grant) = Unit {0}
 
 -- what holds of a message, by the clients and the voters
 abbrev pub MessageOk : (ℕ → ClientState) → (ℕ → VoterState) → Message → Type 0
 MessageOk X Y (kinds.ToVoter m) = AskOk (X m.client) m.voter m.body
-MessageOk X Y (kinds.ToClient m) = TellOk (X m.client) (Y m.voter).held m.voter m.client m.body
+MessageOk X Y (kinds.ToClient m) = ReportOk (X m.client) (Y m.voter).held m.voter m.client m.body
 
 -- each vote that a client holds is granted to its request, under the number that the client knows
 abbrev pub HeldOk : (ℕ → ClientState) → (ℕ → VoterState) → Type 0

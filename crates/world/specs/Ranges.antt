@@ -5,7 +5,7 @@ use Rattle.numbers.specs.Bounds.{max_voters, max_clients}
 use Rattle.message.specs.declared.message.Message.{Message}
 use Rattle.message.specs.declared.message.Message.TheVariants as kinds
 use Rattle.message.specs.declared.message.ClientBody.{ClientBody}
-use Rattle.message.specs.declared.message.ClientBody.TheVariants as tells
+use Rattle.message.specs.declared.message.ClientBody.TheVariants as to_client
 use Rattle.message.specs.Lines.{voter_number}
 use Rattle.world.specs.Runs.{DrawsInOrder}
 use Rattle.world.specs.Steps.{WorldState, client_at, voter_at}
@@ -16,10 +16,10 @@ abbrev pub IsWithin : ℕ → ℕ → Type 0
 IsWithin limit n = (1 ≤ n) × (n ≤ limit)
 
 -- the stamps and grants in a message to a client are from 1 to the limit
-abbrev pub TellsWithin : ℕ → ClientBody → Type 0
-TellsWithin limit (tells.Locked stamp grant) = IsWithin limit stamp × IsWithin limit grant
-TellsWithin limit (tells.Fail stamp) = IsWithin limit stamp
-TellsWithin limit (tells.Inquire grant) = IsWithin limit grant
+abbrev pub ReportsWithin : ℕ → ClientBody → Type 0
+ReportsWithin limit (to_client.Locked stamp grant) = IsWithin limit stamp × IsWithin limit grant
+ReportsWithin limit (to_client.Fail stamp) = IsWithin limit stamp
+ReportsWithin limit (to_client.Inquire grant) = IsWithin limit grant
 
 -- The message names a client and a voter of the world. Its stamp and its grant are from 1 to the
 -- limit, and the highest stamp that its voter saw is at most the limit.
@@ -27,7 +27,7 @@ abbrev pub IsInRange : ℕ → ℕ → ℕ → Message → Type 0
 IsInRange voters clients limit (kinds.ToVoter m) =
     (m.client < clients) × (m.voter < voters) × IsWithin limit (voter_number m.body)
 IsInRange voters clients limit (kinds.ToClient m) =
-    (m.client < clients) × (m.voter < voters) × (m.seen ≤ limit) × TellsWithin limit m.body
+    (m.client < clients) × (m.voter < voters) × (m.seen ≤ limit) × ReportsWithin limit m.body
 
 -- each of these messages is in range
 abbrev pub AreInRange : ℕ → ℕ → ℕ → List Message → Type 0

@@ -1,6 +1,5 @@
 //! The cycles of a world's plans.
 ghost use Rattle.std.specs.Prelude.{◌≡◌, ◌≤◌, IfOk, is_some, length};
-ghost use Rattle.certificate.specs.Certificates.{IsCertificate};
 ghost use Rattle.dealer.specs.Plans.{ArePlans};
 ghost use Rattle.world.specs.States.{plans_of};
 ghost use Rattle.world.specs.Steps.{dealing_of, quorum_by, quorum_dealt};

@@ -14,7 +14,7 @@ use dealer::tickets_name_quorums;
 use quorum_set::{bridges_meet, coteries_meet};
 use requester::{requesters_meet_the_contract, requesters_stay_sound};
 use voter::{
-    grants_are_numbered, replies_carry_what_was_seen, replies_tell_the_state,
+    grants_are_numbered, replies_carry_what_was_seen, replies_report_the_state,
     voters_meet_the_contract, voters_stay_sound,
 };
 
@@ -29,7 +29,7 @@ fn runs_are_sound()
     requester::messages_are_in_range();
     voters_meet_the_contract();
     voters_stay_sound();
-    replies_tell_the_state();
+    replies_report_the_state();
     replies_carry_what_was_seen();
     grants_are_numbered();
 }
@@ -45,7 +45,7 @@ fn runs_are_coherent()
     requester::messages_are_in_range();
     voters_meet_the_contract();
     voters_stay_sound();
-    replies_tell_the_state();
+    replies_report_the_state();
     replies_carry_what_was_seen();
     grants_are_numbered();
 }
@@ -81,7 +81,7 @@ pub fn at_most_one_is_inside_with_restarts()
     requester::messages_are_in_range();
     voters_meet_the_contract();
     voters_stay_sound();
-    replies_tell_the_state();
+    replies_report_the_state();
     replies_carry_what_was_seen();
     grants_are_numbered();
 }
@@ -109,7 +109,7 @@ pub fn later_votes_have_greater_numbers()
     requester::messages_are_in_range();
     voters_meet_the_contract();
     voters_stay_sound();
-    replies_tell_the_state();
+    replies_report_the_state();
     replies_carry_what_was_seen();
     grants_are_numbered();
 }
@@ -133,7 +133,7 @@ pub fn later_passes_are_newer()
     requester::messages_are_in_range();
     voters_meet_the_contract();
     voters_stay_sound();
-    replies_tell_the_state();
+    replies_report_the_state();
     replies_carry_what_was_seen();
     grants_are_numbered();
 }

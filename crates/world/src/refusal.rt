@@ -2,7 +2,7 @@
 //! fault applies.
 ghost use Rattle.std.specs.Prelude.{◌≡◌, ◌<◌, length, is_none};
 ghost use Rattle.numbers.specs.Bounds.{max_clients};
-ghost use Rattle.requester.specs.Steps.{Foretells};
+ghost use Rattle.requester.specs.Steps.{Predicts};
 ghost use Rattle.voter.specs.Steps as polls;
 ghost use Rattle.world.specs.declared.step.Step.TheVariants as steps;
 ghost use Rattle.world.specs.Ranges.{IsNumbered};
@@ -30,7 +30,7 @@ fn is_refused(voters: &[Voter], message: &ToVoter) -> bool
 
 impl State {
     fn ask_fault(&self, client: u8) -> Option<WorldFault>
-        ensures { (deal : Dealing) → Foretells result (worlds.step deal (shown self.now) (steps.Ask client)) }
+        ensures { (deal : Dealing) → Predicts result (worlds.step deal (shown self.now) (steps.Ask client)) }
     {
         if let Some(fault) = self.client_fault(client) {
             return Some(fault);
@@ -43,7 +43,7 @@ impl State {
 
     fn deliver_fault(&self, number: u64) -> Option<WorldFault>
         requires { IsNumbered (shown self.now) }
-        ensures { (deal : Dealing) → Foretells result (worlds.step deal (shown self.now) (steps.Deliver number)) }
+        ensures { (deal : Dealing) → Predicts result (worlds.step deal (shown self.now) (steps.Deliver number)) }
     {
         match self.message(number) {
             None => Some(WorldFault::NoSuchMessage(number)),
@@ -59,7 +59,7 @@ impl State {
     }
 
     fn leave_fault(&self, client: u8) -> Option<WorldFault>
-        ensures { (deal : Dealing) → Foretells result (worlds.step deal (shown self.now) (steps.Leave client)) }
+        ensures { (deal : Dealing) → Predicts result (worlds.step deal (shown self.now) (steps.Leave client)) }
     {
         if let Some(fault) = self.client_fault(client) {
             return Some(fault);
@@ -71,7 +71,7 @@ impl State {
     }
 
     fn give_up_fault(&self, client: u8) -> Option<WorldFault>
-        ensures { (deal : Dealing) → Foretells result (worlds.step deal (shown self.now) (steps.GiveUp client)) }
+        ensures { (deal : Dealing) → Predicts result (worlds.step deal (shown self.now) (steps.GiveUp client)) }
     {
         if let Some(fault) = self.client_fault(client) {
             return Some(fault);
@@ -84,13 +84,13 @@ impl State {
 
     fn remind_client_fault(&self, client: u8) -> Option<WorldFault>
         ensures { (deal : Dealing)
-            → Foretells result (worlds.step deal (shown self.now) (steps.RemindClient client)) }
+            → Predicts result (worlds.step deal (shown self.now) (steps.RemindClient client)) }
     {
         self.client_fault(client)
     }
 
     fn remind_voter_fault(&self, voter: u8) -> Option<WorldFault>
-        ensures { (deal : Dealing) → Foretells result (worlds.step deal (shown self.now) (steps.RemindVoter voter)) }
+        ensures { (deal : Dealing) → Predicts result (worlds.step deal (shown self.now) (steps.RemindVoter voter)) }
     {
         self.voter_fault(voter)
     }
@@ -99,7 +99,7 @@ impl State {
     /// none.
     pub fn refusal(&self, cycles: &Cycles, step: Step) -> Option<WorldFault>
         requires { IsNumbered (shown self.now) }
-        ensures { Foretells result (worlds.step (dealing_of (plans_of cycles.now)) (shown self.now) step) }
+        ensures { Predicts result (worlds.step (dealing_of (plans_of cycles.now)) (shown self.now) step) }
     {
         match step {
             Step::Ask(client) => self.ask_fault(client),

@@ -84,11 +84,11 @@ impl World {
     ///
     /// Fails with the first of these that applies:
     ///
-    /// - U1 to U3 if no message, client or voter has the step's number;
-    /// - U4 if the step exchanges the plan, and there is no second one or it is in use already;
-    /// - C1 to C4 if the client's call fails;
-    /// - V1 if the voter refuses the message;
-    /// - O1 if out of memory.
+    /// - `NoSuchMessage`, `NoSuchClient` or `NoSuchVoter` if none has the step's number;
+    /// - `NoSecondPlan` if the step exchanges the plan, and there is none or it is in use already;
+    /// - the client's fault if its call fails;
+    /// - `GrantsSpent` if the voter refuses the message;
+    /// - `OutOfMemory`.
     pub fn step(&mut self, step: Step) -> Result<Stepped, WorldFault>
         ensures stepped { IfOk result (λ s. step_of self.old step ≡ Ok (outcome_of s self.new.state)) }
         ensures refused { IfErr result (Refuses (step_of self.old step)) }

@@ -4,7 +4,7 @@ use Rattle.words.proofs.read_words.Goals as goal
 
 pub loop-i-preserved : goal.loop-i-preserved
 loop-i-preserved g c = record {
-  told = bytes_of-more c.args.bytes.now c.loop-i.words.items c.push.new.self.items c.loop-i.i c.word_at.result c.loop-i.invariant.told c.word_at.ensures.text c.push.ensures.items;
+  heard = bytes_of-more c.args.bytes.now c.loop-i.words.items c.push.new.self.items c.loop-i.i c.word_at.result c.loop-i.invariant.heard c.word_at.ensures.text c.push.ensures.items;
   fit = FitIn64Bits-more c.loop-i.words.items c.push.new.self.items c.word_at.result c.loop-i.invariant.fit c.word_at.ensures.fits c.push.ensures.items;
   len = let a = c.push.ensures.len in let b = c.loop-i.invariant.len in omega arith;
 }

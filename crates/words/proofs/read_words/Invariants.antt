@@ -5,7 +5,7 @@ use Rattle.words.proofs.read_words.Given as goal
 
 abbrev pub invariant-loop-i : goal.invariant-loop-i
 invariant-loop-i g l = record {
-  told : bytes_of l.words.items ≡ take (8 * l.i) l.bytes;
+  heard : bytes_of l.words.items ≡ take (8 * l.i) l.bytes;
   fit : FitIn64Bits l.words.items;
   len : array_vec_len l.words ≡ l.i;
 }

@@ -4,6 +4,6 @@ use Rattle.words.proofs.write_words.Given as goal
 
 abbrev pub invariant-loop-i : goal.invariant-loop-i
 invariant-loop-i l = record {
-  told : take (8 * l.i) l.bytes ≡ bytes_of (take l.i l.words);
+  heard : take (8 * l.i) l.bytes ≡ bytes_of (take l.i l.words);
   len : length l.bytes ≡ length l.fn.bytes;
 }

@@ -9,5 +9,6 @@ split_seat-requires g c =
     let there = c.requires.there in (
       c.requires.table.0,
       c.requires.table.1,
-      Splits-without_voter c.args.table.now.shared.key _ _ g.N.Number.number (subst (λ (n : ℕ). n < 64) pick there.0) there.1 (ap (slice_index c.args.seat.now.me.0.voters) (sym pick) ∙ there.2) there.3,
+      Splits-without_voter c.args.table.now.shared.key _ _ g.N.Number.number (subst (λ (n : ℕ). n < 64) pick there.0) there.1
+          (ap (slice_index c.args.seat.now.me.0.voters) (sym pick) ∙ there.2) there.3,
     )

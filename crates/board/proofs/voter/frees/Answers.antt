@@ -13,7 +13,8 @@ compare_exchange-requires c =
     let known = subst (λ (v : ℕ). IsSettledFrom c.args.vote (λ current. (c.args.seat.now.me ≡ (voter_view v (Some current), [])) × IsCurrent (Some current) (2 ^ 40))) (sym at) c.requires.seat in (
       c.requires.table.0,
       omega (arith, c.requires.table.1, c.requires.voter.0),
-      Settled-allowed_by_vote c.args.table.now.shared.key _ _ _ c.from.result c.args.vote _ _ (omega (arith, c.requires.voter.0)) (omega (arith, c.requires.voter.1)) known c.word-word.ensures c.word.ensures,
+      Settled-allowed_by_vote c.args.table.now.shared.key _ _ _ c.from.result c.args.vote _ _ (omega (arith, c.requires.voter.0))
+          (omega (arith, c.requires.voter.1)) known c.word-word.ensures c.word.ensures,
     )
 
 pub returns-clause-seat : goal.returns-clause-seat

@@ -1,4 +1,5 @@
-use Rattle.certificate.proofs.UnitCapacities.{AreCapacities-unit_capacities, IsCertificate-IsUnitCertificate, IsOptimal-IsUnitOptimal, IsUnitCertificate-IsCertificate, IsUnitOptimal-IsOptimal, are_unit-iff, are_unit-unit_capacities, greatest_ratio-are_unit, length-unit_capacities, load_of-are_unit}
+use Rattle.certificate.proofs.UnitCapacities.{AreCapacities-unit_capacities, IsCertificate-IsUnitCertificate, IsOptimal-IsUnitOptimal, IsUnitCertificate-IsCertificate}
+use Rattle.certificate.proofs.UnitCapacities.{IsUnitOptimal-IsOptimal, are_unit-iff, are_unit-unit_capacities, greatest_ratio-are_unit, length-unit_capacities, load_of-are_unit}
 use Rattle.certificate.proofs.laws.unit_capacities_change_nothing.Goals as goal
 
 pub returns-clause-ratio : goal.returns-clause-ratio

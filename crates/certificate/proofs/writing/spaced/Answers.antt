@@ -10,6 +10,7 @@ loop-k-preserved c =
       | then-k-gt0+in_ok-push w ↦
           let said = w.in_ok-push.ensures in
           let push : string_bytes w.push.new.self ≡ string_bytes c.loop-k.text ++ 32 ∷ [] = said.bytes ∙ ap (λ t. string_bytes c.loop-k.text ++ t) (said.ascii (omega arith)) in
-          spaced-next (string_bytes c.write.new.self) (string_bytes c.if-k-gt0.text) (string_bytes w.push.new.self) (string_bytes c.loop-k.text) c.args.numbers.now c.loop-k.k w.if-k-gt0.true (omega arith) c.in_ok-write.ensures.bytes (ap string_bytes w.text-is) push c.loop-k.invariant
+          spaced-next (string_bytes c.write.new.self) (string_bytes c.if-k-gt0.text) (string_bytes w.push.new.self) (string_bytes c.loop-k.text) c.args.numbers.now c.loop-k.k w.if-k-gt0.true
+          (omega arith) c.in_ok-write.ensures.bytes (ap string_bytes w.text-is) push c.loop-k.invariant
       | else-k-gt0 w ↦ spaced-first _ _ _ c.args.numbers.now c.loop-k.k w.if-k-gt0.false (omega arith) c.in_ok-write.ensures.bytes (ap string_bytes w.text-is) c.loop-k.invariant
     ]

@@ -18,5 +18,6 @@ returns-clause-let_pass g c =
 
 pub returns-clause-in_turns : goal.returns-clause-in_turns
 returns-clause-in_turns g c =
-    subst (λ n. TookTurns n c.args.member.now c.serve_on-2.new.member) c.new-turns.ensures (TookTurns-then c.new-turns.result c.serve_on.new.turns _ c.args.member.now c.serve_on.new.member c.exchange.new.member c.serve_on-2.new.member
+    subst (λ n. TookTurns n c.args.member.now c.serve_on-2.new.member) c.new-turns.ensures
+    (TookTurns-then c.new-turns.result c.serve_on.new.turns _ c.args.member.now c.serve_on.new.member c.exchange.new.member c.serve_on-2.new.member
     c.in-Ok.ensures.served c.exchange.ensures c.in-Ok.ensures.left c.serve_on-2.ensures.in_turns)

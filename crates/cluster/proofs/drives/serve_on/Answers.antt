@@ -30,4 +30,5 @@ pub returns-in-Err-clause-in_turns : goal.returns-in-Err-clause-in_turns
 returns-in-Err-clause-in_turns g c =
     let fault = c.in-Err.fault in
     let worked = Worked-stopped c.loop.counter c.args.member.now c.loop.member c.pass_once.new.member c.end.new.member fault c.loop.invariant.0 c.in-Err.ensures.stopped c.end.ensures.kept in
-    subst (λ (m : MemberState). TookTurns c.args.turns.now c.args.member.now m) (sym c.ends_by-in-Err.ensures) (TookTurns-Worked c.args.turns.now _ c.loop.counter c.args.member.now _ worked (omega (arith, c.loop.invariant.1)))
+    subst (λ (m : MemberState). TookTurns c.args.turns.now c.args.member.now m) (sym c.ends_by-in-Err.ensures)
+    (TookTurns-Worked c.args.turns.now _ c.loop.counter c.args.member.now _ worked (omega (arith, c.loop.invariant.1)))

@@ -17,7 +17,8 @@ returns-in-Some-clause-some c =
     let rows = rows_of (found_of c.args.used.now) in
     let texts = map (λ t. t.now) c.in-Some.texts.now in
     let are = size_texts-given rows _ texts (raw_values-rows (found_of c.args.used.now) (codes "NUMBERS")) c.in-Some.ensures in
-    IfOk-weaker c.sizes_of.result (λ o. IfSome o (λ v. AreSizes texts v.items)) (λ o. IfSome o (λ v. AreSizes (size_texts rows) v.items)) (AreSizes-some (λ v. v.items) rows texts are) c.sizes_of.ensures.some
+    IfOk-weaker c.sizes_of.result (λ o. IfSome o (λ v. AreSizes texts v.items)) (λ o. IfSome o (λ v. AreSizes (size_texts rows) v.items))
+    (AreSizes-some (λ v. v.items) rows texts are) c.sizes_of.ensures.some
 
 pub returns-in-Some-clause-none : goal.returns-in-Some-clause-none
 returns-in-Some-clause-none c =

@@ -10,11 +10,11 @@ pub loop-i-preserved : goal.loop-i-preserved
 loop-i-preserved g c = λ p agrees.
     let i = c.loop-i.i in
     let lt : i < 64 = omega arith in
-    let told : c.passes.result ≡ p i = agrees i c.passes.result lt c.passes.ensures in
+    let heard : c.passes.result ≡ p i = agrees i c.passes.result lt c.passes.ensures in
     elim c.if-passes.branch [
       | then-passes w ↦
-          rw w.set-is (w.insert.ensures.members ∙ passed_below-more p i c.loop-i.set (c.loop-i.invariant p agrees) (sym told ∙ w.if-passes.true))
-      | else-passes w ↦ rw w.set-is (c.loop-i.invariant p agrees ∙ passed_below-other p i (sym told ∙ w.if-passes.false))
+          rw w.set-is (w.insert.ensures.members ∙ passed_below-more p i c.loop-i.set (c.loop-i.invariant p agrees) (sym heard ∙ w.if-passes.true))
+      | else-passes w ↦ rw w.set-is (c.loop-i.invariant p agrees ∙ passed_below-other p i (sym heard ∙ w.if-passes.false))
     ]
 
 pub returns : goal.returns

@@ -11,7 +11,8 @@ returns-then-not-is_new c =
     let names = c.args.names.now in
     let text = c.as_str.result.now in
     let there = seen_at names c.loop-i.i text c.loop-i.seen.keys c.loop-i.invariant.0 in
-    sym c.loop-i.invariant.1 ∙ repeat_here names c.loop-i.i c.index-names-i.result text (omega arith) c.index-names-i.is c.as_str.ensures.value (sym there ∙ not-false _ (sym c.in_ok-is_new.ensures.added ∙ c.if-not-is_new.true))
+    sym c.loop-i.invariant.1 ∙ repeat_here names c.loop-i.i c.index-names-i.result text (omega arith) c.index-names-i.is c.as_str.ensures.value
+    (sym there ∙ not-false _ (sym c.in_ok-is_new.ensures.added ∙ c.if-not-is_new.true))
 
 pub loop-i-preserved : goal.loop-i-preserved
 loop-i-preserved c =

@@ -8,7 +8,14 @@ pub overflow_add-end : goal.overflow_add-end
 overflow_add-end c =
     let weights = c.args.plan.now.quorum_weights in
     let is = c.weight-end.ensures.certificate in
-    omega (arith, c.weight-end.ensures.value, c.loop-quorum.invariant.end_is, weight_to-fits weights c.loop-quorum.quorum (omega (arith, is.quorums, ap (λ (s : QuorumSystem). length s.quorums) c.coterie.ensures.value)), is.few_quorums)
+    omega (
+      arith,
+      c.weight-end.ensures.value,
+      c.loop-quorum.invariant.end_is,
+      weight_to-fits weights c.loop-quorum.quorum
+          (omega (arith, is.quorums, ap (λ (s : QuorumSystem). length s.quorums) c.coterie.ensures.value)),
+      is.few_quorums,
+    )
 
 pub loop-quorum-preserved : goal.loop-quorum-preserved
 loop-quorum-preserved c =

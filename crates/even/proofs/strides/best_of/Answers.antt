@@ -1,9 +1,8 @@
 use Rattle.std.specs.Prelude.{◌==◌}
-use Rattle.std.proofs.Common.{◌≤◌, ◌<◌, ℕ, List, [], ◌∷◌, length, get_or, filter, map, take, suc, sym, ap, ◌∙◌, subst, inl, inr, arith}
+use Rattle.std.proofs.Common.{◌≤◌, ◌<◌, ℕ, List, [], ◌∷◌, ◌++◌, length, get_or, filter, map, take, sym, ap, ◌∙◌, subst, inl, inr, arith}
 use Rattle.std.specs.Int.{IsGcd}
-use Rattle.std.specs.List.{All, Contains, range_with_len}
+use Rattle.std.specs.List.{All, range_with_len}
 use Rattle.std.proofs.lemmas.List.{take_all, take_more}
-use Rattle.std.proofs.lemmas.List.Elements.{Contains-get_or}
 use Rattle.std.proofs.Math.Nat.{one-dvd}
 use Rattle.numbers.specs.Bounds.{max_cycle}
 use Rattle.divisor.specs.Gcd.{gcd_of}
@@ -11,8 +10,8 @@ use Rattle.certificate.specs.Certificates.{Weighted, cycle_len}
 use Rattle.even.specs.declared.strides.Choice.{Choice}
 use Rattle.even.specs.EvenCycles.{IsFair}
 use Rattle.even.specs.Slacks.{IsExcess}
-use Rattle.even.specs.Strides.{stride_at, strides_tried, with_stride, IsBestOf}
-use Rattle.even.proofs.SlackLemmas.{IsBestOf-more, IsBestOf-one}
+use Rattle.even.specs.Strides.{stride_at, strides_tried, with_stride, IsFirstBest}
+use Rattle.even.proofs.SlackLemmas.{IsFirstBest-kept, IsFirstBest-next, IsFirstBest-one}
 use Rattle.even.proofs.strides.best_of.Goals.{After-deref-stride-items}
 use Rattle.even.proofs.strides.best_of.Goals as goal
 
@@ -20,12 +19,12 @@ use Rattle.even.proofs.strides.best_of.Goals as goal
 one_is_fair : (w : Weighted) → IsFair (with_stride w 1)
 one_is_fair w = (one-dvd 1, one-dvd (cycle_len w), λ d a b. a)
 
--- what is known of the choice that is kept, besides that it is the best
+-- what is known of the choice that is kept
 record IsChoice (w : Weighted) (strides : List ℕ) (choice : Choice) : Type 0 where
   short : choice.stride ≤ max_cycle
-  listed : Contains (1 ∷ strides) choice.stride
   fair : IsFair (with_stride w choice.stride)
   smallest : IsExcess (with_stride w choice.stride) choice.excess
+  first : IsFirstBest strides (with_stride w choice.stride)
 
 -- the strides that are tried are fair, and short
 strides_fair : (c : After-deref-stride-items) → All (λ s. IsFair (with_stride c.args.plan.now s)) c.deref-stride-items.result.now
@@ -46,10 +45,9 @@ loop-stride-init c =
     let one = c.in_ok-best.ensures.stride in
     record {
       short = omega (arith, one);
-      tried = (0, omega arith, sym one);
       fair = subst (λ s. IsFair (with_stride w s)) (sym one) (one_is_fair w);
       excess = subst (λ s. IsExcess (with_stride w s) best.excess) (sym one) c.in_ok-best.ensures.excess;
-      best = subst (λ s. IsBestOf (1 ∷ []) (with_stride w s)) (sym one) (IsBestOf-one w 1);
+      first = subst (λ s. IsFirstBest (1 ∷ []) (with_stride w s)) (sym one) (IsFirstBest-one w 1);
     }
 
 pub tried-requires-in-loop-stride-clause-fair : goal.tried-requires-in-loop-stride-clause-fair
@@ -65,38 +63,41 @@ loop-stride-preserved c =
     let was = c.loop-stride.invariant in
     let lt : i < length items = omega arith in
     let s = get_or items i 0 in
+    let before = 1 ∷ take i items in
+    let after = before ++ s ∷ [] in
     let best = c.loop-stride.best in
     let next = c.in_ok-tried.field-0 in
-    let kept = c.better_of-best.result in
     let is = c.in_ok-tried.ensures.stride in
-    let next_excess = c.in_ok-tried.ensures.excess in
-    let of_best : IsChoice w items best = record { short = was.short; listed = was.tried; fair = was.fair; smallest = was.excess } in
-    let of_next : IsChoice w items next = record {
-      short = omega (arith, is, strides_short at i 0 lt);
-      listed = subst (λ x. Contains (1 ∷ items) x) (sym is) (Contains-get_or (1 ∷ items) (suc i) 0 (omega arith));
-      fair = subst (λ x. IsFair (with_stride w x)) (sym is) (strides_fair at i 0 lt);
-      smallest = subst (λ x. IsExcess (with_stride w x) next.excess) (sym is) next_excess;
+    let of_next : IsExcess (with_stride w s) next.excess = c.in_ok-tried.ensures.excess in
+    let kept_first : best.excess ≤ next.excess → IsChoice w after best = λ le. record {
+      short = was.short;
+      fair = was.fair;
+      smallest = was.excess;
+      first = IsFirstBest-kept w before best.stride best.excess s next.excess was.excess of_next le was.first;
     } in
-    let of_kept : IsChoice w items kept = elim c.better_of-best.ensures.one_of [
-      | inl same ↦ subst (λ (x : Choice). IsChoice w items x) (sym same) of_best
-      | inr same ↦ subst (λ (x : Choice). IsChoice w items x) (sym same) of_next
+    let next_first : next.excess < best.excess → IsChoice w after next = λ less. record {
+      short = omega (arith, is, strides_short at i 0 lt);
+      fair = subst (λ x. IsFair (with_stride w x)) (sym is) (strides_fair at i 0 lt);
+      smallest = subst (λ x. IsExcess (with_stride w x) next.excess) (sym is) of_next;
+      first = subst (λ x. IsFirstBest after (with_stride w x)) (sym is) (IsFirstBest-next w before best.stride best.excess s next.excess was.excess of_next less was.first);
+    } in
+    let of_kept : IsChoice w after c.better_of-best.result = elim c.better_of-best.ensures.one_of [
+      | inl same ↦ subst (λ (x : Choice). IsChoice w after x) (sym same.0) (kept_first same.1)
+      | inr same ↦ subst (λ (x : Choice). IsChoice w after x) (sym same.0) (next_first same.1)
     ] in
-    let more = IsBestOf-more w (1 ∷ take i items) best.stride best.excess s next.excess kept.stride kept.excess was.excess next_excess of_kept.smallest
-    c.better_of-best.ensures.first c.better_of-best.ensures.second was.best in
     record {
       short = of_kept.short;
-      tried = of_kept.listed;
       fair = of_kept.fair;
       excess = of_kept.smallest;
-      best = subst (λ (list : List ℕ). IsBestOf (1 ∷ list) (with_stride w kept.stride)) (sym (take_more items i 0 lt)) more;
+      first = subst (λ (list : List ℕ). IsFirstBest (1 ∷ list) (with_stride w c.better_of-best.result.stride)) (sym (take_more items i 0 lt)) of_kept.first;
     }
 
-pub returns-clause-best : goal.returns-clause-best
-returns-clause-best c =
+pub returns-clause-first : goal.returns-clause-first
+returns-clause-first c =
     let w = c.args.plan.now in
     let items = c.deref-stride-items.result.now in
     let all = take_all c.loop-stride.stride-index items (omega arith)
     ∙ c.deref-stride-items.ensures.value
     ∙ c.in_ok-strides.ensures.value
     ∙ ap (λ len. take (strides_tried len) (filter (λ s. gcd_of s len == 1) (map (stride_at len) (range_with_len 0 len)))) c.cycle_len.ensures.value in
-    subst (λ (list : List ℕ). IsBestOf (1 ∷ list) (with_stride w c.loop-stride.best.stride)) all c.loop-stride.invariant.best
+    subst (λ (list : List ℕ). IsFirstBest (1 ∷ list) (with_stride w c.loop-stride.best.stride)) all c.loop-stride.invariant.first

@@ -1,16 +1,14 @@
 use Rattle.std.proofs.Common.{◌≤◌, ◌∷◌, take}
-use Rattle.std.specs.List.{Contains}
 use Rattle.numbers.specs.Bounds.{max_cycle}
 use Rattle.even.specs.EvenCycles.{IsFair}
 use Rattle.even.specs.Slacks.{IsExcess}
-use Rattle.even.specs.Strides.{with_stride, IsBestOf}
+use Rattle.even.specs.Strides.{with_stride, IsFirstBest}
 use Rattle.even.proofs.strides.best_of.Given as goal
 
 abbrev pub invariant-loop-stride : goal.invariant-loop-stride
 invariant-loop-stride l = record {
   short : l.best.stride ≤ max_cycle;
-  tried : Contains (1 ∷ l.stride-items) l.best.stride;
   fair : IsFair (with_stride l.plan l.best.stride);
   excess : IsExcess (with_stride l.plan l.best.stride) l.best.excess;
-  best : IsBestOf (1 ∷ take l.stride-index l.stride-items) (with_stride l.plan l.best.stride);
+  first : IsFirstBest (1 ∷ take l.stride-index l.stride-items) (with_stride l.plan l.best.stride);
 }

@@ -26,7 +26,8 @@ loop-turn-preserved c =
           let one : gcd_of (stride_at len turn) len ≡ 1 = ap (λ s. gcd_of s len) (sym at) ∙ sym w.gcd.ensures.value ∙ w.if-gcd-eq1.true in
           record {
             strides_are = kept_more passes (stride_at len) most turn stride before c.if-len-most.strides.items was.strides_are (omega arith) at (eq-eqb _ 1 one) pushed;
-            short = subst (λ items. All (λ s. s ≤ max_cycle) items) (sym pushed) (All-push (λ s. s ≤ max_cycle) before stride was.short (omega (arith, c.stride_at-stride.ensures.below, c.requires.short)));
+            short = subst (λ items. All (λ s. s ≤ max_cycle) items) (sym pushed)
+                (All-push (λ s. s ≤ max_cycle) before stride was.short (omega (arith, c.stride_at-stride.ensures.below, c.requires.short)));
             fair = subst (λ items. All (λ s. IsGcd s len 1) items) (sym pushed)
                 (All-push (λ s. IsGcd s len 1) before stride was.fair (subst (λ g. IsGcd stride len g) w.if-gcd-eq1.true w.gcd.ensures.divisor));
           }

@@ -10,7 +10,8 @@ use Rattle.fraction.proofs.Lowest.{IsDivided, IsRatio-divided, IsReduced-divided
 use Rattle.fraction.proofs.frac.reduced.Goals as goal
 
 -- what the calls answered, where the numbers are seen as the code passes them
-IsDivided-passed : (num den num' den' n n' d' : ℤ) (top bottom g : ℕ) → num' ≡ num → den' ≡ den → n' ≡ n → Fits den → top ≡ unsigned_abs num' → bottom ≡ unsigned_abs den' → IsGcd top bottom g → n ≡ signed_of (beq (lt_z num' (pos 0)) (lt_z den' (pos 0))) (top / g) → d' ≡ pos (bottom / g) → IsDivided num den g (record { num = n'; den = d' })
+IsDivided-passed : (num den num' den' n n' d' : ℤ) (top bottom g : ℕ) → num' ≡ num → den' ≡ den → n' ≡ n → Fits den → top ≡ unsigned_abs num' → bottom ≡ unsigned_abs den'
+    → IsGcd top bottom g → n ≡ signed_of (beq (lt_z num' (pos 0)) (lt_z den' (pos 0))) (top / g) → d' ≡ pos (bottom / g) → IsDivided num den g (record { num = n'; den = d' })
 IsDivided-passed num den num' den' n n' d' top bottom g num_is den_is n_is den_fits top_is bottom_is gcd signed d_is =
     let at_top : top ≡ unsigned_abs num = top_is ∙ ap (λ z. unsigned_abs z) num_is in
     let at_bottom : bottom ≡ unsigned_abs den = bottom_is ∙ ap (λ z. unsigned_abs z) den_is in

@@ -23,7 +23,8 @@ loop-j-preserved c =
     let other : FitsSigned w128 (get_or c.args.pivot_row.now j (pos 0)) = search rules in
     let was = c.loop-j.invariant.left j (omega arith) in
     let fits = c.requires.fits j (omega arith) in
-    let back = sym (ap (λ t. combined c.args.row.now t c.args.pivot_row.now (to_z w128 (of_z w128 c.args.taken)) j) (to_z-of_z w128 c.args.scale c.ranges.scale) ∙ ap (λ t. combined c.args.row.now c.args.scale c.args.pivot_row.now t j) (to_z-of_z w128 c.args.taken c.ranges.taken)) in
+    let back = sym (ap (λ t. combined c.args.row.now t c.args.pivot_row.now (to_z w128 (of_z w128 c.args.taken)) j) (to_z-of_z w128 c.args.scale c.ranges.scale)
+    ∙ ap (λ t. combined c.args.row.now c.args.scale c.args.pivot_row.now t j) (to_z-of_z w128 c.args.taken c.ranges.taken)) in
     record {
       done = set-holds_below_next (λ k v. v ≡ combined c.args.row.now (to_z w128 (of_z w128 c.args.scale)) c.args.pivot_row.now (to_z w128 (of_z w128 c.args.taken)) k) _ _ _ lt c.loop-j.invariant.done
           (to_z-of_z_difference _ _ _ _ (to_z-of_z_product _ _ _ at c.ranges.scale was fits.0) (to_z-of_z_product _ _ _ c.ranges.taken other refl fits.1) fits.2 ∙ back);

@@ -13,6 +13,7 @@ loop-entry-preserved c =
     let was = c.loop-entry.invariant.left i (omega arith) in
     record {
       done = set-holds_below_next (λ k v. v *ℤ pos c.args.divisor ≡ get_or c.args.row.now k (pos 0)) _ _ _ lt c.loop-entry.invariant.done
-          (divided_entry _ _ _ _ _ _ (to_z-of_z w128 _ at ∙ was) c.signed.ensures c.quotient.ensures c.unsigned_abs.ensures.value (c.requires.divides i (omega arith)) (record { sfits = c.signed.type_inv }));
+          (divided_entry _ _ _ _ _ _ (to_z-of_z w128 _ at ∙ was) c.signed.ensures c.quotient.ensures c.unsigned_abs.ensures.value (c.requires.divides i (omega arith))
+          (record { sfits = c.signed.type_inv }));
       left = set-keeps_above _ _ _ _ c.loop-entry.invariant.left;
     }

@@ -14,6 +14,7 @@ loop-entry-preserved c =
     let fits = c.requires i (omega arith) in
     let back = sym (ap (λ t. get_or c.args.row.now i (pos 0) *ℤ t) (to_z-of_z w128 c.args.factor c.ranges.factor)) in
     record {
-      done = set-holds_below_next (λ k v. v ≡ get_or c.args.row.now k (pos 0) *ℤ to_z w128 (of_z w128 c.args.factor)) _ _ _ lt c.loop-entry.invariant.done (to_z-of_z_product _ _ _ at c.ranges.factor was fits ∙ back);
+      done = set-holds_below_next (λ k v. v ≡ get_or c.args.row.now k (pos 0) *ℤ to_z w128 (of_z w128 c.args.factor)) _ _ _ lt c.loop-entry.invariant.done
+          (to_z-of_z_product _ _ _ at c.ranges.factor was fits ∙ back);
       left = set-keeps_above _ _ _ _ c.loop-entry.invariant.left;
     }

@@ -9,7 +9,8 @@ loop-i-preserved c =
     let is = c.divisor_of-common.ensures in
     record {
       number = dvd_trans _ is.number c.loop-i.invariant.number;
-      entries = λ k j below. below_more (λ k. (j : ℕ) → j < length (row_at (lists_of c.args.rows.now) k) → c.divisor_of-common.result ∣ unsigned_abs (entry_of (row_at (lists_of c.args.rows.now) k) j)) c.loop-i.i
+      entries = λ k j below. below_more (λ k. (j : ℕ) → j < length (row_at (lists_of c.args.rows.now) k)
+          → c.divisor_of-common.result ∣ unsigned_abs (entry_of (row_at (lists_of c.args.rows.now) k) j)) c.loop-i.i
           (λ k lt j within. dvd_trans _ is.number (c.loop-i.invariant.entries k j lt within))
           (subst (λ r. (j : ℕ) → j < length r → c.divisor_of-common.result ∣ unsigned_abs (entry_of r j)) c.row_of.ensures is.entries) k below j;
       greatest = λ d number entries. is.greatest d (c.loop-i.invariant.greatest d number (λ k j lt. entries k j (omega arith)))

@@ -14,6 +14,7 @@ loop-row-preserved c =
     let old = row_at (lists_of c.args.rows.now) i in
     record {
       done = row_at-stored (λ k r. IsEliminated (row_at (lists_of c.args.rows.now) k) r (to_z w128 (of_z w128 c.args.scale)) c.args.pivot_row.now c.args.column) _ _ _ lt c.loop-row.invariant.done
-          (subst (λ r. IsEliminated old r (to_z w128 (of_z w128 c.args.scale)) c.args.pivot_row.now c.args.column) (sym now) (subst (λ r. IsEliminated r c.eliminate.new.row (to_z w128 (of_z w128 c.args.scale)) c.args.pivot_row.now c.args.column) was c.eliminate.ensures));
+          (subst (λ r. IsEliminated old r (to_z w128 (of_z w128 c.args.scale)) c.args.pivot_row.now c.args.column) (sym now)
+          (subst (λ r. IsEliminated r c.eliminate.new.row (to_z w128 (of_z w128 c.args.scale)) c.args.pivot_row.now c.args.column) was c.eliminate.ensures));
       left = row_at-kept _ _ _ _ c.loop-row.invariant.left;
     }

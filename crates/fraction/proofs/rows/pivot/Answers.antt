@@ -3,7 +3,8 @@ use Rattle.std.specs.Int.{w128}
 use Rattle.std.proofs.lemmas.Int.{to_z-of_z}
 use Rattle.std.proofs.lemmas.List.{length-map}
 use Rattle.fraction.specs.Rows.{lists_of, entry_of, EachFits}
-use Rattle.fraction.proofs.PivotLemmas.{row_at-row, cons-from_length_one, set-from_length_one, scaled_row-equal, AllEliminateFit-as, EachRow-IsEliminated_as, lists_of-parted, AllEliminateFit-above, AllEliminateFit-below, EachFits-pivot_row, IsUnreduced-from_rows}
+use Rattle.fraction.proofs.PivotLemmas.{row_at-row, cons-from_length_one, set-from_length_one, scaled_row-equal, AllEliminateFit-as, EachRow-IsEliminated_as, lists_of-parted}
+use Rattle.fraction.proofs.PivotLemmas.{AllEliminateFit-above, AllEliminateFit-below, EachFits-pivot_row, IsUnreduced-from_rows}
 use Rattle.std.proofs.Common.{List, Vec}
 use Rattle.std.specs.declared.alloc.Global.{Global}
 use Rattle.std.specs.Vec.{with_items}
@@ -24,7 +25,8 @@ eliminate_each-requires c =
     let f : Vec ℤ Global = get_or c.split_at_mut-own.result.0.now 0 c.index-own-0.result in
     let whole = lists_of-parted _ _ _ _ _ f c.split_at_mut-above.ensures.value c.split_at_mut-own.ensures.value (cons-from_length_one _ _ c.split_at_mut-own.ensures.front_len) in
     let count = length-map c.split_at_mut-above.result.0.now (λ row. row.items) ∙ c.split_at_mut-above.ensures.front_len in
-    let entry_is : to_z w128 (of_z w128 c.entry-entry.result) ≡ entry_of f.items c.args.column = to_z-of_z w128 c.entry-entry.result (record { sfits = c.entry-entry.type_inv }) ∙ c.entry-entry.ensures ∙ ap (λ r. entry_of r c.args.column) c.deref.ensures.value in
+    let entry_is : to_z w128 (of_z w128 c.entry-entry.result) ≡ entry_of f.items c.args.column = to_z-of_z w128 c.entry-entry.result (record { sfits = c.entry-entry.type_inv })
+    ∙ c.entry-entry.ensures ∙ ap (λ r. entry_of r c.args.column) c.deref.ensures.value in
     AllEliminateFit-as _ f.items _ (entry_of f.items c.args.column) _ c.args.column c.deref-2.ensures.value entry_is
     (AllEliminateFit-above L _ _ f.items c.args.den c.args.row c.args.column whole count c.requires.level c.requires.column c.requires.fits)
 
@@ -34,7 +36,8 @@ eliminate_each-requires-2 c =
     let f : Vec ℤ Global = get_or c.split_at_mut-own.result.0.now 0 c.index-own-0.result in
     let whole = lists_of-parted _ _ _ _ _ f c.split_at_mut-above.ensures.value c.split_at_mut-own.ensures.value (cons-from_length_one _ _ c.split_at_mut-own.ensures.front_len) in
     let count = length-map c.split_at_mut-above.result.0.now (λ row. row.items) ∙ c.split_at_mut-above.ensures.front_len in
-    let entry_is : to_z w128 (of_z w128 c.entry-entry.result) ≡ entry_of f.items c.args.column = to_z-of_z w128 c.entry-entry.result (record { sfits = c.entry-entry.type_inv }) ∙ c.entry-entry.ensures ∙ ap (λ r. entry_of r c.args.column) c.deref.ensures.value in
+    let entry_is : to_z w128 (of_z w128 c.entry-entry.result) ≡ entry_of f.items c.args.column = to_z-of_z w128 c.entry-entry.result (record { sfits = c.entry-entry.type_inv })
+    ∙ c.entry-entry.ensures ∙ ap (λ r. entry_of r c.args.column) c.deref.ensures.value in
     AllEliminateFit-as _ f.items _ (entry_of f.items c.args.column) _ c.args.column c.deref-3.ensures.value entry_is
     (AllEliminateFit-below L _ _ f.items c.args.den c.args.row c.args.column whole count c.requires.level c.requires.column c.requires.fits)
 
@@ -53,7 +56,8 @@ returns c =
     let f : Vec ℤ Global = get_or c.split_at_mut-own.result.0.now 0 c.index-own-0.result in
     let whole = lists_of-parted _ _ _ _ _ f c.split_at_mut-above.ensures.value c.split_at_mut-own.ensures.value (cons-from_length_one _ _ c.split_at_mut-own.ensures.front_len) in
     let count = length-map c.split_at_mut-above.result.0.now (λ row. row.items) ∙ c.split_at_mut-above.ensures.front_len in
-    let entry_is : to_z w128 (of_z w128 c.entry-entry.result) ≡ entry_of f.items c.args.column = to_z-of_z w128 c.entry-entry.result (record { sfits = c.entry-entry.type_inv }) ∙ c.entry-entry.ensures ∙ ap (λ r. entry_of r c.args.column) c.deref.ensures.value in
+    let entry_is : to_z w128 (of_z w128 c.entry-entry.result) ≡ entry_of f.items c.args.column = to_z-of_z w128 c.entry-entry.result (record { sfits = c.entry-entry.type_inv })
+    ∙ c.entry-entry.ensures ∙ ap (λ r. entry_of r c.args.column) c.deref.ensures.value in
     let v : Vec ℤ Global = with_items f c.scale.new.row in
     let same : length c.scale.new.row ≡ length c.deref_mut.result.now = c.scale.auto.row in
     let now = with_items-items f c.scale.new.row _ same c.deref_mut.ensures.value in

@@ -21,7 +21,8 @@ pub reduce-requires-clause-fits : goal.reduce-requires-clause-fits
 reduce-requires-clause-fits c =
     let t : Table = record { rows = lists_of c.args.rows.now; den = c.args.den } in
     let many = length-map c.pivot.new.rows (λ row. row.items) in
-    let made = subst (λ d. IsUnreduced (record { rows = lists_of c.args.rows.now; den = d }) (lists_of c.pivot.new.rows) c.args.row c.args.column) (to_z-of_z w128 c.args.den c.ranges.den) c.pivot.ensures in
+    let made = subst (λ d. IsUnreduced (record { rows = lists_of c.args.rows.now; den = d }) (lists_of c.pivot.new.rows) c.args.row c.args.column)
+    (to_z-of_z w128 c.args.den c.ranges.den) c.pivot.ensures in
     λ i j lt. Fits-unreduced t (lists_of c.pivot.new.rows) c.args.row c.args.column c.requires.fits made i j (omega arith)
 
 pub returns-clause-value : goal.returns-clause-value
@@ -30,7 +31,8 @@ returns-clause-value c =
     let entry_is : c.entry.result ≡ entry_at t c.args.row c.args.column = c.entry.ensures ∙ ap (λ r. entry_of r c.args.column) c.row_of.ensures in
     let fits : Fits (c.args.den *ℤ c.entry.result) = subst (λ e. Fits (c.args.den *ℤ e)) (sym entry_is) c.requires.fits.den in
     let den_is = to_z-of_z_product c.args.den c.entry.result c.args.den c.ranges.den (record { sfits = c.entry.type_inv }) refl fits ∙ ap (λ e. c.args.den *ℤ e) entry_is in
-    let made = subst (λ d. IsUnreduced (record { rows = lists_of c.args.rows.now; den = d }) (lists_of c.pivot.new.rows) c.args.row c.args.column) (to_z-of_z w128 c.args.den c.ranges.den) c.pivot.ensures in
+    let made = subst (λ d. IsUnreduced (record { rows = lists_of c.args.rows.now; den = d }) (lists_of c.pivot.new.rows) c.args.row c.args.column)
+    (to_z-of_z w128 c.args.den c.ranges.den) c.pivot.ensures in
     let lowest = subst (λ d. IsLowest (lists_of c.pivot.new.rows) (lists_of c.reduce.new.rows) d c.reduce.result) den_is c.reduce.ensures in
     let is = IsPivoted-from_unreduced t (lists_of c.pivot.new.rows) (lists_of c.reduce.new.rows) c.reduce.result c.args.row c.args.column made lowest in
     let result_is = to_z-of_z w128 c.reduce.result (record { sfits = c.reduce.type_inv }) in
@@ -42,7 +44,8 @@ returns-clause-table c =
     let entry_is : c.entry.result ≡ entry_at t c.args.row c.args.column = c.entry.ensures ∙ ap (λ r. entry_of r c.args.column) c.row_of.ensures in
     let fits : Fits (c.args.den *ℤ c.entry.result) = subst (λ e. Fits (c.args.den *ℤ e)) (sym entry_is) c.requires.fits.den in
     let den_is = to_z-of_z_product c.args.den c.entry.result c.args.den c.ranges.den (record { sfits = c.entry.type_inv }) refl fits ∙ ap (λ e. c.args.den *ℤ e) entry_is in
-    let made = subst (λ d. IsUnreduced (record { rows = lists_of c.args.rows.now; den = d }) (lists_of c.pivot.new.rows) c.args.row c.args.column) (to_z-of_z w128 c.args.den c.ranges.den) c.pivot.ensures in
+    let made = subst (λ d. IsUnreduced (record { rows = lists_of c.args.rows.now; den = d }) (lists_of c.pivot.new.rows) c.args.row c.args.column)
+    (to_z-of_z w128 c.args.den c.ranges.den) c.pivot.ensures in
     let lowest = subst (λ d. IsLowest (lists_of c.pivot.new.rows) (lists_of c.reduce.new.rows) d c.reduce.result) den_is c.reduce.ensures in
     let is = IsPivoted-from_unreduced t (lists_of c.pivot.new.rows) (lists_of c.reduce.new.rows) c.reduce.result c.args.row c.args.column made lowest in
     let result_is = to_z-of_z w128 c.reduce.result (record { sfits = c.reduce.type_inv }) in

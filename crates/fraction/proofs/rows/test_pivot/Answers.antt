@@ -14,7 +14,9 @@ use Rattle.fraction.proofs.rows.test_pivot.Goals as goal
 pub returns-then-are_small-clause-fits : goal.returns-then-are_small-clause-fits
 returns-then-are_small-clause-fits c =
     let many = length-map c.args.rows.now (λ row. row.items) in
-    let small = PivotFits-small (lists_of c.args.rows.now) c.args.den c.args.row c.args.column (subst (λ z. unsigned_abs z ≤ 2 ^ 62) (to_z-of_z w128 c.args.den c.ranges.den) (c.is_small_number.ensures c.if-is_small_number.true)) (c.are_small.ensures c.if-are_small.true) (omega arith) c.requires.level c.requires.column in
+    let small = PivotFits-small (lists_of c.args.rows.now) c.args.den c.args.row c.args.column
+    (subst (λ z. unsigned_abs z ≤ 2 ^ 62) (to_z-of_z w128 c.args.den c.ranges.den) (c.is_small_number.ensures c.if-is_small_number.true)) (c.are_small.ensures c.if-are_small.true)
+    (omega arith) c.requires.level c.requires.column in
     (λ ok. small, λ fits. refl)
 
 pub returns-in_err-test_scale-clause-fits : goal.returns-in_err-test_scale-clause-fits
@@ -22,14 +24,17 @@ returns-in_err-test_scale-clause-fits c =
     let many = length-map c.args.rows.now (λ row. row.items) in
     let inside : c.args.row < length (lists_of c.args.rows.now) = omega arith in
     IsOk-iff_unmet _ _ c.from_residual-in_err-test_scale.ensures.0
-    (λ fits. false≢true (c.in_err-test_scale.ensures.fits.1 (subst (λ d. EachFits c.row_of-pivot_row.result.now d) (sym (to_z-of_z w128 c.args.den c.ranges.den)) (subst (λ r. EachFits r c.args.den) (sym c.row_of-pivot_row.ensures) (λ j within. fits.pivot_row j (inside, within))))))
+    (λ fits. false≢true (c.in_err-test_scale.ensures.fits.1 (subst (λ d. EachFits c.row_of-pivot_row.result.now d) (sym (to_z-of_z w128 c.args.den c.ranges.den))
+    (subst (λ r. EachFits r c.args.den) (sym c.row_of-pivot_row.ensures) (λ j within. fits.pivot_row j (inside, within))))))
 
 pub returns-clause-fits : goal.returns-clause-fits
 returns-clause-fits c =
     let L = lists_of c.args.rows.now in
     let entry_is : c.entry-entry.result ≡ entry_of (row_at L c.args.row) c.args.column = c.entry-entry.ensures ∙ ap (λ r. entry_of r c.args.column) c.row_of-pivot_row.ensures in
-    let passed : to_z w128 (of_z w128 c.entry-entry.result) ≡ entry_of (row_at L c.args.row) c.args.column = to_z-of_z w128 c.entry-entry.result (record { sfits = c.entry-entry.type_inv }) ∙ entry_is in
+    let passed : to_z w128 (of_z w128 c.entry-entry.result) ≡ entry_of (row_at L c.args.row) c.args.column = to_z-of_z w128 c.entry-entry.result (record { sfits = c.entry-entry.type_inv })
+    ∙ entry_is in
     let at : Fits (c.args.den *ℤ entry_of (row_at L c.args.row) c.args.column) = Fits-product _ _ _ _ (to_z-of_z w128 c.args.den c.ranges.den) passed c.in_ok-product.ensures.1 in
-    let own : EachFits (row_at L c.args.row) c.args.den = subst (λ d. EachFits (row_at L c.args.row) d) (to_z-of_z w128 c.args.den c.ranges.den) (subst (λ r. EachFits r (to_z w128 (of_z w128 c.args.den))) c.row_of-pivot_row.ensures (c.in_ok-test_scale.ensures.fits.0 refl)) in
+    let own : EachFits (row_at L c.args.row) c.args.den = subst (λ d. EachFits (row_at L c.args.row) d) (to_z-of_z w128 c.args.den c.ranges.den)
+    (subst (λ r. EachFits r (to_z w128 (of_z w128 c.args.den))) c.row_of-pivot_row.ensures (c.in_ok-test_scale.ensures.fits.0 refl)) in
     let others = subst (λ s. IsOk c.test_others.result ↔ OthersFit L s c.args.row c.args.column) passed c.test_others.ensures.fits in
     (λ ok. PivotFits-from_parts L c.args.den c.args.row c.args.column at own (others.0 ok), λ fits. others.1 (OthersFit-PivotFits L c.args.den c.args.row c.args.column fits))

@@ -2,7 +2,7 @@ use Rattle.std.proofs.Common.{◌≡◌, ◌<◌, ◌≤◌, IfSome, subst, [], 
 use Rattle.std.proofs.lemmas.List.{get_or-set_other}
 use Rattle.std.proofs.lemmas.List.FromFn.{map-range_with_len_more}
 use Rattle.board.specs.Seats.{RootState}
-use Rattle.members.specs.Clerks.{ClerksState, fresh_clerks, less_each}
+use Rattle.clerks.specs.Clerks.{ClerksState, fresh_clerks, less_each}
 use Rattle.members.specs.Clusters.{names_in}
 use Rattle.members.proofs.ClerkLemmas.{less_each-fresh, rest-fresh}
 use Rattle.members.specs.Members.{fresh_member}

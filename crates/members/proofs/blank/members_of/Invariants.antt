@@ -1,6 +1,6 @@
 use Rattle.std.proofs.Common.{◌≡◌, ℕ, ◌+◌, ◌-◌, ◌*◌, ◌≤◌, false, get_or, nat_lt, map}
 use Rattle.std.specs.List.{range_with_len}
-use Rattle.members.specs.Clerks.{fresh_clerks}
+use Rattle.clerks.specs.Clerks.{fresh_clerks}
 use Rattle.members.specs.Clusters.{names_in}
 use Rattle.members.specs.Members.{fresh_member}
 use Rattle.members.proofs.blank.members_of.Given as goal

@@ -1,6 +1,6 @@
 use Rattle.std.proofs.Common.{◌≡◌, ◌+◌, ◌*◌, ◌<◌, ℕ, length, ap, sym, subst, ◌∙◌, arith}
 use Rattle.std.proofs.lemmas.List.{length_push}
-use Rattle.members.specs.Clerks.{ClerksState, HasShare, names_of, receipts_of}
+use Rattle.clerks.specs.Clerks.{ClerksState, HasShare, names_of, receipts_of}
 use Rattle.members.specs.Records.{Pass}
 use Rattle.members.proofs.ClerkLemmas.{HasShare-joined_each, receipts_of-joined_each}
 use Rattle.members.proofs.RecordLemmas.{All-all_passes_more, all_passes-more, all_receipts-more, share-more}

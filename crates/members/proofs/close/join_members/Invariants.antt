@@ -1,7 +1,7 @@
 use Rattle.std.proofs.Common.{◌≡◌, ℕ, ◌+◌, ◌*◌, ◌++◌, ◌<◌, length}
 use Rattle.std.specs.List.{All}
 use Rattle.quorum_set.specs.declared.bridge.Side.{Side}
-use Rattle.members.specs.Clerks.{HasShare, names_of, receipts_of}
+use Rattle.clerks.specs.Clerks.{HasShare, names_of, receipts_of}
 use Rattle.members.specs.Records.{all_passes, all_receipts}
 use Rattle.members.proofs.close.join_members.Given as goal
 

@@ -9,7 +9,8 @@ pub returns-in-Ok-clause-lowest : goal.returns-in-Ok-clause-lowest
 returns-in-Ok-clause-lowest c =
     let quorums = with_items_is c.args.candidate.quorum_weights c.divide.new.weights (c.divide.ensures.length ∙ ap length c.deref_mut.ensures.value ∙ sym c.args.candidate.quorum_weights.ok.0) in
     let voters = with_items_is c.args.candidate.voter_weights c.divide-2.new.weights (c.divide-2.ensures.length ∙ ap length c.deref_mut-2.ensures.value ∙ sym c.args.candidate.voter_weights.ok.0) in
-    HaveNoCommonDivisor-divided_plan c.in-Ok.plan _ c.divide.new.weights c.divide-2.new.weights c.in-Ok.ensures.exact.1 quorums voters c.in-Ok.ensures.certificate c.divide.ensures.lowest c.divide-2.ensures.lowest
+    HaveNoCommonDivisor-divided_plan c.in-Ok.plan _ c.divide.new.weights c.divide-2.new.weights c.in-Ok.ensures.exact.1 quorums voters c.in-Ok.ensures.certificate
+    c.divide.ensures.lowest c.divide-2.ensures.lowest
 
 pub returns-in-Err-clause-unreachable : goal.returns-in-Err-clause-unreachable
 returns-in-Err-clause-unreachable c =

@@ -7,4 +7,5 @@ pub loop-weight-preserved : goal.loop-weight-preserved
 loop-weight-preserved c =
     let i : ℕ = c.loop-weight.weight-index in
     let lt : i < length c.loop-weight.weights = omega arith in
-    map_over_more (λ w. w / c.args.divisor) c.args.weights.now c.loop-weight.weights i (get_or c.loop-weight.weights i 0) (omega arith) c.loop-weight.invariant (sym (get_or_default_zero c.loop-weight.weights i (get_or c.loop-weight.weights i 0) lt))
+    map_over_more (λ w. w / c.args.divisor) c.args.weights.now c.loop-weight.weights i (get_or c.loop-weight.weights i 0) (omega arith) c.loop-weight.invariant
+    (sym (get_or_default_zero c.loop-weight.weights i (get_or c.loop-weight.weights i 0) lt))

@@ -7,8 +7,8 @@ returns c =
     let clients : ClientLaws = record {
       meets = c.requesters_meet_the_contract.ensures.steps;
       clock = c.clocks_never_fall.ensures;
-      inside = c.phases_tell_votes.ensures.inside;
-      busy = c.phases_tell_refusals.ensures.busy;
+      inside = c.phases_show_votes.ensures.inside;
+      busy = c.phases_show_refusals.ensures.busy;
     } in
     let voters : VoterLaws = record {
       meets = c.voters_meet_the_contract.ensures.steps;

@@ -1,13 +1,9 @@
 use Rattle.std.proofs.Common.{subst}
-use Rattle.qlock_cli.specs.Commands.{IsRefusedBy}
-use Rattle.qlock_cli.proofs.ExecuteLemmas.{own_comes_of_known, reading_comes}
+use Rattle.commands.specs.Commands.{IsRefusedBy}
 use Rattle.qlock_cli.proofs.running.execute_run.Goals as goal
-
-pub returns-in-Err-clause-refused : goal.returns-in-Err-clause-refused
-returns-in-Err-clause-refused g c =
-    reading_comes c.args.command.now (g.R.Read.remaining c.args.reader.now.inner) c.in-Err.fault c.in-Err.ensures.refused.0 c.in-Err.ensures.refused.1
 
 pub returns-in-Err-run_answer-clause-refused : goal.returns-in-Err-run_answer-clause-refused
 returns-in-Err-run_answer-clause-refused g c =
-    own_comes_of_known c.args.command.now (g.R.Read.remaining c.args.reader.now.inner) c.in-Ok.input.items c.in-Err-run_answer.fault c.in-Ok.ensures.all c.in-Err-run_answer.ensures.own c.in-Ok.ensures.short
+    c.refusals_come_of_the_input.ensures c.args.command.now (g.R.Read.remaining c.args.reader.now.inner) c.in-Ok.input.items c.in-Err-run_answer.fault c.in-Ok.ensures.all
+    c.in-Err-run_answer.ensures.own c.in-Ok.ensures.short
     (subst (λ input. IsRefusedBy c.args.command.now input c.in-Err-run_answer.fault) c.as_slice.ensures.value c.in-Err-run_answer.ensures.exact)

@@ -1,5 +1,5 @@
 use Rattle.std.proofs.Common.{sym, subst}
-use Rattle.qlock_cli.specs.Commands.{LetsAll}
+use Rattle.commands.specs.Commands.{LetsAll}
 use Rattle.qlock_cli.proofs.running.run_answer.Goals as goal
 
 pub returns-in-Ok-write_record-clause-let_pass : goal.returns-in-Ok-write_record-clause-let_pass

@@ -2,7 +2,7 @@ use Rattle.std.proofs.Common.{◌≡◌, ◌*◌, ℕ, List, length, map, ap, su
 use Rattle.quorum_set.specs.Capacities.{are_unit}
 use Rattle.certificate.specs.Certificates.{Weighted, busiest_count, cycle_len}
 use Rattle.dealer.specs.Accounts.{IsLeastBusiest, IsLeastRatio, IsWholeCycles, ratio_of_cycles}
-use Rattle.members.specs.Records.{Draw}
+use Rattle.run_outcome.specs.Entries.{Draw}
 use Rattle.replay.specs.Records.{IsFound, IsSoundRecord, draws_on, entries_on, tickets_of}
 use Rattle.replay.proofs.SoundLemmas.{IsFirstFault-IsFound, IsSoundRecord-no_fault, IsWholeCycles-tickets}
 use Rattle.replay.proofs.check.check_record.Goals.{After-account}
@@ -11,18 +11,21 @@ use Rattle.replay.proofs.check.check_record.Goals as goal
 pub returns-in-Some-clause-accepted : goal.returns-in-Some-clause-accepted
 returns-in-Some-clause-accepted c = λ sound.
     IsSoundRecord-no_fault c.args.plan.now (entries_on c.args.side c.args.run.now) c.in-Some.fault sound
-    (IsFirstFault-IsFound c.args.plan.now (entries_on c.args.side c.args.run.now) c.in-Some.fault (subst (λ (w : Weighted). IsFound w (entries_on c.args.side c.args.run.now) c.in-Some.fault) c.in-Ok.ensures.cycle c.in-Some.ensures))
+    (IsFirstFault-IsFound c.args.plan.now (entries_on c.args.side c.args.run.now) c.in-Some.fault
+    (subst (λ (w : Weighted). IsFound w (entries_on c.args.side c.args.run.now) c.in-Some.fault) c.in-Ok.ensures.cycle c.in-Some.ensures))
 
 pub returns-in-Some-clause-fault : goal.returns-in-Some-clause-fault
 returns-in-Some-clause-fault c =
-    IsFirstFault-IsFound c.args.plan.now (entries_on c.args.side c.args.run.now) c.in-Some.fault (subst (λ (w : Weighted). IsFound w (entries_on c.args.side c.args.run.now) c.in-Some.fault) c.in-Ok.ensures.cycle c.in-Some.ensures)
+    IsFirstFault-IsFound c.args.plan.now (entries_on c.args.side c.args.run.now) c.in-Some.fault
+    (subst (λ (w : Weighted). IsFound w (entries_on c.args.side c.args.run.now) c.in-Some.fault) c.in-Ok.ensures.cycle c.in-Some.ensures)
 
 -- the tickets fill k cycles of the plan
 whole : (c : After-account) (k : ℕ) → length (draws_on c.args.side c.args.run.now) ≡ k * cycle_len c.args.plan.now → IsWholeCycles c.in-Ok.cycle k c.deref-2.result.now
 whole c k long =
     let plan = c.args.plan.now in
     let are = c.deref-2.ensures.value ∙ c.in_ok-tickets-2.ensures ∙ ap (λ (ds : List Draw). tickets_of ds) c.draws_on-2.ensures in
-    let sound : IsSoundRecord plan (entries_on c.args.side c.args.run.now) = subst (λ (w : Weighted). IsSoundRecord w (entries_on c.args.side c.args.run.now)) c.in-Ok.ensures.cycle c.in_default.ensures in
+    let sound : IsSoundRecord plan (entries_on c.args.side c.args.run.now) = subst
+    (λ (w : Weighted). IsSoundRecord w (entries_on c.args.side c.args.run.now)) c.in-Ok.ensures.cycle c.in_default.ensures in
     IsWholeCycles-tickets c.in-Ok.cycle plan (draws_on c.args.side c.args.run.now) c.deref-2.result.now k c.in-Ok.ensures.cycle are sound.tickets long
 
 pub returns-clause-shares : goal.returns-clause-shares

@@ -1,6 +1,6 @@
 use Rattle.std.proofs.Common.{ℕ, List, subst}
 use Rattle.std.specs.List.{All}
-use Rattle.members.specs.Records.{Draw}
+use Rattle.run_outcome.specs.Entries.{Draw}
 use Rattle.replay.specs.Records.{EachOnce, IsLeast, IsNumberFault, IsRight, IsTicketFault, IsWrong, entries_on}
 use Rattle.replay.proofs.SoundLemmas.{IsFound-numbers, IsFound-tickets, register_at_end}
 use Rattle.replay.proofs.check.fault_of.Goals as goal

@@ -1,25 +1,25 @@
-use Rattle.std.proofs.Common.{arith, inl, inr}
+use Rattle.std.proofs.Common.{arith, inl, inr, refl}
 use Rattle.texts.proofs.FieldLemmas.{some-from_test}
-use Rattle.replay.proofs.RecordBodyLemmas.{entries, GoesOnBehind-from_parts, StopsBehind-from_parts}
 use Rattle.replay.proofs.record_reading.read_body.Goals as goal
 
 pub returns-in_default-clause-bad : goal.returns-in_default-clause-bad
-returns-in_default-clause-bad c =
-    let draws = c.in_ok-draws.draws.items in
-    let passes = c.in_ok-passes.passes.items in
-    inl (
-      draws,
-      passes,
-      StopsBehind-from_parts c.args.text.now c.in_ok-draws.rest.now c.in_ok-passes.rest.now draws passes c.in_ok-draws.ensures c.in_ok-passes.ensures c.in_default.ensures,
-      omega (arith, c.len.ensures, c.len-2.ensures),
-    )
+returns-in_default-clause-bad c = record {
+  draws = c.in_ok-draws.draws.items;
+  passes = c.in_ok-passes.passes.items;
+  last = c.in_ok-passes.rest.now;
+  cut = record { rest = c.in_ok-draws.rest.now; draws_are = c.in_ok-draws.ensures; passes_are = c.in_ok-passes.ensures };
+  place = 2;
+  bad = inl (c.in_default.ensures, refl);
+  line_is = omega (arith, c.len.ensures, c.len-2.ensures);
+}
 
 pub returns-then-not-is_empty-clause-bad : goal.returns-then-not-is_empty-clause-bad
-returns-then-not-is_empty-clause-bad c =
-    let e = entries c.in_ok-draws.draws.items c.in_ok-passes.passes.items c.in-Some.register in
-    let some = some-from_test c.in-Some.rest.now c.if-not-is_empty.ensures in
-    inr (
-      e,
-      GoesOnBehind-from_parts c.args.text.now c.in_ok-draws.rest.now c.in_ok-passes.rest.now c.in-Some.rest.now e some c.in_ok-draws.ensures c.in_ok-passes.ensures c.in-Some.ensures,
-      omega (arith, c.len.ensures, c.len-2.ensures),
-    )
+returns-then-not-is_empty-clause-bad c = record {
+  draws = c.in_ok-draws.draws.items;
+  passes = c.in_ok-passes.passes.items;
+  last = c.in_ok-passes.rest.now;
+  cut = record { rest = c.in_ok-draws.rest.now; draws_are = c.in_ok-draws.ensures; passes_are = c.in_ok-passes.ensures };
+  place = 3;
+  bad = inr (c.in-Some.register, c.in-Some.rest.now, c.in-Some.ensures, some-from_test c.in-Some.rest.now c.if-not-is_empty.ensures, refl);
+  line_is = omega (arith, c.len.ensures, c.len-2.ensures);
+}

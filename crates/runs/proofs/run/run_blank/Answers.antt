@@ -11,7 +11,8 @@ returns-in-Err-clause-ended g c =
     let cluster = g.N.ClusterName.cluster in
     let alone = ap (λ (x : ClusterState). x.second) (sym c.requires.name) ∙ c.requires.alone in
     let quota = subst (λ (x : ClusterState). c.args.passes ≤ x.quota) c.requires.name c.requires.quota in
-    let ended = EndsRun-driven cluster c.args.passes c.in-Ok.members.items c.in-Err.driven.members.items c.in-Err.driven.fault alone c.in-Ok.ensures.members quota c.in-Err.ensures.back c.in-Err.ensures.least in
+    let ended = EndsRun-driven cluster c.args.passes c.in-Ok.members.items c.in-Err.driven.members.items c.in-Err.driven.fault alone c.in-Ok.ensures.members quota
+    c.in-Err.ensures.back c.in-Err.ensures.least in
     subst (λ (x : ClusterState). EndsRun x.board.clients c.from.result) (sym c.requires.name) (subst (EndsRun cluster.board.clients) (sym c.from.ensures) ended)
 
 pub returns-in-Ok-close-clause-run : goal.returns-in-Ok-close-clause-run
@@ -48,4 +49,5 @@ pub unreachable-requires : goal.unreachable-requires
 unreachable-requires g c =
     let cluster = g.N.ClusterName.cluster in
     let refused = subst (RefusesClose cluster c.in-Ok-drive.members.items) c.in-Err-Unready.field-0-is c.in-Err-Unready.ensures.refused in
-    all_ready cluster c.args.passes c.in-Err-Unready.field-0-2 c.in-Ok.members.items c.in-Ok-drive.members.items c.in-Ok.ensures.members c.in-Ok-drive.ensures.served c.in-Ok-drive.ensures.idle refused.1 refused.2
+    all_ready cluster c.args.passes c.in-Err-Unready.field-0-2 c.in-Ok.members.items c.in-Ok-drive.members.items c.in-Ok.ensures.members c.in-Ok-drive.ensures.served
+    c.in-Ok-drive.ensures.idle refused.1 refused.2

@@ -8,6 +8,6 @@ returns c =
       same = c.in_ok-figures.ensures.same;
       most_used_first = c.in_ok-figures.ensures.sorted;
       ties = c.in_ok-figures.ensures.ties;
-      reasons = _;
-      is = four_parts _ _ _ _ _ _ _ _ _ c.new-text.ensures.bytes c.in_ok-push_load.ensures (rw c.as_slice.ensures.value at c.in_ok-push_quorums.ensures) c.in_ok-push_voters.ensures c.in_ok-push_str.ensures.bytes;
+      is = four_parts _ _ _ _ _ _ _ _ _ c.new-text.ensures.bytes c.in_ok-push_load.ensures
+          (rw c.as_slice.ensures.value at c.in_ok-push_quorums.ensures) c.in_ok-push_voters.ensures c.in_ok-push_reasons.ensures;
     }

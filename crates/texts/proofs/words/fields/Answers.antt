@@ -19,7 +19,7 @@ loop-place-preserved g c =
     let pushed : take (place + 1) (set numbers place n) ≡ found ++ n ∷ [] = take_more_set numbers place n here in
     record {
       len = length-set numbers place n ∙ full;
-      told = rw (pushed, fields-push) (inv.told ∙ ap (λ (r : List ℕ). fields found ++ r) c.in_ok-n.ensures.spelled ∙ sym (append_assoc (fields found) (32 ∷ decimal n) next));
+      heard = rw (pushed, fields-push) (inv.heard ∙ ap (λ (r : List ℕ). fields found ++ r) c.in_ok-n.ensures.written ∙ sym (append_assoc (fields found) (32 ∷ decimal n) next));
       left = λ ns len fit e.
           let left = inv.left ns len fit e in
           let taken : length found ≡ place = length-take-le place numbers (omega arith) in
@@ -42,14 +42,14 @@ returns-in_err-n-clause-read g c ns len fit e =
     let more = next_number found c.loop-place.rest.now ns left.0 few left.1 in
     absurd (c.in_err-n.ensures.read more.0 (fields more.1) more.2.small (IsBorder-fields more.1) more.2.rest_is)
 
-pub returns-then-is_empty-clause-spelled : goal.returns-then-is_empty-clause-spelled
-returns-then-is_empty-clause-spelled g c =
+pub returns-then-is_empty-clause-written : goal.returns-then-is_empty-clause-written
+returns-then-is_empty-clause-written g c =
     let inv = c.loop-place.invariant in
     let full = inv.len in
     let test = c.loop-place-test.false in
     let all : take c.loop-place.place c.loop-place.numbers ≡ c.loop-place.numbers = take_all c.loop-place.place c.loop-place.numbers (omega arith) in
     let none : c.loop-place.rest.now ≡ [] = nil_from_length c.loop-place.rest.now (zero-from_test _ c.if-is_empty.ensures) in
-    inv.told ∙ ap (λ (r : List ℕ). fields (take c.loop-place.place c.loop-place.numbers) ++ r) none ∙ append-nil _ ∙ ap fields all
+    inv.heard ∙ ap (λ (r : List ℕ). fields (take c.loop-place.place c.loop-place.numbers) ++ r) none ∙ append-nil _ ∙ ap fields all
 
 pub returns-then-is_empty-clause-read : goal.returns-then-is_empty-clause-read
 returns-then-is_empty-clause-read g c ns len fit e =

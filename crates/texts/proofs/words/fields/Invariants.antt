@@ -6,7 +6,7 @@ use Rattle.texts.proofs.words.fields.Given as goal
 abbrev pub invariant-loop-place : goal.invariant-loop-place
 invariant-loop-place g l = record {
   len : length l.numbers ≡ g.row.N;
-  told : l.bytes ≡ fields (take l.place l.numbers) ++ l.rest;
-  -- whatever the bytes spell begins with what was found, and the rest spells what is left of it
+  heard : l.bytes ≡ fields (take l.place l.numbers) ++ l.rest;
+  -- each reading of the bytes begins with the numbers that were found, and the rest is the text of the others
   left : (ns : List ℕ) → length ns ≡ g.row.N → AllFit ns → l.bytes ≡ fields ns → (ms : List ℕ) × IsLeft (take l.place l.numbers) l.rest ns ms;
 }

@@ -10,8 +10,8 @@ returns-then-not-is_plain-clause-read c n small e =
     let plain : IsPlain (decimal n) = record { some = decimal_nonempty n small; unsigned = first_is_digit n small; short = zero_is_short n small } in
     absurd (c.if-not-is_plain.ensures.other (subst IsPlain (sym e) plain))
 
-pub returns-in-Ok-parse-clause-spelled : goal.returns-in-Ok-parse-clause-spelled
-returns-in-Ok-parse-clause-spelled c =
+pub returns-in-Ok-parse-clause-written : goal.returns-in-Ok-parse-clause-written
+returns-in-Ok-parse-clause-written c =
     let plain = c.if-not-is_plain.ensures.plain in
     let p = rw c.in-Ok.ensures.cases.0 at c.parse.ensures.value.0 in
     is_decimal c.args.digits.now c.in-Ok-parse.n c.parse.result p plain.unsigned plain.short c.in-Ok-parse.is

@@ -1,4 +1,4 @@
-use Rattle.std.proofs.Common.{List, ◌≡◌, sym, subst}
+use Rattle.std.proofs.Common.{List, sym, subst}
 use Rattle.progress.specs.WayIn.{Helps}
 use Rattle.world.specs.declared.step.Step.{Step}
 use Rattle.ways.specs.Leads.{Leads}

@@ -14,12 +14,12 @@ returns c =
     } in
     let voters : VoterLaws = record {
       meets = c.voters_meet_the_contract.ensures.steps;
-      tells = c.voters_meet_the_contract.ensures.reminders;
+      reminds = c.voters_meet_the_contract.ensures.reminders;
       numbers = c.grants_are_numbered.ensures;
       first = c.voters_stay_sound.ensures.first;
       stays = c.voters_stay_sound.ensures.steps;
-      answers = c.replies_tell_the_state.ensures.steps;
-      places = c.replies_tell_the_state.ensures.reminders;
+      answers = c.replies_report_the_state.ensures.steps;
+      places = c.replies_report_the_state.ensures.reminders;
       carries = c.replies_carry_what_was_seen.ensures.steps;
       remembers = c.replies_carry_what_was_seen.ensures.reminders;
     } in

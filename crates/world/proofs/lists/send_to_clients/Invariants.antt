@@ -5,7 +5,7 @@ use Rattle.world.proofs.lists.send_to_clients.Given as goal
 
 abbrev pub invariant-loop-message : goal.invariant-loop-message
 invariant-loop-message l = record {
-  told : l.sent.items ≡ l.fn.sent.items ++ map kinds.ToClient (take l.message-index l.messages);
+  heard : l.sent.items ≡ l.fn.sent.items ++ map kinds.ToClient (take l.message-index l.messages);
   len : vec_len l.sent ≡ vec_len l.fn.sent + l.message-index;
   room : vec_len l.fn.sent + length l.messages ≤ vec_capacity l.sent;
 }

@@ -8,5 +8,6 @@ use Rattle.world.proofs.moves.client_of.Goals as goal
 pub returns : goal.returns
 unfolding client_at
 returns c =
-    seen_at (start 0 1) (λ (a : ClientState). c.index-clients-from.result ≡ a) c.args.clients.now c.from.result c.args.number c.index-clients-from.result c.from.ensures c.requires c.index-clients-from.is
+    seen_at (start 0 1) (λ (a : ClientState). c.index-clients-from.result ≡ a) c.args.clients.now c.from.result c.args.number c.index-clients-from.result c.from.ensures
+    c.requires c.index-clients-from.is
     c.index-clients-from.is

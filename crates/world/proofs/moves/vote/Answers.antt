@@ -10,7 +10,8 @@ use Rattle.world.proofs.moves.vote.Goals as goal
 pub take_into-requires-clause-voter : goal.take_into-requires-clause-voter
 unfolding voter_at
 take_into-requires-clause-voter c =
-    sym c.requires.id ∙ ap (λ (a : VoterState). a.id) (seen_at (start 0 1) (λ a. a ≡ get_or c.args.voters.now c.from.result c.index-voters-from.result) c.args.voters.now c.from.result c.args.message.now.voter
+    sym c.requires.id ∙ ap (λ (a : VoterState). a.id) (seen_at (start 0 1) (λ a. a ≡ get_or c.args.voters.now c.from.result c.index-voters-from.result) c.args.voters.now
+    c.from.result c.args.message.now.voter
     c.index-voters-from.result c.from.ensures c.requires.voter c.index-voters-from.is refl)
 
 pub returns-clause-taken : goal.returns-clause-taken

@@ -10,10 +10,13 @@ loop-place-preserved c =
     elim c.match-step.branch [
       | in-Ok w ↦
           subst (λ (l : List (ℕ × WorldFault)). Ran c.args.plans c.args.clients c.args.limit c.args.steps.now (c.loop-place.place + 1) c.step.new.self l) (sym (ap (λ v. v.items) w.refused-is))
-          (Ran-on c.args.plans c.args.clients c.args.limit c.args.steps.now c.loop-place.place c.loop-place.world c.step.new.self c.loop-place.refused.items _ w.in-Ok.field-0 c.loop-place.invariant (omega arith)
+          (Ran-on c.args.plans c.args.clients c.args.limit c.args.steps.now c.loop-place.place c.loop-place.world c.step.new.self c.loop-place.refused.items _ w.in-Ok.field-0
+          c.loop-place.invariant (omega arith)
           w.in-Ok.ensures.plans w.in-Ok.ensures.stepped)
       | in-Err+in_ok-keep-in-Err w ↦
-          subst (λ (l : List (ℕ × WorldFault)). Ran c.args.plans c.args.clients c.args.limit c.args.steps.now (c.loop-place.place + 1) c.step.new.self l) (sym (ap (λ v. v.items) w.refused-is ∙ w.in_ok-keep-in-Err.ensures.kept))
-          (Ran-past c.args.plans c.args.clients c.args.limit c.args.steps.now c.loop-place.place c.loop-place.world c.step.new.self c.loop-place.refused.items _ w.in-Err.fault c.loop-place.invariant (omega arith)
+          subst (λ (l : List (ℕ × WorldFault)). Ran c.args.plans c.args.clients c.args.limit c.args.steps.now (c.loop-place.place + 1) c.step.new.self l)
+          (sym (ap (λ v. v.items) w.refused-is ∙ w.in_ok-keep-in-Err.ensures.kept))
+          (Ran-past c.args.plans c.args.clients c.args.limit c.args.steps.now c.loop-place.place c.loop-place.world c.step.new.self c.loop-place.refused.items _ w.in-Err.fault
+          c.loop-place.invariant (omega arith)
           w.in-Err.ensures.unchanged w.in-Err.ensures.refused w.in_ok-keep-in-Err.ensures.reason)
     ]

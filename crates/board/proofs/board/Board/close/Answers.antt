@@ -38,7 +38,8 @@ ends c =
     let all : c.root.inside.seat.me.0.parts ≡ key.voters + key.clients + 1 =
     omega (arith, within.0, c.root.invariant.root.parts, voters, clients, c.voters-2.ensures.value, c.clients.ensures.value, c.from.ensures, c.if-count-gt0.false) in
     let at = subst (λ (i : ℕ). get_elem? (slots_items c.close_with-closed.result.words) i ≡ some c.word-register.result) (number ∙ sym voters) c.word-register.ensures in
-    let both = register-at_close key c.root.inside.seat.id c.root.inside.seat.me.0 _ _ c.word-register.result c.root.inside.passes.items c.close_with-closed.ensures.values.2 all at c.root.invariant.root.passes in (
+    let both = register-at_close key c.root.inside.seat.id c.root.inside.seat.me.0 _ _ c.word-register.result c.root.inside.passes.items c.close_with-closed.ensures.values.2
+    all at c.root.invariant.root.passes in (
       both.0 ∙ ap length passes,
       subst (λ (x : List (ℕ × ℕ)). AreAllBelow (map (λ p. p.1) x) c.word-register.result) passes both.1,
     )

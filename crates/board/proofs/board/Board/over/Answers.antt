@@ -46,7 +46,8 @@ invariant_of-root c =
     let on_below : (v : ℕ) → get_or c.first.result v false ≡ true → v < c.args.voters = λ v on. lt-from_nat_lt v c.args.voters (sym (c.first.ensures.first v) ∙ on) in
     record {
       no_slots = ap (λ (m : Me (Unit {0}) View). m.1) made.4;
-      root = subst (λ (x : View × List (ℕ × ℕ)). IsRoot x.0 (c.args.voters + c.from.result) c.first.result c.first-2.result x.1) (λ i. (sym (ap (λ (m : Me (Unit {0}) View). m.0) made.4) i, sym c.new.ensures.items i))
+      root = subst (λ (x : View × List (ℕ × ℕ)). IsRoot x.0 (c.args.voters + c.from.result) c.first.result c.first-2.result x.1)
+          (λ i. (sym (ap (λ (m : Me (Unit {0}) View). m.0) made.4) i, sym c.new.ensures.items i))
           (IsRoot-fresh c.args.voters c.args.clients (c.args.voters + c.from.result) c.first.result c.first-2.result
           (omega arith)
           (omega (arith, c.first.ensures.sum, c.first-2.ensures.sum, c.from-2.ensures))

@@ -20,7 +20,8 @@ swap-requires c =
     let client = ap (λ (m : Me (Unit {0}) View). m.0.client) knows in
     let at = c.from-place.ensures in
     let here : slice_index c.self.inside.seat.me.0.held c.from-place.result ≡ slice_index c.self.inside.held c.from-place.result = ap (λ (l : List ℕ). slice_index l c.from-place.result) mine in
-    let old : slice_index c.self.inside.held c.from-place.result ≡ slice_index c.args.self.now.held c.args.voter = ap (slice_index c.self.inside.held) at ∙ ap (λ (l : List ℕ). slice_index l c.args.voter) held in
+    let old : slice_index c.self.inside.held c.from-place.result ≡ slice_index c.args.self.now.held c.args.voter = ap (slice_index c.self.inside.held) at
+    ∙ ap (λ (l : List ℕ). slice_index l c.args.voter) held in
     let some_grant : slice_index c.self.inside.held c.from-place.result ≢ 0 = λ z. c.requires.held (sym old ∙ z) in
     let table = ap (λ (s : ClientSeatState). s.table) c.self.view_is ∙ c.requires.table ∙ sym (ap (λ (b : BoardState). b.table) c.board.view_is) in
     let words = ap (λ (t : TableId). t.words) table in

@@ -21,7 +21,8 @@ compare_exchange-found-requires c =
     let named = λ (P : ℕ → ℕ) (x : ℕ) (e : x ≡ P (name_of c.self.inside.client c.args.grant)). e ∙ ap (λ (n : ℕ). P (name_of n c.args.grant)) (sym client) in (
       ap (λ (s : ClientSeatState). s.table) c.self.view_is ∙ c.requires.table ∙ sym (ap (λ (b : BoardState). b.table) c.board.view_is),
       omega (arith, c.board.invariant.words, c.requires.voter),
-      Took-allowed_by_words c.board.inside.table.shared.key _ _ _ c.from-place.result c.args.grant _ _ (omega (arith, c.requires.voter)) (omega (arith, c.requires.grant)) (omega (arith, c.self.invariant.few))
+      Took-allowed_by_words c.board.inside.table.shared.key _ _ _ c.from-place.result c.args.grant _ _ (omega (arith, c.requires.voter)) (omega (arith, c.requires.grant))
+          (omega (arith, c.self.invariant.few))
           (let long : length c.self.inside.seat.me.0.held ≡ length c.self.inside.held = ap length mine in omega (arith, c.requires.voter, c.self.told))
           (ap (slice_index c.self.inside.seat.me.0.held) at ∙ ap (λ l. slice_index l c.args.voter) (mine ∙ held) ∙ c.requires.free)
           (named offered _ c.word-offered.ensures)

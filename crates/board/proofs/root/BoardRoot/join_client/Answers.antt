@@ -49,13 +49,16 @@ invariant_of-self-2 c =
     let o = c.other.inside in
     let u = c.self.inside.seat.me.0 in
     let one : o.seat.me.0.parts ≡ 1 = ap (λ (m : Me (Unit {0}) View). m.0.parts) c.other.invariant.view in
-    let passes : o.seat.me.0.passes ≡ map (λ p. p.1) (passes_of o.client o.passes.items) = ap (λ (m : Me (Unit {0}) View). m.0.passes) c.other.invariant.view ∙ sym (numbers_of o.client o.passes.items) in
+    let passes : o.seat.me.0.passes ≡ map (λ p. p.1) (passes_of o.client o.passes.items) = ap (λ (m : Me (Unit {0}) View). m.0.passes) c.other.invariant.view
+    ∙ sym (numbers_of o.client o.passes.items) in
     let me = c.load.ensures.2.0 ∙ c.join_seat.ensures.2 in
     let kept : c.append.new.passes.items ≡ c.self.inside.passes.items ++ passes_of o.client o.passes.items =
     c.in-Ok.ensures ∙ ap (λ (l : List ℕ). c.self.inside.passes.items ++ passes_of o.client l) c.as_slice.ensures.value in
     record {
       no_slots = ap (λ (m : Me (Unit {0}) View). m.1) me ∙ c.self.invariant.no_slots;
-      root = subst (λ (x : View × List (ℕ × ℕ)). IsRoot x.0 (c.self.inside.seats + 1) c.self.inside.voters c.self.inside.clients x.1) (λ i. (sym (ap (λ (m : Me (Unit {0}) View). m.0) me) i, sym kept i))
-          (IsRoot-with_client u c.self.inside.seats c.self.inside.voters c.self.inside.clients c.self.inside.passes.items o.seat.me.0 (passes_of o.client o.passes.items) c.self.invariant.root one passes);
+      root = subst (λ (x : View × List (ℕ × ℕ)). IsRoot x.0 (c.self.inside.seats + 1) c.self.inside.voters c.self.inside.clients x.1)
+          (λ i. (sym (ap (λ (m : Me (Unit {0}) View). m.0) me) i, sym kept i))
+          (IsRoot-with_client u c.self.inside.seats c.self.inside.voters c.self.inside.clients c.self.inside.passes.items o.seat.me.0
+          (passes_of o.client o.passes.items) c.self.invariant.root one passes);
       on_table = λ v on. subst (λ (z : TableId). v + 1 < z.words) (sym (c.load.ensures.0 ∙ c.join_seat.ensures.0)) (c.self.invariant.on_table v on);
     }

@@ -33,7 +33,8 @@ invariant_of-self c =
     let in_range : c.args.client < 64 = omega (arith, c.requires.client, ap (λ (b : BoardState). b.clients) c.board.view_is, c.board.invariant.few_clients) in
     record {
       view = set-voter_view c.self.inside.seat.me c.swap.new.seat.me c.self.inside.voter _ c.self.inside.current (Some (c.args.client, c.args.grant)) c.self.invariant.view
-          (subst (λ (v : ℕ). c.swap.new.seat.me ≡ (record c.self.inside.seat.me.0 { voters = set c.self.inside.seat.me.0.voters v (name_in c.word-offered.result + 1) }, c.self.inside.seat.me.1)) c.from.ensures c.swap.ensures.2.2)
+          (subst (λ (v : ℕ). c.swap.new.seat.me ≡ (record c.self.inside.seat.me.0 { voters = set c.self.inside.seat.me.0.voters v (name_in c.word-offered.result + 1) }, c.self.inside.seat.me.1))
+          c.from.ensures c.swap.ensures.2.2)
           (omega (arith, c.word-offered.ensures));
       few = c.self.invariant.few;
       grant = (in_range, omega (arith, c.requires.above), omega arith, omega (arith, c.requires.fits));

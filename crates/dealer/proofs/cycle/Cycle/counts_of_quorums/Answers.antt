@@ -33,7 +33,8 @@ place_named c =
     let lists = c.in_ok-lists.lists.items in
     let found = subst (λ (bs : List Block). IsPlaceIn bs (ticket % c.cycle_len.result) c.place_in-number.result) c.deref-in-loop-ticket.ensures.value c.place_in-number.ensures in
     let laid_out = c.in_ok-lists.ensures ∙ ap₂ (λ (qs : List Listed) (bs : List Block). map (λ (b : Block). quorums_from qs b.least) bs) c.deref.ensures.value c.deref-2.ensures.value in
-    let at = ap (λ l. l.items) c.index.ensures ∙ sym (get_or-map (λ l. l.items) lists c.place_in-number.result.0 list list.items (omega (arith, found.in_range, ap length laid_out, length-map lists (λ l. l.items), length-map blocks (λ (b : Block). quorums_from c.self.inside.listed.items b.least)))) in
+    let at = ap (λ l. l.items) c.index.ensures ∙ sym (get_or-map (λ l. l.items) lists c.place_in-number.result.0 list list.items
+    (omega (arith, found.in_range, ap length laid_out, length-map lists (λ l. l.items), length-map blocks (λ (b : Block). quorums_from c.self.inside.listed.items b.least)))) in
     named_in_lists w ticket c.cycle_len.result c.self.inside.listed.items blocks _ c.place_in-number.result list.items is
     (c.cycle_len.ensures.value ∙ ap (λ (v : Weighted). cycle_len v) c.self.view_is) found laid_out at
 

@@ -15,7 +15,8 @@ place_in-number-requires c =
 pub quorum_in-requires-clause-listed : goal.quorum_in-requires-clause-listed
 quorum_in-requires-clause-listed c =
     let is = c.self.invariant in
-    (quorums_from-block c.self.inside.plan.quorum_weights c.self.inside.blocks.items c.deref-2.result.now c.place_in-number.result.0 c.index.result.now is.in_blocks (c.deref-2.ensures.value ∙ is.quorums) (omega arith) c.index.ensures).1
+    (quorums_from-block c.self.inside.plan.quorum_weights c.self.inside.blocks.items c.deref-2.result.now c.place_in-number.result.0 c.index.result.now is.in_blocks
+    (c.deref-2.ensures.value ∙ is.quorums) (omega arith) c.index.ensures).1
 
 pub returns : goal.returns
 returns c =

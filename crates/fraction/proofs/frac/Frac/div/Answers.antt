@@ -6,4 +6,6 @@ use Rattle.fraction.proofs.frac.Frac.div.Goals as goal
 
 pub reduced-requires-clause-divisor : goal.reduced-requires-clause-divisor
 reduced-requires-clause-divisor c =
-    passed_product-some _ c.self.inside.den c.other.inside.num _ _ (to_z-of_z_equal c.self.inside.den _ c.self.invariant.den_fits refl) (to_z-of_z_equal c.other.inside.num _ c.other.invariant.num_fits refl) c.in_ok-product.ensures (positive-some c.self.inside.den c.self.invariant.positive) (λ none. c.if-other-eq0.false (ap (λ z. of_z w128 z) none))
+    passed_product-some _ c.self.inside.den c.other.inside.num _ _ (to_z-of_z_equal c.self.inside.den _ c.self.invariant.den_fits refl)
+    (to_z-of_z_equal c.other.inside.num _ c.other.invariant.num_fits refl) c.in_ok-product.ensures (positive-some c.self.inside.den c.self.invariant.positive)
+    (λ none. c.if-other-eq0.false (ap (λ z. of_z w128 z) none))

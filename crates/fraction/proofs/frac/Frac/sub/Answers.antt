@@ -25,4 +25,5 @@ returns-in_err-product-3-clause-fits c =
 
 pub reduced-requires-clause-divisor : goal.reduced-requires-clause-divisor
 reduced-requires-clause-divisor c =
-    passed_product-some _ _ _ _ _ (to_z-of_z_equal _ _ c.self.invariant.den_fits refl) (to_z-of_z_equal _ _ c.other.invariant.den_fits refl) c.in_ok-product-3.ensures (positive-some _ c.self.invariant.positive) (positive-some _ c.other.invariant.positive)
+    passed_product-some _ _ _ _ _ (to_z-of_z_equal _ _ c.self.invariant.den_fits refl) (to_z-of_z_equal _ _ c.other.invariant.den_fits refl) c.in_ok-product-3.ensures
+    (positive-some _ c.self.invariant.positive) (positive-some _ c.other.invariant.positive)

@@ -31,4 +31,5 @@ returns-clause-value c =
     let t : Table = record { rows = lists_of c.self.inside.rows.items; den = c.self.inside.den } in
     let is = subst (λ rs. EachRow (IsSummedRow c.args.columns.now c.args.into) (lists_of rs) (lists_of new)) c.deref_mut.ensures.value c.put_sums.ensures in
     subst (λ rs. IsSummed c.args.self.now (record { rows = rs; den = c.self.inside.den }) c.args.columns.now c.args.into) (sym rows_are)
-    (subst (λ (u : Table). IsSummed u (record { rows = lists_of new; den = c.self.inside.den }) c.args.columns.now c.args.into) c.self.view_is (IsSummed-from_rows t (lists_of new) c.args.columns.now c.args.into is))
+    (subst (λ (u : Table). IsSummed u (record { rows = lists_of new; den = c.self.inside.den }) c.args.columns.now c.args.into) c.self.view_is
+    (IsSummed-from_rows t (lists_of new) c.args.columns.now c.args.into is))

@@ -3,7 +3,7 @@ use Rattle.std.specs.Prelude.{option_map}
 use Rattle.quorum_set.specs.Coteries.{QuorumSystem}
 use Rattle.certificate.specs.Certificates.{Weighted}
 use Rattle.dealer.specs.Offices.{OfficeName}
-use Rattle.members.specs.Clerks.{fresh_clerks, office_names, offices_with, plan_quorums}
+use Rattle.clerks.specs.Clerks.{fresh_clerks, office_names, offices_with, plan_quorums}
 use Rattle.members.proofs.BlankLemmas.{cycles_of-names, same_voters}
 use Rattle.members.proofs.blank.Blank.new.Goals as goal
 
@@ -29,7 +29,8 @@ invariant_of-result c =
         quorums = made.quorums
             ∙ joint (sym is_first) (sym (is_second ∙ c.plan_of.ensures));
         firsts = made.firsts ∙ ap (λ (w : Weighted). length w.system.quorums) (sym is_first);
-        same_voters = same_voters c.args.plans parts.plans names.1 (is_second ∙ c.plan_of.ensures ∙ parts.second) c.in_ok-board.board.voters (made.voters ∙ ap (λ (w : Weighted). w.system.voters) parts.first);
+        same_voters = same_voters c.args.plans parts.plans names.1 (is_second ∙ c.plan_of.ensures ∙ parts.second) c.in_ok-board.board.voters
+            (made.voters ∙ ap (λ (w : Weighted). w.system.voters) parts.first);
         few_voters = subst (λ n. n ≤ 64) (sym c.voters-voters.ensures.value ∙ same) few;
         some_client = subst (λ n. 1 ≤ n) (sym made.clients) c.requires.some_client;
         clients = subst (λ n. n ≤ 64) (sym made.clients) c.requires.few_clients;

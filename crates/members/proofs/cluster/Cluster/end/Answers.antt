@@ -7,7 +7,7 @@ use Rattle.quorum_set.specs.declared.bridge.Side.{Side}
 use Rattle.quorum_set.specs.declared.bridge.Side.TheVariants.{First, Second}
 use Rattle.dealer.specs.declared.receipt.Receipt.{Receipt}
 use Rattle.dealer.specs.Offices.{tickets_of}
-use Rattle.members.specs.Clerks.{ClerksState, HasShare, names_of, receipts_of}
+use Rattle.clerks.specs.Clerks.{ClerksState, HasShare, names_of, receipts_of}
 use Rattle.members.specs.Clusters.{names_in}
 use Rattle.members.specs.Members.{MemberState}
 use Rattle.members.specs.Records.{Draw, IsDraw, Pass, all_draws, all_passes, all_receipts}
@@ -38,7 +38,8 @@ returns-clause-record g c =
     let passes : c.join_nodes.new.root.passes ≡ all_passes members =
     c.in_ok-join_nodes.ensures.passes ∙ c.in_ok-join_members.ensures.passes ∙ ap (λ (l : List Pass). l ++ all_passes members) left.2 in
     let receipts : (side : Side) → receipts_of c.join_members.new.clerks side ≡ all_receipts side members = λ side.
-    c.in_ok-join_members.ensures.receipts side ∙ ap (λ (k : ClerksState). receipts_of k side ++ all_receipts side members) left.3 ∙ ap (λ (l : List Receipt). l ++ all_receipts side members) (receipts_of-fresh _ 0 side) in
+    c.in_ok-join_members.ensures.receipts side ∙ ap (λ (k : ClerksState). receipts_of k side ++ all_receipts side members) left.3
+    ∙ ap (λ (l : List Receipt). l ++ all_receipts side members) (receipts_of-fresh _ 0 side) in
     let all = total.passes ∙ passes in
     record_of cluster members _
     (AreDrawsOf-from cluster First members c.by_ticket.result.items

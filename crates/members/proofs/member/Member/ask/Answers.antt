@@ -4,7 +4,7 @@ use Rattle.board.specs.Quorums.{place_of, quorum_at}
 use Rattle.requester.specs.Steps.{ask}
 use Rattle.requester.specs.Words.{is_idle, is_spent}
 use Rattle.dealer.specs.Offices.{RefusesTicket}
-use Rattle.members.specs.Clerks.{rest_of}
+use Rattle.clerks.specs.Clerks.{rest_of}
 use Rattle.members.specs.Members.{MayAsk, MemberState, RefusesStart}
 use Rattle.members.proofs.MemberLemmas.{IsMember-asked, Ok-not_Err, RefusesStart-ask, RefusesAsk-ticket, ask-Ok}
 use Rattle.members.proofs.member.Member.ask.Goals as goal
@@ -29,13 +29,17 @@ pub send-lost-requires : goal.send-lost-requires
 send-lost-requires g c =
     let quorum = c.quorum-quorum.ensures in
     let drawn = c.in-Ok.ensures in
-    record { held = (IsMember-asked _ _ _ _ _ _ c.self.invariant c.clients_keep_their_laws.ensures _ _ c.in-Ok-ask_into.ensures.asked quorum.set quorum.some c.draw.new.self c.in-Ok.receipt drawn.kept drawn.some _ quorum.in_range quorum.value).held }
+    record {
+      held = (IsMember-asked _ _ _ _ _ _ c.self.invariant c.clients_keep_their_laws.ensures _ _ c.in-Ok-ask_into.ensures.asked quorum.set quorum.some c.draw.new.self
+          c.in-Ok.receipt drawn.kept drawn.some _ quorum.in_range quorum.value).held;
+    }
 
 pub invariant_of-self-2 : goal.invariant_of-self-2
 invariant_of-self-2 g c =
     let quorum = c.quorum-quorum.ensures in
     let drawn = c.in-Ok.ensures in
-    IsMember-asked _ _ _ _ _ _ c.self.invariant c.clients_keep_their_laws.ensures _ _ c.in-Ok-ask_into.ensures.asked quorum.set quorum.some c.draw.new.self c.in-Ok.receipt drawn.kept drawn.some _ quorum.in_range quorum.value
+    IsMember-asked _ _ _ _ _ _ c.self.invariant c.clients_keep_their_laws.ensures _ _ c.in-Ok-ask_into.ensures.asked quorum.set quorum.some c.draw.new.self c.in-Ok.receipt
+    drawn.kept drawn.some _ quorum.in_range quorum.value
 
 pub returns-clause-asked : goal.returns-clause-asked
 returns-clause-asked g c =

@@ -3,7 +3,7 @@ use Rattle.requester.specs.declared.state.ClientState.{ClientState}
 use Rattle.requester.specs.Soundness.{IsSound}
 use Rattle.requester.specs.Words.{is_idle}
 use Rattle.board.specs.Seats.{ClientSeatState as SeatState}
-use Rattle.members.specs.Clerks.{ClerksState, HasShare, IsThere, names_of}
+use Rattle.clerks.specs.Clerks.{ClerksState, HasShare, IsThere, names_of}
 use Rattle.members.specs.Clusters.{names_in}
 use Rattle.members.proofs.ClerkLemmas.{HasShare-fresh, names_of-fresh}
 use Rattle.members.proofs.MemberLemmas.{HoldsWithin-nobody}

@@ -8,10 +8,13 @@ pub ask-requires-clause-idle : goal.ask-requires-clause-idle
 ask-requires-clause-idle c = held-idle c.self.inside.state c.self.invariant
 
 pub invariant_of-self : goal.invariant_of-self
-invariant_of-self c = (IsSameClient-ask c.self.inside.state c.ask.new.self c.ask.new.out.items c.args.quorum.now c.ask.result c.self.invariant c.requires c.ask.ensures.set c.ask.ensures.asked c.ask.ensures.refused).sound
+invariant_of-self c = (IsSameClient-ask c.self.inside.state c.ask.new.self c.ask.new.out.items c.args.quorum.now c.ask.result c.self.invariant c.requires c.ask.ensures.set
+    c.ask.ensures.asked c.ask.ensures.refused).sound
 
 pub returns-clause-id : goal.returns-clause-id
-returns-clause-id c = (IsSameClient-ask c.self.inside.state c.ask.new.self c.ask.new.out.items c.args.quorum.now c.ask.result c.self.invariant c.requires c.ask.ensures.set c.ask.ensures.asked c.ask.ensures.refused).id ∙ ap (λ (x : ClientState). x.id) c.self.view_is
+returns-clause-id c = (IsSameClient-ask c.self.inside.state c.ask.new.self c.ask.new.out.items c.args.quorum.now c.ask.result c.self.invariant c.requires c.ask.ensures.set
+    c.ask.ensures.asked c.ask.ensures.refused).id ∙ ap (λ (x : ClientState). x.id) c.self.view_is
 
 pub returns-clause-limit : goal.returns-clause-limit
-returns-clause-limit c = (IsSameClient-ask c.self.inside.state c.ask.new.self c.ask.new.out.items c.args.quorum.now c.ask.result c.self.invariant c.requires c.ask.ensures.set c.ask.ensures.asked c.ask.ensures.refused).limit ∙ ap (λ (x : ClientState). x.limit) c.self.view_is
+returns-clause-limit c = (IsSameClient-ask c.self.inside.state c.ask.new.self c.ask.new.out.items c.args.quorum.now c.ask.result c.self.invariant c.requires c.ask.ensures.set
+    c.ask.ensures.asked c.ask.ensures.refused).limit ∙ ap (λ (x : ClientState). x.limit) c.self.view_is

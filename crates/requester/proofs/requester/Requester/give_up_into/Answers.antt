@@ -19,7 +19,9 @@ pub invariant_of-self : goal.invariant_of-self
 invariant_of-self c = (IsSameClient-give_up c.self.inside.state c.give_up.new.self c.give_up.new.out.items c.give_up.result c.self.invariant c.give_up.ensures.given_up c.give_up.ensures.refused).sound
 
 pub returns-clause-id : goal.returns-clause-id
-returns-clause-id c = (IsSameClient-give_up c.self.inside.state c.give_up.new.self c.give_up.new.out.items c.give_up.result c.self.invariant c.give_up.ensures.given_up c.give_up.ensures.refused).id ∙ ap (λ (x : ClientState). x.id) c.self.view_is
+returns-clause-id c = (IsSameClient-give_up c.self.inside.state c.give_up.new.self c.give_up.new.out.items c.give_up.result c.self.invariant c.give_up.ensures.given_up
+    c.give_up.ensures.refused).id ∙ ap (λ (x : ClientState). x.id) c.self.view_is
 
 pub returns-clause-limit : goal.returns-clause-limit
-returns-clause-limit c = (IsSameClient-give_up c.self.inside.state c.give_up.new.self c.give_up.new.out.items c.give_up.result c.self.invariant c.give_up.ensures.given_up c.give_up.ensures.refused).limit ∙ ap (λ (x : ClientState). x.limit) c.self.view_is
+returns-clause-limit c = (IsSameClient-give_up c.self.inside.state c.give_up.new.self c.give_up.new.out.items c.give_up.result c.self.invariant c.give_up.ensures.given_up
+    c.give_up.ensures.refused).limit ∙ ap (λ (x : ClientState). x.limit) c.self.view_is

@@ -19,7 +19,9 @@ pub invariant_of-self : goal.invariant_of-self
 invariant_of-self c = (IsSameClient-leave c.self.inside.state c.leave.new.self c.leave.new.out.items c.leave.result c.self.invariant c.leave.ensures.left c.leave.ensures.refused).sound
 
 pub returns-clause-id : goal.returns-clause-id
-returns-clause-id c = (IsSameClient-leave c.self.inside.state c.leave.new.self c.leave.new.out.items c.leave.result c.self.invariant c.leave.ensures.left c.leave.ensures.refused).id ∙ ap (λ (x : ClientState). x.id) c.self.view_is
+returns-clause-id c = (IsSameClient-leave c.self.inside.state c.leave.new.self c.leave.new.out.items c.leave.result c.self.invariant c.leave.ensures.left c.leave.ensures.refused).id
+    ∙ ap (λ (x : ClientState). x.id) c.self.view_is
 
 pub returns-clause-limit : goal.returns-clause-limit
-returns-clause-limit c = (IsSameClient-leave c.self.inside.state c.leave.new.self c.leave.new.out.items c.leave.result c.self.invariant c.leave.ensures.left c.leave.ensures.refused).limit ∙ ap (λ (x : ClientState). x.limit) c.self.view_is
+returns-clause-limit c = (IsSameClient-leave c.self.inside.state c.leave.new.self c.leave.new.out.items c.leave.result c.self.invariant c.leave.ensures.left c.leave.ensures.refused).limit
+    ∙ ap (λ (x : ClientState). x.limit) c.self.view_is

@@ -9,7 +9,7 @@ use Rattle.world.specs.declared.state.State.{State}
 use Rattle.world.specs.States.{shown}
 use Rattle.world.specs.Steps.{client_at, draw, draw_of, next_ticket, quorum_dealt, step}
 use Rattle.world.proofs.Acts.{ask-Ok, ask-Err, world_with_client, with_items-items}
-use Rattle.world.proofs.Foretold.{if_client-below, if_client-missing}
+use Rattle.world.proofs.Predicted.{if_client-below, if_client-missing}
 use Rattle.world.proofs.state.State.ask.Goals.{After-tell, in-First, in-Second}
 use Rattle.world.proofs.state.State.ask.Goals as goal
 
@@ -32,8 +32,8 @@ drawn c =
     ]
 
 -- the messages are still those of the client
-told : (c : After-tell) → c.match-self.self.out.items ≡ c.ask.new.out.items
-told c = elim c.match-self.branch [
+heard : (c : After-tell) → c.match-self.self.out.items ≡ c.ask.new.out.items
+heard c = elim c.match-self.branch [
   | in-First b ↦ ap (λ (s : State). s.out.items) b.self-is
   | in-Second b ↦ ap (λ (s : State). s.out.items) b.self-is
 ]
@@ -47,10 +47,11 @@ returns-after-self c = λ deal is.
     let cs = (with_items c.args.self.now.clients c.ask.new.clients).items in
     if_client-below c.args.client (length c.args.self.now.clients.items) _ c.in_default.ensures.found
     ∙ ask-Ok w c.deref_mut.result.now c.ask.new.clients cs c.args.client quorum c.ask.new.out.items c.in-Ok.seen c.tell.result (shown c.tell.new.self) c.deref_mut.ensures.value
-    (subst (λ (q : List ℕ). client.step (client_at c.deref_mut.result.now c.args.client) (Asks q) ≡ Ok (record { out = c.ask.new.out.items; seen = c.in-Ok.seen; state = client_at c.ask.new.clients c.args.client })) (sym is) c.in-Ok.ensures.asked)
+    (subst (λ (q : List ℕ). client.step (client_at c.deref_mut.result.now c.args.client) (Asks q) ≡ Ok
+    (record { out = c.ask.new.out.items; seen = c.in-Ok.seen; state = client_at c.ask.new.clients c.args.client })) (sym is) c.in-Ok.ensures.asked)
     c.in-Ok.ensures.others (with_items-items c.args.self.now.clients c.deref_mut.result.now c.ask.new.clients c.args.client _ c.deref_mut.ensures.value c.in-Ok.ensures.others)
-    (c.tell.ensures.sent ∙ ap (λ (l : List ToVoter). length l) (told at)) c.tell.ensures.seen
-    (c.tell.ensures.state ∙ (λ i. world_with_client (drawn at i) (drawn at i).clients c.args.client (told at i) c.in-Ok.seen))
+    (c.tell.ensures.sent ∙ ap (λ (l : List ToVoter). length l) (heard at)) c.tell.ensures.seen
+    (c.tell.ensures.state ∙ (λ i. world_with_client (drawn at i) (drawn at i).clients c.args.client (heard at i) c.in-Ok.seen))
 
 pub returns-in-Err : goal.returns-in-Err
 unfolding step
@@ -60,5 +61,6 @@ returns-in-Err c = λ deal is.
           ∙ ask-Err (shown c.args.self.now) c.deref_mut.result.now (client_at c.deref_mut.result.now c.args.client) c.args.client quorum c.in-Err.fault c.deref_mut.ensures.value refl
           (subst (λ (q : List ℕ). client.step (client_at c.deref_mut.result.now c.args.client) (Asks q) ≡ Err c.in-Err.fault) (sym is) c.in-Err.ensures.refused.0),
       ap (λ (l : List ClientState). record (shown c.args.self.now) { clients = l })
-          (with_items-items c.args.self.now.clients c.deref_mut.result.now c.ask.new.clients c.args.client _ c.deref_mut.ensures.value c.in-Err.ensures.others ∙ c.in-Err.ensures.refused.1 ∙ c.deref_mut.ensures.value),
+          (with_items-items c.args.self.now.clients c.deref_mut.result.now c.ask.new.clients c.args.client _ c.deref_mut.ensures.value c.in-Err.ensures.others
+          ∙ c.in-Err.ensures.refused.1 ∙ c.deref_mut.ensures.value),
     )

@@ -10,11 +10,13 @@ unfolding step
 returns-in-None c = λ deal. (ap (λ (o : _). come (shown c.args.self.now) c.args.number o) (sym c.message.ensures ∙ c.in-None.is), refl)
 
 pub vote-requires : goal.vote-requires
-vote-requires c = let is = ForVoter-sent (shown c.args.self.now) c.requires.numbered c.args.number c.in-Some-ToVoter.message (sym c.message.ensures ∙ c.in-Some-ToVoter.is ∙ ap (λ (m : Message). Some m) c.in-Some-ToVoter.field-0-is) in
+vote-requires c = let is = ForVoter-sent (shown c.args.self.now) c.requires.numbered c.args.number c.in-Some-ToVoter.message (sym c.message.ensures ∙ c.in-Some-ToVoter.is
+    ∙ ap (λ (m : Message). Some m) c.in-Some-ToVoter.field-0-is) in
     record { room = c.requires.room; voter = is.voter; id = is.id; client = is.client }
 
 pub take-requires : goal.take-requires
-take-requires c = let is = ForClient-sent (shown c.args.self.now) c.requires.numbered c.args.number c.in-Some-ToClient.message (sym c.message.ensures ∙ c.in-Some-ToClient.is ∙ ap (λ (m : Message). Some m) c.in-Some-ToClient.field-0-is) in
+take-requires c = let is = ForClient-sent (shown c.args.self.now) c.requires.numbered c.args.number c.in-Some-ToClient.message (sym c.message.ensures ∙ c.in-Some-ToClient.is
+    ∙ ap (λ (m : Message). Some m) c.in-Some-ToClient.field-0-is) in
     record { room = c.requires.room; client = is.client; id = is.id; voter = is.voter }
 
 pub returns-in-Some-ToVoter : goal.returns-in-Some-ToVoter

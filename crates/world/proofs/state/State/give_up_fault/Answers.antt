@@ -4,7 +4,7 @@ use Rattle.requester.specs.Steps.{GivesUp}
 use Rattle.world.specs.States.{shown}
 use Rattle.world.specs.Steps.{step}
 use Rattle.world.proofs.Acts.{act-some_Ok, act-Err}
-use Rattle.world.proofs.Foretold.{if_client-below, if_client-missing}
+use Rattle.world.proofs.Predicted.{if_client-below, if_client-missing}
 use Rattle.world.proofs.state.State.give_up_fault.Goals as goal
 
 pub returns-in-Some : goal.returns-in-Some
@@ -15,7 +15,8 @@ pub returns-in-Some-give_up_fault : goal.returns-in-Some-give_up_fault
 unfolding step client.step
 returns-in-Some-give_up_fault c = λ deal.
     if_client-below c.args.client (length c.args.self.now.clients.items) _ c.in_default.ensures.found
-    ∙ act-Err (shown c.args.self.now) c.deref.result.now c.client_of.result.now c.args.client GivesUp c.in-Some-give_up_fault.fault c.deref.ensures.value c.client_of.ensures c.in-Some-give_up_fault.ensures
+    ∙ act-Err (shown c.args.self.now) c.deref.result.now c.client_of.result.now c.args.client GivesUp c.in-Some-give_up_fault.fault c.deref.ensures.value c.client_of.ensures
+    c.in-Some-give_up_fault.ensures
 
 pub returns-in-None : goal.returns-in-None
 unfolding step client.step

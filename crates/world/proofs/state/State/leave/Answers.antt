@@ -5,7 +5,7 @@ use Rattle.requester.specs.Steps.{Leaves}
 use Rattle.world.specs.States.{shown}
 use Rattle.world.specs.Steps.{client_at, step}
 use Rattle.world.proofs.Acts.{act-Ok, act-Err, with_items-items}
-use Rattle.world.proofs.Foretold.{if_client-below, if_client-missing}
+use Rattle.world.proofs.Predicted.{if_client-below, if_client-missing}
 use Rattle.world.proofs.state.State.leave.Goals as goal
 
 pub returns-in-Some : goal.returns-in-Some
@@ -26,7 +26,9 @@ pub returns-in-Err : goal.returns-in-Err
 unfolding step
 returns-in-Err c = λ deal. (
   if_client-below c.args.client (length c.args.self.now.clients.items) _ c.in_default.ensures.found
-      ∙ act-Err (shown c.args.self.now) c.deref_mut.result.now (client_at c.deref_mut.result.now c.args.client) c.args.client Leaves c.in-Err.fault c.deref_mut.ensures.value refl c.in-Err.ensures.refused.0,
+      ∙ act-Err (shown c.args.self.now) c.deref_mut.result.now (client_at c.deref_mut.result.now c.args.client) c.args.client Leaves c.in-Err.fault c.deref_mut.ensures.value
+      refl c.in-Err.ensures.refused.0,
   ap (λ (l : List ClientState). record (shown c.args.self.now) { clients = l })
-      (with_items-items c.args.self.now.clients c.deref_mut.result.now c.leave.new.clients c.args.client _ c.deref_mut.ensures.value c.in-Err.ensures.others ∙ c.in-Err.ensures.refused.1 ∙ c.deref_mut.ensures.value),
+      (with_items-items c.args.self.now.clients c.deref_mut.result.now c.leave.new.clients c.args.client _ c.deref_mut.ensures.value c.in-Err.ensures.others
+      ∙ c.in-Err.ensures.refused.1 ∙ c.deref_mut.ensures.value),
 )

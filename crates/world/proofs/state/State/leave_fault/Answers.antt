@@ -4,7 +4,7 @@ use Rattle.requester.specs.Steps.{Leaves}
 use Rattle.world.specs.States.{shown}
 use Rattle.world.specs.Steps.{step}
 use Rattle.world.proofs.Acts.{act-some_Ok, act-Err}
-use Rattle.world.proofs.Foretold.{if_client-below, if_client-missing}
+use Rattle.world.proofs.Predicted.{if_client-below, if_client-missing}
 use Rattle.world.proofs.state.State.leave_fault.Goals as goal
 
 pub returns-in-Some : goal.returns-in-Some

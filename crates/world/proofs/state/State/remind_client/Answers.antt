@@ -8,7 +8,7 @@ use Rattle.requester.specs.Steps.{remind}
 use Rattle.world.specs.States.{shown}
 use Rattle.world.specs.Steps.{client_at, step}
 use Rattle.world.proofs.Acts.{say-outcome}
-use Rattle.world.proofs.Foretold.{if_client-below, if_client-missing}
+use Rattle.world.proofs.Predicted.{if_client-below, if_client-missing}
 use Rattle.world.proofs.state.State.remind_client.Goals as goal
 
 pub returns-in-Some : goal.returns-in-Some
@@ -23,4 +23,5 @@ returns c = λ deal.
     if_client-below c.args.client (length c.args.self.now.clients.items) _ c.in_default.ensures.found
     ∙ ap (λ o. Ok o) (say-outcome (shown c.args.self.now) (map kinds.ToVoter (remind (client_at c.args.self.now.clients.items c.args.client))) c.len.result _
     (c.len.ensures.value ∙ ap (λ (l : List ToVoter). length l) out ∙ sym (length-map (remind (client_at c.args.self.now.clients.items c.args.client)) kinds.ToVoter))
-    (ap (λ (l : List Message). record (shown c.args.self.now) { sent = l }) (c.send_to_voters.ensures ∙ ap (λ (l : List ToVoter). c.args.self.now.sent.items ++ map kinds.ToVoter l) (c.as_slice.ensures.value ∙ out))))
+    (ap (λ (l : List Message). record (shown c.args.self.now) { sent = l })
+    (c.send_to_voters.ensures ∙ ap (λ (l : List ToVoter). c.args.self.now.sent.items ++ map kinds.ToVoter l) (c.as_slice.ensures.value ∙ out))))

@@ -8,7 +8,7 @@ use Rattle.voter.specs.Steps.{remind}
 use Rattle.world.specs.States.{shown}
 use Rattle.world.specs.Steps.{voter_at, step}
 use Rattle.world.proofs.Acts.{say-outcome}
-use Rattle.world.proofs.Foretold.{if_voter-below, if_voter-missing}
+use Rattle.world.proofs.Predicted.{if_voter-below, if_voter-missing}
 use Rattle.world.proofs.state.State.remind_voter.Goals as goal
 
 pub returns-in-Some : goal.returns-in-Some
@@ -23,4 +23,5 @@ returns c = λ deal.
     if_voter-below c.args.voter (length c.args.self.now.voters.items) _ c.in_default.ensures.found
     ∙ ap (λ o. Ok o) (say-outcome (shown c.args.self.now) (map kinds.ToClient (remind (voter_at c.args.self.now.voters.items c.args.voter))) c.len.result _
     (c.len.ensures.value ∙ ap (λ (l : List ToClient). length l) out ∙ sym (length-map (remind (voter_at c.args.self.now.voters.items c.args.voter)) kinds.ToClient))
-    (ap (λ (l : List Message). record (shown c.args.self.now) { sent = l }) (c.send_to_clients.ensures ∙ ap (λ (l : List ToClient). c.args.self.now.sent.items ++ map kinds.ToClient l) (c.as_slice.ensures.value ∙ out))))
+    (ap (λ (l : List Message). record (shown c.args.self.now) { sent = l })
+    (c.send_to_clients.ensures ∙ ap (λ (l : List ToClient). c.args.self.now.sent.items ++ map kinds.ToClient l) (c.as_slice.ensures.value ∙ out))))

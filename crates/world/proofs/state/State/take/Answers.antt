@@ -6,8 +6,10 @@ use Rattle.world.proofs.state.State.take.Goals as goal
 
 pub returns : goal.returns
 returns c =
-    act-Ok (shown c.args.self.now) c.deref_mut.result.now c.take-seen.new.clients (with_items c.args.self.now.clients c.take-seen.new.clients).items c.args.message.now.client (Takes c.args.message.now)
+    act-Ok (shown c.args.self.now) c.deref_mut.result.now c.take-seen.new.clients (with_items c.args.self.now.clients c.take-seen.new.clients).items c.args.message.now.client
+    (Takes c.args.message.now)
     c.take-seen.new.out.items c.take-seen.result c.tell.result (shown c.tell.new.self) c.deref_mut.ensures.value
     c.take-seen.ensures.taken
-    c.take-seen.ensures.others (with_items-items c.args.self.now.clients c.deref_mut.result.now c.take-seen.new.clients c.args.message.now.client _ c.deref_mut.ensures.value c.take-seen.ensures.others)
+    c.take-seen.ensures.others (with_items-items c.args.self.now.clients c.deref_mut.result.now c.take-seen.new.clients c.args.message.now.client _ c.deref_mut.ensures.value
+    c.take-seen.ensures.others)
     c.tell.ensures.sent c.tell.ensures.seen c.tell.ensures.state

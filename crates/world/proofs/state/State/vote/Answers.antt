@@ -19,14 +19,17 @@ pub returns-in-Ok : goal.returns-in-Ok
 returns-in-Ok c =
     let voters = (with_items c.args.self.now.voters c.vote.new.voters).items in
     vote-Ok (shown c.args.self.now) c.deref_mut.result.now c.vote.new.voters voters c.args.message.now c.vote.new.replies.items c.len.result _ c.deref_mut.ensures.value
-    c.in-Ok.ensures.taken c.in-Ok.ensures.others (with_items-items c.args.self.now.voters c.deref_mut.result.now c.vote.new.voters c.args.message.now.voter _ c.deref_mut.ensures.value c.in-Ok.ensures.others)
+    c.in-Ok.ensures.taken c.in-Ok.ensures.others (with_items-items c.args.self.now.voters c.deref_mut.result.now c.vote.new.voters c.args.message.now.voter _
+    c.deref_mut.ensures.value c.in-Ok.ensures.others)
     c.len.ensures.value
     (ap (λ (l : List Message). record (shown c.args.self.now) { voters = voters; sent = l })
     (c.send_to_clients.ensures ∙ ap (λ (l : List ToClient). c.args.self.now.sent.items ++ map kinds.ToClient l) c.as_slice.ensures.value))
 
 pub returns-in-Err : goal.returns-in-Err
 returns-in-Err c = (
-  vote-not_voted (shown c.args.self.now) c.deref_mut.result.now c.args.message.now c.deref_mut.ensures.value c.in-Err.ensures.refused.0 ∙ ap (λ (fault : VoterFault). Err (faults.Voter fault)) (spent c.in-Err.fault),
+  vote-not_voted (shown c.args.self.now) c.deref_mut.result.now c.args.message.now c.deref_mut.ensures.value c.in-Err.ensures.refused.0
+      ∙ ap (λ (fault : VoterFault). Err (faults.Voter fault)) (spent c.in-Err.fault),
   ap (λ (l : List VoterState). record (shown c.args.self.now) { voters = l })
-      (with_items-items c.args.self.now.voters c.deref_mut.result.now c.vote.new.voters c.args.message.now.voter _ c.deref_mut.ensures.value c.in-Err.ensures.others ∙ c.in-Err.ensures.refused.1 ∙ c.deref_mut.ensures.value),
+      (with_items-items c.args.self.now.voters c.deref_mut.result.now c.vote.new.voters c.args.message.now.voter _ c.deref_mut.ensures.value c.in-Err.ensures.others
+      ∙ c.in-Err.ensures.refused.1 ∙ c.deref_mut.ensures.value),
 )

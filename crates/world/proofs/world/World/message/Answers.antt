@@ -11,4 +11,5 @@ returns-clause-line c =
     let sent = c.self.inside.state.sent.items in
     let long = ap (λ (w : Planned). length w.state.sent) c.self.view_is in
     let within : c.args.number < length sent = omega arith in
-    subst (λ (m : Message). HasLine m) (sym c.index.ensures) (All-from_recursion HasLine sent (c.worlds_stay_sound.ensures.lines (record { plans = plans_of c.self.inside.cycles; state = shown c.self.inside.state }) c.self.invariant) c.args.number c.index.result.now within)
+    subst (λ (m : Message). HasLine m) (sym c.index.ensures) (All-from_recursion HasLine sent
+    (c.worlds_stay_sound.ensures.lines (record { plans = plans_of c.self.inside.cycles; state = shown c.self.inside.state }) c.self.invariant) c.args.number c.index.result.now within)

@@ -11,15 +11,19 @@ refusal-requires c = c.worlds_stay_sound.ensures.numbered (record { plans = plan
 
 pub returns-then-is_err-clause-exclusive : goal.returns-then-is_err-clause-exclusive
 returns-then-is_err-clause-exclusive c =
-    subst (λ (u : WorldState). IsExclusive u.visible) (sym c.make_room.ensures.same) (c.worlds_stay_sound.ensures.exclusive (record { plans = plans_of c.self.inside.cycles; state = shown c.self.inside.state }) c.self.invariant)
+    subst (λ (u : WorldState). IsExclusive u.visible) (sym c.make_room.ensures.same)
+    (c.worlds_stay_sound.ensures.exclusive (record { plans = plans_of c.self.inside.cycles; state = shown c.self.inside.state }) c.self.invariant)
 
 pub act-requires-clause-numbered : goal.act-requires-clause-numbered
-act-requires-clause-numbered c = subst (λ (u : WorldState). IsNumbered u) (sym c.make_room.ensures.same) (c.worlds_stay_sound.ensures.numbered (record { plans = plans_of c.self.inside.cycles; state = shown c.self.inside.state }) c.self.invariant)
+act-requires-clause-numbered c = subst (λ (u : WorldState). IsNumbered u) (sym c.make_room.ensures.same)
+    (c.worlds_stay_sound.ensures.numbered (record { plans = plans_of c.self.inside.cycles; state = shown c.self.inside.state }) c.self.invariant)
 
 pub invariant_of-self-2 : goal.invariant_of-self-2
-invariant_of-self-2 c = IsReached-does (record { plans = plans_of c.self.inside.cycles; state = shown c.self.inside.state }) c.self.invariant c.args.step (shown c.make_room.new.self) c.act.result (shown c.act.new.self) c.make_room.ensures.same c.act.ensures
+invariant_of-self-2 c = IsReached-does (record { plans = plans_of c.self.inside.cycles; state = shown c.self.inside.state }) c.self.invariant c.args.step
+    (shown c.make_room.new.self) c.act.result (shown c.act.new.self) c.make_room.ensures.same c.act.ensures
 
 pub returns-clause-exclusive : goal.returns-clause-exclusive
 returns-clause-exclusive c =
     c.worlds_stay_sound.ensures.exclusive (record { plans = plans_of c.self.inside.cycles; state = shown c.act.new.self })
-    (IsReached-does (record { plans = plans_of c.self.inside.cycles; state = shown c.self.inside.state }) c.self.invariant c.args.step (shown c.make_room.new.self) c.act.result (shown c.act.new.self) c.make_room.ensures.same c.act.ensures)
+    (IsReached-does (record { plans = plans_of c.self.inside.cycles; state = shown c.self.inside.state }) c.self.invariant c.args.step (shown c.make_room.new.self) c.act.result
+    (shown c.act.new.self) c.make_room.ensures.same c.act.ensures)

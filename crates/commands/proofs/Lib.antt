@@ -1,0 +1,5 @@
+pub mod CommandLemmas
+pub mod DealingLemmas
+pub mod ExecuteLemmas
+pub mod PartLemmas
+pub mod TextLemmas

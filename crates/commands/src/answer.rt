@@ -1,0 +1,295 @@
+//! What each command writes for its input.
+ghost use Rattle.std.specs.Prelude.{◌≡◌, ◌≤◌, ◌<◌, length, IfErr, IfOk, string_bytes};
+ghost use Rattle.numbers.specs.Bounds.{max_tickets};
+ghost use Rattle.construct.specs.Answers as construct_answers;
+ghost use Rattle.certificate.specs.Certificates.{cycle_len};
+ghost use Rattle.dealer.specs.Accounts.{account_of};
+ghost use Rattle.replay.specs.Records.{IsFirstFault, IsSoundRecord, entries_of, tickets_of};
+ghost use Rattle.commands.specs.Commands.{Gives, IsAnswered, IsServed, check_answer_of, check_text, coterie_part, deal_answer_of, deal_text, make_answer_of, numbered_text, plan_part, planned_by, planned_in, shape_at, staged_in};
+ghost use Rattle.commands.specs.Devices.{IsOwn};
+ghost use Rattle.commands.specs.Faults.{IsBeforeScript, IsOfFile};
+
+use crate::dealing::dealt;
+use crate::fault::Fault;
+use crate::lines::{load_line_of, push_account, push_ratio, push_receipts, record_lines_of};
+use crate::parts::split_part;
+use certificate::{Plan, read_plan, write_plan};
+use command_line::{Command, Shape};
+use construct::{ConstructFault, cyclic, grid, majority, tree, wheel};
+use coterie_file::{FileFault, Named, read_coterie, write_coterie};
+use dealer::Account;
+use planner::plan;
+use quorum_set::{Coterie, Side};
+use replay::{ReplayFault, check_record, read_record, run_script};
+use run_outcome::RunRecord;
+use std::alloc::{AllocError, Global};
+
+/// Returns the coterie that a part describes. A part that is not UTF-8 fails with `NotToml`.
+pub fn coterie_of(alloc: Global, part: &[u8]) -> Result<Named, Fault>
+    ensures exact { Gives (λ n. n) result (coterie_part part.now) }
+    ensures own { IfErr result IsOwn }
+    ensures file { IfErr result IsOfFile }
+    ensures before { IfErr result IsBeforeScript }
+{
+    let Ok(text) = std::str::from_utf8(part) else {
+        return Err(Fault::File(FileFault::NotToml));
+    };
+    match read_coterie(alloc, text) {
+        Ok(named) => Ok(named),
+        Err(fault) => Err(Fault::from(fault)),
+    }
+}
+
+/// Returns the plan of a coterie and its voters' capacities that a part describes.
+fn plan_of(alloc: Global, named: &Named, part: &[u8]) -> Result<Plan, Fault>
+    ensures exact { Gives (λ p. p) result (plan_part named.now part.now) }
+    ensures own { IfErr result IsOwn }
+    ensures before { IfErr result IsBeforeScript }
+    ensures coterie { IfOk result (λ p. p.system ≡ named.now.system) }
+{
+    match read_plan(alloc, named.coterie(), named.capacities(), part) {
+        Ok(plan) => Ok(plan),
+        Err(fault) => Err(Fault::from(fault)),
+    }
+}
+
+/// A coterie with names, and a plan of it.
+#[derive(Drop)]
+pub struct Planned {
+    pub named: Named,
+    pub plan: Plan,
+}
+
+/// Returns what two parts describe: a coterie, and a plan of it.
+#[tactic(auto, unfolding(crate::specs::Commands::planned_by))]
+fn planned_by(alloc: Global, coterie: &[u8], plan: &[u8]) -> Result<Planned, Fault>
+    ensures exact { Gives (λ p. p) result (planned_by coterie.now plan.now) }
+    ensures own { IfErr result IsOwn }
+    ensures before { IfErr result IsBeforeScript }
+    ensures same { IfOk result (λ p. p.plan.system ≡ p.named.system) }
+{
+    let named = match coterie_of(alloc, coterie) {
+        Ok(named) => named,
+        Err(fault) => return Err(fault),
+    };
+    let plan = match plan_of(alloc, &named, plan) {
+        Ok(plan) => plan,
+        Err(fault) => return Err(fault),
+    };
+    Ok(Planned { named, plan })
+}
+
+/// Returns what an input of two parts describes: a coterie, and a plan of it.
+#[tactic(auto, unfolding(crate::specs::Commands::planned_in))]
+pub fn planned_of(alloc: Global, input: &[u8]) -> Result<Planned, Fault>
+    ensures exact { Gives (λ p. p) result (planned_in input.now) }
+    ensures own { IfErr result IsOwn }
+    ensures before { IfErr result IsBeforeScript }
+    ensures same { IfOk result (λ p. p.plan.system ≡ p.named.system) }
+{
+    match split_part(input, 2) {
+        Ok((coterie, plan)) => planned_by(alloc, coterie, plan),
+        Err(fault) => Err(fault),
+    }
+}
+
+/// Returns what an input of three parts describes: a coterie, a plan of it, and a text after them.
+#[tactic(auto, unfolding(crate::specs::Commands::staged_in))]
+pub fn staged_of(alloc: Global, input: &[u8]) -> Result<(Planned, &[u8]), Fault>
+    ensures exact { Gives (λ x. (x.0, x.1.now)) result (staged_in input.now) }
+    ensures own { IfErr result IsOwn }
+    ensures before { IfErr result IsBeforeScript }
+    ensures same { IfOk result (λ x. x.0.plan.system ≡ x.0.named.system) }
+{
+    let (coterie, rest) = match split_part(input, 2) {
+        Ok(parts) => parts,
+        Err(fault) => return Err(fault),
+    };
+    let (plan, text) = match split_part(rest, 3) {
+        Ok(parts) => parts,
+        Err(fault) => return Err(fault),
+    };
+    match planned_by(alloc, coterie, plan) {
+        Ok(planned) => Ok((planned, text)),
+        Err(fault) => Err(fault),
+    }
+}
+
+/// Returns what `check` writes.
+#[tactic(auto, unfolding(crate::specs::Commands::check_text))]
+fn check_text_of(alloc: Global, planned: &Planned) -> Result<String, AllocError>
+    ensures { IfOk result (λ text. string_bytes text ≡ check_text planned.now) }
+{
+    load_line_of(alloc, planned.plan.load(), planned.plan.cycle_len())
+}
+
+/// Returns what `deal` writes for the tickets below `count`: the receipts for them from an office
+/// with that quota, and its account.
+#[tactic(auto, unfolding(crate::specs::Commands::deal_text))]
+fn deal_text_of(alloc: Global, planned: Planned, count: u64) -> Result<String, AllocError>
+    requires same { planned.plan.system ≡ planned.named.system }
+    requires count { count ≤ max_tickets }
+    ensures { IfOk result (λ text. string_bytes text ≡ deal_text planned count) }
+{
+    let Planned { named, plan } = planned;
+    let (account, receipts) = dealt(alloc, plan, count)?;
+    let _ = named.coterie();
+    let mut text = String::new(alloc);
+    push_receipts(&mut text, &receipts)?;
+    push_account(&mut text, &named, &account)?;
+    push_ratio(&mut text, named.capacities(), &account)?;
+    Ok(text)
+}
+
+/// Returns the coterie of a shape and its sizes.
+fn shape_coterie(alloc: Global, shape: &Shape) -> Result<Coterie, ConstructFault>
+    ensures { construct_answers.Gives result (shape_at shape.now) }
+{
+    match shape {
+        Shape::Grid(rows, columns) => grid(alloc, *rows, *columns),
+        Shape::Majority(voters) => majority(alloc, *voters),
+        Shape::Tree(height) => tree(alloc, *height),
+        Shape::Wheel(rims) => wheel(alloc, *rims),
+        Shape::Cyclic(voters, base) => cyclic(alloc, *voters, base.as_slice()),
+    }
+}
+
+/// Returns the text of a coterie whose voters have numbered names.
+fn numbered_text_of(alloc: Global, coterie: Coterie) -> Result<String, AllocError>
+    ensures { IfOk result (λ text. string_bytes text ≡ numbered_text coterie) }
+{
+    let named = Named::numbered(alloc, coterie)?;
+    write_coterie(alloc, &named)
+}
+
+/// Returns what `make` writes.
+fn make_answer(alloc: Global, shape: &Shape) -> Result<String, Fault>
+    ensures exact { Gives string_bytes result (make_answer_of shape.now) }
+    ensures own { IfErr result IsOwn }
+{
+    let coterie = match shape_coterie(alloc, shape) {
+        Ok(coterie) => coterie,
+        Err(fault) => return Err(Fault::from(fault)),
+    };
+    match numbered_text_of(alloc, coterie) {
+        Ok(text) => Ok(text),
+        Err(_) => Err(Fault::OutOfMemory),
+    }
+}
+
+/// Returns what `plan` writes for an input: the text of a plan of the coterie that the input
+/// describes.
+#[tactic(auto, using(crate::proofs::CommandLemmas::unplanned_refused))]
+fn plan_answer(alloc: Global, input: &[u8]) -> Result<String, Fault>
+    ensures exact { IsAnswered string_bytes Command.Plan input.now result }
+    ensures own { IfErr result IsOwn }
+{
+    let named = match coterie_of(alloc, input) {
+        Ok(named) => named,
+        Err(fault) => return Err(fault),
+    };
+    let plan = match plan(alloc, named.coterie(), named.capacities()) {
+        Ok(plan) => plan,
+        Err(fault) => return Err(Fault::from(fault)),
+    };
+    match write_plan(alloc, &plan) {
+        Ok(text) => Ok(text),
+        Err(_) => Err(Fault::OutOfMemory),
+    }
+}
+
+/// Returns what `check` writes for an input.
+fn check_answer(alloc: Global, input: &[u8]) -> Result<String, Fault>
+    ensures exact { Gives string_bytes result (check_answer_of input.now) }
+    ensures own { IfErr result IsOwn }
+{
+    let planned = match planned_of(alloc, input) {
+        Ok(planned) => planned,
+        Err(fault) => return Err(fault),
+    };
+    match check_text_of(alloc, &planned) {
+        Ok(text) => Ok(text),
+        Err(_) => Err(Fault::OutOfMemory),
+    }
+}
+
+/// Returns what `deal` writes for an input.
+fn deal_answer(alloc: Global, count: u32, input: &[u8]) -> Result<String, Fault>
+    ensures exact { Gives string_bytes result (deal_answer_of count input.now) }
+    ensures own { IfErr result IsOwn }
+{
+    let planned = match planned_of(alloc, input) {
+        Ok(planned) => planned,
+        Err(fault) => return Err(fault),
+    };
+    match deal_text_of(alloc, planned, u64::from(count)) {
+        Ok(text) => Ok(text),
+        Err(_) => Err(Fault::OutOfMemory),
+    }
+}
+
+/// Returns what `world` writes for an input: the output of the script in its third part.
+fn world_answer(alloc: Global, input: &[u8]) -> Result<String, Fault>
+    ensures exact { IsAnswered string_bytes Command.World input.now result }
+    ensures own { IfErr result IsOwn }
+{
+    let (planned, script) = match staged_of(alloc, input) {
+        Ok(staged) => staged,
+        Err(fault) => return Err(fault),
+    };
+    match run_script(alloc, planned.plan, script) {
+        Ok(output) => Ok(output),
+        Err(fault) => Err(Fault::from(fault)),
+    }
+}
+
+/// Returns the account of a sound record by a plan, or the record's first fault.
+fn account_of_record(alloc: Global, plan: &Plan, run: &RunRecord) -> Result<Account, ReplayFault>
+    ensures account { IfOk result (λ account. account ≡ account_of plan.now (tickets_of run.now.draws.items)) }
+    ensures one_each { IfOk result (λ account. length account.voters ≡ plan.now.system.voters) }
+    ensures sound { IfOk result (λ _. IsSoundRecord plan.now (entries_of run.now)) }
+    ensures fault { IfErr result (IsFirstFault plan.now (entries_of run.now)) }
+{
+    check_record(alloc, plan, Side::First, run)
+}
+
+/// Returns what `replay` writes for an input: what the record in its third part says.
+fn replay_answer(alloc: Global, input: &[u8]) -> Result<String, Fault>
+    ensures exact { IsAnswered string_bytes Command.Replay input.now result }
+    ensures own { IfErr result IsOwn }
+{
+    let (planned, text) = match staged_of(alloc, input) {
+        Ok(staged) => staged,
+        Err(fault) => return Err(fault),
+    };
+    let run = match read_record(alloc, text) {
+        Ok(run) => run,
+        Err(fault) => return Err(Fault::from(fault)),
+    };
+    let account = match account_of_record(alloc, &planned.plan, &run) {
+        Ok(account) => account,
+        Err(fault) => return Err(Fault::from(fault)),
+    };
+    let _ = planned.named.coterie();
+    match record_lines_of(alloc, &planned.named, &account, run.register) {
+        Ok(text) => Ok(text),
+        Err(_) => Err(Fault::OutOfMemory),
+    }
+}
+
+/// Returns what the command writes for an input.
+pub fn answer(alloc: Global, command: &Command, input: &[u8]) -> Result<String, Fault>
+    requires served { IsServed command.now }
+    ensures exact { IsAnswered string_bytes command.now input.now result }
+    ensures own { IfErr result IsOwn }
+{
+    match command {
+        Command::Make(shape) => make_answer(alloc, shape),
+        Command::Plan => plan_answer(alloc, input),
+        Command::Check => check_answer(alloc, input),
+        Command::Deal(count) => deal_answer(alloc, *count, input),
+        Command::World => world_answer(alloc, input),
+        Command::Run { .. } => unreachable!(),
+        Command::Replay => replay_answer(alloc, input),
+    }
+}

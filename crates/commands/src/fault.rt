@@ -1,0 +1,144 @@
+//! The faults of commands.
+ghost use Rattle.std.specs.Prelude.{◌≡◌};
+ghost use Rattle.commands.specs.Faults.{construct_refusal, device_refusal, file_refusal, plan_refusal, planner_refusal, replay_refusal, run_refusal};
+ghost use Rattle.commands.specs.declared.fault.Fault.TheVariants.{OutOfMemory};
+
+use certificate::PlanFault;
+use construct::ConstructFault;
+use coterie_file::FileFault;
+use planner::PlannerFault;
+use replay::ReplayFault;
+use run_outcome::{ClusterFault, RunFault};
+use std::alloc::{AllocError, AllocFailed};
+use thiserror::Error;
+use whole_io::DeviceFault;
+
+/// Why a command failed. Its text is one line.
+#[derive(Clone, Copy, Debug, PartialEq, Eq, Error)]
+pub enum Fault {
+    /// The input has fewer parts than the command reads. Has the number of the first missing part,
+    /// from 1.
+    #[error("I1 MissingPart {0}")]
+    MissingPart(usize),
+    /// A word of the command line has to be the name of a voter of the input, and is none. Has the
+    /// place of the first such word, from 0. Only commands of `qlock-show` have such words.
+    #[error("I6 UnknownVoter {0}")]
+    UnknownVoter(usize),
+    /// The input is too long, or a read or a write failed.
+    #[error(transparent)]
+    Device(DeviceFault),
+    /// There is no coterie of this shape and these sizes.
+    #[error(transparent)]
+    Construct(ConstructFault),
+    /// The coterie has a fault.
+    #[error(transparent)]
+    File(FileFault),
+    /// The plan has a fault.
+    #[error(transparent)]
+    Plan(PlanFault),
+    /// No plan was found.
+    #[error(transparent)]
+    Planner(PlannerFault),
+    /// The script or the record has a fault.
+    #[error(transparent)]
+    Replay(ReplayFault),
+    /// A run ended without a record.
+    #[error(transparent)]
+    Cluster(ClusterFault),
+    /// Memory ran out.
+    #[error("O1 OutOfMemory")]
+    OutOfMemory,
+}
+
+impl From<AllocError> for Fault {
+    ghost from_gives = { λ _ e. e ≡ OutOfMemory };
+
+    fn from(_error: AllocError) -> Fault {
+        Fault::OutOfMemory
+    }
+}
+
+impl<T: Drop> From<AllocFailed<T>> for Fault {
+    ghost from_gives = { λ _ e. e ≡ OutOfMemory };
+
+    fn from(_error: AllocFailed<T>) -> Fault {
+        Fault::OutOfMemory
+    }
+}
+
+impl From<DeviceFault> for Fault {
+    ghost from_gives = { λ fault e. e ≡ device_refusal fault };
+
+    fn from(fault: DeviceFault) -> Fault {
+        match fault {
+            DeviceFault::OutOfMemory => Fault::OutOfMemory,
+            _ => Fault::Device(fault),
+        }
+    }
+}
+
+impl From<ConstructFault> for Fault {
+    ghost from_gives = { λ fault e. e ≡ construct_refusal fault };
+
+    fn from(fault: ConstructFault) -> Fault {
+        match fault {
+            ConstructFault::OutOfMemory => Fault::OutOfMemory,
+            _ => Fault::Construct(fault),
+        }
+    }
+}
+
+impl From<FileFault> for Fault {
+    ghost from_gives = { λ fault e. e ≡ file_refusal fault };
+
+    fn from(fault: FileFault) -> Fault {
+        match fault {
+            FileFault::OutOfMemory => Fault::OutOfMemory,
+            _ => Fault::File(fault),
+        }
+    }
+}
+
+impl From<PlanFault> for Fault {
+    ghost from_gives = { λ fault e. e ≡ plan_refusal fault };
+
+    fn from(fault: PlanFault) -> Fault {
+        match fault {
+            PlanFault::OutOfMemory => Fault::OutOfMemory,
+            _ => Fault::Plan(fault),
+        }
+    }
+}
+
+impl From<PlannerFault> for Fault {
+    ghost from_gives = { λ fault e. e ≡ planner_refusal fault };
+
+    fn from(fault: PlannerFault) -> Fault {
+        match fault {
+            PlannerFault::OutOfMemory => Fault::OutOfMemory,
+            _ => Fault::Planner(fault),
+        }
+    }
+}
+
+impl From<ReplayFault> for Fault {
+    ghost from_gives = { λ fault e. e ≡ replay_refusal fault };
+
+    fn from(fault: ReplayFault) -> Fault {
+        match fault {
+            ReplayFault::OutOfMemory => Fault::OutOfMemory,
+            _ => Fault::Replay(fault),
+        }
+    }
+}
+
+impl From<RunFault> for Fault {
+    ghost from_gives = { λ fault e. e ≡ run_refusal fault };
+
+    fn from(fault: RunFault) -> Fault {
+        match fault {
+            RunFault::OutOfMemory => Fault::OutOfMemory,
+            RunFault::Cluster(fault) => Fault::Cluster(fault),
+        }
+    }
+}

@@ -1,0 +1,82 @@
+//! What the programs report on standard error, and their exit statuses.
+ghost use Rattle.std.specs.Prelude.{◌≡◌};
+ghost use Rattle.host.specs.Statuses.{served_status};
+ghost use Rattle.commands.specs.Faults.{device_refusal};
+ghost use Rattle.commands.specs.Statuses.{status_of, usage_status};
+
+use crate::files::Unread;
+use clap::error::ErrorKind;
+use commands::{DeviceFault, Fault, Usage, status_of, usage_status};
+
+/// What a request for help gets besides: how files are named.
+const FILES_HELP: &str = "
+Input:
+  -f <FILE>  Read FILE in place of standard input, which is the file -. Several files are
+             parts of one input, in their order: no line %% has to be between them
+";
+
+/// Returns what a request for help gets besides, if the text is one about help.
+pub fn files_help(error: &clap::Error) -> &'static str {
+    match error.kind() {
+        ErrorKind::DisplayHelp => FILES_HELP,
+        _ => "",
+    }
+}
+
+/// Prints a hint if a word was not expected: often it is the name of a file.
+fn hint_at_input<R: Eprint>(rt: &R, error: &clap::Error) {
+    if error.kind() == ErrorKind::UnknownArgument {
+        let _ = rt.eprintln("The input is standard input: put -f before the name of a file.");
+    }
+}
+
+/// Prints why the words name no command. Returns the exit status: 2, or 4 if memory ran out.
+pub fn refuse_words<R: Eprint>(rt: &R, usage: &Usage) -> u8
+    ensures status { result ≡ usage_status usage.now }
+{
+    match usage {
+        Usage::Refused(error) => {
+            let _ = rt.eprint(error);
+            let _ = rt.eprint(files_help(error));
+            hint_at_input(rt, error);
+        }
+        Usage::Arguments => {
+            let _ = rt.eprintln("I5 Arguments");
+        }
+        Usage::OutOfMemory => {
+            let _ = rt.eprintln(&Fault::OutOfMemory);
+        }
+    }
+    usage_status(usage)
+}
+
+/// Prints the fault of a file that was not read, with its name. Returns the exit status: 3 if it
+/// can't be opened or read, 4 if memory ran out, else 1.
+pub fn report_unread<R: Eprint>(rt: &R, unread: &Unread) -> u8
+    ensures status { result ≡ status_of (device_refusal unread.now.fault) }
+{
+    let fault = Fault::from(unread.fault);
+    match unread.fault {
+        DeviceFault::OutOfMemory => {
+            let _ = rt.eprintln(&fault);
+        }
+        _ => {
+            let _ = eprintln!(rt; "{fault} {:?}", unread.name);
+        }
+    }
+    status_of(&fault)
+}
+
+/// Prints the fault of a command, if it failed. Returns the exit status: 0 if it did not fail, 3 if a
+/// read or a write failed, 4 if memory ran out, else 1.
+pub fn report<R: Eprint>(rt: &R, served: &Result<(), Fault>) -> u8
+    ensures status { result ≡ served_status served.now }
+{
+    match served {
+        Ok(()) => 0,
+        Err(fault) => {
+            let _ = rt.eprintln(fault);
+            status_of(fault)
+        }
+    }
+}

@@ -1,6 +1,0 @@
-use Rattle.qlock_cli.proofs.CommandLemmas.{script_refused}
-use Rattle.qlock_cli.proofs.answer.world_answer.Goals as goal
-
-pub returns-clause-exact : goal.returns-clause-exact
-returns-clause-exact c =
-    rw c.from.ensures (script_refused c.args.input.now c.in-Ok.staged.1.now c.in-Ok.staged.0 c.in-Err-run_script.fault c.in-Ok.ensures.exact c.in-Err-run_script.ensures.bad)

@@ -1,5 +1,0 @@
-use Rattle.qlock_cli.proofs.CommandLemmas.{named_in_range}
-use Rattle.qlock_cli.proofs.laws.named_commands_are_in_range.Goals as goal
-
-pub returns : goal.returns
-returns c = named_in_range

@@ -1,0 +1,10 @@
+use Rattle.std.proofs.Common.{◌≡◌, ◌≤◌, ◌*◌, ◌+◌, take}
+use Rattle.arrayvec.specs.ArrayString.{array_string_len}
+use Rattle.qlock_plan_c.specs.FaultLines.{numbered_line}
+use Rattle.qlock_plan_c.proofs.fault_lines.numbered.Given as goal
+
+abbrev pub invariant-loop-number : goal.invariant-loop-number
+invariant-loop-number l = record {
+  line : l.line.bytes ≡ numbered_line l.words (take l.number-index l.numbers);
+  len : array_string_len l.line ≤ 20 + 21 * l.number-index;
+}

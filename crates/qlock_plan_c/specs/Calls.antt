@@ -1,0 +1,141 @@
+-- How each call ends, and what it has written then.
+use Rattle.std.specs.Prelude.{◌≡◌, ◌⊎◌, ℕ, ◌+◌, ◌/◌, ◌%◌, ◌≤◌, ⊤, List, [], ◌∷◌, ◌++◌, Ok, Err}
+use Rattle.std.specs.List.{flat_map}
+use Rattle.numbers.specs.Bounds.{max_tickets}
+use Rattle.words.specs.WordBytes.{bytes_of}
+use Rattle.coterie_file.specs.Named.{NamedSystem}
+use Rattle.certificate.specs.Certificates.{IsCertificate, IsOptimal, cycle_len, load_of}
+use Rattle.even.specs.EvenCycles.{EvenOrder}
+use Rattle.even.specs.Slacks.{IsSlack}
+use Rattle.even.specs.declared.slack.Slack.{Slack}
+use Rattle.qlock_plan_c.specs.FaultLines.{line_of}
+use Rattle.qlock_plan_c.specs.Orders.{IsEvenOrder, IsOrder, masks_of}
+use Rattle.qlock_plan_c.specs.Outputs.{IsUnwritten, LacksRoom, Output, Writes}
+use Rattle.qlock_plan_c.specs.Texts.{IsPlanText, RefusesToPlan, coterie_in, planned_in}
+use Rattle.qlock_plan_c.specs.declared.fault.Fault.{Fault}
+use Rattle.qlock_plan_c.specs.declared.order.Order.{Order}
+use Rattle.qlock_plan_c.specs.declared.outcome.Outcome.{Outcome}
+use Rattle.qlock_plan_c.specs.declared.outcome.Outcome.TheVariants.{Done, BadArgument, NoRoom, Refused, NoMemory}
+use Rattle.qlock_plan_c.specs.declared.reading.Planned.{Planned}
+
+-- Calls that write a text
+
+-- the call has this text to write: its own, or the line of a fault
+abbrev pub HasToWrite : (List ℕ → Type 0) → (Fault → Type 0) → List ℕ → Type 0
+HasToWrite texts faults text = texts text ⊎ ((fault : Fault) × faults fault × (text ≡ line_of fault))
+
+-- A call whose own text is one of `texts` ends. It is done once such a text is written. It is
+-- refused with one of `faults`, whose line is written. Otherwise nothing is.
+abbrev pub TextCall : (List ℕ → Type 0) → (Fault → Type 0) → Output → Outcome → Type 0
+TextCall texts faults o Done = (text : List ℕ) × texts text × Writes text o
+TextCall texts faults o Refused = (fault : Fault) × faults fault × Writes (line_of fault) o
+TextCall texts faults o NoRoom = (text : List ℕ) × HasToWrite texts faults text × LacksRoom text o
+TextCall texts faults o NoMemory = IsUnwritten o
+TextCall texts faults o BadArgument = ⊥
+
+-- the names, each with a newline
+abbrev pub names_text : List (List ℕ) → List ℕ
+names_text names = flat_map (λ name. name ++ 10 ∷ []) names
+
+-- the text has the names of the voters of the coterie that the first text describes
+abbrev pub IsNamesText : List ℕ → List ℕ → Type 0
+IsNamesText coterie text = (named : NamedSystem) × (coterie_in coterie ≡ Ok named) × (text ≡ names_text named.names)
+
+-- the call `qlock_names`: its text has the names, and it is refused with the fault of the coterie
+abbrev pub NamesCall : List ℕ → Output → Outcome → Type 0
+NamesCall coterie o outcome = TextCall (IsNamesText coterie) (λ fault. coterie_in coterie ≡ Err fault) o outcome
+
+-- the call `qlock_plan`: its text is an optimal plan's, and it is refused with the fault of
+-- reading the coterie or of looking for a plan
+abbrev pub PlanCall : List ℕ → Output → Outcome → Type 0
+PlanCall coterie o outcome = TextCall (IsPlanText coterie) (RefusesToPlan coterie) o outcome
+
+-- Calls that write numbers
+
+-- A call with numbers ends. `allowed` is what it asks of its arguments. If it is done, `done` says
+-- what its numbers are, `out` is as it was, and `written` is 0. If it is refused with one of
+-- `faults`, the line of the fault is in `out`. Otherwise `out` is as it was. Unless it is done, its
+-- numbers are as they were: `kept`.
+abbrev pub NumbersCall : (allowed done kept : Type 0) → (Fault → Type 0) → Output → Outcome → Type 0
+NumbersCall allowed done kept faults o Done = allowed × done × (o.after ≡ o.before) × (o.count ≡ 0)
+NumbersCall allowed done kept faults o Refused =
+    allowed × kept × ((fault : Fault) × faults fault × Writes (line_of fault) o)
+NumbersCall allowed done kept faults o NoRoom =
+    allowed × kept × ((fault : Fault) × faults fault × LacksRoom (line_of fault) o)
+NumbersCall allowed done kept faults o NoMemory = allowed × kept × IsUnwritten o
+NumbersCall allowed done kept faults o BadArgument = ¬ allowed × kept × IsUnwritten o
+
+-- three numbers of the caller's
+pub record Three : Type 0 where
+  pub first : ℕ
+  pub second : ℕ
+  pub third : ℕ
+
+abbrev pub three : ℕ → ℕ → ℕ → Three
+three first second third = record { first = first; second = second; third = third }
+
+-- The texts describe a coterie and an optimal plan of it. The numbers are the plan's load, as a
+-- numerator and a denominator in lowest terms, and the length of its cycle.
+pub record WritesLoad (coterie plan : List ℕ) (numbers : Three) : Type 0 where
+  pub planned : Planned
+  pub texts : planned_in coterie plan ≡ Ok planned
+  pub certificate : IsCertificate planned.plan
+  pub optimal : IsOptimal planned.plan
+  pub numerator : numbers.first ≡ (load_of planned.plan).0
+  pub denominator : numbers.second ≡ (load_of planned.plan).1
+  pub cycle : numbers.third ≡ cycle_len planned.plan
+
+-- The texts describe a coterie and a plan of it. The numbers are the stride of the even order, and
+-- the numerator and the denominator of its slack.
+pub record WritesSlack (coterie plan : List ℕ) (numbers : Three) : Type 0 where
+  pub planned : Planned
+  pub texts : planned_in coterie plan ≡ Ok planned
+  pub order : EvenOrder
+  pub is_even : IsEvenOrder planned.plan order
+  pub stride : numbers.first ≡ order.stride
+  pub slack : Slack
+  pub is_slack : IsSlack order slack
+  pub excess : numbers.second ≡ slack.excess
+  pub unit : numbers.third ≡ slack.unit
+
+-- a call that writes three numbers ends, and may be refused with a fault of the two texts
+abbrev pub ThreeCall : (Three → Type 0) → (coterie plan : List ℕ) → (before after : Three) → Output → Outcome → Type 0
+ThreeCall writes coterie plan before after o outcome =
+    NumbersCall ⊤ (writes after) (after ≡ before) (λ fault. planned_in coterie plan ≡ Err fault) o outcome
+
+-- the call `qlock_check`
+abbrev pub CheckCall : (coterie plan : List ℕ) → (before after : Three) → Output → Outcome → Type 0
+CheckCall coterie plan before after o outcome = ThreeCall (WritesLoad coterie plan) coterie plan before after o outcome
+
+-- the call `qlock_slack`
+abbrev pub SlackCall : (coterie plan : List ℕ) → (before after : Three) → Output → Outcome → Type 0
+SlackCall coterie plan before after o outcome = ThreeCall (WritesSlack coterie plan) coterie plan before after o outcome
+
+-- which tickets are asked for: the number of an order, the first ticket, and how many bytes there
+-- are for masks
+pub record Asked : Type 0 where
+  pub order : ℕ
+  pub first : ℕ
+  pub bytes : ℕ
+
+abbrev pub asked : ℕ → ℕ → ℕ → Asked
+asked order first bytes = record { order = order; first = first; bytes = bytes }
+
+-- there is such an order, each mask has 8 bytes, and there are such tickets
+abbrev pub IsAllowed : Asked → Type 0
+IsAllowed a = (a.order ≤ 1) × (a.bytes % 8 ≡ 0) × (a.first + a.bytes / 8 ≤ max_tickets)
+
+-- The texts describe a coterie and a plan of it. The bytes are the masks of the quorums of these
+-- tickets, in this order.
+pub record WritesMasks (coterie plan : List ℕ) (a : Asked) (masks : List ℕ) : Type 0 where
+  pub planned : Planned
+  pub texts : planned_in coterie plan ≡ Ok planned
+  pub order : Order
+  pub is_order : IsOrder planned.plan a.order order
+  pub masks_are : masks ≡ bytes_of (masks_of order a.first (a.bytes / 8))
+
+-- the call `qlock_quorums`
+abbrev pub QuorumsCall : (coterie plan : List ℕ) → Asked → (before after : List ℕ) → Output → Outcome → Type 0
+QuorumsCall coterie plan a before after o outcome =
+    NumbersCall (IsAllowed a) (WritesMasks coterie plan a after) (after ≡ before)
+    (λ fault. planned_in coterie plan ≡ Err fault) o outcome

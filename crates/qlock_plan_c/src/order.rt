@@ -1,0 +1,74 @@
+//! The order of a plan's tickets.
+ghost use Rattle.std.specs.Prelude.{◌≡◌, ◌<◌, ◌+◌, ◌≤◌, IfOk, length};
+ghost use Rattle.numbers.specs.Bounds.{max_tickets};
+ghost use Rattle.qlock_plan_c.specs.Orders.{IsEvenOrder, IsOrder, mask_of, masks_of, plan_of, quorum_by};
+
+use certificate::Plan;
+use dealer::Cycle;
+use even::EvenCycle;
+use std::alloc::{AllocError, Global};
+
+/// An order of a plan's tickets.
+#[derive(Drop)]
+pub enum Order {
+    /// By rounds: the cycle of `dealer`.
+    Rounds(Cycle),
+    /// The even cycle.
+    Even(EvenCycle),
+}
+
+/// Returns the even cycle of a plan.
+pub fn even_of(alloc: Global, plan: Plan) -> Result<EvenCycle, AllocError>
+    ensures { IfOk result (IsEvenOrder plan) }
+{
+    match EvenCycle::of(alloc, plan) {
+        Ok(cycle) => Ok(cycle),
+        Err((_, error)) => Err(error),
+    }
+}
+
+impl Order {
+    /// Returns the order with this number: 0 by rounds, 1 even.
+    pub fn of(alloc: Global, number: u32, plan: Plan) -> Result<Order, AllocError>
+        requires { number ≤ 1 }
+        ensures { IfOk result (IsOrder plan number) }
+    {
+        if number == 1 {
+            return Ok(Order::Even(even_of(alloc, plan)?));
+        }
+        match Cycle::of(alloc, plan) {
+            Ok(cycle) => Ok(Order::Rounds(cycle)),
+            Err((_, error)) => Err(error),
+        }
+    }
+
+    /// Returns the mask of a ticket's quorum: bit i is 1 if voter i is a member.
+    fn mask(&self, ticket: u64) -> u64
+        ensures { result ≡ mask_of (plan_of self.now) (quorum_by self.now ticket) }
+    {
+        match self {
+            Order::Rounds(cycle) => mask_in(cycle.plan(), cycle.quorum_at(ticket)),
+            Order::Even(cycle) => mask_in(cycle.plan(), cycle.quorum_at(ticket)),
+        }
+    }
+
+    /// Returns the masks of tickets in a row, from the first one on.
+    pub fn masks(&self, alloc: Global, first: u64, count: usize) -> Result<Vec<u64>, AllocError>
+        requires { first + count ≤ max_tickets }
+        ensures { IfOk result (λ masks. masks.items ≡ masks_of self.now first count) }
+    {
+        let mut masks = Vec::with_capacity(alloc, count)?;
+        for i in 0..count {
+            masks.push(self.mask(first + i as u64))?;
+        }
+        Ok(masks)
+    }
+}
+
+/// Returns the mask of a quorum of a plan.
+fn mask_in(plan: &Plan, quorum: usize) -> u64
+    requires { quorum < length plan.now.system.quorums }
+    ensures { result ≡ mask_of plan.now quorum }
+{
+    plan.coterie().quorum(quorum).bits()
+}

@@ -1,0 +1,14 @@
+mod Cyclics
+mod Duality
+mod Grids
+mod Majorities
+mod OneLoad
+mod Shown
+mod Sums
+mod TreeCounts
+mod TreeLights
+mod TreeSets
+mod Trees
+mod Uniform
+mod Weights
+mod Wheels

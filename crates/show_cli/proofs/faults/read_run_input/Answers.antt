@@ -1,4 +1,0 @@
-use Rattle.show_cli.proofs.faults.read_run_input.Goals as goal
-
-pub returns-clause-taken : goal.returns-clause-taken
-returns-clause-taken c = (c.in-Ok.planned, c.in-Ok.ensures.exact)

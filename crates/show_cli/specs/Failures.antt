@@ -1,0 +1,51 @@
+-- Pages of coteries: what is left when voters fail, what may fail, and bridges; and their faults.
+use Rattle.std.specs.Prelude.{◌≡◌, ℕ, List, None, Some, Result, Ok}
+use Rattle.coterie_file.specs.Named.{NamedSystem}
+use Rattle.show_failures.specs.Bridges.{IsBridgePage}
+use Rattle.show_failures.specs.Names.{first_unknown, voters_named}
+use Rattle.show_failures.specs.Resilience.{IsResiliencePage}
+use Rattle.show_failures.specs.Without.{without_text}
+use Rattle.commands.specs.Commands.{◌>>=◌, Refuses, coterie_part}
+use Rattle.commands.specs.Parts.{split}
+use Rattle.commands.specs.declared.fault.Fault.{Fault}
+use Rattle.commands.specs.declared.fault.Fault.TheVariants.{UnknownVoter}
+
+-- what an input of two parts describes: two coteries
+unfoldable pub pair_in : List ℕ → Result (NamedSystem × NamedSystem) Fault
+pair_in input = do
+  parts ← split 2 input
+  first ← coterie_part parts.0
+  second ← coterie_part parts.1
+  Ok (first, second)
+
+-- each word is the name of a voter of the coterie in the input, and the page is what is left of it
+-- without these voters
+pub record IsWithoutOf (words : List (List ℕ)) (input page : List ℕ) : Type 0 where
+  pub named : NamedSystem
+  pub coterie : coterie_part input ≡ Ok named
+  pub known : first_unknown named.names words ≡ None
+  pub is : page ≡ without_text named (voters_named named.names words)
+
+-- the word at this place is the first that is not the name of a voter of the coterie in the input
+pub record HasUnknown (words : List (List ℕ)) (input : List ℕ) (place : ℕ) : Type 0 where
+  pub named : NamedSystem
+  pub coterie : coterie_part input ≡ Ok named
+  pub unknown : first_unknown named.names words ≡ Some place
+
+-- the fault is out of memory, or the input has it: it is no coterie, or a word is no voter's name
+abbrev pub RefusesWithout : List (List ℕ) → List ℕ → Fault → Type 0
+RefusesWithout words input (UnknownVoter place) = HasUnknown words input place
+RefusesWithout words input fault = Refuses fault (coterie_part input)
+
+-- the page is that of what the coterie in the input bears
+pub record IsResilienceOf (input page : List ℕ) : Type 0 where
+  pub named : NamedSystem
+  pub coterie : coterie_part input ≡ Ok named
+  pub is : IsResiliencePage named page
+
+-- the page is that of a bridge between the two coteries in the input
+pub record IsBridgeOf (input page : List ℕ) : Type 0 where
+  pub first : NamedSystem
+  pub second : NamedSystem
+  pub parts : pair_in input ≡ Ok (first, second)
+  pub is : IsBridgePage first second page

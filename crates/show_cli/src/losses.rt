@@ -1,0 +1,83 @@
+//! Pages of coteries: what is left when voters fail, what may fail, and bridges.
+ghost use Rattle.std.specs.Prelude.{IfErr, IfOk, map, string_bytes};
+ghost use Rattle.commands.specs.Commands.{Gives};
+ghost use Rattle.commands.specs.Devices.{IsOwn};
+ghost use Rattle.show_cli.specs.Failures.{IsWithoutOf, RefusesWithout, pair_in};
+ghost use Rattle.show_cli.specs.Pages.{IsShownBy};
+
+use crate::command::ShowCommand;
+use commands::{Fault, coterie_of, split_part};
+use coterie_file::Named;
+use show_failures::{bridge_page, first_unknown, resilience_page, without_page};
+use std::alloc::Global;
+
+/// Returns the page of what is left of the coterie in an input when the voters with these names
+/// fail.
+#[tactic(auto, using(crate::proofs::ShowLemmas::no_coterie_left))]
+pub(crate) fn left_page(alloc: Global, words: &[String], input: &[u8]) -> Result<String, Fault>
+    ensures page { IfOk result (λ page. IsWithoutOf (map string_bytes words.now) input.now (string_bytes page)) }
+    ensures refused { IfErr result (RefusesWithout (map string_bytes words.now) input.now) }
+    ensures own { IfErr result IsOwn }
+{
+    let named = match coterie_of(alloc, input) {
+        Ok(named) => named,
+        Err(fault) => return Err(fault),
+    };
+    if let Some(place) = first_unknown(&named, words) {
+        return Err(Fault::UnknownVoter(place));
+    }
+    match without_page(alloc, &named, words) {
+        Ok(page) => Ok(page),
+        Err(_) => Err(Fault::OutOfMemory),
+    }
+}
+
+/// Returns the page of what the coterie in an input bears.
+pub(crate) fn borne_page(alloc: Global, input: &[u8]) -> Result<String, Fault>
+    ensures shown { IsShownBy string_bytes ShowCommand.Resilience input.now result }
+    ensures own { IfErr result IsOwn }
+{
+    let named = match coterie_of(alloc, input) {
+        Ok(named) => named,
+        Err(fault) => return Err(fault),
+    };
+    match resilience_page(alloc, &named) {
+        Ok(page) => Ok(page),
+        Err(_) => Err(Fault::OutOfMemory),
+    }
+}
+
+/// Returns what an input of two parts describes: two coteries.
+#[tactic(auto, unfolding(crate::specs::Failures::pair_in))]
+fn pair_of(alloc: Global, input: &[u8]) -> Result<(Named, Named), Fault>
+    ensures exact { Gives (λ p. p) result (pair_in input.now) }
+    ensures own { IfErr result IsOwn }
+{
+    let (first, second) = match split_part(input, 2) {
+        Ok(parts) => parts,
+        Err(fault) => return Err(fault),
+    };
+    let first = match coterie_of(alloc, first) {
+        Ok(named) => named,
+        Err(fault) => return Err(fault),
+    };
+    match coterie_of(alloc, second) {
+        Ok(second) => Ok((first, second)),
+        Err(fault) => Err(fault),
+    }
+}
+
+/// Returns the page of a bridge between the two coteries in an input.
+pub(crate) fn pair_page(alloc: Global, input: &[u8]) -> Result<String, Fault>
+    ensures shown { IsShownBy string_bytes ShowCommand.Bridge input.now result }
+    ensures own { IfErr result IsOwn }
+{
+    let (first, second) = match pair_of(alloc, input) {
+        Ok(pair) => pair,
+        Err(fault) => return Err(fault),
+    };
+    match bridge_page(alloc, &first, &second) {
+        Ok(page) => Ok(page),
+        Err(_) => Err(Fault::OutOfMemory),
+    }
+}

@@ -1,0 +1,7 @@
+pub mod BridgeLemmas
+pub mod GroupLemmas
+pub mod ListLemmas
+pub mod NameLemmas
+pub mod ResilienceLemmas
+pub mod VoterLemmas
+pub mod WithoutLemmas

@@ -1,0 +1,37 @@
+-- Lemmas on lists of names.
+use Rattle.std.proofs.Common.{◌≡◌, ℕ, ◌+◌, ◌<◌, ◌≤◌, true, false, ◌||◌, List, length, drop, slice_get, ap, ◌∙◌, arith, Some}
+use Rattle.std.specs.Str.{bytes_eq}
+use Rattle.quorum_set.specs.Coteries.{QuorumSystem}
+use Rattle.coterie_file.specs.Named.{NamedSystem, IsNamed}
+use Rattle.coterie_file.specs.Names.{has_name}
+use Rattle.show_failures.proofs.ListLemmas.{drop-at}
+
+-- the name at a place is the wanted one
+pub has_name-here : (names : List (List ℕ)) (k : ℕ) (name x : List ℕ) → slice_get names k ≡ Some x → k < length names → bytes_eq name x ≡ true → has_name (drop k names) name ≡ true
+has_name-here names k name x e lt same =
+    ap (λ t. has_name t name) (drop-at names k x e lt) ∙ ap (λ b. b || has_name (drop (k + 1) names) name) same
+
+-- it is another one
+pub has_name-later : (names : List (List ℕ)) (k : ℕ) (name x : List ℕ) → slice_get names k ≡ Some x → k < length names → bytes_eq name x ≡ false
+    → has_name (drop k names) name ≡ has_name (drop (k + 1) names) name
+has_name-later names k name x e lt differ =
+    ap (λ t. has_name t name) (drop-at names k x e lt) ∙ ap (λ b. b || has_name (drop (k + 1) names) name) differ
+
+-- a voter below the number of voters has a name
+pub below_names : (named : NamedSystem) (s : QuorumSystem) (k end : ℕ) → IsNamed named → s ≡ named.system → end ≡ s.voters → k < end → k < length named.names
+below_names named s k end is same ends lt =
+    let all : length named.names ≡ named.system.voters = is.one_each in
+    let voters : s.voters ≡ named.system.voters = ap (λ t. t.voters) same in
+    omega arith
+
+-- after the last voter all have been seen
+pub all_names : (named : NamedSystem) (s : QuorumSystem) (k end : ℕ) → IsNamed named → s ≡ named.system → end ≡ s.voters → k ≤ end → end ≤ k → k ≡ length named.names
+all_names named s k end is same ends least most =
+    let all : length named.names ≡ named.system.voters = is.one_each in
+    let voters : s.voters ≡ named.system.voters = ap (λ t. t.voters) same in
+    omega arith
+
+pub all_voters : (named : NamedSystem) (s : QuorumSystem) (k end : ℕ) → s ≡ named.system → end ≡ s.voters → k ≤ end → k ≤ named.system.voters
+all_voters named s k end same ends least =
+    let voters : s.voters ≡ named.system.voters = ap (λ t. t.voters) same in
+    omega arith

@@ -1,0 +1,16 @@
+use Rattle.std.proofs.Common.{◌∙◌, ap, ap₂, sym, arith, map, get_or, ◌++◌, ◌∷◌, [], take, slice_get}
+use Rattle.std.proofs.lemmas.List.{take_more}
+use Rattle.std.proofs.lemmas.Option.{get_or_from_slice_get}
+use Rattle.coterie_file.specs.Names.{name_at}
+use Rattle.show_failures.proofs.ListLemmas.{map-push}
+use Rattle.show_failures.proofs.names.names_of.Goals as goal
+
+pub loop-voter-preserved : goal.loop-voter-preserved
+loop-voter-preserved c =
+    let names = c.args.named.now.names in
+    let items = c.as_slice-voter-items.result.now in
+    let i = c.loop-voter.voter-index in
+    let at = get_or_from_slice_get names (get_or items i 0) c.name.result.now [] (ap (slice_get names) (sym c.from.ensures) ∙ c.name.ensures.value) in
+    ap (map (λ n. n.now)) c.in_ok-push.ensures.items ∙ map-push (λ n. n.now) c.loop-voter.names.items c.name.result
+    ∙ ap₂ (λ xs x. xs ++ x ∷ []) c.loop-voter.invariant (sym at)
+    ∙ sym (ap (map (name_at names)) (take_more items i 0 (omega arith)) ∙ map-push (name_at names) (take i items) (get_or items i 0))

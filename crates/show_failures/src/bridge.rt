@@ -1,0 +1,91 @@
+//! Bridges between coteries, by the names of voters.
+ghost use Rattle.std.specs.Prelude.{◌≡◌, ◌<◌, length, map, position, IfOk, string_bytes};
+ghost use Rattle.quorum_set.specs.Bridges.{first_apart};
+ghost use Rattle.quorum_set.specs.Coteries.{are_disjoint};
+ghost use Rattle.show_failures.specs.Bridges.{IsBridgePage, apart_text, quorum_text};
+ghost use Rattle.show_failures.specs.Names.{names_of, voters_named};
+
+use crate::names::{names_of, names_text, voters_named};
+use coterie_file::Named;
+use quorum_set::{Coterie, QSet, apart_pair_is_least, bridges_have_no_fault};
+use std::alloc::{AllocError, Global};
+
+/// Returns for each quorum of the second coterie the voters of the first that have the name of a
+/// member.
+fn namesakes(alloc: Global, first: &Named, second: &Named) -> Result<Vec<QSet>, AllocError>
+    ensures { IfOk result (λ v. v.items
+        ≡ map (λ q. voters_named first.now.names (names_of second.now.names q)) second.now.system.quorums) }
+{
+    let count = second.coterie().count();
+    let mut sets = Vec::with_capacity(alloc, count)?;
+    for number in 0..count {
+        let names = names_of(alloc, second, second.coterie().quorum(number))?;
+        sets.push(voters_named(first, &names))?;
+    }
+    Ok(sets)
+}
+
+/// Returns the place of the first set that has no member in common with a quorum.
+fn first_disjoint_from(quorum: &QSet, sets: &[QSet]) -> Option<usize>
+    ensures { result ≡ position (are_disjoint quorum.now) sets.now }
+{
+    sets.iter().position(|set| !quorum.meets(set))
+}
+
+/// Returns the first quorum that has no member in common with one of the sets, and the place of the
+/// first such set.
+fn first_apart(coterie: &Coterie, sets: &[QSet]) -> Option<(usize, usize)>
+    ensures { result ≡ first_apart 0 coterie.now.quorums sets.now }
+{
+    for number in 0..coterie.count() {
+        if let Some(place) = first_disjoint_from(coterie.quorum(number), sets) {
+            return Some((number, place));
+        }
+    }
+    None
+}
+
+/// Returns a quorum as a text: its number, and the names of its members in braces.
+fn quorum_text(alloc: Global, named: &Named, number: usize) -> Result<String, AllocError>
+    requires { number < length named.now.system.quorums }
+    ensures { IfOk result (λ t. string_bytes t ≡ quorum_text named.now number) }
+{
+    let names = names_text(alloc, named, named.coterie().quorum(number))?;
+    format!(in alloc; "quorum {number} {{{names}}}")
+}
+
+/// Returns the line of two quorums that have no voter in common.
+fn apart_text(
+    alloc: Global,
+    first: &Named,
+    second: &Named,
+    pair: (usize, usize),
+) -> Result<String, AllocError>
+    requires first { pair.0 < length first.now.system.quorums }
+    requires second { pair.1 < length second.now.system.quorums }
+    ensures { IfOk result (λ t. string_bytes t ≡ apart_text first.now second.now pair.0 pair.1) }
+{
+    let one = quorum_text(alloc, first, pair.0)?;
+    let other = quorum_text(alloc, second, pair.1)?;
+    format!(in alloc; "no: {one} of the first and {other} of the second have no voter in common\n")
+}
+
+/// Returns whether there is a bridge from the first coterie to the second: whether each quorum of
+/// one has a voter in common with each quorum of the other. If there is none, names the first two
+/// quorums that have none in common. Voters are the same if they have the same name.
+///
+/// Fails only if it runs out of memory.
+pub fn bridge_page(alloc: Global, first: &Named, second: &Named) -> Result<String, AllocError>
+    ensures { IfOk result (λ page. IsBridgePage first.now second.now (string_bytes page)) }
+{
+    bridges_have_no_fault();
+    apart_pair_is_least();
+    let sets = namesakes(alloc, first, second)?;
+    match first_apart(first.coterie(), &sets) {
+        Some(pair) => apart_text(alloc, first, second, pair),
+        None => String::from_str(
+            alloc,
+            "yes: each quorum of the first has a voter in common with each quorum of the second\n",
+        ),
+    }
+}

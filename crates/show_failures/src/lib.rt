@@ -1,0 +1,38 @@
+//! What an operator asks of a coterie: what is left when voters fail, how many may fail, and
+//! whether a plan of one coterie may be exchanged for a plan of another.
+//!
+//! - [`without_page`] writes the coterie that is left when voters fail, so that it can be planned.
+//! - [`resilience_page`] says how many voters may fail, and which groups of them, such as racks.
+//! - [`bridge_page`] says whether each quorum of one coterie meets each quorum of another.
+//!
+//! Voters are given by their names. In [`bridge_page`] voters of the two coteries are the same if
+//! they have the same name, so a group may grow, or list its voters in another order.
+//!
+//! # What is proved
+//!
+//! The definitions in `specs/` determine the three pages letter by letter, from the coteries with
+//! their names and capacities. The page of [`resilience_page`] names a set that meets every quorum.
+//! If it says that the set is a smallest one, none is smaller. That the search ends is only tested.
+//!
+//! Depends on `failures`, which finds what is left, on `quorum_set`, and on `coterie_file` for
+//! names and texts.
+//!
+//! ```
+//! // three racks a, b and c of three: a quorum is two of three voters in two of three racks
+//! let page = without_page(alloc, &named, words)?; // of the word a1: the 15 quorums without a1
+//! let page = resilience_page(alloc, &named)?;     // any three may fail, and each rack as a whole
+//! ```
+#![tactic(auto)]
+
+mod bridge;
+mod groups;
+mod laws;
+mod names;
+mod resilience;
+mod without;
+
+pub use bridge::bridge_page;
+pub use laws::borne_groups_leave_a_quorum;
+pub use names::first_unknown;
+pub use resilience::resilience_page;
+pub use without::without_page;

@@ -1,0 +1,70 @@
+//! What is left of a coterie when voters fail, as a text.
+ghost use Rattle.std.specs.Prelude.{◌≡◌, ◌<◌, map, All, IfOk, string_bytes};
+ghost use Rattle.show_failures.specs.Names.{voters_named};
+ghost use Rattle.show_failures.specs.Without.{none_left_text, without_text};
+
+use crate::names::{names_text, voters_named};
+use coterie_file::{Named, capacities_have_no_fault, names_have_no_fault, write_coterie};
+use failures::coterie_without;
+use quorum_set::{Coterie, QSet};
+use std::alloc::{AllocError, Global};
+
+/// Returns the names of all voters.
+fn voter_names(alloc: Global, named: &Named) -> Result<Vec<String>, AllocError>
+    ensures { IfOk result (λ v. map string_bytes v.items ≡ named.now.names) }
+{
+    let voters = named.coterie().voters();
+    let mut names = Vec::with_capacity(alloc, voters)?;
+    for voter in 0..voters {
+        names.push(String::from_str(alloc, named.name(voter))?)?;
+    }
+    Ok(names)
+}
+
+/// Returns another coterie over the same voters, with their names and capacities.
+fn with_coterie(alloc: Global, named: &Named, coterie: Coterie) -> Result<Named, AllocError>
+    requires { coterie.voters ≡ named.now.system.voters }
+    ensures { IfOk result (λ n. n ≡ record named.now { system = coterie }) }
+{
+    names_have_no_fault();
+    capacities_have_no_fault();
+    let names = voter_names(alloc, named)?;
+    let capacities = Vec::from_slice(alloc, named.capacities())?;
+    let Ok(units) = Named::of(coterie, names) else {
+        unreachable!()
+    };
+    let Ok(left) = units.with_capacities(capacities) else {
+        unreachable!()
+    };
+    Ok(left)
+}
+
+/// Returns the line that says why no quorum is left.
+fn none_left_text(alloc: Global, named: &Named, failed: &QSet) -> Result<String, AllocError>
+    requires { All (λ i. i < named.now.system.voters) failed.now }
+    ensures { IfOk result (λ t. string_bytes t ≡ none_left_text named.now.names failed.now) }
+{
+    let names = names_text(alloc, named, failed)?;
+    format!(in alloc; "# no quorum is left: every quorum has a member among {names}\n")
+}
+
+/// Returns the coterie that is left when the voters with these names fail, as `write_coterie`
+/// writes it: the quorums without a failed member, over the same voters, with the same names and
+/// capacities. If no quorum is left, returns one line that says why, a comment of TOML.
+///
+/// A word that is no voter's name is passed over: see [`first_unknown`](crate::first_unknown).
+/// Fails only if it runs out of memory.
+pub fn without_page(alloc: Global, named: &Named, words: &[String]) -> Result<String, AllocError>
+    ensures { IfOk result (λ page. string_bytes page
+        ≡ without_text named.now (voters_named named.now.names (map string_bytes words.now))) }
+{
+    let failed = voters_named(named, words);
+    match coterie_without(alloc, named.coterie(), &failed)? {
+        Some(left) => {
+            // Called for its contract alone: some quorum is left.
+            let _ = left.count();
+            write_coterie(alloc, &with_coterie(alloc, named, left)?)
+        }
+        None => none_left_text(alloc, named, &failed),
+    }
+}

@@ -1,0 +1,4 @@
+use Rattle.show_refusals.proofs.page.read_run_input.Goals as goal
+
+pub returns-clause-taken : goal.returns-clause-taken
+returns-clause-taken c = (c.in-Ok.planned, c.in-Ok.ensures.exact)

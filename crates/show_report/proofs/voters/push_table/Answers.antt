@@ -1,0 +1,8 @@
+use Rattle.std.proofs.lemmas.Result.{on_ok_weaker}
+use Rattle.show_report.proofs.PartLemmas.{three_parts}
+use Rattle.show_report.proofs.voters.push_table.Goals as goal
+
+pub returns : goal.returns
+returns c =
+    on_ok_weaker c.push_html-2.result
+    (three_parts _ _ _ _ _ _ _ c.in_ok-push_html.ensures c.in_ok-push_rows.ensures) c.push_html-2.ensures

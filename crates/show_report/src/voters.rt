@@ -1,0 +1,129 @@
+//! The table of the voters: how busy each is for its capacity.
+ghost use Rattle.std.specs.Prelude.{◌≡◌, ◌++◌, OnOk, string_bytes};
+ghost use Rattle.std.specs.List.{flat_map};
+ghost use Rattle.show_words.specs.Plans.{most_use, use_of};
+ghost use Rattle.show_report.specs.Reports.{busy_cells, meter_html, share_cells, voter_row, voter_rows_html, voters_html};
+
+use crate::html::{push_html, push_name};
+use certificate::Plan;
+use coterie_file::Named;
+use show_words::{VoterFigure, push_percent, voter_figures};
+use std::alloc::{AllocError, Global};
+
+/// Appends the share of a voter, its uses and its capacity.
+fn push_share_cells(text: &mut String, len: u64, figure: VoterFigure) -> Result<(), AllocError>
+    ensures { OnOk result (string_bytes text.new ≡ string_bytes text.old ++ share_cells len figure) }
+{
+    let VoterFigure {
+        count,
+        capacity,
+        ..
+    } = figure;
+    push_html(text, "</td><td>")?;
+    push_percent(text, count, len)?;
+    write!(text, "</td><td>{count}</td><td>{capacity}</td><td>")
+}
+
+/// Appends how busy a voter is, as a bar.
+fn push_meter(text: &mut String, part: u64, whole: u64) -> Result<(), AllocError>
+    ensures { OnOk result (string_bytes text.new ≡ string_bytes text.old ++ meter_html part whole) }
+{
+    write!(text, "<meter max=\"{whole}\" value=\"{part}\"></meter>")
+}
+
+/// Appends how busy a voter is, as a bar and in percent.
+fn push_busy_cells(text: &mut String, part: u64, whole: u64) -> Result<(), AllocError>
+    ensures { OnOk result (string_bytes text.new ≡ string_bytes text.old ++ busy_cells part whole) }
+{
+    push_meter(text, part, whole)?;
+    push_percent(text, part, whole)?;
+    push_html(text, "</td></tr>\n")
+}
+
+/// Returns how busy a voter is, if the busiest has this ratio of uses to capacity: a part and a whole.
+fn busy_part(ratio: (u64, u64), figure: VoterFigure) -> (u64, u64)
+    ensures part { result.0 ≡ use_of ratio figure }
+    ensures whole { result.1 ≡ most_use ratio figure }
+{
+    let part = figure.count.saturating_mul(ratio.1);
+    let whole = figure.capacity.saturating_mul(ratio.0);
+    (part, whole)
+}
+
+/// Appends how busy a voter is, if the busiest has this ratio of uses to capacity.
+fn push_busy(text: &mut String, ratio: (u64, u64), figure: VoterFigure) -> Result<(), AllocError>
+    ensures { OnOk result (string_bytes text.new
+        ≡ string_bytes text.old ++ busy_cells (use_of ratio figure) (most_use ratio figure)) }
+{
+    let (part, whole) = busy_part(ratio, figure);
+    push_busy_cells(text, part, whole)
+}
+
+/// Appends the row of a voter.
+fn push_row(
+    text: &mut String,
+    named: &Named,
+    len: u64,
+    ratio: (u64, u64),
+    figure: VoterFigure,
+) -> Result<(), AllocError>
+    ensures { OnOk result (string_bytes text.new
+        ≡ string_bytes text.old ++ voter_row named.now.names len ratio figure) }
+{
+    push_html(text, "<tr><td>")?;
+    push_name(text, named, figure.voter)?;
+    push_share_cells(text, len, figure)?;
+    push_busy(text, ratio, figure)
+}
+
+/// Appends a row for each of these voters.
+fn push_rows(
+    text: &mut String,
+    named: &Named,
+    len: u64,
+    ratio: (u64, u64),
+    figures: &[VoterFigure],
+) -> Result<(), AllocError>
+    ensures { OnOk result (string_bytes text.new
+        ≡ string_bytes text.old ++ flat_map (voter_row named.now.names len ratio) figures.now) }
+{
+    for figure in figures {
+        push_row(text, named, len, ratio, *figure)?;
+    }
+    Ok(())
+}
+
+/// Appends the rows of these voters between the heading of the table and its end.
+fn push_table(
+    text: &mut String,
+    named: &Named,
+    len: u64,
+    ratio: (u64, u64),
+    figures: &[VoterFigure],
+) -> Result<(), AllocError>
+    ensures { OnOk result (string_bytes text.new
+        ≡ string_bytes text.old ++ voter_rows_html named.now.names len ratio figures.now) }
+{
+    push_html(
+        text,
+        "<h2>How busy each voter is for its capacity</h2>\n<div class=\"wide\"><table>\n<tr><th>Voter</th><th>Share</th><th>Uses</th><th>Capacity</th><th>Beside the busiest</th></tr>\n",
+    )?;
+    push_rows(text, named, len, ratio, figures)?;
+    push_html(text, "</table></div>\n")
+}
+
+/// Appends the table of the voters.
+pub(crate) fn push_voters(
+    alloc: Global,
+    text: &mut String,
+    named: &Named,
+    plan: &Plan,
+) -> Result<(), AllocError>
+    ensures { OnOk result (string_bytes text.new
+        ≡ string_bytes text.old ++ voters_html named.now.names plan.now) }
+{
+    let figures = voter_figures(alloc, plan)?;
+    let len = plan.cycle_len();
+    let ratio = plan.ratio();
+    push_table(text, named, len, ratio, figures.as_slice())
+}

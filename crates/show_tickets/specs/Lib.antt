@@ -1,0 +1,3 @@
+pub mod EvenOrder
+pub mod Lines
+pub mod Rounds

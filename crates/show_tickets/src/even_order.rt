@@ -1,0 +1,131 @@
+//! The page of tickets that are dealt in the even order.
+ghost use Rattle.std.specs.Prelude.{◌≡◌, ◌<◌, ◌++◌, length, All, IfOk, OnOk, string_bytes};
+ghost use Rattle.certificate.specs.Certificates.{cycle_len};
+ghost use Rattle.even.specs.EvenCycles.{window};
+ghost use Rattle.even.specs.Strides.{IsFirstBest, strides_of};
+ghost use Rattle.show_tickets.specs.EvenOrder.{IsEvenPage, even_ticket_lines, order_lines, slack_line, slack_words, stride_line};
+
+use crate::account::account_of;
+use crate::lines::push_ticket;
+use certificate::Plan;
+use commands::{Planned, push_account, push_ratio};
+use coterie_file::Named;
+use dealer::Receipt;
+use even::{EvenCycle, Slack};
+use quorum_set::are_unit;
+use std::alloc::{AllocError, Global};
+
+/// Returns the even cycle of a plan.
+fn even_cycle(alloc: Global, plan: Plan) -> Result<EvenCycle, AllocError>
+    ensures plan { IfOk result (λ cycle. cycle.plan ≡ plan) }
+    ensures first { IfOk result (IsFirstBest (strides_of (cycle_len plan))) }
+{
+    match EvenCycle::of(alloc, plan) {
+        Ok(cycle) => Ok(cycle),
+        Err((_, error)) => Err(error),
+    }
+}
+
+/// Returns the quorums of the tickets below `count`.
+fn quorums_of(alloc: Global, cycle: &EvenCycle, count: u64) -> Result<Vec<usize>, AllocError>
+    ensures quorums { IfOk result (λ v. v.items ≡ window cycle.now 0 count) }
+    ensures in_range { IfOk result (λ v. All (λ j. j < length cycle.now.plan.system.quorums) v.items) }
+{
+    let mut quorums = Vec::new(alloc);
+    for ticket in 0..count {
+        quorums.push(cycle.quorum_at(ticket))?;
+    }
+    Ok(quorums)
+}
+
+/// Appends a line for each ticket below `count`.
+fn push_tickets(
+    text: &mut String,
+    named: &Named,
+    cycle: &EvenCycle,
+    count: u64,
+) -> Result<(), AllocError>
+    ensures { OnOk result (string_bytes text.new
+        ≡ string_bytes text.old ++ even_ticket_lines named.now cycle.now count) }
+{
+    for ticket in 0..count {
+        let quorum = cycle.quorum_at(ticket);
+        push_ticket(text, named, &Receipt { ticket, quorum })?;
+    }
+    Ok(())
+}
+
+/// Appends the line of the stride.
+fn push_stride(text: &mut String, stride: u64, len: u64) -> Result<(), AllocError>
+    ensures { OnOk result (string_bytes text.new ≡ string_bytes text.old ++ stride_line stride len) }
+{
+    write!(
+        text,
+        "stride {stride}: the cycle is a ring of length {len}, and each ticket goes {stride} further\n"
+    )
+}
+
+/// Returns what a slack means, up to the load.
+fn slack_words(unit: bool) -> &'static str
+    ensures { result.now ≡ slack_words unit }
+{
+    if unit {
+        ": any n tickets in a row use no voter more often than n * "
+    } else {
+        ": any n tickets in a row use no voter more often, for its capacity, than n * "
+    }
+}
+
+/// Appends the line of the slack.
+fn push_slack(
+    text: &mut String,
+    is_unit: bool,
+    load: (u64, u64),
+    slack: Slack,
+) -> Result<(), AllocError>
+    ensures { OnOk result (string_bytes text.new ≡ string_bytes text.old ++ slack_line is_unit load slack) }
+{
+    let Slack { excess, unit } = slack;
+    let (part, whole) = load;
+    let words = slack_words(is_unit);
+    write!(
+        text,
+        "slack {excess}/{unit}{words}{part}/{whole} + {excess}/{unit}\n"
+    )
+}
+
+/// Appends the lines of the stride and the slack of an even cycle.
+fn push_order(
+    text: &mut String,
+    capacities: &[u64],
+    cycle: &EvenCycle,
+    slack: Slack,
+) -> Result<(), AllocError>
+    ensures { OnOk result (string_bytes text.new
+        ≡ string_bytes text.old ++ order_lines capacities.now cycle.now slack) }
+{
+    let plan = cycle.plan();
+    push_stride(text, cycle.stride(), plan.cycle_len())?;
+    push_slack(text, are_unit(capacities), plan.load(), slack)
+}
+
+/// Returns the page of the tickets below `count`, dealt in the even order: for each its quorum and the
+/// names of the voters to ask, then the account of these tickets, and the stride and the slack of the
+/// order. Fails only if it runs out of memory.
+pub fn even_page(alloc: Global, planned: Planned, count: u64) -> Result<String, AllocError>
+    requires same { planned.plan.system ≡ planned.named.system }
+    ensures { IfOk result (λ page. IsEvenPage planned count (string_bytes page)) }
+{
+    let Planned { named, plan } = planned;
+    let cycle = even_cycle(alloc, plan)?;
+    let slack = cycle.slack();
+    let quorums = quorums_of(alloc, &cycle, count)?;
+    let account = account_of(alloc, cycle.plan(), &quorums)?;
+    let _ = named.coterie();
+    let mut text = String::new(alloc);
+    push_tickets(&mut text, &named, &cycle, count)?;
+    push_account(&mut text, &named, &account)?;
+    push_ratio(&mut text, named.capacities(), &account)?;
+    push_order(&mut text, named.capacities(), &cycle, slack)?;
+    Ok(text)
+}

@@ -1,0 +1,39 @@
+//! The page of tickets that are dealt by rounds.
+ghost use Rattle.std.specs.Prelude.{◌≡◌, ◌≤◌, ◌++◌, IfOk, OnOk, string_bytes};
+ghost use Rattle.std.specs.List.{flat_map};
+ghost use Rattle.show_tickets.specs.Lines.{named_receipt_line};
+ghost use Rattle.show_tickets.specs.Rounds.{deal_page_text};
+
+use crate::lines::push_ticket;
+use commands::{Planned, dealt, push_account, push_ratio};
+use coterie_file::Named;
+use dealer::Receipt;
+use std::alloc::{AllocError, Global};
+
+/// Appends a line for each of these tickets.
+fn push_tickets(text: &mut String, named: &Named, receipts: &[Receipt]) -> Result<(), AllocError>
+    ensures { OnOk result (string_bytes text.new
+        ≡ string_bytes text.old ++ flat_map (named_receipt_line named.now) receipts.now) }
+{
+    for receipt in receipts {
+        push_ticket(text, named, receipt)?;
+    }
+    Ok(())
+}
+
+/// Returns the page of the tickets below `count`, dealt by rounds: for each its quorum and the names of
+/// the voters to ask, then the account of these tickets. Fails only if it runs out of memory.
+pub fn rounds_page(alloc: Global, planned: Planned, count: u64) -> Result<String, AllocError>
+    requires same { planned.plan.system ≡ planned.named.system }
+    requires count { count ≤ 100000 }
+    ensures { IfOk result (λ page. string_bytes page ≡ deal_page_text planned count) }
+{
+    let Planned { named, plan } = planned;
+    let (account, receipts) = dealt(alloc, plan, count)?;
+    let _ = named.coterie();
+    let mut text = String::new(alloc);
+    push_tickets(&mut text, &named, &receipts)?;
+    push_account(&mut text, &named, &account)?;
+    push_ratio(&mut text, named.capacities(), &account)?;
+    Ok(text)
+}

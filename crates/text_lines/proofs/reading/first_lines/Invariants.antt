@@ -1,0 +1,13 @@
+use Rattle.std.proofs.Common.{◌≡◌, ◌++◌, length}
+use Rattle.text_lines.specs.Forms.{HaveLines, text_of}
+use Rattle.text_lines.proofs.reading.first_lines.Given as goal
+
+-- the lines so far stand before the rest
+abbrev pub invariant-lines : goal.invariant-lines
+invariant-lines g l = record {
+  have_lines : HaveLines g.L.Line.form l.values.items;
+  text_is : l.text ≡ text_of g.L.Line.form l.values.items ++ l.rest;
+}
+
+abbrev pub decreases-lines : goal.decreases-lines
+decreases-lines g l = length l.rest

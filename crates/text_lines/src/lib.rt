@@ -1,0 +1,33 @@
+//! Lines: a word, and decimal numbers after it.
+//!
+//! A line is a word and decimal numbers without leading zeros, one space between any two, a newline
+//! at the end, one text for each value. A [`Line`] is a kind of line: it says which word and which
+//! numbers each value has. A new kind takes one `impl`.
+//!
+//! - [`read_line`] reads the value of a line;
+//! - [`next_line`] reads the line at the front of a text;
+//! - [`first_lines`] reads all lines of one kind at the front of a text.
+//!
+//! A number is below 2^64, and a line has at most [`MOST_NUMBERS`] of them. Only [`first_lines`]
+//! allocates memory.
+//!
+//! # What is proved
+//!
+//! - A line is read if and only if it is the line of a value (`specs/Forms.antt`).
+//! - A line has one value, lines end, and a text begins with one list of lines of a kind
+//!   (`src/laws.rt`). These hold for each kind.
+//!
+//! The lemmas in `proofs/` are public: readers of texts use them.
+//!
+//! This crate depends on `texts`.
+#![tactic(auto)]
+
+mod laws;
+mod line;
+mod reading;
+#[cfg(test)]
+mod tests;
+
+pub use laws::lines_are_read_in_one_way;
+pub use line::Line;
+pub use reading::{MOST_NUMBERS, first_lines, next_line, read_line};

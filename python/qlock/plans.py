@@ -1,0 +1,167 @@
+"""Plans of coteries, and the quorums of tickets."""
+import ctypes
+import enum
+import sys
+from array import array
+from fractions import Fraction
+from typing import Dict, Iterator, List, NamedTuple, Tuple
+
+from .faults import BadArgument
+from .library import call_plan
+
+MAX_TICKETS = 1 << 63
+_FAULT_OUT = 128
+_NAMES_OUT = 4160
+_PLAN_OUT = 34816
+_MARK = "%%\n"
+
+Quorum = Tuple[int, ...]
+"""The numbers of the voters of a quorum, in ascending order."""
+
+
+class Order(enum.IntEnum):
+    """An order of a plan's tickets. In both, the tickets of whole cycles use each quorum as often as the plan says."""
+
+    BY_ROUNDS = 0
+    """as `qlock deal`: each quorum once, then those of weight 2 or more once more, and so on"""
+    EVEN = 1
+    """even from the first ticket, whichever it is: `Plan.slack` says how even"""
+
+
+class Slack(NamedTuple):
+    """How even `Order.EVEN` is. Any n tickets in a row, from any first one, use no voter more often than n times the load plus
+    the slack, times the voter's capacity. The slacks of several processes add up."""
+
+    stride: int
+    """how many places of the cycle further on each ticket is than the one before"""
+    excess: int
+    """the slack's numerator"""
+    unit: int
+    """the slack's denominator"""
+
+    @property
+    def value(self) -> Fraction:
+        """The slack as a fraction."""
+        return Fraction(self.excess, self.unit)
+
+
+def _voters(mask: int) -> Quorum:
+    return tuple(voter for voter in range(64) if mask >> voter & 1)
+
+
+def names_of(coterie: str) -> List[str]:
+    """Returns the names of the voters of a coterie, in the order of their numbers. Raises the fault of a text that describes
+    none, of `qlock.refusals`."""
+    text = coterie.encode()
+    return call_plan("names", _NAMES_OUT, text, len(text)).decode("ascii").splitlines()
+
+
+class Plan:
+    """An optimal plan of a coterie: how often to use each quorum, so that the busiest voter is asked as seldom as possible.
+
+    `Plan.find(coterie)` finds one, `Plan(coterie, text)` reads and checks the text of one, and `Plan.parse(planned)` reads both
+    from one text. Ticket n has the quorum `plan.quorum(n)`. A process begins at a ticket of its own, and keeps its place:
+
+        plan = Plan.find(open("coterie.toml").read())
+        for quorum in plan.quorums(first=place):
+            lines = client.ask(quorum)
+    """
+
+    def __init__(self, coterie: str, text: str) -> None:
+        """Reads a plan. Raises the fault of the text, of `qlock.refusals`."""
+        self.coterie = coterie
+        """the text of the coterie"""
+        self.text = text
+        """the text of the plan"""
+        self._texts = (coterie.encode(), text.encode())
+        load_p, load_q, cycle = self._three("check")
+        self.load = Fraction(load_p, load_q)
+        """the share of the requests that use the busiest voter, divided by its capacity"""
+        self.cycle = cycle
+        """how many tickets one cycle has"""
+        self.names = names_of(coterie)
+        """the names of the voters, in the order of their numbers"""
+        self.capacities = self._capacities()
+        """the capacities of the voters: of a voter of capacity 2 the plan asks twice as much as of one of capacity 1"""
+        self._masks: Dict[Order, "array[int]"] = {}
+        self._quorums: Dict[int, Quorum] = {}
+
+    @classmethod
+    def find(cls, coterie: str) -> "Plan":
+        """Returns a plan of a coterie, the same each time. Raises the fault of a text that describes no coterie, or `NoPlan`."""
+        text = coterie.encode()
+        return cls(coterie, call_plan("plan", _PLAN_OUT, text, len(text)).decode("ascii"))
+
+    @classmethod
+    def parse(cls, planned: str) -> "Plan":
+        """Reads a coterie, a line `%%` and a plan of it, as `qlock check` does. Raises `BadArgument` if there is no such line."""
+        coterie, mark, text = ("\n" + planned).partition("\n" + _MARK)
+        if not mark:
+            raise BadArgument("there is no line %% between a coterie and a plan")
+        return cls((coterie + "\n")[1:], text)
+
+    def _capacities(self) -> List[int]:
+        words = self.text.splitlines()[3].split()
+        return [int(word) for word in words[1:]] if words[0] == "capacity" else [1] * len(self.names)
+
+    def _given(self) -> Tuple[bytes, int, bytes, int]:
+        coterie, text = self._texts
+        return coterie, len(coterie), text, len(text)
+
+    def _three(self, name: str) -> Tuple[int, int, int]:
+        numbers = [ctypes.c_uint64() for _ in range(3)]
+        call_plan(name, _FAULT_OUT, *self._given(), *(ctypes.byref(number) for number in numbers))
+        first, second, third = (number.value for number in numbers)
+        return first, second, third
+
+    def masks(self, first: int, count: int, order: Order = Order.EVEN) -> "array[int]":
+        """Returns the masks of the quorums of tickets in a row, from the library: bit i is 1 if voter i is a member. Each call
+        reads the texts anew. Raises `BadArgument` if a ticket is not in 0 to 2^63 - 1."""
+        if not (0 <= first and 0 <= count and first + count <= MAX_TICKETS):
+            raise BadArgument(f"{count} tickets from {first} on are not all in 0 to 2^63 - 1")
+        block = ctypes.create_string_buffer(max(8 * count, 1))
+        call_plan("quorums", _FAULT_OUT, *self._given(), order, first, block, 8 * count)
+        masks = array("Q", block.raw[: 8 * count])
+        if sys.byteorder == "big":
+            masks.byteswap()
+        return masks
+
+    def mask(self, ticket: int, order: Order = Order.EVEN) -> int:
+        """Returns the mask of a ticket's quorum. The first use of an order reads the masks of one whole cycle."""
+        if ticket < 0:
+            raise BadArgument(f"there is no ticket {ticket}")
+        if order not in self._masks:
+            self._masks[order] = self.masks(0, self.cycle, order)
+        return self._masks[order][ticket % self.cycle]
+
+    def quorum(self, ticket: int, order: Order = Order.EVEN) -> Quorum:
+        """Returns the quorum of a ticket: the numbers of its voters."""
+        mask = self.mask(ticket, order)
+        if mask not in self._quorums:
+            self._quorums[mask] = _voters(mask)
+        return self._quorums[mask]
+
+    def quorums(self, first: int = 0, order: Order = Order.EVEN) -> Iterator[Quorum]:
+        """Returns the quorums of the tickets from this one on, without end."""
+        ticket = first
+        while True:
+            yield self.quorum(ticket, order)
+            ticket += 1
+
+    def slack(self) -> Slack:
+        """Returns how even `Order.EVEN` is."""
+        return Slack(*self._three("slack"))
+
+    def most_uses(self, requests: int, processes: int = 1) -> List[int]:
+        """Returns for each voter how often it is used at most by this many requests, if each of the processes used tickets of
+        `Order.EVEN` in a row, from whatever first one: `slacks_add_up`, in the crate `even`."""
+        most = requests * self.load + processes * self.slack().value
+        return [int(capacity * most) for capacity in self.capacities]
+
+    def shares(self) -> List[Fraction]:
+        """Returns for each voter the share of the requests that use it."""
+        used = [0] * len(self.names)
+        for ticket in range(self.cycle):
+            for voter in self.quorum(ticket, Order.BY_ROUNDS):
+                used[voter] += 1
+        return [Fraction(count, self.cycle) for count in used]
