@@ -13,8 +13,8 @@ root=$(CDPATH= cd -- "$(dirname -- "$0")/.." && pwd)
 work=$(mktemp -d)
 trap 'rm -rf "$work"' EXIT
 
-(cd "$root/crates/bench_cycles" && rt run -- blocks 4 3 2 2 10 > /dev/null 2>&1) || { echo "cycles.sh: crates/bench_cycles does not build" >&2; exit 1; }
-cp "$root/crates/bench_cycles/out/bench_cycles" "$work/program"
+"$root/tools/program.sh" bench_cycles blocks 4 3 2 2 10 > /dev/null
+cp "$root/build/bench_cycles" "$work/program"
 
 least() { # the least nanoseconds of nine runs
     for run in 1 2 3 4 5 6 7 8 9; do

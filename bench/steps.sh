@@ -13,8 +13,8 @@ root=$(CDPATH= cd -- "$(dirname -- "$0")/.." && pwd)
 work=$(mktemp -d)
 trap 'rm -rf "$work"' EXIT
 
-(cd "$root/crates/bench_steps" && rt run -- 3 > /dev/null 2>&1) || { echo "steps.sh: crates/bench_steps does not build" >&2; exit 1; }
-cp "$root/crates/bench_steps/out/bench_steps" "$work/proved"
+"$root/tools/program.sh" bench_steps 3 > /dev/null
+cp "$root/build/bench_steps" "$work/proved"
 if command -v rustc > /dev/null; then
     rustc --edition 2021 -O -o "$work/twin" "$root/bench/twin/main.rs"
     printf '#!/bin/sh\nexec "%s" steps "$1"\n' "$work/twin" > "$work/plain"

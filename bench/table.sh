@@ -52,10 +52,10 @@ same() {
 part() {
     local label=$1 crate=$2 word=$3
     shift 3
-    (cd "$root/crates/$crate" && rt run -- "$@" > "$work/proved" 2> "$work/err") || { echo "table.sh: crates/$crate does not build" >&2; exit 1; }
+    "$root/tools/program.sh" "$crate" "$@" > "$work/proved"
     "$twin" "$word" "$@" > "$work/plain"
     cmp <(grep . "$work/proved" | tail -n 1) "$work/plain" || { echo "table.sh: $crate $* differs" >&2; exit 1; }
-    printf '#!/bin/sh\nshift\nexec "%s" "$@"\n' "$root/crates/$crate/out/$crate" > "$work/$crate"
+    printf '#!/bin/sh\nshift\nexec "%s" "$@"\n' "$root/build/$crate" > "$work/$crate"
     chmod +x "$work/$crate"
     row "$label" /dev/null "$work/$crate" "$twin" "$word" "$@"
 }

@@ -182,12 +182,10 @@ said() {
     [ "$status" -eq 0 ] && [ ! -s "$work/err" ] && [ "$(cat "$work/out")" = "$1" ]
 }
 
-# builds the program of the members; what `rt ci` has proved and built is taken as it is
+# builds the program of the members
 build_members() {
-    program=$root/crates/demo_hostile/out/demo_hostile
-    if [ ! -x "$program" ] || [ -n "$(find "$root/crates.txt" "$root"/crates/*/src -newer "$program" -print -quit)" ]; then
-        (cd "$root/crates/demo_hostile" && rt run > /dev/null 2>&1) || { echo "hostile/run.sh: crates/demo_hostile does not build" >&2; exit 1; }
-    fi
+    "$root/tools/program.sh" demo_hostile > /dev/null
+    program=$root/build/demo_hostile
 }
 
 # tries each growth of the program of the members with this word, once and for good: its word, the line that it prints where nothing is

@@ -97,10 +97,11 @@ impl World {
         ensures exclusive { IsExclusive self.new.state.visible }
     {
         worlds_stay_sound();
-        if let Some(fault) = self.state.refusal(&self.cycles, step) {
-            return Err(fault);
-        }
         if self.state.make_room().is_err() {
+            // Without room no step is made, so what it would have failed with is found apart.
+            if let Some(fault) = self.state.refusal(&self.cycles, step) {
+                return Err(fault);
+            }
             return Err(WorldFault::OutOfMemory);
         }
         self.state.act(&self.cycles, step)
