@@ -37,8 +37,6 @@ mod protocol;
 mod records;
 mod search;
 mod section;
-#[cfg(test)]
-mod tests;
 mod text;
 
 pub use all::sections;

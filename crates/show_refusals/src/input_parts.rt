@@ -1,6 +1,7 @@
 //! The parts of an input, and where they begin.
 
 use commands::{Command, split_part};
+use show_places::{NearMark, near_mark, newlines};
 
 /// Returns how many parts the input of a command of `qlock` has.
 pub(crate) fn parts_of(command: &Command) -> usize {
@@ -51,11 +52,6 @@ pub(crate) fn part_in<'a>(command: &Command, input: &'a [u8], number: usize) -> 
     }
 }
 
-/// Returns how many newlines a text has.
-fn newlines(text: &[u8]) -> usize {
-    text.iter().filter(|byte| **byte == b'\n').count()
-}
-
 /// Returns how many lines of an input precede a part.
 pub(crate) fn lines_before(input: &[u8], number: usize) -> usize {
     let rest = rest_from(input, number);
@@ -63,64 +59,10 @@ pub(crate) fn lines_before(input: &[u8], number: usize) -> usize {
     newlines(&input[..before])
 }
 
-/// Returns whether a line is almost a separating line: it begins with `%%`, perhaps behind blanks.
-fn is_near_mark(line: &[u8]) -> bool {
-    let first = line
-        .iter()
-        .position(|byte| *byte != b' ' && *byte != b'\t')
-        .unwrap_or(0);
-    match line.get(first..) {
-        Some(rest) => rest.starts_with(b"%%"),
-        None => false,
-    }
-}
-
-/// A line that is almost a separating line.
-#[derive(Clone, Copy)]
-pub(crate) struct NearMark<'a> {
-    /// Its number in the whole input, from 1.
-    pub line: usize,
-    /// The line, without its newline.
-    pub text: &'a [u8],
-    /// Whether a newline ends it.
-    pub is_ended: bool,
-}
-
 /// Returns the first line before a missing part that is almost a separating line, if there is one.
-pub(crate) fn near_mark(input: &[u8], missing: usize) -> Option<NearMark> {
-    let before = missing.saturating_sub(1);
-    let rest = rest_from(input, before);
-    let mut line = lines_before(input, before).saturating_add(1);
-    let mut begin = 0usize;
-    for (place, byte) in rest.iter().enumerate() {
-        if *byte == b'\n' {
-            let text = rest.get(begin..place).unwrap_or(&[]);
-            if is_near_mark(text) {
-                let is_ended = true;
-                return Some(NearMark {
-                    line,
-                    text,
-                    is_ended,
-                });
-            }
-            line = line.saturating_add(1);
-            begin = place.saturating_add(1);
-        }
-    }
-    let text = rest.get(begin..).unwrap_or(&[]);
-    if is_near_mark(text) {
-        let is_ended = false;
-        Some(NearMark {
-            line,
-            text,
-            is_ended,
-        })
-    } else {
-        None
-    }
-}
-
-/// Returns whether this line of a text is its last one, and has no newline at its end.
-pub(crate) fn is_unended(text: &[u8], line: usize) -> bool {
-    !text.is_empty() && !text.ends_with(b"\n") && newlines(text).saturating_add(1) == line
+/// Its number is that in the whole input, from 1.
+pub(crate) fn near_mark_before(input: &[u8], missing: usize) -> Option<NearMark> {
+    let part = missing.saturating_sub(1);
+    let first = lines_before(input, part).saturating_add(1);
+    near_mark(rest_from(input, part), first)
 }

@@ -10,7 +10,7 @@
 //! - `text_faults.rt` names the voters and quorums of a coterie that are at fault;
 //! - `plan_faults.rt` has the values that a plan has to have, and `shape_faults.rt` the sizes that a
 //!   shape may have;
-//! - `input_parts.rt` and `excerpt.rt` find the parts and the lines of an input.
+//! - `input_parts.rt` finds the parts of an input. `show_places` finds lines, marks and brackets.
 //!
 //! # What is proved
 //!
@@ -27,13 +27,10 @@
 #![tactic(auto)]
 
 mod codes;
-mod excerpt;
 mod input_parts;
 mod page;
 mod plan_faults;
 mod shape_faults;
-#[cfg(test)]
-mod tests;
 mod text_faults;
 mod toml_faults;
 

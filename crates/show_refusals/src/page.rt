@@ -5,8 +5,7 @@ ghost use Rattle.show_refusals.specs.Codes.{code_of};
 ghost use Rattle.show_refusals.specs.Pages.{IsFaultPage, IsTaken, MayTurnDown, NamesCode, is_outside};
 
 use crate::codes::code_of;
-use crate::excerpt::{line_of, push_line};
-use crate::input_parts::{NearMark, is_unended, lines_before, near_mark, part_in, part_name};
+use crate::input_parts::{lines_before, near_mark_before, part_in, part_name};
 use crate::plan_faults::{Parts, push_bad_numbers, push_plan_values};
 use crate::shape_faults::push_shape_fault;
 use crate::text_faults::push_file_fault;
@@ -16,6 +15,7 @@ use construct::ConstructFault;
 use coterie_file::FileFault;
 use planner::{Cause, PlannerFault};
 use replay::ReplayFault;
+use show_places::{NearMark, is_unended, line_of, push_line};
 use std::alloc::{AllocError, Global};
 
 /// Serves a command of `qlock` other than `run` for an input, and throws the output away.
@@ -259,7 +259,7 @@ fn push_missing(text: &mut String, refused: &Refused, number: usize) -> Result<(
         text,
         "  part {number}, {name}, has to follow a line that is exactly %%\n"
     )?;
-    match near_mark(refused.input, number) {
+    match near_mark_before(refused.input, number) {
         Some(near) => push_near_mark(text, near),
         None => Ok(()),
     }

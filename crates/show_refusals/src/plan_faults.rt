@@ -1,8 +1,8 @@
 //! What is wrong with a plan, and the right values.
-use crate::excerpt::{line_of, push_line};
 use certificate::{Plan, PlanFault, check};
 use commands::coterie_of;
 use coterie_file::Named;
+use show_places::{line_of, push_line};
 use std::alloc::{AllocError, Global};
 
 /// How many lines a plan has at most.

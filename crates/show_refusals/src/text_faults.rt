@@ -1,8 +1,8 @@
 //! What is wrong with the text of a coterie, with its names.
-use crate::excerpt::push_line;
 use crate::toml_faults::{push_keys, push_not_toml};
 use coterie_file::{FileFault, NameLists};
 use quorum_set::CoterieFault;
+use show_places::push_line;
 use std::alloc::{AllocError, Global};
 
 /// Appends names with a comma between them, in braces.

@@ -1,8 +1,5 @@
 //! Codes that have an explanation, texts that have none, and the explanations themselves.
-use crate::all::sections;
-use crate::explanation::Explanation;
-use crate::search::explanation_of;
-use crate::text::explanation_text;
+use show_faults::{Explanation, explanation_of, explanation_text, sections};
 use std::alloc::{AllocError, Global};
 use std::test::Fail;
 

@@ -1,11 +1,11 @@
-//! Lines of an input, as they are shown beside a fault.
+//! Lines of a text, and how they are shown.
 use std::alloc::AllocError;
 
 /// The most bytes of a line that are shown.
 const LONGEST: usize = 72;
 
 /// Returns the line of a text with this number, from 1, without its newline, if there is one.
-pub(crate) fn line_of(text: &[u8], number: usize) -> Option<&[u8]> {
+pub fn line_of(text: &[u8], number: usize) -> Option<&[u8]> {
     let mut line = 1usize;
     let mut begin = 0usize;
     for (place, byte) in text.iter().enumerate() {
@@ -36,7 +36,7 @@ fn push_byte(text: &mut String, byte: u8) -> Result<(), AllocError> {
 }
 
 /// Appends the beginning of a line so that each of its bytes is seen.
-pub(crate) fn push_line(text: &mut String, line: &[u8]) -> Result<(), AllocError> {
+pub fn push_line(text: &mut String, line: &[u8]) -> Result<(), AllocError> {
     for byte in line.iter().take(LONGEST) {
         push_byte(text, *byte)?;
     }
@@ -44,4 +44,29 @@ pub(crate) fn push_line(text: &mut String, line: &[u8]) -> Result<(), AllocError
         text.push_str(" ..")?;
     }
     Ok(())
+}
+
+/// Returns how many newlines a text has.
+pub fn newlines(text: &[u8]) -> usize {
+    text.iter().filter(|byte| **byte == b'\n').count()
+}
+
+/// Returns whether this line of a text is its last one, and has no newline at its end.
+pub fn is_unended(text: &[u8], line: usize) -> bool {
+    !text.is_empty() && !text.ends_with(b"\n") && newlines(text).saturating_add(1) == line
+}
+
+/// Returns the line and the column, both from 1, of a place in a text. A column counts characters.
+pub fn position_of(text: &[u8], place: usize) -> (usize, usize) {
+    let mut line: usize = 1;
+    let mut column: usize = 1;
+    for byte in text.iter().take(place) {
+        if *byte == b'\n' {
+            line = line.saturating_add(1);
+            column = 1;
+        } else if *byte & 0xC0 != 0x80 {
+            column = column.saturating_add(1);
+        }
+    }
+    (line, column)
 }

@@ -1,7 +1,5 @@
 //! Where lines, marks and brackets are found in texts.
-use crate::excerpt::line_of;
-use crate::input_parts::{is_unended, near_mark};
-use crate::toml_faults::{position_of, unclosed_line};
+use crate::{is_unended, line_of, near_mark, position_of, unclosed_line};
 
 /// Texts, the number of a line, the line with that number or `none`, and whether it is the last one
 /// and lacks its newline.
@@ -33,22 +31,21 @@ fn lines_are_found(rt: HostRuntime) {
     }
 }
 
-/// Inputs, the number of the part that is missing, and the line that is almost a separating line, or
-/// 0.
+/// Texts, the number of the first line, and that of the line that is almost a separating line, or 0.
 const NEAR_MARKS: [(&str, usize, usize); 8] = [
-    ("a\n%% \nb\n", 2, 2),
-    ("a\n%%\r\nb\n", 2, 2),
-    ("a\n%%", 2, 2),
-    ("a\n \t%%\nb\n", 2, 2),
-    ("a\n%% \n%%\nb\n%%", 3, 5),
-    ("a\n%\nb\n", 2, 0),
-    ("a%%\nb\n", 2, 0),
-    ("", 2, 0),
+    ("a\n%% \nb\n", 1, 2),
+    ("a\n%%\r\nb\n", 1, 2),
+    ("a\n%%", 1, 2),
+    ("a\n \t%%\nb\n", 1, 2),
+    ("b\n%%", 4, 5),
+    ("a\n%\nb\n", 1, 0),
+    ("a%%\nb\n", 1, 0),
+    ("", 1, 0),
 ];
 
 /// Returns the line that is almost a separating line, or 0.
-fn near_line(input: &str, missing: usize) -> usize {
-    match near_mark(input.as_bytes(), missing) {
+fn near_line(text: &str, first: usize) -> usize {
+    match near_mark(text.as_bytes(), first) {
         Some(near) => near.line,
         None => 0,
     }
@@ -56,8 +53,8 @@ fn near_line(input: &str, missing: usize) -> usize {
 
 #[test]
 fn near_marks_are_found(rt: HostRuntime) {
-    for (input, missing, line) in &NEAR_MARKS {
-        assert!(rt; near_line(input, *missing) == *line, "{input:?}");
+    for (text, first, line) in &NEAR_MARKS {
+        assert!(rt; near_line(text, *first) == *line, "{text:?}");
     }
 }
 
