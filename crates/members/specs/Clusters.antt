@@ -33,13 +33,6 @@ pub record Runs (c : ClusterState) (board : BoardState) (offices : OfficesState)
   pub lines_are : lines ≡ c.board.voters
   pub mailboxes_are : mailboxes ≡ c.board.clients
 
--- the rights that are left after each node and each member got its own: all seats and all tickets
--- are out
-abbrev pub IsLeft : ClusterState → RootState → ClerksState → Type 0
-IsLeft c root clerks =
-    (root.table ≡ c.board.table) × (root.seats ≡ 0) × (root.passes ≡ [])
-    × (clerks ≡ fresh_clerks (names_in c) 0)
-
 -- a cluster that is not open yet: all rights to seats and tickets are with the root and the clerks
 pub record IsBlank (c : ClusterState) (offices : OfficesState) (root : RootState) (clerks : ClerksState)
     (voters clients : ℕ) : Type 0 where

@@ -103,6 +103,48 @@ fn mailboxes_of<N: ClusterName>(alloc: Global, clients: u8) -> Result<Vec<Postbo
     Ok(mailboxes)
 }
 
+/// Where a cluster's messages are taken and kept.
+#[derive(Drop)]
+struct Rooms<N: ClusterName> {
+    /// A node for each voter.
+    nodes: Vec<Mutex<Node<N>>>,
+    /// A lock for each voter, under which its replies are posted.
+    lines: Vec<Mutex<()>>,
+    /// A mailbox for each client.
+    mailboxes: Vec<Postbox<N>>,
+}
+
+/// Creates the nodes, with their seats from the root, and all that messages need besides them.
+fn rooms_of<N: ClusterName>(
+    alloc: Global,
+    board: &Board,
+    root: &mut BoardRoot,
+    voters: u8,
+    clients: u8,
+) -> Result<Rooms<N>, AllocError>
+    requires board { board.now ≡ N.cluster.board }
+    requires cluster { IsCluster N.cluster }
+    requires voters { voters ≡ N.cluster.board.voters }
+    requires table { root.old.table ≡ board.now.table }
+    requires there { (v : ℕ) → slice_index_or root.old.voters v false ≡ nat_lt v voters }
+    requires seats { voters ≤ root.old.seats }
+    ensures nodes { IfOk result (λ rooms. length rooms.nodes.items ≡ voters) }
+    ensures lines { IfOk result (λ rooms. length rooms.lines.items ≡ voters) }
+    ensures mailboxes { IfOk result (λ rooms. length rooms.mailboxes.items ≡ clients) }
+    ensures seats { IfOk result (λ _. root.new.seats + voters ≡ root.old.seats) }
+    ensures same { IfOk result (λ _. (root.new.clients ≡ root.old.clients) × (root.new.passes ≡ root.old.passes)) }
+    ensures table { root.new.table ≡ root.old.table }
+{
+    let nodes = nodes_of(alloc, board, root, voters)?;
+    let lines = lines_of(alloc, voters)?;
+    let mailboxes = mailboxes_of(alloc, clients)?;
+    Ok(Rooms {
+        nodes,
+        lines,
+        mailboxes,
+    })
+}
+
 /// Creates a member for each client, with the client's seat from the root and with `quota` of each
 /// clerk's tickets.
 fn members_of<N: ClusterName>(
@@ -228,9 +270,7 @@ impl Blank {
             clients,
             quota,
         } = self;
-        let nodes = nodes_of(alloc, &board, &mut root, voters)?;
-        let lines = lines_of(alloc, voters)?;
-        let mailboxes = mailboxes_of(alloc, clients)?;
+        let rooms = rooms_of(alloc, &board, &mut root, voters, clients)?;
         let members = members_of(
             alloc,
             &board,
@@ -248,9 +288,9 @@ impl Blank {
         let cluster = Cluster {
             board,
             offices,
-            nodes,
-            lines,
-            mailboxes,
+            nodes: rooms.nodes,
+            lines: rooms.lines,
+            mailboxes: rooms.mailboxes,
             left: Mutex::new(left),
         };
         Ok((cluster, members))

@@ -1,8 +1,11 @@
 //! The end of a cluster, and its record.
-ghost use Rattle.std.specs.Prelude.{◌≡◌, ℕ, ◌+◌, ◌-◌, ◌*◌, ◌^◌, ◌<◌, ◌≤◌, ◌++◌, IfOk, IfErr, IfNone, IfSome, IsPermutation, length, min};
+ghost use Rattle.std.specs.Prelude.{◌≡◌, ℕ, ◌+◌, ◌-◌, ◌*◌, ◌^◌, ◌<◌, ◌≤◌, ◌++◌, IfOk, IfErr, IfNone, IfSome, IsPermutation, length, map, min};
 ghost use Rattle.std.specs.List.{All, sum_by};
 ghost use Rattle.std.specs.List.Sorted.{IsNonDecreasingBy};
+ghost use Rattle.numbers.specs.Sums.{AreAllBelow};
 ghost use Rattle.quorum_set.specs.declared.bridge.Side.{Side};
+ghost use Rattle.quorum_set.specs.declared.bridge.Side.TheVariants.{First, Second};
+ghost use Rattle.dealer.specs.Offices.{tickets_of};
 ghost use Rattle.clerks.specs.Clerks.{HasShare, joined_each, names_of, office_names, receipts_of};
 ghost use Rattle.members.specs.Clusters.{names_in};
 ghost use Rattle.members.specs.Closes.{RefusesClose};
@@ -11,7 +14,7 @@ ghost use Rattle.members.specs.Records.{IsDraw, IsLoss, IsRecordOf, all_draws, a
 
 use crate::cluster::{Cluster, Left};
 use crate::member::Member;
-use board::{Board, BoardFault, BoardRoot};
+use board::{Board, BoardFault, BoardRoot, Total};
 use clerks::{Clerks, Offices};
 use node::{ClusterName, Node};
 use quorum_set::Side;
@@ -120,6 +123,21 @@ fn collect_draws<N: ClusterName>(
         push_draws(&mut draws, member, side)?;
     }
     Ok(draws)
+}
+
+/// Returns the draws of both plans of all members, one member after the other.
+fn collect_both<N: ClusterName>(
+    alloc: Global,
+    members: &[Member<N>],
+) -> Result<(Vec<(u8, u64, usize)>, Vec<(u8, u64, usize)>), AllocError>
+    ensures first { IfOk result (λ draws. draws.0.items ≡ all_draws First members.now) }
+    ensures second { IfOk result (λ draws. draws.1.items ≡ all_draws Second members.now) }
+    ensures each { IfOk result (λ draws. All (IsDraw N.cluster First) draws.0.items) }
+    ensures each2 { IfOk result (λ draws. All (IsDraw N.cluster Second) draws.1.items) }
+{
+    let first = collect_draws(alloc, members, Side::First)?;
+    let second = collect_draws(alloc, members, Side::Second)?;
+    Ok((first, second))
 }
 
 /// Returns the draws in the order of their tickets.
@@ -275,14 +293,32 @@ impl<N: ClusterName> Cluster<N> {
         ensures lost { IfErr result (IsLoss N.cluster) }
     {
         let lost = lost_by(&members);
-        let draws = match collect_draws(alloc, &members, Side::First) {
+        let (draws, draws2) = match collect_both(alloc, &members) {
             Ok(draws) => draws,
             Err(_) => return Err(BoardFault::OutOfMemory),
         };
-        let draws2 = match collect_draws(alloc, &members, Side::Second) {
-            Ok(draws) => draws,
-            Err(_) => return Err(BoardFault::OutOfMemory),
-        };
+        let total = self.join(members)?;
+        Ok(RunRecord {
+            draws: by_ticket(draws),
+            draws2: by_ticket(draws2),
+            passes: by_number(total.passes),
+            register: total.register,
+            lost,
+        })
+    }
+
+    /// Joins all seats and clerks, and closes the board and the offices. Returns the board's total.
+    /// Each client's member must be back.
+    fn join(self, members: Vec<Member<N>>) -> Result<Total, BoardFault>
+        requires { N.cluster.board.clients ≤ length members.items }
+        ensures passes { IfOk result (λ total. total.passes.items ≡ all_passes members.items) }
+        ensures each { IfOk result (λ _. All (λ p. p.0 < N.cluster.board.clients) (all_passes members.items)) }
+        ensures once { IfOk result (λ total. AreAllBelow (map (λ p. p.1) (all_passes members.items)) total.register) }
+        ensures register { IfOk result (λ total. total.register ≡ length (all_passes members.items)) }
+        ensures tickets { IfOk result (λ _. (side : Side) →
+            AreAllBelow (tickets_of (all_receipts side members.items)) (length (all_receipts side members.items))) }
+        ensures lost { IfErr result (IsLoss N.cluster) }
+    {
         let Cluster {
             board,
             offices,
@@ -302,12 +338,6 @@ impl<N: ClusterName> Cluster<N> {
         let Ok(total) = board.close(root) else {
             unreachable!()
         };
-        Ok(RunRecord {
-            draws: by_ticket(draws),
-            draws2: by_ticket(draws2),
-            passes: by_number(total.passes),
-            register: total.register,
-            lost,
-        })
+        Ok(total)
     }
 }

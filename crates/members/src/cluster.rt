@@ -1,10 +1,11 @@
 //! A running cluster: its nodes and mailboxes, which all members share.
-ghost use Rattle.std.specs.Prelude.{◌≡◌, ◌⊎◌, ◌+◌, ◌<◌, ◌≤◌, true, false, None, IfNone, IfSome, length, nat_le};
+ghost use Rattle.std.specs.Prelude.{◌≡◌, ◌⊎◌, ◌+◌, ◌<◌, ◌≤◌, [], true, false, None, IfNone, IfSome, length, nat_le};
+ghost use Rattle.std.specs.Coded.{Coded-set};
 ghost use Rattle.std.specs.List.{count_by};
 ghost use Rattle.numbers.specs.Sets.{IsSet};
 ghost use Rattle.board.specs.Quorums.{HasQuorum, place_of, quorum_at};
-ghost use Rattle.clerks.specs.Clerks.{quorums_of};
-ghost use Rattle.members.specs.Clusters.{ClusterState, IsLeft, names_in};
+ghost use Rattle.clerks.specs.Clerks.{fresh_clerks, quorums_of};
+ghost use Rattle.members.specs.Clusters.{ClusterState, names_in};
 ghost use Rattle.members.specs.Losses.{is_stray, is_stray_reply, most_lost};
 ghost use Rattle.node.specs.Mail.{IsMail};
 
@@ -35,13 +36,17 @@ pub struct Cluster<N: ClusterName> {
     pub(crate) left: Mutex<Left<N>>,
 }
 
-/// What is left of the rights to seats and tickets, after each node and each member got its own.
+/// What is left of the rights to seats and tickets, after each node and each member got its own: all
+/// seats and all tickets are out.
 #[derive(Drop)]
 pub(crate) struct Left<N: ClusterName> {
     pub(crate) root: BoardRoot,
     pub(crate) clerks: Clerks,
     pub(crate) of: PhantomData<N>,
-    ghost left: { IsLeft N.cluster root clerks },
+    ghost table: { root.table ≡ N.cluster.board.table },
+    ghost no_seats: { root.seats ≡ 0 },
+    ghost no_passes: { root.passes ≡ [] },
+    ghost no_tickets: { clerks ≡ fresh_clerks (names_in N.cluster) 0 } by { Coded-set clerks-code clerks (fresh_clerks (names_in N.cluster) 0) },
 }
 
 impl<N: ClusterName> Model for Cluster<N> {

@@ -34,9 +34,9 @@ abbrev pub quorum_text : NamedSystem → ℕ → List ℕ
 quorum_text named j =
     codes "quorum " ++ (decimal j ++ (codes " {" ++ (names_text named.names (quorum_at named j) ++ codes "}")))
 
--- the page if there is a bridge
+-- the page if there is a bridge; a bridge by names is one by numbers only if the lists of voters agree
 abbrev pub bridged_text : List ℕ
-bridged_text = codes "yes: each quorum of the first has a voter in common with each quorum of the second\n"
+bridged_text = codes "yes: each quorum of the first has a voter in common with each quorum of the second\nVoters are compared by name. Calls and masks compare numbers: list the same voters in the same order in both files.\n"
 
 -- the page if there is none: two quorums that are apart
 abbrev pub apart_text : NamedSystem → NamedSystem → ℕ → ℕ → List ℕ

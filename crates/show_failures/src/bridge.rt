@@ -85,7 +85,7 @@ pub fn bridge_page(alloc: Global, first: &Named, second: &Named) -> Result<Strin
         Some(pair) => apart_text(alloc, first, second, pair),
         None => String::from_str(
             alloc,
-            "yes: each quorum of the first has a voter in common with each quorum of the second\n",
+            "yes: each quorum of the first has a voter in common with each quorum of the second\nVoters are compared by name. Calls and masks compare numbers: list the same voters in the same order in both files.\n",
         ),
     }
 }
