@@ -6,7 +6,7 @@
 set -eu
 [ "$#" -eq 1 ] || { echo "below.sh: one crate's name" >&2; exit 2; }
 awk -F: -v crate="$1" '
-    { below[$1] = $2 }
+    { sub(/#.*/, ""); split($1, head, " "); if (NF > 1) below[head[1]] = $2 }
     END {
         if (!(crate in below)) { print "below.sh: crates.txt has no " crate > "/dev/stderr"; exit 1 }
         last = 1; queue[1] = crate; seen[crate] = 1

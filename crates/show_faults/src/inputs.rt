@@ -16,7 +16,8 @@ const I1: Explanation = Explanation {
     mistakes: "The line `%%` ends with a carriage return or has a space after it. The\n\
         text before it has no newline at its end. Or a part was left out:\n\
         `check`, `deal` and `run` read a coterie and a plan, `world` a script\n\
-        too, and `replay` a record too.",
+        too, and `replay` a record too. With `-f`, each part is a file:\n\
+        `-f coterie.toml -f plan.txt`.",
 };
 
 const I2: Explanation = Explanation {

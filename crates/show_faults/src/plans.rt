@@ -80,7 +80,8 @@ const P6: Explanation = Explanation {
         P6 WrongLoad",
     mistakes: "Weights were changed, and the load was not. Or it is not in lowest\n\
         terms. With capacities it is the greatest count divided by its voter's\n\
-        capacity, and then by the cycle's length.",
+        capacity, and then by the cycle's length. Or it is the plan of another\n\
+        coterie.",
 };
 
 const P7: Explanation = Explanation {
@@ -128,7 +129,7 @@ const P9: Explanation = Explanation {
     example: "$ ./qlock check < examples/refused-capacity.txt\n\
         P9 WrongCapacity",
     mistakes: "The plan was made before the key `capacity` was added or changed: plan\n\
-        again.",
+        again. Or it is the plan of another coterie.",
 };
 
 const N1: Explanation = Explanation {
