@@ -72,9 +72,30 @@ planned "$work/maj14" > "$work/maj14.planned"
     awk 'BEGIN { for (i = 0; i < 200000; i++) printf "ask 0\ndeliver %d\ndeliver %d\nleave 0\ndeliver %d\n", 3 * i, 3 * i + 1, 3 * i + 2 }'
 } > "$work/script"
 
+# a script of clients who go through the lock one after the other, behind a coterie and its plan: the planned coterie, the size of
+# its quorums, and the numbers of clients and of rounds
+played() {
+    cat "$1"
+    printf '%%%%\nworld %d 1099511627776\n' "$3"
+    awk -v size="$2" -v clients="$3" -v rounds="$4" 'BEGIN {
+        for (round = 0; round < rounds; round++) {
+            printf "ask %d\n", round % clients
+            for (i = 0; i < 2 * size; i++) printf "deliver %d\n", sent++
+            printf "leave %d\n", round % clients
+            for (i = 0; i < size; i++) printf "deliver %d\n", sent++
+        }
+    }'
+}
+"$program" make grid 8 8 > "$work/grid8"
+planned "$work/grid8" > "$work/grid8.planned"
+played "$work/maj3.planned" 2 4 60000 > "$work/small-world"
+played "$work/grid8.planned" 15 64 10000 > "$work/large-world"
+
 printf '%-34s %10s %10s %7s\n' work 'qlock ms' 'plain ms' ratio
 same 'make wheel 3 (the start alone)' /dev/null make wheel 3
 same 'world, a million steps' "$work/script" world
+same 'world, 3 voters and 4 clients' "$work/small-world" world
+same 'world, 64 voters and 64 clients' "$work/large-world" world
 same 'deal 100000, majority 3' "$work/maj3.planned" deal 100000
 same 'deal 100000, wheel 3' "$work/wheel3.planned" deal 100000
 same 'make majority 14' /dev/null make majority 14
