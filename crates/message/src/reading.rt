@@ -1,20 +1,20 @@
 //! Reading the line of a message.
 ghost use Rattle.std.specs.Prelude.{◌≡◌, ◌∷◌, [], ℕ, List, IfOk, IfSome};
 ghost use Rattle.message.specs.declared.message.Message.{Message};
-ghost use Rattle.texts.specs.Fields.{fields};
-ghost use Rattle.message.specs.Lines.{HasLine, IsMessageOf, message_line};
+ghost use Rattle.text_lines.specs.Forms.{IsLineOf};
+ghost use Rattle.message.specs.Lines.{HasLine, message_form, message_line, messages_have_form};
 
 use crate::fault::MessageFault;
 use crate::message::{ClientBody, Message, ToClient, ToVoter, VoterBody};
-use texts::{cut, fields};
+use text_lines::{Line, read_line};
 
 /// The highest number of a client or a voter.
 const HIGHEST: u64 = 63;
 
 /// Returns a client's message: REQUEST, RELINQUISH or RELEASE.
 fn to_voter(word: &[u8], client: u64, voter: u64, number: u64) -> Option<Message>
-    ensures written { IfSome result (λ m. IsMessageOf m word.now (client ∷ voter ∷ number ∷ [])) }
-    ensures read { (m : Message) → IsMessageOf m word.now (client ∷ voter ∷ number ∷ []) → result ≡ Some m }
+    ensures written { IfSome result (λ m. IsLineOf message_form m word.now (client ∷ voter ∷ number ∷ [])) }
+    ensures read { (m : Message) → IsLineOf message_form m word.now (client ∷ voter ∷ number ∷ []) → result ≡ Some m }
 {
     if client > HIGHEST || voter > HIGHEST || number == 0 {
         return None;
@@ -34,8 +34,8 @@ fn to_voter(word: &[u8], client: u64, voter: u64, number: u64) -> Option<Message
 
 /// Returns a voter's message about a request or a grant: FAIL or INQUIRE.
 fn to_client(word: &[u8], voter: u64, client: u64, number: u64, seen: u64) -> Option<Message>
-    ensures written { IfSome result (λ m. IsMessageOf m word.now (voter ∷ client ∷ number ∷ seen ∷ [])) }
-    ensures read { (m : Message) → IsMessageOf m word.now (voter ∷ client ∷ number ∷ seen ∷ []) → result ≡ Some m }
+    ensures written { IfSome result (λ m. IsLineOf message_form m word.now (voter ∷ client ∷ number ∷ seen ∷ [])) }
+    ensures read { (m : Message) → IsLineOf message_form m word.now (voter ∷ client ∷ number ∷ seen ∷ []) → result ≡ Some m }
 {
     if voter > HIGHEST || client > HIGHEST || number == 0 {
         return None;
@@ -62,8 +62,8 @@ fn locked(
     grant: u64,
     seen: u64,
 ) -> Option<Message>
-    ensures written { IfSome result (λ m. IsMessageOf m word.now (voter ∷ client ∷ stamp ∷ grant ∷ seen ∷ [])) }
-    ensures read { (m : Message) → IsMessageOf m word.now (voter ∷ client ∷ stamp ∷ grant ∷ seen ∷ [])
+    ensures written { IfSome result (λ m. IsLineOf message_form m word.now (voter ∷ client ∷ stamp ∷ grant ∷ seen ∷ [])) }
+    ensures read { (m : Message) → IsLineOf message_form m word.now (voter ∷ client ∷ stamp ∷ grant ∷ seen ∷ [])
         → result ≡ Some m }
 {
     if word != b"locked".as_slice()
@@ -82,32 +82,23 @@ fn locked(
     }))
 }
 
-/// Returns the message of this word and these numbers.
-fn message_of(word: &[u8], numbers: &[u64]) -> Option<Message>
-    ensures written { IfSome result (λ m. IsMessageOf m word.now numbers.now) }
-    ensures read { (m : Message) → IsMessageOf m word.now numbers.now → result ≡ Some m }
-{
-    match numbers {
-        [client, voter, number] => to_voter(word, *client, *voter, *number),
-        [voter, client, number, seen] => to_client(word, *voter, *client, *number, *seen),
-        [voter, client, stamp, grant, seen] => {
-            locked(word, *voter, *client, *stamp, *grant, *seen)
-        }
-        _ => None,
-    }
-}
+impl Line for Message {
+    type Value = Message;
 
-/// Returns the message of this word and the fields after it. The word determines how many fields
-/// there are.
-fn read_fields(word: &[u8], rest: &[u8]) -> Option<Message>
-    ensures written { IfSome result (λ m. (ns : List ℕ) × IsMessageOf m word.now ns × (rest.now ≡ fields ns)) }
-    ensures read { (m : Message) (ns : List ℕ) → IsMessageOf m word.now ns → rest.now ≡ fields ns → result ≡ Some m }
-{
-    match word {
-        b"locked" => message_of(word, &fields::<5>(rest)?),
-        b"fail" | b"inquire" => message_of(word, &fields::<4>(rest)?),
-        _ => message_of(word, &fields::<3>(rest)?),
+    ghost form = { message_form };
+
+    fn value_of(word: &[u8], numbers: &[u64]) -> Option<Message> {
+        match numbers {
+            [client, voter, number] => to_voter(word, *client, *voter, *number),
+            [voter, client, number, seen] => to_client(word, *voter, *client, *number, *seen),
+            [voter, client, stamp, grant, seen] => {
+                locked(word, *voter, *client, *stamp, *grant, *seen)
+            }
+            _ => None,
+        }
     }
+
+    ghost is_form = { messages_have_form };
 }
 
 /// Reads a message from its line, without the newline. Fails with `BadLine` if and only if the
@@ -118,8 +109,7 @@ pub fn read_message(line: &[u8]) -> Result<Message, MessageFault>
     // The line of each message is read.
     ensures read { (m : Message) → HasLine m → line.now ≡ message_line m → result ≡ Ok m }
 {
-    let (word, rest) = cut(line);
-    match read_fields(word, rest) {
+    match read_line::<Message>(line) {
         Some(message) => Ok(message),
         None => Err(MessageFault::BadLine),
     }
