@@ -4,7 +4,7 @@ use message::{
 };
 use std::alloc::{AllocError, Global};
 use std::test::Fail;
-use texts::{cut, field, fields, number};
+use texts::{cut, field, number};
 
 fn to_voter(client: u8, voter: u8, body: VoterBody) -> Message {
     Message::ToVoter(ToVoter {
@@ -123,7 +123,7 @@ fn fault_is_written(rt: HostRuntime) -> Result<(), Fail> {
 fn reads_numbers() -> bool {
     let numbers = (number(b"0") == Some(0)) & number(b"007").is_none();
     let one = field(b" 1 2") == Some((1, b" 2".as_slice()));
-    numbers & one & (fields::<2>(b" 1 2") == Some([1, 2])) & fields::<1>(b" 1 2").is_none()
+    numbers & one
 }
 
 #[test]

@@ -1,6 +1,6 @@
 -- lists of fields, and what is left of one
-use Rattle.std.proofs.Common.{◌≡◌, ◌≢◌, true, false, ℕ, ◌+◌, ◌<◌, ◌≤◌, ◌^◌, List, [], ◌∷◌, ◌++◌, length, refl, sym, ap, ◌∙◌, arith}
-use Rattle.std.proofs.lemmas.List.{append-nil, append_assoc, length-append}
+use Rattle.std.proofs.Common.{◌≡◌, ◌≢◌, true, false, ℕ, ◌<◌, ◌^◌, List, [], ◌∷◌, ◌++◌, length, refl, sym, arith}
+use Rattle.std.proofs.lemmas.List.{append-nil, append_assoc}
 use Rattle.std.specs.Prelude.{◌==◌}
 use Rattle.std.proofs.lemmas.Bool.Decides.{nat_tests}
 use Rattle.std.specs.Fmt.{decimal}
@@ -26,21 +26,6 @@ pub record IsNext (found rest ns : List ℕ) (n : ℕ) (ms : List ℕ) : Type 0 
   pub fit : AllFit ms
   pub numbers : ns ≡ (found ++ n ∷ []) ++ ms
   pub rest_is : rest ≡ (32 ∷ decimal n) ++ fields ms
-
--- while fewer were found than there are, there is a next one
-pub next_number : (found rest ns ms : List ℕ) → length found < length ns → IsLeft found rest ns ms → (n : ℕ) × (more : List ℕ) × IsNext found rest ns n more
-next_number found rest ns [] fewer left =
-    let same : length ns ≡ length found = ap length (left.numbers ∙ append-nil found) in
-    absurd (omega arith)
-next_number found rest ns (n ∷ ms) fewer left =
-    (n, ms, record { small = left.fit.0; fit = left.fit.1; numbers = left.numbers ∙ sym (append_assoc found (n ∷ []) ms); rest_is = left.rest_is })
-
--- once all were found, nothing is left
-pub IsLeft-end : (found rest ns ms : List ℕ) → length ns ≤ length found → IsLeft found rest ns ms → (ns ≡ found) × (rest ≡ [])
-IsLeft-end found rest ns [] all left = (left.numbers ∙ append-nil found, left.rest_is)
-IsLeft-end found rest ns (m ∷ ms) all left =
-    let more : length ns ≡ length found + length (m ∷ ms) = ap length left.numbers ∙ length-append found (m ∷ ms) in
-    absurd (omega arith)
 
 pub zero-from_test : (n : ℕ) → true ≡ (n == 0) → n ≡ 0
 zero-from_test n e = grind (arith, nat_tests)

@@ -2,7 +2,7 @@
 //!
 //! - [`cut_at`] cuts a text at the first byte that is the mark.
 //! - [`cut`] cuts a line behind its first word.
-//! - [`number`], [`field`] and [`fields`] read numbers in decimal: without a sign or a leading zero,
+//! - [`number`] and [`field`] read numbers in decimal: without a sign or a leading zero,
 //!   and below 2^64. Each number has one text.
 //!
 //! Reading takes no memory. The lemmas in `proofs/` are public: readers of texts use them.
@@ -14,4 +14,4 @@ mod cuts;
 mod words;
 
 pub use cuts::cut_at;
-pub use words::{cut, field, fields, number};
+pub use words::{cut, field, number};

@@ -3,7 +3,7 @@ ghost use Rattle.std.specs.Prelude.{◌≡◌, ◌<◌, ◌≤◌, ◌^◌, ◌+
 ghost use Rattle.std.specs.Bool.{OnFalse, OnTrue};
 ghost use Rattle.std.specs.Fmt.{decimal};
 ghost use Rattle.std.specs.List.{position_or_len};
-ghost use Rattle.texts.specs.Fields.{AllFit, HasNoSpace, IsBorder, IsPlain, fields};
+ghost use Rattle.texts.specs.Fields.{HasNoSpace, IsBorder, IsPlain};
 
 fn is_plain(digits: &[u8]) -> bool
     ensures plain { OnTrue result (IsPlain digits.now) }
@@ -81,19 +81,4 @@ pub fn field(bytes: &[u8]) -> Option<(u64, &[u8])>
         }
         _ => None,
     }
-}
-
-/// Reads the numbers of exactly `N` fields. Returns `None` if the bytes are anything else.
-pub fn fields<const N: usize>(bytes: &[u8]) -> Option<[u64; N]>
-    ensures written { IfSome result (λ ns. bytes.now ≡ fields ns) }
-    ensures read { (ns : List ℕ) → length ns ≡ N → AllFit ns → bytes.now ≡ fields ns → result ≡ Some ns }
-{
-    let mut numbers = [0; N];
-    let mut rest = bytes;
-    for place in 0..N {
-        let (n, after) = field(rest)?;
-        numbers[place] = n;
-        rest = after;
-    }
-    if rest.is_empty() { Some(numbers) } else { None }
 }
