@@ -1,5 +1,5 @@
 //! Reading the line of a message.
-ghost use Rattle.std.specs.Prelude.{◌≡◌, ◌∷◌, [], ℕ, List, IfOk, IfSome};
+ghost use Rattle.std.specs.Prelude.{◌≡◌, ◌∷◌, [], IfOk, IfSome};
 ghost use Rattle.message.specs.declared.message.Message.{Message};
 ghost use Rattle.text_lines.specs.Forms.{IsLineOf};
 ghost use Rattle.message.specs.Lines.{HasLine, message_form, message_line, messages_have_form};

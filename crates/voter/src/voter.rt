@@ -23,7 +23,6 @@ pub struct Voter {
 }
 
 impl Model for Voter {
-    ghost use Rattle.std.specs.Ordering.{nat_cmp};
     ghost use Rattle.voter.specs.declared.state.VoterState.{VoterState};
     ghost use Rattle.voter.specs.Steps.{IsSound};
     ghost use Rattle.voter.specs.contracts.state.VoterState as known;
