@@ -19,8 +19,6 @@
 mod fault;
 mod laws;
 mod search;
-#[cfg(test)]
-mod tests;
 
 pub use fault::{Cause, PlannerFault};
 pub use laws::ones_certify_uniform_coteries;

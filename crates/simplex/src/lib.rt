@@ -27,8 +27,6 @@ mod choice;
 mod fault;
 mod method;
 mod tableau;
-#[cfg(test)]
-mod tests;
 
 pub use candidate::{Candidate, solve, solve_by};
 pub use choice::Rule;

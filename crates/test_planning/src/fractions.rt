@@ -4,68 +4,77 @@ ghost use Rattle.fraction.specs.Fractions.{Fits};
 ghost use Rattle.fraction.specs.Tables.{IsPlace, entry_at};
 
 use fraction::{Frac, FracFault, Shared};
+use std::alloc::{AllocError, Global};
 use std::cmp::Ordering;
 use std::test::Fail;
 
 const HUGE: i128 = 1 << 126;
 
-/// Returns the fraction's two numbers, or the text of the fault.
-fn text_of(alloc: Global, answer: Result<Frac, FracFault>) -> Result<String, AllocError> {
+/// Returns the fraction's two numbers, or the fault.
+fn numbers_of(answer: Result<Frac, FracFault>) -> Result<(i128, i128), FracFault> {
     match answer {
-        Ok(f) => format!(in alloc; "{}/{}", f.num(), f.den()),
-        Err(fault) => fault.to_string(alloc),
+        Ok(f) => Ok((f.num(), f.den())),
+        Err(fault) => Err(fault),
     }
 }
 
-use std::alloc::{AllocError, Global};
+/// Two numbers, and their quotient in lowest terms.
+const QUOTIENTS: [(i128, i128, Result<(i128, i128), FracFault>); 9] = [
+    (6, 4, Ok((3, 2))),
+    (6, -4, Ok((-3, 2))),
+    (-6, -4, Ok((3, 2))),
+    (0, -7, Ok((0, 1))),
+    (1, 0, Err(FracFault::ZeroDivisor)),
+    (i128::MIN, 0, Err(FracFault::ZeroDivisor)),
+    (i128::MIN, 2, Err(FracFault::Overflow)),
+    (2, i128::MIN, Err(FracFault::Overflow)),
+    (i128::MAX, i128::MIN + 1, Ok((-1, 1))),
+];
 
 #[test]
-fn fractions_are_reduced(rt: HostRuntime) -> Result<(), Fail> {
-    let alloc = rt.alloc();
-    let table: [(i128, i128, &str); 9] = [
-        (6, 4, "3/2"),
-        (6, -4, "-3/2"),
-        (-6, -4, "3/2"),
-        (0, -7, "0/1"),
-        (1, 0, "Q2 ZeroDivisor"),
-        (i128::MIN, 0, "Q2 ZeroDivisor"),
-        (i128::MIN, 2, "Q1 Overflow"),
-        (2, i128::MIN, "Q1 Overflow"),
-        (i128::MAX, i128::MIN + 1, "-1/1"),
-    ];
-    for (num, den, want) in &table {
-        assert_eq!(rt; text_of(alloc, Frac::of(*num, *den))?.as_str(), *want);
+fn fractions_are_reduced(rt: HostRuntime) {
+    for (num, den, wanted) in &QUOTIENTS {
+        assert!(rt; numbers_of(Frac::of(*num, *den)) == *wanted);
     }
-    Ok(())
+}
+
+/// Returns whether sums and products of a half, a third, 0 and 2^126 are what they should be.
+fn are_computed(half: Frac, third: Frac, zero: Frac, huge: Frac) -> bool {
+    let sums = (numbers_of(half.add(third)) == Ok((5, 6)))
+        & (numbers_of(third.sub(half)) == Ok((-1, 6)))
+        & (numbers_of(huge.add(huge)) == Err(FracFault::Overflow))
+        & (numbers_of(huge.sub(half)) == Err(FracFault::Overflow));
+    let products = (numbers_of(half.mul(third)) == Ok((1, 6)))
+        & (numbers_of(half.div(third)) == Ok((3, 2)))
+        & (numbers_of(half.div(zero)) == Err(FracFault::ZeroDivisor))
+        & (numbers_of(huge.mul(huge)) == Err(FracFault::Overflow))
+        & (numbers_of(huge.div(half)) == Err(FracFault::Overflow));
+    sums & products
+}
+
+/// Returns whether a half, a third and 2^126 are in the order that they should be.
+fn are_ordered(half: Frac, third: Frac, huge: Frac) -> bool {
+    (half.compare(third) == Ok(Ordering::Greater))
+        & (third.compare(half) == Ok(Ordering::Less))
+        & (half.compare(half) == Ok(Ordering::Equal))
+        & (huge.compare(half) == Err(FracFault::Overflow))
 }
 
 #[test]
-fn fractions_are_reckoned_exactly(rt: HostRuntime) -> Result<(), Fail> {
-    let alloc = rt.alloc();
+fn fractions_are_computed_exactly(rt: HostRuntime) {
     let parts = (
         Frac::of(1, 2),
         Frac::of(1, 3),
-        Frac::of(HUGE, 1),
         Frac::of(0, 5),
+        Frac::of(HUGE, 1),
     );
-    let (Ok(half), Ok(third), Ok(huge), Ok(zero)) = parts else {
-        assert!(rt; false);
-        return Ok(());
+    let holds = match parts {
+        (Ok(half), Ok(third), Ok(zero), Ok(huge)) => {
+            are_computed(half, third, zero, huge) & are_ordered(half, third, huge)
+        }
+        _ => false,
     };
-    assert_eq!(rt; text_of(alloc, half.add(third))?.as_str(), "5/6");
-    assert_eq!(rt; text_of(alloc, third.sub(half))?.as_str(), "-1/6");
-    assert_eq!(rt; text_of(alloc, half.mul(third))?.as_str(), "1/6");
-    assert_eq!(rt; text_of(alloc, half.div(third))?.as_str(), "3/2");
-    assert_eq!(rt; text_of(alloc, half.div(zero))?.as_str(), "Q2 ZeroDivisor");
-    assert_eq!(rt; text_of(alloc, huge.add(huge))?.as_str(), "Q1 Overflow");
-    assert_eq!(rt; text_of(alloc, huge.sub(half))?.as_str(), "Q1 Overflow");
-    assert_eq!(rt; text_of(alloc, huge.mul(huge))?.as_str(), "Q1 Overflow");
-    assert_eq!(rt; text_of(alloc, huge.div(half))?.as_str(), "Q1 Overflow");
-    assert_eq!(rt; half.compare(third), Ok(Ordering::Greater));
-    assert_eq!(rt; third.compare(half), Ok(Ordering::Less));
-    assert_eq!(rt; half.compare(half), Ok(Ordering::Equal));
-    assert_eq!(rt; huge.compare(half), Err(FracFault::Overflow));
-    Ok(())
+    assert!(rt; holds);
 }
 
 /// Returns the table of two rows of two numbers over 1.
@@ -81,31 +90,31 @@ fn square(alloc: Global, a: i128, b: i128, c: i128, d: i128) -> Result<Shared, A
 }
 
 /// Returns the entries of a table of two rows of two numbers, and its denominator.
-fn shown(alloc: Global, table: &Shared) -> Result<String, AllocError>
+fn entries_of(table: &Shared) -> ([i128; 4], i128)
     requires { (i j : ℕ) → i < 2 → j < 2 → IsPlace table.now i j }
 {
-    let upper = (table.entry(0, 0), table.entry(0, 1));
-    let lower = (table.entry(1, 0), table.entry(1, 1));
-    format!(in alloc;
-        "{} {}, {} {} over {}",
-        upper.0,
-        upper.1,
-        lower.0,
-        lower.1,
-        table.den()
-    )
+    let entries = [
+        table.entry(0, 0),
+        table.entry(0, 1),
+        table.entry(1, 0),
+        table.entry(1, 1),
+    ];
+    (entries, table.den())
 }
 
-/// Pivots at the first place. Returns the table then, with the text of the fault if it failed.
-fn pivoted(alloc: Global, table: &mut Shared) -> Result<String, AllocError>
+/// Pivots at the first place. Returns the entries and the denominator then.
+fn pivoted(table: &mut Shared) -> (Result<(), FracFault>, [i128; 4], i128)
     requires places { (i j : ℕ) → i < 2 → j < 2 → IsPlace table.old i j }
     requires positive { pos 0 <ℤ entry_at table.old 0 0 }
 {
     match table.pivot(0, 0) {
-        Ok(()) => shown(alloc, table),
+        Ok(()) => {
+            let (entries, den) = entries_of(table);
+            (Ok(()), entries, den)
+        }
         Err(fault) => {
-            let rest = shown(alloc, table)?;
-            format!(in alloc; "{fault}: {rest}")
+            let (entries, den) = entries_of(table);
+            (Err(fault), entries, den)
         }
     }
 }
@@ -114,12 +123,9 @@ fn pivoted(alloc: Global, table: &mut Shared) -> Result<String, AllocError>
 fn tables_are_pivoted(rt: HostRuntime) -> Result<(), Fail> {
     let alloc = rt.alloc();
     let mut small = square(alloc, 2, 1, 1, 3)?;
-    assert_eq!(rt; pivoted(alloc, &mut small)?.as_str(), "2 1, 0 5 over 2");
+    assert!(rt; pivoted(&mut small) == (Ok(()), [2, 1, 0, 5], 2));
     let mut large = square(alloc, 3, HUGE, HUGE, 1)?;
-    assert_eq!(rt;
-        pivoted(alloc, &mut large)?.as_str(),
-        "Q1 Overflow: 3 85070591730234615865843651857942052864, 85070591730234615865843651857942052864 1 over 1"
-    );
+    assert!(rt; pivoted(&mut large) == (Err(FracFault::Overflow), [3, HUGE, HUGE, 1], 1));
     Ok(())
 }
 

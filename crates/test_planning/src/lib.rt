@@ -4,7 +4,7 @@
 //! - `coterie_texts` reads and writes coteries, and `shapes` constructs them.
 //! - `divisors` and `fractions` compute.
 //! - `failing` has voters fail.
-//! - `certificates` checks weights and reads plans, and `plans` finds them.
+//! - `certificates` checks weights and reads plans, `searches` solves, and `plans` finds them.
 //!
 //! The tests are not in the crates that they test, so these are proved once, and not again together
 //! with their tests.
@@ -22,6 +22,8 @@ mod failing;
 mod fractions;
 #[cfg(test)]
 mod plans;
+#[cfg(test)]
+mod searches;
 #[cfg(test)]
 mod set_lists;
 #[cfg(test)]
