@@ -1,7 +1,6 @@
 //! Constructions.
 use construct::{ConstructFault, cyclic, grid, majority, tree, wheel};
-use quorum_set::Coterie;
-use std::alloc::{AllocError, Global};
+use quorum_set::{Coterie, CoterieFault};
 use std::test::Fail;
 
 /// Returns whether the coterie has this number of voters and these quorums, each by its ascending
@@ -18,77 +17,87 @@ fn is_list(coterie: &Coterie, voters: usize, quorums: &[&[u8]]) -> bool {
     true
 }
 
-/// Returns the numbers of voters and of quorums, or the text of the fault.
-fn answer_to(alloc: Global, built: Result<Coterie, ConstructFault>) -> Result<String, AllocError> {
+/// The numbers of voters and of quorums, or the fault.
+type Sizes = Result<(usize, usize), ConstructFault>;
+
+/// Returns the sizes of what was constructed.
+fn sizes_of(built: Result<Coterie, ConstructFault>) -> Sizes {
     match built {
-        Ok(coterie) => format!(in alloc;
-            "{} voters, {} quorums",
-            coterie.voters(),
-            coterie.count()
-        ),
-        Err(fault) => fault.to_string(alloc),
+        Ok(coterie) => Ok((coterie.voters(), coterie.count())),
+        Err(fault) => Err(fault),
     }
 }
 
+const BAD_SIZE: Sizes = Err(ConstructFault::BadSize);
+
+const TOO_LARGE: Sizes = Err(ConstructFault::TooLarge);
+
 #[test]
-fn sizes_and_faults(rt: HostRuntime) -> Result<(), Fail> {
+fn sizes_and_faults(rt: HostRuntime) {
     let alloc = rt.alloc();
     let table = [
-        (grid(alloc, 1, 5), "G1 BadSize"),
-        (grid(alloc, 5, 1), "G1 BadSize"),
-        (grid(alloc, 0, 100), "G1 BadSize"),
-        (grid(alloc, 9, 8), "G2 TooLarge"),
-        (grid(alloc, 65536, 65536), "G2 TooLarge"),
-        (grid(alloc, 8, 8), "64 voters, 64 quorums"),
-        (grid(alloc, 2, 32), "64 voters, 64 quorums"),
-        (majority(alloc, 0), "G1 BadSize"),
-        (majority(alloc, 15), "G2 TooLarge"),
-        (majority(alloc, 1), "1 voters, 1 quorums"),
-        (majority(alloc, 14), "14 voters, 3003 quorums"),
-        (tree(alloc, 4), "G2 TooLarge"),
-        (tree(alloc, 0), "1 voters, 1 quorums"),
-        (tree(alloc, 2), "7 voters, 15 quorums"),
-        (tree(alloc, 3), "15 voters, 255 quorums"),
-        (wheel(alloc, 1), "G1 BadSize"),
-        (wheel(alloc, 64), "G2 TooLarge"),
-        (wheel(alloc, 63), "64 voters, 64 quorums"),
+        (grid(alloc, 1, 5), BAD_SIZE),
+        (grid(alloc, 5, 1), BAD_SIZE),
+        (grid(alloc, 0, 100), BAD_SIZE),
+        (grid(alloc, 9, 8), TOO_LARGE),
+        (grid(alloc, 65536, 65536), TOO_LARGE),
+        (grid(alloc, 8, 8), Ok((64, 64))),
+        (grid(alloc, 2, 32), Ok((64, 64))),
+        (majority(alloc, 0), BAD_SIZE),
+        (majority(alloc, 15), TOO_LARGE),
+        (majority(alloc, 1), Ok((1, 1))),
+        (majority(alloc, 14), Ok((14, 3003))),
+        (tree(alloc, 4), TOO_LARGE),
+        (tree(alloc, 0), Ok((1, 1))),
+        (tree(alloc, 2), Ok((7, 15))),
+        (tree(alloc, 3), Ok((15, 255))),
+        (wheel(alloc, 1), BAD_SIZE),
+        (wheel(alloc, 64), TOO_LARGE),
+        (wheel(alloc, 63), Ok((64, 64))),
     ];
     for (built, wanted) in table {
-        assert_eq!(rt; answer_to(alloc, built)?.as_str(), wanted);
+        assert!(rt; sizes_of(built) == wanted);
     }
-    Ok(())
 }
 
 #[test]
-fn bases_and_faults(rt: HostRuntime) -> Result<(), Fail> {
+fn bases_and_faults(rt: HostRuntime) {
     let alloc = rt.alloc();
     let table = [
-        (cyclic(alloc, 0, &[]), "G1 BadSize"),
-        (cyclic(alloc, 0, &[0]), "G1 BadSize"),
-        (cyclic(alloc, 7, &[]), "G1 BadSize"),
-        (cyclic(alloc, 7, &[0, 1, 7]), "G1 BadSize"),
-        (cyclic(alloc, 7, &[0, 3, 3]), "G1 BadSize"),
-        (cyclic(alloc, 70, &[69, 0, 69]), "G1 BadSize"),
-        (cyclic(alloc, 65, &[0]), "G2 TooLarge"),
-        (cyclic(alloc, 70, &[69, 0]), "G2 TooLarge"),
-        (cyclic(alloc, 4, &[0, 2]), "E7 Disjoint 0 1"),
-        (cyclic(alloc, 2, &[0, 1]), "E8 Contained 0 1"),
-        (cyclic(alloc, 7, &[0]), "E7 Disjoint 0 1"),
-        (cyclic(alloc, 1, &[0]), "1 voters, 1 quorums"),
-        (cyclic(alloc, 13, &[0, 1, 3, 9]), "13 voters, 13 quorums"),
+        (cyclic(alloc, 0, &[]), BAD_SIZE),
+        (cyclic(alloc, 0, &[0]), BAD_SIZE),
+        (cyclic(alloc, 7, &[]), BAD_SIZE),
+        (cyclic(alloc, 7, &[0, 1, 7]), BAD_SIZE),
+        (cyclic(alloc, 7, &[0, 3, 3]), BAD_SIZE),
+        (cyclic(alloc, 70, &[69, 0, 69]), BAD_SIZE),
+        (cyclic(alloc, 65, &[0]), TOO_LARGE),
+        (cyclic(alloc, 70, &[69, 0]), TOO_LARGE),
+        (
+            cyclic(alloc, 4, &[0, 2]),
+            Err(ConstructFault::Coterie(CoterieFault::Disjoint(0, 1))),
+        ),
+        (
+            cyclic(alloc, 2, &[0, 1]),
+            Err(ConstructFault::Coterie(CoterieFault::Contained(0, 1))),
+        ),
+        (
+            cyclic(alloc, 7, &[0]),
+            Err(ConstructFault::Coterie(CoterieFault::Disjoint(0, 1))),
+        ),
+        (cyclic(alloc, 1, &[0]), Ok((1, 1))),
+        (cyclic(alloc, 13, &[0, 1, 3, 9]), Ok((13, 13))),
         (
             cyclic(
                 alloc,
                 64,
                 &[0, 1, 2, 3, 4, 5, 6, 7, 8, 16, 24, 32, 40, 48, 56],
             ),
-            "64 voters, 64 quorums",
+            Ok((64, 64)),
         ),
     ];
     for (built, wanted) in table {
-        assert_eq!(rt; answer_to(alloc, built)?.as_str(), wanted);
+        assert!(rt; sizes_of(built) == wanted);
     }
-    Ok(())
 }
 
 #[test]
