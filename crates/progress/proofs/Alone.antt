@@ -16,7 +16,7 @@ use Rattle.world.specs.Runs.{IsReached}
 use Rattle.world.specs.Steps.{Dealing, Planned, WorldState, client_at, dealing_of, voter_at}
 use Rattle.progress.specs.WayIn.{AsksAlone, HasGrants, IsWayIn}
 use Rattle.progress.proofs.Fitting.{Fits-reached, not_true}
-use Rattle.progress.proofs.Known.{AloneLaws}
+use Rattle.progress.specs.Rules.{AloneLaws}
 use Rattle.progress.proofs.Moves.{with_state}
 use Rattle.progress.proofs.Ways.{Enters, Enters-after, Got, Here, Here-went, Leads, IsKnown, Went, Went-self, asks_again, enters_by, frees_up, gave_back, got_or, has_range}
 use Rattle.progress.proofs.Ways.{held_some, length_range, not_current, own_stamp}

@@ -26,7 +26,7 @@ use Rattle.world.specs.Coherence.{IsCoherent}
 use Rattle.world.specs.Ranges.{IsAddressed}
 use Rattle.world.specs.Runs.{IsReached, after, run_of, start, start_by}
 use Rattle.world.specs.Steps.{Planned, WorldState, dealing_of, step, voter_at}
-use Rattle.progress.proofs.Known.{Laws, VoterLaws}
+use Rattle.progress.specs.Rules.{Laws, VoterLaws}
 use Rattle.progress.proofs.Moves.{AllByRecursion-get, ClientMoved, IsReached-after, IsReminder, Moved, Moved-step, OnlySent, VoterMoved, with_state}
 
 -- each voter has seen the stamp of each request that it knows

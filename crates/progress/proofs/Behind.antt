@@ -35,7 +35,7 @@ use Rattle.world.specs.Coherence.{AskOk, IsCoherent, MessageOk}
 use Rattle.world.specs.Steps.{WorldState, client_at, voter_at}
 use Rattle.progress.specs.Overtaking.{IsKnownEverywhere, StillRuns}
 use Rattle.progress.proofs.Always.{AllByRecursion-append, AllByRecursion-weaker, Always, IsUpTo, WasGiven, granted_rises, is_named}
-use Rattle.progress.proofs.Known.{ClientLaws, Laws, VoterLaws}
+use Rattle.progress.specs.Rules.{ClientLaws, Laws, VoterLaws}
 use Rattle.progress.proofs.Moves.{AllByRecursion-get, Came, ClientMoved, IsReminder, Moved, OnlySent, VoterMoved}
 
 -- ---- a client's step

@@ -27,7 +27,7 @@ use Rattle.world.specs.Steps.{Planned, WorldState, client_at, dealing_of, events
 use Rattle.progress.specs.Overtaking.{IsKnownEverywhere, StillRuns, entered_by}
 use Rattle.progress.proofs.Always.{Always, Always-reached}
 use Rattle.progress.proofs.Behind.{Behind, Behind-first, Behind-moved, IsLater-moved, IsLater-then, ask-Ok, meets, stamp_of, the_request}
-use Rattle.progress.proofs.Known.{ClientLaws, Laws}
+use Rattle.progress.specs.Rules.{ClientLaws, Laws}
 use Rattle.progress.proofs.Moves.{ClientMoved, IsReached-after, Moved, Moved-step, with_state}
 
 -- What the number of entries since the world w says of the client d: after one, it asks under a greater

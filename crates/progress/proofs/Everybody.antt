@@ -20,7 +20,7 @@ use Rattle.progress.specs.WayIn.{Asks, GetsIn, HasGrants, Helps, IsFree, Serves}
 use Rattle.progress.proofs.Counting.{entered_by-append, one_entered}
 use Rattle.progress.proofs.Exchanges.{below}
 use Rattle.progress.proofs.Led.{EntersBy}
-use Rattle.progress.proofs.Known.{LeavingLaws}
+use Rattle.progress.specs.Rules.{LeavingLaws}
 use Rattle.progress.proofs.Moves.{client_here, client_others, with_state}
 use Rattle.progress.proofs.Together.{asks_within, lets_in, one_entry}
 use Rattle.progress.proofs.Ways.{IsReached-run, run_then}

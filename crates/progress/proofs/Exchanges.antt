@@ -26,7 +26,7 @@ use Rattle.world.specs.Steps.{Dealing, Planned, WorldState, after_voter, client_
 use Rattle.progress.specs.LostVotes.{ComesBack, GoesOn, HasLostVote, HasReturnedVote, reminder_and_one, reminder_and_two}
 use Rattle.world.specs.Coherence.{Names}
 use Rattle.progress.proofs.Fitting.{Fits-reached}
-use Rattle.progress.proofs.Known.{BackLaws, ReturnLaws}
+use Rattle.progress.specs.Rules.{BackLaws, ReturnLaws}
 use Rattle.progress.proofs.Moves.{voter_here}
 
 -- ---- one step

@@ -34,7 +34,7 @@ use Rattle.world.specs.Runs.{IsReached, after, run_of, start, start_by}
 use Rattle.world.specs.Steps.{Planned, WorldState, client_at, dealing_of, step, voter_at}
 use Rattle.progress.proofs.Always.{granted_later, new_voter, new_voters}
 use Rattle.progress.proofs.Behind.{ask-Ok, grant_moved, meets}
-use Rattle.progress.proofs.Known.{FittingLaws}
+use Rattle.progress.specs.Rules.{FittingLaws}
 use Rattle.progress.proofs.Moves.{AllByRecursion-get, ClientMoved, IsReached-after, Moved, Moved-step, VoterMoved, with_state}
 
 -- the voter finished no request of the client that runs

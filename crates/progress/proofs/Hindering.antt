@@ -32,7 +32,7 @@ use Rattle.world.specs.Runs.{IsReached, run_of}
 use Rattle.world.specs.Steps.{Dealing, Planned, WorldState, client_at, client_did, dealing_of, events, step, voter_at}
 use Rattle.progress.proofs.Exchanges.{after-deliver_client, after-remind_voter, get_next, reminded, spoken}
 use Rattle.progress.proofs.Fitting.{Fits-reached, asking_busy, grant_is, held_under, not_true}
-use Rattle.progress.proofs.Known.{AloneLaws, TogetherLaws}
+use Rattle.progress.specs.Rules.{AloneLaws, TogetherLaws}
 use Rattle.progress.proofs.Moves.{client_here, client_others, with_state}
 use Rattle.progress.proofs.Placed.{Placed-reached}
 use Rattle.progress.proofs.Ways.{Here, Here-went, Leads, asks_again, entry_waits, gets, has_range, hears, held_some, help_then, own_stamp, request_at, run_then}

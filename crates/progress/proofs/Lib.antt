@@ -7,7 +7,6 @@ pub mod Everybody
 pub mod Exchanges
 pub mod Fitting
 pub mod Hindering
-pub mod Known
 pub mod Led
 pub mod Moves
 pub mod Placed

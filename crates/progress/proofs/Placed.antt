@@ -28,7 +28,7 @@ use Rattle.world.specs.Steps.{Planned, WorldState, client_at, dealing_of, step, 
 use Rattle.progress.proofs.Always.{AllByRecursion-append, none_entry, new_voter, new_voters}
 use Rattle.progress.proofs.Behind.{ask-Ok, meets}
 use Rattle.progress.proofs.Fitting.{current_busy, current_stamp, take-Ok}
-use Rattle.progress.proofs.Known.{TogetherLaws}
+use Rattle.progress.specs.Rules.{TogetherLaws}
 use Rattle.progress.proofs.Moves.{AllByRecursion-get, ClientMoved, IsReached-after, IsReminder, Moved, Moved-step, OnlySent, VoterMoved, with_state}
 
 -- a REQUEST for the request that runs went to a member of its quorum

@@ -22,7 +22,7 @@ use Rattle.progress.proofs.Fitting.{Fits-reached, current_stamp}
 use Rattle.progress.proofs.Counts.{CanGive, none, one_each, only, only_else, only_here, only_sum, only_zero}
 use Rattle.progress.proofs.Hindering.{all_hold, has_rest, returns}
 use Rattle.progress.proofs.Led.{CanGive-led, Here-led, Leads-led, Led, Led-more, Led-self, Led-then, Led-went, Somebody, Somebody-led, Somebody-more, somebody_at}
-use Rattle.progress.proofs.Known.{AloneLaws, TogetherLaws}
+use Rattle.progress.specs.Rules.{AloneLaws, TogetherLaws}
 use Rattle.progress.proofs.Moves.{with_state}
 use Rattle.progress.proofs.Placed.{Placed-reached}
 use Rattle.progress.proofs.Ways.{Got, Here, Leads, Settled, IsKnown, asks_again, current_asks, IsReached-run, frees_up, gave_back, gets, has_range, held_some, length_range, request_at}

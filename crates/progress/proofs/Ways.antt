@@ -37,7 +37,7 @@ use Rattle.progress.specs.WayIn.{Helps, IsWayIn}
 use Rattle.progress.proofs.Exchanges.{after-answer, after-deliver_client, after-release, after-remind_voter, after-said, answer, answered, get_next, reminded, not_held, spoken}
 use Rattle.progress.proofs.Behind.{grant_moves}
 use Rattle.progress.proofs.Fitting.{Fits-reached, asking_busy, current_busy, current_stamp}
-use Rattle.progress.proofs.Known.{AloneLaws}
+use Rattle.progress.specs.Rules.{AloneLaws}
 use Rattle.progress.proofs.Moves.{IsReached-after, client_here, client_others, voter_here, voter_others, with_state}
 
 -- ---- steps, one after the other

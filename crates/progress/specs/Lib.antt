@@ -1,3 +1,4 @@
 pub mod LostVotes
 pub mod Overtaking
+pub mod Rules
 pub mod WayIn

@@ -2,6 +2,7 @@
 ghost use Rattle.std.specs.Prelude.{◌≡◌, ◌≢◌, ◌≤◌, ◌+◌, ◌*◌, ◌++◌, ℕ, List, length};
 ghost use Rattle.progress.specs.LostVotes.{ComesBack, GoesOn, HasLostVote, HasReturnedVote};
 ghost use Rattle.progress.specs.Overtaking.{IsKnownEverywhere, StillRuns, entered_by};
+ghost use Rattle.progress.specs.Rules.{LeavingLaws};
 ghost use Rattle.progress.specs.WayIn.{Asks, AsksAlone, GetsIn, HasGrants, IsFree, IsWayIn};
 ghost use Rattle.voter.specs.declared.state.Grant.{Grant};
 ghost use Rattle.world.specs.declared.step.Event.{Event};
@@ -22,6 +23,35 @@ use voter::{
 };
 use world::worlds_stay_coherent;
 
+/// The rules that clients, voters and worlds keep, as the laws below state them.
+fn parts_keep_their_rules()
+    ensures { LeavingLaws }
+{
+    requesters_meet_the_contract();
+    clocks_never_fall();
+    phases_show_votes();
+    phases_show_refusals();
+    votes_given_back_are_marked();
+    old_votes_go_back();
+    reminders_ask_again();
+    messages_are_in_range();
+    messages_move_votes();
+    hindered_clients_give_votes_back();
+    voters_meet_the_contract();
+    grants_are_numbered();
+    replies_carry_what_was_seen();
+    requests_stay();
+    votes_go_to_the_first();
+    requests_are_taken_up();
+    messages_finish_requests();
+    releases_end_requests();
+    reminders_repeat_the_vote();
+    voters_with_grants_take_messages();
+    votes_given_back_go_on();
+    votes_are_asked_back();
+    worlds_stay_coherent();
+}
+
 /// Once every voter of its quorum knows a request, no other client enters more than twice before the
 /// request ends: until its client has left, or has given up.
 ///
@@ -32,16 +62,7 @@ pub fn nobody_overtakes_often()
         → IsKnownEverywhere w.state c → d ≢ c → StillRuns w.state (run_of (dealing_of w.plans) steps w.state) c
         → (run_of (dealing_of w.plans) steps w.state).visible ≡ w.state.visible ++ more → entered_by d more ≤ 2 }
 {
-    requesters_meet_the_contract();
-    clocks_never_fall();
-    phases_show_votes();
-    phases_show_refusals();
-    voters_meet_the_contract();
-    grants_are_numbered();
-    replies_carry_what_was_seen();
-    requests_stay();
-    votes_go_to_the_first();
-    worlds_stay_coherent();
+    parts_keep_their_rules();
 }
 
 /// No vote is lost for good: if its request is over, it comes back by one reminder of its voter and two
@@ -54,12 +75,7 @@ pub fn lost_votes_come_back()
     ensures { (w : Planned) (v : ℕ) (g : Grant) → IsReached w → HasLostVote w.state v g
         → ComesBack (dealing_of w.plans) w.state v g }
 {
-    reminders_repeat_the_vote();
-    old_votes_go_back();
-    voters_with_grants_take_messages();
-    releases_end_requests();
-    requests_stay();
-    worlds_stay_coherent();
+    parts_keep_their_rules();
 }
 
 /// A vote that its client gave back while it asks goes on by one reminder of that client and one message
@@ -70,21 +86,7 @@ pub fn returned_votes_go_on()
     ensures { (w : Planned) (v : ℕ) (g : Grant) → IsReached w → HasReturnedVote w.state v g
         → GoesOn (dealing_of w.plans) w.state v g }
 {
-    requesters_meet_the_contract();
-    clocks_never_fall();
-    phases_show_votes();
-    phases_show_refusals();
-    votes_given_back_are_marked();
-    reminders_ask_again();
-    voters_meet_the_contract();
-    grants_are_numbered();
-    replies_carry_what_was_seen();
-    requests_stay();
-    votes_go_to_the_first();
-    messages_finish_requests();
-    voters_with_grants_take_messages();
-    votes_given_back_go_on();
-    worlds_stay_coherent();
+    parts_keep_their_rules();
 }
 
 /// A client that asks while all others are idle gets in by reminders and by messages that are sent after
@@ -96,25 +98,7 @@ pub fn who_asks_alone_gets_in()
     ensures { (w : Planned) (c : ℕ) → IsReached w → AsksAlone w.state c
         → HasGrants (length w.state.clients + 2) w.state → (steps : List Step) × IsWayIn (dealing_of w.plans) w.state c steps }
 {
-    requesters_meet_the_contract();
-    clocks_never_fall();
-    phases_show_votes();
-    phases_show_refusals();
-    votes_given_back_are_marked();
-    old_votes_go_back();
-    reminders_ask_again();
-    voters_meet_the_contract();
-    grants_are_numbered();
-    replies_carry_what_was_seen();
-    requests_stay();
-    votes_go_to_the_first();
-    requests_are_taken_up();
-    messages_finish_requests();
-    releases_end_requests();
-    reminders_repeat_the_vote();
-    voters_with_grants_take_messages();
-    votes_given_back_go_on();
-    worlds_stay_coherent();
+    parts_keep_their_rules();
 }
 
 /// Whenever clients ask and nobody is inside, some client gets in by reminders and by messages that are
@@ -127,29 +111,7 @@ pub fn somebody_can_enter()
         → HasGrants (length w.state.voters + length w.state.clients + 3) w.state
         → (steps : List Step) × (d : ℕ) × IsWayIn (dealing_of w.plans) w.state d steps }
 {
-    requesters_meet_the_contract();
-    clocks_never_fall();
-    phases_show_votes();
-    phases_show_refusals();
-    votes_given_back_are_marked();
-    old_votes_go_back();
-    reminders_ask_again();
-    messages_are_in_range();
-    messages_move_votes();
-    hindered_clients_give_votes_back();
-    voters_meet_the_contract();
-    grants_are_numbered();
-    replies_carry_what_was_seen();
-    requests_stay();
-    votes_go_to_the_first();
-    requests_are_taken_up();
-    messages_finish_requests();
-    releases_end_requests();
-    reminders_repeat_the_vote();
-    voters_with_grants_take_messages();
-    votes_given_back_go_on();
-    votes_are_asked_back();
-    worlds_stay_coherent();
+    parts_keep_their_rules();
 }
 
 /// A client that asks can still get in: by reminders, by messages that are sent after them, and by
@@ -162,27 +124,5 @@ pub fn everybody_can_enter()
         → HasGrants (length w.state.clients * (length w.state.voters + length w.state.clients + 3)) w.state
         → (steps : List Step) × GetsIn (dealing_of w.plans) w.state c steps }
 {
-    requesters_meet_the_contract();
-    clocks_never_fall();
-    phases_show_votes();
-    phases_show_refusals();
-    votes_given_back_are_marked();
-    old_votes_go_back();
-    reminders_ask_again();
-    messages_are_in_range();
-    messages_move_votes();
-    hindered_clients_give_votes_back();
-    voters_meet_the_contract();
-    grants_are_numbered();
-    replies_carry_what_was_seen();
-    requests_stay();
-    votes_go_to_the_first();
-    requests_are_taken_up();
-    messages_finish_requests();
-    releases_end_requests();
-    reminders_repeat_the_vote();
-    voters_with_grants_take_messages();
-    votes_given_back_go_on();
-    votes_are_asked_back();
-    worlds_stay_coherent();
+    parts_keep_their_rules();
 }

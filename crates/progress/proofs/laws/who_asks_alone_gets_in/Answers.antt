@@ -1,51 +1,5 @@
 use Rattle.progress.proofs.Alone.{gets_in_alone}
-use Rattle.progress.proofs.Known.{BackLaws, ClientLaws, FittingLaws, ReturnLaws, VoterLaws}
 use Rattle.progress.proofs.laws.who_asks_alone_gets_in.Goals as goal
 
 pub returns : goal.returns
-returns c =
-    let clients : ClientLaws = record {
-      meets = c.requesters_meet_the_contract.ensures.steps;
-      clock = c.clocks_never_fall.ensures;
-      inside = c.phases_show_votes.ensures.inside;
-      busy = c.phases_show_refusals.ensures.busy;
-    } in
-    let voters : VoterLaws = record {
-      meets = c.voters_meet_the_contract.ensures.steps;
-      repeats = c.voters_meet_the_contract.ensures.reminders;
-      numbers = c.grants_are_numbered.ensures;
-      carries = c.replies_carry_what_was_seen.ensures.steps;
-      remembers = c.replies_carry_what_was_seen.ensures.reminders;
-      stays = c.requests_stay.ensures;
-      first = c.votes_go_to_the_first.ensures;
-    } in
-    let fitting : FittingLaws = record {
-      marks = c.votes_given_back_are_marked.ensures;
-      finishes = c.messages_finish_requests.ensures;
-      coherent = c.worlds_stay_coherent.ensures;
-      client = clients;
-      voter = voters;
-    } in
-    let returned : ReturnLaws = record {
-      repeats = c.reminders_repeat_the_vote.ensures;
-      released = c.old_votes_go_back.ensures;
-      takes = c.voters_with_grants_take_messages.ensures;
-      ends = c.releases_end_requests.ensures;
-      stays = c.requests_stay.ensures;
-      coherent = c.worlds_stay_coherent.ensures;
-    } in
-    let back : BackLaws = record {
-      takes = c.voters_with_grants_take_messages.ensures;
-      stays = c.requests_stay.ensures;
-      goes_on = c.votes_given_back_go_on.ensures;
-      gives = c.reminders_ask_again.ensures.gives;
-      coherent = c.worlds_stay_coherent.ensures;
-      fitting = fitting;
-    } in
-    gets_in_alone (record {
-      requests = c.reminders_ask_again.ensures.asks;
-      taken_up = c.requests_are_taken_up.ensures;
-      fitting = fitting;
-      returns = returned;
-      back = back;
-    })
+returns c = gets_in_alone c.parts_keep_their_rules.ensures.together.alone

@@ -1,4 +1,5 @@
--- what is known of clients, voters and worlds
+-- The rules that clients, voters and worlds keep: what the laws of `requester`, `voter` and `world` say,
+-- gathered by what depends on them.
 use Rattle.std.specs.Prelude.{slice_index, ℕ, ◌≡◌, ◌<◌, ◌≤◌, ◌⊎◌, List, [], ◌∷◌, Ok, Err, Some, true, false}
 use Rattle.std.specs.FinMap.{get}
 use Rattle.std.specs.List.{Contains}
