@@ -19,7 +19,7 @@ use Rattle.requester.specs.Steps as client
 use Rattle.requester.specs.Words.{is_member, members, holds_under, last_of}
 use Rattle.world.specs.Ranges.{AreInRange, IsInRange, IsWithin}
 use Rattle.world.specs.Visible.{DoMeet, IsAmong}
-use Rattle.world.proofs.Known.{ClientLaws}
+use Rattle.world.specs.Rules.{ClientLaws}
 use Rattle.world.proofs.Claims.{Bounds, Names, AskOk, MessageOk, ClientOk, IsClient, VoterOk, WorldOk, IsLive-before, IsLater-self, VoterOk-later, AllByRecursion-append}
 use Rattle.world.proofs.Claims.{MessageOk-later, put, put-each, put-same}
 

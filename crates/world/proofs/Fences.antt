@@ -28,7 +28,7 @@ use Rattle.world.specs.Runs.{AreLimits, start}
 use Rattle.world.specs.Steps.{Dealing, Outcome, WorldState, act, after_client, ask, next_ticket, quorum_dealt, say, after_voter, client_at, come, draw_of, exchange, if_client}
 use Rattle.world.specs.Steps.{if_voter, step, voter_at}
 use Rattle.world.specs.Visible.{DealsFrom, DoMeet}
-use Rattle.world.proofs.Known.{ClientLaws, VoterLaws}
+use Rattle.world.specs.Rules.{ClientLaws, VoterLaws}
 use Rattle.world.proofs.Claims.{Bounds, Names, put-each}
 use Rattle.world.proofs.Exclusion.{common_vote, held_under}
 use Rattle.world.proofs.Places.{voter_at-set}

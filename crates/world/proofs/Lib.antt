@@ -6,7 +6,6 @@ pub mod ClientMoves
 pub mod Exclusion
 pub mod Fences
 pub mod Predicted
-pub mod Known
 pub mod Places
 pub mod Plans
 pub mod Reached

@@ -34,7 +34,7 @@ use Rattle.world.specs.Runs.{AreLimits, DrawsInOrder, after, run_of, start}
 use Rattle.world.specs.Steps.{WorldState, Dealing, Outcome, after_client, after_voter, client_at, client_did, come, draw_of, events, exchange, if_client, if_voter, next_ticket}
 use Rattle.world.specs.Steps.{quorum_dealt, step, voter_at}
 use Rattle.world.specs.Visible.{DealsFrom, DoMeet, IsAmong}
-use Rattle.world.proofs.Known.{ClientLaws, VoterLaws}
+use Rattle.world.specs.Rules.{ClientLaws, VoterLaws}
 use Rattle.world.specs.Coherence.{IsCoherent}
 use Rattle.world.proofs.Claims.{Bounds, Names, AskOk, ReportOk, MessageOk, ClientOk, IsClient, VoterOk, WorldOk, AllByRecursion-get, AllByRecursion-map, put}
 use Rattle.world.proofs.ClientMoves.{Came, Draws, client_moves, client_reminds, member_below}

@@ -68,7 +68,7 @@ use Rattle.world.specs.Runs.{AreLimits, start}
 use Rattle.world.specs.Steps.{Dealing, Outcome, after_client, after_voter, client_at, client_did, come, draw_of, events, exchange, if_client, if_voter, next_ticket, quorum_dealt}
 use Rattle.world.specs.Steps.{say, step, voter_at, voter_did}
 use Rattle.world.specs.Visible.{DealsFrom, DoMeet, IsExclusive}
-use Rattle.world.proofs.Known.{ClientLaws, VoterLaws}
+use Rattle.world.specs.Rules.{ClientLaws, VoterLaws}
 use Rattle.world.proofs.Claims.{Bounds, Names, AskOk, ReportOk, MessageOk, ClientOk, IsClient, VoterOk, WorldOk, IsLater-self, VoterOk-later, AllByRecursion-get}
 use Rattle.world.proofs.Claims.{AllByRecursion-map, MessageOk-later, put, put-each, put-same}
 use Rattle.world.proofs.ClientMoves.{Came, Draws, client_moves, client_reminds}

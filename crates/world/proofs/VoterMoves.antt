@@ -23,7 +23,7 @@ use Rattle.requester.specs.RequesterContract.{IsLive}
 use Rattle.requester.specs.Soundness as sound
 use Rattle.requester.specs.Words.{holds, holds_under, held_of}
 use Rattle.world.specs.Ranges.{AreInRange, IsInRange, IsWithin, ReportsWithin}
-use Rattle.world.proofs.Known.{VoterLaws}
+use Rattle.world.specs.Rules.{VoterLaws}
 use Rattle.world.proofs.Claims.{Bounds, AskOk, ReportOk, MessageOk, HeldOk, ClientOk, EntryOk, VoterOk, WorldOk, VotesKeep, SparesLive, AskOk-not_ends, Ends-client, Names-still}
 use Rattle.world.proofs.Claims.{AllByRecursion-append, MessageOk-keep, put, put-each, put-same}
 

@@ -1,6 +1,7 @@
 pub mod Coherence
 pub mod Ranges
 pub mod Restarts
+pub mod Rules
 pub mod Runs
 pub mod States
 pub mod Steps

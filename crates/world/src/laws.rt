@@ -6,6 +6,7 @@ ghost use Rattle.world.specs.declared.step.Step.{Step};
 ghost use Rattle.world.specs.Coherence.{IsCoherent};
 ghost use Rattle.world.specs.Ranges.{AreInRange, IsNumbered, IsSound};
 ghost use Rattle.world.specs.Restarts.{Happening, HasVote, IsIn, IsNewer, IsSameRequest, all_happen, begin, pass_of, stamp_of};
+ghost use Rattle.world.specs.Rules.{ClientLaws, VoterLaws};
 ghost use Rattle.world.specs.Runs.{AreLimits, DrawsInOrder, IsReached, run_of, start};
 ghost use Rattle.world.specs.Steps.{Adds, Dealing, Outcome, Planned, WorldState, step};
 ghost use Rattle.world.specs.Visible.{DealsFrom, DoMeet, IsExclusive};
@@ -18,11 +19,10 @@ use voter::{
     voters_meet_the_contract, voters_stay_sound,
 };
 
-/// Every list of steps keeps a world sound, as long as any two quorums share a voter.
-fn runs_are_sound()
-    ensures { (voters clients limit : ℕ) (quorums : List (List ℕ)) (deal : Dealing) (steps : List Step)
-        → AreLimits voters clients limit → DoMeet voters quorums → DealsFrom quorums deal
-        → IsSound voters clients limit (run_of deal steps (start voters clients limit)) }
+/// The rules that clients and voters keep, as the laws below state them.
+fn parts_keep_their_rules()
+    ensures clients { ClientLaws }
+    ensures voters { VoterLaws }
 {
     requesters_meet_the_contract();
     requesters_stay_sound();
@@ -34,20 +34,22 @@ fn runs_are_sound()
     grants_are_numbered();
 }
 
+/// Every list of steps keeps a world sound, as long as any two quorums share a voter.
+fn runs_are_sound()
+    ensures { (voters clients limit : ℕ) (quorums : List (List ℕ)) (deal : Dealing) (steps : List Step)
+        → AreLimits voters clients limit → DoMeet voters quorums → DealsFrom quorums deal
+        → IsSound voters clients limit (run_of deal steps (start voters clients limit)) }
+{
+    parts_keep_their_rules();
+}
+
 /// Every list of steps keeps a world coherent, as long as any two quorums share a voter.
 fn runs_are_coherent()
     ensures { (voters clients limit : ℕ) (quorums : List (List ℕ)) (deal : Dealing) (steps : List Step)
         → AreLimits voters clients limit → DoMeet voters quorums → DealsFrom quorums deal
         → IsCoherent (run_of deal steps (start voters clients limit)) }
 {
-    requesters_meet_the_contract();
-    requesters_stay_sound();
-    requester::messages_are_in_range();
-    voters_meet_the_contract();
-    voters_stay_sound();
-    replies_report_the_state();
-    replies_carry_what_was_seen();
-    grants_are_numbered();
+    parts_keep_their_rules();
 }
 
 /// At most one client is inside at a time, whoever asks, leaves or gives up, and whether messages
@@ -76,14 +78,7 @@ pub fn at_most_one_is_inside_with_restarts()
         → AreLimits voters clients limit → DoMeet voters quorums → DealsFrom quorums deal
         → IsExclusive (all_happen deal happenings (begin voters clients limit)).live.visible }
 {
-    requesters_meet_the_contract();
-    requesters_stay_sound();
-    requester::messages_are_in_range();
-    voters_meet_the_contract();
-    voters_stay_sound();
-    replies_report_the_state();
-    replies_carry_what_was_seen();
-    grants_are_numbered();
+    parts_keep_their_rules();
 }
 
 /// Of two clients that have the vote of one voter, one after the other, the later one has it by a
@@ -104,14 +99,7 @@ pub fn later_votes_have_greater_numbers()
         ≡ stamp_of (all_happen deal after (all_happen deal before (begin voters clients limit))) second)
         × (number ≡ later)) }
 {
-    requesters_meet_the_contract();
-    requesters_stay_sound();
-    requester::messages_are_in_range();
-    voters_meet_the_contract();
-    voters_stay_sound();
-    replies_report_the_state();
-    replies_carry_what_was_seen();
-    grants_are_numbered();
+    parts_keep_their_rules();
 }
 
 /// Of two clients that are inside, one after the other, the later one has a greater grant number of
@@ -128,14 +116,7 @@ pub fn later_passes_are_newer()
         ⊎ IsNewer (pass_of (all_happen deal before (begin voters clients limit)) first)
         (pass_of (all_happen deal after (all_happen deal before (begin voters clients limit))) second) }
 {
-    requesters_meet_the_contract();
-    requesters_stay_sound();
-    requester::messages_are_in_range();
-    voters_meet_the_contract();
-    voters_stay_sound();
-    replies_report_the_state();
-    replies_carry_what_was_seen();
-    grants_are_numbered();
+    parts_keep_their_rules();
 }
 
 /// Every message that is ever sent names a client and a voter of the world. Its stamp and its grant

@@ -1,26 +1,5 @@
-use Rattle.world.proofs.Known.{ClientLaws, VoterLaws}
 use Rattle.world.proofs.Fences.{later_passes}
 use Rattle.world.proofs.laws.later_passes_are_newer.Goals as goal
 
 pub returns : goal.returns
-returns c =
-    let clients : ClientLaws = record {
-      meets = c.requesters_meet_the_contract.ensures.steps;
-      repeats = c.requesters_meet_the_contract.ensures.reminders;
-      first = c.requesters_stay_sound.ensures.first;
-      stays = c.requesters_stay_sound.ensures.steps;
-      ranges = c.messages_are_in_range.ensures.steps;
-      reminders = c.messages_are_in_range.ensures.reminders;
-    } in
-    let voters : VoterLaws = record {
-      meets = c.voters_meet_the_contract.ensures.steps;
-      reminds = c.voters_meet_the_contract.ensures.reminders;
-      numbers = c.grants_are_numbered.ensures;
-      first = c.voters_stay_sound.ensures.first;
-      stays = c.voters_stay_sound.ensures.steps;
-      answers = c.replies_report_the_state.ensures.steps;
-      places = c.replies_report_the_state.ensures.reminders;
-      carries = c.replies_carry_what_was_seen.ensures.steps;
-      remembers = c.replies_carry_what_was_seen.ensures.reminders;
-    } in
-    later_passes clients voters
+returns c = later_passes c.parts_keep_their_rules.ensures.clients c.parts_keep_their_rules.ensures.voters

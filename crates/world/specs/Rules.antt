@@ -1,4 +1,4 @@
--- what is known of clients and voters
+-- The rules that clients and voters keep: what the laws of `requester` and `voter` say.
 use Rattle.std.specs.Prelude.{ℕ, ◌≡◌, ◌<◌, ◌≤◌, ◌^◌, Ok, Some}
 use Rattle.message.specs.declared.message.ToVoter.{ToVoter}
 use Rattle.voter.specs.declared.state.VoterState.{VoterState}
@@ -11,6 +11,7 @@ use Rattle.requester.specs.RequesterContract.{Accepts, AllInRange, AllRepeat, Co
 use Rattle.requester.specs.Soundness as sound
 use Rattle.requester.specs.Steps as client
 
+-- the rules of a client
 pub record ClientLaws : Type 0 where
   pub meets : (x : ClientState) (cause : client.Cause) (o : client.Outcome) → sound.IsSound x → Accepts x cause → client.step x cause ≡ Ok o → MeetsContract x cause o
   pub repeats : (x : ClientState) → AllRepeat x (client.remind x)
@@ -20,6 +21,7 @@ pub record ClientLaws : Type 0 where
       → AllInRange cause o.state o.out
   pub reminders : (x : ClientState) → sound.IsSound x → RemindersInRange x (client.remind x)
 
+-- the rules of a voter
 pub record VoterLaws : Type 0 where
   pub meets : (v : VoterState) (m : ToVoter) (o : voter.Outcome) → voter.step v m ≡ Some o → votes.MeetsContract v m o
   pub reminds : (v : VoterState) → votes.AllReport v.held (voter.remind v)
