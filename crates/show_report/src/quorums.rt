@@ -1,13 +1,12 @@
 //! The table of the quorums: whom to ask, and how often.
-ghost use Rattle.std.specs.Prelude.{◌≡◌, ◌++◌, [], OnOk, codes, slice_index_or, string_bytes};
+ghost use Rattle.std.specs.Prelude.{◌≡◌, ◌++◌, OnOk, string_bytes};
 ghost use Rattle.std.specs.List.{flat_map};
-ghost use Rattle.show_words.specs.Lines.{names_text};
 ghost use Rattle.show_report.specs.Reports.{quorum_cells, quorum_row, quorums_html};
 
-use crate::html::{push_html, push_names};
+use crate::html::push_html;
 use certificate::Plan;
 use coterie_file::Named;
-use show_words::{QuorumFigure, push_percent};
+use show_words::{QuorumFigure, push_percent, push_quorum_members};
 use std::alloc::AllocError;
 
 /// Appends the share of a quorum, its uses and its number.
@@ -18,24 +17,6 @@ fn push_cells(text: &mut String, len: u64, figure: QuorumFigure) -> Result<(), A
     push_html(text, "<tr><td>")?;
     push_percent(text, weight, len)?;
     write!(text, "</td><td>{weight}</td><td>{quorum}</td><td>")
-}
-
-/// Appends the names of the members of a quorum, if the plan has a quorum of this number.
-fn push_members(
-    text: &mut String,
-    named: &Named,
-    plan: &Plan,
-    quorum: usize,
-) -> Result<(), AllocError>
-    ensures { OnOk result (string_bytes text.new ≡ string_bytes text.old
-        ++ names_text named.now.names (codes " ") (slice_index_or plan.now.system.quorums quorum [])) }
-{
-    if quorum < plan.coterie().count() {
-        let members = plan.coterie().quorum(quorum).members();
-        push_names(text, named, members.as_slice())
-    } else {
-        Ok(())
-    }
 }
 
 /// Appends the row of a quorum.
@@ -49,7 +30,7 @@ fn push_row(
         ≡ string_bytes text.old ++ quorum_row named.now.names plan.now figure) }
 {
     push_cells(text, plan.cycle_len(), figure)?;
-    push_members(text, named, plan, figure.quorum)?;
+    push_quorum_members(text, named, plan, figure.quorum)?;
     push_html(text, "</td></tr>\n")
 }
 

@@ -7,7 +7,7 @@ ghost use Rattle.show_report.specs.Reports.{busy_cells, meter_html, share_cells,
 use crate::html::{push_html, push_name};
 use certificate::Plan;
 use coterie_file::Named;
-use show_words::{VoterFigure, push_percent, voter_figures};
+use show_words::{VoterFigure, busy_part, push_percent, voter_figures};
 use std::alloc::{AllocError, Global};
 
 /// Appends the share of a voter, its uses and its capacity.
@@ -38,16 +38,6 @@ fn push_busy_cells(text: &mut String, part: u64, whole: u64) -> Result<(), Alloc
     push_meter(text, part, whole)?;
     push_percent(text, part, whole)?;
     push_html(text, "</td></tr>\n")
-}
-
-/// Returns how busy a voter is, if the busiest has this ratio of uses to capacity: a part and a whole.
-fn busy_part(ratio: (u64, u64), figure: VoterFigure) -> (u64, u64)
-    ensures part { result.0 ≡ use_of ratio figure }
-    ensures whole { result.1 ≡ most_use ratio figure }
-{
-    let part = figure.count.saturating_mul(ratio.1);
-    let whole = figure.capacity.saturating_mul(ratio.0);
-    (part, whole)
 }
 
 /// Appends how busy a voter is, if the busiest has this ratio of uses to capacity.

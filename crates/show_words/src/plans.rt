@@ -105,8 +105,9 @@ fn push_load(text: &mut String, plan: &Plan) -> Result<(), AllocError>
     }
 }
 
-/// Appends the names of the members of a quorum of a plan, if the plan has a quorum of this number.
-fn push_quorum_members(
+/// Appends the names of the members of a quorum of a plan, with spaces between them, if the plan has
+/// a quorum of this number.
+pub fn push_quorum_members(
     text: &mut String,
     named: &Named,
     plan: &Plan,

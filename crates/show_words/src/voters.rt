@@ -61,7 +61,7 @@ fn push_unit_table(
 }
 
 /// Returns how busy a voter is, if the busiest has this ratio of uses to capacity: a part and a whole.
-fn busy_part(ratio: (u64, u64), figure: VoterFigure) -> (u64, u64)
+pub fn busy_part(ratio: (u64, u64), figure: VoterFigure) -> (u64, u64)
     ensures part { result.0 ≡ use_of ratio figure }
     ensures whole { result.1 ≡ most_use ratio figure }
 {
