@@ -1,35 +1,31 @@
 //! The certificate that a person can add up.
 ghost use Rattle.std.specs.Prelude.{◌≡◌, ◌++◌, OnOk, string_bytes};
-ghost use Rattle.std.specs.List.{flat_map};
 ghost use Rattle.show_words.specs.Reasons.{weighing_voters};
 ghost use Rattle.show_report.specs.Reports.{certificate_html, in_steps, weight_row, weights_html};
 
 use crate::html::{push_html, push_name};
 use certificate::Plan;
 use coterie_file::Named;
-use show_words::{WeightFigure, Wording, push_sums, weight_figures};
+use show_words::{Rows, WeightFigure, Wording, push_rows, push_sums, weight_figures};
 use std::alloc::{AllocError, Global};
 
-/// Appends the row of a voter that has a weight.
-fn push_row(text: &mut String, named: &Named, figure: WeightFigure) -> Result<(), AllocError>
-    ensures { OnOk result (string_bytes text.new
-        ≡ string_bytes text.old ++ weight_row named.now.names figure) }
-{
-    let WeightFigure { voter, weight } = figure;
-    push_html(text, "<tr><td>")?;
-    push_name(text, named, voter)?;
-    write!(text, "</td><td>{weight}</td></tr>\n")
+/// The rows of voters that have a weight.
+#[derive(Drop)]
+struct WeightRows<'a> {
+    named: &'a Named,
 }
 
-/// Appends a row for each of these voters.
-fn push_rows(text: &mut String, named: &Named, figures: &[WeightFigure]) -> Result<(), AllocError>
-    ensures { OnOk result (string_bytes text.new
-        ≡ string_bytes text.old ++ flat_map (weight_row named.now.names) figures.now) }
-{
-    for figure in figures {
-        push_row(text, named, *figure)?;
+impl<'a> Rows for WeightRows<'a> {
+    type Figure = WeightFigure;
+
+    ghost written = { λ r f. weight_row r.named.now.names f };
+
+    fn push_row(&self, text: &mut String, figure: WeightFigure) -> Result<(), AllocError> {
+        let WeightFigure { voter, weight } = figure;
+        push_html(text, "<tr><td>")?;
+        push_name(text, self.named, voter)?;
+        write!(text, "</td><td>{weight}</td></tr>\n")
     }
-    Ok(())
 }
 
 /// Appends the table of the weights of these voters.
@@ -45,7 +41,7 @@ fn push_weights(
         text,
         "<h2>Why no plan has a smaller load</h2>\n<div class=\"wide\"><table>\n<tr><th>Voter</th><th>Weight</th></tr>\n",
     )?;
-    push_rows(text, named, figures)?;
+    push_rows(text, &WeightRows { named }, figures)?;
     push_html(text, "</table></div>\n<ol>\n")
 }
 
