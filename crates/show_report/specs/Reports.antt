@@ -3,7 +3,7 @@ use Rattle.std.specs.Prelude.{◌≡◌, ◌==◌, ℕ, ◌-◌, ◌^◌, Bool, 
 use Rattle.std.specs.List.{flat_map, list_any}
 use Rattle.std.specs.List.Sorted.{IsNonDecreasingBy}
 use Rattle.quorum_set.specs.Capacities.{are_unit}
-use Rattle.certificate.specs.Certificates.{Weighted, capacity_total, cycle_len, cycle_ratio, lightest_quorum, load_of}
+use Rattle.certificate.specs.Certificates.{Weighted, cycle_len, cycle_ratio, load_of}
 use Rattle.even.specs.EvenCycles.{EvenOrder}
 use Rattle.even.specs.Slacks.{IsSlack}
 use Rattle.even.specs.Strides.{IsFirstBest, strides_of}
@@ -14,6 +14,7 @@ use Rattle.show_words.specs.Figures.{AreTiesInOrder, used_quorums}
 use Rattle.show_words.specs.Lines.{names_text, percent_text, quotient_text, shown_name}
 use Rattle.show_words.specs.Plans.{all_voters, most_use, use_of}
 use Rattle.show_words.specs.Reasons.{weighing_voters}
+use Rattle.show_words.specs.Sums.{Words, sums_text}
 use Rattle.show_words.specs.declared.figures.QuorumFigure.{QuorumFigure}
 use Rattle.show_words.specs.declared.figures.VoterFigure.{VoterFigure}
 use Rattle.show_words.specs.declared.weights.WeightFigure.{WeightFigure}
@@ -160,47 +161,23 @@ weights_html names figures =
     codes "<h2>Why no plan has a smaller load</h2>\n<div class=\"wide\"><table>\n<tr><th>Voter</th><th>Weight</th></tr>\n"
     ++ (flat_map (weight_row names) figures ++ codes "</table></div>\n<ol>\n")
 
--- the words before the sum of the weights
-abbrev pub sum_html : Bool → List ℕ
-sum_html unit =
-    if unit
-    then codes "<li>The weights add up to <b>"
-    else codes "<li>The weights, each times the voter's capacity, add up to <b>"
-
--- what the weights are in all
-abbrev pub total_step : Bool → ℕ → List ℕ
-total_step unit all = sum_html unit ++ (decimal all ++ codes "</b>.</li>\n")
-
--- what a quorum weighs at least
-abbrev pub least_step : ℕ → List ℕ
-least_step least =
-    codes "<li>The members of every quorum together weigh at least <b>" ++ (decimal least
-    ++ (codes "</b>, so N requests weigh at least " ++ (decimal least ++ codes " N.</li>\n")))
-
--- what some voter gets at least
-abbrev pub at_least_html : ℕ × ℕ → List ℕ
-at_least_html load = codes "<li>So some voter gets at least <b>" ++ (decimal load.0 ++ (codes "/" ++ decimal load.1))
-
--- the words behind the load
-abbrev pub requests_html : Bool → List ℕ
-requests_html unit =
-    if unit
-    then codes "</b> of N requests, whichever quorums they use. That is the load of this plan.</li>\n"
-    else codes "</b> of N requests for its capacity, whichever quorums they use. That is the load of this plan.</li>\n"
-
--- the same with what it means
-abbrev pub load_step : Bool → ℕ × ℕ → List ℕ
-load_step unit load = at_least_html load ++ requests_html unit
-
--- the steps that a person can follow
-abbrev pub steps_html : Weighted → List ℕ
-steps_html w =
-    total_step (are_unit w.capacities) (capacity_total w)
-    ++ (least_step (lightest_quorum w) ++ load_step (are_unit w.capacities) (load_of w))
+-- the words around the sums, in steps that a person can follow
+abbrev pub in_steps : Words
+in_steps = record {
+  unit_sum = codes "<li>The weights add up to <b>";
+  sum = codes "<li>The weights, each times the voter's capacity, add up to <b>";
+  in_all = codes "</b>.</li>\n";
+  least = codes "<li>The members of every quorum together weigh at least <b>";
+  requests = codes "</b>, so N requests weigh at least ";
+  each = codes " N.</li>\n";
+  some_voter = codes "<li>So some voter gets at least <b>";
+  unit_share = codes "</b> of N requests, whichever quorums they use. That is the load of this plan.</li>\n";
+  share = codes "</b> of N requests for its capacity, whichever quorums they use. That is the load of this plan.</li>\n";
+}
 
 -- the certificate: the weights of the voters, and the steps
 abbrev pub certificate_html : List (List ℕ) → Weighted → List ℕ
-certificate_html names w = weights_html names (weighing_voters w) ++ (steps_html w ++ codes "</ol>\n")
+certificate_html names w = weights_html names (weighing_voters w) ++ (sums_text in_steps w ++ codes "</ol>\n")
 
 -- The report
 

@@ -1,13 +1,11 @@
 //! The table of the quorums: whom to ask, and how often.
-ghost use Rattle.std.specs.Prelude.{◌≡◌, ◌++◌, [], OnOk, codes, slice_index_or, string_bytes};
-ghost use Rattle.std.specs.List.{flat_map};
-ghost use Rattle.show_words.specs.Lines.{names_text};
+ghost use Rattle.std.specs.Prelude.{◌≡◌, ◌++◌, OnOk, string_bytes};
 ghost use Rattle.show_report.specs.Reports.{quorum_cells, quorum_row, quorums_html};
 
-use crate::html::{push_html, push_names};
+use crate::html::push_html;
 use certificate::Plan;
 use coterie_file::Named;
-use show_words::{QuorumFigure, push_percent};
+use show_words::{QuorumFigure, Rows, push_percent, push_quorum_members, push_rows};
 use std::alloc::AllocError;
 
 /// Appends the share of a quorum, its uses and its number.
@@ -20,53 +18,23 @@ fn push_cells(text: &mut String, len: u64, figure: QuorumFigure) -> Result<(), A
     write!(text, "</td><td>{weight}</td><td>{quorum}</td><td>")
 }
 
-/// Appends the names of the members of a quorum, if the plan has a quorum of this number.
-fn push_members(
-    text: &mut String,
-    named: &Named,
-    plan: &Plan,
-    quorum: usize,
-) -> Result<(), AllocError>
-    ensures { OnOk result (string_bytes text.new ≡ string_bytes text.old
-        ++ names_text named.now.names (codes " ") (slice_index_or plan.now.system.quorums quorum [])) }
-{
-    if quorum < plan.coterie().count() {
-        let members = plan.coterie().quorum(quorum).members();
-        push_names(text, named, members.as_slice())
-    } else {
-        Ok(())
-    }
+/// The rows of the quorums of a plan.
+#[derive(Drop)]
+struct QuorumRows<'a> {
+    named: &'a Named,
+    plan: &'a Plan,
 }
 
-/// Appends the row of a quorum.
-fn push_row(
-    text: &mut String,
-    named: &Named,
-    plan: &Plan,
-    figure: QuorumFigure,
-) -> Result<(), AllocError>
-    ensures { OnOk result (string_bytes text.new
-        ≡ string_bytes text.old ++ quorum_row named.now.names plan.now figure) }
-{
-    push_cells(text, plan.cycle_len(), figure)?;
-    push_members(text, named, plan, figure.quorum)?;
-    push_html(text, "</td></tr>\n")
-}
+impl<'a> Rows for QuorumRows<'a> {
+    type Figure = QuorumFigure;
 
-/// Appends a row for each of these quorums.
-fn push_rows(
-    text: &mut String,
-    named: &Named,
-    plan: &Plan,
-    figures: &[QuorumFigure],
-) -> Result<(), AllocError>
-    ensures { OnOk result (string_bytes text.new
-        ≡ string_bytes text.old ++ flat_map (quorum_row named.now.names plan.now) figures.now) }
-{
-    for figure in figures {
-        push_row(text, named, plan, *figure)?;
+    ghost written = { λ r f. quorum_row r.named.now.names r.plan.now f };
+
+    fn push_row(&self, text: &mut String, figure: QuorumFigure) -> Result<(), AllocError> {
+        push_cells(text, self.plan.cycle_len(), figure)?;
+        push_quorum_members(text, self.named, self.plan, figure.quorum)?;
+        push_html(text, "</td></tr>\n")
     }
-    Ok(())
 }
 
 /// Appends the table of these quorums.
@@ -83,6 +51,6 @@ pub(crate) fn push_quorums(
         text,
         "<h2>Whom to ask, and how often</h2>\n<div class=\"wide\"><table>\n<tr><th>Share</th><th>Uses</th><th>Quorum</th><th>Ask these voters</th></tr>\n",
     )?;
-    push_rows(text, named, plan, figures)?;
+    push_rows(text, &QuorumRows { named, plan }, figures)?;
     push_html(text, "</table></div>\n")
 }

@@ -1,13 +1,12 @@
 //! The table of the voters: how busy each is for its capacity.
 ghost use Rattle.std.specs.Prelude.{◌≡◌, ◌++◌, OnOk, string_bytes};
-ghost use Rattle.std.specs.List.{flat_map};
 ghost use Rattle.show_words.specs.Plans.{most_use, use_of};
 ghost use Rattle.show_report.specs.Reports.{busy_cells, meter_html, share_cells, voter_row, voter_rows_html, voters_html};
 
 use crate::html::{push_html, push_name};
 use certificate::Plan;
 use coterie_file::Named;
-use show_words::{VoterFigure, push_percent, voter_figures};
+use show_words::{Rows, VoterFigure, busy_part, push_percent, push_rows, voter_figures};
 use std::alloc::{AllocError, Global};
 
 /// Appends the share of a voter, its uses and its capacity.
@@ -40,16 +39,6 @@ fn push_busy_cells(text: &mut String, part: u64, whole: u64) -> Result<(), Alloc
     push_html(text, "</td></tr>\n")
 }
 
-/// Returns how busy a voter is, if the busiest has this ratio of uses to capacity: a part and a whole.
-fn busy_part(ratio: (u64, u64), figure: VoterFigure) -> (u64, u64)
-    ensures part { result.0 ≡ use_of ratio figure }
-    ensures whole { result.1 ≡ most_use ratio figure }
-{
-    let part = figure.count.saturating_mul(ratio.1);
-    let whole = figure.capacity.saturating_mul(ratio.0);
-    (part, whole)
-}
-
 /// Appends how busy a voter is, if the busiest has this ratio of uses to capacity.
 fn push_busy(text: &mut String, ratio: (u64, u64), figure: VoterFigure) -> Result<(), AllocError>
     ensures { OnOk result (string_bytes text.new
@@ -59,38 +48,26 @@ fn push_busy(text: &mut String, ratio: (u64, u64), figure: VoterFigure) -> Resul
     push_busy_cells(text, part, whole)
 }
 
-/// Appends the row of a voter.
-fn push_row(
-    text: &mut String,
-    named: &Named,
+/// The rows of voters, in a cycle of `len`.
+#[derive(Drop)]
+struct VoterRows<'a> {
+    named: &'a Named,
     len: u64,
+    /// The uses and the capacity of the busiest voter.
     ratio: (u64, u64),
-    figure: VoterFigure,
-) -> Result<(), AllocError>
-    ensures { OnOk result (string_bytes text.new
-        ≡ string_bytes text.old ++ voter_row named.now.names len ratio figure) }
-{
-    push_html(text, "<tr><td>")?;
-    push_name(text, named, figure.voter)?;
-    push_share_cells(text, len, figure)?;
-    push_busy(text, ratio, figure)
 }
 
-/// Appends a row for each of these voters.
-fn push_rows(
-    text: &mut String,
-    named: &Named,
-    len: u64,
-    ratio: (u64, u64),
-    figures: &[VoterFigure],
-) -> Result<(), AllocError>
-    ensures { OnOk result (string_bytes text.new
-        ≡ string_bytes text.old ++ flat_map (voter_row named.now.names len ratio) figures.now) }
-{
-    for figure in figures {
-        push_row(text, named, len, ratio, *figure)?;
+impl<'a> Rows for VoterRows<'a> {
+    type Figure = VoterFigure;
+
+    ghost written = { λ r f. voter_row r.named.now.names r.len r.ratio f };
+
+    fn push_row(&self, text: &mut String, figure: VoterFigure) -> Result<(), AllocError> {
+        push_html(text, "<tr><td>")?;
+        push_name(text, self.named, figure.voter)?;
+        push_share_cells(text, self.len, figure)?;
+        push_busy(text, self.ratio, figure)
     }
-    Ok(())
 }
 
 /// Appends the rows of these voters between the heading of the table and its end.
@@ -108,7 +85,7 @@ fn push_table(
         text,
         "<h2>How busy each voter is for its capacity</h2>\n<div class=\"wide\"><table>\n<tr><th>Voter</th><th>Share</th><th>Uses</th><th>Capacity</th><th>Beside the busiest</th></tr>\n",
     )?;
-    push_rows(text, named, len, ratio, figures)?;
+    push_rows(text, &VoterRows { named, len, ratio }, figures)?;
     push_html(text, "</table></div>\n")
 }
 

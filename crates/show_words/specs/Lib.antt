@@ -3,4 +3,5 @@ pub mod Lines
 pub mod Plans
 pub mod Reasons
 pub mod Stories
+pub mod Sums
 pub mod Worlds

@@ -1,11 +1,12 @@
 -- Why no plan has a smaller load, in words: the certificate that a person can add up, and what is known of
 -- every coterie.
-use Rattle.std.specs.Prelude.{ℕ, Bool, nat_lt, if◌then◌else◌, List, [], ◌∷◌, ◌++◌, codes, decimal, filter, map, slice_index, sum}
+use Rattle.std.specs.Prelude.{ℕ, nat_lt, if◌then◌else◌, List, [], ◌∷◌, ◌++◌, codes, decimal, filter, map, slice_index, sum}
 use Rattle.std.specs.List.{flat_map, range_with_len}
 use Rattle.quorum_set.specs.Capacities.{are_unit}
-use Rattle.certificate.specs.Certificates.{Weighted, capacity_total, lightest_quorum, load_of}
+use Rattle.certificate.specs.Certificates.{Weighted}
 use Rattle.known_loads.specs.SmallestQuorums.{smallest_capacity, smallest_size}
 use Rattle.show_words.specs.Lines.{shown_name}
+use Rattle.show_words.specs.Sums.{Words, sums_text}
 use Rattle.show_words.specs.declared.weights.WeightFigure.{WeightFigure}
 
 -- a voter and its weight
@@ -33,46 +34,25 @@ abbrev pub weights_text : List (List ℕ) → List WeightFigure → List ℕ
 weights_text names [] = []
 weights_text names (f ∷ rest) = weight_text names f ++ flat_map (later_weight_text names) rest
 
--- the words before the sum of the weights, each times the voter's capacity
-abbrev pub sum_words : Bool → List ℕ
-sum_words unit = if unit then codes ". That is " else codes ". Each times its capacity, that is "
-
--- what the weights are in all, each times the voter's capacity
-abbrev pub total_text : Bool → ℕ → List ℕ
-total_text unit all = sum_words unit ++ (decimal all ++ codes " in all.\n")
-
--- what a quorum weighs at least, and so what N requests weigh
-abbrev pub least_text : ℕ → List ℕ
-least_text least =
-    codes "  Every quorum weighs at least " ++ (decimal least ++ (codes ", so N requests weigh at least "
-    ++ (decimal least ++ codes " N.\n")))
-
--- the words behind a load
-abbrev pub requests_words : Bool → List ℕ
-requests_words unit =
-    if unit
-    then codes " of the N requests, whichever quorums they use.\n"
-    else codes " of N times its capacity, whichever quorums they use.\n"
-
--- what some voter gets at least
-abbrev pub at_least_text : ℕ × ℕ → List ℕ
-at_least_text load = codes "  Some voter then gets at least " ++ (decimal load.0 ++ (codes "/" ++ decimal load.1))
-
--- what some voter gets of the N requests
-abbrev pub some_voter_text : Bool → ℕ × ℕ → List ℕ
-some_voter_text unit load = at_least_text load ++ requests_words unit
-
--- the sums of the certificate
-abbrev pub sums_text : Weighted → List ℕ
-sums_text w =
-    total_text (are_unit w.capacities) (capacity_total w)
-    ++ (least_text (lightest_quorum w) ++ some_voter_text (are_unit w.capacities) (load_of w))
+-- the words around the sums, in sentences
+abbrev pub in_words : Words
+in_words = record {
+  unit_sum = codes ". That is ";
+  sum = codes ". Each times its capacity, that is ";
+  in_all = codes " in all.\n";
+  least = codes "  Every quorum weighs at least ";
+  requests = codes ", so N requests weigh at least ";
+  each = codes " N.\n";
+  some_voter = codes "  Some voter then gets at least ";
+  unit_share = codes " of the N requests, whichever quorums they use.\n";
+  share = codes " of N times its capacity, whichever quorums they use.\n";
+}
 
 -- the certificate in sentences, with its numbers
 abbrev pub certificate_text : List (List ℕ) → Weighted → List ℕ
 certificate_text names w =
     codes "\nWhy no plan has a smaller load:\n  Weigh the voters: "
-    ++ (weights_text names (weighing_voters w) ++ sums_text w)
+    ++ (weights_text names (weighing_voters w) ++ sums_text in_words w)
 
 -- what is known of every coterie of n voters whose smallest quorum has c members
 abbrev pub unit_bound_text : ℕ → ℕ → List ℕ

@@ -12,8 +12,8 @@
 //! there, with its weight, the most used first, of equally used ones the smaller number first. Each
 //! voter is there with its count and its capacity.
 //!
-//! The page of [`plan_words`] is determined letter by letter: `specs/Plans.antt` and
-//! `specs/Reasons.antt` define it from the plan, the figures and the names.
+//! The page of [`plan_words`] is determined letter by letter: `specs/Plans.antt`, `specs/Reasons.antt`
+//! and `specs/Sums.antt` define it from the plan, the figures and the names.
 //!
 //! A story has a moment for each step of the script, in order. What a moment says of its step is
 //! only tested, and so is the page of [`world_words`], except that it has the heading of its end.
@@ -34,16 +34,21 @@ mod figures;
 mod names;
 mod plans;
 mod reasons;
+mod rows;
 mod share;
 mod story;
+mod sums;
 mod voters;
 mod weights;
 mod worlds;
 
 pub use figures::{QuorumFigure, VoterFigure, quorum_figures, voter_figures};
 pub use names::{name_of, push_members, push_names};
-pub use plans::plan_words;
+pub use plans::{plan_words, push_quorum_members};
+pub use rows::{Rows, push_rows};
 pub use share::{push_bar, push_fraction, push_percent, push_quotient, push_tenths, scaled};
 pub use story::{Happening, Moment, Story, story_of};
+pub use sums::{Wording, push_sums};
+pub use voters::busy_part;
 pub use weights::{WeightFigure, weight_figures};
 pub use worlds::{push_message_words, world_words};

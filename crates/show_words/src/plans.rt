@@ -1,6 +1,5 @@
 //! A plan in words: how often to ask which voters, and why no plan is better.
 ghost use Rattle.std.specs.Prelude.{◌≡◌, ◌++◌, [], IfOk, OnOk, codes, slice_index_or, string_bytes};
-ghost use Rattle.std.specs.List.{flat_map};
 ghost use Rattle.certificate.specs.Certificates.{cycle_len, cycle_ratio, load_of};
 ghost use Rattle.show_words.specs.Lines.{names_text};
 ghost use Rattle.show_words.specs.Plans.{IsPlanPage, capacity_load_text, count_text, load_text, quorum_line, quorum_table, ratio_text, throughput_text, unit_load_text, unit_text};
@@ -8,6 +7,7 @@ ghost use Rattle.show_words.specs.Plans.{IsPlanPage, capacity_load_text, count_t
 use crate::figures::{QuorumFigure, quorum_figures};
 use crate::names::push_members;
 use crate::reasons::push_reasons;
+use crate::rows::{Rows, push_rows};
 use crate::share::{push_fraction, push_percent, push_quotient};
 use crate::voters::push_voters;
 use certificate::Plan;
@@ -105,8 +105,9 @@ fn push_load(text: &mut String, plan: &Plan) -> Result<(), AllocError>
     }
 }
 
-/// Appends the names of the members of a quorum of a plan, if the plan has a quorum of this number.
-fn push_quorum_members(
+/// Appends the names of the members of a quorum of a plan, with spaces between them, if the plan has
+/// a quorum of this number.
+pub fn push_quorum_members(
     text: &mut String,
     named: &Named,
     plan: &Plan,
@@ -122,37 +123,26 @@ fn push_quorum_members(
     }
 }
 
-/// Appends the line of a quorum: its share of the requests, its weight, its number and its members.
-fn push_quorum(
-    text: &mut String,
-    named: &Named,
-    plan: &Plan,
-    figure: QuorumFigure,
-) -> Result<(), AllocError>
-    ensures { OnOk result (string_bytes text.new
-        ≡ string_bytes text.old ++ quorum_line named.now.names plan.now figure) }
-{
-    let QuorumFigure { quorum, weight } = figure;
-    push_percent(text, weight, plan.cycle_len())?;
-    write!(text, " {weight:>8} {quorum:>7}  ")?;
-    push_quorum_members(text, named, plan, quorum)?;
-    text.push_str("\n")
+/// The lines of the quorums of a plan: the share of the requests, the weight, the number and the
+/// members.
+#[derive(Drop)]
+struct QuorumLines<'a> {
+    named: &'a Named,
+    plan: &'a Plan,
 }
 
-/// Appends a line for each of these quorums.
-fn push_quorum_lines(
-    text: &mut String,
-    named: &Named,
-    plan: &Plan,
-    figures: &[QuorumFigure],
-) -> Result<(), AllocError>
-    ensures { OnOk result (string_bytes text.new
-        ≡ string_bytes text.old ++ flat_map (quorum_line named.now.names plan.now) figures.now) }
-{
-    for figure in figures {
-        push_quorum(text, named, plan, *figure)?;
+impl<'a> Rows for QuorumLines<'a> {
+    type Figure = QuorumFigure;
+
+    ghost written = { λ r f. quorum_line r.named.now.names r.plan.now f };
+
+    fn push_row(&self, text: &mut String, figure: QuorumFigure) -> Result<(), AllocError> {
+        let QuorumFigure { quorum, weight } = figure;
+        push_percent(text, weight, self.plan.cycle_len())?;
+        write!(text, " {weight:>8} {quorum:>7}  ")?;
+        push_quorum_members(text, self.named, self.plan, quorum)?;
+        text.push_str("\n")
     }
-    Ok(())
 }
 
 /// Appends the table of these quorums.
@@ -166,7 +156,7 @@ fn push_quorums(
         ≡ string_bytes text.old ++ quorum_table named.now.names plan.now figures.now) }
 {
     text.push_str("\n  share     uses  quorum  ask these voters\n")?;
-    push_quorum_lines(text, named, plan, figures)
+    push_rows(text, &QuorumLines { named, plan }, figures)
 }
 
 /// Returns a plan in words: its load, how often a cycle uses each quorum and each voter, and why no

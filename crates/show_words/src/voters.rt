@@ -1,49 +1,38 @@
 //! The table of the voters of a plan: how busy each is.
 ghost use Rattle.std.specs.Prelude.{◌≡◌, ◌++◌, OnOk, string_bytes};
-ghost use Rattle.std.specs.List.{flat_map, list_any};
+ghost use Rattle.std.specs.List.{list_any};
 ghost use Rattle.show_words.specs.Plans.{busy_text, capacity_voter_line, capacity_voter_table, is_less_busy, most_use, uneven_text, unit_voter_line, unit_voter_table, use_of, voter_lines, voter_table};
 
 use crate::figures::{VoterFigure, voter_figures};
 use crate::names::name_of;
+use crate::rows::{Rows, push_rows};
 use crate::share::{push_bar, push_percent};
 use certificate::Plan;
 use coterie_file::Named;
 use quorum_set::are_unit;
 use std::alloc::{AllocError, Global};
 
-/// Appends the line of a voter, if all capacities are 1: its share of the requests, how often a cycle
-/// of `len` uses it, a bar for its share, and its name.
-fn push_unit_voter(
-    text: &mut String,
-    named: &Named,
+/// The lines of voters, if all capacities are 1: the share of the requests, how often a cycle of
+/// `len` uses the voter, a bar for its share, and its name.
+#[derive(Drop)]
+struct UnitLines<'a> {
+    named: &'a Named,
     len: u64,
-    figure: VoterFigure,
-) -> Result<(), AllocError>
-    ensures { OnOk result (string_bytes text.new
-        ≡ string_bytes text.old ++ unit_voter_line named.now.names len figure) }
-{
-    let VoterFigure { voter, count, .. } = figure;
-    push_percent(text, count, len)?;
-    write!(text, " {count:>8}  ")?;
-    push_bar(text, count, len)?;
-    let name = name_of(named, voter);
-    write!(text, "  {name}\n")
 }
 
-/// Appends a line for each of these voters, if all capacities are 1.
-fn push_unit_lines(
-    text: &mut String,
-    named: &Named,
-    len: u64,
-    figures: &[VoterFigure],
-) -> Result<(), AllocError>
-    ensures { OnOk result (string_bytes text.new
-        ≡ string_bytes text.old ++ flat_map (unit_voter_line named.now.names len) figures.now) }
-{
-    for figure in figures {
-        push_unit_voter(text, named, len, *figure)?;
+impl<'a> Rows for UnitLines<'a> {
+    type Figure = VoterFigure;
+
+    ghost written = { λ r f. unit_voter_line r.named.now.names r.len f };
+
+    fn push_row(&self, text: &mut String, figure: VoterFigure) -> Result<(), AllocError> {
+        let VoterFigure { voter, count, .. } = figure;
+        push_percent(text, count, self.len)?;
+        write!(text, " {count:>8}  ")?;
+        push_bar(text, count, self.len)?;
+        let name = name_of(self.named, voter);
+        write!(text, "  {name}\n")
     }
-    Ok(())
 }
 
 /// Appends the table of these voters, if all capacities are 1.
@@ -57,11 +46,11 @@ fn push_unit_table(
         ≡ string_bytes text.old ++ unit_voter_table named.now.names len figures.now) }
 {
     text.push_str("\n   load     uses  voter\n")?;
-    push_unit_lines(text, named, len, figures)
+    push_rows(text, &UnitLines { named, len }, figures)
 }
 
 /// Returns how busy a voter is, if the busiest has this ratio of uses to capacity: a part and a whole.
-fn busy_part(ratio: (u64, u64), figure: VoterFigure) -> (u64, u64)
+pub fn busy_part(ratio: (u64, u64), figure: VoterFigure) -> (u64, u64)
     ensures part { result.0 ≡ use_of ratio figure }
     ensures whole { result.1 ≡ most_use ratio figure }
 {
@@ -79,46 +68,34 @@ fn push_busy(text: &mut String, part: u64, whole: u64) -> Result<(), AllocError>
     push_bar(text, part, whole)
 }
 
-/// Appends the line of a voter for other capacities: its share of the requests, how often a cycle of
-/// `len` uses it, its capacity, how busy it is, and its name.
-fn push_capacity_voter(
-    text: &mut String,
-    named: &Named,
+/// The lines of voters for other capacities: the share of the requests, how often a cycle of `len`
+/// uses the voter, its capacity, how busy it is, and its name.
+#[derive(Drop)]
+struct CapacityLines<'a> {
+    named: &'a Named,
     len: u64,
+    /// The uses and the capacity of the busiest voter.
     ratio: (u64, u64),
-    figure: VoterFigure,
-) -> Result<(), AllocError>
-    ensures { OnOk result (string_bytes text.new
-        ≡ string_bytes text.old ++ capacity_voter_line named.now.names len ratio figure) }
-{
-    let (part, whole) = busy_part(ratio, figure);
-    let VoterFigure {
-        voter,
-        count,
-        capacity,
-    } = figure;
-    push_percent(text, count, len)?;
-    write!(text, " {count:>8}  {capacity:>8} ")?;
-    push_busy(text, part, whole)?;
-    let name = name_of(named, voter);
-    write!(text, "  {name}\n")
 }
 
-/// Appends a line for each of these voters, for other capacities.
-fn push_capacity_lines(
-    text: &mut String,
-    named: &Named,
-    len: u64,
-    ratio: (u64, u64),
-    figures: &[VoterFigure],
-) -> Result<(), AllocError>
-    ensures { OnOk result (string_bytes text.new
-        ≡ string_bytes text.old ++ flat_map (capacity_voter_line named.now.names len ratio) figures.now) }
-{
-    for figure in figures {
-        push_capacity_voter(text, named, len, ratio, *figure)?;
+impl<'a> Rows for CapacityLines<'a> {
+    type Figure = VoterFigure;
+
+    ghost written = { λ r f. capacity_voter_line r.named.now.names r.len r.ratio f };
+
+    fn push_row(&self, text: &mut String, figure: VoterFigure) -> Result<(), AllocError> {
+        let (part, whole) = busy_part(self.ratio, figure);
+        let VoterFigure {
+            voter,
+            count,
+            capacity,
+        } = figure;
+        push_percent(text, count, self.len)?;
+        write!(text, " {count:>8}  {capacity:>8} ")?;
+        push_busy(text, part, whole)?;
+        let name = name_of(self.named, voter);
+        write!(text, "  {name}\n")
     }
-    Ok(())
 }
 
 /// Appends the table of these voters for other capacities, and what its figures mean.
@@ -133,7 +110,7 @@ fn push_capacity_table(
         ≡ string_bytes text.old ++ capacity_voter_table named.now.names len ratio figures.now) }
 {
     text.push_str("\n  share     uses  capacity    busy  voter\n")?;
-    push_capacity_lines(text, named, len, ratio, figures)?;
+    push_rows(text, &CapacityLines { named, len, ratio }, figures)?;
     text.push_str("  Busy: uses divided by capacity, beside the busiest voter, which has 100 %.\n")
 }
 

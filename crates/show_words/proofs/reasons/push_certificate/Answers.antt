@@ -5,4 +5,5 @@ use Rattle.show_words.proofs.reasons.push_certificate.Goals as goal
 pub returns : goal.returns
 returns c =
     let weights = rw (c.as_slice.ensures.value, c.in_ok-figures.ensures) at c.in_ok-push_weights.ensures in
-    on_ok_weaker c.push_sums.result (three_parts _ _ _ _ _ _ _ c.in_ok-push_str.ensures.bytes weights) c.push_sums.ensures
+    let sums = rw c.in_words.ensures at c.push_sums.ensures in
+    on_ok_weaker c.push_sums.result (three_parts _ _ _ _ _ _ _ c.in_ok-push_str.ensures.bytes weights) sums

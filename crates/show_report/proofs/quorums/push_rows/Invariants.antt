@@ -1,8 +1,0 @@
-use Rattle.std.proofs.Common.{◌≡◌, ◌++◌, string_bytes, take}
-use Rattle.std.specs.List.{flat_map}
-use Rattle.show_report.specs.Reports.{quorum_row}
-use Rattle.show_report.proofs.quorums.push_rows.Given as goal
-
--- the rows so far are behind what there was
-abbrev pub invariant-loop-figure : goal.invariant-loop-figure
-invariant-loop-figure l = string_bytes l.text ≡ string_bytes l.fn.text ++ flat_map (quorum_row l.named.names l.plan) (take l.figure-index l.figures)
