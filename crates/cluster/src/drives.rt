@@ -101,7 +101,7 @@ fn pass_once<N: ClusterName, R: Wait + Clock, G: Gate>(
     }
     match member.leave(rt, cluster) {
         Ok(()) => Ok(()),
-        Err(_) => unreachable!(),
+        Err(fault) => Err(fault),
     }
 }
 

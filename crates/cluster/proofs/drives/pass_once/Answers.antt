@@ -36,8 +36,8 @@ returns-in-Err-clause-stopped g c =
     let one = Worked-draw c.args.member.now c.ask.new.self c.pass.new.self c.in_ok-ask.field-0 heard.may.2 heard.client heard.receipt heard.seat after in
     Stops-refused_pass c.args.member.now c.enter.new.member c.pass.new.self c.in-Err.fault heard.may.2 one c.in_ok-enter.ensures.entered stays.refused
 
-pub returns-clause-passed : goal.returns-clause-passed
-returns-clause-passed g c =
+pub returns-in-Ok-leave-clause-passed : goal.returns-in-Ok-leave-clause-passed
+returns-in-Ok-leave-clause-passed g c =
     let heard = c.in_ok-ask.ensures in
     let passed = c.in-Ok.ensures in
     let left = c.in-Ok-leave.ensures in
