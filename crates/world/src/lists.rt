@@ -13,10 +13,7 @@ pub fn send_to_voters(sent: &mut Vec<Message>, messages: &[ToVoter])
     ensures { sent.new.items ≡ sent.old.items ++ map kinds.ToVoter messages.now }
 {
     for message in messages {
-        match sent.push(Message::ToVoter(*message)) {
-            Ok(()) => {}
-            Err(_) => unreachable!(),
-        }
+        sent.push_reserved(Message::ToVoter(*message));
     }
 }
 
@@ -26,10 +23,7 @@ pub fn send_to_clients(sent: &mut Vec<Message>, messages: &[ToClient])
     ensures { sent.new.items ≡ sent.old.items ++ map kinds.ToClient messages.now }
 {
     for message in messages {
-        match sent.push(Message::ToClient(*message)) {
-            Ok(()) => {}
-            Err(_) => unreachable!(),
-        }
+        sent.push_reserved(Message::ToClient(*message));
     }
 }
 
@@ -39,10 +33,7 @@ pub fn draw(draws: &mut Vec<(u8, u64)>, client: u8)
     ensures { draws.new.items ≡ draws.old.items ++ (client, length draws.old.items) ∷ [] }
 {
     let ticket = draws.len() as u64;
-    match draws.push((client, ticket)) {
-        Ok(()) => {}
-        Err(_) => unreachable!(),
-    }
+    draws.push_reserved((client, ticket));
 }
 
 /// Appends the event, if this client entered or left.
@@ -55,8 +46,5 @@ pub fn note(visible: &mut Vec<Event>, client: u8, seen: Seen)
         Seen::Entered => true,
         Seen::Left => false,
     };
-    match visible.push(Event { client, entered }) {
-        Ok(()) => {}
-        Err(_) => unreachable!(),
-    }
+    visible.push_reserved(Event { client, entered });
 }
