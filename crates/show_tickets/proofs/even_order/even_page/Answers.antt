@@ -24,6 +24,7 @@ returns c =
       is_slack = c.slack-slack.ensures;
       is = even_page_joined c.args.planned.named o c.slack-slack.result c.args.count c.in_ok-account.account (string_bytes c.new-text.result) (string_bytes c.push_tickets.new.text)
           (string_bytes c.push_account.new.text) (string_bytes c.push_ratio.new.text) (string_bytes c.push_order.new.text)
-          (rw (c.plan.ensures.value, c.deref.ensures.value, c.in_ok-quorums.ensures.quorums) at c.in_ok-account.ensures.value) c.new-text.ensures.bytes c.in_ok-push_tickets.ensures c.in_ok-push_account.ensures
+          (rw (c.plan.ensures.value, c.deref.ensures.value, c.in_ok-quorums.ensures.quorums) at c.in_ok-account.ensures.value)
+          c.new-text.ensures.bytes c.in_ok-push_tickets.ensures c.in_ok-push_account.ensures
           (rw c.capacities.ensures.value at c.in_ok-push_ratio.ensures) (rw c.capacities-2.ensures.value at c.in_ok-push_order.ensures);
     }
