@@ -7,7 +7,7 @@ ghost use Rattle.dealer.specs.Offices.{receipt_of, share_of, tickets_of};
 ghost use Rattle.commands.specs.Dealing.{after_draws};
 
 use certificate::Plan;
-use dealer::{Account, Clerk, Cycle, DealFault, Office, OfficeFault, Receipt};
+use dealer::{Account, Clerk, Cycle, Office, Receipt};
 use std::alloc::{AllocError, Global};
 
 /// Returns the cycle of a plan.
@@ -47,8 +47,8 @@ fn draw_next(office: &Office, clerk: &mut Clerk) -> Result<(), AllocError>
 {
     match office.draw(clerk) {
         Ok(_) => Ok(()),
-        Err(DealFault::OutOfMemory) => Err(AllocError),
-        Err(DealFault::QuotaSpent) => unreachable!(),
+        // The quota is not spent, so memory ran out.
+        Err(_) => Err(AllocError),
     }
 }
 
@@ -79,10 +79,8 @@ fn closed(
 {
     match office.close(alloc, clerk) {
         Ok(closed) => Ok(closed),
-        Err(unclosed) => match unclosed.fault {
-            OfficeFault::OutOfMemory => Err(AllocError),
-            OfficeFault::ClerksOut(_) => unreachable!(),
-        },
+        // No other clerk has a share, so memory ran out.
+        Err(_) => Err(AllocError),
     }
 }
 

@@ -1,13 +1,12 @@
 //! The certificate that a person can add up.
 ghost use Rattle.std.specs.Prelude.{◌≡◌, ◌++◌, OnOk, string_bytes};
-ghost use Rattle.show_words.specs.Reasons.{weighing_voters};
 ghost use Rattle.show_report.specs.Reports.{certificate_html, in_steps, weight_row, weights_html};
 
 use crate::html::{push_html, push_name};
 use certificate::Plan;
 use coterie_file::Named;
 use show_words::{Rows, WeightFigure, Wording, push_rows, push_sums, weight_figures};
-use std::alloc::{AllocError, Global};
+use std::alloc::AllocError;
 
 /// The rows of voters that have a weight.
 #[derive(Drop)]
@@ -45,20 +44,6 @@ fn push_weights(
     push_html(text, "</table></div>\n<ol>\n")
 }
 
-/// Appends the table of the voters' weights of a plan.
-fn push_plan_weights(
-    alloc: Global,
-    text: &mut String,
-    named: &Named,
-    plan: &Plan,
-) -> Result<(), AllocError>
-    ensures { OnOk result (string_bytes text.new
-        ≡ string_bytes text.old ++ weights_html named.now.names (weighing_voters plan.now)) }
-{
-    let figures = weight_figures(alloc, plan)?;
-    push_weights(text, named, figures.as_slice())
-}
-
 /// Returns the words of the steps that a person can follow.
 fn in_steps() -> Wording
     ensures { result ≡ in_steps }
@@ -77,16 +62,12 @@ fn in_steps() -> Wording
 }
 
 /// Appends the certificate: the weights of the voters, and the steps.
-pub(crate) fn push_certificate(
-    alloc: Global,
-    text: &mut String,
-    named: &Named,
-    plan: &Plan,
-) -> Result<(), AllocError>
+pub(crate) fn push_steps(text: &mut String, named: &Named, plan: &Plan) -> Result<(), AllocError>
     ensures { OnOk result (string_bytes text.new
         ≡ string_bytes text.old ++ certificate_html named.now.names plan.now) }
 {
-    push_plan_weights(alloc, text, named, plan)?;
+    let figures = weight_figures(*text.allocator(), plan)?;
+    push_weights(text, named, figures.as_slice())?;
     push_sums(text, &in_steps(), plan)?;
     push_html(text, "</ol>\n")
 }

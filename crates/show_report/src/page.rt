@@ -4,7 +4,7 @@ ghost use Rattle.certificate.specs.Certificates.{cycle_len};
 ghost use Rattle.even.specs.Strides.{IsFirstBest, strides_of};
 ghost use Rattle.show_report.specs.Reports.{BeginsReport, IsReport, picture_html};
 
-use crate::certificates::push_certificate;
+use crate::certificates::push_steps;
 use crate::html::push_html;
 use crate::quorums::push_quorums;
 use crate::summary::push_summary;
@@ -99,9 +99,9 @@ pub fn report_page(alloc: Global, named: &Named, plan: &Plan) -> Result<String, 
     push_head(&mut text)?;
     push_summary(&mut text, named, plan, &blocking, slack)?;
     push_quorums(&mut text, named, plan, figures.as_slice())?;
-    push_voters(alloc, &mut text, named, plan)?;
+    push_voters(&mut text, named, plan)?;
     push_picture(&mut text, picture.as_str())?;
-    push_certificate(alloc, &mut text, named, plan)?;
+    push_steps(&mut text, named, plan)?;
     push_html(&mut text, "</body>\n</html>\n")?;
     Ok(text)
 }

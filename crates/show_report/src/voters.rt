@@ -7,7 +7,7 @@ use crate::html::{push_html, push_name};
 use certificate::Plan;
 use coterie_file::Named;
 use show_words::{Rows, VoterFigure, busy_part, push_percent, push_rows, voter_figures};
-use std::alloc::{AllocError, Global};
+use std::alloc::AllocError;
 
 /// Appends the share of a voter, its uses and its capacity.
 fn push_share_cells(text: &mut String, len: u64, figure: VoterFigure) -> Result<(), AllocError>
@@ -90,16 +90,11 @@ fn push_table(
 }
 
 /// Appends the table of the voters.
-pub(crate) fn push_voters(
-    alloc: Global,
-    text: &mut String,
-    named: &Named,
-    plan: &Plan,
-) -> Result<(), AllocError>
+pub(crate) fn push_voters(text: &mut String, named: &Named, plan: &Plan) -> Result<(), AllocError>
     ensures { OnOk result (string_bytes text.new
         ≡ string_bytes text.old ++ voters_html named.now.names plan.now) }
 {
-    let figures = voter_figures(alloc, plan)?;
+    let figures = voter_figures(*text.allocator(), plan)?;
     let len = plan.cycle_len();
     let ratio = plan.ratio();
     push_table(text, named, len, ratio, figures.as_slice())

@@ -168,7 +168,7 @@ pub fn plan_words(alloc: Global, named: &Named, plan: &Plan) -> Result<String, A
     let mut text = String::new(alloc);
     push_load(&mut text, plan)?;
     push_quorums(&mut text, named, plan, figures.as_slice())?;
-    push_voters(alloc, &mut text, named, plan)?;
-    push_reasons(alloc, &mut text, named, plan)?;
+    push_voters(&mut text, named, plan)?;
+    push_reasons(&mut text, named, plan)?;
     Ok(text)
 }

@@ -7,7 +7,7 @@ use crate::sums::{Wording, push_sums};
 use crate::weights::{push_weights, weight_figures};
 use certificate::Plan;
 use coterie_file::Named;
-use std::alloc::{AllocError, Global};
+use std::alloc::AllocError;
 
 /// Returns the words of a page of sentences.
 fn in_words() -> Wording
@@ -27,31 +27,21 @@ fn in_words() -> Wording
 }
 
 /// Appends the certificate in sentences, with its numbers.
-fn push_certificate(
-    alloc: Global,
-    text: &mut String,
-    named: &Named,
-    plan: &Plan,
-) -> Result<(), AllocError>
+fn push_certificate(text: &mut String, named: &Named, plan: &Plan) -> Result<(), AllocError>
     ensures { OnOk result (string_bytes text.new
         ≡ string_bytes text.old ++ certificate_text named.now.names plan.now) }
 {
-    let figures = weight_figures(alloc, plan)?;
+    let figures = weight_figures(*text.allocator(), plan)?;
     text.push_str("\nWhy no plan has a smaller load:\n  Weigh the voters: ")?;
     push_weights(text, named, figures.as_slice())?;
     push_sums(text, &in_words(), plan)
 }
 
 /// Appends why no plan has a smaller load, in sentences.
-pub(crate) fn push_reasons(
-    alloc: Global,
-    text: &mut String,
-    named: &Named,
-    plan: &Plan,
-) -> Result<(), AllocError>
+pub(crate) fn push_reasons(text: &mut String, named: &Named, plan: &Plan) -> Result<(), AllocError>
     ensures { OnOk result (string_bytes text.new
         ≡ string_bytes text.old ++ reasons_text named.now.names plan.now) }
 {
-    push_certificate(alloc, text, named, plan)?;
+    push_certificate(text, named, plan)?;
     push_bound(text, plan)
 }

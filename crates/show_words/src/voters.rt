@@ -10,7 +10,7 @@ use crate::share::{push_bar, push_percent};
 use certificate::Plan;
 use coterie_file::Named;
 use quorum_set::are_unit;
-use std::alloc::{AllocError, Global};
+use std::alloc::AllocError;
 
 /// The lines of voters, if all capacities are 1: the share of the requests, how often a cycle of
 /// `len` uses the voter, a bar for its share, and its name.
@@ -165,16 +165,11 @@ fn push_table(
 }
 
 /// Appends the table of the voters.
-pub(crate) fn push_voters(
-    alloc: Global,
-    text: &mut String,
-    named: &Named,
-    plan: &Plan,
-) -> Result<(), AllocError>
+pub(crate) fn push_voters(text: &mut String, named: &Named, plan: &Plan) -> Result<(), AllocError>
     ensures { OnOk result (string_bytes text.new
         ≡ string_bytes text.old ++ voter_table named.now.names plan.now) }
 {
-    let figures = voter_figures(alloc, plan)?;
+    let figures = voter_figures(*text.allocator(), plan)?;
     push_table(text, named, plan, figures.as_slice())?;
     push_uneven(text, plan.ratio(), figures.as_slice())
 }

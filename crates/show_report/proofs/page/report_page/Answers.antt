@@ -21,5 +21,5 @@ returns c =
       head = c.in_ok-push_head.ensures.head;
       picture = string_bytes c.in_ok-picture.picture;
       is_picture = c.in_ok-picture.ensures;
-      is = seven_parts _ _ _ _ _ _ _ _ _ _ _ _ _ _ _ c.new-text.ensures.bytes c.in_ok-push_head.ensures.is c.in_ok-push_summary.ensures (rw c.as_slice.ensures.value at c.in_ok-push_quorums.ensures) c.in_ok-push_voters.ensures (rw c.as_str.ensures.value at c.in_ok-push_picture.ensures) c.in_ok-push_certificate.ensures c.in_ok-push_html.ensures;
+      is = seven_parts _ _ _ _ _ _ _ _ _ _ _ _ _ _ _ c.new-text.ensures.bytes c.in_ok-push_head.ensures.is c.in_ok-push_summary.ensures (rw c.as_slice.ensures.value at c.in_ok-push_quorums.ensures) c.in_ok-push_voters.ensures (rw c.as_str.ensures.value at c.in_ok-push_picture.ensures) c.in_ok-push_steps.ensures c.in_ok-push_html.ensures;
     }

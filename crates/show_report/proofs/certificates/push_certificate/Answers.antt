@@ -1,8 +1,0 @@
-use Rattle.std.proofs.lemmas.Result.{on_ok_weaker}
-use Rattle.show_report.proofs.PartLemmas.{three_parts}
-use Rattle.show_report.proofs.certificates.push_certificate.Goals as goal
-
-pub returns : goal.returns
-returns c =
-    let sums = rw c.in_steps.ensures at c.in_ok-push_sums.ensures in
-    on_ok_weaker c.push_html.result (three_parts _ _ _ _ _ _ _ c.in_ok-push_plan_weights.ensures sums) c.push_html.ensures
