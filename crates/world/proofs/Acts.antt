@@ -1,7 +1,6 @@
 -- what the code did is the step of the definition
-use Rattle.std.proofs.Common.{◌≡◌, ℕ, List, ◌++◌, map, length, set, Option, Some, None, Result, Ok, Err, true, false, refl, sym, ap, subst, ◌∙◌}
-use Rattle.std.specs.Option.{is_none}
-use Rattle.std.proofs.lemmas.Bool.{false≢true}
+use Rattle.std.proofs.Common.{◌≡◌, ℕ, List, ◌++◌, map, length, set, Option, Some, None, Result, Ok, Err, refl, sym, ap, subst, ◌∙◌}
+use Rattle.std.specs.Prelude.{IfNone, IfSome, MatchBool}
 use Rattle.std.specs.Global.{Vec}
 use Rattle.std.specs.Vec.{with_items}
 use Rattle.std.proofs.lemmas.List.{length-set, with_items_is}
@@ -19,9 +18,10 @@ use Rattle.requester.specs.declared.state.Seen.TheVariants.{Nothing}
 use Rattle.requester.specs.Steps as client
 use Rattle.quorum_set.specs.declared.bridge.Side.{Side}
 use Rattle.quorum_set.specs.declared.bridge.Side.TheVariants.{First, Second}
+use Rattle.world.specs.declared.fault.WorldFault.{WorldFault}
 use Rattle.world.specs.declared.fault.WorldFault.TheVariants as faults
 use Rattle.world.specs.declared.step.Stepped.{Stepped}
-use Rattle.world.specs.Steps.{WorldState, Outcome, act, after_client, after_voter, ask, client_at, client_did, draw, draw_of, events, outcome_of, say, vote, voter_at, voter_did}
+use Rattle.world.specs.Steps.{Outcome, Refuses, WorldState, act, after_client, after_voter, ask, client_at, client_did, draw, draw_of, events, outcome_of, say, vote, voter_at, voter_did}
 
 -- ---- lists that the code keeps
 
@@ -59,9 +59,15 @@ pub act-Err : (w : WorldState) (os : List ClientState) (x : ClientState) (c : �
     → client.step x cause ≡ Err fault → act w c cause ≡ Err (faults.Client fault)
 act-Err w os x c cause fault is who step = ap (λ r. after_client w c r) (read_step w os x c cause (Err fault) is who step)
 
-pub act-some_Ok : (w : WorldState) (os : List ClientState) (x : ClientState) (c : ℕ) (cause : client.Cause) → os ≡ w.clients → x ≡ client_at os c → (o : client.Outcome)
-    × (client.step x cause ≡ Ok o) → (p : Outcome) × (act w c cause ≡ Ok p)
-act-some_Ok w os x c cause is who step = (client_did w c step.0, ap (λ r. after_client w c r) (read_step w os x c cause (Ok step.0) is who step.1))
+-- a client that would have its own fault, or none, where there is no room
+pub without_room : (v w : WorldState) (os : List ClientState) (x : ClientState) (c : ℕ) (cause : client.Cause) (own : Option ClientFault) (fault : WorldFault)
+    → os ≡ w.clients → x ≡ client_at os c → client.Predicts own (client.step x cause)
+    → IfSome own (λ f. fault ≡ faults.Client f) → IfNone own (fault ≡ faults.OutOfMemory)
+    → Refuses (after_client v c (client.step (client_at w.clients c) cause)) fault
+without_room v w os x c cause (Some f) fault is who step some none =
+    subst (λ r. Refuses r fault) (sym (ap (λ r. after_client v c r) (read_step w os x c cause (Err f) is who step))) some
+without_room v w os x c cause None fault is who step some none =
+    subst (λ r. Refuses r fault) (sym (ap (λ r. after_client v c r) (read_step w os x c cause (Ok step.0) is who step.1))) none
 
 -- ---- a client that asks
 
@@ -78,10 +84,6 @@ ask-Ok w os cs ds c quorum out seen s u is step wrote same sent saw state =
 pub ask-Err : (w : WorldState) (os : List ClientState) (x : ClientState) (c : ℕ) (quorum : List ℕ) (fault : ClientFault) → os ≡ w.clients → x ≡ client_at os c
     → client.step x (client.Asks quorum) ≡ Err fault → ask w c quorum ≡ Err (faults.Client fault)
 ask-Err w os x c quorum fault is who step = ap (λ r. after_client (draw w c) c r) (read_step w os x c (client.Asks quorum) (Err fault) is who step)
-
-pub ask-some_Ok : (w : WorldState) (os : List ClientState) (x : ClientState) (c : ℕ) (quorum : List ℕ) → os ≡ w.clients → x ≡ client_at os c → (o : client.Outcome)
-    × (client.step x (client.Asks quorum) ≡ Ok o) → (p : Outcome) × (ask w c quorum ≡ Ok p)
-ask-some_Ok w os x c quorum is who step = (client_did (draw w c) c step.0, ap (λ r. after_client (draw w c) c r) (read_step w os x c (client.Asks quorum) (Ok step.0) is who step.1))
 
 -- ---- a voter
 
@@ -105,20 +107,16 @@ pub say-outcome : (w : WorldState) (more : List Message) (n : ℕ) (u : WorldSta
     → say w more ≡ outcome_of (record { sent = n; seen = Nothing }) u
 say-outcome w more n u len state = λ i. record { sent = sym len i; seen = Nothing; state = sym state i }
 
--- ---- whether a voter takes a message
+-- ---- a voter, where there is no room
 
-none_of : (o : Option voter.Outcome) → is_none o ≡ true → o ≡ None
-none_of None e = refl
-none_of (Some x) e = absurd (false≢true e)
+spent_or_memory : (w : WorldState) (v : ℕ) (y : VoterState) (o : Option voter.Outcome) (fault : WorldFault)
+    → MatchBool (voter.effect_by y o).refused (fault ≡ faults.Voter GrantsSpent) (fault ≡ faults.OutOfMemory) → Refuses (after_voter w v o) fault
+spent_or_memory w v y None fault is = is
+spent_or_memory w v y (Some o) fault is = is
 
-some_of : (o : Option voter.Outcome) → is_none o ≡ false → (x : voter.Outcome) × (o ≡ Some x)
-some_of None e = absurd (false≢true (sym e))
-some_of (Some x) e = (x, refl)
-
-pub vote-refused : (w : WorldState) (os : List VoterState) (m : ToVoter) → os ≡ w.voters → is_none (voter.step (voter_at os m.voter) m) ≡ true → vote w m ≡ Err (faults.Voter GrantsSpent)
-vote-refused w os m is e = vote-not_voted w os m is (none_of _ e)
-
-pub vote-allowed : (w : WorldState) (os : List VoterState) (m : ToVoter) → os ≡ w.voters → is_none (voter.step (voter_at os m.voter) m) ≡ false → (p : Outcome) × (vote w m ≡ Ok p)
-vote-allowed w os m is e =
-    let o = some_of _ e in
-    (voter_did w m.voter o.0, ap (λ r. after_voter w m.voter r) (subst (λ (l : List VoterState). voter.step (voter_at l m.voter) m ≡ Some o.0) is o.1))
+pub vote-without_room : (w : WorldState) (os : List VoterState) (y : VoterState) (m : ToVoter) (fault : WorldFault) → os ≡ w.voters → y ≡ voter_at os m.voter
+    → MatchBool (voter.effect_of y m).refused (fault ≡ faults.Voter GrantsSpent) (fault ≡ faults.OutOfMemory) → Refuses (vote w m) fault
+unfolding voter.effect_of
+vote-without_room w os y m fault is who own =
+    subst (λ (z : VoterState). Refuses (after_voter w m.voter (voter.step z m)) fault) (who ∙ ap (λ (l : List VoterState). voter_at l m.voter) is)
+    (spent_or_memory w m.voter y (voter.step y m) fault own)

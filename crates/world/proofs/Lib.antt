@@ -5,10 +5,10 @@ pub mod Claims
 pub mod ClientMoves
 pub mod Exclusion
 pub mod Fences
-pub mod Predicted
 pub mod Places
 pub mod Plans
 pub mod Reached
+pub mod Refused
 pub mod Restarts
 pub mod Traces
 pub mod VoterMoves

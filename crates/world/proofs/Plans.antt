@@ -23,7 +23,7 @@ use Rattle.world.specs.Ranges.{IsInRange, IsSound, IsWithin, ReportsWithin}
 use Rattle.world.specs.Runs.{AreLimits, IsReached, after, run_of, start, start_by}
 use Rattle.world.specs.declared.fault.WorldFault.{WorldFault}
 use Rattle.world.specs.declared.step.Stepped.{Stepped}
-use Rattle.world.specs.Steps.{Dealing, Does, Outcome, Planned, WorldState, dealing_of, quorum_by, step, step_of}
+use Rattle.world.specs.Steps.{Dealing, Does, Outcome, Planned, WorldState, dealing_of, outcome_of, quorum_by, step, step_of}
 use Rattle.world.specs.Visible.{DealsFrom, DoMeet, IsAmong}
 use Rattle.world.proofs.Claims.{AllByRecursion-map}
 
@@ -158,12 +158,9 @@ IsReached-after w r s u is = record {
   state = is ∙ ap (λ (v : WorldState). after v (step (dealing_of w.plans) v s)) r.state ∙ sym (run_more (dealing_of w.plans) r.steps s (start_by w.plans r.clients r.limit));
 }
 
-does_after : (wanted : Result Outcome WorldFault) (old : WorldState) (result : Result Stepped WorldFault) (new : WorldState) → Does wanted old result new → new ≡ after old wanted
-does_after wanted old (Ok s) new does = sym (ap (λ r. after old r) does)
-does_after wanted old (Err fault) new does = does.1 ∙ sym (ap (λ r. after old r) does.0)
-
 -- what the code did to a world in which it made room
 pub IsReached-does : (w : Planned) → IsReached w → (s : Step) (roomy : WorldState) (result : Result Stepped WorldFault) (new : WorldState) → roomy ≡ w.state
     → Does (step (dealing_of w.plans) roomy s) roomy result new → IsReached (record { plans = w.plans; state = new })
-IsReached-does w r s roomy result new same does =
-    IsReached-after w r s new (does_after _ w.state result new (subst (λ (u : WorldState). Does (step (dealing_of w.plans) u s) u result new) same does))
+IsReached-does w r s roomy (Ok o) new same does =
+    IsReached-after w r s new (sym (ap (λ o. after w.state o) (subst (λ (u : WorldState). step (dealing_of w.plans) u s ≡ Ok (outcome_of o new)) same does)))
+IsReached-does w r s roomy (Err fault) new same does = subst (λ (u : WorldState). IsReached (record { plans = w.plans; state = u })) (sym (does.1 ∙ same)) r

@@ -190,11 +190,6 @@ pub record Adds (w : WorldState) (o : Outcome) : Type 0 where
 abbrev pub outcome_of : Stepped → WorldState → Outcome
 outcome_of s w = record { sent = s.sent; seen = s.seen; state = w }
 
--- the code returns the wanted outcome, or the wanted fault with nothing changed
-abbrev pub Does : Result Outcome WorldFault → WorldState → Result Stepped WorldFault → WorldState → Type 0
-Does wanted old (Ok s) new = wanted ≡ Ok (outcome_of s new)
-Does wanted old (Err fault) new = (wanted ≡ Err fault) × (new ≡ old)
-
 -- a world and its plans, which give the quorum of each ticket
 pub record Planned : Type 0 where
   pub plans : PlanPair
@@ -216,3 +211,8 @@ step_of w s = step (dealing_of w.plans) w.state s
 abbrev pub Refuses : Result Outcome WorldFault → WorldFault → Type 0
 Refuses (Ok o) fault = fault ≡ faults.OutOfMemory
 Refuses (Err why) fault = fault ≡ why
+
+-- the code returns the wanted outcome, or a fault that refuses it, with nothing changed
+abbrev pub Does : Result Outcome WorldFault → WorldState → Result Stepped WorldFault → WorldState → Type 0
+Does wanted old (Ok s) new = wanted ≡ Ok (outcome_of s new)
+Does wanted old (Err fault) new = Refuses wanted fault × (new ≡ old)

@@ -19,7 +19,7 @@ use voter::{
     voters_meet_the_contract, voters_stay_sound,
 };
 
-/// The rules that clients and voters keep, as the laws below state them.
+/// What the steps of clients and of voters keep.
 fn parts_keep_their_rules()
     ensures clients { ClientLaws }
     ensures voters { VoterLaws }

@@ -51,7 +51,6 @@ mod fault;
 mod laws;
 mod lists;
 mod moves;
-mod refusal;
 mod state;
 mod step;
 mod trace;

@@ -1,5 +1,5 @@
 //! The state of a world, and its steps once there is room for them.
-ghost use Rattle.std.specs.Prelude.{◌≡◌, ◌<◌, ◌≤◌, ◌+◌, ◌++◌, Err, IfNone, IfSome, OnOk, length, true, map, slice_get, vec_capacity, vec_len};
+ghost use Rattle.std.specs.Prelude.{◌≡◌, ◌<◌, ◌≤◌, ◌+◌, ◌++◌, Err, IfNone, IfSome, MatchBool, OnOk, length, true, map, slice_get, vec_capacity, vec_len};
 ghost use Rattle.numbers.specs.Bounds.{max_voters, max_clients};
 ghost use Rattle.message.specs.declared.message.Message.TheVariants as kinds;
 ghost use Rattle.world.specs.declared.step.Step.TheVariants as steps;
@@ -16,9 +16,9 @@ use crate::moves;
 use crate::step::{Event, Step, Stepped};
 use message::{Message, ToClient, ToVoter};
 use quorum_set::{QSet, Side};
-use requester::{Messages, Requester, Seen};
+use requester::{ClientFault, Messages, Requester, Seen};
 use std::alloc::AllocError;
-use voter::{Replies, Voter};
+use voter::{Replies, Voter, VoterFault};
 
 /// Everything in a world except its plans.
 #[derive(Drop)]
@@ -129,8 +129,8 @@ impl State {
         }
     }
 
-    fn ask(&mut self, client: u8, quorum: &QSet) -> Result<Stepped, WorldFault>
-        requires room { HasRoom self.old }
+    fn ask(&mut self, client: u8, quorum: &QSet, room: bool) -> Result<Stepped, WorldFault>
+        requires room { room ≡ true → HasRoom self.old }
         requires quorum { 1 ≤ length quorum.now }
         ensures { (deal : Dealing)
             → quorum_dealt deal self.old.side (next_ticket (shown self.old)) ≡ quorum.now
@@ -138,6 +138,9 @@ impl State {
     {
         if let Some(fault) = self.client_fault(client) {
             return Err(fault);
+        }
+        if !room {
+            return Err(without_room(moves::client_of(&self.clients, client).ask_fault()));
         }
         match moves::ask(&mut self.clients, client, quorum, &mut self.out) {
             Ok(seen) => {
@@ -151,13 +154,16 @@ impl State {
         }
     }
 
-    fn leave(&mut self, client: u8) -> Result<Stepped, WorldFault>
-        requires room { HasRoom self.old }
+    fn leave(&mut self, client: u8, room: bool) -> Result<Stepped, WorldFault>
+        requires room { room ≡ true → HasRoom self.old }
         ensures { (deal : Dealing)
             → Does (worlds.step deal (shown self.old) (steps.Leave client)) (shown self.old) result (shown self.new) }
     {
         if let Some(fault) = self.client_fault(client) {
             return Err(fault);
+        }
+        if !room {
+            return Err(without_room(moves::client_of(&self.clients, client).leave_fault()));
         }
         match moves::leave(&mut self.clients, client, &mut self.out) {
             Ok(seen) => Ok(self.tell(client, seen)),
@@ -165,13 +171,16 @@ impl State {
         }
     }
 
-    fn give_up(&mut self, client: u8) -> Result<Stepped, WorldFault>
-        requires room { HasRoom self.old }
+    fn give_up(&mut self, client: u8, room: bool) -> Result<Stepped, WorldFault>
+        requires room { room ≡ true → HasRoom self.old }
         ensures { (deal : Dealing)
             → Does (worlds.step deal (shown self.old) (steps.GiveUp client)) (shown self.old) result (shown self.new) }
     {
         if let Some(fault) = self.client_fault(client) {
             return Err(fault);
+        }
+        if !room {
+            return Err(without_room(moves::client_of(&self.clients, client).give_up_fault()));
         }
         match moves::give_up(&mut self.clients, client, &mut self.out) {
             Ok(seen) => Ok(self.tell(client, seen)),
@@ -179,25 +188,32 @@ impl State {
         }
     }
 
-    fn take(&mut self, message: &ToClient) -> Stepped
-        requires room { HasRoom self.old }
+    fn take(&mut self, message: &ToClient, room: bool) -> Result<Stepped, WorldFault>
+        requires room { room ≡ true → HasRoom self.old }
         requires client { message.now.client < length self.old.clients.items }
         requires id { (client_at self.old.clients.items message.now.client).id ≡ message.now.client }
         requires voter { message.now.voter < max_voters }
         ensures { Does (act (shown self.old) message.now.client (Takes message.now))
-            (shown self.old) (Ok result) (shown self.new) }
+            (shown self.old) result (shown self.new) }
     {
+        if !room {
+            return Err(WorldFault::OutOfMemory);
+        }
         let seen = moves::take(&mut self.clients, message, &mut self.out);
-        self.tell(message.client, seen)
+        Ok(self.tell(message.client, seen))
     }
 
-    fn vote(&mut self, message: &ToVoter) -> Result<Stepped, WorldFault>
-        requires room { HasRoom self.old }
+    fn vote(&mut self, message: &ToVoter, room: bool) -> Result<Stepped, WorldFault>
+        requires room { room ≡ true → HasRoom self.old }
         requires voter { message.now.voter < length self.old.voters.items }
         requires id { (voter_at self.old.voters.items message.now.voter).id ≡ message.now.voter }
         requires client { message.now.client < max_clients }
         ensures { Does (vote (shown self.old) message.now) (shown self.old) result (shown self.new) }
     {
+        if !room {
+            let voter = moves::voter_of(&self.voters, message.voter);
+            return Err(without_room_at(voter.effect(message).refused));
+        }
         match moves::vote(&mut self.voters, message, &mut self.replies) {
             Ok(()) => {
                 send_to_clients(&mut self.sent, self.replies.as_slice());
@@ -210,27 +226,30 @@ impl State {
         }
     }
 
-    fn deliver(&mut self, number: u64) -> Result<Stepped, WorldFault>
-        requires room { HasRoom self.old }
+    fn deliver(&mut self, number: u64, room: bool) -> Result<Stepped, WorldFault>
+        requires room { room ≡ true → HasRoom self.old }
         requires numbered { IsNumbered (shown self.old) }
         ensures { (deal : Dealing)
             → Does (worlds.step deal (shown self.old) (steps.Deliver number)) (shown self.old) result (shown self.new) }
     {
         match self.message(number) {
             None => Err(WorldFault::NoSuchMessage(number)),
-            Some(Message::ToVoter(message)) => self.vote(&message),
-            Some(Message::ToClient(message)) => Ok(self.take(&message)),
+            Some(Message::ToVoter(message)) => self.vote(&message, room),
+            Some(Message::ToClient(message)) => self.take(&message, room),
         }
     }
 
-    fn remind_client(&mut self, client: u8) -> Result<Stepped, WorldFault>
-        requires room { HasRoom self.old }
+    fn remind_client(&mut self, client: u8, room: bool) -> Result<Stepped, WorldFault>
+        requires room { room ≡ true → HasRoom self.old }
         ensures { (deal : Dealing)
             → Does (worlds.step deal (shown self.old) (steps.RemindClient client))
             (shown self.old) result (shown self.new) }
     {
         if let Some(fault) = self.client_fault(client) {
             return Err(fault);
+        }
+        if !room {
+            return Err(WorldFault::OutOfMemory);
         }
         let reminders = moves::client_of(&self.clients, client).remind();
         send_to_voters(&mut self.sent, reminders.as_slice());
@@ -240,14 +259,17 @@ impl State {
         })
     }
 
-    fn remind_voter(&mut self, voter: u8) -> Result<Stepped, WorldFault>
-        requires room { HasRoom self.old }
+    fn remind_voter(&mut self, voter: u8, room: bool) -> Result<Stepped, WorldFault>
+        requires room { room ≡ true → HasRoom self.old }
         ensures { (deal : Dealing)
             → Does (worlds.step deal (shown self.old) (steps.RemindVoter voter))
             (shown self.old) result (shown self.new) }
     {
         if let Some(fault) = self.voter_fault(voter) {
             return Err(fault);
+        }
+        if !room {
+            return Err(WorldFault::OutOfMemory);
         }
         let reminders = moves::voter_of(&self.voters, voter).remind();
         send_to_clients(&mut self.sent, reminders.as_slice());
@@ -270,9 +292,9 @@ impl State {
         })
     }
 
-    /// Makes one step. There has to be room for it.
-    pub fn act(&mut self, cycles: &Cycles, step: Step) -> Result<Stepped, WorldFault>
-        requires room { HasRoom self.old }
+    /// Makes one step. Without room for it, it fails with its own fault, else with out of memory.
+    pub fn act(&mut self, cycles: &Cycles, step: Step, room: bool) -> Result<Stepped, WorldFault>
+        requires room { room ≡ true → HasRoom self.old }
         requires numbered { IsNumbered (shown self.old) }
         ensures { Does (worlds.step (dealing_of (plans_of cycles.now)) (shown self.old) step)
             (shown self.old) result (shown self.new) }
@@ -280,14 +302,36 @@ impl State {
         match step {
             Step::Ask(client) => {
                 let quorum = cycles.quorum(self.side, self.next_ticket());
-                self.ask(client, quorum)
+                self.ask(client, quorum, room)
             }
-            Step::Deliver(number) => self.deliver(number),
-            Step::Leave(client) => self.leave(client),
-            Step::GiveUp(client) => self.give_up(client),
-            Step::RemindClient(client) => self.remind_client(client),
-            Step::RemindVoter(voter) => self.remind_voter(voter),
+            Step::Deliver(number) => self.deliver(number, room),
+            Step::Leave(client) => self.leave(client, room),
+            Step::GiveUp(client) => self.give_up(client, room),
+            Step::RemindClient(client) => self.remind_client(client, room),
+            Step::RemindVoter(voter) => self.remind_voter(voter, room),
             Step::Exchange => self.exchange(cycles.are_two()),
         }
+    }
+}
+
+/// Returns the client's fault, if there is one, else out of memory.
+fn without_room(fault: Option<ClientFault>) -> WorldFault
+    ensures own { IfSome fault (λ f. result ≡ WorldFault.Client f) }
+    ensures none { IfNone fault (result ≡ WorldFault.OutOfMemory) }
+{
+    match fault {
+        Some(fault) => WorldFault::Client(fault),
+        None => WorldFault::OutOfMemory,
+    }
+}
+
+/// Returns the voter's fault, if it refuses, else out of memory.
+fn without_room_at(refuses: bool) -> WorldFault
+    ensures { MatchBool refuses (result ≡ WorldFault.Voter VoterFault.GrantsSpent) (result ≡ WorldFault.OutOfMemory) }
+{
+    if refuses {
+        WorldFault::Voter(VoterFault::GrantsSpent)
+    } else {
+        WorldFault::OutOfMemory
     }
 }

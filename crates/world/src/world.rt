@@ -97,14 +97,8 @@ impl World {
         ensures exclusive { IsExclusive self.new.state.visible }
     {
         worlds_stay_sound();
-        if self.state.make_room().is_err() {
-            // Without room no step is made, so what it would have failed with is found apart.
-            if let Some(fault) = self.state.refusal(&self.cycles, step) {
-                return Err(fault);
-            }
-            return Err(WorldFault::OutOfMemory);
-        }
-        self.state.act(&self.cycles, step)
+        let room = self.state.make_room().is_ok();
+        self.state.act(&self.cycles, step, room)
     }
 
     /// Returns how many messages were sent.

@@ -7,15 +7,24 @@ use Rattle.requester.specs.Steps as client
 use Rattle.requester.specs.Steps.{Asks}
 use Rattle.world.specs.declared.state.State.{State}
 use Rattle.world.specs.States.{shown}
-use Rattle.world.specs.Steps.{client_at, draw, draw_of, next_ticket, quorum_dealt, step}
-use Rattle.world.proofs.Acts.{ask-Ok, ask-Err, world_with_client, with_items-items}
-use Rattle.world.proofs.Predicted.{if_client-below, if_client-missing}
+use Rattle.world.specs.Steps.{Refuses, client_at, draw, draw_of, next_ticket, quorum_dealt, step}
+use Rattle.world.proofs.Acts.{ask-Ok, ask-Err, without_room, world_with_client, with_items-items}
+use Rattle.world.proofs.Refused.{if_client-below, if_client-missing, refuses}
 use Rattle.world.proofs.state.State.ask.Goals.{After-tell, in-First, in-Second}
 use Rattle.world.proofs.state.State.ask.Goals as goal
 
 pub returns-in-Some : goal.returns-in-Some
 unfolding step
-returns-in-Some c = λ deal is. (if_client-missing c.args.client (length c.args.self.now.clients.items) _ c.in-Some.fault c.in-Some.ensures.missing, refl)
+returns-in-Some c = λ deal is. (refuses _ _ (if_client-missing c.args.client (length c.args.self.now.clients.items) _ c.in-Some.fault c.in-Some.ensures.missing), refl)
+
+pub returns-then-not-room : goal.returns-then-not-room
+unfolding step client.step
+returns-then-not-room c = λ deal is.
+    let below = if_client-below c.args.client (length c.args.self.now.clients.items) _ c.in_default.ensures.found in
+    let w = shown c.args.self.now in
+    let own = without_room (draw w c.args.client) w c.deref.result.now c.client_of.result.now c.args.client (Asks (quorum_dealt deal c.args.self.now.side (next_ticket w)))
+    c.ask_fault.result c.without_room.result c.deref.ensures.value c.client_of.ensures (c.ask_fault.ensures _) c.without_room.ensures.own c.without_room.ensures.none in
+    (subst (λ r. Refuses r c.without_room.result) (sym below) own, refl)
 
 -- the world once the ticket is drawn
 drawn : (c : After-tell) → shown c.match-self.self ≡ record (draw (shown c.args.self.now) c.args.client) { clients = (with_items c.args.self.now.clients c.ask.new.clients).items }
@@ -57,9 +66,9 @@ pub returns-in-Err : goal.returns-in-Err
 unfolding step
 returns-in-Err c = λ deal is.
     let quorum : List ℕ = quorum_dealt deal c.args.self.now.side (next_ticket (shown c.args.self.now)) in (
-      if_client-below c.args.client (length c.args.self.now.clients.items) _ c.in_default.ensures.found
+      refuses _ _ (if_client-below c.args.client (length c.args.self.now.clients.items) _ c.in_default.ensures.found
           ∙ ask-Err (shown c.args.self.now) c.deref_mut.result.now (client_at c.deref_mut.result.now c.args.client) c.args.client quorum c.in-Err.fault c.deref_mut.ensures.value refl
-          (subst (λ (q : List ℕ). client.step (client_at c.deref_mut.result.now c.args.client) (Asks q) ≡ Err c.in-Err.fault) (sym is) c.in-Err.ensures.refused.0),
+          (subst (λ (q : List ℕ). client.step (client_at c.deref_mut.result.now c.args.client) (Asks q) ≡ Err c.in-Err.fault) (sym is) c.in-Err.ensures.refused.0)),
       ap (λ (l : List ClientState). record (shown c.args.self.now) { clients = l })
           (with_items-items c.args.self.now.clients c.deref_mut.result.now c.ask.new.clients c.args.client _ c.deref_mut.ensures.value c.in-Err.ensures.others
           ∙ c.in-Err.ensures.refused.1 ∙ c.deref_mut.ensures.value),

@@ -3,11 +3,12 @@ use Rattle.message.specs.declared.message.Message.{Message}
 use Rattle.world.specs.States.{shown}
 use Rattle.world.specs.Steps.{Does, come, step}
 use Rattle.world.proofs.Addressed.{ForClient-sent, ForVoter-sent}
+use Rattle.world.proofs.Refused.{refuses}
 use Rattle.world.proofs.state.State.deliver.Goals as goal
 
 pub returns-in-None : goal.returns-in-None
 unfolding step
-returns-in-None c = λ deal. (ap (λ (o : _). come (shown c.args.self.now) c.args.number o) (sym c.message.ensures ∙ c.in-None.is), refl)
+returns-in-None c = λ deal. (refuses _ _ (ap (λ (o : _). come (shown c.args.self.now) c.args.number o) (sym c.message.ensures ∙ c.in-None.is)), refl)
 
 pub vote-requires : goal.vote-requires
 vote-requires c = let is = ForVoter-sent (shown c.args.self.now) c.requires.numbered c.args.number c.in-Some-ToVoter.message (sym c.message.ensures ∙ c.in-Some-ToVoter.is
@@ -28,4 +29,5 @@ returns-in-Some-ToVoter c = λ deal.
 pub returns-in-Some-ToClient : goal.returns-in-Some-ToClient
 unfolding step
 returns-in-Some-ToClient c = λ deal.
-    ap (λ (o : _). come (shown c.args.self.now) c.args.number o) (sym c.message.ensures ∙ c.in-Some-ToClient.is ∙ ap (λ (m : Message). Some m) c.in-Some-ToClient.field-0-is) ∙ c.take.ensures
+    subst (λ x. Does x (shown c.args.self.now) c.take.result (shown c.take.new.self))
+    (sym (ap (λ (o : _). come (shown c.args.self.now) c.args.number o) (sym c.message.ensures ∙ c.in-Some-ToClient.is ∙ ap (λ (m : Message). Some m) c.in-Some-ToClient.field-0-is))) c.take.ensures

@@ -8,12 +8,16 @@ use Rattle.requester.specs.Steps.{remind}
 use Rattle.world.specs.States.{shown}
 use Rattle.world.specs.Steps.{client_at, step}
 use Rattle.world.proofs.Acts.{say-outcome}
-use Rattle.world.proofs.Predicted.{if_client-below, if_client-missing}
+use Rattle.world.proofs.Refused.{if_client-below, if_client-missing, no_memory, refuses}
 use Rattle.world.proofs.state.State.remind_client.Goals as goal
 
 pub returns-in-Some : goal.returns-in-Some
 unfolding step
-returns-in-Some c = λ deal. (if_client-missing c.args.client (length c.args.self.now.clients.items) _ c.in-Some.fault c.in-Some.ensures.missing, refl)
+returns-in-Some c = λ deal. (refuses _ _ (if_client-missing c.args.client (length c.args.self.now.clients.items) _ c.in-Some.fault c.in-Some.ensures.missing), refl)
+
+pub returns-then-not-room : goal.returns-then-not-room
+unfolding step
+returns-then-not-room c = λ deal. (no_memory _ _ (if_client-below c.args.client (length c.args.self.now.clients.items) _ c.in_default.ensures.found), refl)
 
 pub returns : goal.returns
 unfolding step

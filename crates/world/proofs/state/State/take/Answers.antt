@@ -1,8 +1,14 @@
+use Rattle.std.proofs.Common.{refl}
 use Rattle.std.specs.Vec.{with_items}
+use Rattle.requester.specs.Steps as client
 use Rattle.requester.specs.Steps.{Takes}
 use Rattle.world.specs.States.{shown}
 use Rattle.world.proofs.Acts.{act-Ok, with_items-items}
 use Rattle.world.proofs.state.State.take.Goals as goal
+
+pub returns-then-not-room : goal.returns-then-not-room
+unfolding client.step
+returns-then-not-room c = (refl, refl)
 
 pub returns : goal.returns
 returns c =

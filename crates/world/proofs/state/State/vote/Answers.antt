@@ -1,19 +1,30 @@
-use Rattle.std.proofs.Common.{◌≡◌, ◌++◌, List, Err, refl, ap, map, ◌∙◌}
+use Rattle.std.proofs.Common.{◌≡◌, ◌++◌, List, Err, subst, refl, ap, map, ◌∙◌}
+use Rattle.std.specs.Prelude.{MatchBool}
 use Rattle.std.specs.Vec.{with_items}
 use Rattle.message.specs.declared.message.ToClient.{ToClient}
 use Rattle.message.specs.declared.message.Message.{Message}
 use Rattle.message.specs.declared.message.Message.TheVariants as kinds
 use Rattle.voter.specs.declared.fault.VoterFault.{VoterFault}
 use Rattle.voter.specs.declared.fault.VoterFault.TheVariants.{GrantsSpent}
+use Rattle.voter.specs.declared.state.Effect.{Effect}
 use Rattle.voter.specs.declared.state.VoterState.{VoterState}
 use Rattle.world.specs.declared.fault.WorldFault.TheVariants as faults
 use Rattle.world.specs.States.{shown}
-use Rattle.world.proofs.Acts.{vote-not_voted, vote-Ok, with_items-items}
+use Rattle.world.proofs.Acts.{vote-not_voted, vote-Ok, vote-without_room, with_items-items}
+use Rattle.world.proofs.Refused.{refuses}
 use Rattle.world.proofs.state.State.vote.Goals as goal
 
 -- there is one fault of voters
 spent : (fault : VoterFault) → GrantsSpent ≡ fault
 spent GrantsSpent = refl
+
+pub returns-then-not-room : goal.returns-then-not-room
+returns-then-not-room c = (
+  vote-without_room (shown c.args.self.now) c.deref.result.now c.voter_of-voter.result.now c.args.message.now c.without_room_at.result c.deref.ensures.value c.voter_of-voter.ensures
+      (subst (λ (e : Effect). MatchBool e.refused (c.without_room_at.result ≡ faults.Voter GrantsSpent) (c.without_room_at.result ≡ faults.OutOfMemory)) c.effect.ensures
+      c.without_room_at.ensures),
+  refl,
+)
 
 pub returns-in-Ok : goal.returns-in-Ok
 returns-in-Ok c =
@@ -27,8 +38,8 @@ returns-in-Ok c =
 
 pub returns-in-Err : goal.returns-in-Err
 returns-in-Err c = (
-  vote-not_voted (shown c.args.self.now) c.deref_mut.result.now c.args.message.now c.deref_mut.ensures.value c.in-Err.ensures.refused.0
-      ∙ ap (λ (fault : VoterFault). Err (faults.Voter fault)) (spent c.in-Err.fault),
+  refuses _ _ (vote-not_voted (shown c.args.self.now) c.deref_mut.result.now c.args.message.now c.deref_mut.ensures.value c.in-Err.ensures.refused.0
+      ∙ ap (λ (fault : VoterFault). Err (faults.Voter fault)) (spent c.in-Err.fault)),
   ap (λ (l : List VoterState). record (shown c.args.self.now) { voters = l })
       (with_items-items c.args.self.now.voters c.deref_mut.result.now c.vote.new.voters c.args.message.now.voter _ c.deref_mut.ensures.value c.in-Err.ensures.others
       ∙ c.in-Err.ensures.refused.1 ∙ c.deref_mut.ensures.value),
