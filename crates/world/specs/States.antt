@@ -1,7 +1,10 @@
 -- A world as the code keeps it, and the room that a step needs.
 use Rattle.std.specs.Prelude.{◌+◌, ◌≤◌, vec_capacity, vec_len}
 use Rattle.dealer.specs.Plans.{PlanPair}
+use Rattle.requester.specs.Steps as client
 use Rattle.world.specs.declared.cycles.Cycles.{Cycles}
+use Rattle.world.specs.declared.moves.Ending.{Ending}
+use Rattle.world.specs.declared.moves.Ending.TheVariants as endings
 use Rattle.world.specs.declared.state.State.{State}
 use Rattle.world.specs.Steps.{WorldState}
 
@@ -27,3 +30,8 @@ pub record HasRoom (s : State) : Type 0 where
 -- the plans of the cycles that the code keeps
 abbrev pub plans_of : Cycles → PlanPair
 plans_of c = record { first = c.first; second = c.second }
+
+-- the step of a client that ends its request in this way
+abbrev pub cause_of : Ending → client.Cause
+cause_of endings.Leaves = client.Leaves
+cause_of endings.GivesUp = client.GivesUp

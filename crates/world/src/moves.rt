@@ -1,15 +1,25 @@
 //! Steps of one client or one voter in a list of all.
-ghost use Rattle.std.specs.Prelude.{◌≡◌, ◌<◌, ◌≤◌, Err, IfErr, IfOk, None, Ok, OnErr, OnOk, Some, length, slice_set};
+ghost use Rattle.std.specs.Prelude.{◌≡◌, ◌<◌, ◌≤◌, [], Err, IfErr, IfOk, None, Ok, OnErr, OnOk, Some, length, slice_set};
 ghost use Rattle.numbers.specs.Bounds.{max_voters, max_clients};
-ghost use Rattle.requester.specs.Steps.{step};
-ghost use Rattle.requester.specs.Steps.Cause.{Asks, GivesUp, Leaves, Takes};
+ghost use Rattle.requester.specs.Steps.{Predicts, step};
+ghost use Rattle.requester.specs.Steps.Cause.{Asks, Takes};
 ghost use Rattle.voter.specs.Steps as polls;
+ghost use Rattle.world.specs.States.{cause_of};
 ghost use Rattle.world.specs.Steps.{client_at, voter_at};
 
 use message::{ToClient, ToVoter};
 use quorum_set::QSet;
 use requester::{ClientFault, Messages, Requester, Seen};
 use voter::{Replies, Voter, VoterFault};
+
+/// How a client ends its request.
+#[derive(Clone, Copy)]
+pub enum Ending {
+    /// It leaves.
+    Leaves,
+    /// It gives the request up.
+    GivesUp,
+}
 
 /// Returns the client with this number.
 pub fn client_of(clients: &[Requester], number: u8) -> &Requester
@@ -59,34 +69,47 @@ pub fn take(clients: &mut [Requester], message: &ToClient, out: &mut Messages) -
     who.take_into(message, out)
 }
 
-/// Has this client leave.
-pub fn leave(clients: &mut [Requester], client: u8, out: &mut Messages) -> Result<Seen, ClientFault>
-    requires client { client < length clients.old }
-    ensures left { IfOk result (λ seen. step (client_at clients.old client) Leaves
-        ≡ Ok (record { out = out.new.items; seen = seen; state = client_at clients.new client })) }
-    ensures refused { IfErr result (λ fault.
-        (step (client_at clients.old client) Leaves ≡ Err fault) × (clients.new ≡ clients.old)) }
-    ensures others { clients.new ≡ slice_set clients.old client (client_at clients.new client) }
+/// Returns why this client could not end its request in this way, if it could not.
+#[tactic(auto, unfolding(requester::specs::Steps::step))]
+pub fn end_fault(who: &Requester, ending: Ending) -> Option<ClientFault>
+    ensures { Predicts result (step who.now (cause_of ending)) }
 {
-    let who = &mut clients[usize::from(client)];
-    who.leave_into(out)
+    match ending {
+        Ending::Leaves => who.leave_fault(),
+        Ending::GivesUp => who.give_up_fault(),
+    }
 }
 
-/// Has this client give up its request.
-pub fn give_up(
+/// Has the client end its request in this way.
+#[tactic(auto, unfolding(requester::specs::Steps::step))]
+fn end_of(who: &mut Requester, ending: Ending, out: &mut Messages) -> Result<Seen, ClientFault>
+    ensures ended { IfOk result (λ seen. step who.old (cause_of ending)
+        ≡ Ok (record { out = out.new.items; seen = seen; state = who.new })) }
+    ensures refused { IfErr result (λ fault. (step who.old (cause_of ending) ≡ Err fault)
+        × (who.new ≡ who.old) × (out.new.items ≡ [])) }
+{
+    match ending {
+        Ending::Leaves => who.leave_into(out),
+        Ending::GivesUp => who.give_up_into(out),
+    }
+}
+
+/// Has the client with this number end its request in this way.
+pub fn end(
     clients: &mut [Requester],
     client: u8,
+    ending: Ending,
     out: &mut Messages,
 ) -> Result<Seen, ClientFault>
     requires client { client < length clients.old }
-    ensures given_up { IfOk result (λ seen. step (client_at clients.old client) GivesUp
+    ensures ended { IfOk result (λ seen. step (client_at clients.old client) (cause_of ending)
         ≡ Ok (record { out = out.new.items; seen = seen; state = client_at clients.new client })) }
     ensures refused { IfErr result (λ fault.
-        (step (client_at clients.old client) GivesUp ≡ Err fault) × (clients.new ≡ clients.old)) }
+        (step (client_at clients.old client) (cause_of ending) ≡ Err fault) × (clients.new ≡ clients.old)) }
     ensures others { clients.new ≡ slice_set clients.old client (client_at clients.new client) }
 {
     let who = &mut clients[usize::from(client)];
-    who.give_up_into(out)
+    end_of(who, ending, out)
 }
 
 /// Has the voter that the message names take it.

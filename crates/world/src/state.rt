@@ -1,18 +1,18 @@
 //! The state of a world, and its steps once there is room for them.
-ghost use Rattle.std.specs.Prelude.{◌≡◌, ◌<◌, ◌≤◌, ◌+◌, ◌++◌, Err, IfNone, IfSome, MatchBool, OnOk, length, true, map, slice_get, vec_capacity, vec_len};
+ghost use Rattle.std.specs.Prelude.{◌≡◌, ◌<◌, ◌≤◌, ◌+◌, ◌++◌, Err, IfNone, IfSome, MatchBool, OnOk, length, true, map, nat_lt, slice_get, vec_capacity, vec_len};
 ghost use Rattle.numbers.specs.Bounds.{max_voters, max_clients};
 ghost use Rattle.message.specs.declared.message.Message.TheVariants as kinds;
 ghost use Rattle.world.specs.declared.step.Step.TheVariants as steps;
 ghost use Rattle.requester.specs.Steps.Cause.{Takes};
 ghost use Rattle.world.specs.Ranges.{IsNumbered};
-ghost use Rattle.world.specs.States.{HasRoom, plans_of, shown};
+ghost use Rattle.world.specs.States.{HasRoom, cause_of, plans_of, shown};
 ghost use Rattle.world.specs.Steps as worlds;
-ghost use Rattle.world.specs.Steps.{Dealing, Does, WorldState, act, client_at, dealing_of, events, exchange, next_ticket, quorum_dealt, vote, voter_at};
+ghost use Rattle.world.specs.Steps.{Dealing, Does, WorldState, act, client_at, dealing_of, events, exchange, if_client, next_ticket, quorum_dealt, vote, voter_at};
 
 use crate::cycles::Cycles;
 use crate::fault::WorldFault;
 use crate::lists::{draw, note, send_to_clients, send_to_voters};
-use crate::moves;
+use crate::moves::{self, Ending};
 use crate::step::{Event, Step, Stepped};
 use message::{Message, ToClient, ToVoter};
 use quorum_set::{QSet, Side};
@@ -154,35 +154,19 @@ impl State {
         }
     }
 
-    fn leave(&mut self, client: u8, room: bool) -> Result<Stepped, WorldFault>
+    fn end(&mut self, client: u8, ending: Ending, room: bool) -> Result<Stepped, WorldFault>
         requires room { room ≡ true → HasRoom self.old }
-        ensures { (deal : Dealing)
-            → Does (worlds.step deal (shown self.old) (steps.Leave client)) (shown self.old) result (shown self.new) }
+        ensures { Does (if_client (nat_lt client (length self.old.clients.items)) client
+            (act (shown self.old) client (cause_of ending))) (shown self.old) result (shown self.new) }
     {
         if let Some(fault) = self.client_fault(client) {
             return Err(fault);
         }
         if !room {
-            return Err(without_room(moves::client_of(&self.clients, client).leave_fault()));
+            let who = moves::client_of(&self.clients, client);
+            return Err(without_room(moves::end_fault(who, ending)));
         }
-        match moves::leave(&mut self.clients, client, &mut self.out) {
-            Ok(seen) => Ok(self.tell(client, seen)),
-            Err(fault) => Err(WorldFault::Client(fault)),
-        }
-    }
-
-    fn give_up(&mut self, client: u8, room: bool) -> Result<Stepped, WorldFault>
-        requires room { room ≡ true → HasRoom self.old }
-        ensures { (deal : Dealing)
-            → Does (worlds.step deal (shown self.old) (steps.GiveUp client)) (shown self.old) result (shown self.new) }
-    {
-        if let Some(fault) = self.client_fault(client) {
-            return Err(fault);
-        }
-        if !room {
-            return Err(without_room(moves::client_of(&self.clients, client).give_up_fault()));
-        }
-        match moves::give_up(&mut self.clients, client, &mut self.out) {
+        match moves::end(&mut self.clients, client, ending, &mut self.out) {
             Ok(seen) => Ok(self.tell(client, seen)),
             Err(fault) => Err(WorldFault::Client(fault)),
         }
@@ -305,8 +289,8 @@ impl State {
                 self.ask(client, quorum, room)
             }
             Step::Deliver(number) => self.deliver(number, room),
-            Step::Leave(client) => self.leave(client, room),
-            Step::GiveUp(client) => self.give_up(client, room),
+            Step::Leave(client) => self.end(client, Ending::Leaves, room),
+            Step::GiveUp(client) => self.end(client, Ending::GivesUp, room),
             Step::RemindClient(client) => self.remind_client(client, room),
             Step::RemindVoter(voter) => self.remind_voter(voter, room),
             Step::Exchange => self.exchange(cycles.are_two()),

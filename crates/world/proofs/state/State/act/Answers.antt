@@ -10,3 +10,15 @@ returns-in-Exchange c =
     let w = shown c.args.self.now in
     subst (λ (s : Step). Does (step (dealing_of (plans_of c.args.cycles.now)) w s) w c.exchange.result (shown c.exchange.new.self)) (sym c.in-Exchange.is)
     (subst (λ (two : Bool). Does (exchange two c.args.self.now.side w) w c.exchange.result (shown c.exchange.new.self)) c.are_two.ensures c.exchange.ensures)
+
+pub returns-in-Leave : goal.returns-in-Leave
+unfolding step
+returns-in-Leave c =
+    let w = shown c.args.self.now in
+    subst (λ (s : Step). Does (step (dealing_of (plans_of c.args.cycles.now)) w s) w c.end.result (shown c.end.new.self)) (sym c.in-Leave.is) c.end.ensures
+
+pub returns-in-GiveUp : goal.returns-in-GiveUp
+unfolding step
+returns-in-GiveUp c =
+    let w = shown c.args.self.now in
+    subst (λ (s : Step). Does (step (dealing_of (plans_of c.args.cycles.now)) w s) w c.end-in-GiveUp.result (shown c.end-in-GiveUp.new.self)) (sym c.in-GiveUp.is) c.end-in-GiveUp.ensures
