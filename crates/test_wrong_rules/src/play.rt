@@ -32,8 +32,8 @@ pub(crate) enum Rule {
 pub(crate) enum Step {
     /// A client asks these two voters.
     Ask(u8, u8, u8),
-    /// A message arrives, perhaps again.
-    Deliver(usize),
+    /// Messages arrive in this order, perhaps again.
+    Deliver(&'static [usize]),
     /// A client leaves.
     Leave(u8),
     /// A client gives up.
@@ -262,6 +262,13 @@ impl Play {
         }
     }
 
+    fn deliver_all(&mut self, numbers: &[usize]) -> Result<(), AllocError> {
+        for number in numbers {
+            self.deliver(*number)?;
+        }
+        Ok(())
+    }
+
     fn remind_voter(&mut self, voter: u8) -> Result<(), AllocError> {
         match voter {
             0 => remind(&self.voter_0, &mut self.sent),
@@ -286,7 +293,7 @@ impl Play {
             Step::Ask(client, _, _) | Step::Leave(client) | Step::GiveUp(client) => {
                 self.call(client, step)
             }
-            Step::Deliver(number) => self.deliver(number),
+            Step::Deliver(numbers) => self.deliver_all(numbers),
             Step::RemindVoter(voter) => self.remind_voter(voter),
         }
     }

@@ -6,55 +6,33 @@ use std::test::Fail;
 
 /// Client 0 enters and leaves, and enters again. Client 1 asks. Then the RELEASEs of the first time,
 /// messages 4 and 5, arrive once more.
-const LATE_RELEASE: [Step; 20] = [
+const LATE_RELEASE: [Step; 8] = [
     Ask(0, 0, 1),
-    Deliver(0),
-    Deliver(1),
-    Deliver(2),
-    Deliver(3),
+    Deliver(&[0, 1, 2, 3]),
     Leave(0),
-    Deliver(4),
-    Deliver(5),
+    Deliver(&[4, 5]),
     Ask(0, 0, 1),
-    Deliver(6),
-    Deliver(7),
-    Deliver(8),
-    Deliver(9),
+    Deliver(&[6, 7, 8, 9]),
     Ask(1, 0, 1),
-    Deliver(10),
-    Deliver(11),
-    Deliver(4),
-    Deliver(5),
-    Deliver(14),
-    Deliver(15),
+    Deliver(&[10, 11, 4, 5, 14, 15]),
 ];
 
 /// Client 2 gets the vote of voter 0 (message 5), and gives it back when voter 0 asks for it. Client
 /// 1 enters with it. Then client 2 gets the vote of voter 2, and message 5 arrives once more.
-const LATE_VOTE: [Step; 18] = [
+const LATE_VOTE: [Step; 8] = [
     Ask(0, 1, 2),
-    Deliver(1),
+    Deliver(&[1]),
     Ask(2, 0, 2),
-    Deliver(3),
-    Deliver(4),
-    Deliver(5),
-    Deliver(6),
+    Deliver(&[3, 4, 5, 6]),
     Ask(1, 0, 1),
-    Deliver(7),
-    Deliver(9),
-    Deliver(10),
-    Deliver(8),
-    Deliver(11),
-    Deliver(12),
+    Deliver(&[7, 9, 10, 8, 11, 12]),
     GiveUp(0),
-    Deliver(14),
-    Deliver(15),
-    Deliver(5),
+    Deliver(&[14, 15, 5]),
 ];
 
 /// Client 1 asks and gives up three times, and asks with stamp 4. Client 0 gets both votes with stamp 1
 /// (messages 16 and 17). Then both voters know client 1's request.
-const KNOWN_EVERYWHERE: [Step; 12] = [
+const KNOWN_EVERYWHERE: [Step; 9] = [
     Ask(1, 0, 1),
     GiveUp(1),
     Ask(1, 0, 1),
@@ -63,80 +41,38 @@ const KNOWN_EVERYWHERE: [Step; 12] = [
     GiveUp(1),
     Ask(1, 0, 1),
     Ask(0, 0, 1),
-    Deliver(14),
-    Deliver(15),
-    Deliver(12),
-    Deliver(13),
+    Deliver(&[14, 15, 12, 13]),
 ];
 
 /// Client 0 enters and leaves, and asks again at once, while client 1 waits. Both voters give client 1
 /// their votes (messages 22 and 23, then 34 and 35), ask for them back, and get them back.
-const OVERTAKEN: [Step; 32] = [
-    Deliver(16),
-    Deliver(17),
-    Deliver(18),
-    Deliver(19),
+const OVERTAKEN: [Step; 9] = [
+    Deliver(&[16, 17, 18, 19]),
     Leave(0),
-    Deliver(20),
-    Deliver(21),
+    Deliver(&[20, 21]),
     Ask(0, 0, 1),
-    Deliver(24),
-    Deliver(25),
-    Deliver(22),
-    Deliver(26),
-    Deliver(28),
-    Deliver(23),
-    Deliver(27),
-    Deliver(30),
-    Deliver(29),
-    Deliver(31),
+    Deliver(&[24, 25, 22, 26, 28, 23, 27, 30, 29, 31]),
     Leave(0),
-    Deliver(32),
-    Deliver(33),
+    Deliver(&[32, 33]),
     Ask(0, 0, 1),
-    Deliver(36),
-    Deliver(37),
-    Deliver(34),
-    Deliver(38),
-    Deliver(40),
-    Deliver(35),
-    Deliver(39),
-    Deliver(42),
-    Deliver(41),
-    Deliver(43),
+    Deliver(&[36, 37, 34, 38, 40, 35, 39, 42, 41, 43]),
 ];
 
 /// Client 0 enters and leaves, and its RELEASEs (messages 4 and 5) are lost. Client 1 asks. The voters
 /// are reminded: the answers to their LOCKEDs (messages 10 and 11) are the RELEASEs 12 and 13.
-const LOST_RELEASES: [Step; 17] = [
+const LOST_RELEASES: [Step; 8] = [
     Ask(0, 0, 1),
-    Deliver(0),
-    Deliver(1),
-    Deliver(2),
-    Deliver(3),
+    Deliver(&[0, 1, 2, 3]),
     Leave(0),
     Ask(1, 0, 1),
-    Deliver(6),
-    Deliver(7),
+    Deliver(&[6, 7]),
     RemindVoter(0),
     RemindVoter(1),
-    Deliver(10),
-    Deliver(11),
-    Deliver(12),
-    Deliver(13),
-    Deliver(14),
-    Deliver(15),
+    Deliver(&[10, 11, 12, 13, 14, 15]),
 ];
 
 /// Client 0 gets the vote of voter 0, and client 1 that of voter 1. Each waits for the other's vote.
-const EACH_HAS_ONE: [Step; 6] = [
-    Ask(0, 0, 1),
-    Ask(1, 0, 1),
-    Deliver(0),
-    Deliver(3),
-    Deliver(4),
-    Deliver(5),
-];
+const EACH_HAS_ONE: [Step; 3] = [Ask(0, 0, 1), Ask(1, 0, 1), Deliver(&[0, 3, 4, 5])];
 
 /// Returns how often client 0 enters while both voters know client 1's request.
 fn overtakes(alloc: Global, rule: Rule) -> Result<usize, AllocError> {
