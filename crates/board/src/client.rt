@@ -181,9 +181,7 @@ impl ClientSeat {
         ensures kept { IfErr result (λ _. self.new ≡ self.old) }
         ensures table { self.new.table ≡ self.old.table }
     {
-        let Some((_, number)) = self.reading else {
-            unreachable!()
-        };
+        let (_, number) = self.reading.unwrap();
         let limit = board.sheet.limit();
         if number == limit {
             return Err(BoardFault::RegisterFull);

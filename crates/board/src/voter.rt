@@ -79,9 +79,7 @@ impl VoterSeat {
         ensures ended { MatchBool result (self.new ≡ record self.old { current = None }) (self.new ≡ self.old) }
         ensures table { self.new.table ≡ self.old.table }
     {
-        let Some((client, grant)) = self.current else {
-            unreachable!()
-        };
+        let (client, grant) = self.current.unwrap();
         let returned = Vote::Returned(client, grant);
         let offered = Vote::Offered(client, grant);
         let table = &board.table;

@@ -15,9 +15,9 @@ store-requires c =
     let limit = ap (λ (s : Setting). s.limit) same in (
       ap (λ (s : ClientSeatState). s.table) c.self.view_is ∙ c.requires.table ∙ sym (ap (λ (b : BoardState). b.table) c.board.view_is),
       omega (arith, c.voters-word.ensures.value, c.board.invariant.words),
-      Wrote-allowed c.board.inside.table.shared.key _ _ _ c.voters-word.result c.in-Some.field-0-0 c.in-Some.number (c.voters-word.ensures.value ∙ sym sheet)
+      Wrote-allowed c.board.inside.table.shared.key _ _ _ c.voters-word.result c.unwrap-number.result.0 c.unwrap-number.result.1 (c.voters-word.ensures.value ∙ sym sheet)
           (subst (λ (s : Setting). AllMeet s.voters s.quorums) (sym same) c.board.invariant.meet)
           (ap (λ (m : Me (Unit {0}) View). m.0.parts) knows)
-          (ap (λ (m : Me (Unit {0}) View). m.0.reading) knows ∙ c.in-Some.is)
+          (ap (λ (m : Me (Unit {0}) View). m.0.reading) knows ∙ c.unwrap-number.ensures)
           (λ e. c.if-number-limit.false (e ∙ limit ∙ sym c.limit-limit.ensures.value)),
     )
