@@ -18,78 +18,52 @@ fn writes(alloc: Global, plan: Option<Plan>, script: &str, want: &str) -> Result
     Ok(got.as_str() == want)
 }
 
-#[test]
-fn the_majority_moves_to_the_earlier_request(rt: HostRuntime) -> Result<(), Fail> {
-    let script =
-        "world 2 1000\nask 0\nask 1\ndeliver 2\ndeliver 0\ndeliver 3\ndeliver 4\ndeliver 6\ndeliver 5\nleave 1\ndeliver 7\n";
-    let output =
+/// Scripts by the plan of any two of three voters, and what they write.
+const MAJORITY: [(&str, &str); 2] = [
+    // The majority moves to the earlier request.
+    (
+        "world 2 1000\nask 0\nask 1\ndeliver 2\ndeliver 0\ndeliver 3\ndeliver 4\ndeliver 6\ndeliver 5\nleave 1\ndeliver 7\n",
         "m 0 request 0 0 1\nm 1 request 0 1 1\nm 2 request 1 0 1\nm 3 request 1 2 1\nm 4 locked 0 1 1 1 1\nm 5 inquire 0 1 1 1\n\
-        m 6 locked 2 1 1 1 1\nenter 1\nm 7 release 1 0 1\nm 8 release 1 2 1\nleave 1\nm 9 locked 0 0 1 2 1\n";
-    assert!(rt; writes(rt.alloc(), majority_plan(rt.alloc()), script, output)?);
-    Ok(())
-}
-
-#[test]
-fn a_late_grant_was_given_back(rt: HostRuntime) -> Result<(), Fail> {
-    let script =
+        m 6 locked 2 1 1 1 1\nenter 1\nm 7 release 1 0 1\nm 8 release 1 2 1\nleave 1\nm 9 locked 0 0 1 2 1\n",
+    ),
+    // A late grant was given back.
+    (
         "world 3 1000\nask 2\nask 1\nask 0\ndeliver 0\ndeliver 4\ndeliver 1\ndeliver 6\ndeliver 8\ndeliver 2\ndeliver 9\n\
-        deliver 10\ndeliver 6\ndeliver 11\ndeliver 3\ndeliver 12\n";
-    let output =
+        deliver 10\ndeliver 6\ndeliver 11\ndeliver 3\ndeliver 12\n",
         "m 0 request 2 0 1\nm 1 request 2 1 1\nm 2 request 1 0 1\nm 3 request 1 2 1\nm 4 request 0 1 1\nm 5 request 0 2 1\n\
         m 6 locked 0 2 1 1 1\nm 7 locked 1 0 1 1 1\nm 8 fail 1 2 1 1\nm 9 inquire 0 2 1 1\nm 10 relinquish 2 0 1\nm 11 locked 0 1 1 2 1\n\
-        m 12 locked 2 1 1 1 1\nenter 1\n";
-    assert!(rt; writes(rt.alloc(), majority_plan(rt.alloc()), script, output)?);
-    Ok(())
-}
+        m 12 locked 2 1 1 1 1\nenter 1\n",
+    ),
+];
 
-#[test]
-fn old_messages_come_again(rt: HostRuntime) -> Result<(), Fail> {
-    let script =
+/// Scripts by the plan of one voter, and what they write, or the text of their fault.
+const LONE: [(&str, &str); 20] = [
+    // Old messages come again.
+    (
         "world 1 1000\nask 0\ndeliver 0\ndeliver 1\nleave 0\ndeliver 2\nask 0\ndeliver 3\ndeliver 4\ndeliver 2\nleave 0\n\
-        deliver 0\ndeliver 1\ndeliver 9\nleave 0\n";
-    let output =
+        deliver 0\ndeliver 1\ndeliver 9\nleave 0\n",
         "m 0 request 0 0 1\nm 1 locked 0 0 1 1 1\nenter 0\nm 2 release 0 0 1\nleave 0\nm 3 request 0 0 2\nm 4 locked 0 0 2 2 2\n\
-        enter 0\nm 5 release 0 0 2\nleave 0\nm 6 release 0 0 1\n! U1 NoSuchMessage 9\n! C2 NotInside\n";
-    assert!(rt; writes(rt.alloc(), lone_plan(rt.alloc()), script, output)?);
-    Ok(())
-}
-
-#[test]
-fn grants_and_stamps_are_spent(rt: HostRuntime) -> Result<(), Fail> {
-    let script =
-        "world 2 1\nask 0\nask 1\ndeliver 0\ndeliver 1\ndeliver 2\nleave 0\ndeliver 4\nask 0\n";
-    let output =
+        enter 0\nm 5 release 0 0 2\nleave 0\nm 6 release 0 0 1\n! U1 NoSuchMessage 9\n! C2 NotInside\n",
+    ),
+    // Grants and stamps are spent.
+    (
+        "world 2 1\nask 0\nask 1\ndeliver 0\ndeliver 1\ndeliver 2\nleave 0\ndeliver 4\nask 0\n",
         "m 0 request 0 0 1\nm 1 request 1 0 1\nm 2 locked 0 0 1 1 1\nm 3 fail 0 1 1 1\nenter 0\nm 4 release 0 0 1\nleave 0\n\
-        ! V1 GrantsSpent\n! C4 StampsSpent\n";
-    assert!(rt; writes(rt.alloc(), lone_plan(rt.alloc()), script, output)?);
-    Ok(())
-}
-
-#[test]
-fn a_release_is_overtaken(rt: HostRuntime) -> Result<(), Fail> {
-    let script =
-        "world 2 1000\nask 0\nask 1\ndeliver 0\ndeliver 1\ndeliver 2\nleave 0\nask 0\ndeliver 5\ndeliver 4\ndeliver 6\n";
-    let output =
+        ! V1 GrantsSpent\n! C4 StampsSpent\n",
+    ),
+    // A RELEASE is overtaken.
+    (
+        "world 2 1000\nask 0\nask 1\ndeliver 0\ndeliver 1\ndeliver 2\nleave 0\nask 0\ndeliver 5\ndeliver 4\ndeliver 6\n",
         "m 0 request 0 0 1\nm 1 request 1 0 1\nm 2 locked 0 0 1 1 1\nm 3 fail 0 1 1 1\nenter 0\nm 4 release 0 0 1\nleave 0\n\
-        m 5 request 0 0 2\nm 6 locked 0 1 1 2 2\nm 7 fail 0 0 2 2\nenter 1\n";
-    assert!(rt; writes(rt.alloc(), lone_plan(rt.alloc()), script, output)?);
-    Ok(())
-}
-
-#[test]
-fn reminders_and_refusals(rt: HostRuntime) -> Result<(), Fail> {
-    let script =
+        m 5 request 0 0 2\nm 6 locked 0 1 1 2 2\nm 7 fail 0 0 2 2\nenter 1\n",
+    ),
+    // Reminders, and calls that are refused.
+    (
         "world 1 1000\nask 0\nremind-client 0\ndeliver 0\ndeliver 1\nremind-voter 0\ndeliver 3\ndeliver 4\nremind-client 0\n\
-        give-up 0\nask 0\nask 7\nremind-voter 3\n";
-    let output =
+        give-up 0\nask 0\nask 7\nremind-voter 3\n",
         "m 0 request 0 0 1\nm 1 request 0 0 1\nm 2 locked 0 0 1 1 1\nm 3 locked 0 0 1 1 1\nm 4 locked 0 0 1 1 1\nenter 0\n\
-        ! C3 NotAsking\n! C1 Busy\n! U2 NoSuchClient 7\n! U3 NoSuchVoter 3\n";
-    assert!(rt; writes(rt.alloc(), lone_plan(rt.alloc()), script, output)?);
-    Ok(())
-}
-
-/// Small scripts and what they write, and scripts with a bad line.
-const SMALL: [(&str, &str); 16] = [
+        ! C3 NotAsking\n! C1 Busy\n! U2 NoSuchClient 7\n! U3 NoSuchVoter 3\n",
+    ),
     ("world 1 1\n", ""),
     (
         "world 64 1099511627776\nask 255\ndeliver 18446744073709551615\n",
@@ -115,12 +89,16 @@ const SMALL: [(&str, &str); 16] = [
 ];
 
 #[test]
-fn bad_lines_and_small_scripts(rt: HostRuntime) -> Result<(), Fail> {
-    for (script, want) in &SMALL {
+fn scripts_write_what_happens(rt: HostRuntime) -> Result<(), Fail> {
+    let alloc = rt.alloc();
+    for (script, want) in &MAJORITY {
         assert!(rt;
-            writes(rt.alloc(), lone_plan(rt.alloc()), script, want)?,
+            writes(alloc, majority_plan(alloc), script, want)?,
             "{script}"
         );
+    }
+    for (script, want) in &LONE {
+        assert!(rt; writes(alloc, lone_plan(alloc), script, want)?, "{script}");
     }
     Ok(())
 }

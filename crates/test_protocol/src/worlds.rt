@@ -4,6 +4,7 @@ ghost use Rattle.std.specs.Prelude.{◌≤◌, ◌^◌};
 use crate::messages::add_line;
 use certificate::Plan;
 use dealer::Plans;
+use replay::read_script;
 use requester::Seen;
 use std::alloc::{AllocError, Global};
 use std::test::Fail;
@@ -59,165 +60,68 @@ fn makes_by(
     Ok(story(alloc, &trace)?.as_str() == want)
 }
 
-/// Returns whether a run of this plan does this.
-fn makes(
-    alloc: Global,
-    plan: Option<Plan>,
-    clients: u8,
-    limit: u64,
-    steps: &[Step],
-    want: &str,
-) -> Result<bool, Fail>
-    requires some { 1 ≤ clients }
-    requires few { clients ≤ 64 }
-    requires least { 1 ≤ limit }
-    requires most { limit ≤ 2 ^ 40 }
-{
+/// Returns whether a run of this plan by a script does this.
+fn makes(alloc: Global, plan: Option<Plan>, script: &str, want: &str) -> Result<bool, Fail> {
     let Some(plan) = plan else {
         return Ok(false);
     };
-    makes_by(
-        alloc,
-        Some(Plans::single(plan)),
-        clients,
-        limit,
-        steps,
-        want,
-    )
+    let Ok(script) = read_script(alloc, script.as_bytes()) else {
+        return Ok(false);
+    };
+    let plans = Some(Plans::single(plan));
+    let (clients, limit) = (script.clients(), script.limit());
+    makes_by(alloc, plans, clients, limit, script.steps(), want)
 }
 
-#[test]
-fn one_enters_and_leaves(rt: HostRuntime) -> Result<(), Fail> {
-    let alloc = rt.alloc();
-    let steps = [
-        Step::Ask(0),
-        Step::Ask(1),
-        Step::Deliver(2),
-        Step::Deliver(0),
-        Step::Deliver(3),
-        Step::Deliver(4),
-        Step::Deliver(6),
-        Step::Deliver(5),
-        Step::Leave(1),
-        Step::Deliver(7),
-    ];
-    let want = "request 0 0 1
-request 0 1 1
-request 1 0 1
-request 1 2 1
-locked 0 1 1 1 1
-inquire 0 1 1 1
-locked 2 1 1 1 1
-release 1 0 1
-release 1 2 1
-locked 0 0 1 2 1
-enter 1
-leave 1
-draw 0 0
-draw 1 1
-";
-    assert!(rt; makes(alloc, majority_plan(alloc), 2, 1000, &steps, want)?);
-    Ok(())
-}
+/// Scripts by the plan of any two of three voters, and what a run by them does.
+const MAJORITY: [(&str, &str); 2] = [
+    // One enters and leaves.
+    (
+        "world 2 1000\nask 0\nask 1\ndeliver 2\ndeliver 0\ndeliver 3\ndeliver 4\ndeliver 6\ndeliver 5\nleave 1\n\
+        deliver 7\n",
+        "request 0 0 1\nrequest 0 1 1\nrequest 1 0 1\nrequest 1 2 1\nlocked 0 1 1 1 1\ninquire 0 1 1 1\n\
+        locked 2 1 1 1 1\nrelease 1 0 1\nrelease 1 2 1\nlocked 0 0 1 2 1\nenter 1\nleave 1\ndraw 0 0\ndraw 1 1\n",
+    ),
+    // A message of a vote that was given back comes late.
+    (
+        "world 3 1000\nask 2\nask 1\nask 0\ndeliver 0\ndeliver 4\ndeliver 1\ndeliver 6\ndeliver 8\ndeliver 2\n\
+        deliver 9\ndeliver 10\ndeliver 6\ndeliver 11\ndeliver 3\ndeliver 12\n",
+        "request 2 0 1\nrequest 2 1 1\nrequest 1 0 1\nrequest 1 2 1\nrequest 0 1 1\nrequest 0 2 1\n\
+        locked 0 2 1 1 1\nlocked 1 0 1 1 1\nfail 1 2 1 1\ninquire 0 2 1 1\nrelinquish 2 0 1\nlocked 0 1 1 2 1\n\
+        locked 2 1 1 1 1\nenter 1\ndraw 2 0\ndraw 1 1\ndraw 0 2\n",
+    ),
+];
+
+/// Scripts by the plan of one voter, and what a run by them does.
+const LONE: [(&str, &str); 2] = [
+    // Grants and stamps are spent.
+    (
+        "world 2 1\nask 0\nask 1\ndeliver 0\ndeliver 1\ndeliver 2\nleave 0\ndeliver 4\nask 0\n",
+        "request 0 0 1\nrequest 1 0 1\nlocked 0 0 1 1 1\nfail 0 1 1 1\nrelease 0 0 1\nenter 0\nleave 0\ndraw 0 0\n\
+        draw 1 1\n6: V1 GrantsSpent\n7: C4 StampsSpent\n",
+    ),
+    // Reminders, and steps that are refused.
+    (
+        "world 1 1000\nask 0\nremind-client 0\ndeliver 0\ndeliver 1\nremind-voter 0\ndeliver 3\ndeliver 4\n\
+        remind-client 0\ngive-up 0\nask 0\nask 7\nremind-voter 3\ndeliver 9\nleave 0\nleave 0\n",
+        "request 0 0 1\nrequest 0 0 1\nlocked 0 0 1 1 1\nlocked 0 0 1 1 1\nlocked 0 0 1 1 1\nrelease 0 0 1\n\
+        enter 0\nleave 0\ndraw 0 0\n8: C3 NotAsking\n9: C1 Busy\n10: U2 NoSuchClient 7\n11: U3 NoSuchVoter 3\n\
+        12: U1 NoSuchMessage 9\n14: C2 NotInside\n",
+    ),
+];
 
 #[test]
-fn late_message_of_a_vote_given_back(rt: HostRuntime) -> Result<(), Fail> {
+fn runs_by_scripts(rt: HostRuntime) -> Result<(), Fail> {
     let alloc = rt.alloc();
-    let mut steps = Vec::new(alloc);
-    for client in [2, 1, 0] {
-        steps.push(Step::Ask(client))?;
+    for (script, want) in &MAJORITY {
+        assert!(rt;
+            makes(alloc, majority_plan(alloc), script, want)?,
+            "{script}"
+        );
     }
-    for number in [0, 4, 1, 6, 8, 2, 9, 10, 6, 11, 3, 12] {
-        steps.push(Step::Deliver(number))?;
+    for (script, want) in &LONE {
+        assert!(rt; makes(alloc, lone_plan(alloc), script, want)?, "{script}");
     }
-    let want = "request 2 0 1
-request 2 1 1
-request 1 0 1
-request 1 2 1
-request 0 1 1
-request 0 2 1
-locked 0 2 1 1 1
-locked 1 0 1 1 1
-fail 1 2 1 1
-inquire 0 2 1 1
-relinquish 2 0 1
-locked 0 1 1 2 1
-locked 2 1 1 1 1
-enter 1
-draw 2 0
-draw 1 1
-draw 0 2
-";
-    assert!(rt; makes(alloc, majority_plan(alloc), 3, 1000, &steps, want)?);
-    Ok(())
-}
-
-#[test]
-fn spent_grants_and_stamps(rt: HostRuntime) -> Result<(), Fail> {
-    let alloc = rt.alloc();
-    let steps = [
-        Step::Ask(0),
-        Step::Ask(1),
-        Step::Deliver(0),
-        Step::Deliver(1),
-        Step::Deliver(2),
-        Step::Leave(0),
-        Step::Deliver(4),
-        Step::Ask(0),
-    ];
-    let want = "request 0 0 1
-request 1 0 1
-locked 0 0 1 1 1
-fail 0 1 1 1
-release 0 0 1
-enter 0
-leave 0
-draw 0 0
-draw 1 1
-6: V1 GrantsSpent
-7: C4 StampsSpent
-";
-    assert!(rt; makes(alloc, lone_plan(alloc), 2, 1, &steps, want)?);
-    Ok(())
-}
-
-#[test]
-fn reminders_and_refusals(rt: HostRuntime) -> Result<(), Fail> {
-    let alloc = rt.alloc();
-    let steps = [
-        Step::Ask(0),
-        Step::RemindClient(0),
-        Step::Deliver(0),
-        Step::Deliver(1),
-        Step::RemindVoter(0),
-        Step::Deliver(3),
-        Step::Deliver(4),
-        Step::RemindClient(0),
-        Step::GiveUp(0),
-        Step::Ask(0),
-        Step::Ask(7),
-        Step::RemindVoter(3),
-        Step::Deliver(9),
-        Step::Leave(0),
-        Step::Leave(0),
-    ];
-    let want = "request 0 0 1
-request 0 0 1
-locked 0 0 1 1 1
-locked 0 0 1 1 1
-locked 0 0 1 1 1
-release 0 0 1
-enter 0
-leave 0
-draw 0 0
-8: C3 NotAsking
-9: C1 Busy
-10: U2 NoSuchClient 7
-11: U3 NoSuchVoter 3
-12: U1 NoSuchMessage 9
-14: C2 NotInside
-";
-    assert!(rt; makes(alloc, lone_plan(alloc), 1, 1000, &steps, want)?);
     Ok(())
 }
 
@@ -236,27 +140,10 @@ fn plan_is_exchanged_while_a_client_asks(rt: HostRuntime) -> Result<(), Fail> {
         steps.push(Step::Deliver(number))?;
     }
     steps.push(Step::Exchange)?;
-    let want = "request 0 0 1
-request 0 1 1
-request 1 0 1
-request 1 1 1
-request 1 2 1
-locked 0 0 1 1 1
-locked 1 0 1 1 1
-fail 0 1 1 1
-fail 1 1 1 1
-locked 2 1 1 1 1
-release 0 0 1
-release 0 1 1
-locked 0 1 1 2 1
-locked 1 1 1 2 1
-enter 0
-leave 0
-enter 1
-draw 0 0
-draw2 1 0
-16: U4 NoSecondPlan
-";
+    let want =
+        "request 0 0 1\nrequest 0 1 1\nrequest 1 0 1\nrequest 1 1 1\nrequest 1 2 1\nlocked 0 0 1 1 1\n\
+        locked 1 0 1 1 1\nfail 0 1 1 1\nfail 1 1 1 1\nlocked 2 1 1 1 1\nrelease 0 0 1\nrelease 0 1 1\n\
+        locked 0 1 1 2 1\nlocked 1 1 1 2 1\nenter 0\nleave 0\nenter 1\ndraw 0 0\ndraw2 1 0\n16: U4 NoSecondPlan\n";
     let plans = bridged_plans(alloc, majority_plan(alloc), whole_plan(alloc));
     assert!(rt; makes_by(alloc, plans, 2, 1000, &steps, want)?);
     Ok(())
@@ -266,7 +153,8 @@ draw2 1 0
 fn plan_alone_is_not_exchanged(rt: HostRuntime) -> Result<(), Fail> {
     let alloc = rt.alloc();
     let want = "0: U4 NoSecondPlan\n";
-    assert!(rt; makes(alloc, lone_plan(alloc), 1, 1, &[Step::Exchange], want)?);
+    let plans = lone_plan(alloc).map(|plan| Plans::single(plan));
+    assert!(rt; makes_by(alloc, plans, 1, 1, &[Step::Exchange], want)?);
     Ok(())
 }
 
