@@ -8,6 +8,7 @@ use Rattle.std.proofs.lemmas.Map.Keys.{IsDistinct-cons}
 use Rattle.std.proofs.lemmas.List.{get_or_past}
 use Rattle.numbers.specs.Sets.{has, Ascends, IsSet, set_where}
 use Rattle.numbers.proofs.SetLemmas.{has-above, has-set_where, length-Ascends, IsSet-set_where}
+use Rattle.requester.specs.Soundness.{AreMembers}
 use Rattle.requester.specs.Words.{with_voter, without_voter}
 
 pub absurd-true_false : {A : Type 0} → (b : Bool) → b ≡ true → b ≡ false → A
@@ -38,6 +39,9 @@ IsDistinct-from_Ascends low (v ∷ vs) h = IsDistinct-cons eqb v vs (all_differ-
 
 pub length-IsSet : (s : List ℕ) → IsSet s → length s ≤ 64
 length-IsSet s h = let most = length-Ascends 0 64 s (omega arith) h in omega arith
+
+pub AreMembers-set : (s : List ℕ) → IsSet s → AreMembers s
+AreMembers-set s is = record { few = length-IsSet s is; voters = all_below-from_Ascends 0 s is; apart = IsDistinct-from_Ascends 0 s is }
 
 pub has-IsSet_below : (s : List ℕ) (v : ℕ) → IsSet s → has s v ≡ true → v < 64
 has-IsSet_below s v h member = elim (cases_lt v 64) [

@@ -1,5 +1,6 @@
 -- What holds of every client.
-use Rattle.std.specs.Prelude.{ℕ, ◌≡◌, ◌<◌, ◌≤◌, true, false, length}
+use Rattle.std.specs.Prelude.{ℕ, List, ◌≡◌, ◌<◌, ◌≤◌, true, false, eqb, length}
+use Rattle.std.specs.List.{AllByRecursion, IsDistinct}
 use Rattle.numbers.specs.Bounds.{max_clients, max_voters, max_stamp}
 use Rattle.numbers.specs.Sets.{IsSet}
 use Rattle.requester.specs.declared.state.ClientState.{ClientState}
@@ -16,6 +17,12 @@ pub record IsHeldWell (x : ClientState) (voter : ℕ) : Type 0 where
 pub record HasPlaces (x : ClientState) : Type 0 where
   pub held : length x.held ≡ max_voters
   pub last : length x.last ≡ max_voters
+
+-- what the steps need of the members of a quorum: few enough, below 64, and each once
+pub record AreMembers (quorum : List ℕ) : Type 0 where
+  pub few : length quorum ≤ max_voters
+  pub voters : AllByRecursion (λ v. v < max_voters) quorum
+  pub apart : IsDistinct eqb quorum
 
 -- only votes of members of its quorum are held
 abbrev pub HoldsOfMembers : ClientState → Type 0

@@ -1,11 +1,10 @@
 //! What a client knows, and its steps.
-ghost use Rattle.std.specs.Prelude.{◌≡◌, ◌<◌, ◌≤◌, ◌+◌, ◌^◌, ◌++◌, [], true, ℕ, List, eqb, Err, IfErr, IfNone, IfOk, Ok, length, replicate};
-ghost use Rattle.std.specs.List.{AllByRecursion, IsDistinct};
+ghost use Rattle.std.specs.Prelude.{◌≡◌, ◌<◌, ◌≤◌, ◌+◌, ◌^◌, ◌++◌, [], true, ℕ, List, Err, IfErr, IfNone, IfOk, Ok, length, replicate};
 ghost use Rattle.numbers.specs.Bounds.{max_voters};
 ghost use Rattle.arrayvec.specs.ArrayVec.{array_vec_len};
 ghost use Rattle.numbers.specs.Sets.{IsSet};
 ghost use Rattle.requester.specs.Words.{held_of, holds, holds_under, is_covered, is_current, is_hindered, is_idle, is_member, last_of};
-ghost use Rattle.requester.specs.Soundness.{HoldsOfMembers};
+ghost use Rattle.requester.specs.Soundness.{AreMembers, HoldsOfMembers};
 ghost use Rattle.requester.specs.Steps.{Predicts, ask, cleared, failed, give_up, hold, inquired, is_fresh, leave, locked, relinquish, relinquish_inquired, relinquish_marked, remind, remind_member, take, take_body, tell, send_to_members, would_hold};
 
 use crate::fault::ClientFault;
@@ -178,7 +177,7 @@ impl ClientState {
     fn drop_votes(&mut self)
         requires places { length self.old.held ≡ max_voters }
         requires of_members { HoldsOfMembers self.old }
-        requires voters { AllByRecursion (λ v. v < max_voters) self.old.quorum.items }
+        requires members { AreMembers self.old.quorum.items }
         ensures { self.new ≡ record self.old { held = replicate max_voters 0 } }
     {
         for i in 0..self.quorum.len() {
@@ -268,10 +267,8 @@ impl ClientState {
 
     /// Gives back the vote of each member that is marked as inquired.
     fn relinquish_inquired(&mut self, out: &mut Messages)
-        requires voters { AllByRecursion (λ v. v < max_voters) self.old.quorum.items }
-        requires apart { IsDistinct eqb self.old.quorum.items }
+        requires members { AreMembers self.old.quorum.items }
         requires room { out.old.items ≡ [] }
-        requires few { array_vec_len self.old.quorum ≤ max_voters }
         ensures state { self.new ≡ (relinquish_inquired self.old self.old.quorum.items).state }
         ensures out { out.new.items ≡ (relinquish_inquired self.old self.old.quorum.items).out }
     {
@@ -316,10 +313,8 @@ impl ClientState {
     #[tactic(auto, unfolding(crate::specs::Steps::failed))]
     fn failed(&mut self, voter: u8, stamp: u64, out: &mut Messages)
         requires voter { voter < max_voters }
-        requires voters { AllByRecursion (λ v. v < max_voters) self.old.quorum.items }
-        requires apart { IsDistinct eqb self.old.quorum.items }
+        requires members { AreMembers self.old.quorum.items }
         requires room { out.old.items ≡ [] }
-        requires few { array_vec_len self.old.quorum ≤ max_voters }
         ensures state { self.new ≡ (failed self.old voter stamp).state }
         ensures out { out.new.items ≡ (failed self.old voter stamp).out }
     {
@@ -351,10 +346,8 @@ impl ClientState {
 
     fn take_body(&mut self, voter: u8, body: ClientBody, out: &mut Messages) -> Seen
         requires voter { voter < max_voters }
-        requires voters { AllByRecursion (λ v. v < max_voters) self.old.quorum.items }
-        requires apart { IsDistinct eqb self.old.quorum.items }
+        requires members { AreMembers self.old.quorum.items }
         requires room { out.old.items ≡ [] }
-        requires few { array_vec_len self.old.quorum ≤ max_voters }
         ensures state { self.new ≡ (take_body self.old voter body).state }
         ensures out { out.new.items ≡ (take_body self.old voter body).out }
         ensures seen { result ≡ (take_body self.old voter body).seen }
@@ -376,10 +369,8 @@ impl ClientState {
     #[tactic(auto, unfolding(crate::specs::Steps::take))]
     pub fn take(&mut self, message: &ToClient, out: &mut Messages) -> Seen
         requires voter { message.now.voter < max_voters }
-        requires voters { AllByRecursion (λ v. v < max_voters) self.old.quorum.items }
-        requires apart { IsDistinct eqb self.old.quorum.items }
+        requires members { AreMembers self.old.quorum.items }
         requires room { out.old.items ≡ [] }
-        requires few { array_vec_len self.old.quorum ≤ max_voters }
         ensures { take self.old message.now ≡ record { out = out.new.items; seen = result; state = self.new } }
     {
         self.clock = self.clock.max(message.seen);
@@ -401,10 +392,9 @@ impl ClientState {
 
     /// Ends the request: sends RELEASE to each member.
     fn release(&mut self, out: &mut Messages)
-        requires few { array_vec_len self.old.quorum ≤ max_voters }
         requires places { length self.old.held ≡ max_voters }
         requires of_members { HoldsOfMembers self.old }
-        requires voters { AllByRecursion (λ v. v < max_voters) self.old.quorum.items }
+        requires members { AreMembers self.old.quorum.items }
         requires room { out.old.items ≡ [] }
         ensures state { self.new ≡ record (cleared self.old) { phase = Phase.Idle } }
         ensures out { out.new.items ≡ send_to_members self.old (VoterBody.Release self.old.stamp) }
@@ -429,10 +419,9 @@ impl ClientState {
     /// Leaves, if the client is inside.
     #[tactic(auto, unfolding(crate::specs::Steps::leave))]
     pub fn leave(&mut self, out: &mut Messages) -> Result<Seen, ClientFault>
-        requires few { array_vec_len self.old.quorum ≤ max_voters }
         requires places { length self.old.held ≡ max_voters }
         requires of_members { HoldsOfMembers self.old }
-        requires voters { AllByRecursion (λ v. v < max_voters) self.old.quorum.items }
+        requires members { AreMembers self.old.quorum.items }
         requires room { out.old.items ≡ [] }
         ensures left { IfOk result (λ seen. leave self.old
             ≡ Ok (record { out = out.new.items; seen = seen; state = self.new })) }
@@ -460,10 +449,9 @@ impl ClientState {
     /// Gives up the request, if the client is asking.
     #[tactic(auto, unfolding(crate::specs::Steps::give_up))]
     pub fn give_up(&mut self, out: &mut Messages) -> Result<Seen, ClientFault>
-        requires few { array_vec_len self.old.quorum ≤ max_voters }
         requires places { length self.old.held ≡ max_voters }
         requires of_members { HoldsOfMembers self.old }
-        requires voters { AllByRecursion (λ v. v < max_voters) self.old.quorum.items }
+        requires members { AreMembers self.old.quorum.items }
         requires room { out.old.items ≡ [] }
         ensures given_up { IfOk result (λ seen. give_up self.old
             ≡ Ok (record { out = out.new.items; seen = seen; state = self.new })) }
@@ -496,8 +484,7 @@ impl ClientState {
     /// Returns what to send to the members again while asking.
     #[tactic(auto, unfolding(crate::specs::Steps::remind))]
     pub fn remind(&self) -> Reminders
-        requires voters { AllByRecursion (λ v. v < max_voters) self.now.quorum.items }
-        requires few { array_vec_len self.now.quorum ≤ max_voters }
+        requires members { AreMembers self.now.quorum.items }
         ensures { result.items ≡ remind self.now }
     {
         let mut out = ArrayVec::new();

@@ -1,19 +1,16 @@
 use Rattle.std.proofs.Common.{ap, ◌∙◌}
 use Rattle.requester.specs.declared.state.ClientState.{ClientState}
 use Rattle.requester.specs.Words.{members}
-use Rattle.requester.proofs.Members.{all_below-from_Ascends, length-IsSet}
+use Rattle.requester.proofs.Members.{AreMembers-set}
 use Rattle.requester.proofs.Dropping.{HoldsOfMembers-sound}
 use Rattle.requester.proofs.Calls.{IsSameClient-leave}
 use Rattle.requester.proofs.requester.Requester.leave_into.Goals as goal
 
-pub leave-requires-clause-few : goal.leave-requires-clause-few
-leave-requires-clause-few c = length-IsSet (members c.self.inside.state) c.self.invariant.quorum
-
 pub leave-requires-clause-of_members : goal.leave-requires-clause-of_members
 leave-requires-clause-of_members c = HoldsOfMembers-sound c.self.inside.state c.self.invariant
 
-pub leave-requires-clause-voters : goal.leave-requires-clause-voters
-leave-requires-clause-voters c = all_below-from_Ascends 0 (members c.self.inside.state) c.self.invariant.quorum
+pub leave-requires-clause-members : goal.leave-requires-clause-members
+leave-requires-clause-members c = AreMembers-set (members c.self.inside.state) c.self.invariant.quorum
 
 pub invariant_of-self : goal.invariant_of-self
 invariant_of-self c = (IsSameClient-leave c.self.inside.state c.leave.new.self c.leave.new.out.items c.leave.result c.self.invariant c.leave.ensures.left c.leave.ensures.refused).sound
