@@ -10,6 +10,7 @@ use Rattle.numbers.specs.Sums.{sum_below}
 use Rattle.divisor.specs.Gcd.{lowest_terms}
 use Rattle.certificate.specs.Loads.{weight_on, weight_within}
 use Rattle.certificate.specs.Ratios.{greatest_ratio}
+use Rattle.certificate.specs.declared.plan.Sums.{Sums}
 use Rattle.certificate.specs.declared.fault.PlanFault.{PlanFault}
 use Rattle.certificate.specs.declared.fault.PlanFault.TheVariants.{WrongLength, TooLarge, Empty, NotOptimal, NotOptimalRatio, OutOfMemory}
 
@@ -19,6 +20,11 @@ pub record Weighted : Type 0 where
   pub capacities : List ℕ
   pub quorum_weights : List ℕ
   pub voter_weights : List ℕ
+
+-- a coterie with these capacities and these weights
+abbrev pub weighted : QuorumSystem → List ℕ → List ℕ → List ℕ → Weighted
+weighted system capacities quorum_weights voter_weights =
+    record { system = system; capacities = capacities; quorum_weights = quorum_weights; voter_weights = voter_weights }
 
 -- the length of a cycle: the sum of the quorums' weights
 abbrev pub cycle_len : Weighted → ℕ
@@ -122,6 +128,11 @@ weights_fault w =
     if (cycle_len w == 0) || (voter_total w == 0) then Some Empty else
     if not ((cycle_ratio w).0 * capacity_total w == (cycle_ratio w).1 * lightest_quorum w * cycle_len w)
     then Some (unbalanced w) else None
+
+-- the result for the weights: if they have no fault, what their plan stores; else their first fault
+abbrev pub AnswersSums : Weighted → Result Sums PlanFault → Type 0
+AnswersSums w (Ok s) = (weights_fault w ≡ None) × IsKept w s.cycle_len s.busiest s.ratio
+AnswersSums w (Err e) = weights_fault w ≡ Some e
 
 -- the result for the weights: if they have no fault, a plan with them or out of memory; else their
 -- first fault

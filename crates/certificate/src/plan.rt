@@ -4,7 +4,7 @@ ghost use Rattle.std.specs.Int.{IsGcd};
 ghost use Rattle.numbers.specs.Bounds.{max_capacity, max_cycle};
 ghost use Rattle.numbers.specs.Counts.{greatest_below};
 ghost use Rattle.quorum_set.specs.Capacities.{AreCapacities, are_unit};
-ghost use Rattle.certificate.specs.Certificates.{IsCertificate, IsOptimal, IsUnitOptimal, AnswersPlan, capacity_total, cycle_count, cycle_len, cycle_ratio, busiest_count, lightest_quorum, load_of, unit_load};
+ghost use Rattle.certificate.specs.Certificates.{IsCertificate, IsOptimal, IsUnitOptimal, AnswersPlan, AnswersSums, capacity_total, cycle_count, cycle_len, cycle_ratio, busiest_count, lightest_quorum, load_of, unit_load, weighted};
 ghost use Rattle.certificate.specs.Loads.{weight_on};
 ghost use Rattle.certificate.specs.Ratios.{greatest_ratio};
 
@@ -73,13 +73,7 @@ pub fn check(
 ) -> Result<Plan, PlanFault>
     requires capacities { AreCapacities capacities.now coterie.now.voters }
     ensures exact { AnswersPlan
-        (record {
-          system = coterie.now;
-          capacities = capacities.now;
-          quorum_weights = quorum_weights.items;
-          voter_weights = voter_weights.items;
-        })
-        result }
+        (weighted coterie.now capacities.now quorum_weights.items voter_weights.items) result }
     ensures certificate { IfOk result IsCertificate }
     ensures optimal { IfOk result IsOptimal }
 {
@@ -96,35 +90,63 @@ fn plan_of(
 ) -> Result<Plan, PlanFault>
     requires capacities { AreCapacities capacities.now coterie.now.voters }
     ensures exact { AnswersPlan
-        (record {
-          system = coterie.now;
-          capacities = capacities.now;
-          quorum_weights = quorum_weights.items;
-          voter_weights = voter_weights.items;
-        })
-        result }
+        (weighted coterie.now capacities.now quorum_weights.items voter_weights.items) result }
     ensures certificate { IfOk result IsCertificate }
+{
+    let Sums {
+        cycle_len,
+        busiest,
+        ratio,
+    } = match sums_of(coterie, capacities, &quorum_weights, &voter_weights) {
+        Ok(sums) => sums,
+        Err(fault) => return Err(fault),
+    };
+    Ok(Plan {
+        coterie: coterie.copy(alloc)?,
+        capacities: capacities.to_vec(alloc)?,
+        quorum_weights,
+        voter_weights,
+        cycle_len,
+        busiest,
+        ratio,
+    })
+}
+
+/// What a plan stores next to its weights: the cycle's length, the busiest count, and the ratio.
+struct Sums {
+    cycle_len: u64,
+    busiest: u64,
+    ratio: (u64, u64),
+}
+
+/// Returns what the plan of these weights stores, or their first fault.
+fn sums_of(
+    coterie: &Coterie,
+    capacities: &[u64],
+    quorum_weights: &[u64],
+    voter_weights: &[u64],
+) -> Result<Sums, PlanFault>
+    requires capacities { AreCapacities capacities.now coterie.now.voters }
+    ensures { AnswersSums
+        (weighted coterie.now capacities.now quorum_weights.now voter_weights.now) result }
 {
     if quorum_weights.len() != coterie.count() || voter_weights.len() != coterie.voters() {
         return Err(PlanFault::WrongLength);
     }
-    let Some(cycle_len) = total(&quorum_weights) else {
-        return Err(PlanFault::TooLarge);
-    };
-    let Some(voter_total) = total(&voter_weights) else {
+    let (Some(cycle_len), Some(voter_total)) = (total(quorum_weights), total(voter_weights)) else {
         return Err(PlanFault::TooLarge);
     };
     if cycle_len == 0 || voter_total == 0 {
         return Err(PlanFault::Empty);
     }
-    let busiest_count = busiest_count(coterie, &quorum_weights);
-    let ratio = cycle_ratio(coterie, capacities, &quorum_weights, busiest_count);
-    let capacity_total = capacity_total(capacities, &voter_weights);
-    let lightest_quorum = lightest_quorum(coterie, &voter_weights);
+    let busiest = busiest_count(coterie, quorum_weights);
+    let ratio = cycle_ratio(coterie, capacities, quorum_weights, busiest);
+    let capacity_total = capacity_total(capacities, voter_weights);
+    let lightest_quorum = lightest_quorum(coterie, voter_weights);
     if ratio.0 * capacity_total != ratio.1 * lightest_quorum * cycle_len {
         if are_unit(capacities) {
             return Err(PlanFault::NotOptimal {
-                busiest_count,
+                busiest_count: busiest,
                 voter_total,
                 lightest_quorum,
                 cycle_len,
@@ -138,13 +160,9 @@ fn plan_of(
             cycle_len,
         });
     }
-    Ok(Plan {
-        coterie: coterie.copy(alloc)?,
-        capacities: capacities.to_vec(alloc)?,
-        quorum_weights,
-        voter_weights,
+    Ok(Sums {
         cycle_len,
-        busiest: busiest_count,
+        busiest,
         ratio,
     })
 }

@@ -17,8 +17,6 @@
 
 mod fence;
 mod laws;
-#[cfg(test)]
-mod tests;
 
 pub use fence::Fence;
 pub use laws::admitted_passes_stay_seen;

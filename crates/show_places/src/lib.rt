@@ -14,8 +14,6 @@
 mod brackets;
 mod lines;
 mod marks;
-#[cfg(test)]
-mod tests;
 
 pub use brackets::unclosed_line;
 pub use lines::{is_unended, line_of, newlines, position_of, push_line};

@@ -25,8 +25,6 @@
 mod laws;
 mod line;
 mod reading;
-#[cfg(test)]
-mod tests;
 
 pub use laws::lines_are_read_in_one_way;
 pub use line::Line;

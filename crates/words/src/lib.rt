@@ -9,8 +9,6 @@ ghost use Rattle.std.specs.Int.{w64, to_le_bytes};
 ghost use Rattle.words.specs.WordBytes.{FitIn64Bits, bytes_of};
 
 mod laws;
-#[cfg(test)]
-mod tests;
 
 use arrayvec::ArrayVec;
 pub use laws::bytes_have_one_reading;

@@ -1,7 +1,7 @@
 //! Three numbers as bytes, and read again.
-use crate::{read_words, write_words};
 use arrayvec::ArrayVec;
 use std::test::Fail;
+use words::{read_words, write_words};
 
 /// The numbers 1, 2^56 and 2^64 - 1.
 const WORDS: [u64; 3] = [1, 72057594037927936, 18446744073709551615];

@@ -1,9 +1,9 @@
-//! A format of three kinds of lines, as that of a record.
+//! A format of two kinds of lines, as that of a record.
 ghost use Rattle.std.specs.Prelude.{◌<◌, ◌≤◌, ◌^◌, ◌∷◌, [], List, ℕ, codes};
 ghost use Rattle.std.proofs.Common.{ap, arith, get_or, rules};
 
-use crate::{Line, first_lines, next_line, read_line};
 use std::test::Fail;
+use text_lines::{Line, first_lines, next_line, read_line};
 
 /// `draw CLIENT TICKET QUORUM`, with a client of at most 63 and a quorum of at most 4095.
 struct Draws;

@@ -1,5 +1,5 @@
 //! Where lines, marks and brackets are found in texts.
-use crate::{is_unended, line_of, near_mark, position_of, unclosed_line};
+use show_places::{is_unended, line_of, near_mark, position_of, unclosed_line};
 
 /// Texts, the number of a line, the line with that number or `none`, and whether it is the last one
 /// and lacks its newline.

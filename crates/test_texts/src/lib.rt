@@ -1,0 +1,14 @@
+//! Tests of small crates of texts and bytes through their public calls. This crate has nothing but
+//! tests.
+//!
+//! - `lines` has a format of two kinds of lines.
+//! - `numbers` has numbers as bytes.
+//! - `places` finds lines, columns, marks and brackets.
+#![tactic(auto)]
+
+#[cfg(test)]
+mod lines;
+#[cfg(test)]
+mod numbers;
+#[cfg(test)]
+mod places;
