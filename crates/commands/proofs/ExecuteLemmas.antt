@@ -6,8 +6,7 @@ use Rattle.commands.specs.Devices.{IsOfReading, IsOwn}
 use Rattle.whole_io.specs.declared.fault.DeviceFault.TheVariants as device
 use Rattle.whole_io.specs.declared.fault.DeviceFault.TheVariants.{ReadFault, TooLong, WriteFault}
 use Rattle.commands.specs.declared.fault.Fault.{Fault}
-use Rattle.commands.specs.declared.fault.Fault.TheVariants as faults
-use Rattle.commands.specs.declared.fault.Fault.TheVariants.{MissingPart, UnknownVoter, Device, Construct, File, Planner, Replay, Cluster, OutOfMemory}
+use Rattle.commands.specs.declared.fault.Fault.TheVariants.{MissingPart, UnknownVoter, Device, Construct, Input, Replay, Cluster, OutOfMemory}
 use Rattle.command_line.specs.declared.command.Command.{Command}
 use Rattle.command_line.specs.declared.command.Command.TheVariants as commands
 use Rattle.command_line.specs.declared.command.Command.TheVariants.{Check, Deal, Make, Plan, Run, World}
@@ -24,9 +23,7 @@ reading_comes command (Some input) (Device device.OutOfMemory) reads h = absurd 
 reading_comes command (Some input) (MissingPart k) reads h = absurd h
 reading_comes command (Some input) (UnknownVoter k) reads h = absurd h
 reading_comes command (Some input) (Construct fault) reads h = absurd h
-reading_comes command (Some input) (File fault) reads h = absurd h
-reading_comes command (Some input) (faults.Plan fault) reads h = absurd h
-reading_comes command (Some input) (Planner fault) reads h = absurd h
+reading_comes command (Some input) (Input fault) reads h = absurd h
 reading_comes command (Some input) (Replay fault) reads h = absurd h
 reading_comes command (Some input) (Cluster fault) reads h = absurd h
 
@@ -37,9 +34,7 @@ own_comes command input OutOfMemory own short h = tt
 own_comes command input (MissingPart k) own short h = (short, h)
 own_comes command input (UnknownVoter k) own short h = (short, h)
 own_comes command input (Construct fault) own short h = (short, h)
-own_comes command input (File fault) own short h = (short, h)
-own_comes command input (faults.Plan fault) own short h = (short, h)
-own_comes command input (Planner fault) own short h = (short, h)
+own_comes command input (Input fault) own short h = (short, h)
 own_comes command input (Replay fault) own short h = (short, h)
 own_comes command input (Cluster fault) own short h = (short, h)
 
@@ -67,9 +62,7 @@ idle_fault OutOfMemory shape a b own h = tt
 idle_fault (MissingPart k) shape a b own h = (λ reads. cc, h.1)
 idle_fault (UnknownVoter k) shape a b own h = (λ reads. cc, h.1)
 idle_fault (Construct fault) shape a b own h = (λ reads. cc, h.1)
-idle_fault (File fault) shape a b own h = (λ reads. cc, h.1)
-idle_fault (faults.Plan fault) shape a b own h = (λ reads. cc, h.1)
-idle_fault (Planner fault) shape a b own h = (λ reads. cc, h.1)
+idle_fault (Input fault) shape a b own h = (λ reads. cc, h.1)
 idle_fault (Replay fault) shape a b own h = (λ reads. cc, h.1)
 idle_fault (Cluster fault) shape a b own h = (λ reads. cc, h.1)
 

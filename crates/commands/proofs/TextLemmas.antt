@@ -8,8 +8,8 @@ use Rattle.dealer.specs.declared.account.Account.{Account}
 use Rattle.dealer.specs.declared.receipt.Receipt.{Receipt}
 use Rattle.dealer.specs.Offices.{receipt_of}
 use Rattle.numbers.proofs.CountLemmas.{flat_map-range_more}
+use Rattle.plan_inputs.specs.Inputs.{PlannedSystem}
 use Rattle.commands.specs.Commands.{account_text, deal_text, ratio_part, receipt_line, ticket_line, ticket_lines}
-use Rattle.commands.specs.declared.answer.Planned.{Planned}
 
 -- what was written for the numbers below n, and then the line of n
 pub flat_map-more_lines : (line : ℕ → List ℕ) (n : ℕ) (before now after : List ℕ) → now ≡ before ++ flat_map line (range_with_len 0 n) → after ≡ now ++ line n → after ≡ before
@@ -25,7 +25,7 @@ receipt_lines w [] = refl
 receipt_lines w (t ∷ ts) = ap (λ rest. ticket_line w t ++ rest) (receipt_lines w ts)
 
 -- the lines of the receipts, behind them those of the account, and its ratio
-pub deal_text-joined : (p : Planned) (n : ℕ) (receipts : List Receipt) (account : Account) (start tickets counted all : List ℕ) → receipts ≡ map (receipt_of p.plan) (range_with_len 0 n)
+pub deal_text-joined : (p : PlannedSystem) (n : ℕ) (receipts : List Receipt) (account : Account) (start tickets counted all : List ℕ) → receipts ≡ map (receipt_of p.plan) (range_with_len 0 n)
     → account ≡ account_of p.plan (range_with_len 0 n) → start ≡ []
     → tickets ≡ start ++ flat_map receipt_line receipts → counted ≡ tickets ++ account_text p.named.names account → all ≡ counted ++ ratio_part p.named.capacities account → all ≡ deal_text p n
 unfolding deal_text

@@ -3,7 +3,6 @@ use Rattle.std.specs.Prelude.{◌≡◌, ℕ, Bool, true, false, ◌*◌, ◌<�
 use Rattle.std.specs.List.{flat_map, range_with_len}
 use Rattle.std.specs.Fmt.{decimal}
 use Rattle.std.specs.Io.KnownBytes.{Appends, IsAtEnd, Keeps}
-use Rattle.std.specs.Str.{is_utf8}
 use Rattle.numbers.specs.Bounds.{max_clients}
 pub use Rattle.numbers.specs.Results.{◌>>=◌}
 use Rattle.numbers.specs.Results.{RefusesUnless, GivesUnless}
@@ -18,15 +17,9 @@ use Rattle.construct.specs.declared.fault.ConstructFault.{ConstructFault}
 use Rattle.coterie_file.specs.Named.{NamedSystem, numbered_names}
 use Rattle.coterie_file.specs.Writing.{coterie_text}
 use Rattle.coterie_file.specs.Names.{name_at}
-use Rattle.coterie_file.specs.Reading.{coterie_at}
-use Rattle.coterie_file.specs.declared.fault.FileFault.TheVariants.{NotToml}
-use Rattle.certificate.specs.Certificates.{Weighted, IsCertificate, IsOptimal, cycle_len, load_of}
-use Rattle.certificate.specs.PlanTexts.{plan_at, plan_text}
-use Rattle.planner.specs.Uniform.{IsWarranted}
-use Rattle.planner.specs.Causes.{CanCome}
-use Rattle.planner.specs.declared.fault.Cause.{Cause}
-use Rattle.planner.specs.declared.fault.PlannerFault.TheVariants as planner
-use Rattle.planner.specs.declared.fault.PlannerFault.TheVariants.{NoPlan}
+use Rattle.certificate.specs.Certificates.{Weighted, cycle_len, load_of}
+use Rattle.plan_inputs.specs.Faults.{refused_as}
+use Rattle.plan_inputs.specs.Inputs.{IsPlanText, PlannedSystem, RefusesToPlan, coterie_in, planned_by}
 use Rattle.dealer.specs.Cycles.{quorum_of_ticket}
 use Rattle.dealer.specs.Accounts.{account_of}
 use Rattle.dealer.specs.declared.account.Account.{Account}
@@ -48,19 +41,13 @@ use Rattle.whole_io.specs.declared.fault.DeviceFault.TheVariants.{ReadFault, Too
 use Rattle.commands.specs.Parts.{split}
 use Rattle.commands.specs.declared.fault.Fault.{Fault}
 use Rattle.commands.specs.declared.fault.Fault.TheVariants as faults
-use Rattle.commands.specs.declared.fault.Fault.TheVariants.{Device, OutOfMemory, Construct, File, Planner}
-use Rattle.commands.specs.declared.answer.Planned.{Planned}
+use Rattle.commands.specs.declared.fault.Fault.TheVariants.{Device, OutOfMemory, Construct, Input}
 use Rattle.command_line.specs.declared.command.Command.{Command}
 use Rattle.command_line.specs.declared.command.Command.TheVariants.{Check, Deal, Make, Plan, Replay, Run, World}
 use Rattle.command_line.specs.declared.command.Shape.{Shape}
 use Rattle.command_line.specs.declared.command.Shape.TheVariants.{Cyclic, Grid, Majority, Tree, Wheel}
 
 -- Steps that may fail
-
--- the same result, its fault under another name
-abbrev pub refused_as : {A E : Type 0} → (E → Fault) → Result A E → Result A Fault
-refused_as name (Ok x) = Ok x
-refused_as name (Err e) = Err (name e)
 
 -- the fault is out of memory
 abbrev pub is_out_of_memory : Fault → Bool
@@ -77,33 +64,26 @@ Gives view result wanted = GivesUnless is_out_of_memory view result wanted
 
 -- Parts
 
--- the coterie that the bytes describe, which have to be UTF-8
-unfoldable pub coterie_part : List ℕ → Result NamedSystem Fault
-coterie_part bytes = if is_utf8 bytes then refused_as File (coterie_at bytes) else Err (File NotToml)
-
--- the plan of the coterie and capacities that the bytes describe
-unfoldable pub plan_part : NamedSystem → List ℕ → Result Weighted Fault
-plan_part named bytes = refused_as faults.Plan (plan_at named.system named.capacities bytes)
+-- the coterie that a part describes
+abbrev pub coterie_part : List ℕ → Result NamedSystem Fault
+coterie_part bytes = refused_as Input (coterie_in bytes)
 
 -- what two parts describe: a coterie, and a plan of it
-unfoldable pub planned_by : List ℕ → List ℕ → Result Planned Fault
-planned_by coterie plan = do
-  named ← coterie_part coterie
-  plan ← plan_part named plan
-  Ok (record { named = named; plan = plan })
+abbrev pub planned_parts : List ℕ → List ℕ → Result PlannedSystem Fault
+planned_parts coterie plan = refused_as Input (planned_by coterie plan)
 
 -- what an input of two parts describes: a coterie, and a plan of it
-unfoldable pub planned_in : List ℕ → Result Planned Fault
+unfoldable pub planned_in : List ℕ → Result PlannedSystem Fault
 planned_in input = do
   parts ← split 2 input
-  planned_by parts.0 parts.1
+  planned_parts parts.0 parts.1
 
 -- what an input of three parts describes: a coterie, a plan of it, and a text after them
-unfoldable pub staged_in : List ℕ → Result (Planned × List ℕ) Fault
+unfoldable pub staged_in : List ℕ → Result (PlannedSystem × List ℕ) Fault
 staged_in input = do
   parts ← split 2 input
   others ← split 3 parts.1
-  planned ← planned_by parts.0 others.0
+  planned ← planned_parts parts.0 others.0
   Ok (planned, others.1)
 
 -- Lines
@@ -161,7 +141,7 @@ abbrev pub ratio_part : List ℕ → Account → List ℕ
 ratio_part capacities account = if are_unit capacities then [] else ratio_line account.ratio
 
 -- the tickets below n with their quorums, their account, and its ratio if some capacity is not 1
-unfoldable pub deal_text : Planned → ℕ → List ℕ
+unfoldable pub deal_text : PlannedSystem → ℕ → List ℕ
 deal_text p n =
     let account = account_of p.plan (range_with_len 0 n) in
     ticket_lines p.plan n ++ (account_text p.named.names account ++ ratio_part p.named.capacities account)
@@ -172,11 +152,11 @@ record_lines named account register =
     drawn_line account.drawn ++ (account_text named.names account ++ register_line register)
 
 -- the lines of a record's entries: of the tickets that were drawn, and of the register
-abbrev pub replay_text : Planned → Entries → List ℕ
+abbrev pub replay_text : PlannedSystem → Entries → List ℕ
 replay_text p e = record_lines p.named (account_of p.plan (tickets_of e.draws)) e.register
 
 -- the text that `check` writes
-unfoldable pub check_text : Planned → List ℕ
+unfoldable pub check_text : PlannedSystem → List ℕ
 check_text p = load_line (load_of p.plan) (cycle_len p.plan)
 
 -- Commands
@@ -210,43 +190,21 @@ check_answer_of input = planned_in input >>= λ p. Ok (check_text p)
 abbrev pub deal_answer_of : ℕ → List ℕ → Result (List ℕ) Fault
 deal_answer_of n input = planned_in input >>= λ p. Ok (deal_text p n)
 
--- the output is the text of some plan of the coterie and capacities that the input describes, and
--- that plan is optimal
-pub record IsPlanText (input output : List ℕ) : Type 0 where
-  pub named : NamedSystem
-  pub coterie : coterie_part input ≡ Ok named
-  pub plan : Weighted
-  pub system : plan.system ≡ named.system
-  pub capacities : plan.capacities ≡ named.capacities
-  pub certificate : IsCertificate plan
-  pub optimal : IsOptimal plan
-  pub written : output ≡ plan_text plan
-
--- the input describes a coterie that is not uniform or has unequal capacities, and the planner found
--- no plan of it, for this cause
-pub record IsUnplanned (input : List ℕ) (cause : Cause) : Type 0 where
-  pub named : NamedSystem
-  pub coterie : coterie_part input ≡ Ok named
-  pub warranted : IsWarranted named.system named.capacities (NoPlan cause)
-  pub can_come : CanCome named.capacities (NoPlan cause)
-
--- `plan` fails with this fault for the input: the input describes no coterie, or there is no plan
--- of it. The fault is never the planner's own `OutOfMemory`.
-abbrev pub RefusesToPlan : List ℕ → Fault → Type 0
-RefusesToPlan input (Planner (NoPlan cause)) = IsUnplanned input cause
-RefusesToPlan input (Planner planner.OutOfMemory) = ⊥
-RefusesToPlan input fault = coterie_part input ≡ Err fault
+-- `plan` fails with this fault for the input: the input describes no coterie, or there is no plan of it
+abbrev pub RefusesPlan : List ℕ → Fault → Type 0
+RefusesPlan input (Input fault) = RefusesToPlan input fault
+RefusesPlan input fault = ⊥
 
 -- the output is that of the script in the third part, by the plan that the parts before it describe
 pub record IsWorldOutput (input output : List ℕ) : Type 0 where
-  pub planned : Planned
+  pub planned : PlannedSystem
   pub script : List ℕ
   pub parts : staged_in input ≡ Ok (planned, script)
   pub output_is : IsOutput planned.plan script output
 
 -- this line of the third part is the first bad line of a script
 pub record IsBadScript (input : List ℕ) (line : ℕ) : Type 0 where
-  pub planned : Planned
+  pub planned : PlannedSystem
   pub script : List ℕ
   pub parts : staged_in input ≡ Ok (planned, script)
   pub bad : IsFirstBad script line
@@ -261,7 +219,7 @@ RefusesToRunWorld input fault = staged_in input ≡ Err fault
 -- the third part is the text of a sound record by the plan that the parts before it describe, and
 -- the output is what the record says
 pub record IsReplayed (input output : List ℕ) : Type 0 where
-  pub planned : Planned
+  pub planned : PlannedSystem
   pub text : List ℕ
   pub parts : staged_in input ≡ Ok (planned, text)
   pub entries : Entries
@@ -282,7 +240,7 @@ IsBadRecordText plan text fault = IsUnsoundText plan text fault
 
 -- the record in the third part fails with this fault
 pub record HasBadRecord (input : List ℕ) (fault : ReplayFault) : Type 0 where
-  pub planned : Planned
+  pub planned : PlannedSystem
   pub text : List ℕ
   pub parts : staged_in input ≡ Ok (planned, text)
   pub bad : IsBadRecordText planned.plan text fault
@@ -297,7 +255,7 @@ RefusesToReplay input fault = staged_in input ≡ Err fault
 -- of a run in which each of `clients` clients made `passes` passes. Each client has a ticket and a
 -- pass number for each of its passes.
 pub record IsRunText (clients passes : ℕ) (input output : List ℕ) : Type 0 where
-  pub planned : Planned
+  pub planned : PlannedSystem
   pub parts : planned_in input ≡ Ok planned
   pub run : RunRecord
   pub is_run : IsRun planned.plan clients passes run
@@ -305,7 +263,7 @@ pub record IsRunText (clients passes : ℕ) (input output : List ℕ) : Type 0 w
 
 -- a run by the plan that the input describes ends early with this fault
 pub record IsEndedRun (clients : ℕ) (input : List ℕ) (fault : ClusterFault) : Type 0 where
-  pub planned : Planned
+  pub planned : PlannedSystem
   pub parts : planned_in input ≡ Ok planned
   pub ended : EndsRunBy clients fault
 
@@ -353,7 +311,7 @@ IsAnswer Replay input output = IsReplayed input output
 -- the command fails with this fault for the input
 abbrev pub IsRefusal : Command → List ℕ → Fault → Type 0
 IsRefusal (Make shape) input fault = make_answer_of shape ≡ Err fault
-IsRefusal Plan input fault = RefusesToPlan input fault
+IsRefusal Plan input fault = RefusesPlan input fault
 IsRefusal Check input fault = check_answer_of input ≡ Err fault
 IsRefusal (Deal n) input fault = deal_answer_of n input ≡ Err fault
 IsRefusal World input fault = RefusesToRunWorld input fault

@@ -5,7 +5,8 @@ ghost use Rattle.construct.specs.Answers as construct_answers;
 ghost use Rattle.certificate.specs.Certificates.{cycle_len};
 ghost use Rattle.dealer.specs.Accounts.{account_of};
 ghost use Rattle.replay.specs.Records.{IsFirstFault, IsSoundRecord, entries_of, tickets_of};
-ghost use Rattle.commands.specs.Commands.{Gives, IsAnswered, IsServed, check_answer_of, check_text, coterie_part, deal_answer_of, deal_text, make_answer_of, numbered_text, plan_part, planned_by, planned_in, shape_at, staged_in};
+ghost use Rattle.plan_inputs.specs.Inputs.{parts_of};
+ghost use Rattle.commands.specs.Commands.{Gives, IsAnswered, IsServed, check_answer_of, check_text, coterie_part, deal_answer_of, deal_text, make_answer_of, numbered_text, planned_in, planned_parts, shape_at, staged_in};
 ghost use Rattle.commands.specs.Devices.{IsOwn};
 ghost use Rattle.commands.specs.Faults.{IsBeforeScript, IsOfFile};
 
@@ -13,12 +14,12 @@ use crate::dealing::dealt;
 use crate::fault::Fault;
 use crate::lines::{load_line_of, push_account, push_ratio, push_receipts, record_lines_of};
 use crate::parts::split_part;
-use certificate::{Plan, read_plan, write_plan};
+use certificate::Plan;
 use command_line::{Command, Shape};
 use construct::{ConstructFault, cyclic, grid, majority, tree, wheel};
-use coterie_file::{FileFault, Named, read_coterie, write_coterie};
+use coterie_file::{Named, write_coterie};
 use dealer::Account;
-use planner::plan;
+use plan_inputs::{Planned, plan_text_of};
 use quorum_set::{Coterie, Side};
 use replay::{ReplayFault, check_record, read_record, run_script};
 use run_outcome::RunRecord;
@@ -31,64 +32,33 @@ pub fn coterie_of(alloc: Global, part: &[u8]) -> Result<Named, Fault>
     ensures file { IfErr result IsOfFile }
     ensures before { IfErr result IsBeforeScript }
 {
-    let Ok(text) = std::str::from_utf8(part) else {
-        return Err(Fault::File(FileFault::NotToml));
-    };
-    match read_coterie(alloc, text) {
+    match plan_inputs::coterie_of(alloc, part) {
         Ok(named) => Ok(named),
         Err(fault) => Err(Fault::from(fault)),
     }
 }
 
-/// Returns the plan of a coterie and its voters' capacities that a part describes.
-fn plan_of(alloc: Global, named: &Named, part: &[u8]) -> Result<Plan, Fault>
-    ensures exact { Gives (λ p. p) result (plan_part named.now part.now) }
+/// Returns what two parts describe: a coterie, and a plan of it.
+fn planned_parts(alloc: Global, coterie: &[u8], plan: &[u8]) -> Result<Planned, Fault>
+    ensures exact { Gives parts_of result (planned_parts coterie.now plan.now) }
     ensures own { IfErr result IsOwn }
     ensures before { IfErr result IsBeforeScript }
-    ensures coterie { IfOk result (λ p. p.system ≡ named.now.system) }
 {
-    match read_plan(alloc, named.coterie(), named.capacities(), part) {
-        Ok(plan) => Ok(plan),
+    match plan_inputs::planned_of(alloc, coterie, plan) {
+        Ok(planned) => Ok(planned),
         Err(fault) => Err(Fault::from(fault)),
     }
-}
-
-/// A coterie with names, and a plan of it.
-#[derive(Drop)]
-pub struct Planned {
-    pub named: Named,
-    pub plan: Plan,
-}
-
-/// Returns what two parts describe: a coterie, and a plan of it.
-#[tactic(auto, unfolding(crate::specs::Commands::planned_by))]
-fn planned_by(alloc: Global, coterie: &[u8], plan: &[u8]) -> Result<Planned, Fault>
-    ensures exact { Gives (λ p. p) result (planned_by coterie.now plan.now) }
-    ensures own { IfErr result IsOwn }
-    ensures before { IfErr result IsBeforeScript }
-    ensures same { IfOk result (λ p. p.plan.system ≡ p.named.system) }
-{
-    let named = match coterie_of(alloc, coterie) {
-        Ok(named) => named,
-        Err(fault) => return Err(fault),
-    };
-    let plan = match plan_of(alloc, &named, plan) {
-        Ok(plan) => plan,
-        Err(fault) => return Err(fault),
-    };
-    Ok(Planned { named, plan })
 }
 
 /// Returns what an input of two parts describes: a coterie, and a plan of it.
 #[tactic(auto, unfolding(crate::specs::Commands::planned_in))]
 pub fn planned_of(alloc: Global, input: &[u8]) -> Result<Planned, Fault>
-    ensures exact { Gives (λ p. p) result (planned_in input.now) }
+    ensures exact { Gives parts_of result (planned_in input.now) }
     ensures own { IfErr result IsOwn }
     ensures before { IfErr result IsBeforeScript }
-    ensures same { IfOk result (λ p. p.plan.system ≡ p.named.system) }
 {
     match split_part(input, 2) {
-        Ok((coterie, plan)) => planned_by(alloc, coterie, plan),
+        Ok((coterie, plan)) => planned_parts(alloc, coterie, plan),
         Err(fault) => Err(fault),
     }
 }
@@ -96,10 +66,9 @@ pub fn planned_of(alloc: Global, input: &[u8]) -> Result<Planned, Fault>
 /// Returns what an input of three parts describes: a coterie, a plan of it, and a text after them.
 #[tactic(auto, unfolding(crate::specs::Commands::staged_in))]
 pub fn staged_of(alloc: Global, input: &[u8]) -> Result<(Planned, &[u8]), Fault>
-    ensures exact { Gives (λ x. (x.0, x.1.now)) result (staged_in input.now) }
+    ensures exact { Gives (λ x. (parts_of x.0, x.1.now)) result (staged_in input.now) }
     ensures own { IfErr result IsOwn }
     ensures before { IfErr result IsBeforeScript }
-    ensures same { IfOk result (λ x. x.0.plan.system ≡ x.0.named.system) }
 {
     let (coterie, rest) = match split_part(input, 2) {
         Ok(parts) => parts,
@@ -109,7 +78,7 @@ pub fn staged_of(alloc: Global, input: &[u8]) -> Result<(Planned, &[u8]), Fault>
         Ok(parts) => parts,
         Err(fault) => return Err(fault),
     };
-    match planned_by(alloc, coterie, plan) {
+    match planned_parts(alloc, coterie, plan) {
         Ok(planned) => Ok((planned, text)),
         Err(fault) => Err(fault),
     }
@@ -118,7 +87,7 @@ pub fn staged_of(alloc: Global, input: &[u8]) -> Result<(Planned, &[u8]), Fault>
 /// Returns what `check` writes.
 #[tactic(auto, unfolding(crate::specs::Commands::check_text))]
 fn check_text_of(alloc: Global, planned: &Planned) -> Result<String, AllocError>
-    ensures { IfOk result (λ text. string_bytes text ≡ check_text planned.now) }
+    ensures { IfOk result (λ text. string_bytes text ≡ check_text (parts_of planned.now)) }
 {
     load_line_of(alloc, planned.plan.load(), planned.plan.cycle_len())
 }
@@ -127,9 +96,8 @@ fn check_text_of(alloc: Global, planned: &Planned) -> Result<String, AllocError>
 /// with that quota, and its account.
 #[tactic(auto, unfolding(crate::specs::Commands::deal_text))]
 fn deal_text_of(alloc: Global, planned: Planned, count: u64) -> Result<String, AllocError>
-    requires same { planned.plan.system ≡ planned.named.system }
     requires count { count ≤ max_tickets }
-    ensures { IfOk result (λ text. string_bytes text ≡ deal_text planned count) }
+    ensures { IfOk result (λ text. string_bytes text ≡ deal_text (parts_of planned) count) }
 {
     let Planned { named, plan } = planned;
     let (account, receipts) = dealt(alloc, plan, count)?;
@@ -179,22 +147,14 @@ fn make_answer(alloc: Global, shape: &Shape) -> Result<String, Fault>
 
 /// Returns what `plan` writes for an input: the text of a plan of the coterie that the input
 /// describes.
-#[tactic(auto, using(crate::proofs::CommandLemmas::unplanned_refused))]
+#[tactic(auto, using(crate::proofs::CommandLemmas::planning_refused))]
 fn plan_answer(alloc: Global, input: &[u8]) -> Result<String, Fault>
     ensures exact { IsAnswered string_bytes Command.Plan input.now result }
     ensures own { IfErr result IsOwn }
 {
-    let named = match coterie_of(alloc, input) {
-        Ok(named) => named,
-        Err(fault) => return Err(fault),
-    };
-    let plan = match plan(alloc, named.coterie(), named.capacities()) {
-        Ok(plan) => plan,
-        Err(fault) => return Err(Fault::from(fault)),
-    };
-    match write_plan(alloc, &plan) {
+    match plan_text_of(alloc, input) {
         Ok(text) => Ok(text),
-        Err(_) => Err(Fault::OutOfMemory),
+        Err(fault) => Err(Fault::from(fault)),
     }
 }
 

@@ -1,12 +1,10 @@
 //! The faults of commands.
 ghost use Rattle.std.specs.Prelude.{◌≡◌};
-ghost use Rattle.commands.specs.Faults.{construct_refusal, device_refusal, file_refusal, plan_refusal, planner_refusal, replay_refusal, run_refusal};
+ghost use Rattle.commands.specs.Faults.{construct_refusal, device_refusal, input_refusal, replay_refusal, run_refusal};
 ghost use Rattle.commands.specs.declared.fault.Fault.TheVariants.{OutOfMemory};
 
-use certificate::PlanFault;
 use construct::ConstructFault;
-use coterie_file::FileFault;
-use planner::PlannerFault;
+use plan_inputs::InputFault;
 use replay::ReplayFault;
 use run_outcome::{ClusterFault, RunFault};
 use std::alloc::{AllocError, AllocFailed};
@@ -30,15 +28,9 @@ pub enum Fault {
     /// There is no coterie of this shape and these sizes.
     #[error(transparent)]
     Construct(ConstructFault),
-    /// The coterie has a fault.
+    /// The coterie or the plan has a fault, or no plan was found.
     #[error(transparent)]
-    File(FileFault),
-    /// The plan has a fault.
-    #[error(transparent)]
-    Plan(PlanFault),
-    /// No plan was found.
-    #[error(transparent)]
-    Planner(PlannerFault),
+    Input(InputFault),
     /// The script or the record has a fault.
     #[error(transparent)]
     Replay(ReplayFault),
@@ -88,35 +80,13 @@ impl From<ConstructFault> for Fault {
     }
 }
 
-impl From<FileFault> for Fault {
-    ghost from_gives = { λ fault e. e ≡ file_refusal fault };
+impl From<InputFault> for Fault {
+    ghost from_gives = { λ fault e. e ≡ input_refusal fault };
 
-    fn from(fault: FileFault) -> Fault {
+    fn from(fault: InputFault) -> Fault {
         match fault {
-            FileFault::OutOfMemory => Fault::OutOfMemory,
-            _ => Fault::File(fault),
-        }
-    }
-}
-
-impl From<PlanFault> for Fault {
-    ghost from_gives = { λ fault e. e ≡ plan_refusal fault };
-
-    fn from(fault: PlanFault) -> Fault {
-        match fault {
-            PlanFault::OutOfMemory => Fault::OutOfMemory,
-            _ => Fault::Plan(fault),
-        }
-    }
-}
-
-impl From<PlannerFault> for Fault {
-    ghost from_gives = { λ fault e. e ≡ planner_refusal fault };
-
-    fn from(fault: PlannerFault) -> Fault {
-        match fault {
-            PlannerFault::OutOfMemory => Fault::OutOfMemory,
-            _ => Fault::Planner(fault),
+            InputFault::OutOfMemory => Fault::OutOfMemory,
+            _ => Fault::Input(fault),
         }
     }
 }

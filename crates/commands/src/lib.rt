@@ -35,13 +35,14 @@ mod parts;
 mod serving;
 mod statuses;
 
-pub use answer::{Planned, coterie_of, planned_of, staged_of};
+pub use answer::{coterie_of, planned_of, staged_of};
 pub use command_line::{Command, Shape, Usage, read_words};
 pub use dealing::dealt;
 pub use fault::Fault;
 pub use laws::{named_commands_are_in_range, refusals_come_of_the_input};
 pub use lines::{push_account, push_ratio};
 pub use parts::split_part;
+pub use plan_inputs::{InputFault, Planned};
 pub use serving::{execute, input_for, write_answer};
 pub use statuses::{status_of, usage_status};
 pub use whole_io::{DeviceFault, Watched};

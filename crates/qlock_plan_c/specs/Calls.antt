@@ -11,24 +11,23 @@ use Rattle.even.specs.declared.slack.Slack.{Slack}
 use Rattle.qlock_plan_c.specs.FaultLines.{line_of}
 use Rattle.qlock_plan_c.specs.Orders.{IsEvenOrder, IsOrder, masks_of}
 use Rattle.qlock_plan_c.specs.Outputs.{IsUnwritten, LacksRoom, Output, Writes}
-use Rattle.qlock_plan_c.specs.Texts.{IsPlanText, RefusesToPlan, coterie_in, planned_in}
-use Rattle.qlock_plan_c.specs.declared.fault.Fault.{Fault}
+use Rattle.plan_inputs.specs.Inputs.{IsPlanText, PlannedSystem, RefusesToPlan, coterie_in, planned_by}
+use Rattle.plan_inputs.specs.declared.fault.InputFault.{InputFault}
 use Rattle.qlock_plan_c.specs.declared.order.Order.{Order}
 use Rattle.qlock_plan_c.specs.declared.outcome.Outcome.{Outcome}
 use Rattle.qlock_plan_c.specs.declared.outcome.Outcome.TheVariants.{Done, BadArgument, NoRoom, Refused, NoMemory}
-use Rattle.qlock_plan_c.specs.declared.reading.Planned.{Planned}
 
 -- Calls that write a text
 
 -- the call has this text to write: its own, or the line of a fault
-abbrev pub HasToWrite : (List ℕ → Type 0) → (Fault → Type 0) → List ℕ → Type 0
-HasToWrite texts faults text = texts text ⊎ ((fault : Fault) × faults fault × (text ≡ line_of fault))
+abbrev pub HasToWrite : (List ℕ → Type 0) → (InputFault → Type 0) → List ℕ → Type 0
+HasToWrite texts faults text = texts text ⊎ ((fault : InputFault) × faults fault × (text ≡ line_of fault))
 
 -- A call whose own text is one of `texts` ends. It is done once such a text is written. It is
 -- refused with one of `faults`, whose line is written. Otherwise nothing is.
-abbrev pub TextCall : (List ℕ → Type 0) → (Fault → Type 0) → Output → Outcome → Type 0
+abbrev pub TextCall : (List ℕ → Type 0) → (InputFault → Type 0) → Output → Outcome → Type 0
 TextCall texts faults o Done = (text : List ℕ) × texts text × Writes text o
-TextCall texts faults o Refused = (fault : Fault) × faults fault × Writes (line_of fault) o
+TextCall texts faults o Refused = (fault : InputFault) × faults fault × Writes (line_of fault) o
 TextCall texts faults o NoRoom = (text : List ℕ) × HasToWrite texts faults text × LacksRoom text o
 TextCall texts faults o NoMemory = IsUnwritten o
 TextCall texts faults o BadArgument = ⊥
@@ -56,12 +55,12 @@ PlanCall coterie o outcome = TextCall (IsPlanText coterie) (RefusesToPlan coteri
 -- what its numbers are, `out` is as it was, and `written` is 0. If it is refused with one of
 -- `faults`, the line of the fault is in `out`. Otherwise `out` is as it was. Unless it is done, its
 -- numbers are as they were: `kept`.
-abbrev pub NumbersCall : (allowed done kept : Type 0) → (Fault → Type 0) → Output → Outcome → Type 0
+abbrev pub NumbersCall : (allowed done kept : Type 0) → (InputFault → Type 0) → Output → Outcome → Type 0
 NumbersCall allowed done kept faults o Done = allowed × done × (o.after ≡ o.before) × (o.count ≡ 0)
 NumbersCall allowed done kept faults o Refused =
-    allowed × kept × ((fault : Fault) × faults fault × Writes (line_of fault) o)
+    allowed × kept × ((fault : InputFault) × faults fault × Writes (line_of fault) o)
 NumbersCall allowed done kept faults o NoRoom =
-    allowed × kept × ((fault : Fault) × faults fault × LacksRoom (line_of fault) o)
+    allowed × kept × ((fault : InputFault) × faults fault × LacksRoom (line_of fault) o)
 NumbersCall allowed done kept faults o NoMemory = allowed × kept × IsUnwritten o
 NumbersCall allowed done kept faults o BadArgument = ¬ allowed × kept × IsUnwritten o
 
@@ -77,8 +76,8 @@ three first second third = record { first = first; second = second; third = thir
 -- The texts describe a coterie and an optimal plan of it. The numbers are the plan's load, as a
 -- numerator and a denominator in lowest terms, and the length of its cycle.
 pub record WritesLoad (coterie plan : List ℕ) (numbers : Three) : Type 0 where
-  pub planned : Planned
-  pub texts : planned_in coterie plan ≡ Ok planned
+  pub planned : PlannedSystem
+  pub texts : planned_by coterie plan ≡ Ok planned
   pub certificate : IsCertificate planned.plan
   pub optimal : IsOptimal planned.plan
   pub numerator : numbers.first ≡ (load_of planned.plan).0
@@ -88,8 +87,8 @@ pub record WritesLoad (coterie plan : List ℕ) (numbers : Three) : Type 0 where
 -- The texts describe a coterie and a plan of it. The numbers are the stride of the even order, and
 -- the numerator and the denominator of its slack.
 pub record WritesSlack (coterie plan : List ℕ) (numbers : Three) : Type 0 where
-  pub planned : Planned
-  pub texts : planned_in coterie plan ≡ Ok planned
+  pub planned : PlannedSystem
+  pub texts : planned_by coterie plan ≡ Ok planned
   pub order : EvenOrder
   pub is_even : IsEvenOrder planned.plan order
   pub stride : numbers.first ≡ order.stride
@@ -101,7 +100,7 @@ pub record WritesSlack (coterie plan : List ℕ) (numbers : Three) : Type 0 wher
 -- a call that writes three numbers ends, and may be refused with a fault of the two texts
 abbrev pub ThreeCall : (Three → Type 0) → (coterie plan : List ℕ) → (before after : Three) → Output → Outcome → Type 0
 ThreeCall writes coterie plan before after o outcome =
-    NumbersCall ⊤ (writes after) (after ≡ before) (λ fault. planned_in coterie plan ≡ Err fault) o outcome
+    NumbersCall ⊤ (writes after) (after ≡ before) (λ fault. planned_by coterie plan ≡ Err fault) o outcome
 
 -- the call `qlock_check`
 abbrev pub CheckCall : (coterie plan : List ℕ) → (before after : Three) → Output → Outcome → Type 0
@@ -128,8 +127,8 @@ IsAllowed a = (a.order ≤ 1) × (a.bytes % 8 ≡ 0) × (a.first + a.bytes / 8 �
 -- The texts describe a coterie and a plan of it. The bytes are the masks of the quorums of these
 -- tickets, in this order.
 pub record WritesMasks (coterie plan : List ℕ) (a : Asked) (masks : List ℕ) : Type 0 where
-  pub planned : Planned
-  pub texts : planned_in coterie plan ≡ Ok planned
+  pub planned : PlannedSystem
+  pub texts : planned_by coterie plan ≡ Ok planned
   pub order : Order
   pub is_order : IsOrder planned.plan a.order order
   pub masks_are : masks ≡ bytes_of (masks_of order a.first (a.bytes / 8))
@@ -138,4 +137,4 @@ pub record WritesMasks (coterie plan : List ℕ) (a : Asked) (masks : List ℕ) 
 abbrev pub QuorumsCall : (coterie plan : List ℕ) → Asked → (before after : List ℕ) → Output → Outcome → Type 0
 QuorumsCall coterie plan a before after o outcome =
     NumbersCall (IsAllowed a) (WritesMasks coterie plan a after) (after ≡ before)
-    (λ fault. planned_in coterie plan ≡ Err fault) o outcome
+    (λ fault. planned_by coterie plan ≡ Err fault) o outcome

@@ -12,8 +12,8 @@ use Rattle.planner.specs.declared.fault.Cause.{Cause}
 use Rattle.planner.specs.declared.fault.Cause.TheVariants as cause
 use Rattle.planner.specs.declared.fault.PlannerFault.{PlannerFault}
 use Rattle.planner.specs.declared.fault.PlannerFault.TheVariants as planner
-use Rattle.qlock_plan_c.specs.declared.fault.Fault.{Fault}
-use Rattle.qlock_plan_c.specs.declared.fault.Fault.TheVariants as faults
+use Rattle.plan_inputs.specs.declared.fault.InputFault.{InputFault}
+use Rattle.plan_inputs.specs.declared.fault.InputFault.TheVariants as faults
 
 -- the words, and each number after a space
 abbrev pub numbered_line : List ℕ → List ℕ → List ℕ
@@ -75,7 +75,7 @@ planner_line (planner.NoPlan cause) = cause_line cause
 planner_line planner.OutOfMemory = codes "O1 OutOfMemory"
 
 -- the line of a fault
-abbrev pub line_of : Fault → List ℕ
+abbrev pub line_of : InputFault → List ℕ
 line_of (faults.File fault) = file_line fault
 line_of (faults.Plan fault) = plan_line fault
 line_of (faults.Planner fault) = planner_line fault

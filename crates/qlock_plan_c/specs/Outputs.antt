@@ -1,8 +1,8 @@
 -- What a call leaves in `out` and `written`.
 use Rattle.std.specs.Prelude.{ℕ, ◌≡◌, ◌<◌, ◌≤◌, List, ◌++◌, drop, length}
 use Rattle.qlock_plan_c.specs.FaultLines.{line_of}
-use Rattle.qlock_plan_c.specs.declared.fault.Fault.{Fault}
-use Rattle.qlock_plan_c.specs.declared.fault.Fault.TheVariants.{OutOfMemory}
+use Rattle.plan_inputs.specs.declared.fault.InputFault.{InputFault}
+use Rattle.plan_inputs.specs.declared.fault.InputFault.TheVariants.{OutOfMemory}
 use Rattle.qlock_plan_c.specs.declared.outcome.Outcome.{Outcome}
 use Rattle.qlock_plan_c.specs.declared.outcome.Outcome.TheVariants.{Done, NoRoom, Refused, NoMemory}
 
@@ -45,6 +45,6 @@ PutsRefusal text o NoRoom = LacksRoom text o
 PutsRefusal text o outcome = ⊥
 
 -- the line of a fault was written, or there is no room for it; out of memory has no line
-abbrev pub PutsFault : Fault → Output → Outcome → Type 0
+abbrev pub PutsFault : InputFault → Output → Outcome → Type 0
 PutsFault OutOfMemory o outcome = (outcome ≡ NoMemory) × IsUnwritten o
 PutsFault fault o outcome = PutsRefusal (line_of fault) o outcome

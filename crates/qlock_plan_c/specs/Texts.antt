@@ -1,71 +1,12 @@
--- What texts describe: a coterie, and a plan of it.
-use Rattle.std.specs.Prelude.{◌≡◌, ℕ, List, Result, Ok, Err, if◌then◌else◌}
+-- Results that depend on what texts describe.
+use Rattle.std.specs.Prelude.{◌≡◌, ℕ, List, Result, Ok, Err}
 use Rattle.std.specs.Bool.{OnFalse}
-use Rattle.std.specs.Str.{is_utf8}
-use Rattle.coterie_file.specs.Named.{NamedSystem}
-use Rattle.coterie_file.specs.Reading.{coterie_at}
-use Rattle.coterie_file.specs.declared.fault.FileFault.TheVariants.{NotToml}
-use Rattle.certificate.specs.Certificates.{Weighted, IsCertificate, IsOptimal}
-use Rattle.certificate.specs.PlanTexts.{plan_at, plan_text}
-use Rattle.planner.specs.Causes.{CanCome}
-use Rattle.planner.specs.Uniform.{IsWarranted}
-use Rattle.planner.specs.declared.fault.Cause.{Cause}
-use Rattle.planner.specs.declared.fault.PlannerFault.TheVariants as planner
-use Rattle.planner.specs.declared.fault.PlannerFault.TheVariants.{NoPlan}
-use Rattle.qlock_plan_c.specs.Faults.{◌>>=◌, refused_as, is_out_of_memory}
-use Rattle.qlock_plan_c.specs.declared.fault.Fault.{Fault}
-use Rattle.qlock_plan_c.specs.declared.fault.Fault.TheVariants as faults
-use Rattle.qlock_plan_c.specs.declared.fault.Fault.TheVariants.{File, Planner}
-use Rattle.qlock_plan_c.specs.declared.reading.Planned.{Planned}
-
--- the coterie that the bytes describe, which have to be UTF-8
-unfoldable pub coterie_in : List ℕ → Result NamedSystem Fault
-coterie_in bytes = if is_utf8 bytes then refused_as File (coterie_at bytes) else Err (File NotToml)
-
--- the plan of the coterie and capacities that the bytes describe
-unfoldable pub plan_in : NamedSystem → List ℕ → Result Weighted Fault
-plan_in named bytes = refused_as faults.Plan (plan_at named.system named.capacities bytes)
-
--- what two texts describe: a coterie, and a plan of it
-unfoldable pub planned_in : List ℕ → List ℕ → Result Planned Fault
-planned_in coterie plan = do
-  named ← coterie_in coterie
-  plan ← plan_in named plan
-  Ok (record { named = named; plan = plan })
-
--- The text is the one of an optimal plan, whose coterie and capacities are those that the first
--- text describes.
-pub record IsPlanText (coterie text : List ℕ) : Type 0 where
-  pub named : NamedSystem
-  pub coterie_is : coterie_in coterie ≡ Ok named
-  pub plan : Weighted
-  pub system : plan.system ≡ named.system
-  pub capacities : plan.capacities ≡ named.capacities
-  pub certificate : IsCertificate plan
-  pub optimal : IsOptimal plan
-  pub text_is : text ≡ plan_text plan
-
--- The text describes a coterie that is not uniform or has unequal capacities, and the planner found
--- no plan of it, for this cause.
-pub record IsUnplanned (coterie : List ℕ) (cause : Cause) : Type 0 where
-  pub named : NamedSystem
-  pub coterie_is : coterie_in coterie ≡ Ok named
-  pub warranted : IsWarranted named.system named.capacities (NoPlan cause)
-  pub can_come : CanCome named.capacities (NoPlan cause)
-
--- planning fails with this fault: the text describes no coterie, or no plan of it was found
-abbrev pub RefusesToPlan : List ℕ → Fault → Type 0
-RefusesToPlan coterie (Planner (NoPlan cause)) = IsUnplanned coterie cause
-RefusesToPlan coterie (Planner planner.OutOfMemory) = ⊥
-RefusesToPlan coterie fault = coterie_in coterie ≡ Err fault
-
--- the result is the text of an optimal plan, or the fault of planning, unless memory ran out
-abbrev pub Plans : {X : Type 0} → (X → List ℕ) → List ℕ → Result X Fault → Type 0
-Plans view coterie (Ok x) = IsPlanText coterie (view x)
-Plans view coterie (Err fault) = OnFalse (is_out_of_memory fault) (RefusesToPlan coterie fault)
+use Rattle.plan_inputs.specs.Faults.{is_out_of_memory}
+use Rattle.plan_inputs.specs.Inputs.{PlannedSystem, planned_by}
+use Rattle.plan_inputs.specs.declared.fault.InputFault.{InputFault}
 
 -- the result is one that this holds of, for what the texts describe, or the fault of the texts,
 -- unless memory ran out
-abbrev pub GivesFrom : {X : Type 0} → (Planned → X → Type 0) → (coterie plan : List ℕ) → Result X Fault → Type 0
-GivesFrom holds coterie plan (Ok x) = (planned : Planned) × (planned_in coterie plan ≡ Ok planned) × holds planned x
-GivesFrom holds coterie plan (Err fault) = OnFalse (is_out_of_memory fault) (planned_in coterie plan ≡ Err fault)
+abbrev pub GivesFrom : {X : Type 0} → (PlannedSystem → X → Type 0) → (coterie plan : List ℕ) → Result X InputFault → Type 0
+GivesFrom holds coterie plan (Ok x) = (planned : PlannedSystem) × (planned_by coterie plan ≡ Ok planned) × holds planned x
+GivesFrom holds coterie plan (Err fault) = OnFalse (is_out_of_memory fault) (planned_by coterie plan ≡ Err fault)

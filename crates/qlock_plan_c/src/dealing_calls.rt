@@ -6,13 +6,12 @@ ghost use Rattle.qlock_plan_c.specs.Orders.{IsEvenOrder, IsOrder};
 ghost use Rattle.qlock_plan_c.specs.Outputs.{output};
 ghost use Rattle.qlock_plan_c.specs.Texts.{GivesFrom};
 
-use crate::fault::Fault;
 use crate::order::{Order, even_of};
 use crate::outcome::Outcome;
 use crate::output::put_fault;
-use crate::reading::planned_of;
 use even::EvenCycle;
 use numbers::MAX_TICKETS;
+use plan_inputs::{InputFault, planned_of};
 use std::alloc::Global;
 use words::write_words;
 
@@ -25,7 +24,7 @@ fn is_allowed(order: u32, first: u64, bytes: usize) -> bool
 }
 
 /// Returns the order with this number of the plan that two texts describe.
-fn order_in(alloc: Global, coterie: &[u8], plan: &[u8], order: u32) -> Result<Order, Fault>
+fn order_in(alloc: Global, coterie: &[u8], plan: &[u8], order: u32) -> Result<Order, InputFault>
     requires { order ≤ 1 }
     ensures { GivesFrom (λ planned by. IsOrder planned.plan order by) coterie.now plan.now result }
 {
@@ -35,12 +34,12 @@ fn order_in(alloc: Global, coterie: &[u8], plan: &[u8], order: u32) -> Result<Or
     };
     match Order::of(alloc, order, planned.plan) {
         Ok(by) => Ok(by),
-        Err(_) => Err(Fault::OutOfMemory),
+        Err(_) => Err(InputFault::OutOfMemory),
     }
 }
 
 /// Returns the even cycle of the plan that two texts describe.
-fn even_in(alloc: Global, coterie: &[u8], plan: &[u8]) -> Result<EvenCycle, Fault>
+fn even_in(alloc: Global, coterie: &[u8], plan: &[u8]) -> Result<EvenCycle, InputFault>
     ensures { GivesFrom (λ planned cycle. IsEvenOrder planned.plan cycle) coterie.now plan.now result }
 {
     let planned = match planned_of(alloc, coterie, plan) {
@@ -49,7 +48,7 @@ fn even_in(alloc: Global, coterie: &[u8], plan: &[u8]) -> Result<EvenCycle, Faul
     };
     match even_of(alloc, planned.plan) {
         Ok(cycle) => Ok(cycle),
-        Err(_) => Err(Fault::OutOfMemory),
+        Err(_) => Err(InputFault::OutOfMemory),
     }
 }
 

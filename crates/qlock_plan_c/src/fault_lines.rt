@@ -4,11 +4,11 @@ ghost use Rattle.std.specs.Fmt.{decimal};
 ghost use Rattle.arrayvec.specs.ArrayString.{array_string_len};
 ghost use Rattle.qlock_plan_c.specs.FaultLines.{cause_line, coterie_line, file_line, line_of, numbered_line, plan_line, planner_line};
 
-use crate::fault::Fault;
 use arrayvec::ArrayString;
 use certificate::PlanFault;
 use coterie_file::FileFault;
 use itoa::Buffer;
+use plan_inputs::InputFault;
 use planner::{Cause, PlannerFault};
 use quorum_set::CoterieFault;
 
@@ -154,13 +154,13 @@ fn planner_line(fault: PlannerFault) -> Line
 }
 
 /// Returns the line of a fault: its code, its name and its numbers.
-pub fn line_of(fault: &Fault) -> Line
+pub fn line_of(fault: &InputFault) -> Line
     ensures { result.bytes ≡ line_of fault.now }
 {
     match *fault {
-        Fault::File(fault) => file_line(fault),
-        Fault::Plan(fault) => plan_line(fault),
-        Fault::Planner(fault) => planner_line(fault),
-        Fault::OutOfMemory => plain("O1 OutOfMemory"),
+        InputFault::File(fault) => file_line(fault),
+        InputFault::Plan(fault) => plan_line(fault),
+        InputFault::Planner(fault) => planner_line(fault),
+        InputFault::OutOfMemory => plain("O1 OutOfMemory"),
     }
 }

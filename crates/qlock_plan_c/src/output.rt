@@ -1,9 +1,9 @@
 //! Writing to `out`.
 ghost use Rattle.qlock_plan_c.specs.Outputs.{PutsFault, PutsRefusal, PutsText, output};
 
-use crate::fault::Fault;
 use crate::fault_lines::line_of;
 use crate::outcome::Outcome;
+use plan_inputs::InputFault;
 
 /// Writes a text to the front of `out`, and how many bytes it has. Writes nothing if `out` is too
 /// short.
@@ -30,12 +30,12 @@ fn put_refusal(text: &str, out: &mut [u8], written: &mut usize) -> Outcome
 }
 
 /// Writes the line of a fault, as [`put`] does. Writes nothing if the fault is out of memory.
-pub fn put_fault(fault: &Fault, out: &mut [u8], written: &mut usize) -> Outcome
+pub fn put_fault(fault: &InputFault, out: &mut [u8], written: &mut usize) -> Outcome
     ensures { PutsFault fault.now (output out.old out.new written.old written.new) result }
 {
     match fault {
-        Fault::OutOfMemory => Outcome::NoMemory,
-        Fault::File(_) | Fault::Plan(_) | Fault::Planner(_) => {
+        InputFault::OutOfMemory => Outcome::NoMemory,
+        InputFault::File(_) | InputFault::Plan(_) | InputFault::Planner(_) => {
             put_refusal(line_of(fault).as_str(), out, written)
         }
     }

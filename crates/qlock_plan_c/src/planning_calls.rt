@@ -3,15 +3,11 @@ ghost use Rattle.std.specs.Prelude.{◌≡◌, ◌++◌, ◌∷◌, [], IfOk, On
 ghost use Rattle.qlock_plan_c.specs.Calls.{CheckCall, NamesCall, PlanCall, names_text, three};
 ghost use Rattle.qlock_plan_c.specs.Numbers.{Returns};
 ghost use Rattle.qlock_plan_c.specs.Outputs.{output};
-ghost use Rattle.qlock_plan_c.specs.Texts.{Plans};
 
-use crate::fault::Fault;
 use crate::outcome::Outcome;
 use crate::output::{put, put_fault};
-use crate::reading::{coterie_of, planned_of};
-use certificate::write_plan;
 use coterie_file::Named;
-use planner::plan;
+use plan_inputs::{coterie_of, plan_text_of, planned_of};
 use std::alloc::{AllocError, Global};
 
 /// Adds a name and a newline.
@@ -42,25 +38,6 @@ fn names(alloc: Global, coterie: &[u8], out: &mut [u8], written: &mut usize) -> 
     match names_of(alloc, &named) {
         Ok(text) => put(text.as_str(), out, written),
         Err(_) => Outcome::NoMemory,
-    }
-}
-
-/// Returns the text of a plan of the coterie that a text describes.
-#[tactic(auto, using(crate::proofs::TextLemmas::unplanned_refused, crate::proofs::TextLemmas::unread_refused))]
-fn plan_text_of(alloc: Global, coterie: &[u8]) -> Result<String, Fault>
-    ensures { Plans string_bytes coterie.now result }
-{
-    let named = match coterie_of(alloc, coterie) {
-        Ok(named) => named,
-        Err(fault) => return Err(fault),
-    };
-    let plan = match plan(alloc, named.coterie(), named.capacities()) {
-        Ok(plan) => plan,
-        Err(fault) => return Err(Fault::from(fault)),
-    };
-    match write_plan(alloc, &plan) {
-        Ok(text) => Ok(text),
-        Err(_) => Err(Fault::OutOfMemory),
     }
 }
 

@@ -8,20 +8,20 @@ use Rattle.whole_io.specs.declared.fault.DeviceFault.TheVariants.{ReadFault, Too
 use Rattle.replay.specs.Scripts.{IsBadText}
 use Rattle.replay.specs.declared.fault.ReplayFault.{ReplayFault}
 use Rattle.replay.specs.declared.fault.ReplayFault.TheVariants as replay
+use Rattle.plan_inputs.specs.Inputs.{PlannedSystem}
+use Rattle.plan_inputs.specs.declared.fault.InputFault.TheVariants as inputs
 use Rattle.commands.specs.Commands.{IsRefusedBy, Refuses, coterie_part, staged_in}
 use Rattle.commands.specs.Devices.{IsOfReading, IsOwn}
 use Rattle.commands.specs.Faults.{IsOfFile, replay_refusal}
-use Rattle.commands.specs.declared.answer.Planned.{Planned}
 use Rattle.commands.specs.declared.fault.Fault.{Fault}
-use Rattle.commands.specs.declared.fault.Fault.TheVariants as faults
-use Rattle.commands.specs.declared.fault.Fault.TheVariants.{MissingPart, UnknownVoter, Device, Construct, File, Planner, Replay, Cluster, OutOfMemory}
+use Rattle.commands.specs.declared.fault.Fault.TheVariants.{MissingPart, UnknownVoter, Device, Construct, Input, Replay, Cluster, OutOfMemory}
 use Rattle.command_line.specs.declared.command.Command.TheVariants as commands
 use Rattle.show_cli.specs.Failures.{RefusesWithout}
 use Rattle.show_cli.specs.Pages.{BeginsShowing, ComesOfShowing, IsPage, OfRead, RefusesPage, Shows, reads_page_input}
 use Rattle.show_cli.specs.declared.command.ShowCommand.{ShowCommand}
 
 -- a refusal of the script is one of the command `world`
-pub script_refused : (input script : List ℕ) (planned : Planned) (fault : ReplayFault) → staged_in input ≡ Ok (planned, script) → IsBadText script fault
+pub script_refused : (input script : List ℕ) (planned : PlannedSystem) (fault : ReplayFault) → staged_in input ≡ Ok (planned, script) → IsBadText script fault
     → IsRefusedBy commands.World input (replay_refusal fault)
 script_refused input script planned replay.OutOfMemory e h = tt
 script_refused input script planned (replay.BadLine line) e h = record { planned = planned; script = script; parts = e; bad = h }
@@ -62,9 +62,7 @@ own_of_seen command seen OutOfMemory own h = tt
 own_of_seen command seen (MissingPart k) own h = h
 own_of_seen command seen (UnknownVoter k) own h = h
 own_of_seen command seen (Construct fault) own h = h
-own_of_seen command seen (File fault) own h = h
-own_of_seen command seen (faults.Plan fault) own h = h
-own_of_seen command seen (Planner fault) own h = h
+own_of_seen command seen (Input fault) own h = h
 own_of_seen command seen (Replay fault) own h = h
 own_of_seen command seen (Cluster fault) own h = h
 
@@ -86,9 +84,7 @@ reading_of_seen command known true (Device device.OutOfMemory) reads e h = absur
 reading_of_seen command known true (MissingPart k) reads e h = absurd h
 reading_of_seen command known true (UnknownVoter k) reads e h = absurd h
 reading_of_seen command known true (Construct fault) reads e h = absurd h
-reading_of_seen command known true (File fault) reads e h = absurd h
-reading_of_seen command known true (faults.Plan fault) reads e h = absurd h
-reading_of_seen command known true (Planner fault) reads e h = absurd h
+reading_of_seen command known true (Input fault) reads e h = absurd h
 reading_of_seen command known true (Replay fault) reads e h = absurd h
 reading_of_seen command known true (Cluster fault) reads e h = absurd h
 
@@ -100,5 +96,5 @@ reading_fault_comes command (Some known) fault reads h = reading_of_seen command
 -- an input that is no coterie is refused for that
 pub no_coterie_left : (words : List (List ℕ)) (input : List ℕ) (fault : Fault) → IsOfFile fault → Refuses fault (coterie_part input) → RefusesWithout words input fault
 no_coterie_left words input OutOfMemory of_file h = h
-no_coterie_left words input (File fault) of_file h = h
+no_coterie_left words input (Input (inputs.File fault)) of_file h = h
 no_coterie_left words input fault of_file h = absurd of_file

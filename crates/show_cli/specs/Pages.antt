@@ -10,8 +10,8 @@ use Rattle.show_tickets.specs.Rounds.{deal_page_text}
 use Rattle.show_words.specs.Plans.{IsPlanPage}
 use Rattle.show_words.specs.Worlds.{IsWorldPage}
 use Rattle.show_svg.specs.Pictures.{IsEnded}
+use Rattle.plan_inputs.specs.Inputs.{PlannedSystem}
 use Rattle.commands.specs.Commands.{IsRefusedBy, Refuses, coterie_part, planned_in, reads_input, staged_in}
-use Rattle.commands.specs.declared.answer.Planned.{Planned}
 use Rattle.commands.specs.declared.fault.Fault.{Fault}
 use Rattle.commands.specs.declared.fault.Fault.TheVariants.{Device, OutOfMemory}
 use Rattle.command_line.specs.declared.command.Command.TheVariants as qlock
@@ -27,37 +27,37 @@ use Rattle.show_cli.specs.declared.command.ShowCommand.TheVariants as show
 
 -- the page is that of the tickets below n, by the plan in the input
 pub record IsDealPage (n : ℕ) (input page : List ℕ) : Type 0 where
-  pub planned : Planned
+  pub planned : PlannedSystem
   pub parts : planned_in input ≡ Ok planned
   pub is : page ≡ deal_page_text planned n
 
 -- the page is that of the tickets below n, in the even order of the plan in the input
 pub record IsEvenDealPage (n : ℕ) (input page : List ℕ) : Type 0 where
-  pub planned : Planned
+  pub planned : PlannedSystem
   pub parts : planned_in input ≡ Ok planned
   pub is : IsEvenPage planned n page
 
 -- the page is one of the plan in the input, with the names in the input
 pub record IsPlanWords (input page : List ℕ) : Type 0 where
-  pub planned : Planned
+  pub planned : PlannedSystem
   pub parts : planned_in input ≡ Ok planned
   pub words : IsPlanPage planned.named.names planned.plan page
 
 -- the page is a report of the plan in the input, with the names in the input
 pub record IsPlanReport (input page : List ℕ) : Type 0 where
-  pub planned : Planned
+  pub planned : PlannedSystem
   pub parts : planned_in input ≡ Ok planned
   pub report : IsReport planned.named.names planned.plan page
 
 -- the input is a coterie and a plan of it, and the page ends as a picture does
 pub record IsPlanPicture (input page : List ℕ) : Type 0 where
-  pub planned : Planned
+  pub planned : PlannedSystem
   pub parts : planned_in input ≡ Ok planned
   pub ended : IsEnded page
 
 -- the input is a coterie, a plan of it and a script, and the page is one of a script's run
 pub record IsScriptWords (input page : List ℕ) : Type 0 where
-  pub planned : Planned
+  pub planned : PlannedSystem
   pub script : Script
   pub is_script : IsScript script
   pub parts : staged_in input ≡ Ok (planned, script_text script)
@@ -65,7 +65,7 @@ pub record IsScriptWords (input page : List ℕ) : Type 0 where
 
 -- the input is a coterie, a plan of it and a script, and the page ends as a picture does
 pub record IsScriptPicture (input page : List ℕ) : Type 0 where
-  pub planned : Planned
+  pub planned : PlannedSystem
   pub script : Script
   pub is_script : IsScript script
   pub parts : staged_in input ≡ Ok (planned, script_text script)

@@ -3,6 +3,7 @@ ghost use Rattle.std.specs.Prelude.{◌≡◌, ◌≤◌, IfErr, IfOk, Ok, strin
 ghost use Rattle.show_faults.specs.Pages.{IsFaultsList, IsFaultsPage};
 ghost use Rattle.show_faults.specs.Texts.{text_of};
 ghost use Rattle.replay.specs.Scripts.{IsScript, script_text};
+ghost use Rattle.plan_inputs.specs.Inputs.{parts_of};
 ghost use Rattle.commands.specs.Commands.{IsInRange, IsRefusedBy, staged_in};
 ghost use Rattle.commands.specs.Devices.{IsOwn};
 ghost use Rattle.show_cli.specs.Commands.{IsShown};
@@ -20,7 +21,7 @@ use show_report::report_page;
 use show_tickets::{even_page, rounds_page};
 use show_words::{plan_words, world_words};
 use show_worlds::world_picture;
-use std::alloc::{AllocError, Global};
+use std::alloc::Global;
 
 /// Returns the page of dealt tickets for an input.
 fn deal_page(alloc: Global, input: &[u8], count: u32) -> Result<String, Fault>
@@ -115,7 +116,7 @@ fn cycle_page(alloc: Global, input: &[u8]) -> Result<String, Fault>
 
 /// Returns a script, its coterie and its plan.
 fn script_of(alloc: Global, input: &[u8]) -> Result<(Planned, Script), Fault>
-    ensures parts { IfOk result (λ read. staged_in input.now ≡ Ok (read.0, script_text read.1)) }
+    ensures parts { IfOk result (λ read. staged_in input.now ≡ Ok (parts_of read.0, script_text read.1)) }
     ensures script { IfOk result (λ read. IsScript read.1) }
     ensures refused { IfErr result (IsRefusedBy Command.World input.now) }
     ensures own { IfErr result IsOwn }

@@ -12,9 +12,10 @@ use Rattle.replay.specs.declared.fault.ReplayFault.{ReplayFault}
 use Rattle.replay.specs.declared.fault.ReplayFault.TheVariants as replay
 use Rattle.construct.specs.declared.fault.ConstructFault.{ConstructFault}
 use Rattle.construct.specs.declared.fault.ConstructFault.TheVariants as construct
+use Rattle.plan_inputs.specs.declared.fault.InputFault.{InputFault}
+use Rattle.plan_inputs.specs.declared.fault.InputFault.TheVariants as inputs
 use Rattle.commands.specs.declared.fault.Fault.{Fault}
-use Rattle.commands.specs.declared.fault.Fault.TheVariants as faults
-use Rattle.commands.specs.declared.fault.Fault.TheVariants.{Cluster, Construct, Device, File, MissingPart, OutOfMemory, Planner, Replay, UnknownVoter}
+use Rattle.commands.specs.declared.fault.Fault.TheVariants.{Cluster, Construct, Device, Input, MissingPart, OutOfMemory, Replay, UnknownVoter}
 
 -- of a fault of the quorums of a coterie
 abbrev pub coterie_code : CoterieFault → List ℕ
@@ -58,6 +59,13 @@ abbrev pub planner_code : PlannerFault → List ℕ
 planner_code (planner.NoPlan n) = codes "N1"
 planner_code planner.OutOfMemory = codes "O1"
 
+-- of a fault of a coterie or a plan, or of the search for a plan
+abbrev pub input_code : InputFault → List ℕ
+input_code (inputs.File fault) = file_code fault
+input_code (inputs.Plan fault) = plan_code fault
+input_code (inputs.Planner fault) = planner_code fault
+input_code inputs.OutOfMemory = codes "O1"
+
 -- of a fault of a script or a record
 abbrev pub replay_code : ReplayFault → List ℕ
 replay_code (replay.TicketTwice n) = codes "A1"
@@ -82,9 +90,7 @@ abbrev pub code_of : Fault → List ℕ
 code_of (MissingPart part) = codes "I1"
 code_of (UnknownVoter place) = codes "I6"
 code_of (Construct fault) = construct_code fault
-code_of (File fault) = file_code fault
-code_of (faults.Plan fault) = plan_code fault
-code_of (Planner fault) = planner_code fault
+code_of (Input fault) = input_code fault
 code_of (Replay fault) = replay_code fault
 code_of (Device fault) = codes "O1"
 code_of (Cluster fault) = codes "O1"

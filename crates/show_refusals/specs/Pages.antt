@@ -1,8 +1,8 @@
 -- The page about the fault with which `qlock` refuses an input.
 use Rattle.std.specs.Prelude.{◌≡◌, ◌⊎◌, ℕ, Bool, true, false, List, ◌++◌, codes, Ok}
 use Rattle.std.specs.Bool.{OnFalse}
+use Rattle.plan_inputs.specs.Inputs.{PlannedSystem}
 use Rattle.commands.specs.Commands.{IsAnswer, IsRefusal, planned_in}
-use Rattle.commands.specs.declared.answer.Planned.{Planned}
 use Rattle.commands.specs.declared.fault.Fault.{Fault}
 use Rattle.commands.specs.declared.fault.Fault.TheVariants.{Cluster, Device, OutOfMemory}
 use Rattle.command_line.specs.declared.command.Command.{Command}
@@ -17,7 +17,7 @@ pub record NamesCode (code page : List ℕ) : Type 0 where
 -- the command takes the input: it has an output for it, or, for `run`, which is not run here, the
 -- input is a coterie and a plan of it
 abbrev pub IsTaken : Command → List ℕ → Type 0
-IsTaken (qlock.Run clients passes turns) input = (planned : Planned) × (planned_in input ≡ Ok planned)
+IsTaken (qlock.Run clients passes turns) input = (planned : PlannedSystem) × (planned_in input ≡ Ok planned)
 IsTaken command input = (output : List ℕ) × IsAnswer command input output
 
 -- the fault is none of the input: it is of a device, of a run, or of memory

@@ -1,9 +1,9 @@
 //! The code of each fault with which `qlock` refuses an input.
 ghost use Rattle.std.specs.Prelude.{◌≡◌};
-ghost use Rattle.show_refusals.specs.Codes.{code_of, construct_code, coterie_code, file_code, plan_code, planner_code, replay_code};
+ghost use Rattle.show_refusals.specs.Codes.{code_of, construct_code, coterie_code, file_code, input_code, plan_code, planner_code, replay_code};
 
 use certificate::PlanFault;
-use commands::Fault;
+use commands::{Fault, InputFault};
 use construct::ConstructFault;
 use coterie_file::FileFault;
 use planner::PlannerFault;
@@ -72,6 +72,18 @@ fn planner_code(fault: PlannerFault) -> &'static str
     }
 }
 
+/// Returns the code of a fault of a coterie or a plan, or of the search for a plan.
+fn input_code(fault: InputFault) -> &'static str
+    ensures { result.now ≡ input_code fault }
+{
+    match fault {
+        InputFault::File(fault) => file_code(fault),
+        InputFault::Plan(fault) => plan_code(fault),
+        InputFault::Planner(fault) => planner_code(fault),
+        InputFault::OutOfMemory => "O1",
+    }
+}
+
 /// Returns the code of a fault of a script or a record.
 fn replay_code(fault: ReplayFault) -> &'static str
     ensures { result.now ≡ replay_code fault }
@@ -109,9 +121,7 @@ pub(crate) fn code_of(fault: Fault) -> &'static str
         Fault::MissingPart(_) => "I1",
         Fault::UnknownVoter(_) => "I6",
         Fault::Construct(fault) => construct_code(fault),
-        Fault::File(fault) => file_code(fault),
-        Fault::Plan(fault) => plan_code(fault),
-        Fault::Planner(fault) => planner_code(fault),
+        Fault::Input(fault) => input_code(fault),
         Fault::Replay(fault) => replay_code(fault),
         Fault::Device(_) | Fault::Cluster(_) | Fault::OutOfMemory => "O1",
     }

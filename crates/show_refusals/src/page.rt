@@ -10,7 +10,7 @@ use crate::plan_faults::{Parts, push_bad_numbers, push_plan_values};
 use crate::shape_faults::push_shape_fault;
 use crate::text_faults::push_file_fault;
 use certificate::PlanFault;
-use commands::{Command, Fault, Watched, execute, planned_of};
+use commands::{Command, Fault, InputFault, Watched, execute, planned_of};
 use construct::ConstructFault;
 use coterie_file::FileFault;
 use planner::{Cause, PlannerFault};
@@ -277,6 +277,21 @@ fn push_coterie_text(
     push_file_fault(alloc, text, part, fault)
 }
 
+/// Appends what is wrong with a coterie or a plan, or why no plan was found.
+fn push_input_fault(
+    alloc: Global,
+    text: &mut String,
+    refused: &Refused,
+    fault: InputFault,
+) -> Result<(), AllocError> {
+    match fault {
+        InputFault::File(fault) => push_coterie_text(alloc, text, refused, fault),
+        InputFault::Plan(fault) => push_plan_fault(alloc, text, refused, fault),
+        InputFault::Planner(fault) => push_planner_fault(text, fault),
+        InputFault::OutOfMemory => Ok(()),
+    }
+}
+
 /// Appends what is wrong with the shape that `make` was to make.
 fn push_made(
     text: &mut String,
@@ -306,9 +321,7 @@ fn push_place(
     }
     match fault {
         Fault::MissingPart(number) => push_missing(text, refused, number),
-        Fault::File(fault) => push_coterie_text(alloc, text, refused, fault),
-        Fault::Plan(fault) => push_plan_fault(alloc, text, refused, fault),
-        Fault::Planner(fault) => push_planner_fault(text, fault),
+        Fault::Input(fault) => push_input_fault(alloc, text, refused, fault),
         Fault::Replay(fault) => push_replay_fault(text, refused, fault),
         Fault::Construct(fault) => push_made(text, refused, fault),
         Fault::UnknownVoter(_) | Fault::Device(_) | Fault::Cluster(_) | Fault::OutOfMemory => {

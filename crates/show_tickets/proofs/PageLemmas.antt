@@ -11,8 +11,8 @@ use Rattle.dealer.specs.declared.receipt.Receipt.{Receipt}
 use Rattle.dealer.specs.Offices.{receipt_of}
 use Rattle.even.specs.EvenCycles.{EvenOrder, window}
 use Rattle.even.specs.declared.slack.Slack.{Slack}
+use Rattle.plan_inputs.specs.Inputs.{PlannedSystem}
 use Rattle.commands.specs.Commands.{account_text, ratio_part}
-use Rattle.commands.specs.declared.answer.Planned.{Planned}
 use Rattle.show_tickets.specs.EvenOrder.{account_of_list, even_page_text, even_ticket_lines, order_lines}
 use Rattle.show_tickets.specs.Lines.{named_receipt_line}
 use Rattle.show_tickets.specs.Rounds.{deal_page_text, named_ticket_lines}
@@ -36,7 +36,7 @@ named_lines named w [] = refl
 named_lines named w (t ∷ ts) = ap (λ rest. named_receipt_line named (receipt_of w t) ++ rest) (named_lines named w ts)
 
 -- the lines of the receipts, behind them those of the account, and its ratio
-pub deal_page_joined : (p : Planned) (n : ℕ) (receipts : List Receipt) (account : Account) (start tickets counted all : List ℕ) → receipts ≡ map (receipt_of p.plan) (range_with_len 0 n)
+pub deal_page_joined : (p : PlannedSystem) (n : ℕ) (receipts : List Receipt) (account : Account) (start tickets counted all : List ℕ) → receipts ≡ map (receipt_of p.plan) (range_with_len 0 n)
     → account ≡ account_of p.plan (range_with_len 0 n) → start ≡ []
     → tickets ≡ start ++ flat_map (named_receipt_line p.named) receipts → counted ≡ tickets ++ account_text p.named.names account → all ≡ counted ++ ratio_part p.named.capacities account
     → all ≡ deal_page_text p n

@@ -15,8 +15,8 @@ use Rattle.even.specs.EvenCycles.{EvenOrder, even_quorum, window}
 use Rattle.even.specs.Slacks.{IsSlack}
 use Rattle.even.specs.Strides.{IsFirstBest, strides_of}
 use Rattle.even.specs.declared.slack.Slack.{Slack}
+use Rattle.plan_inputs.specs.Inputs.{PlannedSystem}
 use Rattle.commands.specs.Commands.{account_text, ratio_part}
-use Rattle.commands.specs.declared.answer.Planned.{Planned}
 use Rattle.show_tickets.specs.Lines.{named_receipt_line}
 
 -- how often a list of quorums uses each voter
@@ -80,7 +80,7 @@ even_page_text named o slack n =
 
 -- The page is that of the tickets below n in the even order of the plan: its stride is the first of
 -- smallest slack among those that are tried. By the law `even_orders_are_one` there is one such order.
-pub record IsEvenPage (planned : Planned) (n : ℕ) (page : List ℕ) : Type 0 where
+pub record IsEvenPage (planned : PlannedSystem) (n : ℕ) (page : List ℕ) : Type 0 where
   pub order : EvenOrder
   pub plan : order.plan ≡ planned.plan
   pub first : IsFirstBest (strides_of (cycle_len planned.plan)) order

@@ -3,6 +3,7 @@ ghost use Rattle.std.specs.Prelude.{◌≡◌, ◌<◌, ◌++◌, length, All, I
 ghost use Rattle.certificate.specs.Certificates.{cycle_len};
 ghost use Rattle.even.specs.EvenCycles.{window};
 ghost use Rattle.even.specs.Strides.{IsFirstBest, strides_of};
+ghost use Rattle.plan_inputs.specs.Inputs.{parts_of};
 ghost use Rattle.show_tickets.specs.EvenOrder.{IsEvenPage, even_ticket_lines, order_lines, slack_line, slack_words, stride_line};
 
 use crate::account::account_of;
@@ -113,8 +114,7 @@ fn push_order(
 /// names of the voters to ask, then the account of these tickets, and the stride and the slack of the
 /// order. Fails only if it runs out of memory.
 pub fn even_page(alloc: Global, planned: Planned, count: u64) -> Result<String, AllocError>
-    requires same { planned.plan.system ≡ planned.named.system }
-    ensures { IfOk result (λ page. IsEvenPage planned count (string_bytes page)) }
+    ensures { IfOk result (λ page. IsEvenPage (parts_of planned) count (string_bytes page)) }
 {
     let Planned { named, plan } = planned;
     let cycle = even_cycle(alloc, plan)?;

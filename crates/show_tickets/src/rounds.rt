@@ -1,6 +1,7 @@
 //! The page of tickets that are dealt by rounds.
 ghost use Rattle.std.specs.Prelude.{◌≡◌, ◌≤◌, ◌++◌, IfOk, OnOk, string_bytes};
 ghost use Rattle.std.specs.List.{flat_map};
+ghost use Rattle.plan_inputs.specs.Inputs.{parts_of};
 ghost use Rattle.show_tickets.specs.Lines.{named_receipt_line};
 ghost use Rattle.show_tickets.specs.Rounds.{deal_page_text};
 
@@ -24,9 +25,8 @@ fn push_tickets(text: &mut String, named: &Named, receipts: &[Receipt]) -> Resul
 /// Returns the page of the tickets below `count`, dealt by rounds: for each its quorum and the names of
 /// the voters to ask, then the account of these tickets. Fails only if it runs out of memory.
 pub fn rounds_page(alloc: Global, planned: Planned, count: u64) -> Result<String, AllocError>
-    requires same { planned.plan.system ≡ planned.named.system }
     requires count { count ≤ 100000 }
-    ensures { IfOk result (λ page. string_bytes page ≡ deal_page_text planned count) }
+    ensures { IfOk result (λ page. string_bytes page ≡ deal_page_text (parts_of planned) count) }
 {
     let Planned { named, plan } = planned;
     let (account, receipts) = dealt(alloc, plan, count)?;

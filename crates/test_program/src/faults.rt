@@ -4,14 +4,14 @@ ghost use Rattle.std.specs.Prelude.{◌≡◌};
 
 use board::BoardFault;
 use certificate::PlanFault;
-use cluster::{Blank, CloseFault, ClusterFault, ClusterName};
+use cluster::{Blank, ClusterFault, ClusterName};
 use construct::ConstructFault;
 use coterie_file::FileFault;
 use dealer::{DealFault, OfficeFault, Plans};
 use fraction::FracFault;
 use message::MessageFault;
 use planner::{Cause, PlannerFault};
-use qlock_cli::{DeviceFault, Fault};
+use qlock_cli::{DeviceFault, Fault, InputFault};
 use quorum_set::{BridgeFault, CoterieFault};
 use replay::ReplayFault;
 use requester::ClientFault;
@@ -212,17 +212,22 @@ const DEVICES: [(DeviceFault, &str); 4] = [
     (DeviceFault::OutOfMemory, "O1 OutOfMemory"),
 ];
 
-const COMMANDS: [(Fault, &str); 10] = [
+const INPUTS: [(InputFault, &str); 4] = [
+    (InputFault::File(FileFault::Keys), "F2 Keys"),
+    (InputFault::Plan(PlanFault::WrongLoad), "P6 WrongLoad"),
+    (
+        InputFault::Planner(PlannerFault::NoPlan(Cause::PivotLimit)),
+        "N1 NoPlan S2",
+    ),
+    (InputFault::OutOfMemory, "O1 OutOfMemory"),
+];
+
+const COMMANDS: [(Fault, &str); 8] = [
     (Fault::MissingPart(3), "I1 MissingPart 3"),
     (Fault::UnknownVoter(63), "I6 UnknownVoter 63"),
     (Fault::Device(DeviceFault::TooLong), "I2 TooLong"),
     (Fault::Construct(ConstructFault::BadSize), "G1 BadSize"),
-    (Fault::File(FileFault::Keys), "F2 Keys"),
-    (Fault::Plan(PlanFault::WrongLoad), "P6 WrongLoad"),
-    (
-        Fault::Planner(PlannerFault::NoPlan(Cause::PivotLimit)),
-        "N1 NoPlan S2",
-    ),
+    (Fault::Input(InputFault::File(FileFault::Keys)), "F2 Keys"),
     (Fault::Replay(ReplayFault::BadLine(1)), "A7 BadLine 1"),
     (
         Fault::Cluster(ClusterFault::TurnsSpent(1)),
@@ -252,6 +257,7 @@ fn faults_of_plans(rt: HostRuntime) -> Result<(), Fail> {
     assert!(rt; have_lines(alloc, &SIMPLEX_METHODS)?);
     assert!(rt; have_lines(alloc, &PLANS)?);
     assert!(rt; have_lines(alloc, &PLANNERS)?);
+    assert!(rt; have_lines(alloc, &INPUTS)?);
     Ok(())
 }
 

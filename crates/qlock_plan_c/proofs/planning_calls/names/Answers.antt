@@ -1,7 +1,7 @@
 use Rattle.std.proofs.Common.{◌≡◌, Err}
 use Rattle.qlock_plan_c.specs.Calls.{IsNamesText}
 use Rattle.qlock_plan_c.specs.Outputs.{output}
-use Rattle.qlock_plan_c.specs.Texts.{coterie_in}
+use Rattle.plan_inputs.specs.Inputs.{coterie_in}
 use Rattle.qlock_plan_c.proofs.CallLemmas.{fault_written}
 use Rattle.qlock_plan_c.proofs.planning_calls.names.Goals as goal
 

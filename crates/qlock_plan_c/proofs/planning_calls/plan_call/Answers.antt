@@ -1,5 +1,5 @@
 use Rattle.qlock_plan_c.specs.Outputs.{output}
-use Rattle.qlock_plan_c.specs.Texts.{IsPlanText, RefusesToPlan}
+use Rattle.plan_inputs.specs.Inputs.{IsPlanText, RefusesToPlan}
 use Rattle.qlock_plan_c.proofs.CallLemmas.{fault_written}
 use Rattle.qlock_plan_c.proofs.planning_calls.plan_call.Goals as goal
 

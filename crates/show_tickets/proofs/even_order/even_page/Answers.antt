@@ -11,7 +11,7 @@ pub push_account-requires-clause-one_each : goal.push_account-requires-clause-on
 push_account-requires-clause-one_each c =
     c.in_ok-account.ensures.one_each
     ∙ ap (λ (w : Weighted). w.system.voters) (c.plan.ensures.value ∙ c.in_ok-cycle.ensures.plan)
-    ∙ ap (λ (s : QuorumSystem). s.voters) c.requires.same
+    ∙ ap (λ (s : QuorumSystem). s.voters) c.args.planned.same
 
 pub returns : goal.returns
 returns c =

@@ -1,9 +1,9 @@
 use Rattle.std.proofs.Common.{ap, ◌∙◌}
 use Rattle.coterie_file.specs.Reading.{coterie_at}
-use Rattle.qlock_plan_c.specs.Faults.{refused_as}
-use Rattle.qlock_plan_c.specs.declared.fault.Fault.TheVariants.{File}
-use Rattle.qlock_plan_c.proofs.TextLemmas.{Refuses-file, coterie_in-read, coterie_in-refused}
-use Rattle.qlock_plan_c.proofs.reading.coterie_of.Goals as goal
+use Rattle.plan_inputs.specs.Faults.{refused_as}
+use Rattle.plan_inputs.specs.declared.fault.InputFault.TheVariants.{File}
+use Rattle.plan_inputs.proofs.InputLemmas.{Refuses-file, coterie_in-read, coterie_in-refused}
+use Rattle.plan_inputs.proofs.reading.coterie_of.Goals as goal
 
 pub returns-in_default-clause-exact : goal.returns-in_default-clause-exact
 returns-in_default-clause-exact c = coterie_in-refused c.args.text.now c.in_default.ensures.cases.0

@@ -15,10 +15,10 @@ use Rattle.planner.specs.Causes.{CanCome}
 use Rattle.planner.specs.Uniform.{IsWarranted}
 use Rattle.planner.specs.declared.fault.PlannerFault.{PlannerFault}
 use Rattle.planner.specs.declared.fault.PlannerFault.TheVariants as planner
-use Rattle.qlock_plan_c.specs.Faults.{IsOfFile, Refuses, file_refusal, is_out_of_memory, plan_refusal, planner_refusal, refused_as}
-use Rattle.qlock_plan_c.specs.Texts.{RefusesToPlan, coterie_in}
-use Rattle.qlock_plan_c.specs.declared.fault.Fault.{Fault}
-use Rattle.qlock_plan_c.specs.declared.fault.Fault.TheVariants.{File, Plan, Planner, OutOfMemory}
+use Rattle.plan_inputs.specs.Faults.{IsOfFile, Refuses, file_refusal, is_out_of_memory, plan_refusal, planner_refusal, refused_as}
+use Rattle.plan_inputs.specs.Inputs.{RefusesToPlan, coterie_in}
+use Rattle.plan_inputs.specs.declared.fault.InputFault.{InputFault}
+use Rattle.plan_inputs.specs.declared.fault.InputFault.TheVariants.{File, Plan, Planner, OutOfMemory}
 
 is_no_text : (bytes : List ℕ) (b : Bool) → is_utf8 bytes ≡ b → (IsUtf8 bytes → ⊥) → b ≡ false
 is_no_text bytes true e none = absurd (none (IsUtf8-from_is_utf8 bytes e))
@@ -53,7 +53,7 @@ unplanned_refused coterie named planner.OutOfMemory e warranted can_come = tt
 unplanned_refused coterie named (planner.NoPlan cause) e warranted can_come = record { named = named; coterie_is = e; warranted = warranted; can_come = can_come }
 
 -- a text that describes no coterie has no plan
-pub unread_refused : (coterie : List ℕ) (fault : Fault) → IsOfFile fault → OnFalse (is_out_of_memory fault) (coterie_in coterie ≡ Err fault)
+pub unread_refused : (coterie : List ℕ) (fault : InputFault) → IsOfFile fault → OnFalse (is_out_of_memory fault) (coterie_in coterie ≡ Err fault)
     → OnFalse (is_out_of_memory fault) (RefusesToPlan coterie fault)
 unread_refused coterie OutOfMemory of_file e = tt
 unread_refused coterie (File fault) of_file e = e
