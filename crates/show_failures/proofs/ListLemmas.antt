@@ -1,20 +1,9 @@
 -- Lemmas on lists that are made from others.
-use Rattle.std.proofs.Common.{◌≡◌, ℕ, ◌+◌, ◌<◌, Bool, cond, not, ltb, List, [], ◌∷◌, ◌++◌, length, map, take, drop, slice_get, sym, refl, ap, ◌∙◌, Option, None, Some}
-use Rattle.std.proofs.lemmas.List.{length-map, map-append, take_more, drop_more}
+use Rattle.std.proofs.Common.{◌≡◌, ℕ, ◌+◌, ◌<◌, List, [], ◌∷◌, ◌++◌, length, map, take, drop, slice_get, sym, refl, ap, ◌∙◌, Some}
+use Rattle.std.proofs.lemmas.List.{map-append, take_more, drop_more}
 use Rattle.std.proofs.lemmas.List.Folds.{flat_map-map}
 use Rattle.std.proofs.lemmas.Option.{get_or_from_slice_get}
-use Rattle.std.specs.List.{join_by, position, prefix_len, position_or_len}
-
-prefix_len-map : {A B : Type 0} (p : B → Bool) (f : A → B) (xs : List A) → prefix_len p (map f xs) ≡ prefix_len (λ x. p (f x)) xs
-prefix_len-map p f [] = refl
-prefix_len-map p f (x ∷ xs) = ap (λ n. cond (p (f x)) (1 + n) 0) (prefix_len-map p f xs)
-
--- a place among values made of others
-pub position-map : {A B : Type 0} (p : B → Bool) (f : A → B) (xs : List A) → position p (map f xs) ≡ position (λ x. p (f x)) xs
-position-map {A} {B} p f xs =
-    let place : position_or_len p (map f xs) ≡ position_or_len (λ x. p (f x)) xs = prefix_len-map (λ y. not (p y)) f xs in
-    let P : ℕ → ℕ → Option ℕ = λ n m. cond (ltb n m) (Some n) None in
-    ap (λ n. P n (length (map f xs))) place ∙ ap (λ m. P (position_or_len (λ x. p (f x)) xs) m) (length-map xs f)
+use Rattle.std.specs.List.{join_by}
 
 -- one value more at the end
 pub map-push : {A B : Type 0} (f : A → B) (xs : List A) (x : A) → map f (xs ++ x ∷ []) ≡ map f xs ++ f x ∷ []

@@ -1,21 +1,16 @@
 -- Lemmas on lists of names.
-use Rattle.std.proofs.Common.{◌≡◌, ℕ, ◌+◌, ◌<◌, ◌≤◌, true, false, ◌||◌, List, length, drop, slice_get, ap, ◌∙◌, arith, Some}
+use Rattle.std.proofs.Common.{◌≡◌, ℕ, ◌+◌, ◌<◌, ◌≤◌, Bool, ◌||◌, List, length, drop, slice_get, ap, ◌∙◌, arith, Some}
 use Rattle.std.specs.Str.{bytes_eq}
 use Rattle.quorum_set.specs.Coteries.{QuorumSystem}
 use Rattle.coterie_file.specs.Named.{NamedSystem, IsNamed}
 use Rattle.coterie_file.specs.Names.{has_name}
 use Rattle.show_failures.proofs.ListLemmas.{drop-at}
 
--- the name at a place is the wanted one
-pub has_name-here : (names : List (List ℕ)) (k : ℕ) (name x : List ℕ) → slice_get names k ≡ Some x → k < length names → bytes_eq name x ≡ true → has_name (drop k names) name ≡ true
-has_name-here names k name x e lt same =
-    ap (λ t. has_name t name) (drop-at names k x e lt) ∙ ap (λ b. b || has_name (drop (k + 1) names) name) same
-
--- it is another one
-pub has_name-later : (names : List (List ℕ)) (k : ℕ) (name x : List ℕ) → slice_get names k ≡ Some x → k < length names → bytes_eq name x ≡ false
-    → has_name (drop k names) name ≡ has_name (drop (k + 1) names) name
-has_name-later names k name x e lt differ =
-    ap (λ t. has_name t name) (drop-at names k x e lt) ∙ ap (λ b. b || has_name (drop (k + 1) names) name) differ
+-- the name at a place is the wanted one, or a later one is
+pub has_name-at : (names : List (List ℕ)) (k : ℕ) (name x : List ℕ) (same : Bool) → slice_get names k ≡ Some x → k < length names → bytes_eq name x ≡ same
+    → has_name (drop k names) name ≡ (same || has_name (drop (k + 1) names) name)
+has_name-at names k name x same e lt is =
+    ap (λ t. has_name t name) (drop-at names k x e lt) ∙ ap (λ b. b || has_name (drop (k + 1) names) name) is
 
 -- a voter below the number of voters has a name
 pub below_names : (named : NamedSystem) (s : QuorumSystem) (k end : ℕ) → IsNamed named → s ≡ named.system → end ≡ s.voters → k < end → k < length named.names

@@ -15,10 +15,6 @@ passing p n = set_where (λ j. nat_lt j n && p j)
 same_set : (p q : ℕ → Bool) → ((i : ℕ) → i < 64 → p i ≡ q i) → set_where p ≡ set_where q
 same_set p q e = is_set_where (set_where p) q (IsSet-set_where p) (λ i lt. has-set_where p i lt ∙ e i lt)
 
--- no voter is below 0
-pub passing-none : (p : ℕ → Bool) → [] ≡ passing p 0
-passing-none p = is_set_where [] (λ j. nat_lt j 0 && p j) tt (λ i lt. ap (λ b. b && p i) (sym (le-ltb i 0 (omega arith))))
-
 more_passes : (p : ℕ → Bool) (n i : ℕ) → p n ≡ true → ((i == n) || (nat_lt i n && p i)) ≡ (nat_lt i (n + 1) && p i)
 more_passes p n i has_it = elim (cases_order i n) as (λ _. ((i == n) || (nat_lt i n && p i)) ≡ (nat_lt i (n + 1) && p i)) [
   | inl same ↦ rw same (rw (eq-eqb n n refl, lt-ltb n (n + 1) (omega arith), has_it) refl)

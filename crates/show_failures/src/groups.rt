@@ -1,7 +1,7 @@
 //! Groups of voters, such as racks, by the prefix that their names have in common.
 ghost use Rattle.std.specs.Prelude.{◌≡◌, ◌<◌, All, IfOk, nat_le};
 ghost use Rattle.std.specs.List.{list_all};
-ghost use Rattle.show_failures.specs.Groups.{group_of, groups_of, leads, prefix_of, without_end};
+ghost use Rattle.show_failures.specs.Groups.{group_of, groups_of, prefix_of, without_end};
 
 use coterie_file::Named;
 use quorum_set::QSet;

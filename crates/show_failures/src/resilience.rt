@@ -1,7 +1,6 @@
 //! What a coterie bears: how many voters may fail, and which groups of them.
 ghost use Rattle.std.specs.Prelude.{◌≡◌, ◌<◌, ◌++◌, All, IfOk, OnOk, string_bytes};
 ghost use Rattle.std.specs.List.{flat_map};
-ghost use Rattle.show_failures.specs.Groups.{groups_of};
 ghost use Rattle.show_failures.specs.Resilience.{IsResiliencePage, answer_text, blocking_line, count_line, group_line, group_lines};
 
 use crate::groups::groups_of;

@@ -1,7 +1,7 @@
 //! The explanation of a fault.
 
 /// What a fault means, how to get it, and what usually leads to it.
-#[derive(Clone, Copy, Debug)]
+#[derive(Clone, Copy)]
 pub struct Explanation {
     /// The code, a letter and a digit, as in `E7`.
     pub code: &'static str,

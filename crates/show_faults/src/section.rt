@@ -2,7 +2,7 @@
 use crate::explanation::Explanation;
 
 /// The faults of one kind, with their explanations.
-#[derive(Clone, Copy, Debug)]
+#[derive(Clone, Copy)]
 pub struct Section {
     /// What these faults are about, as a heading.
     pub title: &'static str,

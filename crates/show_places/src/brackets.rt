@@ -2,7 +2,7 @@
 
 /// What a text has so far, byte by byte: the brackets that are open, and whether it is inside a string
 /// or a comment.
-#[derive(Clone, Copy, Debug)]
+#[derive(Clone, Copy)]
 struct Nesting {
     /// The line of the byte, from 1.
     line: usize,

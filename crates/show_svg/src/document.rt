@@ -9,7 +9,7 @@ use std::alloc::AllocError;
 pub const LETTER: u64 = 6;
 
 /// A place in a picture.
-#[derive(Clone, Copy, Debug)]
+#[derive(Clone, Copy)]
 pub struct Point {
     /// How far it is from the left edge.
     pub x: u64,
@@ -25,7 +25,7 @@ impl Point {
 }
 
 /// A rectangle of a picture.
-#[derive(Clone, Copy, Debug)]
+#[derive(Clone, Copy)]
 pub struct Area {
     /// How far it is from the left edge.
     pub x: u64,

@@ -4,7 +4,7 @@ use crate::kinds::{Kind, arrow, kind_of, lost};
 use coterie_file::Named;
 use message::Message;
 use show_svg::{Point, close_group, close_text, close_title, open_text, open_titled, push_escaped};
-use show_words::{Story, push_message_words};
+use show_words::{Moment, Story, push_message_words};
 use std::alloc::{AllocError, Global};
 
 /// How far before its receiver's column the line of a message ends that never came.
@@ -71,23 +71,30 @@ fn open_message(
     write!(out, "; sent in step {step}, ")
 }
 
-/// A message, and its line from where it was sent to where it came.
-#[derive(Clone, Copy, Debug)]
+/// A message that came, and its line from where it was sent to where it came.
+#[derive(Clone, Copy)]
 struct Flight {
+    /// Its number.
+    number: usize,
+    /// The row in which it came.
+    row: u64,
     message: Message,
     from: Point,
     to: Point,
 }
 
 impl Flight {
-    /// Returns a message that came in a row, and its line, if there is such a message.
-    fn of(story: &Story, chart: &Chart, number: usize, row: u64) -> Option<Flight> {
+    /// Returns the message that came in a row, and its line, if one came.
+    fn of(story: &Story, chart: &Chart, moment: &Moment, row: u64) -> Option<Flight> {
+        let number = arrival(moment)?;
         if number >= story.world.sent() {
             return None;
         }
         let message = story.world.message(number);
         let (start, end) = chart.lanes.ends(&message);
         Some(Flight {
+            number,
+            row,
             message,
             from: chart.place(start, chart.sender(number)),
             to: chart.place(end, row),
@@ -117,46 +124,60 @@ impl Flight {
     }
 }
 
-/// Returns how far down the line of a message has to begin, so that no other line lies on it.
-fn shift_of(story: &Story, chart: &Chart, flight: Flight) -> u64 {
-    let mut shift: u64 = 0;
+/// Returns the messages that came, in the order of their rows.
+fn flights_of(alloc: Global, story: &Story, chart: &Chart) -> Result<Vec<Flight>, AllocError> {
+    let mut flights = Vec::new(alloc);
     for (row, moment) in shown_moments(story).iter().enumerate() {
-        let Some(number) = arrival(moment) else {
-            continue;
-        };
-        if let Some(other) = Flight::of(story, chart, number, row as u64) {
-            if flight.covers(other) {
-                shift = SHIFT;
-            }
+        if let Some(flight) = Flight::of(story, chart, moment, row as u64) {
+            flights.push(flight)?;
         }
     }
-    shift
+    Ok(flights)
 }
 
-/// Appends the arrow of a message that came in a row.
+/// Returns how far down the line of a message has to begin, so that no other line lies on it.
+fn shift_of(flights: &[Flight], flight: Flight) -> u64 {
+    if flights.iter().any(|other| flight.covers(*other)) {
+        SHIFT
+    } else {
+        0
+    }
+}
+
+/// Appends the arrow of a message that came.
 fn push_arrow(
     alloc: Global,
     out: &mut String,
     named: &Named,
-    story: &Story,
     chart: &Chart,
-    number: usize,
-    row: u64,
+    flight: Flight,
+    shift: u64,
 ) -> Result<(), AllocError> {
-    let Some(flight) = Flight::of(story, chart, number, row) else {
-        return Ok(());
-    };
-    let Flight { message, from, to } = flight;
-    let y = from.y.saturating_add(shift_of(story, chart, flight));
+    let Flight {
+        number,
+        row,
+        message,
+        from,
+        to,
+    } = flight;
     open_message(alloc, out, named, number, chart.sender(number), &message)?;
     let step = row.saturating_add(1);
     write!(out, "arrives in step {step}")?;
     close_title(out)?;
-    arrow(out, Point::at(from.x, y), to, kind_of(&message).0)?;
+    let start = Point::at(from.x, from.y.saturating_add(shift));
+    arrow(out, start, to, kind_of(&message).0)?;
     close_group(out)
 }
 
-/// Appends an arrow for each arrival.
+/// Appends the labels of messages that came.
+fn push_labels(out: &mut String, flights: &[Flight]) -> Result<(), AllocError> {
+    for flight in flights {
+        push_label(out, flight.from, flight.to, &flight.message)?;
+    }
+    Ok(())
+}
+
+/// Appends an arrow for each message that came, and over the arrows their labels.
 pub fn push_arrows(
     alloc: Global,
     out: &mut String,
@@ -164,38 +185,12 @@ pub fn push_arrows(
     story: &Story,
     chart: &Chart,
 ) -> Result<(), AllocError> {
-    for (row, moment) in shown_moments(story).iter().enumerate() {
-        match arrival(moment) {
-            Some(number) => push_arrow(alloc, out, named, story, chart, number, row as u64)?,
-            None => {}
-        }
+    let flights = flights_of(alloc, story, chart)?;
+    for flight in flights.as_slice() {
+        let shift = shift_of(flights.as_slice(), *flight);
+        push_arrow(alloc, out, named, chart, *flight, shift)?;
     }
-    Ok(())
-}
-
-/// Appends the label of the message that came in a row.
-fn push_arrow_label(
-    out: &mut String,
-    story: &Story,
-    chart: &Chart,
-    number: usize,
-    row: u64,
-) -> Result<(), AllocError> {
-    let Some(flight) = Flight::of(story, chart, number, row) else {
-        return Ok(());
-    };
-    push_label(out, flight.from, flight.to, &flight.message)
-}
-
-/// Appends a label for each arrival, over the arrows.
-pub fn push_labels(out: &mut String, story: &Story, chart: &Chart) -> Result<(), AllocError> {
-    for (row, moment) in shown_moments(story).iter().enumerate() {
-        match arrival(moment) {
-            Some(number) => push_arrow_label(out, story, chart, number, row as u64)?,
-            None => {}
-        }
-    }
-    Ok(())
+    push_labels(out, flights.as_slice())
 }
 
 /// Returns a place shortly before a column, on the way from another one.

@@ -4,7 +4,7 @@ use show_svg::{Point, line, words};
 use std::alloc::AllocError;
 
 /// A kind of message.
-#[derive(Clone, Copy, Debug, PartialEq, Eq)]
+#[derive(Clone, Copy)]
 pub enum Kind {
     /// A client asks for a vote.
     Request,

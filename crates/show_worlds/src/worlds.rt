@@ -2,7 +2,7 @@
 ghost use Rattle.std.specs.Prelude.{IfOk, string_bytes};
 ghost use Rattle.show_svg.specs.Pictures.{IsEnded};
 
-use crate::arrows::{push_all_lost, push_arrows, push_labels};
+use crate::arrows::{push_all_lost, push_arrows};
 use crate::chart::{Chart, shown_moments};
 use crate::kinds::{Kind, lost, push_heads, push_kinds};
 use crate::rows::{INSIDE, MAKER, push_bars, push_makers, push_rows};
@@ -100,7 +100,6 @@ fn push_chart(
     push_makers(out, story, chart)?;
     push_all_lost(alloc, out, named, story, chart)?;
     push_arrows(alloc, out, named, story, chart)?;
-    push_labels(out, story, chart)?;
     push_rest(out, story, foot)
 }
 

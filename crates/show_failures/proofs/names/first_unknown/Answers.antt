@@ -1,6 +1,6 @@
 use Rattle.std.proofs.Common.{◌∙◌, not, string_bytes, sym}
 use Rattle.coterie_file.specs.Names.{has_name}
-use Rattle.show_failures.proofs.ListLemmas.{position-map}
+use Rattle.coterie_file.proofs.ListLemmas.{position-map}
 use Rattle.show_failures.proofs.names.first_unknown.Goals as goal
 
 pub returns : goal.returns
