@@ -7,7 +7,7 @@ use crate::held::{Held, Hold};
 use cluster::{Blank, Cluster, ClusterFault, ClusterName, Member, drive};
 use dealer::Plans;
 use message::{ToVoter, VoterBody};
-use std::alloc::AllocError;
+use std::alloc::{AllocError, Global};
 use std::marker::Brand;
 use std::sync::Wait;
 use std::thread;
@@ -50,10 +50,10 @@ struct End {
     lost: u64,
 }
 
-/// The result of both drives.
+/// The result of both drives. A client has no end if it ran out of memory.
 struct Outcome {
-    first: End,
-    second: End,
+    first: Option<End>,
+    second: Option<End>,
     /// How many passes the cluster's record has.
     register: u64,
     /// Whether the gate waited in vain.
@@ -110,6 +110,18 @@ fn drives<N: ClusterName + Send + Sync, R: Threads + Wait + Clock + Sync>(
     driven
 }
 
+/// Closes a cluster with its members. Returns the number of passes, or `None` if memory runs out.
+fn register_of<N: ClusterName>(
+    alloc: Global,
+    cluster: Cluster<N>,
+    mut members: Vec<Member<N>>,
+    mut others: Vec<Member<N>>,
+) -> Option<u64> {
+    members.append(&mut others).ok()?;
+    let record = cluster.close(alloc, members).ok()?;
+    Some(record.register)
+}
+
 /// Opens a cluster of two clients, drives each of them, and closes the cluster. Returns `None` if memory
 /// ran out for more than messages.
 fn outcome_of<N: ClusterName + Send + Sync, R: Threads + Wait + Clock + Sync>(
@@ -143,17 +155,15 @@ fn outcome_of<N: ClusterName + Send + Sync, R: Threads + Wait + Clock + Sync>(
             requires { AreIdle first.items }
         { drives(rt, shared, first, 0, at_gate) },
     );
-    let first_end = first.end_of(0)?;
-    let second_end = second.end_of(1)?;
-    let mut members = first.members;
-    let mut others = second.members;
-    members.append(&mut others).ok()?;
-    let record = cluster.close(alloc, members).ok()?;
+    let late = gate.was_late();
+    let first_end = first.end_of(0);
+    let second_end = second.end_of(1);
+    let register = register_of(alloc, cluster, first.members, second.members)?;
     Some(Outcome {
         first: first_end,
         second: second_end,
-        register: record.register,
-        late: gate.was_late(),
+        register,
+        late,
     })
 }
 
@@ -174,6 +184,7 @@ pub(crate) fn line_of<R: Threads + Wait + Clock + Sync>(
         register,
         late,
     } = outcome_of::<Brand, _>(host, rt, blank, hold, request)?;
+    let (first, second) = (first?, second?);
     let when = if late { ", late" } else { "" };
     format!(in alloc;
         "{} {}, lost {} {}, register {register}{when}",

@@ -1,9 +1,8 @@
-//! A service with the lock inside, from a coterie's text to a pass. Copy it, and put your own work
-//! where the lock is held.
-#![tactic(auto)]
-
+//! A service with the lock inside, from a coterie's text to passes. Copy it, with
+//! `proofs/embedding/lines_of`, and put your own work where the lock is held.
 ghost use Rattle.std.specs.Prelude.{◌≡◌};
 
+use certificate::Plan;
 use cluster::{Blank, Cluster, ClusterName, Member};
 use coterie_file::read_coterie;
 use dealer::Plans;
@@ -11,7 +10,6 @@ use planner::plan;
 use requester::Seen;
 use std::alloc::Global;
 use std::marker::Brand;
-use std::process::ExitCode;
 use std::sync::Wait;
 use std::thread;
 
@@ -63,43 +61,44 @@ fn work_once<N: ClusterName>(
     number
 }
 
-/// Opens a cluster, has each client work twice, and closes the cluster. Returns a line for each
-/// pass and one for the register.
+/// Has each client work twice. Returns a line for each pass.
+fn lines_of_passes<N: ClusterName>(
+    rt: &impl Wait,
+    alloc: Global,
+    cluster: &Cluster<N>,
+    members: &mut [Member<N>],
+) -> Option<String> {
+    let mut lines = String::new(alloc);
+    for _ in 0..2 {
+        for member in members.iter_mut() {
+            let number = work_once(rt, cluster, member)?;
+            let client = member.client();
+            write!(lines, "client {client} passed with number {number}\n").ok()?;
+        }
+    }
+    Some(lines)
+}
+
+/// Opens a cluster, has each client work, and closes the cluster. Returns a line for each pass and
+/// one for the register.
 fn serve<N: ClusterName>(rt: &impl Wait, alloc: Global, blank: Blank) -> Option<String>
     requires { blank ≡ N.cluster }
 {
     let (cluster, mut members) = blank.open::<N>(alloc).ok()?;
-    let mut lines = String::new(alloc);
-    for _ in 0..2 {
-        for member in members.iter_mut() {
-            let number = work_once(rt, &cluster, member)?;
-            write!(
-                lines,
-                "client {} passed with number {number}\n",
-                member.client()
-            )
-            .ok()?;
-        }
-    }
+    let lines = lines_of_passes(rt, alloc, &cluster, members.as_mut_slice());
     let record = cluster.close(alloc, members).ok()?;
-    write!(lines, "register {}\n", record.register).ok()?;
-    Some(lines)
+    format!(in alloc; "{}register {}", lines?, record.register).ok()
 }
 
-/// Reads the coterie, plans it, and serves. Returns `None` if any call fails.
-fn run(rt: &impl Wait, alloc: Global) -> Option<String> {
+/// Reads the coterie, and plans it.
+fn plan_of_coterie(alloc: Global) -> Option<Plan> {
     let named = read_coterie(alloc, COTERIE).ok()?;
-    let plan = plan(alloc, named.coterie(), named.capacities()).ok()?;
+    plan(alloc, named.coterie(), named.capacities()).ok()
+}
+
+/// Plans the coterie, and serves. Returns `None` if any call fails.
+pub(crate) fn lines_of(rt: &impl Wait, alloc: Global) -> Option<String> {
+    let plan = plan_of_coterie(alloc)?;
     let blank = Blank::new(alloc, Plans::single(plan), CLIENTS, QUOTA).ok()?;
     serve::<Brand>(rt, alloc, blank)
-}
-
-fn main(rt: HostRuntime) -> ExitCode {
-    match run(&rt, rt.alloc()) {
-        Some(lines) => {
-            let _ = rt.print(lines.as_str());
-            ExitCode::SUCCESS
-        }
-        None => ExitCode::FAILURE,
-    }
 }
