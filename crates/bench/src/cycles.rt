@@ -1,5 +1,4 @@
-//! The work that is timed: making cycles, from a plan or as a list of all places, and looking
-//! tickets up.
+//! Cycles: making them, from a plan or as a list of all places, and looking tickets up.
 use certificate::{Plan, check};
 use dealer::Cycle;
 use quorum_set::{Coterie, QSet};
@@ -8,19 +7,19 @@ use test_plans::unit_capacities;
 
 /// What to time.
 #[derive(Clone, Copy, Drop)]
-pub struct Task {
+pub(crate) struct Task {
     /// Whether the cycle is kept as a list of all its places, and not by the crate `dealer`.
-    pub as_list: bool,
+    pub(crate) as_list: bool,
     /// How many quorums there are.
-    pub quorums: u16,
+    pub(crate) quorums: u16,
     /// The weights of the quorums go 1, 2, .. up to this number, and then again from 1 on, ..
-    pub steps: u32,
+    pub(crate) steps: u32,
     /// .. each times this factor.
-    pub factor: u32,
+    pub(crate) factor: u32,
     /// How many times the cycle is made.
-    pub makes: u32,
+    pub(crate) makes: u32,
     /// How many tickets are looked up in the last one.
-    pub lookups: u32,
+    pub(crate) lookups: u32,
 }
 
 /// Returns the weights of a task's quorums.
@@ -176,18 +175,33 @@ fn by_list(alloc: Global, plan: &Plan, weights: &[u64], task: &Task) -> Option<u
     Some(sum_by_list(&quorums, task.lookups))
 }
 
-/// Does the task, and returns the length of the cycle and the sum of the quorums' numbers.
-pub fn run(alloc: Global, task: &Task) -> Option<(u64, u64)> {
+/// Returns the task of these words, which begin with the program's name and the kind.
+pub(crate) fn task_of(words: &[String]) -> Option<Task> {
+    if words.len() != 8 {
+        return None;
+    }
+    Some(Task {
+        as_list: words[2].as_str() == "list",
+        quorums: words[3].parse::<u16>().ok()?,
+        steps: words[4].parse::<u32>().ok()?,
+        factor: words[5].parse::<u32>().ok()?,
+        makes: words[6].parse::<u32>().ok()?,
+        lookups: words[7].parse::<u32>().ok()?,
+    })
+}
+
+/// Does the task. Returns a line with the length of the cycle and the sum of the quorums' numbers, or
+/// `None` if the weights are too great or memory runs out.
+pub(crate) fn line_of(alloc: Global, task: &Task) -> Option<String> {
     let weights = weights_of(alloc, task).ok()?;
     let plan = plan_with(alloc, weights.as_slice().to_vec(alloc).ok()?)?;
     let len = plan.cycle_len();
-    if task.makes == 0 {
-        return Some((len, 0));
-    }
-    let sum = if task.as_list {
+    let sum = if task.makes == 0 {
+        0
+    } else if task.as_list {
         by_list(alloc, &plan, &weights, task)?
     } else {
         by_blocks(alloc, plan, task)?
     };
-    Some((len, sum))
+    format!(in alloc; "cycle {len} sum {sum}").ok()
 }

@@ -1,22 +1,13 @@
-//! Measures steps of the automata: two clients take turns at the lock of one voter, in a number of
-//! rounds. Prints how many steps were made, and how often a client was inside.
-//!
-//! `bench_steps ROUNDS`, with 0 to 4294967295 rounds of 11 steps. After `bench_steps ROUNDS bytes`
-//! whoever made a step is saved as bytes and restored from them. `bench/steps.sh` measures the time.
-#![tactic(auto)]
-
+//! Steps of the automata: two clients take turns at the lock of one voter.
 ghost use Rattle.std.specs.Prelude.{◌≡◌};
 
-mod by_bytes;
-
+use crate::by_bytes::{client_by_bytes, voter_by_bytes};
 use arrayvec::ArrayVec;
-use by_bytes::{client_by_bytes, voter_by_bytes};
 use message::{ToClient, ToVoter};
 use numbers::MAX_STAMP;
 use quorum_set::QSet;
 use requester::{ClientFault, Messages, Requester, Seen};
-use std::env;
-use std::process::ExitCode;
+use std::alloc::Global;
 use voter::{Replies, Voter};
 
 /// One voter, two clients, and the counts.
@@ -137,25 +128,19 @@ impl Lock {
     }
 }
 
-/// Returns the number of rounds on the command line, and whether `bytes` follows it.
-fn words_of(rt: &HostRuntime) -> Option<(u32, bool)> {
-    let Ok(mut words) = env::args(rt) else {
+/// Returns the number of rounds, and whether `bytes` follows it. The words begin with the program's
+/// name and the kind.
+pub(crate) fn rounds_of(words: &[String]) -> Option<(u32, bool)> {
+    let saves = words.len() == 4 && words[3].as_str() == "bytes";
+    if words.len() != 3 && !saves {
         return None;
-    };
-    let _ = words.next();
-    let rounds = words.next()?.parse::<u32>().ok()?;
-    match words.next() {
-        None => Some((rounds, false)),
-        Some(word) if word.as_str() == "bytes" => Some((rounds, true)),
-        Some(_) => None,
     }
+    Some((words[2].parse::<u32>().ok()?, saves))
 }
 
-fn main(rt: HostRuntime) -> ExitCode {
-    let Some((rounds, saves)) = words_of(&rt) else {
-        let _ = rt.eprintln("bench_steps: how many rounds? And `bytes`, or nothing more");
-        return ExitCode::from(2);
-    };
+/// Makes this many rounds. Returns a line with the steps and with how often a client was inside, or
+/// `None` if memory runs out.
+pub(crate) fn line_of(alloc: Global, rounds: u32, saves: bool) -> Option<String> {
     let mut quorum = QSet::empty();
     quorum.insert(0);
     let mut lock = Lock::new(saves);
@@ -164,10 +149,5 @@ fn main(rt: HostRuntime) -> ExitCode {
     for _ in 0..rounds {
         lock.round(&quorum, &mut out, &mut replies);
     }
-    let text = match format!(in rt.alloc(); "steps {} entered {}", lock.steps, lock.entered) {
-        Ok(text) => text,
-        Err(_) => return ExitCode::from(4),
-    };
-    let _ = rt.println(text.as_str());
-    ExitCode::SUCCESS
+    format!(in alloc; "steps {} entered {}", lock.steps, lock.entered).ok()
 }
