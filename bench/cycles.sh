@@ -6,26 +6,26 @@
 #
 # Prints for each the least of nine runs, less what the program takes without that work (a cycle of blocks is made of a copy of
 # the plan, which is in its time), and where GNU time is found the memory that a cycle adds, give or take some hundred KB. The
-# proved program is crates/bench_cycles.
+# proved program is crates/bench.
 set -eu
 lookups=${1:-1000000}
 root=$(CDPATH= cd -- "$(dirname -- "$0")/.." && pwd)
 work=$(mktemp -d)
 trap 'rm -rf "$work"' EXIT
 
-"$root/tools/program.sh" bench_cycles blocks 4 3 2 2 10 > /dev/null
-cp "$root/build/bench_cycles" "$work/program"
+"$root/tools/program.sh" bench cycles blocks 4 3 2 2 10 > /dev/null
+cp "$root/build/bench" "$work/program"
 
 least() { # the least nanoseconds of nine runs
     for run in 1 2 3 4 5 6 7 8 9; do
         begin=$(date +%s%N)
-        "$work/program" "$@" > /dev/null
+        "$work/program" cycles "$@" > /dev/null
         echo $(($(date +%s%N) - begin))
     done | sort -n | head -1
 }
 
 memory() { # the most memory, in kilobytes
-    /usr/bin/time -f %M -o "$work/memory" "$work/program" "$@" > /dev/null
+    /usr/bin/time -f %M -o "$work/memory" "$work/program" cycles "$@" > /dev/null
     cat "$work/memory"
 }
 

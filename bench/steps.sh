@@ -6,27 +6,25 @@
 #
 # The programs run in turn, nine times each. Prints what was done, the least nanoseconds a step of each, and their ratio. Then a
 # tenth of the rounds, in which whoever made a step is saved as bytes and restored from them, as in the library for C.
-# The proved program is crates/bench_steps.
+# The proved program is crates/bench.
 set -eu
 rounds=${1:-1000000}
 root=$(CDPATH= cd -- "$(dirname -- "$0")/.." && pwd)
 work=$(mktemp -d)
 trap 'rm -rf "$work"' EXIT
 
-"$root/tools/program.sh" bench_steps 3 > /dev/null
-cp "$root/build/bench_steps" "$work/proved"
+"$root/tools/program.sh" bench steps 3 > /dev/null
+cp "$root/build/bench" "$work/proved"
 if command -v rustc > /dev/null; then
-    rustc --edition 2021 -O -o "$work/twin" "$root/bench/twin/main.rs"
-    printf '#!/bin/sh\nexec "%s" steps "$1"\n' "$work/twin" > "$work/plain"
-    chmod +x "$work/plain"
+    rustc --edition 2021 -O -o "$work/plain" "$root/bench/twin/main.rs"
 fi
 
-"$work/proved" "$rounds"
+"$work/proved" steps "$rounds"
 for run in 1 2 3 4 5 6 7 8 9; do
     for program in proved plain; do
         [ -x "$work/$program" ] || continue
         begin=$(date +%s%N)
-        "$work/$program" "$rounds" > /dev/null
+        "$work/$program" steps "$rounds" > /dev/null
         echo "$program $(($(date +%s%N) - begin))"
     done
 done | awk -v steps=$((rounds * 11)) '
@@ -40,6 +38,6 @@ done | awk -v steps=$((rounds * 11)) '
 fewer=$(((rounds + 9) / 10))
 for run in 1 2 3 4 5 6 7 8 9; do
     begin=$(date +%s%N)
-    "$work/proved" "$fewer" bytes > /dev/null
+    "$work/proved" steps "$fewer" bytes > /dev/null
     echo $(($(date +%s%N) - begin))
 done | sort -n | awk -v steps=$((fewer * 11)) 'NR == 1 { printf "proved, by bytes %.0f ns a step\n", $1 / steps }'

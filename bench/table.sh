@@ -48,16 +48,14 @@ same() {
     row "$label" "$input" "$program" "$twin" "$@"
 }
 
-# a row of a program of crates/ that measures a part: the label, the crate, the twin's word, and the numbers
+# a row of a part, which crates/bench measures: the label, the word of the part, and the numbers
 part() {
-    local label=$1 crate=$2 word=$3
-    shift 3
-    "$root/tools/program.sh" "$crate" "$@" > "$work/proved"
-    "$twin" "$word" "$@" > "$work/plain"
-    cmp <(grep . "$work/proved" | tail -n 1) "$work/plain" || { echo "table.sh: $crate $* differs" >&2; exit 1; }
-    printf '#!/bin/sh\nshift\nexec "%s" "$@"\n' "$root/build/$crate" > "$work/$crate"
-    chmod +x "$work/$crate"
-    row "$label" /dev/null "$work/$crate" "$twin" "$word" "$@"
+    local label=$1
+    shift
+    "$root/tools/program.sh" bench "$@" > "$work/proved"
+    "$twin" "$@" > "$work/plain"
+    cmp <(grep . "$work/proved" | tail -n 1) "$work/plain" || { echo "table.sh: $* differs" >&2; exit 1; }
+    row "$label" /dev/null "$root/build/bench" "$twin" "$@"
 }
 
 "$program" make majority 3 > "$work/maj3"
@@ -103,11 +101,11 @@ same 'check, majority 14' "$work/maj14.planned" check
 same 'plan, majority 14' "$work/maj14" plan
 same 'plan, wheel 63' "$work/wheel63" plan
 
-part '11 million steps of the automata' bench_steps steps 1000000
-part '200000 passes, 1 member' bench_passes passes 1 200000
-part '100000 passes, 4 members' bench_passes passes 4 25000
-part '100000 passes, 8 members' bench_passes passes 8 12500
-part '48000 passes, 32 members' bench_passes passes 32 1500
+part '11 million steps of the automata' steps 1000000
+part '200000 passes, 1 member' passes 1 200000
+part '100000 passes, 4 members' passes 4 25000
+part '100000 passes, 8 members' passes 8 12500
+part '48000 passes, 32 members' passes 32 1500
 
 # the same with a busy loop on each processor
 loops=()
@@ -117,4 +115,4 @@ for ((loop = 0; loop < $(getconf _NPROCESSORS_ONLN); loop++)); do
     loops+=($!)
 done
 runs=3
-part '8000 passes, 8 members, busy machine' bench_passes passes 8 1000
+part '8000 passes, 8 members, busy machine' passes 8 1000

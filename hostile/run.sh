@@ -12,7 +12,7 @@
 #   of the answer with `I4 WriteFault` and status 3;
 # - each read and each write moves one byte, once: the command has to write what it always writes.
 #
-# After these comes a program of its own, `crates/demo_hostile`. Two members of a running cluster go through the lock while a gate
+# After these comes a program of its own, `crates/demo_members`. Two members of a running cluster go through the lock while a gate
 # holds the second one up at one of four places. A growth that is refused once has to end the program with `O1 OutOfMemory`, or to
 # change nothing, or to lose exactly one message. Each run has to end: the first member makes up for the loss by a reminder, or spends
 # its turns. How many runs lose a message, and how they end, is known for each hold. The same goes for the calls of one member: each
@@ -184,8 +184,8 @@ said() {
 
 # builds the program of the members
 build_members() {
-    "$root/tools/program.sh" demo_hostile > /dev/null
-    program=$root/build/demo_hostile
+    "$root/tools/program.sh" demo_members > /dev/null
+    program=$root/build/demo_members
 }
 
 # tries each growth of the program of the members with this word, once and for good: its word, the line that it prints where nothing is

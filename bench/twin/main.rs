@@ -4,8 +4,8 @@
 //!     rustc --edition 2021 -O -o twin bench/twin/main.rs
 //!
 //! - `make majority N`, `make wheel N`, `plan`, `check`, `deal N`, `world`, `run CLIENTS PASSES TURNS`, as `qlock`;
-//! - `steps ROUNDS`, as `crates/bench_steps`;
-//! - `passes CLIENTS PASSES`, as `crates/bench_passes`;
+//! - `steps ROUNDS`, as `crates/bench`;
+//! - `passes CLIENTS PASSES`, as `crates/bench`;
 //! - `counter THREADS PASSES`: a counter behind a plain lock.
 mod automata;
 mod coterie;

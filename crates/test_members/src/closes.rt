@@ -1,7 +1,7 @@
 //! Closing a cluster: worked records, and members that are missing or inside.
 ghost use Rattle.std.specs.Prelude.{◌≡◌};
 
-use crate::scripts::{Act, ENTERED, NOTHING, majority_blank, plays};
+use crate::scripts::{Act, Asked, ENTERED, LEAVE, NOTHING, Script, blank_of, plays};
 use board::BoardFault;
 use members::{Blank, CloseFault, Cluster, ClusterFault, ClusterName, Member, RunRecord};
 use requester::Seen;
@@ -18,7 +18,7 @@ struct Wanted<'a> {
 }
 
 /// A script, and the record of the cluster that played it.
-const RECORDS: [(&[(usize, Act)], Wanted); 4] = [
+const RECORDS: [(Script, Wanted); 4] = [
     (
         &[],
         Wanted {
@@ -32,9 +32,9 @@ const RECORDS: [(&[(usize, Act)], Wanted); 4] = [
             (0, Act::Ask(0, 0)),
             (0, NOTHING),
             (0, ENTERED),
-            (0, Act::Pass(0)),
-            (0, Act::Pass(1)),
-            (0, Act::Leave),
+            (0, Act::Pass(Ok(0))),
+            (0, Act::Pass(Ok(1))),
+            (0, LEAVE),
         ],
         Wanted {
             draws: &[(0, 0, 0)],
@@ -49,18 +49,18 @@ const RECORDS: [(&[(usize, Act)], Wanted); 4] = [
             (1, Act::Ask(1, 1)),
             (0, NOTHING),
             (0, ENTERED),
-            (0, Act::Pass(0)),
-            (0, Act::Leave),
+            (0, Act::Pass(Ok(0))),
+            (0, LEAVE),
             (1, NOTHING),
             (1, NOTHING),
             (1, ENTERED),
-            (1, Act::Pass(1)),
-            (1, Act::Leave),
+            (1, Act::Pass(Ok(1))),
+            (1, LEAVE),
             (0, Act::Ask(2, 2)),
             (0, NOTHING),
             (0, ENTERED),
-            (0, Act::Pass(2)),
-            (0, Act::Leave),
+            (0, Act::Pass(Ok(2))),
+            (0, LEAVE),
         ],
         Wanted {
             draws: &[(0, 0, 0), (1, 1, 1), (0, 2, 2)],
@@ -73,8 +73,8 @@ const RECORDS: [(&[(usize, Act)], Wanted); 4] = [
             (1, Act::Ask(0, 0)),
             (1, NOTHING),
             (1, ENTERED),
-            (1, Act::Pass(0)),
-            (1, Act::Leave),
+            (1, Act::Pass(Ok(0))),
+            (1, LEAVE),
         ],
         Wanted {
             draws: &[(1, 0, 0)],
@@ -94,34 +94,41 @@ fn is_wanted(record: &RunRecord, wanted: &Wanted) -> bool {
 }
 
 /// Opens a cluster, plays a script on it, closes it, and returns its record. Returns `None` if the
-/// script or the close goes wrong.
+/// script or the close goes wrong, or memory runs out.
 fn recorded<N: ClusterName>(
     rt: &impl Wait,
     alloc: Global,
     blank: Blank,
-    script: &[(usize, Act)],
-) -> Result<Option<RunRecord>, AllocError>
+    script: Script,
+) -> Option<RunRecord>
     requires { blank ≡ N.cluster }
 {
-    let (cluster, mut members) = blank.open::<N>(alloc)?;
-    if plays(rt, &cluster, members.as_mut_slice(), script) != script.len() {
-        return Ok(None);
+    let (cluster, mut members) = blank.open::<N>(alloc).ok()?;
+    let done = plays(rt, &cluster, members.as_mut_slice(), script);
+    let record = cluster.close(alloc, members).ok()?;
+    if done == script.len() {
+        Some(record)
+    } else {
+        None
     }
-    Ok(cluster.close(alloc, members).ok())
+}
+
+/// Returns whether a cluster of two members that plays this script has this record.
+fn has_record(rt: &impl Wait, alloc: Global, script: Script, wanted: &Wanted) -> bool {
+    let Some(blank) = blank_of(alloc, Asked::AnyTwo, 2) else {
+        return false;
+    };
+    match recorded::<Brand>(rt, alloc, blank, script) {
+        Some(record) => is_wanted(&record, wanted),
+        None => false,
+    }
 }
 
 #[test]
-fn records_have_what_the_members_did(rt: HostRuntime) -> Result<(), Fail> {
+fn records_have_what_the_members_did(rt: HostRuntime) {
     for (script, wanted) in &RECORDS {
-        let Some(blank) = majority_blank(rt.alloc(), 2) else {
-            panic!(rt; "no cluster")
-        };
-        match recorded::<Brand>(&rt, rt.alloc(), blank, script)? {
-            Some(record) => assert!(rt; is_wanted(&record, wanted)),
-            None => panic!(rt; "not closed"),
-        }
+        assert!(rt; has_record(&rt, rt.alloc(), script, wanted));
     }
-    Ok(())
 }
 
 /// How a close is tried first: not at all, or without the last member, or with all members.
@@ -162,27 +169,26 @@ fn refused<N: ClusterName>(
     }
 }
 
-/// Tries to close a cluster, and returns what came back, with all members.
+/// Tries to close a cluster, and returns what came back, with all members. Returns `None` if it was
+/// closed, or memory runs out.
 fn attempted<N: ClusterName>(
     alloc: Global,
     cluster: Cluster<N>,
     mut members: Vec<Member<N>>,
     attempt: Attempt,
-) -> Result<Option<Unready<N>>, AllocError> {
+) -> Option<Unready<N>> {
     match attempt {
-        Attempt::No => Ok(Some(Unready {
+        Attempt::No => Some(Unready {
             cluster,
             members,
             missing: 0,
-        })),
-        Attempt::WithAll => Ok(refused(alloc, cluster, members)),
+        }),
+        Attempt::WithAll => refused(alloc, cluster, members),
         Attempt::WithoutTheLast => {
-            let last = members.pop();
-            let mut unready = refused(alloc, cluster, members);
-            if let (Some(unready), Some(last)) = (&mut unready, last) {
-                unready.members.push(last)?;
-            }
-            Ok(unready)
+            let last = members.pop()?;
+            let mut unready = refused(alloc, cluster, members)?;
+            unready.members.push(last).ok()?;
+            Some(unready)
         }
     }
 }
@@ -236,30 +242,26 @@ struct Ending {
 }
 
 /// Plays a script, attempts to close the cluster, has all members pass, and closes it. Returns
-/// `None` if the attempt or the close went wrong.
+/// `None` if the attempt or the close went wrong, or memory runs out.
 fn ending_of<N: ClusterName>(
     rt: &impl Wait,
     alloc: Global,
     blank: Blank,
-    script: &[(usize, Act)],
+    script: Script,
     attempt: Attempt,
-) -> Result<Option<Ending>, AllocError>
+) -> Option<Ending>
     requires { blank ≡ N.cluster }
 {
-    let (cluster, mut members) = blank.open::<N>(alloc)?;
+    let (cluster, mut members) = blank.open::<N>(alloc).ok()?;
     plays(rt, &cluster, members.as_mut_slice(), script);
-    let Some(mut unready) = attempted(alloc, cluster, members, attempt)? else {
-        return Ok(None);
-    };
-    let heard = heard_by_all(rt, alloc, &unready.cluster, unready.members.as_mut_slice())?;
-    match unready.cluster.close(alloc, unready.members) {
-        Ok(record) => Ok(Some(Ending {
-            missing: unready.missing,
-            heard,
-            passes: record.passes.len(),
-        })),
-        Err(_) => Ok(None),
-    }
+    let mut unready = attempted(alloc, cluster, members, attempt)?;
+    let heard = heard_by_all(rt, alloc, &unready.cluster, unready.members.as_mut_slice());
+    let record = unready.cluster.close(alloc, unready.members).ok()?;
+    Some(Ending {
+        missing: unready.missing,
+        heard: heard.ok()?,
+        passes: record.passes.len(),
+    })
 }
 
 /// All three members ask. Two votes wait for member 2, and behind them two messages that ask for
@@ -275,7 +277,7 @@ const ONE_IS_INSIDE: [(usize, Act); 3] = [(0, Act::Ask(0, 0)), (0, NOTHING), (0,
 
 /// Scripts and attempts, how many members are missing or not idle, and how many passes there are at
 /// the end.
-const ATTEMPTS: [(&[(usize, Act)], Attempt, u64, usize); 4] = [
+const ATTEMPTS: [(Script, Attempt, u64, usize); 4] = [
     (&ALL_ASK, Attempt::WithoutTheLast, 3, 3),
     (&ALL_ASK, Attempt::WithAll, 3, 3),
     (&ONE_IS_INSIDE, Attempt::WithoutTheLast, 2, 0),
@@ -283,63 +285,63 @@ const ATTEMPTS: [(&[(usize, Act)], Attempt, u64, usize); 4] = [
 ];
 
 /// Returns the ending of a cluster of three members.
-fn end_of(
-    rt: &impl Wait,
-    alloc: Global,
-    script: &[(usize, Act)],
-    attempt: Attempt,
-) -> Result<Option<Ending>, AllocError> {
-    let Some(blank) = majority_blank(alloc, 3) else {
-        return Ok(None);
-    };
+fn end_of(rt: &impl Wait, alloc: Global, script: Script, attempt: Attempt) -> Option<Ending> {
+    let blank = blank_of(alloc, Asked::AnyTwo, 3)?;
     ending_of::<Brand>(rt, alloc, blank, script, attempt)
 }
 
-#[test]
-fn a_cluster_that_is_not_closed_goes_on_as_it_was(rt: HostRuntime) -> Result<(), Fail> {
-    for (script, attempt, missing, passes) in &ATTEMPTS {
-        let wanted = end_of(&rt, rt.alloc(), script, Attempt::No)?;
-        let found = end_of(&rt, rt.alloc(), script, *attempt)?;
-        let (Some(wanted), Some(found)) = (wanted, found) else {
-            panic!(rt; "not handed back, or not closed")
-        };
-        assert!(rt;
-            (found.missing == *missing)
-                & (found.passes == *passes)
+/// Returns whether a cluster of three members goes on after an attempt to close it as it does without
+/// one, with this many members missing or not idle, and this many passes at the end.
+fn goes_on(
+    rt: &impl Wait,
+    alloc: Global,
+    script: Script,
+    attempt: Attempt,
+    missing: u64,
+    passes: usize,
+) -> bool {
+    let wanted = end_of(rt, alloc, script, Attempt::No);
+    let found = end_of(rt, alloc, script, attempt);
+    match (wanted, found) {
+        (Some(wanted), Some(found)) => {
+            (found.missing == missing)
+                & (found.passes == passes)
                 & (found.heard.as_slice() == wanted.heard.as_slice())
-        );
+        }
+        _ => false,
     }
-    Ok(())
 }
 
-/// Returns the text of the fault when a cluster is closed after one of its members was dropped.
-fn refusal_with_one_gone<N: ClusterName>(
-    alloc: Global,
-    blank: Blank,
-) -> Result<Option<String>, AllocError>
+#[test]
+fn a_cluster_that_is_not_closed_goes_on_as_it_was(rt: HostRuntime) {
+    for (script, attempt, missing, passes) in &ATTEMPTS {
+        assert!(rt; goes_on(&rt, rt.alloc(), script, *attempt, *missing, *passes));
+    }
+}
+
+/// Returns how many members are missing or not idle when a cluster is closed after one of its members
+/// was dropped. Returns `None` if it is closed.
+fn missing_with_one_gone<N: ClusterName>(alloc: Global, blank: Blank) -> Option<u64>
     requires { blank ≡ N.cluster }
 {
-    let (cluster, mut members) = blank.open::<N>(alloc)?;
+    let (cluster, mut members) = blank.open::<N>(alloc).ok()?;
     drop(members.pop());
-    match cluster.close(alloc, members) {
-        Ok(_) => Ok(None),
-        Err(fault) => Ok(Some(format!(in alloc; "{fault}")?)),
-    }
+    Some(refused(alloc, cluster, members)?.missing)
 }
 
 #[test]
-fn a_member_that_is_gone_is_missing(rt: HostRuntime) -> Result<(), Fail> {
-    let Some(blank) = majority_blank(rt.alloc(), 3) else {
-        panic!(rt; "no cluster")
+fn a_member_that_is_gone_is_missing(rt: HostRuntime) {
+    let missing = match blank_of(rt.alloc(), Asked::AnyTwo, 3) {
+        Some(blank) => missing_with_one_gone::<Brand>(rt.alloc(), blank),
+        None => None,
     };
-    let text = refusal_with_one_gone::<Brand>(rt.alloc(), blank)?;
-    assert_eq!(rt; text.as_deref(), Some("K3 MembersOut 1"));
-    Ok(())
+    assert_eq!(rt; missing, Some(1));
 }
 
 #[test]
 fn a_loss_prints_as_its_fault(rt: HostRuntime) -> Result<(), Fail> {
     let lost: CloseFault<Brand> = CloseFault::Lost(ClusterFault::Board(BoardFault::VoteOut(2)));
-    assert_eq!(rt; format!(in rt.alloc(); "{lost}")?.as_str(), "B2 VoteOut 2");
+    let text = lost.to_string(rt.alloc())?;
+    assert!(rt; text.as_str() == "B2 VoteOut 2");
     Ok(())
 }

@@ -2,17 +2,15 @@
 //! voter of the cluster would send.
 ghost use Rattle.std.specs.Prelude.{◌≡◌};
 
-use dealer::Plans;
+use crate::scripts::{Asked, blank_of};
+use crate::threads::enters;
 use members::{Blank, Cluster, ClusterName, Member, RunRecord};
 use message::{ClientBody, ToClient, ToVoter, VoterBody};
-use requester::Seen;
-use std::alloc::{AllocError, Global};
+use std::alloc::Global;
 use std::marker::Brand;
 use std::sync::Wait;
-use std::test::Fail;
 use std::thread;
 use std::thread::Threads;
-use test_plans::majority_plan;
 
 /// How many passes each member tries to make.
 const PASSES: u32 = 40;
@@ -20,29 +18,11 @@ const PASSES: u32 = 40;
 /// How many times a member looks into its mailbox for one pass.
 const TURNS: u32 = 20_000;
 
-/// The number of looks after which a member reminds.
-const TURNS_BEFORE_REMINDER: u32 = 500;
-
 /// The highest stamp and grant that is forged, from 1 on.
 const NUMBERS: u64 = 60;
 
 /// How often each number is forged.
 const ROUNDS: u32 = 8;
-
-/// Pumps until the member is inside. Returns `false` if its turns were spent before.
-fn enters<N: ClusterName>(rt: &impl Wait, cluster: &Cluster<N>, member: &mut Member<N>) -> bool {
-    for turn in 0..TURNS {
-        match member.pump(rt, cluster) {
-            Some(Seen::Entered) => return true,
-            Some(_) => {}
-            None => thread::yield_now(),
-        }
-        if turn % TURNS_BEFORE_REMINDER == TURNS_BEFORE_REMINDER - 1 {
-            member.remind(rt, cluster);
-        }
-    }
-    false
-}
 
 /// Has a member pass as often as it can, and leaves it idle.
 fn passes<N: ClusterName>(rt: &impl Wait, cluster: &Cluster<N>, member: &mut Member<N>) {
@@ -50,7 +30,7 @@ fn passes<N: ClusterName>(rt: &impl Wait, cluster: &Cluster<N>, member: &mut Mem
         if member.ask(rt, cluster).is_err() {
             return;
         }
-        if enters(rt, cluster, member) {
+        if enters(rt, cluster, member, TURNS) {
             let _ = member.pass(cluster);
             let _ = member.leave(rt, cluster);
         } else {
@@ -145,15 +125,15 @@ fn all_pass<N: ClusterName + Send + Sync, R: Threads + Wait + Sync>(
 }
 
 /// Returns the record of a cluster whose members pass while two threads forge messages, or `None`
-/// if it doesn't close.
+/// if it doesn't close or memory runs out.
 fn record_of<N: ClusterName + Send + Sync, R: Threads + Wait + Sync>(
     rt: &R,
     alloc: Global,
     blank: Blank,
-) -> Result<Option<RunRecord>, AllocError>
+) -> Option<RunRecord>
     requires { blank ≡ N.cluster }
 {
-    let (cluster, members) = blank.open::<N>(alloc)?;
+    let (cluster, members) = blank.open::<N>(alloc).ok()?;
     let shared = &cluster;
     let (members, _) = thread::join(
         rt,
@@ -166,7 +146,7 @@ fn record_of<N: ClusterName + Send + Sync, R: Threads + Wait + Sync>(
             )
         },
     );
-    Ok(cluster.close(alloc, members).ok())
+    cluster.close(alloc, members).ok()
 }
 
 /// Returns whether the passes have the numbers 0, 1, 2 and so on.
@@ -181,26 +161,27 @@ fn count_up(passes: &[(u8, u64)]) -> bool {
     true
 }
 
-#[test]
-fn forged_messages_let_no_two_pass_at_once(rt: HostRuntime) -> Result<(), Fail> {
-    let Some(plan) = majority_plan(rt.alloc()) else {
-        panic!(rt; "no plan")
+/// Returns whether somebody passed and somebody lost a message, and each pass has a number of its own.
+/// So no two were between a read and a write of the register at once.
+fn is_sound(record: &RunRecord) -> bool {
+    (record.register == record.passes.len() as u64)
+        & count_up(record.passes.as_slice())
+        & (record.register > 0)
+        & (record.lost > 0)
+}
+
+/// Returns whether the record of three members is sound.
+fn is_closed_soundly<R: Threads + Wait + Sync>(rt: &R, alloc: Global) -> bool {
+    let Some(blank) = blank_of(alloc, Asked::AnyTwo, 3) else {
+        return false;
     };
-    let Ok(blank) = Blank::new(rt.alloc(), Plans::single(plan), 3, 40) else {
-        panic!(rt; "no cluster")
-    };
-    match record_of::<Brand, _>(&rt, rt.alloc(), blank)? {
-        Some(record) => {
-            // Each pass has a number of its own, so no two were between a read and a write of the
-            // register at once. Somebody passed, and somebody lost a message.
-            assert!(rt;
-                (record.register == record.passes.len() as u64)
-                    & count_up(record.passes.as_slice())
-                    & (record.register > 0)
-                    & (record.lost > 0)
-            );
-        }
-        None => panic!(rt; "not closed"),
+    match record_of::<Brand, _>(rt, alloc, blank) {
+        Some(record) => is_sound(&record),
+        None => false,
     }
-    Ok(())
+}
+
+#[test]
+fn forged_messages_let_no_two_pass_at_once(rt: HostRuntime) {
+    assert!(rt; is_closed_soundly(&rt, rt.alloc()));
 }

@@ -2,49 +2,8 @@
 //!
 //! Here messages are lost because they belong to nobody, or because they would move a vote that is
 //! taken. In `hostile/run.sh` messages are lost because memory runs out.
-ghost use Rattle.std.specs.Prelude.{◌≡◌};
-
-use crate::scripts::majority_blank;
-use members::{Blank, Cluster, ClusterName, Member};
+use crate::scripts::{Act, Asked, EMPTY, NOTHING, Script, stuck_at};
 use message::{ClientBody, ToClient, ToVoter, VoterBody};
-use requester::Seen;
-use std::alloc::{AllocError, Global};
-use std::marker::Brand;
-use std::sync::Wait;
-use std::test::Fail;
-
-/// Has a member ask, and take this number of messages.
-fn asks<N: ClusterName>(rt: &impl Wait, cluster: &Cluster<N>, member: &mut Member<N>, pumps: u32) {
-    let _ = member.ask(rt, cluster);
-    for _ in 0..pumps {
-        let _ = member.pump(rt, cluster);
-    }
-}
-
-/// Delivers these messages while client 0 is inside with the votes of voters 0 and 1. Returns how
-/// many of them are lost, and what client 1 then sees of the first message in its mailbox.
-fn delivered<N: ClusterName>(
-    rt: &impl Wait,
-    alloc: Global,
-    blank: Blank,
-    messages: &[ToVoter],
-) -> Result<Option<(u64, Option<Seen>)>, AllocError>
-    requires { blank ≡ N.cluster }
-{
-    let (cluster, mut members) = blank.open::<N>(alloc)?;
-    let Some((first, others)) = members.split_first_mut() else {
-        return Ok(None);
-    };
-    asks(rt, &cluster, first, 2);
-    let mut lost: u64 = 0;
-    for message in messages {
-        lost = lost.saturating_add(cluster.deliver(rt, message));
-    }
-    match others.first_mut() {
-        Some(second) => Ok(Some((lost, second.pump(rt, &cluster)))),
-        None => Ok(None),
-    }
-}
 
 /// A request of client 1 to voter 2, whose vote is free.
 const REQUEST: ToVoter = ToVoter {
@@ -74,26 +33,28 @@ const TAKEN: ToVoter = ToVoter {
     body: VoterBody::Release { stamp: 1 },
 };
 
-/// Messages, how many of them are lost, and what client 1 sees.
-const DELIVERED: [(&[ToVoter], u64, Option<Seen>); 6] = [
-    (&[], 0, None),
-    (&[REQUEST], 0, Some(Seen::Nothing)),
-    (&[NO_VOTER], 1, None),
-    (&[NO_CLIENT], 1, None),
-    (&[TAKEN], 1, None),
-    (&[TAKEN, REQUEST, NO_VOTER], 2, Some(Seen::Nothing)),
+/// Messages that are delivered while client 0 is inside with the votes of voters 0 and 1, how many of
+/// them are lost, and what client 1 then sees of the first message in its mailbox.
+const DELIVERED: [Script; 6] = [
+    &[(0, Act::Enter), (1, EMPTY)],
+    &[(0, Act::Enter), (0, Act::Deliver(REQUEST, 0)), (1, NOTHING)],
+    &[(0, Act::Enter), (0, Act::Deliver(NO_VOTER, 1)), (1, EMPTY)],
+    &[(0, Act::Enter), (0, Act::Deliver(NO_CLIENT, 1)), (1, EMPTY)],
+    &[(0, Act::Enter), (0, Act::Deliver(TAKEN, 1)), (1, EMPTY)],
+    &[
+        (0, Act::Enter),
+        (0, Act::Deliver(TAKEN, 1)),
+        (0, Act::Deliver(REQUEST, 0)),
+        (0, Act::Deliver(NO_VOTER, 1)),
+        (1, NOTHING),
+    ],
 ];
 
 #[test]
-fn each_lost_message_counts_once(rt: HostRuntime) -> Result<(), Fail> {
-    for (messages, lost, seen) in &DELIVERED {
-        let Some(blank) = majority_blank(rt.alloc(), 2) else {
-            panic!(rt; "no cluster")
-        };
-        let found = delivered::<Brand>(&rt, rt.alloc(), blank, messages)?;
-        assert_eq!(rt; found, Some((*lost, *seen)));
+fn each_lost_message_counts_once(rt: HostRuntime) {
+    for script in DELIVERED {
+        assert_eq!(rt; stuck_at(&rt, rt.alloc(), Asked::AnyTwo, 2, script), None);
     }
-    Ok(())
 }
 
 /// When a message is posted to a client that asks voters 0 and 1.
@@ -105,35 +66,23 @@ enum Moment {
     Inside,
 }
 
-/// Has client 0 ask, posts this message to it, and has it take all that waits. Returns whether the
-/// message was posted, and how many messages the client lost.
-fn posted<N: ClusterName>(
-    rt: &impl Wait,
-    alloc: Global,
-    blank: Blank,
-    moment: Moment,
-    message: ToClient,
-) -> Result<Option<(bool, u64)>, AllocError>
-    requires { blank ≡ N.cluster }
-{
-    let (cluster, mut members) = blank.open::<N>(alloc)?;
-    let Some(member) = members.first_mut() else {
-        return Ok(None);
-    };
-    let posted = match moment {
-        Moment::Idle => {
-            let posted = cluster.post(rt, message);
-            asks(rt, &cluster, member, 3);
-            posted
-        }
-        Moment::Inside => {
-            asks(rt, &cluster, member, 2);
-            let posted = cluster.post(rt, message);
-            let _ = member.pump(rt, &cluster);
-            posted
-        }
-    };
-    Ok(Some((posted, member.lost())))
+/// Returns the script in which this message is posted to client 0 at a moment, and the client takes all
+/// that waits and has lost this many messages.
+fn posted(moment: Moment, message: ToClient, gets_in: bool, lost: u64) -> [(usize, Act); 4] {
+    match moment {
+        Moment::Idle => [
+            (0, Act::Post(message, gets_in)),
+            (0, Act::Ask(0, 0)),
+            (0, Act::Pumps(3)),
+            (0, Act::Lost(lost)),
+        ],
+        Moment::Inside => [
+            (0, Act::Enter),
+            (0, Act::Post(message, gets_in)),
+            (0, Act::Pumps(1)),
+            (0, Act::Lost(lost)),
+        ],
+    }
 }
 
 /// Returns a message of this voter to client 0.
@@ -190,14 +139,9 @@ const POSTED: [(Moment, u8, ClientBody, bool, u64); 6] = [
 ];
 
 #[test]
-fn a_pump_counts_what_it_lost(rt: HostRuntime) -> Result<(), Fail> {
+fn a_pump_counts_what_it_lost(rt: HostRuntime) {
     for (moment, voter, body, gets_in, lost) in POSTED {
-        let Some(blank) = majority_blank(rt.alloc(), 1) else {
-            panic!(rt; "no cluster")
-        };
-        let message = of_voter(voter, body);
-        let found = posted::<Brand>(&rt, rt.alloc(), blank, moment, message)?;
-        assert_eq!(rt; found, Some((gets_in, lost)));
+        let script = posted(moment, of_voter(voter, body), gets_in, lost);
+        assert_eq!(rt; stuck_at(&rt, rt.alloc(), Asked::AnyTwo, 1, &script), None);
     }
-    Ok(())
 }

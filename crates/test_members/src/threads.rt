@@ -1,15 +1,14 @@
 //! Members that enter: all that there can be, and two in threads of their own.
 ghost use Rattle.std.specs.Prelude.{◌≡◌};
 
-use crate::scripts::majority_blank;
+use crate::scripts::{Asked, blank_of};
 use dealer::Plans;
 use members::{Blank, Cluster, ClusterName, Member};
 use quorum_set::Side;
 use requester::Seen;
-use std::alloc::{AllocError, Global};
+use std::alloc::Global;
 use std::marker::Brand;
 use std::sync::Wait;
-use std::test::Fail;
 use std::thread;
 use std::thread::Threads;
 use test_plans::even_plan;
@@ -22,12 +21,15 @@ struct Totals {
     lost: u64,
 }
 
+/// The number of looks after which a member reminds.
+const TURNS_BEFORE_REMINDER: u32 = 500;
+
 /// Pumps until the member is inside, for at most `turns` turns. Returns whether it is.
-fn enters<N: ClusterName>(
+pub(crate) fn enters<N: ClusterName>(
     rt: &impl Wait,
     cluster: &Cluster<N>,
     member: &mut Member<N>,
-    turns: u64,
+    turns: u32,
 ) -> bool {
     for turn in 0..turns {
         match member.pump(rt, cluster) {
@@ -35,7 +37,7 @@ fn enters<N: ClusterName>(
             Some(_) => {}
             None => thread::yield_now(),
         }
-        if turn % 1000 == 999 {
+        if turn % TURNS_BEFORE_REMINDER == TURNS_BEFORE_REMINDER - 1 {
             member.remind(rt, cluster);
         }
     }
@@ -47,7 +49,7 @@ fn serves<N: ClusterName>(
     rt: &impl Wait,
     cluster: &Cluster<N>,
     member: &mut Member<N>,
-    turns: u64,
+    turns: u32,
 ) {
     let asked = member.ask(rt, cluster).is_ok();
     if asked && enters(rt, cluster, member, turns) {
@@ -81,62 +83,62 @@ fn largest_blank(alloc: Global) -> Option<Blank> {
     Blank::new(alloc, plans, 64, 1).ok()
 }
 
-/// Has the members enter with the vote of each voter, one after the other, and pass and leave.
-fn all_serve<N: ClusterName>(
-    rt: &impl Wait,
-    alloc: Global,
-    blank: Blank,
-) -> Result<Totals, AllocError>
-    requires { blank ≡ N.cluster }
-{
-    let (cluster, mut members) = blank.open::<N>(alloc)?;
-    for member in members.iter_mut() {
-        serves(rt, &cluster, member, 64);
-    }
-    Ok(totals_of(members.as_slice()))
-}
-
-#[test]
-fn every_client_gets_the_vote_of_every_voter(rt: HostRuntime) -> Result<(), Fail> {
-    let Some(blank) = largest_blank(rt.alloc()) else {
-        panic!(rt; "no cluster")
-    };
-    let wanted = Totals {
-        passes: 64,
-        draws: 64,
-        lost: 0,
-    };
-    assert_eq!(rt; all_serve::<Brand>(&rt, rt.alloc(), blank)?, wanted);
-    Ok(())
-}
-
-/// Has the members draw and pass, each in a thread of its own.
-fn both_pass<N: ClusterName + Send + Sync, R: Threads + Wait + Sync>(
+/// Has the members draw, enter, pass and leave, one after the other or each in a thread of its own.
+/// Returns `None` if memory runs out.
+fn all_serve<N: ClusterName + Send + Sync, R: Threads + Wait + Sync>(
     rt: &R,
     alloc: Global,
     blank: Blank,
-) -> Result<Totals, AllocError>
+    at_once: bool,
+) -> Option<Totals>
     requires { blank ≡ N.cluster }
 {
-    let (cluster, mut members) = blank.open::<N>(alloc)?;
+    let (cluster, mut members) = blank.open::<N>(alloc).ok()?;
     let threads = members.len();
-    if threads > 0 {
+    if at_once && threads > 0 {
         thread::for_each_mut(
             rt,
             members.as_mut_slice(),
             threads,
             &|_, member: &mut Member<N>| { serves(rt, &cluster, member, 1_000_000_000) },
         );
+    } else {
+        for member in members.iter_mut() {
+            serves(rt, &cluster, member, 64);
+        }
     }
-    Ok(totals_of(members.as_slice()))
+    Some(totals_of(members.as_slice()))
+}
+
+/// Returns what the members of a cluster have in the end.
+fn served<R: Threads + Wait + Sync>(
+    rt: &R,
+    alloc: Global,
+    blank: Option<Blank>,
+    at_once: bool,
+) -> Option<Totals> {
+    all_serve::<Brand, _>(rt, alloc, blank?, at_once)
 }
 
 #[test]
-fn two_threads_pass(rt: HostRuntime) -> Result<(), Fail> {
-    let Some(blank) = majority_blank(rt.alloc(), 2) else {
-        panic!(rt; "no cluster")
+fn every_client_gets_the_vote_of_every_voter(rt: HostRuntime) {
+    let wanted = Totals {
+        passes: 64,
+        draws: 64,
+        lost: 0,
     };
-    let totals = both_pass::<Brand, _>(&rt, rt.alloc(), blank)?;
-    assert_eq!(rt; (totals.passes, totals.draws), (2, 2));
-    Ok(())
+    assert_eq!(rt;
+        served(&rt, rt.alloc(), largest_blank(rt.alloc()), false),
+        Some(wanted)
+    );
+}
+
+#[test]
+fn two_threads_pass(rt: HostRuntime) {
+    let blank = blank_of(rt.alloc(), Asked::AnyTwo, 2);
+    let both = match served(&rt, rt.alloc(), blank, true) {
+        Some(totals) => (totals.passes, totals.draws),
+        None => (0, 0),
+    };
+    assert_eq!(rt; both, (2, 2));
 }

@@ -1,4 +1,0 @@
-use Rattle.demo_hostile.proofs.calls.line_of.Given as goal
-
-abbrev pub ghosts-opened : goal.ghosts-opened
-ghosts-opened g a = record { cluster = a.blank }

@@ -1,4 +1,0 @@
-use Rattle.demo_hostile.proofs.holds.line_of.Given as goal
-
-abbrev pub ghosts-outcome_of : goal.ghosts-outcome_of
-ghosts-outcome_of g a = record { cluster = a.blank }
