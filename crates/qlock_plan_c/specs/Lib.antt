@@ -1,5 +1,4 @@
 pub mod Calls
-pub mod FaultLines
 pub mod Numbers
 pub mod Orders
 pub mod Outputs

@@ -6,7 +6,6 @@
 //! - `src/planning_calls.rt`: the names of voters, a plan of a coterie, and the check of a plan.
 //! - `src/dealing_calls.rt`: the quorums of tickets in two orders, and how even the second is.
 //! - `src/order.rt`: the order of tickets.
-//! - `src/fault_lines.rt`: the line that says why a text was refused.
 //! - `src/outcome.rt`, `src/output.rt`: how a call ends, and what it writes to `out`.
 //!
 //! `include/qlock_plan.h` at the top of the repository says the same for C, and `docs/embedding.md`
@@ -15,15 +14,12 @@
 //! What is written is a stated function of the texts, and each end of a call is stated:
 //! `specs/Calls.antt`. Only where memory ends is not.
 //!
-//! Depends on `plan_inputs`, `coterie_file`, `certificate`, `planner`, `dealer`, `even`, `quorum_set`, `words` and
+//! Depends on `plan_inputs`, `fault_lines`, `coterie_file`, `certificate`, `planner`, `dealer`, `even`, `quorum_set`, `words` and
 //! `numbers`.
 #![tactic(auto)]
 
 mod dealing_calls;
-mod fault_lines;
 mod order;
 mod outcome;
 mod output;
 mod planning_calls;
-#[cfg(test)]
-mod tests;

@@ -1,8 +1,8 @@
 //! Writing to `out`.
 ghost use Rattle.qlock_plan_c.specs.Outputs.{PutsFault, PutsRefusal, PutsText, output};
 
-use crate::fault_lines::line_of;
 use crate::outcome::Outcome;
+use fault_lines::line_of;
 use plan_inputs::InputFault;
 
 /// Writes a text to the front of `out`, and how many bytes it has. Writes nothing if `out` is too

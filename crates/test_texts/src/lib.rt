@@ -1,11 +1,14 @@
 //! Tests of small crates of texts and bytes through their public calls. This crate has nothing but
 //! tests.
 //!
+//! - `faults` has the line of each fault that the planning library for C writes.
 //! - `lines` has a format of two kinds of lines.
 //! - `numbers` has numbers as bytes.
 //! - `places` finds lines, columns, marks and brackets.
 #![tactic(auto)]
 
+#[cfg(test)]
+mod faults;
 #[cfg(test)]
 mod lines;
 #[cfg(test)]

@@ -1,7 +1,7 @@
 //! The lines of faults are the texts that the program prints.
-use crate::fault_lines::line_of;
 use certificate::PlanFault;
 use coterie_file::FileFault;
+use fault_lines::line_of;
 use plan_inputs::InputFault;
 use planner::{Cause, PlannerFault};
 use quorum_set::CoterieFault;

@@ -2,7 +2,7 @@
 ghost use Rattle.std.specs.Prelude.{◌≡◌, ◌≤◌, ◌+◌, ◌++◌, ◌∷◌, length};
 ghost use Rattle.std.specs.Fmt.{decimal};
 ghost use Rattle.arrayvec.specs.ArrayString.{array_string_len};
-ghost use Rattle.qlock_plan_c.specs.FaultLines.{cause_line, coterie_line, file_line, line_of, numbered_line, plan_line, planner_line};
+ghost use Rattle.fault_lines.specs.Lines.{cause_line, coterie_line, file_line, line_of, numbered_line, plan_line, planner_line};
 
 use arrayvec::ArrayString;
 use certificate::PlanFault;

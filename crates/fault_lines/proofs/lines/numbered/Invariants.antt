@@ -1,7 +1,7 @@
 use Rattle.std.proofs.Common.{◌≡◌, ◌≤◌, ◌*◌, ◌+◌, take}
 use Rattle.arrayvec.specs.ArrayString.{array_string_len}
-use Rattle.qlock_plan_c.specs.FaultLines.{numbered_line}
-use Rattle.qlock_plan_c.proofs.fault_lines.numbered.Given as goal
+use Rattle.fault_lines.specs.Lines.{numbered_line}
+use Rattle.fault_lines.proofs.lines.numbered.Given as goal
 
 abbrev pub invariant-loop-number : goal.invariant-loop-number
 invariant-loop-number l = record {
