@@ -20,7 +20,7 @@ const LABELLED: u64 = 42;
 const ROOMY: u64 = 60;
 
 /// An axis for shares of the whole.
-#[derive(Clone, Copy, Debug)]
+#[derive(Clone, Copy)]
 struct Axis {
     /// How high a bar of the whole would be.
     whole: u64,
@@ -61,7 +61,7 @@ const AXES: [Axis; 7] = [
 ];
 
 /// The bars of a plan.
-#[derive(Clone, Copy, Debug)]
+#[derive(Clone, Copy)]
 pub struct Bars {
     /// How far the lower ends of the bars are from the upper edge.
     base: u64,

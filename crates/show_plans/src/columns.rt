@@ -14,7 +14,7 @@ const ROOM: u64 = 710;
 const WIDEST: u64 = 64;
 
 /// The columns of the voters.
-#[derive(Clone, Copy, Debug)]
+#[derive(Clone, Copy)]
 pub struct Columns {
     /// How wide a column is.
     pub width: u64,

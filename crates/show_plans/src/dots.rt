@@ -23,7 +23,7 @@ const LEAST: u64 = 12;
 const NUMBER: &str = "text-anchor=\"end\"";
 
 /// The grid of dots.
-#[derive(Clone, Copy, Debug)]
+#[derive(Clone, Copy)]
 pub struct Dots {
     /// How far the first row is from the upper edge.
     top: u64,

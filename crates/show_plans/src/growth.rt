@@ -42,7 +42,7 @@ const LIMIT: &str = "stroke=\"#b22222\" stroke-width=\"2\" stroke-dasharray=\"6 
 const BAND: &str = "fill=\"#eeeeee\"";
 
 /// The graph.
-#[derive(Clone, Copy, Debug)]
+#[derive(Clone, Copy)]
 pub struct Growth {
     /// How far it is from the left edge.
     left: u64,

@@ -42,7 +42,7 @@ const NARROW: u64 = 11;
 const WIDEST: u64 = 48;
 
 /// The strip of a cycle.
-#[derive(Clone, Copy, Debug)]
+#[derive(Clone, Copy)]
 pub struct Strip {
     /// How far the first cell is from the left edge.
     pub left: u64,

@@ -5,7 +5,7 @@ use numbers::MAX_VOTERS;
 use std::alloc::{AllocError, Global};
 
 /// How often some tickets use each voter.
-#[derive(Clone, Copy, Debug)]
+#[derive(Clone, Copy)]
 struct Tally {
     /// How often they use each voter.
     counts: [u64; MAX_VOTERS],
@@ -16,7 +16,7 @@ struct Tally {
 }
 
 /// How often the first tickets use their busiest voter.
-#[derive(Clone, Copy, Debug)]
+#[derive(Clone, Copy)]
 pub struct Sample {
     /// How many tickets these are.
     pub tickets: u64,
