@@ -113,7 +113,7 @@ fn blocks_name_what_the_rounds_list(rt: HostRuntime) -> Result<(), Fail> {
     // Bound 1 makes only zeros. Bound 2 leaves one distinct positive weight, 4 a few, and 50 a
     // different one for nearly every quorum.
     for bound in [2u64, 4, 9, 50] {
-        assert!(rt; agree_below(rt.alloc(), bound)?, "weights below {bound}");
+        assert!(rt; agree_below(rt.alloc(), bound)?);
     }
     Ok(())
 }
@@ -135,7 +135,7 @@ const EDGES: [&[u64]; 10] = [
 #[test]
 fn blocks_of_weights_at_the_edges(rt: HostRuntime) -> Result<(), Fail> {
     for weights in &EDGES {
-        assert!(rt; agrees(rt.alloc(), weights)?, "{} weights", weights.len());
+        assert!(rt; agrees(rt.alloc(), weights)?);
     }
     Ok(())
 }

@@ -1,17 +1,22 @@
 //! Texts of coteries: read, refused and written.
-ghost use Rattle.std.specs.Prelude.{◌≡◌, IfOk};
-
+use crate::certificates::majority;
+use coterie_file::FileFault::{
+    BadCapacity, BadName, CapacityCount, Keys, NotToml, RepeatedMember, RepeatedName, UnknownName,
+};
 use coterie_file::{FileFault, Named, read_coterie, write_coterie};
-use quorum_set::{Coterie, CoterieFault};
+use quorum_set::CoterieFault;
 use std::alloc::{AllocError, Global};
 use std::test::Fail;
-use test_plans::coterie_of;
 
-/// Returns the text of the coterie as it is written, or no text if there is none.
-fn written(alloc: Global, answer: Result<Named, FileFault>) -> Result<String, AllocError> {
+/// Returns whether this is a coterie, and is written as this text.
+fn is_written(
+    alloc: Global,
+    answer: Result<Named, FileFault>,
+    wanted: &str,
+) -> Result<bool, AllocError> {
     match answer {
-        Ok(named) => write_coterie(alloc, &named),
-        Err(_) => Ok(String::new(alloc)),
+        Ok(named) => Ok(write_coterie(alloc, &named)?.as_str() == wanted),
+        Err(_) => Ok(false),
     }
 }
 
@@ -30,69 +35,51 @@ fn fault_in(alloc: Global, text: &str) -> Option<FileFault> {
 
 /// Texts that are no coterie, and the first fault of each.
 const REFUSED: [(&str, FileFault); 31] = [
-    ("voters = [", FileFault::NotToml),
-    ("voters = []\nvoters = []\nquorums = []", FileFault::NotToml),
-    ("", FileFault::Keys),
-    (" \t\n# no key\r\n", FileFault::Keys),
-    ("voters = ['a']", FileFault::Keys),
-    ("quorums = [['a']]", FileFault::Keys),
-    (
-        "voters = ['a']\nquorums = [['a']]\nweights = [1]",
-        FileFault::Keys,
-    ),
-    ("voters = ['a']\nquorum = [['a']]", FileFault::Keys),
-    ("voters = 'a'\nquorums = [['a']]", FileFault::Keys),
-    ("voters = ['a', 1]\nquorums = [['a']]", FileFault::Keys),
-    ("voters = ['a']\nquorums = ['a']", FileFault::Keys),
-    ("voters = ['a']\nquorums = [['a', 1]]", FileFault::Keys),
-    ("voters = ['a b', 2]\nquorums = [['a']]", FileFault::Keys),
-    (
-        "voters = ['a b', 'c d']\nquorums = [['a b']]",
-        FileFault::BadName(0),
-    ),
-    (
-        "voters = ['a', '']\nquorums = [['a']]",
-        FileFault::BadName(1),
-    ),
-    (
-        "voters = ['a', 'a', 'é']\nquorums = [['a']]",
-        FileFault::BadName(2),
-    ),
-    (
-        "voters = ['a', 'a']\nquorums = [['z']]",
-        FileFault::RepeatedName(1),
-    ),
+    ("voters = [", NotToml),
+    ("voters = []\nvoters = []\nquorums = []", NotToml),
+    ("", Keys),
+    (" \t\n# no key\r\n", Keys),
+    ("voters = ['a']", Keys),
+    ("quorums = [['a']]", Keys),
+    ("voters = ['a']\nquorums = [['a']]\nweights = [1]", Keys),
+    ("voters = ['a']\nquorum = [['a']]", Keys),
+    ("voters = 'a'\nquorums = [['a']]", Keys),
+    ("voters = ['a', 1]\nquorums = [['a']]", Keys),
+    ("voters = ['a']\nquorums = ['a']", Keys),
+    ("voters = ['a']\nquorums = [['a', 1]]", Keys),
+    ("voters = ['a b', 2]\nquorums = [['a']]", Keys),
+    ("voters = ['a b', 'c d']\nquorums = [['a b']]", BadName(0)),
+    ("voters = ['a', '']\nquorums = [['a']]", BadName(1)),
+    ("voters = ['a', 'a', 'é']\nquorums = [['a']]", BadName(2)),
+    ("voters = ['a', 'a']\nquorums = [['z']]", RepeatedName(1)),
     (
         "voters = ['a', 'b', 'b', 'a']\nquorums = []",
-        FileFault::RepeatedName(2),
+        RepeatedName(2),
     ),
-    (
-        "voters = ['a']\nquorums = [['z']]",
-        FileFault::UnknownName(0),
-    ),
+    ("voters = ['a']\nquorums = [['z']]", UnknownName(0)),
     (
         "voters = ['a']\nquorums = [['a', 'a'], ['z']]",
-        FileFault::UnknownName(1),
+        UnknownName(1),
     ),
     (
         "voters = ['a', 'A']\nquorums = [['A', 'a'], ['a', 'a']]",
-        FileFault::RepeatedMember(1),
+        RepeatedMember(1),
     ),
     (
         "voters = ['a']\nquorums = [['a', 'a'], []]",
-        FileFault::RepeatedMember(0),
+        RepeatedMember(0),
     ),
     (
         "voters = ['a', 'b']\nquorums = [['a', 'a']]\ncapacity = [2]",
-        FileFault::RepeatedMember(0),
+        RepeatedMember(0),
     ),
     (
         "voters = ['a', 'b']\nquorums = []\ncapacity = [0]",
-        FileFault::CapacityCount(1),
+        CapacityCount(1),
     ),
     (
         "voters = ['a', 'b']\nquorums = []\ncapacity = [1, 0]",
-        FileFault::BadCapacity(1),
+        BadCapacity(1),
     ),
     (
         "voters = []\nquorums = []\ncapacity = []",
@@ -123,7 +110,7 @@ const REFUSED: [(&str, FileFault); 31] = [
 #[test]
 fn first_faults(rt: HostRuntime) {
     for (text, fault) in &REFUSED {
-        assert!(rt; fault_in(rt.alloc(), text) == Some(*fault), "{text}");
+        assert!(rt; fault_in(rt.alloc(), text) == Some(*fault));
     }
 }
 
@@ -145,52 +132,61 @@ const CAPACITIES: [(&str, &str); 3] = [
 
 /// Lists that are no capacities of three voters, and the fault.
 const BAD_CAPACITIES: [(&str, FileFault); 14] = [
-    ("[2, 1]", FileFault::CapacityCount(2)),
-    ("[]", FileFault::CapacityCount(0)),
-    ("[2, 1, 1, 0]", FileFault::CapacityCount(4)),
-    ("[2, 0, 1]", FileFault::BadCapacity(1)),
-    ("[1000, 1, 1001]", FileFault::BadCapacity(2)),
-    ("[-1, 1, 0]", FileFault::BadCapacity(0)),
-    ("[1, -9223372036854775808, 0]", FileFault::BadCapacity(1)),
-    ("[1, 1, 9223372036854775807]", FileFault::BadCapacity(2)),
-    ("'x'", FileFault::Keys),
-    ("1", FileFault::Keys),
-    ("[1, 'x', 1]", FileFault::Keys),
-    ("[1.5, 1, 1]", FileFault::Keys),
-    ("[[1], 1, 1]", FileFault::Keys),
-    ("[1, 1, 1]\nweights = [1, 1, 1]", FileFault::Keys),
+    ("[2, 1]", CapacityCount(2)),
+    ("[]", CapacityCount(0)),
+    ("[2, 1, 1, 0]", CapacityCount(4)),
+    ("[2, 0, 1]", BadCapacity(1)),
+    ("[1000, 1, 1001]", BadCapacity(2)),
+    ("[-1, 1, 0]", BadCapacity(0)),
+    ("[1, -9223372036854775808, 0]", BadCapacity(1)),
+    ("[1, 1, 9223372036854775807]", BadCapacity(2)),
+    ("'x'", Keys),
+    ("1", Keys),
+    ("[1, 'x', 1]", Keys),
+    ("[1.5, 1, 1]", Keys),
+    ("[[1], 1, 1]", Keys),
+    ("[1, 1, 1]\nweights = [1, 1, 1]", Keys),
 ];
 
-/// Returns the text of the majority with this list of capacities.
-fn with_list(alloc: Global, list: &str) -> Result<String, AllocError> {
-    format!(in alloc; "{MAJORITY}capacity = {list}\n")
+/// Returns the text of these pieces.
+fn joined(alloc: Global, pieces: &[&str]) -> Result<String, AllocError> {
+    let mut text = String::new(alloc);
+    for piece in pieces {
+        text.push_str(piece)?;
+    }
+    Ok(text)
+}
+
+/// Reads the majority with this list of capacities.
+fn read_with_list(alloc: Global, list: &str) -> Result<Result<Named, FileFault>, AllocError> {
+    let text = joined(alloc, &[MAJORITY, "capacity = ", list, "\n"])?;
+    Ok(read_coterie(alloc, &text))
 }
 
 #[test]
 fn capacities_are_read(rt: HostRuntime) -> Result<(), Fail> {
     let alloc = rt.alloc();
     for (list, wanted) in &CAPACITIES {
-        let text = with_list(alloc, list)?;
-        assert!(rt; written(alloc, read_coterie(alloc, &text))?.as_str() == *wanted);
+        assert!(rt; is_written(alloc, read_with_list(alloc, list)?, wanted)?);
     }
     for (list, fault) in &BAD_CAPACITIES {
-        let text = with_list(alloc, list)?;
-        assert!(rt; fault_in(alloc, &text) == Some(*fault));
+        assert!(rt; fault_of(read_with_list(alloc, list)?) == Some(*fault));
     }
     Ok(())
 }
 
+/// Layouts of the majority.
+const LAYOUTS: [&str; 4] = [
+    MAJORITY,
+    "quorums=[['v1','v0'],['v2','v0'],['v2','v1']]\nvoters=['v0','v1','v2']",
+    "# three voters\nvoters = [\n  'v0', # the first\n  'v1',\n  'v2',\n]\nquorums = [ ['v0', 'v1'], ['v0', 'v2'],\n  ['v1', # and\n 'v2'] ]\n",
+    "\"voters\" = [\"\\u0076\\u0030\", '''v1''', \"\"\"v2\"\"\"]\r\n'quorums' = [[\"v0\", \"v1\"], [\"v0\", \"v2\"], [\"v1\", \"v2\"]]\r\n",
+];
+
 #[test]
 fn layouts_read_alike(rt: HostRuntime) -> Result<(), Fail> {
-    let alloc = rt.alloc();
-    let layouts = [
-        MAJORITY,
-        "quorums=[['v1','v0'],['v2','v0'],['v2','v1']]\nvoters=['v0','v1','v2']",
-        "# three voters\nvoters = [\n  'v0', # the first\n  'v1',\n  'v2',\n]\nquorums = [ ['v0', 'v1'], ['v0', 'v2'],\n  ['v1', # and\n 'v2'] ]\n",
-        "\"voters\" = [\"\\u0076\\u0030\", '''v1''', \"\"\"v2\"\"\"]\r\n'quorums' = [[\"v0\", \"v1\"], [\"v0\", \"v2\"], [\"v1\", \"v2\"]]\r\n",
-    ];
-    for text in &layouts {
-        assert!(rt; written(alloc, read_coterie(alloc, text))?.as_str() == MAJORITY);
+    for text in &LAYOUTS {
+        assert!(rt; is_written(rt.alloc(), read_coterie(rt.alloc(), text), MAJORITY)?);
     }
     Ok(())
 }
@@ -205,20 +201,14 @@ quorums = [
 ]
 "#;
 
-/// Returns the coterie of any two of three voters.
-fn majority(alloc: Global) -> Result<Coterie, Fail>
-    ensures { IfOk result (λ c. c.voters ≡ 3) }
-{
-    coterie_of(alloc, 3, &[&[0, 1], &[0, 2], &[1, 2]])
-}
-
 #[test]
 fn numbered_coterie_is_written(rt: HostRuntime) -> Result<(), Fail> {
     let alloc = rt.alloc();
     let named = Named::numbered(alloc, majority(alloc)?)?;
-    assert_eq!(rt; named.coterie().count(), 3);
-    assert_eq!(rt; named.name(2), "v2");
-    assert_eq!(rt; write_coterie(alloc, &named)?.as_str(), MAJORITY);
+    let parts = (named.coterie().count() == 3)
+        & (named.name(2) == "v2")
+        & (named.capacities().len() == 3);
+    assert!(rt; parts & is_written(alloc, Ok(named), MAJORITY)?);
     Ok(())
 }
 
@@ -237,9 +227,9 @@ fn with_names(alloc: Global, names: &[&str]) -> Result<Result<Named, FileFault>,
 
 /// Names that voters can't have, and the fault.
 const BAD_NAMES: [([&str; 3], FileFault); 3] = [
-    (["v0", "v1", "v0"], FileFault::RepeatedName(2)),
-    (["v0", "v0", "v 2"], FileFault::BadName(2)),
-    (["", "v0", "v0"], FileFault::BadName(0)),
+    (["v0", "v1", "v0"], RepeatedName(2)),
+    (["v0", "v0", "v 2"], BadName(2)),
+    (["", "v0", "v0"], BadName(0)),
 ];
 
 #[test]
@@ -249,7 +239,7 @@ fn names_are_given(rt: HostRuntime) -> Result<(), Fail> {
         assert!(rt; fault_of(with_names(alloc, names.as_slice())?) == Some(*fault));
     }
     let named = with_names(alloc, ["v0", "v1", "v2"].as_slice())?;
-    assert!(rt; written(alloc, named)?.as_str() == MAJORITY);
+    assert!(rt; is_written(alloc, named, MAJORITY)?);
     Ok(())
 }
 
@@ -259,12 +249,15 @@ fn weighing(alloc: Global, capacities: &[u64]) -> Result<Result<Named, FileFault
     Ok(Named::numbered(alloc, majority(alloc)?)?.with_capacities(given))
 }
 
+/// Capacities, and the text with them.
+const WEIGHTS: [(&[u64], &str); 2] = [(&[1, 1, 1], MAJORITY), (&[2, 1, 1], WEIGHTED)];
+
 /// Capacities that voters can't have, and the fault.
 const BAD_WEIGHTS: [(&[u64], FileFault); 4] = [
-    (&[2, 0], FileFault::CapacityCount(2)),
-    (&[2, 1, 1, 1], FileFault::CapacityCount(4)),
-    (&[1, 1001, 0], FileFault::BadCapacity(1)),
-    (&[1, 1, u64::MAX], FileFault::BadCapacity(2)),
+    (&[2, 0], CapacityCount(2)),
+    (&[2, 1, 1, 1], CapacityCount(4)),
+    (&[1, 1001, 0], BadCapacity(1)),
+    (&[1, 1, u64::MAX], BadCapacity(2)),
 ];
 
 #[test]
@@ -273,10 +266,9 @@ fn capacities_are_given(rt: HostRuntime) -> Result<(), Fail> {
     for (capacities, fault) in &BAD_WEIGHTS {
         assert!(rt; fault_of(weighing(alloc, capacities)?) == Some(*fault));
     }
-    assert!(rt; written(alloc, weighing(alloc, &[1, 1, 1])?)?.as_str() == MAJORITY);
-    assert!(rt; written(alloc, weighing(alloc, &[2, 1, 1])?)?.as_str() == WEIGHTED);
-    let named = Named::numbered(alloc, majority(alloc)?)?;
-    assert!(rt; named.capacities().len() == 3);
+    for (capacities, wanted) in &WEIGHTS {
+        assert!(rt; is_written(alloc, weighing(alloc, capacities)?, wanted)?);
+    }
     Ok(())
 }
 
@@ -289,43 +281,47 @@ fn many_names(alloc: Global) -> Result<String, AllocError> {
     Ok(names)
 }
 
-/// Returns the text of a coterie with these lists.
-fn with_lists(alloc: Global, voters: &str, quorums: &str) -> Result<String, AllocError> {
-    format!(in alloc; "voters=[{voters}]\nquorums=[{quorums}]")
-}
-
 /// Returns the fault of one voter with a name of this many letters.
 fn named_by(alloc: Global, letters: usize) -> Result<Option<FileFault>, AllocError> {
     let name = "n".repeat(alloc, letters)?;
-    let voter = format!(in alloc; "'{name}'")?;
-    let quorum = format!(in alloc; "['{name}']")?;
-    Ok(fault_in(alloc, with_lists(alloc, &voter, &quorum)?.as_str()))
+    let pieces = ["voters=['", &name, "']\nquorums=[['", &name, "']]"];
+    Ok(fault_in(alloc, &joined(alloc, &pieces)?))
 }
 
 /// Returns the fault of 64 voters, and whatever further ones, with these quorums.
 fn with_many(alloc: Global, more: &str, quorums: &str) -> Result<Option<FileFault>, AllocError> {
     let names = many_names(alloc)?;
-    let voters = format!(in alloc; "{names}{more}")?;
-    Ok(fault_in(alloc, with_lists(alloc, &voters, quorums)?.as_str()))
+    let pieces = ["voters=[", &names, more, "]\nquorums=[", quorums, "]"];
+    Ok(fault_in(alloc, &joined(alloc, &pieces)?))
 }
 
 #[test]
 fn names_have_at_most_64_letters(rt: HostRuntime) -> Result<(), Fail> {
     let faults = (named_by(rt.alloc(), 64)?, named_by(rt.alloc(), 65)?);
-    assert!(rt; faults == (None, Some(FileFault::BadName(0))));
+    assert!(rt; faults == (None, Some(BadName(0))));
     Ok(())
 }
+
+/// Returns the fault of 64 voters that are one quorum.
+fn with_all(alloc: Global) -> Result<Option<FileFault>, AllocError> {
+    let names = many_names(alloc)?;
+    let pieces = ["voters=[", &names, "]\nquorums=[[", &names, "]]"];
+    Ok(fault_in(alloc, &joined(alloc, &pieces)?))
+}
+
+/// Quorums of 65 voters, and the fault.
+const MORE_VOTERS: [(&str, FileFault); 2] = [
+    ("['n0']", FileFault::Coterie(CoterieFault::TooManyVoters)),
+    ("['n0'],['m','m']", RepeatedMember(1)),
+];
 
 #[test]
 fn voters_are_at_most_64(rt: HostRuntime) -> Result<(), Fail> {
     let alloc = rt.alloc();
-    let names = many_names(alloc)?;
-    let all = format!(in alloc; "[{names}]")?;
-    assert!(rt; with_many(alloc, "", &all)?.is_none());
-    let more = Some(FileFault::Coterie(CoterieFault::TooManyVoters));
-    assert!(rt; with_many(alloc, "'m'", "['n0']")? == more);
-    let repeated = Some(FileFault::RepeatedMember(1));
-    assert!(rt; with_many(alloc, "'m'", "['n0'],['m','m']")? == repeated);
+    assert!(rt; with_all(alloc)?.is_none());
+    for (quorums, fault) in &MORE_VOTERS {
+        assert!(rt; with_many(alloc, "'m'", quorums)? == Some(*fault));
+    }
     Ok(())
 }
 

@@ -1,8 +1,9 @@
 //! Voters that fail.
-use construct::{grid, majority, tree, wheel};
+use crate::shapes::{Shape, built};
+use construct::wheel;
 use failures::{bears, coterie_without, transversal_of};
 use quorum_set::{Coterie, QSet};
-use std::alloc::AllocError;
+use std::alloc::{AllocError, Global};
 use std::test::Fail;
 
 /// Returns how many members a smallest set has whose failure the coterie does not bear, by trying
@@ -28,27 +29,28 @@ fn smallest_found(coterie: &Coterie) -> usize {
     found.voters.len()
 }
 
+/// Shapes, and how many members a smallest set has whose failure their coteries do not bear.
+const SMALLEST: [(Shape, usize); 7] = [
+    (Shape::Majority(1), 1),
+    (Shape::Majority(5), 3),
+    (Shape::Majority(8), 4),
+    (Shape::Wheel(5), 2),
+    (Shape::Grid(3, 3), 3),
+    (Shape::Grid(2, 4), 2),
+    (Shape::Tree(2), 3),
+];
+
+/// Returns both numbers for the coterie of a shape, or `None` if there is none.
+fn smallest_both_ways(alloc: Global, shape: Shape) -> Option<(usize, usize)> {
+    let coterie = built(alloc, shape).ok()?;
+    Some((smallest_by_trial(&coterie), smallest_found(&coterie)))
+}
+
 #[test]
-fn smallest_sets_are_those_of_trial(rt: HostRuntime) -> Result<(), Fail> {
-    let alloc = rt.alloc();
-    let table = [
-        (majority(alloc, 1), 1),
-        (majority(alloc, 5), 3),
-        (majority(alloc, 8), 4),
-        (wheel(alloc, 5), 2),
-        (grid(alloc, 3, 3), 3),
-        (grid(alloc, 2, 4), 2),
-        (tree(alloc, 2), 3),
-    ];
-    for (built, wanted) in table {
-        let Ok(coterie) = built else {
-            assert!(rt; false);
-            return Ok(());
-        };
-        assert_eq!(rt; smallest_by_trial(&coterie), wanted);
-        assert_eq!(rt; smallest_found(&coterie), wanted);
+fn smallest_sets_are_those_of_trial(rt: HostRuntime) {
+    for (shape, wanted) in &SMALLEST {
+        assert!(rt; smallest_both_ways(rt.alloc(), *shape) == Some((*wanted, *wanted)));
     }
-    Ok(())
 }
 
 #[test]
@@ -57,25 +59,30 @@ fn a_search_without_steps_finds_a_quorum(rt: HostRuntime) -> Result<(), Fail> {
         return Err(Fail::from(AllocError));
     };
     let found = transversal_of(&coterie, 0);
-    assert!(rt; !found.is_smallest);
-    assert_eq!(rt; found.voters.len(), 2);
+    assert!(rt; !found.is_smallest & (found.voters.len() == 2));
     Ok(())
+}
+
+/// Returns how many voters and quorums the wheel of three rims has without these voters, or `None` if
+/// it has no quorum left.
+fn left_of_wheel(alloc: Global, failed: u64) -> Result<Option<(usize, usize)>, AllocError> {
+    let Ok(coterie) = wheel(alloc, 3) else {
+        return Err(AllocError);
+    };
+    match coterie_without(alloc, &coterie, &QSet::of_bits(failed))? {
+        Some(left) => Ok(Some((left.voters(), left.count()))),
+        None => Ok(None),
+    }
 }
 
 #[test]
 fn what_is_left_are_the_quorums_without_the_failed(rt: HostRuntime) -> Result<(), Fail> {
-    let alloc = rt.alloc();
-    let Ok(coterie) = wheel(alloc, 3) else {
-        return Err(Fail::from(AllocError));
-    };
-    let left = coterie_without(alloc, &coterie, &QSet::of_bits(0b0010))?;
-    assert_eq!(rt;
-        left.map(|left| (left.voters(), left.count())),
-        Some((4, 2))
-    );
-    let hub = coterie_without(alloc, &coterie, &QSet::of_bits(0b0001))?;
-    assert_eq!(rt; hub.map(|left| (left.voters(), left.count())), Some((4, 1)));
-    let none = coterie_without(alloc, &coterie, &QSet::of_bits(0b0011))?;
-    assert!(rt; none.is_none());
+    for (failed, wanted) in [
+        (0b0010, Some((4, 2))),
+        (0b0001, Some((4, 1))),
+        (0b0011, None),
+    ] {
+        assert!(rt; left_of_wheel(rt.alloc(), failed)? == wanted);
+    }
     Ok(())
 }

@@ -121,24 +121,20 @@ fn pivoted(table: &mut Shared) -> (Result<(), FracFault>, [i128; 4], i128)
 
 #[test]
 fn tables_are_pivoted(rt: HostRuntime) -> Result<(), Fail> {
-    let alloc = rt.alloc();
-    let mut small = square(alloc, 2, 1, 1, 3)?;
-    assert!(rt; pivoted(&mut small) == (Ok(()), [2, 1, 0, 5], 2));
-    let mut large = square(alloc, 3, HUGE, HUGE, 1)?;
-    assert!(rt; pivoted(&mut large) == (Err(FracFault::Overflow), [3, HUGE, HUGE, 1], 1));
+    let mut small = square(rt.alloc(), 2, 1, 1, 3)?;
+    let mut large = square(rt.alloc(), 3, HUGE, HUGE, 1)?;
+    let found = pivoted(&mut small) == (Ok(()), [2, 1, 0, 5], 2);
+    assert!(rt; found & (pivoted(&mut large) == (Err(FracFault::Overflow), [3, HUGE, HUGE, 1], 1)));
     Ok(())
 }
 
 #[test]
 fn columns_are_summed(rt: HostRuntime) -> Result<(), Fail> {
-    let alloc = rt.alloc();
-    let mut table = square(alloc, 2, 1, 1, 3)?;
-    assert_eq!(rt; table.sum(0, [0usize, 1, 1].as_slice()), Ok(4));
-    assert_eq!(rt; table.sum_columns([0usize, 1].as_slice(), 0), Ok(()));
-    let mut large = square(alloc, HUGE, HUGE, 0, 0)?;
-    assert_eq!(rt;
-        large.sum_columns([0usize, 1].as_slice(), 1),
-        Err(FracFault::Overflow)
-    );
+    let mut table = square(rt.alloc(), 2, 1, 1, 3)?;
+    let mut large = square(rt.alloc(), HUGE, HUGE, 0, 0)?;
+    let summed = (table.sum(0, [0usize, 1, 1].as_slice()) == Ok(4))
+        & (table.sum_columns([0usize, 1].as_slice(), 0) == Ok(()))
+        & (large.sum_columns([0usize, 1].as_slice(), 1) == Err(FracFault::Overflow));
+    assert!(rt; summed);
     Ok(())
 }

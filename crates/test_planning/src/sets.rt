@@ -1,4 +1,7 @@
 //! Sets and coteries.
+use quorum_set::CoterieFault::{
+    Contained, Disjoint, EmptyQuorum, NoQuorums, NoVoters, TooManyVoters, VoterOutOfRange,
+};
 use quorum_set::{Bridge, BridgeFault, Coterie, CoterieFault, QSet};
 use std::alloc::{AllocError, Global};
 use std::test::Fail;
@@ -20,41 +23,17 @@ fn fault_of(
 type Row = (usize, &'static [&'static [u8]], Option<CoterieFault>);
 
 const FAULTS: [Row; 11] = [
-    (0, &[], Some(CoterieFault::NoVoters)),
-    (65, &[], Some(CoterieFault::TooManyVoters)),
-    (3, &[], Some(CoterieFault::NoQuorums)),
-    (3, &[&[]], Some(CoterieFault::EmptyQuorum(0))),
+    (0, &[], Some(NoVoters)),
+    (65, &[], Some(TooManyVoters)),
+    (3, &[], Some(NoQuorums)),
+    (3, &[&[]], Some(EmptyQuorum(0))),
     (3, &[&[0, 1], &[0, 2], &[1, 2]], None),
-    (
-        3,
-        &[&[0, 1], &[2], &[1, 2]],
-        Some(CoterieFault::Disjoint(0, 1)),
-    ),
-    (
-        3,
-        &[&[0, 1], &[1, 2], &[1, 0]],
-        Some(CoterieFault::Contained(0, 2)),
-    ),
-    (
-        3,
-        &[&[0, 1], &[0, 1, 2], &[1]],
-        Some(CoterieFault::Contained(0, 1)),
-    ),
-    (
-        3,
-        &[&[0, 1], &[5, 3], &[9, 0]],
-        Some(CoterieFault::VoterOutOfRange(1, 3)),
-    ),
-    (
-        3,
-        &[&[0, 1], &[0, 2], &[]],
-        Some(CoterieFault::EmptyQuorum(2)),
-    ),
-    (
-        3,
-        &[&[0, 1], &[0, 1], &[2]],
-        Some(CoterieFault::Disjoint(0, 2)),
-    ),
+    (3, &[&[0, 1], &[2], &[1, 2]], Some(Disjoint(0, 1))),
+    (3, &[&[0, 1], &[1, 2], &[1, 0]], Some(Contained(0, 2))),
+    (3, &[&[0, 1], &[0, 1, 2], &[1]], Some(Contained(0, 1))),
+    (3, &[&[0, 1], &[5, 3], &[9, 0]], Some(VoterOutOfRange(1, 3))),
+    (3, &[&[0, 1], &[0, 2], &[]], Some(EmptyQuorum(2))),
+    (3, &[&[0, 1], &[0, 1], &[2]], Some(Disjoint(0, 2))),
 ];
 
 #[test]
@@ -160,10 +139,10 @@ fn bridge_keeps_both(rt: HostRuntime) -> Result<(), Fail> {
     let alloc = rt.alloc();
     let old = coterie_of(alloc, 3, &[&[0, 1], &[0, 2], &[1, 2]])?;
     let new = coterie_of(alloc, 3, &[&[0, 1, 2]])?;
-    let Ok(bridge) = Bridge::of(alloc, &old, &new) else {
-        panic!(rt; "no bridge")
+    let counts = match Bridge::of(alloc, &old, &new) {
+        Ok(bridge) => (bridge.first().count(), bridge.second().count()),
+        Err(_) => (0, 0),
     };
-    assert_eq!(rt; bridge.first().count(), 3);
-    assert_eq!(rt; bridge.second().count(), 1);
+    assert!(rt; counts == (3, 1));
     Ok(())
 }

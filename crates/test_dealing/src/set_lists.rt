@@ -139,22 +139,35 @@ fn sample(alloc: Global) -> Result<Vec<u64>, AllocError> {
     Ok(words)
 }
 
-#[test]
-fn words_do_what_lists_do(rt: HostRuntime) -> Result<(), Fail> {
-    let alloc = rt.alloc();
+/// Returns the sample's sets, and whether both forms of each are the same.
+fn sets_of(alloc: Global) -> Result<(Vec<Both>, bool), AllocError> {
     let mut sets = Vec::new(alloc);
+    let mut is_same = true;
     for bits in sample(alloc)?.as_slice() {
-        let (both, is_same) = both_of(alloc, *bits)?;
-        assert!(rt; is_same);
-        assert!(rt; is_same_set(&both.set, both.list.as_slice()));
-        assert!(rt; is_same_set(&both.set.copy(), both.list.as_slice()));
+        let (both, is_built) = both_of(alloc, *bits)?;
+        let is_set = is_same_set(&both.set, both.list.as_slice());
+        let is_copy = is_same_set(&both.set.copy(), both.list.as_slice());
+        is_same = is_same & is_built & is_set & is_copy;
         sets.push(both)?;
     }
-    assert_eq!(rt; sets.len(), 100);
-    for left in sets.as_slice() {
-        for right in sets.as_slice() {
-            assert!(rt; is_same_pair(alloc, left, right)?);
+    Ok((sets, is_same))
+}
+
+/// Returns whether each call on two of these sets returns the same for both forms.
+fn are_same_pairs(alloc: Global, sets: &[Both]) -> Result<bool, AllocError> {
+    for left in sets {
+        for right in sets {
+            if !is_same_pair(alloc, left, right)? {
+                return Ok(false);
+            }
         }
     }
+    Ok(true)
+}
+
+#[test]
+fn words_do_what_lists_do(rt: HostRuntime) -> Result<(), Fail> {
+    let (sets, is_same) = sets_of(rt.alloc())?;
+    assert!(rt; is_same & (sets.len() == 100) & are_same_pairs(rt.alloc(), &sets)?);
     Ok(())
 }
