@@ -10,7 +10,7 @@ use std::alloc::{AllocError, Global};
 use world::{Step, World, WorldFault};
 
 /// What a step did.
-#[derive(Clone, Copy, Debug)]
+#[derive(Clone, Copy)]
 pub enum Happening {
     /// The step was refused, and changed nothing.
     Refused(WorldFault),
@@ -26,7 +26,7 @@ pub enum Happening {
 }
 
 /// A step, and what it did.
-#[derive(Clone, Copy, Debug)]
+#[derive(Clone, Copy)]
 pub struct Moment {
     /// The step.
     pub step: Step,

@@ -1,7 +1,5 @@
 //! The sums of a certificate, between the words of a page.
 ghost use Rattle.std.specs.Prelude.{◌≡◌, ◌++◌, OnOk, string_bytes};
-ghost use Rattle.quorum_set.specs.Capacities.{are_unit};
-ghost use Rattle.certificate.specs.Certificates.{capacity_total, lightest_quorum, load_of};
 ghost use Rattle.show_words.specs.Sums.{Words, least_text, share_words, some_voter_text, sum_words, sums_text, total_text};
 
 use certificate::Plan;

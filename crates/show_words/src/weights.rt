@@ -9,7 +9,7 @@ use coterie_file::Named;
 use std::alloc::{AllocError, Global};
 
 /// The weight of a voter in a plan's certificate.
-#[derive(Clone, Copy, Debug)]
+#[derive(Clone, Copy)]
 pub struct WeightFigure {
     /// The voter's number, from 0.
     pub voter: u8,
