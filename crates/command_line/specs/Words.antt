@@ -2,7 +2,8 @@
 use Rattle.std.specs.Prelude.{◌≡◌, ◌≢◌, ◌⊎◌, ℕ, ◌≤◌, ◌^◌, List, [], ◌∷◌, Option, None, Some, Ok, codes, true, false, unwrap_or, ⊤}
 use Rattle.std.specs.Str.Parse.{ParsesUnsigned}
 pub use Rattle.clap.specs.Words.{Row, Text}
-use Rattle.clap.specs.Words.{App, IsAmong, Rule, all_of, fault_of, first_of, kind_of, new_app, new_rule, subcommand_of, with_rule, with_subcommand}
+use Rattle.clap.specs.Words.{App, IsAmong, Rule, all_of, fault_of, first_of, found_of, kind_of, new_app, new_rule, rows_of, subcommand_of, subcommand_rows_of, with_rule, with_subcommand}
+use Rattle.clap.specs.declared.parser.matches.ArgMatches.{ArgMatches}
 use Rattle.clap.specs.declared.error.Error.{Error}
 use Rattle.clap.specs.declared.error.kind.ErrorKind.TheVariants as kind
 use Rattle.clap.specs.declared.builder.value_parser.ValueParser.TheVariants.{Unsigned}
@@ -24,78 +25,58 @@ any_count = record { start_inclusive = 0; end_inclusive = usize_max }
 
 -- The command lines of the program.
 
+-- an argument that has to be there: any word
+abbrev pub word_rule : Text → Rule
+word_rule name = record (new_rule name) { required = true }
+
+-- an argument that has to be there: a number from `least` to `most`
+abbrev pub number_rule : Text → ℕ → ℕ → Rule
+number_rule name least most = record (word_rule name) { parser = Some (Unsigned least most) }
+
 -- N, the number of tickets to deal: at most 100,000
 abbrev pub tickets_rule : Rule
-tickets_rule = record (new_rule (codes "N")) { required = true; parser = Some (Unsigned 0 100000) }
-
--- SHAPE: any word
-abbrev pub shape_rule : Rule
-shape_rule = record (new_rule (codes "SHAPE")) { required = true }
+tickets_rule = number_rule (codes "N") 0 100000
 
 -- NUMBERS: any count of numbers, each at most 9999
 abbrev pub sizes_rule : Rule
 sizes_rule = record (new_rule (codes "NUMBERS")) { range = Some any_count; parser = Some (Unsigned 0 9999) }
 
--- qlock make
+-- qlock make, with SHAPE and NUMBERS
 abbrev pub make_app : App
-make_app = with_rule (with_rule (new_app (codes "make")) shape_rule) sizes_rule
-
--- qlock plan
-abbrev pub plan_app : App
-plan_app = new_app (codes "plan")
-
--- qlock check
-abbrev pub check_app : App
-check_app = new_app (codes "check")
+make_app = with_rule (with_rule (new_app (codes "make")) (word_rule (codes "SHAPE"))) sizes_rule
 
 -- qlock deal
 abbrev pub deal_app : App
 deal_app = with_rule (new_app (codes "deal")) tickets_rule
 
--- qlock world
-abbrev pub world_app : App
-world_app = new_app (codes "world")
-
--- CLIENTS, for `run`: 1 to 64
-abbrev pub clients_rule : Rule
-clients_rule = record (new_rule (codes "CLIENTS")) { required = true; parser = Some (Unsigned 1 max_clients) }
-
--- PASSES: at most 1000
-abbrev pub passes_rule : Rule
-passes_rule = record (new_rule (codes "PASSES")) { required = true; parser = Some (Unsigned 0 1000) }
-
--- TURNS: at most 10^12
-abbrev pub turns_rule : Rule
-turns_rule = record (new_rule (codes "TURNS")) { required = true; parser = Some (Unsigned 0 (10 ^ 12)) }
-
--- qlock run
+-- qlock run, with CLIENTS, PASSES and TURNS
 abbrev pub run_app : App
-run_app = with_rule (with_rule (with_rule (new_app (codes "run")) clients_rule) passes_rule) turns_rule
+run_app =
+    with_rule (with_rule (with_rule (new_app (codes "run")) (number_rule (codes "CLIENTS") 1 max_clients))
+    (number_rule (codes "PASSES") 0 1000)) (number_rule (codes "TURNS") 0 (10 ^ 12))
 
--- qlock replay
-abbrev pub replay_app : App
-replay_app = new_app (codes "replay")
+-- the app with these subcommands too
+abbrev pub with_subcommands : App → List App → App
+with_subcommands a [] = a
+with_subcommands a (sub ∷ subs) = with_subcommands (with_subcommand a sub.top) subs
 
--- the same app, with a subcommand required
+-- an app that needs a subcommand
 abbrev pub required_subcommand : App → App
 required_subcommand a = record a { top = record a.top { subcommand_required = true } }
 
--- qlock with `make` and `plan`
+-- qlock with `make`, `plan` and `check`
 abbrev pub planning_app : App
 planning_app =
-    with_subcommand (with_subcommand (required_subcommand (new_app (codes "qlock"))) make_app.top) plan_app.top
+    with_subcommands (required_subcommand (new_app (codes "qlock")))
+    (make_app ∷ new_app (codes "plan") ∷ new_app (codes "check") ∷ [])
 
--- and with `check` and `deal`
-abbrev pub dealing_app : App
-dealing_app = with_subcommand (with_subcommand planning_app check_app.top) deal_app.top
-
--- and with `world` and `run`
+-- and with `deal`, `world` and `run`
 abbrev pub running_app : App
-running_app = with_subcommand (with_subcommand dealing_app world_app.top) run_app.top
+running_app = with_subcommands planning_app (deal_app ∷ new_app (codes "world") ∷ run_app ∷ [])
 
 -- and with `replay`: the whole command line
 abbrev pub qlock_app : App
-qlock_app = with_subcommand running_app replay_app.top
+qlock_app = with_subcommands running_app (new_app (codes "replay") ∷ [])
 
 -- the text reads as the number n, of 32 bits
 abbrev pub IsNumber : List ℕ → ℕ → Type 0
@@ -145,6 +126,15 @@ IsNamedBy (Some used) (Run clients passes turns) =
     × HasNumber (codes "TURNS") 0 (10 ^ 12) used.1 turns
 IsNamedBy (Some used) (Deal n) = (used.0 ≡ codes "deal") × HasNumber (codes "N") 0 100000 used.1 n
 
+-- the subcommand with this name is used, with these matches
+abbrev pub used_as : Text → ArgMatches → Option (Text × List Row)
+used_as name used = Some (name, rows_of (found_of used))
+
+-- clap finds no fault in the words, and these matches
+pub record HasMatches (app : App) (words : List Text) (matches : ArgMatches) : Type 0 where
+  pub faultless : fault_of app words ≡ []
+  pub used : subcommand_rows_of matches ≡ subcommand_of app words
+
 -- the parser has no argument that is meant for its subcommands too
 abbrev pub IsLocal : Parser → Type 0
 IsLocal p = (out-Command p).has_globals ≡ false
@@ -161,6 +151,13 @@ abbrev pub RefusesUse : Option (Text × List Row) → Usage → Type 0
 RefusesUse used (Refused error) = ⊥
 RefusesUse used Arguments = NamesNone used
 RefusesUse used OutOfMemory = ⊤
+
+-- clap may refuse the words with this usage: with its text for the first fault that it finds in them,
+-- and with out of memory whatever they are
+abbrev pub RefusesByClap : App → List Text → Usage → Type 0
+RefusesByClap app words (Refused error) = IsAmong (kind_of error) (fault_of app words)
+RefusesByClap app words Arguments = ⊥
+RefusesByClap app words OutOfMemory = ⊤
 
 -- clap's error becomes this usage: out of memory, or clap's text
 abbrev pub BecomesUsage : Error → Usage → Type 0

@@ -10,6 +10,9 @@
 //! - [`Usage::Arguments`] is returned only for words without such a fault that name no command.
 //! - Otherwise memory ran out.
 //!
+//! The builders of subcommands and arguments, and the readers of their values, are public:
+//! `show_cli` reads the words of `qlock-show` by them.
+//!
 //! This crate depends on `clap` and `numbers`. It does not serve the command; `qlock_cli` does.
 //!
 //! ```
@@ -17,10 +20,14 @@
 //! ```
 #![tactic(auto)]
 
+mod arguments;
 mod command;
 mod usage;
+mod values;
 mod words;
 
+pub use arguments::{bare_command, tickets_argument, word_argument};
 pub use command::{Command, Shape};
 pub use usage::Usage;
+pub use values::{read_matches, text_at, text_of, texts_of, tickets_of, used_in};
 pub use words::read_words;

@@ -1,18 +1,17 @@
 //! The command line: which command its words name.
-ghost use Rattle.std.specs.Prelude.{◌≡◌, ◌<◌, ◌≤◌, ℕ, List, [], length, slice_index_or, false, IfErr, IfOk, IfSome, None, Some, codes, map, string_bytes};
+ghost use Rattle.std.specs.Prelude.{◌≡◌, ◌≤◌, ℕ, List, [], false, IfErr, IfOk, IfSome, None, codes, map, string_bytes};
 ghost use Rattle.clap.specs.Words.{app_of, found_of, rows_of, rule_of, subcommand_rows_of};
 ghost use Rattle.command_line.specs.declared.command.Shape.{Shape};
-ghost use Rattle.command_line.specs.Words.{AreSizes, HasNumber, IsLocal, IsNamedBy, IsNumber, IsShapeOf, Names, Refuses, RefusesUse, check_app, clients_rule, deal_app, dealing_app, make_app, passes_rule, plan_app, planning_app, qlock_app, replay_app, run_app, running_app, shape_rule, size_texts, sizes_rule, turns_rule, world_app};
+ghost use Rattle.command_line.specs.Words.{AreSizes, IsLocal, IsNamedBy, IsNumber, IsShapeOf, Names, Refuses, RefusesUse, deal_app, make_app, planning_app, qlock_app, run_app, running_app, size_texts, sizes_rule, used_as};
 
+use crate::arguments::{bare_command, number_argument, tickets_argument, word_argument};
 use crate::command::{Command, Shape};
 use crate::usage::Usage;
+use crate::values::{number_of, read_matches, text_at, text_of, texts_of, tickets_of, used_in};
 use clap::builder::ValueParser;
 use clap::{Arg, ArgMatches};
 use numbers::MAX_CLIENTS;
 use std::alloc::{AllocError, Global};
-
-/// The greatest number of tickets that one call deals.
-const MOST_TICKETS: u64 = 100_000;
 
 /// The greatest number of clients that run.
 const MOST_CLIENTS: u64 = MAX_CLIENTS as u64;
@@ -25,16 +24,6 @@ const MOST_TURNS: u64 = 1_000_000_000_000;
 
 /// The greatest size of a shape that the command line takes.
 const LARGEST_SIZE: u64 = 9_999;
-
-/// Returns the argument SHAPE: any text.
-fn shape_argument<'a>(alloc: Global) -> Arg<'a>
-    ensures rule { rule_of result ≡ shape_rule }
-    ensures local { result.global ≡ false }
-{
-    Arg::new(alloc, "SHAPE")
-        .help("grid ROWS COLUMNS, majority VOTERS, tree HEIGHT, wheel RIMS or cyclic VOTERS BASE..")
-        .required(true)
-}
 
 /// Returns the argument NUMBERS: any count of numbers. How many there have to be depends on the
 /// shape.
@@ -53,28 +42,17 @@ fn make_command<'a>(alloc: Global) -> Result<clap::Command<'a>, AllocError>
     ensures app { IfOk result (λ c. app_of c ≡ make_app) }
     ensures local { IfOk result IsLocal }
 {
-    clap::Command::new(alloc, "make")
-        .about("Write a coterie of a known shape; standard input is not read")
-        .arg(shape_argument(alloc))?
-        .arg(sizes_argument(alloc))
-}
-
-/// Returns the subcommand `plan`, which has no arguments.
-fn plan_command<'a>(alloc: Global) -> clap::Command<'a>
-    ensures app { app_of result ≡ plan_app }
-    ensures local { IsLocal result }
-{
-    clap::Command::new(alloc, "plan").about("Find a plan: standard input has a coterie")
-}
-
-/// Returns the subcommand `check`, which has no arguments.
-fn check_command<'a>(alloc: Global) -> clap::Command<'a>
-    ensures app { app_of result ≡ check_app }
-    ensures local { IsLocal result }
-{
-    clap::Command::new(alloc, "check").about(
-        "Check a plan: standard input has the coterie, a line %%, and the plan",
+    bare_command(
+        alloc,
+        "make",
+        "Write a coterie of a known shape; standard input is not read",
     )
+    .arg(word_argument(
+        alloc,
+        "SHAPE",
+        "grid ROWS COLUMNS, majority VOTERS, tree HEIGHT, wheel RIMS or cyclic VOTERS BASE..",
+    ))?
+    .arg(sizes_argument(alloc))
 }
 
 /// Returns the subcommand `deal N`.
@@ -82,56 +60,12 @@ fn deal_command<'a>(alloc: Global) -> Result<clap::Command<'a>, AllocError>
     ensures app { IfOk result (λ c. app_of c ≡ deal_app) }
     ensures local { IfOk result IsLocal }
 {
-    let tickets = Arg::new(alloc, "N")
-        .help("How many tickets to deal, 0 to 100000")
-        .required(true)
-        .value_parser(ValueParser::unsigned(0, MOST_TICKETS));
-    clap::Command::new(alloc, "deal")
-        .about("Deal tickets by a plan: standard input has the coterie, a line %%, and the plan")
-        .arg(tickets)
-}
-
-/// Returns the subcommand `world`, which has no arguments.
-fn world_command<'a>(alloc: Global) -> clap::Command<'a>
-    ensures app { app_of result ≡ world_app }
-    ensures local { IsLocal result }
-{
-    clap::Command::new(alloc, "world").about(
-        "Run a script of clients and voters: standard input has the coterie, a line %%, the plan, a line %%, and the script",
+    bare_command(
+        alloc,
+        "deal",
+        "Deal tickets by a plan: standard input has the coterie, a line %%, and the plan",
     )
-}
-
-/// Returns the argument CLIENTS: 1 to 64.
-fn clients_argument<'a>(alloc: Global) -> Arg<'a>
-    ensures rule { rule_of result ≡ clients_rule }
-    ensures local { result.global ≡ false }
-{
-    Arg::new(alloc, "CLIENTS")
-        .help("How many clients there are, 1 to 64")
-        .required(true)
-        .value_parser(ValueParser::unsigned(1, MOST_CLIENTS))
-}
-
-/// Returns the argument PASSES: 0 to 1000.
-fn passes_argument<'a>(alloc: Global) -> Arg<'a>
-    ensures rule { rule_of result ≡ passes_rule }
-    ensures local { result.global ≡ false }
-{
-    Arg::new(alloc, "PASSES")
-        .help("How often each client passes, 0 to 1000")
-        .required(true)
-        .value_parser(ValueParser::unsigned(0, MOST_PASSES))
-}
-
-/// Returns the argument TURNS: 0 to 10^12.
-fn turns_argument<'a>(alloc: Global) -> Arg<'a>
-    ensures rule { rule_of result ≡ turns_rule }
-    ensures local { result.global ≡ false }
-{
-    Arg::new(alloc, "TURNS")
-        .help("How many turns each client has for all its passes, 0 to 1000000000000")
-        .required(true)
-        .value_parser(ValueParser::unsigned(0, MOST_TURNS))
+    .arg(tickets_argument(alloc))
 }
 
 /// Returns the subcommand `run CLIENTS PASSES TURNS`.
@@ -139,53 +73,67 @@ fn run_command<'a>(alloc: Global) -> Result<clap::Command<'a>, AllocError>
     ensures app { IfOk result (λ c. app_of c ≡ run_app) }
     ensures local { IfOk result IsLocal }
 {
-    clap::Command::new(alloc, "run")
-        .about(
-            "Run clients in threads, and write their record: standard input has the coterie, a line %%, and the plan",
-        )
-        .arg(clients_argument(alloc))?
-        .arg(passes_argument(alloc))?
-        .arg(turns_argument(alloc))
-}
-
-/// Returns the subcommand `replay`, which has no arguments.
-fn replay_command<'a>(alloc: Global) -> clap::Command<'a>
-    ensures app { app_of result ≡ replay_app }
-    ensures local { IsLocal result }
-{
-    clap::Command::new(alloc, "replay").about(
-        "Check the record of a run: standard input has the coterie, a line %%, the plan, a line %%, and the record",
+    let clients = number_argument(
+        alloc,
+        "CLIENTS",
+        "How many clients there are, 1 to 64",
+        1,
+        MOST_CLIENTS,
+    );
+    let passes = number_argument(
+        alloc,
+        "PASSES",
+        "How often each client passes, 0 to 1000",
+        0,
+        MOST_PASSES,
+    );
+    let turns = number_argument(
+        alloc,
+        "TURNS",
+        "How many turns each client has for all its passes, 0 to 1000000000000",
+        0,
+        MOST_TURNS,
+    );
+    bare_command(
+        alloc,
+        "run",
+        "Run clients in threads, and write their record: standard input has the coterie, a line %%, and the plan",
     )
+    .arg(clients)?
+    .arg(passes)?
+    .arg(turns)
 }
 
-/// Returns the command line with `make` and `plan`.
+/// Returns the command line with `make`, `plan` and `check`.
 fn planning_command<'a>(alloc: Global) -> Result<clap::Command<'a>, AllocError>
     ensures { IfOk result (λ c. app_of c ≡ planning_app) }
 {
-    clap::Command::new(alloc, "qlock")
-        .about(
-            "Plan quorums whose busiest voter is as idle as possible, and run the lock that they guard",
-        )
-        .subcommand_required(true)
-        .subcommand(make_command(alloc)?)?
-        .subcommand(plan_command(alloc))
+    bare_command(
+        alloc,
+        "qlock",
+        "Plan quorums whose busiest voter is as idle as possible, and run the lock that they guard",
+    )
+    .subcommand_required(true)
+    .subcommand(make_command(alloc)?)?
+    .subcommand(bare_command(alloc, "plan", "Find a plan: standard input has a coterie"))?
+    .subcommand(bare_command(
+        alloc,
+        "check",
+        "Check a plan: standard input has the coterie, a line %%, and the plan",
+    ))
 }
 
-/// Returns the command line with these, and with `check` and `deal`.
-fn dealing_command<'a>(alloc: Global) -> Result<clap::Command<'a>, AllocError>
-    ensures { IfOk result (λ c. app_of c ≡ dealing_app) }
-{
-    planning_command(alloc)?
-        .subcommand(check_command(alloc))?
-        .subcommand(deal_command(alloc)?)
-}
-
-/// Returns the command line with these, and with `world` and `run`.
+/// Returns the command line with these, and with `deal`, `world` and `run`.
 fn running_command<'a>(alloc: Global) -> Result<clap::Command<'a>, AllocError>
     ensures { IfOk result (λ c. app_of c ≡ running_app) }
 {
-    dealing_command(alloc)?
-        .subcommand(world_command(alloc))?
+    planning_command(alloc)?
+        .subcommand(deal_command(alloc)?)?
+        .subcommand(bare_command(
+            alloc,
+            "world",
+            "Run a script of clients and voters: standard input has the coterie, a line %%, the plan, a line %%, and the script",
+        ))?
         .subcommand(run_command(alloc)?)
 }
 
@@ -193,7 +141,11 @@ fn running_command<'a>(alloc: Global) -> Result<clap::Command<'a>, AllocError>
 fn qlock_command<'a>(alloc: Global) -> Result<clap::Command<'a>, AllocError>
     ensures { IfOk result (λ c. app_of c ≡ qlock_app) }
 {
-    running_command(alloc)?.subcommand(replay_command(alloc))
+    running_command(alloc)?.subcommand(bare_command(
+        alloc,
+        "replay",
+        "Check the record of a run: standard input has the coterie, a line %%, the plan, a line %%, and the record",
+    ))
 }
 
 /// Returns the size that a text is, or `None` if it is not a number or too large.
@@ -205,14 +157,6 @@ fn size_of(text: &str) -> Option<u32>
         Ok(size) if u64::from(size) <= LARGEST_SIZE => Some(size),
         _ => None,
     }
-}
-
-/// Returns the text at a place.
-fn text_at<'a>(texts: &[&'a str], i: usize) -> &'a str
-    requires { i < length texts.now }
-    ensures { result.now ≡ slice_index_or (map (λ t. t.now) texts.now) i [] }
-{
-    texts[i]
 }
 
 /// Returns the sizes that the texts are, or `None` if one is not a number or too large.
@@ -238,9 +182,9 @@ fn sizes_given(alloc: Global, used: &ArgMatches) -> Result<Option<Vec<u32>>, All
     ensures none { IfOk result (λ o.
         o ≡ None → (sizes : List ℕ) → ¬ AreSizes (size_texts (rows_of (found_of used.now))) sizes) }
 {
-    match used.get_strs("NUMBERS") {
+    match texts_of(used, "NUMBERS") {
         Some(texts) => sizes_of(alloc, texts),
-        None => Ok(Some(Vec::new(alloc))),
+        None => sizes_of(alloc, &[]),
     }
 }
 
@@ -276,10 +220,10 @@ fn shape_of(name: &str, sizes: Vec<u32>) -> Option<Shape>
 
 /// Returns `make` with its shape.
 fn make_of(alloc: Global, used: &ArgMatches) -> Result<Command, Usage>
-    ensures named { IfOk result (IsNamedBy (Some (codes "make", rows_of (found_of used.now)))) }
-    ensures refused { IfErr result (RefusesUse (Some (codes "make", rows_of (found_of used.now)))) }
+    ensures named { IfOk result (IsNamedBy (used_as (codes "make") used.now)) }
+    ensures refused { IfErr result (RefusesUse (used_as (codes "make") used.now)) }
 {
-    let Some(name) = used.get_str("SHAPE") else {
+    let Some(name) = text_of(used, "SHAPE") else {
         return Err(Usage::Arguments);
     };
     let Some(sizes) = sizes_given(alloc, used)? else {
@@ -291,50 +235,50 @@ fn make_of(alloc: Global, used: &ArgMatches) -> Result<Command, Usage>
     }
 }
 
-/// Returns the number that an argument is, if it is at least `least` and at most `most`.
-fn number_of(used: &ArgMatches, name: &str, least: u64, most: u64) -> Option<u64>
-    ensures some { IfSome result (HasNumber name.now least most (rows_of (found_of used.now))) }
-    ensures none { result ≡ None → (number : ℕ) → ¬ HasNumber name.now least most (rows_of (found_of used.now)) number }
-{
-    let Some(text) = used.get_str(name) else {
-        return None;
-    };
-    match text.parse::<u64>() {
-        Ok(number) if least <= number && number <= most => Some(number),
-        _ => None,
-    }
-}
-
 /// Returns `deal` with its number of tickets.
 fn deal_of(used: &ArgMatches) -> Result<Command, Usage>
-    ensures named { IfOk result (IsNamedBy (Some (codes "deal", rows_of (found_of used.now)))) }
-    ensures refused { IfErr result (RefusesUse (Some (codes "deal", rows_of (found_of used.now)))) }
+    ensures named { IfOk result (IsNamedBy (used_as (codes "deal") used.now)) }
+    ensures refused { IfErr result (RefusesUse (used_as (codes "deal") used.now)) }
 {
-    match number_of(used, "N", 0, MOST_TICKETS) {
-        Some(tickets) => Ok(Command::Deal(tickets as u32)),
+    match tickets_of(used) {
+        Some(tickets) => Ok(Command::Deal(tickets)),
         None => Err(Usage::Arguments),
     }
 }
 
 /// Returns `run` with its numbers.
 fn run_of(used: &ArgMatches) -> Result<Command, Usage>
-    ensures named { IfOk result (IsNamedBy (Some (codes "run", rows_of (found_of used.now)))) }
-    ensures refused { IfErr result (RefusesUse (Some (codes "run", rows_of (found_of used.now)))) }
+    ensures named { IfOk result (IsNamedBy (used_as (codes "run") used.now)) }
+    ensures refused { IfErr result (RefusesUse (used_as (codes "run") used.now)) }
 {
-    let Some(clients) = number_of(used, "CLIENTS", 1, MOST_CLIENTS) else {
-        return Err(Usage::Arguments);
-    };
-    let Some(passes) = number_of(used, "PASSES", 0, MOST_PASSES) else {
-        return Err(Usage::Arguments);
-    };
-    let Some(turns) = number_of(used, "TURNS", 0, MOST_TURNS) else {
-        return Err(Usage::Arguments);
-    };
-    Ok(Command::Run {
-        clients: clients as u8,
-        passes,
-        turns,
-    })
+    let clients = number_of(used, "CLIENTS", 1, MOST_CLIENTS);
+    let passes = number_of(used, "PASSES", 0, MOST_PASSES);
+    let turns = number_of(used, "TURNS", 0, MOST_TURNS);
+    match (clients, passes, turns) {
+        (Some(clients), Some(passes), Some(turns)) => Ok(Command::Run {
+            clients: clients as u8,
+            passes,
+            turns,
+        }),
+        _ => Err(Usage::Arguments),
+    }
+}
+
+/// Returns the command that a subcommand and its values name.
+fn command_named(alloc: Global, name: &str, used: &ArgMatches) -> Result<Command, Usage>
+    ensures named { IfOk result (IsNamedBy (used_as name.now used.now)) }
+    ensures refused { IfErr result (RefusesUse (used_as name.now used.now)) }
+{
+    match name {
+        "plan" => Ok(Command::Plan),
+        "check" => Ok(Command::Check),
+        "world" => Ok(Command::World),
+        "replay" => Ok(Command::Replay),
+        "make" => make_of(alloc, used),
+        "deal" => deal_of(used),
+        "run" => run_of(used),
+        _ => Err(Usage::Arguments),
+    }
 }
 
 /// Returns the command that the used subcommand and its values name.
@@ -342,28 +286,10 @@ fn command_of(alloc: Global, matches: &ArgMatches) -> Result<Command, Usage>
     ensures named { IfOk result (IsNamedBy (subcommand_rows_of matches.now)) }
     ensures refused { IfErr result (RefusesUse (subcommand_rows_of matches.now)) }
 {
-    if matches.subcommand_matches("plan").is_some() {
-        return Ok(Command::Plan);
+    match used_in(matches) {
+        Some((name, used)) => command_named(alloc, name, used),
+        None => Err(Usage::Arguments),
     }
-    if matches.subcommand_matches("check").is_some() {
-        return Ok(Command::Check);
-    }
-    if matches.subcommand_matches("world").is_some() {
-        return Ok(Command::World);
-    }
-    if matches.subcommand_matches("replay").is_some() {
-        return Ok(Command::Replay);
-    }
-    if let Some(used) = matches.subcommand_matches("make") {
-        return make_of(alloc, used);
-    }
-    if let Some(used) = matches.subcommand_matches("deal") {
-        return deal_of(used);
-    }
-    if let Some(used) = matches.subcommand_matches("run") {
-        return run_of(used);
-    }
-    Err(Usage::Arguments)
 }
 
 /// Returns the command that the words name. The first word is the program's own name.
@@ -376,6 +302,8 @@ pub fn read_words(alloc: Global, words: &[String]) -> Result<Command, Usage>
     ensures named { IfOk result (Names (map string_bytes words.now)) }
     ensures refused { IfErr result (Refuses (map string_bytes words.now)) }
 {
-    let matches = qlock_command(alloc)?.try_get_matches_from(words)?;
-    command_of(alloc, &matches)
+    match read_matches(qlock_command(alloc)?, words) {
+        Ok(matches) => command_of(alloc, &matches),
+        Err(usage) => Err(usage),
+    }
 }

@@ -2,13 +2,13 @@
 use Rattle.std.specs.Prelude.{◌≡◌, ◌⊎◌, List, [], ◌∷◌, Option, None, Some, String, codes, map, string_bytes, true, unwrap_or, ⊤}
 use Rattle.std.specs.declared.alloc.Global.{Global}
 use Rattle.clap.specs.Lexer.{usize_max}
-use Rattle.clap.specs.Words.{App, IsAmong, Row, Rule, Text, all_of, fault_of, first_of, kind_of, new_app, new_rule, subcommand_of, with_rule, with_subcommand}
+use Rattle.clap.specs.Words.{App, IsAmong, Row, Rule, Text, all_of, fault_of, first_of, kind_of, new_app, new_rule, subcommand_of, with_rule}
 use Rattle.clap.specs.declared.builder.action.ArgAction.TheVariants.{SetTrue}
 use Rattle.clap.specs.declared.builder.range.ValueRange.{ValueRange}
 use Rattle.show_faults.specs.Codes.{IsFaultCode, code_in}
 use Rattle.show_faults.specs.declared.explanation.Explanation.{Explanation}
 use Rattle.command_line.specs.Words as qlock
-use Rattle.command_line.specs.Words.{HasNumber, deal_app, plan_app, required_subcommand, world_app}
+use Rattle.command_line.specs.Words.{HasNumber, deal_app, required_subcommand, with_subcommands, word_rule}
 use Rattle.command_line.specs.declared.usage.Usage.{Usage}
 use Rattle.command_line.specs.declared.usage.Usage.TheVariants.{Arguments, OutOfMemory, Refused}
 use Rattle.show_cli.specs.declared.command.Picture.{Picture}
@@ -16,7 +16,7 @@ use Rattle.show_cli.specs.declared.command.Picture.TheVariants.{Cycle, Load, Wor
 use Rattle.show_cli.specs.declared.command.ShowCommand.{ShowCommand}
 use Rattle.show_cli.specs.declared.command.ShowCommand.TheVariants.{Bridge, Deal, DealEven, Explain, ExplainAll, Fault, ListFaults, Picture as Show, Plan, Report, Resilience, Without, World}
 
--- The command lines of the program. Those of `plan` and `world` are as for `qlock`.
+-- The command lines of the program.
 
 -- one value or more, up to the greatest possible count
 abbrev pub some_count : ValueRange
@@ -30,49 +30,25 @@ even_rule = record (new_rule (codes "even")) { long = Some (codes "even"); actio
 abbrev pub tickets_app : App
 tickets_app = with_rule deal_app even_rule
 
--- NAMES, for `without`: one word or more
-abbrev pub names_rule : Rule
-names_rule = record (new_rule (codes "NAMES")) { required = true; range = Some some_count }
+-- an argument that has to be there: one word or more
+abbrev pub words_rule : Text → Rule
+words_rule name = record (word_rule name) { range = Some some_count }
 
--- qlock-show without
+-- qlock-show without, with NAMES
 abbrev pub without_app : App
-without_app = with_rule (new_app (codes "without")) names_rule
+without_app = with_rule (new_app (codes "without")) (words_rule (codes "NAMES"))
 
--- qlock-show report
-abbrev pub report_app : App
-report_app = new_app (codes "report")
-
--- qlock-show resilience
-abbrev pub resilience_app : App
-resilience_app = new_app (codes "resilience")
-
--- qlock-show bridge
-abbrev pub bridge_app : App
-bridge_app = new_app (codes "bridge")
-
--- CODE, for `explain`: a word, which may be left out
-abbrev pub code_rule : Rule
-code_rule = new_rule (codes "CODE")
-
--- qlock-show explain
+-- qlock-show explain, with CODE, which may be left out
 abbrev pub explain_app : App
-explain_app = with_rule (new_app (codes "explain")) code_rule
+explain_app = with_rule (new_app (codes "explain")) (new_rule (codes "CODE"))
 
--- WORDS, for `fault`: one word or more
-abbrev pub words_rule : Rule
-words_rule = record (new_rule (codes "WORDS")) { required = true; range = Some some_count }
-
--- qlock-show fault
+-- qlock-show fault, with WORDS
 abbrev pub fault_app : App
-fault_app = with_rule (new_app (codes "fault")) words_rule
+fault_app = with_rule (new_app (codes "fault")) (words_rule (codes "WORDS"))
 
--- KIND, for `picture`: a word
-abbrev pub kind_rule : Rule
-kind_rule = record (new_rule (codes "KIND")) { required = true }
-
--- qlock-show picture
+-- qlock-show picture, with KIND
 abbrev pub picture_app : App
-picture_app = with_rule (new_app (codes "picture")) kind_rule
+picture_app = with_rule (new_app (codes "picture")) (word_rule (codes "KIND"))
 
 -- the same app, which has a version
 abbrev pub with_version : App → App
@@ -81,21 +57,21 @@ with_version a = record a { top = record a.top { has_version = true } }
 -- qlock-show with `plan`, `deal` and `world`
 abbrev pub pages_app : App
 pages_app =
-    with_subcommand (with_subcommand (with_subcommand
-    (required_subcommand (with_version (new_app (codes "qlock-show")))) plan_app.top) tickets_app.top) world_app.top
+    with_subcommands (required_subcommand (with_version (new_app (codes "qlock-show"))))
+    (new_app (codes "plan") ∷ tickets_app ∷ new_app (codes "world") ∷ [])
 
 -- and with `report`
 abbrev pub reports_app : App
-reports_app = with_subcommand pages_app report_app.top
+reports_app = with_subcommands pages_app (new_app (codes "report") ∷ [])
 
 -- and with `without`, `resilience` and `bridge`
 abbrev pub coteries_app : App
 coteries_app =
-    with_subcommand (with_subcommand (with_subcommand reports_app without_app.top) resilience_app.top) bridge_app.top
+    with_subcommands reports_app (without_app ∷ new_app (codes "resilience") ∷ new_app (codes "bridge") ∷ [])
 
 -- and with `explain`, `fault` and `picture`: the whole command line
 abbrev pub show_app : App
-show_app = with_subcommand (with_subcommand (with_subcommand coteries_app explain_app.top) fault_app.top) picture_app.top
+show_app = with_subcommands coteries_app (explain_app ∷ fault_app ∷ picture_app ∷ [])
 
 -- Which command words name.
 

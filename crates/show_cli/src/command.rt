@@ -3,7 +3,7 @@ use commands::Command;
 use show_faults::Explanation;
 
 /// What a picture shows.
-#[derive(Clone, Copy, Debug, PartialEq, Eq)]
+#[derive(Clone, Copy)]
 pub enum Picture {
     /// How often a plan uses each voter and each quorum.
     Load,

@@ -1,38 +1,33 @@
-use Rattle.std.proofs.Common.{◌≡◌, ◌∙◌, [], ap, map, refl, string_bytes, subst, sym, true}
+use Rattle.std.proofs.Common.{◌∙◌, ap, map, refl, string_bytes, subst}
 use Rattle.std.proofs.lemmas.Result.{IfErr-weaker, IfOk-weaker}
-use Rattle.clap.specs.Simple.{is_simple}
-use Rattle.clap.specs.Words.{HasKind, fault_of, is_simple_and_free, subcommand_of, subcommand_rows_of}
+use Rattle.clap.specs.Words.{is_simple_and_free, subcommand_rows_of}
+use Rattle.command_line.specs.Words.{HasMatches, RefusesByClap}
 use Rattle.show_cli.specs.Words.{IsNamedBy, Names, Refuses, RefusesUse, show_app}
-use Rattle.show_cli.proofs.WordLemmas.{Refuses-error, Refuses-use}
+use Rattle.show_cli.proofs.WordLemmas.{Refuses-by_clap, Refuses-use}
 use Rattle.show_cli.proofs.words.read_show_words.Goals as goal
+use Rattle.show_cli.proofs.words.read_show_words.Goals.{In-Ok}
 
-pub returns-clause-named : goal.returns-clause-named
-returns-clause-named c =
-    let app = c.in_ok-show_command.ensures in
-    let simple : is_simple show_app ≡ true = refl in
-    let free : is_simple_and_free show_app ≡ true = refl in
-    let words = map string_bytes c.args.words.now in
-    let rows = (c.in_ok-matches.ensures.matches (ap is_simple app ∙ simple)).1 ∙ ap (λ a. subcommand_of a words) app in
-    let faultless : fault_of show_app words ≡ [] = sym (ap (λ a. fault_of a words) app) ∙ c.in_ok-matches.ensures.kinds (ap is_simple_and_free app ∙ free) in
-    IfOk-weaker c.command_of.result (IsNamedBy (subcommand_rows_of c.in_ok-matches.matches)) (Names words)
-    (λ command named. (faultless, subst (λ found. IsNamedBy found command) rows named)) c.command_of.ensures.named
+pub read_matches-requires : goal.read_matches-requires
+read_matches-requires c = record { free = ap is_simple_and_free c.in_ok-show_command.ensures ∙ refl }
 
-pub returns-clause-refused : goal.returns-clause-refused
-returns-clause-refused c =
-    let app = c.in_ok-show_command.ensures in
-    let simple : is_simple show_app ≡ true = refl in
-    let free : is_simple_and_free show_app ≡ true = refl in
-    let words = map string_bytes c.args.words.now in
-    let rows = (c.in_ok-matches.ensures.matches (ap is_simple app ∙ simple)).1 ∙ ap (λ a. subcommand_of a words) app in
-    let faultless : fault_of show_app words ≡ [] = sym (ap (λ a. fault_of a words) app) ∙ c.in_ok-matches.ensures.kinds (ap is_simple_and_free app ∙ free) in
-    IfErr-weaker c.command_of.result (RefusesUse (subcommand_rows_of c.in_ok-matches.matches)) (Refuses words)
-    (λ usage refused. Refuses-use words usage faultless (subst (λ found. RefusesUse found usage) rows refused)) c.command_of.ensures.refused
+-- what clap found
+found : (c : In-Ok) → HasMatches show_app (map string_bytes c.args.words.now) c.in-Ok.matches
+found c = subst (λ app. HasMatches app (map string_bytes c.args.words.now) c.in-Ok.matches) c.in_ok-show_command.ensures c.in-Ok.ensures.found
 
-pub returns-in_err-matches-clause-refused : goal.returns-in_err-matches-clause-refused
-returns-in_err-matches-clause-refused c =
-    let app = c.in_ok-show_command.ensures in
-    let free : is_simple_and_free show_app ≡ true = refl in
+pub returns-in-Ok-clause-named : goal.returns-in-Ok-clause-named
+returns-in-Ok-clause-named c =
+    let is = found (goal.at.returns-in-Ok-clause-named c).In-Ok in
+    IfOk-weaker c.command_of.result (IsNamedBy (subcommand_rows_of c.in-Ok.matches)) (Names (map string_bytes c.args.words.now))
+    (λ command named. (is.faultless, subst (λ used. IsNamedBy used command) is.used named)) c.command_of.ensures.named
+
+pub returns-in-Ok-clause-refused : goal.returns-in-Ok-clause-refused
+returns-in-Ok-clause-refused c =
     let words = map string_bytes c.args.words.now in
-    let error = c.in_err-matches.field-0.0 in
-    let kinds : HasKind (fault_of show_app words) error = subst (λ a. HasKind (fault_of a words) error) app (c.in_err-matches.ensures.kinds (ap is_simple_and_free app ∙ free)) in
-    Refuses-error c.from_residual-in_err-matches.result words error kinds c.from_residual-in_err-matches.ensures.1
+    let is = found (goal.at.returns-in-Ok-clause-refused c).In-Ok in
+    IfErr-weaker c.command_of.result (RefusesUse (subcommand_rows_of c.in-Ok.matches)) (Refuses words)
+    (λ usage refused. Refuses-use words usage is.faultless (subst (λ used. RefusesUse used usage) is.used refused)) c.command_of.ensures.refused
+
+pub returns-in-Err-clause-refused : goal.returns-in-Err-clause-refused
+returns-in-Err-clause-refused c =
+    let words = map string_bytes c.args.words.now in
+    Refuses-by_clap words c.in-Err.usage (subst (λ app. RefusesByClap app words c.in-Err.usage) c.in_ok-show_command.ensures c.in-Err.ensures.refused)
