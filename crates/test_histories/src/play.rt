@@ -1,9 +1,10 @@
 //! A small world: three voters, three clients, and all messages that were sent.
 ghost use Rattle.std.specs.Prelude.{◌≡◌, ◌<◌};
 
+use crate::crashes::keep;
 use message::{ClientBody, Message, ToClient, ToVoter, VoterBody};
 use quorum_set::QSet;
-use requester::{Phase, Reply, Requester};
+use requester::{Phase, Requester};
 use std::alloc::{AllocError, Global};
 use voter::Voter;
 
@@ -127,14 +128,6 @@ fn tell_voter(
 fn remind(voter: &Voter, sent: &mut Vec<Message>) -> Result<(), AllocError> {
     for reply in voter.remind().as_slice() {
         sent.push(Message::ToClient(*reply))?;
-    }
-    Ok(())
-}
-
-/// Keeps what a client sends.
-fn keep(reply: &Reply, sent: &mut Vec<Message>) -> Result<(), AllocError> {
-    for message in reply.out.as_slice() {
-        sent.push(Message::ToVoter(*message))?;
     }
     Ok(())
 }

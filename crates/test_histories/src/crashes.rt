@@ -159,7 +159,7 @@ fn client_again(words: &[u64], keeps: ClientKeeps) -> Option<Requester> {
 }
 
 /// Keeps what a client sends.
-fn keep(reply: &Reply, sent: &mut Vec<Message>) -> Result<(), AllocError> {
+pub(crate) fn keep(reply: &Reply, sent: &mut Vec<Message>) -> Result<(), AllocError> {
     for message in reply.out.as_slice() {
         sent.push(Message::ToVoter(*message))?;
     }
@@ -386,6 +386,16 @@ fn inside(alloc: Global, rules: Rules, steps: &[Step]) -> Result<usize, AllocErr
     Ok(world.inside())
 }
 
+/// Returns whether a run that follows each of these rules ends with this many clients inside.
+fn are_inside(alloc: Global, steps: &[Step], rows: &[(Rules, usize)]) -> Result<bool, AllocError> {
+    for (rules, wanted) in rows {
+        if inside(alloc, *rules, steps)? != *wanted {
+            return Ok(false);
+        }
+    }
+    Ok(true)
+}
+
 /// Voter 0 grants its vote to client 1, and crashes after its LOCKED is sent. Then client 0's
 /// request arrives.
 const SENT_FIRST: &[Step] = &[
@@ -478,67 +488,49 @@ const REUSED_NUMBER: &[Step] = &[
 
 #[test]
 fn sent_before_saved(rt: HostRuntime) -> Result<(), Fail> {
-    let alloc = rt.alloc();
     let late = Rules {
         order: Order::SentThenSaved,
         ..ALL
     };
-    let found = [
-        inside(alloc, ALL, SENT_FIRST)?,
-        inside(alloc, LEAST, SENT_FIRST)?,
-        inside(alloc, late, SENT_FIRST)?,
-    ];
-    assert!(rt; found == [1, 1, 2], "{:?}", found);
+    let rows = [(ALL, 1), (LEAST, 1), (late, 2)];
+    assert!(rt; are_inside(rt.alloc(), SENT_FIRST, &rows)?);
     Ok(())
 }
 
 #[test]
 fn voter_that_forgets_all(rt: HostRuntime) -> Result<(), Fail> {
-    let alloc = rt.alloc();
     let less = Rules {
         voter: VoterKeeps::Nothing,
         ..ALL
     };
-    let found = inside(alloc, less, SENT_FIRST)?;
-    assert!(rt; found == 2, "{}", found);
+    assert!(rt; are_inside(rt.alloc(), SENT_FIRST, &[(less, 2)])?);
     Ok(())
 }
 
 #[test]
 fn client_that_forgets_its_stamp(rt: HostRuntime) -> Result<(), Fail> {
-    let alloc = rt.alloc();
     let less = Rules {
         client: ClientKeeps::Nothing,
         ..ALL
     };
-    let found = [
-        inside(alloc, ALL, LATE_RELEASE)?,
-        inside(alloc, LEAST, LATE_RELEASE)?,
-        inside(alloc, less, LATE_RELEASE)?,
-    ];
-    assert!(rt; found == [1, 1, 2], "{:?}", found);
+    let rows = [(ALL, 1), (LEAST, 1), (less, 2)];
+    assert!(rt; are_inside(rt.alloc(), LATE_RELEASE, &rows)?);
     Ok(())
 }
 
 #[test]
 fn client_that_asks_on_without_its_last_grants(rt: HostRuntime) -> Result<(), Fail> {
-    let alloc = rt.alloc();
     let less = Rules {
         client: ClientKeeps::Request,
         ..ALL
     };
-    let found = [
-        inside(alloc, ALL, LATE_LOCKED)?,
-        inside(alloc, LEAST, LATE_LOCKED)?,
-        inside(alloc, less, LATE_LOCKED)?,
-    ];
-    assert!(rt; found == [1, 1, 2], "{:?}", found);
+    let rows = [(ALL, 1), (LEAST, 1), (less, 2)];
+    assert!(rt; are_inside(rt.alloc(), LATE_LOCKED, &rows)?);
     Ok(())
 }
 
 #[test]
 fn number_of_a_grant_that_is_used_twice(rt: HostRuntime) -> Result<(), Fail> {
-    let alloc = rt.alloc();
     let forgetful_voter = Rules {
         voter: VoterKeeps::Nothing,
         ..LEAST
@@ -552,13 +544,13 @@ fn number_of_a_grant_that_is_used_twice(rt: HostRuntime) -> Result<(), Fail> {
         client: ClientKeeps::Clock,
         order: Order::SavedThenSent,
     };
-    let found = [
-        inside(alloc, ALL, REUSED_NUMBER)?,
-        inside(alloc, LEAST, REUSED_NUMBER)?,
-        inside(alloc, forgetful_voter, REUSED_NUMBER)?,
-        inside(alloc, forgetful_client, REUSED_NUMBER)?,
-        inside(alloc, both, REUSED_NUMBER)?,
+    let rows = [
+        (ALL, 1),
+        (LEAST, 1),
+        (forgetful_voter, 1),
+        (forgetful_client, 1),
+        (both, 2),
     ];
-    assert!(rt; found == [1, 1, 1, 1, 2], "{:?}", found);
+    assert!(rt; are_inside(rt.alloc(), REUSED_NUMBER, &rows)?);
     Ok(())
 }

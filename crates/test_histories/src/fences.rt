@@ -1,6 +1,7 @@
 //! A guard and the passes that clients show it.
 use crate::crashes::{ALL, Step, World};
 use fence::Fence;
+use std::alloc::{AllocError, Global};
 use std::test::Fail;
 
 /// Client 1 enters under stamp 2. Client 0 has asked under stamp 1, and its request is slow.
@@ -39,27 +40,35 @@ fn admitted(first: &[u64; 64], second: &[u64; 64]) -> [bool; 4] {
     ]
 }
 
+/// The stamp of a client, and its pass.
+type Pass = (u64, [u64; 64]);
+
+/// Returns the passes of client 1 and of client 0, each when it has just entered.
+fn passes(alloc: Global) -> Result<(Pass, Pass), AllocError> {
+    let mut world = World::new(alloc, ALL)?;
+    world.play(FIRST)?;
+    let first = world.pass(1);
+    world.play(SECOND)?;
+    Ok((first, world.pass(0)))
+}
+
 #[test]
 fn late_client_is_refused(rt: HostRuntime) -> Result<(), Fail> {
-    let mut world = World::new(rt.alloc(), ALL)?;
-    world.play(FIRST)?;
-    let (_, first) = world.pass(1);
-    world.play(SECOND)?;
-    let (_, second) = world.pass(0);
-    let found = (first == shows(1), second == shows(2));
-    assert!(rt; found == (true, true));
-    assert!(rt; admitted(&first, &second) == [true, true, true, false]);
+    let ((_, first), (_, second)) = passes(rt.alloc())?;
+    assert!(rt;
+        (first == shows(1))
+            & (second == shows(2))
+            & (admitted(&first, &second) == [true, true, true, false])
+    );
     Ok(())
 }
 
 #[test]
 fn stamps_are_no_fencing_numbers(rt: HostRuntime) -> Result<(), Fail> {
-    let mut world = World::new(rt.alloc(), ALL)?;
-    world.play(FIRST)?;
-    let (first, _) = world.pass(1);
-    world.play(SECOND)?;
-    let (second, _) = world.pass(0);
-    assert!(rt; (first, second) == (2, 1));
-    assert!(rt; admitted(&shows(first), &shows(second)) == [true, true, false, true]);
+    let ((first, _), (second, _)) = passes(rt.alloc())?;
+    assert!(rt;
+        ((first, second) == (2, 1))
+            & (admitted(&shows(first), &shows(second)) == [true, true, false, true])
+    );
     Ok(())
 }

@@ -66,7 +66,7 @@ fn read_client(words: &[u64]) -> Read {
 }
 
 /// How many changes were refused, and how many gave another state.
-#[derive(Clone, Copy, Debug, Default, PartialEq, Eq)]
+#[derive(Clone, Copy, Default, PartialEq, Eq)]
 struct Count {
     refused: u32,
     other: u32,
@@ -183,7 +183,7 @@ fn flipped_bits_of_a_voter(rt: HostRuntime) -> Result<(), Fail> {
         refused: 515,
         other: 8317,
     };
-    assert!(rt; found == (9, Some(want)), "{:?}", found);
+    assert!(rt; found == (9, Some(want)));
     Ok(())
 }
 
@@ -195,6 +195,6 @@ fn flipped_bits_of_a_client(rt: HostRuntime) -> Result<(), Fail> {
         refused: 4371,
         other: 4461,
     };
-    assert!(rt; found == (10, Some(want)), "{:?}", found);
+    assert!(rt; found == (10, Some(want)));
     Ok(())
 }

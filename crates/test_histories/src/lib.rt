@@ -1,0 +1,22 @@
+//! Tests of histories through public calls: with crashes, with wrong rules, and with lost messages.
+//! This crate has nothing but tests.
+//!
+//! - `crashes` has runs with crashes: where less survives than has to, two clients are inside.
+//! - `fences` shows the passes of such a run to a guard.
+//! - `saved` restores voters and clients from changed and shortened numbers.
+//! - `wrong_rules` has a history for each of five wrong rules, which `play` plays.
+//! - `ways_in` has worlds in which messages were lost, and who then gets in.
+#![tactic(auto)]
+
+#[cfg(test)]
+mod crashes;
+#[cfg(test)]
+mod fences;
+#[cfg(test)]
+mod play;
+#[cfg(test)]
+mod saved;
+#[cfg(test)]
+mod ways_in;
+#[cfg(test)]
+mod wrong_rules;
