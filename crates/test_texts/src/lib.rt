@@ -3,8 +3,8 @@
 //!
 //! - `faults` has the line of each fault that the planning library for C writes.
 //! - `lines` has a format of two kinds of lines.
-//! - `numbers` has numbers as bytes.
 //! - `places` finds lines, columns, marks and brackets.
+//! - `word_bytes` has numbers as bytes.
 #![tactic(auto)]
 
 #[cfg(test)]
@@ -12,6 +12,6 @@ mod faults;
 #[cfg(test)]
 mod lines;
 #[cfg(test)]
-mod numbers;
-#[cfg(test)]
 mod places;
+#[cfg(test)]
+mod word_bytes;
