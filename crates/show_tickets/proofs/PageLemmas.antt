@@ -13,13 +13,21 @@ use Rattle.even.specs.EvenCycles.{EvenOrder, window}
 use Rattle.even.specs.declared.slack.Slack.{Slack}
 use Rattle.plan_inputs.specs.Inputs.{PlannedSystem}
 use Rattle.commands.specs.Commands.{account_text, ratio_part}
-use Rattle.show_tickets.specs.EvenOrder.{account_of_list, even_page_text, even_ticket_lines, order_lines}
+use Rattle.show_tickets.specs.EvenOrder.{account_of_list, even_lines, even_page_text}
 use Rattle.show_tickets.specs.Lines.{named_receipt_line}
-use Rattle.show_tickets.specs.Rounds.{deal_page_text, named_ticket_lines}
+use Rattle.show_tickets.specs.Rounds.{deal_page_text, named_ticket_lines, receipt_lines}
 
 -- two parts that were written one after the other, behind what there was
 pub two_parts : (before a b one all : List ℕ) → one ≡ before ++ a → all ≡ one ++ b → all ≡ before ++ (a ++ b)
 two_parts before a b one all first second = second ∙ ap (λ t. t ++ b) first ∙ append_assoc before a b
+
+pub three_parts : (before a b c one two all : List ℕ) → one ≡ before ++ a → two ≡ one ++ b → all ≡ two ++ c → all ≡ before ++ (a ++ (b ++ c))
+three_parts before a b c one two all first second third = two_parts before a (b ++ c) one all first (two_parts one b c two all second third)
+
+pub four_parts : (before a b c d one two three all : List ℕ) → one ≡ before ++ a → two ≡ one ++ b → three ≡ two ++ c → all ≡ three ++ d
+    → all ≡ before ++ (a ++ (b ++ (c ++ d)))
+four_parts before a b c d one two three all first second third fourth =
+    two_parts before a (b ++ (c ++ d)) one all first (three_parts one b c d two three all second third fourth)
 
 -- what was written for the numbers below n, and then the line of n
 pub flat_map-more_lines : (line : ℕ → List ℕ) (n : ℕ) (before now after : List ℕ) → now ≡ before ++ flat_map line (range_with_len 0 n) → after ≡ now ++ line n
@@ -35,29 +43,19 @@ named_lines : (named : NamedSystem) (w : Weighted) (tickets : List ℕ) → flat
 named_lines named w [] = refl
 named_lines named w (t ∷ ts) = ap (λ rest. named_receipt_line named (receipt_of w t) ++ rest) (named_lines named w ts)
 
--- the lines of the receipts, behind them those of the account, and its ratio
-pub deal_page_joined : (p : PlannedSystem) (n : ℕ) (receipts : List Receipt) (account : Account) (start tickets counted all : List ℕ) → receipts ≡ map (receipt_of p.plan) (range_with_len 0 n)
-    → account ≡ account_of p.plan (range_with_len 0 n) → start ≡ []
-    → tickets ≡ start ++ flat_map (named_receipt_line p.named) receipts → counted ≡ tickets ++ account_text p.named.names account → all ≡ counted ++ ratio_part p.named.capacities account
-    → all ≡ deal_page_text p n
+-- the page of the tickets below n, from an empty text on
+pub deal_page_joined : (p : PlannedSystem) (n : ℕ) (receipts : List Receipt) (account : Account) (start all : List ℕ) → receipts ≡ map (receipt_of p.plan) (range_with_len 0 n)
+    → account ≡ account_of p.plan (range_with_len 0 n) → start ≡ [] → all ≡ start ++ receipt_lines p.named receipts account → all ≡ deal_page_text p n
 unfolding deal_page_text
-deal_page_joined p n receipts account start tickets counted all drawn counts empty dealt closed ended =
-    let lines : tickets ≡ named_ticket_lines p n = dealt ∙ ap (λ t. t ++ flat_map (named_receipt_line p.named) receipts) empty ∙ ap (flat_map (named_receipt_line p.named)) drawn
-    ∙ named_lines p.named p.plan (range_with_len 0 n) in
-    ended ∙ ap (λ t. t ++ ratio_part p.named.capacities account) closed
-    ∙ append_assoc tickets (account_text p.named.names account) (ratio_part p.named.capacities account)
+deal_page_joined p n receipts account start all drawn counts empty written =
+    let lines : flat_map (named_receipt_line p.named) receipts ≡ named_ticket_lines p n =
+    ap (flat_map (named_receipt_line p.named)) drawn ∙ named_lines p.named p.plan (range_with_len 0 n) in
+    written ∙ ap (λ t. t ++ receipt_lines p.named receipts account) empty
     ∙ ap₂ (λ (t : List ℕ) (a : Account). t ++ (account_text p.named.names a ++ ratio_part p.named.capacities a)) lines counts
 
--- the lines of the tickets in the even order, behind them those of the account, its ratio, and the lines of the order
-pub even_page_joined : (named : NamedSystem) (o : EvenOrder) (slack : Slack) (n : ℕ) (account : Account) (start tickets counted divided all : List ℕ)
-    → account ≡ account_of_list o.plan (window o 0 n) → start ≡ []
-    → tickets ≡ start ++ even_ticket_lines named o n → counted ≡ tickets ++ account_text named.names account → divided ≡ counted ++ ratio_part named.capacities account
-    → all ≡ divided ++ order_lines named.capacities o slack → all ≡ even_page_text named o slack n
+-- the page of the tickets in the even order, from an empty text on
+pub even_page_joined : (named : NamedSystem) (o : EvenOrder) (slack : Slack) (n : ℕ) (account : Account) (start all : List ℕ)
+    → account ≡ account_of_list o.plan (window o 0 n) → start ≡ [] → all ≡ start ++ even_lines named o account slack n → all ≡ even_page_text named o slack n
 unfolding even_page_text
-even_page_joined named o slack n account start tickets counted divided all counts empty dealt closed ratio ended =
-    let lines : tickets ≡ even_ticket_lines named o n = dealt ∙ ap (λ t. t ++ even_ticket_lines named o n) empty in
-    let order = order_lines named.capacities o slack in
-    ended ∙ ap (λ t. t ++ order) (ratio ∙ ap (λ t. t ++ ratio_part named.capacities account) closed)
-    ∙ append_assoc (tickets ++ account_text named.names account) (ratio_part named.capacities account) order
-    ∙ append_assoc tickets (account_text named.names account) (ratio_part named.capacities account ++ order)
-    ∙ ap₂ (λ (t : List ℕ) (a : Account). t ++ (account_text named.names a ++ (ratio_part named.capacities a ++ order))) lines counts
+even_page_joined named o slack n account start all counts empty written =
+    written ∙ ap₂ (λ (t : List ℕ) (a : Account). t ++ even_lines named o a slack n) empty counts

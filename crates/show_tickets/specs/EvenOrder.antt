@@ -70,13 +70,16 @@ abbrev pub order_lines : List ℕ → EvenOrder → Slack → List ℕ
 order_lines capacities o slack =
     stride_line o.stride (cycle_len o.plan) ++ slack_line (are_unit capacities) (load_of o.plan) slack
 
--- the tickets below n with their quorums and the names of the voters to ask, their account, its ratio
--- if some capacity is not 1, the stride and the slack
-unfoldable pub even_page_text : NamedSystem → EvenOrder → Slack → ℕ → List ℕ
-even_page_text named o slack n =
-    let account = account_of_list o.plan (window o 0 n) in
+-- the tickets below n with their quorums and the names of the voters to ask, an account, its ratio if
+-- some capacity is not 1, the stride and the slack
+abbrev pub even_lines : NamedSystem → EvenOrder → Account → Slack → ℕ → List ℕ
+even_lines named o account slack n =
     even_ticket_lines named o n ++ (account_text named.names account ++ (ratio_part named.capacities account
     ++ order_lines named.capacities o slack))
+
+-- the same with the account of these tickets
+unfoldable pub even_page_text : NamedSystem → EvenOrder → Slack → ℕ → List ℕ
+even_page_text named o slack n = even_lines named o (account_of_list o.plan (window o 0 n)) slack n
 
 -- The page is that of the tickets below n in the even order of the plan: its stride is the first of
 -- smallest slack among those that are tried. By the law `even_orders_are_one` there is one such order.

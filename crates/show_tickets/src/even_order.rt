@@ -4,14 +4,14 @@ ghost use Rattle.certificate.specs.Certificates.{cycle_len};
 ghost use Rattle.even.specs.EvenCycles.{window};
 ghost use Rattle.even.specs.Strides.{IsFirstBest, strides_of};
 ghost use Rattle.plan_inputs.specs.Inputs.{parts_of};
-ghost use Rattle.show_tickets.specs.EvenOrder.{IsEvenPage, even_ticket_lines, order_lines, slack_line, slack_words, stride_line};
+ghost use Rattle.show_tickets.specs.EvenOrder.{IsEvenPage, account_of_list, even_lines, even_ticket_lines, order_lines, slack_line, slack_words, stride_line};
 
 use crate::account::account_of;
 use crate::lines::push_ticket;
 use certificate::Plan;
 use commands::{Planned, push_account, push_ratio};
 use coterie_file::Named;
-use dealer::Receipt;
+use dealer::{Account, Receipt};
 use even::{EvenCycle, Slack};
 use quorum_set::are_unit;
 use std::alloc::{AllocError, Global};
@@ -110,6 +110,35 @@ fn push_order(
     push_slack(text, are_unit(capacities), plan.load(), slack)
 }
 
+/// Returns the account of the tickets below `count`.
+fn account_below(alloc: Global, cycle: &EvenCycle, count: u64) -> Result<Account, AllocError>
+    ensures value { IfOk result (λ account. account ≡ account_of_list cycle.now.plan (window cycle.now 0 count)) }
+    ensures one_each { IfOk result (λ account. length account.voters ≡ cycle.now.plan.system.voters) }
+{
+    let quorums = quorums_of(alloc, cycle, count)?;
+    account_of(alloc, cycle.plan(), &quorums)
+}
+
+/// Appends the lines of the tickets below `count`, of an account, and of the order.
+fn push_page(
+    text: &mut String,
+    named: &Named,
+    cycle: &EvenCycle,
+    account: &Account,
+    slack: Slack,
+    count: u64,
+) -> Result<(), AllocError>
+    requires one_each { length account.now.voters ≡ named.now.system.voters }
+    ensures { OnOk result (string_bytes text.new
+        ≡ string_bytes text.old ++ even_lines named.now cycle.now account.now slack count) }
+{
+    let _ = named.coterie();
+    push_tickets(text, named, cycle, count)?;
+    push_account(text, named, account)?;
+    push_ratio(text, named.capacities(), account)?;
+    push_order(text, named.capacities(), cycle, slack)
+}
+
 /// Returns the page of the tickets below `count`, dealt in the even order: for each its quorum and the
 /// names of the voters to ask, then the account of these tickets, and the stride and the slack of the
 /// order. Fails only if it runs out of memory.
@@ -118,14 +147,8 @@ pub fn even_page(alloc: Global, planned: Planned, count: u64) -> Result<String, 
 {
     let Planned { named, plan } = planned;
     let cycle = even_cycle(alloc, plan)?;
-    let slack = cycle.slack();
-    let quorums = quorums_of(alloc, &cycle, count)?;
-    let account = account_of(alloc, cycle.plan(), &quorums)?;
-    let _ = named.coterie();
+    let account = account_below(alloc, &cycle, count)?;
     let mut text = String::new(alloc);
-    push_tickets(&mut text, &named, &cycle, count)?;
-    push_account(&mut text, &named, &account)?;
-    push_ratio(&mut text, named.capacities(), &account)?;
-    push_order(&mut text, named.capacities(), &cycle, slack)?;
+    push_page(&mut text, &named, &cycle, &account, cycle.slack(), count)?;
     Ok(text)
 }

@@ -5,7 +5,5 @@ use Rattle.show_tickets.proofs.rounds.rounds_page.Goals as goal
 
 pub returns : goal.returns
 returns c =
-    deal_page_joined (parts_of c.args.planned) c.args.count c.deref.result.now c.in_ok-account.account (string_bytes c.new-text.result) (string_bytes c.push_tickets.new.text)
-    (string_bytes c.push_account.new.text) (string_bytes c.push_ratio.new.text)
-    (c.deref.ensures.value ∙ c.in_ok-account.ensures.receipts) c.in_ok-account.ensures.account c.new-text.ensures.bytes c.in_ok-push_tickets.ensures c.in_ok-push_account.ensures
-    (rw c.capacities.ensures.value at c.in_ok-push_ratio.ensures)
+    deal_page_joined (parts_of c.args.planned) c.args.count c.deref.result.now c.in_ok-account.account (string_bytes c.new-text.result) (string_bytes c.push_page.new.text)
+    (c.deref.ensures.value ∙ c.in_ok-account.ensures.receipts) c.in_ok-account.ensures.account c.new-text.ensures.bytes c.in_ok-push_page.ensures
