@@ -11,7 +11,7 @@ use coterie_file::Named;
 use dealer::Cycle;
 use even::EvenCycle;
 use show_svg::{Point, close_picture, open_picture, words};
-use show_words::voter_figures;
+use show_words::{VoterFigure, voter_figures};
 use std::alloc::{AllocError, Global};
 
 /// How much room there is between the strip and the graph.
@@ -81,6 +81,27 @@ fn push_heading(out: &mut String) -> Result<(), AllocError> {
     )
 }
 
+/// Appends all of the picture but its end.
+fn push_cycle(
+    alloc: Global,
+    out: &mut String,
+    named: &Named,
+    plan: &Plan,
+    voters: &[VoterFigure],
+    cycle: &Cycle,
+) -> Result<(), AllocError> {
+    let strip = Strip::of(named, voters, plan.cycle_len());
+    let growth = Growth::of(&strip, plan, BETWEEN);
+    let width = strip.right().saturating_add(60).max(LEAST_WIDTH);
+    let height = growth.base().saturating_add(50);
+    open_picture(out, width, height, "The first cycle, ticket by ticket")?;
+    push_heading(out)?;
+    strip.push_voters(out, named, voters)?;
+    strip.push_tickets(out, named, cycle)?;
+    strip.push_rest(out)?;
+    push_growth(alloc, out, &growth, plan, cycle)
+}
+
 /// Returns a picture of the first cycle of a plan: a column for each of its first tickets, filled in
 /// the rows of its quorum's voters. Below it is how the count of the busiest voter grows over the
 /// whole cycle, beside the least that is possible, and the same in the even order of the crate
@@ -90,17 +111,8 @@ pub fn cycle_picture(alloc: Global, named: &Named, plan: &Plan) -> Result<String
 {
     let voters = voter_figures(alloc, plan)?;
     let cycle = cycle_of(alloc, plan)?;
-    let strip = Strip::of(named, &voters, plan.cycle_len());
-    let growth = Growth::of(&strip, plan, BETWEEN);
-    let width = strip.right().saturating_add(60).max(LEAST_WIDTH);
-    let height = growth.base().saturating_add(50);
     let mut out = String::new(alloc);
-    open_picture(&mut out, width, height, "The first cycle, ticket by ticket")?;
-    push_heading(&mut out)?;
-    strip.push_voters(&mut out, named, &voters)?;
-    strip.push_tickets(&mut out, named, &cycle)?;
-    strip.push_rest(&mut out)?;
-    push_growth(alloc, &mut out, &growth, plan, &cycle)?;
+    push_cycle(alloc, &mut out, named, plan, &voters, &cycle)?;
     close_picture(&mut out)?;
     Ok(out)
 }

@@ -9,7 +9,7 @@ use certificate::Plan;
 use coterie_file::Named;
 use quorum_set::are_unit;
 use show_svg::{Point, close_picture, open_picture, words};
-use show_words::{quorum_figures, voter_figures};
+use show_words::{QuorumFigure, VoterFigure, quorum_figures, voter_figures};
 use std::alloc::{AllocError, Global};
 
 /// How far the bars' upper ends are from the upper edge at least.
@@ -78,6 +78,31 @@ fn width_of(columns: &Columns) -> u64 {
     columns.right().saturating_add(120).max(LEAST_WIDTH)
 }
 
+/// Appends all of the picture but its end.
+fn push_load(
+    out: &mut String,
+    named: &Named,
+    plan: &Plan,
+    voters: &[VoterFigure],
+    quorums: &[QuorumFigure],
+) -> Result<(), AllocError> {
+    let columns = Columns::of(named, voters);
+    let bars = Bars::of(plan, BASE);
+    let top = columns.name_height().saturating_add(BASE + HEADS);
+    let dots = Dots::of(plan, &columns, quorums, top);
+    let height = dots.foot(quorums.len());
+    let unit = are_unit(plan.capacities());
+    open_picture(out, width_of(&columns), height, title_of(unit))?;
+    push_heading(out, unit)?;
+    bars.push_axis(out, &columns)?;
+    bars.push_voters(out, named, &columns, voters)?;
+    bars.push_limit(out, &columns, plan)?;
+    columns.push_names(out, named, voters, BASE)?;
+    dots.push_heads(out, &columns)?;
+    dots.push_rows(out, named, &columns, quorums)?;
+    dots.push_rest(out, &columns, quorums.len())
+}
+
 /// Returns a picture of how much a plan uses each voter: a bar for each voter's load, the line
 /// below which no plan can go, and the quorums that a cycle uses as rows of dots, the most used
 /// first. If some capacity is not 1, a bar is how busy the voter is for its capacity, beside the
@@ -87,22 +112,8 @@ pub fn load_picture(alloc: Global, named: &Named, plan: &Plan) -> Result<String,
 {
     let voters = voter_figures(alloc, plan)?;
     let quorums = quorum_figures(alloc, plan)?;
-    let columns = Columns::of(named, &voters);
-    let bars = Bars::of(plan, BASE);
-    let top = columns.name_height().saturating_add(BASE + HEADS);
-    let dots = Dots::of(plan, &columns, &quorums, top);
-    let height = dots.foot(quorums.len());
     let mut out = String::new(alloc);
-    let unit = are_unit(plan.capacities());
-    open_picture(&mut out, width_of(&columns), height, title_of(unit))?;
-    push_heading(&mut out, unit)?;
-    bars.push_axis(&mut out, &columns)?;
-    bars.push_voters(&mut out, named, &columns, &voters)?;
-    bars.push_limit(&mut out, &columns, plan)?;
-    columns.push_names(&mut out, named, &voters, BASE)?;
-    dots.push_heads(&mut out, &columns)?;
-    dots.push_rows(&mut out, named, &columns, &quorums)?;
-    dots.push_rest(&mut out, &columns, quorums.len())?;
+    push_load(&mut out, named, plan, &voters, &quorums)?;
     close_picture(&mut out)?;
     Ok(out)
 }

@@ -103,6 +103,22 @@ fn push_chart(
     push_rest(out, story, foot)
 }
 
+/// Appends all of the picture but its end.
+fn push_story(
+    alloc: Global,
+    out: &mut String,
+    named: &Named,
+    story: &Story,
+) -> Result<(), AllocError> {
+    let chart = Chart::of(alloc, named, story, HEADING)?;
+    let width = chart.lanes.right().saturating_add(LABELS).max(LEAST_WIDTH);
+    let height = chart.foot(shown_moments(story).len()).saturating_add(30);
+    open_picture(out, width, height, "What the script does, step by step")?;
+    push_heads(out)?;
+    push_heading(out)?;
+    push_chart(alloc, out, named, story, &chart)
+}
+
 /// Returns a picture of a script's run as a sequence chart: a column for each client and each voter
 /// that occurs, a row for each step, an arrow for each arrival of a message, a cross for each
 /// message that never arrives, and a bar where a client is inside. The plan is one of the named
@@ -116,19 +132,8 @@ pub fn world_picture(
     ensures { IfOk result (λ page. IsEnded (string_bytes page)) }
 {
     let story = story_of(alloc, plan, script)?;
-    let chart = Chart::of(alloc, named, &story, HEADING)?;
-    let width = chart.lanes.right().saturating_add(LABELS).max(LEAST_WIDTH);
-    let foot = chart.foot(shown_moments(&story).len());
     let mut out = String::new(alloc);
-    open_picture(
-        &mut out,
-        width,
-        foot.saturating_add(30),
-        "What the script does, step by step",
-    )?;
-    push_heads(&mut out)?;
-    push_heading(&mut out)?;
-    push_chart(alloc, &mut out, named, &story, &chart)?;
+    push_story(alloc, &mut out, named, &story)?;
     close_picture(&mut out)?;
     Ok(out)
 }
