@@ -17,11 +17,12 @@ four_parts before a b c d one two three all first second third fourth =
     fourth ∙ ap (λ t. t ++ d) (three_parts before a b c one two three first second third)
     ∙ append_assoc before (a ++ (b ++ c)) d ∙ ap (λ t. before ++ t) (append_assoc a (b ++ c) d ∙ ap (λ t. a ++ t) (append_assoc b c d))
 
--- seven parts of a whole text
-pub seven_parts : (a b c d e f g start one two three four five six all : List ℕ) → start ≡ [] → one ≡ start ++ a → two ≡ one ++ b → three ≡ two ++ c
-    → four ≡ three ++ d → five ≡ four ++ e → six ≡ five ++ f → all ≡ six ++ g → all ≡ a ++ (b ++ (c ++ (d ++ (e ++ (f ++ g)))))
-seven_parts a b c d e f g start one two three four five six all empty first second third fourth fifth sixth seventh =
-    let low = three_parts start a b c one two three first second third ∙ ap (λ s. s ++ (a ++ (b ++ c))) empty in
-    let rest = d ++ (e ++ (f ++ g)) in
-    four_parts three d e f g four five six all fourth fifth sixth seventh ∙ ap (λ t. t ++ rest) low
-    ∙ append_assoc a (b ++ c) rest ∙ ap (λ t. a ++ t) (append_assoc b c rest)
+-- six parts
+pub six_parts : (before a b c d e f one two three four five all : List ℕ) → one ≡ before ++ a → two ≡ one ++ b → three ≡ two ++ c → four ≡ three ++ d
+    → five ≡ four ++ e → all ≡ five ++ f → all ≡ before ++ (a ++ (b ++ (c ++ (d ++ (e ++ f)))))
+six_parts before a b c d e f one two three four five all first second third fourth fifth sixth =
+    three_parts before a b (c ++ (d ++ (e ++ f))) one two all first second (four_parts two c d e f three four five all third fourth fifth sixth)
+
+-- two parts of a whole text
+pub whole_of_two : (a b start one all : List ℕ) → start ≡ [] → one ≡ start ++ a → all ≡ one ++ b → all ≡ a ++ b
+whole_of_two a b start one all empty first second = second ∙ ap (λ t. t ++ b) (first ∙ ap (λ s. s ++ a) empty)

@@ -190,6 +190,12 @@ pub record BeginsReport (old new : List ℕ) : Type 0 where
 abbrev pub picture_html : List ℕ → List ℕ
 picture_html picture = codes "<h2>The same as a picture</h2>\n<figure>\n" ++ (picture ++ codes "</figure>\n")
 
+-- the parts of a report after its head
+abbrev pub body_html : List (List ℕ) → Weighted → List ℕ → Bool → Slack → List QuorumFigure → List ℕ → List ℕ
+body_html names w blocking fewest slack figures picture =
+    summary_html names w blocking fewest slack ++ (quorums_html names w figures ++ (voters_html names w
+    ++ (picture_html picture ++ (certificate_html names w ++ codes "</body>\n</html>\n"))))
+
 -- A report of a plan: its summary, the table of the quorums that a cycle uses, the most used first, the
 -- table of the voters, a picture, and the certificate. The set of voters in the summary meets each
 -- quorum, and the slack is that of the even order of the plan. What is in the head and in the picture
@@ -211,6 +217,4 @@ pub record IsReport (names : List (List ℕ)) (w : Weighted) (page : List ℕ) :
   pub head : List ℕ
   pub picture : List ℕ
   pub is_picture : IsEnded picture
-  pub is : page ≡ (codes "<!DOCTYPE html>\n" ++ head) ++ (summary_html names w blocking fewest slack
-      ++ (quorums_html names w figures ++ (voters_html names w ++ (picture_html picture ++ (certificate_html names w
-      ++ codes "</body>\n</html>\n")))))
+  pub is : page ≡ (codes "<!DOCTYPE html>\n" ++ head) ++ body_html names w blocking fewest slack figures picture

@@ -2,7 +2,7 @@
 ghost use Rattle.std.specs.Prelude.{◌≡◌, ◌++◌, IfOk, OnOk, string_bytes};
 ghost use Rattle.certificate.specs.Certificates.{cycle_len};
 ghost use Rattle.even.specs.Strides.{IsFirstBest, strides_of};
-ghost use Rattle.show_report.specs.Reports.{BeginsReport, IsReport, picture_html};
+ghost use Rattle.show_report.specs.Reports.{BeginsReport, IsReport, body_html, picture_html};
 
 use crate::certificates::push_steps;
 use crate::html::push_html;
@@ -11,10 +11,10 @@ use crate::summary::push_summary;
 use crate::voters::push_voters;
 use certificate::Plan;
 use coterie_file::Named;
-use even::EvenCycle;
-use failures::transversal_of;
+use even::{EvenCycle, Slack};
+use failures::{Transversal, transversal_of};
 use show_plans::load_picture;
-use show_words::quorum_figures;
+use show_words::{QuorumFigure, quorum_figures};
 use std::alloc::{AllocError, Global};
 
 /// How many steps the search for a smallest set of voters without which no quorum is left has.
@@ -83,6 +83,28 @@ fn even_of(alloc: Global, plan: &Plan) -> Result<EvenCycle, AllocError>
     }
 }
 
+/// Appends what is after the head.
+fn push_body(
+    text: &mut String,
+    named: &Named,
+    plan: &Plan,
+    blocking: &Transversal,
+    slack: Slack,
+    figures: &[QuorumFigure],
+    picture: &str,
+) -> Result<(), AllocError>
+    ensures { OnOk result (string_bytes text.new ≡ string_bytes text.old
+        ++ body_html named.now.names plan.now blocking.now.voters blocking.now.is_smallest slack
+        figures.now picture.now) }
+{
+    push_summary(text, named, plan, blocking, slack)?;
+    push_quorums(text, named, plan, figures)?;
+    push_voters(text, named, plan)?;
+    push_picture(text, picture)?;
+    push_steps(text, named, plan)?;
+    push_html(text, "</body>\n</html>\n")
+}
+
 /// Returns a report of a plan as one HTML document, without a script and without an outside file: its
 /// load, or its throughput if some capacity is not 1, how many failures its coterie bears, how even
 /// it is, whom to ask how often, how busy each voter is, a picture, and the certificate. The plan is
@@ -91,17 +113,19 @@ pub fn report_page(alloc: Global, named: &Named, plan: &Plan) -> Result<String, 
     ensures { IfOk result (λ page. IsReport named.now.names plan.now (string_bytes page)) }
 {
     let even = even_of(alloc, plan)?;
-    let slack = even.slack();
     let blocking = transversal_of(plan.coterie(), STEPS);
     let figures = quorum_figures(alloc, plan)?;
     let picture = load_picture(alloc, named, plan)?;
     let mut text = String::new(alloc);
     push_head(&mut text)?;
-    push_summary(&mut text, named, plan, &blocking, slack)?;
-    push_quorums(&mut text, named, plan, figures.as_slice())?;
-    push_voters(&mut text, named, plan)?;
-    push_picture(&mut text, picture.as_str())?;
-    push_steps(&mut text, named, plan)?;
-    push_html(&mut text, "</body>\n</html>\n")?;
+    push_body(
+        &mut text,
+        named,
+        plan,
+        &blocking,
+        even.slack(),
+        figures.as_slice(),
+        picture.as_str(),
+    )?;
     Ok(text)
 }

@@ -1,5 +1,5 @@
 use Rattle.std.proofs.Common.{string_bytes}
-use Rattle.show_report.proofs.PartLemmas.{seven_parts}
+use Rattle.show_report.proofs.PartLemmas.{whole_of_two}
 use Rattle.show_report.proofs.page.report_page.Goals as goal
 
 pub returns : goal.returns
@@ -12,8 +12,8 @@ returns c =
       order = c.in_ok-even.even;
       same_plan = c.in_ok-even.ensures.plan;
       first = c.in_ok-even.ensures.first;
-      slack = c.slack-slack.result;
-      is_slack = c.slack-slack.ensures;
+      slack = c.slack.result;
+      is_slack = c.slack.ensures;
       figures = c.in_ok-figures.figures.items;
       same = c.in_ok-figures.ensures.same;
       most_used_first = c.in_ok-figures.ensures.sorted;
@@ -21,5 +21,6 @@ returns c =
       head = c.in_ok-push_head.ensures.head;
       picture = string_bytes c.in_ok-picture.picture;
       is_picture = c.in_ok-picture.ensures;
-      is = seven_parts _ _ _ _ _ _ _ _ _ _ _ _ _ _ _ c.new-text.ensures.bytes c.in_ok-push_head.ensures.is c.in_ok-push_summary.ensures (rw c.as_slice.ensures.value at c.in_ok-push_quorums.ensures) c.in_ok-push_voters.ensures (rw c.as_str.ensures.value at c.in_ok-push_picture.ensures) c.in_ok-push_steps.ensures c.in_ok-push_html.ensures;
+      is = whole_of_two _ _ _ _ _ c.new-text.ensures.bytes c.in_ok-push_head.ensures.is
+          (rw (c.as_slice.ensures.value, c.as_str.ensures.value) at c.in_ok-push_body.ensures);
     }
