@@ -8,7 +8,8 @@ use Rattle.numbers.specs.Sets.{has, Ascends, IsSet}
 use Rattle.quorum_set.specs.Coteries.{IsCoterie}
 use Rattle.numbers.proofs.SetLemmas.{Ascends-lower, has-below, has-above, has-head, has-tail, length-Ascends}
 use Rattle.construct.specs.Majority.{sets_from, choose, majority_quorums, majority_system}
-use Rattle.construct.proofs.Quorums.{IsQuorum, IsCoterie-from, IsCrossing-from, All-members, AllPairs-append}
+use Rattle.numbers.proofs.Meetings.{All-members}
+use Rattle.construct.proofs.Quorums.{IsQuorum, IsCoterie-from, IsCrossing-from, AllPairs-append}
 use Rattle.construct.proofs.TreeLemmas.{AllPairs-map}
 
 -- an ascending list of k of the n numbers from low on

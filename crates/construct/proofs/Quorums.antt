@@ -9,6 +9,7 @@ use Rattle.std.proofs.lemmas.List.FromFn.{get_or-map-range_with_len, length-map-
 use Rattle.numbers.specs.Sets.{has, meet, within, IsSet, set_where}
 use Rattle.quorum_set.specs.Coteries.{IsCoterie}
 use Rattle.numbers.proofs.SetLemmas.{IsSet-set_where, has-set_where, has-at}
+use Rattle.numbers.proofs.Meetings.{All-members, meet-from, within-has}
 use Rattle.construct.proofs.SetLemmas.{has-passed}
 
 -- a set with a member, all below n
@@ -35,54 +36,17 @@ IsCoterie-from n qs some_voter few_voters some_quorum few_quorums quorums crossi
   apart = λ j k d before lt. (crossing j k d before lt).apart;
 }
 
--- what a common member, a stray member and a missing one show
-pub meet-at : (s t : List ℕ) (i : ℕ) → has s i ≡ true → has t i ≡ true → meet s t ≡ true
-meet-at [] t i there here = absurd (true≢false (sym there))
-meet-at (x ∷ xs) t i there here =
-    elim (cases_Bool (eqb x i)) as (λ _. (has t x || meet xs t) ≡ true) [
-      | inl at ↦ ap (λ b. b || meet xs t) (ap (has t) (eqb-true x i at) ∙ here)
-      | inr off ↦ or_right_true (has t x) (meet xs t) (meet-at xs t i (sym (ap (λ b. b || has xs i) off) ∙ there) here)
-    ]
-  where
-    or_right_true : (a b : Bool) → b ≡ true → (a || b) ≡ true
-    or_right_true true b e = refl
-    or_right_true false b e = e
-
-pub within-has : (s t : List ℕ) (i : ℕ) → within s t ≡ true → has s i ≡ true → has t i ≡ true
-within-has [] t i inside there = absurd (true≢false (sym there))
-within-has (x ∷ xs) t i inside there =
-    elim (cases_Bool (has t x)) [
-      | inl first ↦
-          let rest = within_rest (has t x) (within xs t) first inside in
-          elim (cases_Bool (eqb x i)) [
-            | inl at ↦ ap (has t) (sym (eqb-true x i at)) ∙ first
-            | inr off ↦ within-has xs t i rest (sym (ap (λ b. b || has xs i) off) ∙ there)
-          ]
-      | inr missing ↦ absurd (within_none (has t x) (within xs t) missing inside)
-    ]
-  where
-    within_rest : (a b : Bool) → a ≡ true → (a && b) ≡ true → b ≡ true
-    within_rest true b e h = h
-    within_rest false b e h = absurd (true≢false (sym h))
-
-    within_none : (a b : Bool) → a ≡ false → (a && b) ≡ true → ⊥
-    within_none true b e h = true≢false e
-    within_none false b e h = true≢false (sym h)
-
+-- what a stray member shows
 pub not_within : (s t : List ℕ) (i : ℕ) → has s i ≡ true → has t i ≡ false → within s t ≡ false
 not_within s t i there missing = false_from_ne_true (within s t) (λ inside. true≢false (sym (within-has s t i inside there) ∙ missing))
 
 -- i is in both, a in q alone and b in r alone
 pub IsCrossing-from : (q r : List ℕ) (i a b : ℕ) → has q i ≡ true → has r i ≡ true → has q a ≡ true → has r a ≡ false → has r b ≡ true → has q b ≡ false → IsCrossing q r
-IsCrossing-from q r i a b in_q in_r a_in a_out b_in b_out = record { meets = meet-at q r i in_q in_r; apart = (not_within q r a a_in a_out, not_within r q b b_in b_out) }
+IsCrossing-from q r i a b in_q in_r a_in a_out b_in b_out = record { meets = meet-from q r i in_q in_r; apart = (not_within q r a a_in a_out, not_within r q b b_in b_out) }
 
 pub not_empty-from : (s : List ℕ) (i : ℕ) → has s i ≡ true → 0 < length s
 not_empty-from [] i there = absurd (true≢false (sym there))
 not_empty-from (x ∷ xs) i there = omega arith
-
--- what holds of each member holds at each place
-pub All-members : (P : ℕ → Type 0) (s : List ℕ) → ((i : ℕ) → has s i ≡ true → P i) → All P s
-All-members P s h k d lt = h (get_or s k d) (has-at s k (get_or s k d) lt (get_or_default s k 0 d lt))
 
 -- the numbers that pass are a quorum, where one below 64 does, and only numbers below n
 pub IsQuorum-where : (n : ℕ) (p : ℕ → Bool) (i : ℕ) → i < 64 → p i ≡ true → ((v : ℕ) → v < 64 → p v ≡ true → v < n) → IsQuorum n (set_where p)

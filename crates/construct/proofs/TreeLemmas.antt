@@ -13,7 +13,8 @@ use Rattle.quorum_set.specs.Coteries.{IsCoterie}
 use Rattle.numbers.proofs.SetLemmas.{IsSet-set_where, has-set_where, has-above}
 use Rattle.construct.specs.Tree.{with_node, union, node_quorums, quorums_under, tree_quorums, tree_system}
 use Rattle.construct.proofs.SetLemmas.{has-failed, has-passed}
-use Rattle.construct.proofs.Quorums.{IsQuorum, IsCrossing, IsCoterie-from, IsCrossing-from, not_empty-from, All-members, AllPairs-append}
+use Rattle.numbers.proofs.Meetings.{All-members}
+use Rattle.construct.proofs.Quorums.{IsQuorum, IsCrossing, IsCoterie-from, IsCrossing-from, not_empty-from, AllPairs-append}
 
 -- the nodes below both children have room where those below the node have
 room-of_children : (k i m : ℕ) → (i + 2) * 2 ^ suc k ≤ m → ((2 * i + 1 + 2) * 2 ^ k ≤ m) × ((2 * i + 2 + 2) * 2 ^ k ≤ m) × (2 * i + 4 ≤ m)

@@ -10,6 +10,7 @@ use Rattle.std.proofs.lemmas.List.Sums.{length-filter, count_by-le-length}
 use Rattle.std.proofs.Math.Bool.{or-true}
 use Rattle.numbers.specs.Sets.{has, meet, within, Ascends, IsSet}
 use Rattle.numbers.proofs.SetLemmas.{has-head, has-tail, has-below, has-at}
+use Rattle.numbers.proofs.Meetings.{All-members, has-later, meet-common, meet-from, within-from, within-has}
 use Rattle.numbers.proofs.Members.{All-has}
 use Rattle.quorum_set.specs.declared.fault.CoterieFault.{CoterieFault}
 use Rattle.quorum_set.specs.Coteries.{QuorumSystem, IsCoterie, are_disjoint, coterie_of, coterie_or, first_fault}
@@ -26,52 +27,6 @@ by_test {P = P} b h g = elim b as (λ c. b ≡ c → P) [
   | false ↦ λ e. g e
 ] refl
 
--- what holds of each member of a list holds of all
-pub All-from_has : (P : ℕ → Type 0) (s : List ℕ) → ((i : ℕ) → has s i ≡ true → P i) → All P s
-All-from_has P s h = All-from_get_or P s 0 (λ k lt. h (get_or s k 0) (has-at s k (get_or s k 0) lt refl))
-
--- a member of a list with another number in front is that number or a member
-tail_has : (x : ℕ) (xs : List ℕ) (i : ℕ) → has xs i ≡ true → has (x ∷ xs) i ≡ true
-tail_has x xs i e = ap (λ b. (x == i) || b) e ∙ or-true (x == i)
-
--- who is within the set is a member
-pub has-within : (s t : List ℕ) (i : ℕ) → within s t ≡ true → has s i ≡ true → has t i ≡ true
-has-within [] t i w e = absurd (true≢false (sym e))
-has-within (x ∷ xs) t i w e = by_test (has t x)
-    (λ here. elim (cases_eq x i) as (λ _. has t i ≡ true) [
-      | inl same ↦ ap (has t) (sym same) ∙ here
-      | inr far ↦ has-within xs t i (sym (ap (λ b. b && within xs t) here) ∙ w) (sym (has-tail x xs i far) ∙ e)
-    ])
-    (λ out. absurd (true≢false (sym w ∙ ap (λ b. b && within xs t) out)))
-
--- a set is within another one if its members are members of that
-pub within-from : (s t : List ℕ) → ((i : ℕ) → has s i ≡ true → has t i ≡ true) → within s t ≡ true
-within-from [] t h = refl
-within-from (x ∷ xs) t h =
-    ap (λ b. b && within xs t) (h x (has-head x xs)) ∙ within-from xs t (λ i e. h i (tail_has x xs i e))
-
--- sets with a common member meet
-pub meet-from : (s t : List ℕ) (i : ℕ) → has s i ≡ true → has t i ≡ true → meet s t ≡ true
-meet-from [] t i e f = absurd (true≢false (sym e))
-meet-from (x ∷ xs) t i e f = elim (cases_eq x i) as (λ _. meet (x ∷ xs) t ≡ true) [
-  | inl same ↦ ap (λ b. b || meet xs t) (ap (has t) same ∙ f)
-  | inr far ↦ ap (λ b. has t x || b) (meet-from xs t i (sym (has-tail x xs i far) ∙ e) f) ∙ or-true (has t x)
-]
-
--- a common member of two sets
-pub record Common (s t : List ℕ) : Type 0 where
-  pub member : ℕ
-  pub first : has s member ≡ true
-  pub second : has t member ≡ true
-
-pub meet-has : (s t : List ℕ) → meet s t ≡ true → Common s t
-meet-has [] t e = absurd (true≢false (sym e))
-meet-has (x ∷ xs) t e = by_test (has t x)
-    (λ here. record { member = x; first = has-head x xs; second = here })
-    (λ out.
-    let rest = meet-has xs t (sym (ap (λ b. b || meet xs t) out) ∙ e) in
-    record { member = rest.member; first = tail_has x xs rest.member rest.first; second = rest.second })
-
 -- a member is at least the lower bound
 has-low : (low high : ℕ) (s : List ℕ) (i : ℕ) → Ascends low high s → has s i ≡ true → low ≤ i
 has-low low high s i up e = by_test (nat_lt i low)
@@ -81,21 +36,21 @@ has-low low high s i up e = by_test (nat_lt i low)
 -- a set within another one has no more members
 pub length-within : (low high : ℕ) (s t : List ℕ) → Ascends low high s → Ascends low high t → within s t ≡ true → length s ≤ length t
 length-within low high [] t up other w = omega arith
-length-within low high (x ∷ xs) [] up other w = absurd (true≢false (sym (has-within (x ∷ xs) [] x w (has-head x xs))))
+length-within low high (x ∷ xs) [] up other w = absurd (true≢false (sym (within-has (x ∷ xs) [] x w (has-head x xs))))
 length-within low high (x ∷ xs) (y ∷ ys) up other w = elim (cases_eq y x) as (λ _. length (x ∷ xs) ≤ length (y ∷ ys)) [
   | inl same ↦
       let rest : within xs ys ≡ true = within-from xs ys (λ i e.
       let far : y ≢ i = λ it. let above = has-low (x + 1) high xs i up.2 e in omega arith in
-      sym (has-tail y ys i far) ∙ has-within (x ∷ xs) (y ∷ ys) i w (tail_has x xs i e)) in
+      sym (has-tail y ys i far) ∙ within-has (x ∷ xs) (y ∷ ys) i w (has-later x xs i e)) in
       let more = length-within (x + 1) high xs ys up.2 (subst (λ n. Ascends (n + 1) high ys) same other.2) rest in
       omega arith
   | inr far ↦
-      let here : has ys x ≡ true = sym (has-tail y ys x far) ∙ has-within (x ∷ xs) (y ∷ ys) x w (has-head x xs) in
+      let here : has ys x ≡ true = sym (has-tail y ys x far) ∙ within-has (x ∷ xs) (y ∷ ys) x w (has-head x xs) in
       let above = has-low (y + 1) high ys x other.2 here in
       let rest : within (x ∷ xs) ys ≡ true = within-from (x ∷ xs) ys (λ i e.
       let least = has-low x high (x ∷ xs) i (omega arith, up.1, up.2) e in
       let far_too : y ≢ i = λ it. omega arith in
-      sym (has-tail y ys i far_too) ∙ has-within (x ∷ xs) (y ∷ ys) i w e) in
+      sym (has-tail y ys i far_too) ∙ within-has (x ∷ xs) (y ∷ ys) i w e) in
       let more = length-within (y + 1) high (x ∷ xs) ys (above, up.1, up.2) other.2 rest in
       omega arith
 ]
@@ -105,9 +60,9 @@ length-within low high (x ∷ xs) (y ∷ ys) up other w = elim (cases_eq y x) as
 -- a set that has no barred member meets no set of barred members alone
 pub all_barred : (barred q other : List ℕ) → All (λ i. has barred i ≡ true) q → meet other q ≡ true → meet barred other ≡ false → ⊥
 all_barred barred q other all meets apart =
-    let common = meet-has other q meets in
-    let is_barred = All-has (λ i. has barred i ≡ true) q common.member common.second all in
-    true≢false (sym (meet-from barred other common.member is_barred common.first) ∙ apart)
+    let common = meet-common other q meets in
+    let is_barred = All-has (λ i. has barred i ≡ true) q common.0 common.2 all in
+    true≢false (sym (meet-from barred other common.0 is_barred common.1) ∙ apart)
 
 -- the members of a set with one more voter
 abbrev pub IsWith : List ℕ → List ℕ → ℕ → Type 0
@@ -126,7 +81,7 @@ from_with more s v i set is e = sym (is i (below_bound 0 64 more i set e)) ∙ e
 
 -- one more voter is below the same bound
 pub All-from_with : (n : ℕ) (more s : List ℕ) (v : ℕ) → IsSet more → IsWith more s v → v < n → All (λ i. i < n) s → All (λ i. i < n) more
-All-from_with n more s v set is lt all = All-from_has (λ i. i < n) more (λ i e.
+All-from_with n more s v set is lt all = All-members (λ i. i < n) more (λ i e.
     elim (cases_eq i v) as (λ _. i < n) [
       | inl same ↦ subst (λ k. k < n) (sym same) lt
       | inr far ↦ All-has (λ k. k < n) s i (sym (ap (λ b. b || has s i) (ne_eqb i v far)) ∙ from_with more s v i set is e) all
@@ -142,18 +97,18 @@ either_way quorums chosen barred with without first result v set_with set_withou
     let all : within with other ≡ true = within-from with other (λ i e.
     elim (cases_eq i v) as (λ _. has other i ≡ true) [
       | inl same ↦ ap (has other) same ∙ in_it
-      | inr far ↦ has-within chosen other i has_chosen (sym (ap (λ b. b || has chosen i) (ne_eqb i v far)) ∙ from_with with chosen v i set_with is_with e)
+      | inr far ↦ within-has chosen other i has_chosen (sym (ap (λ b. b || has chosen i) (ne_eqb i v far)) ∙ from_with with chosen v i set_with is_with e)
     ]) in
     let bound = best other set all no_barred meets in
     omega arith)
     (λ outside. rest other set has_chosen (by_test (meet without other)
     (λ touches.
-    let common = meet-has without other touches in
-    elim (cases_eq common.member v) as (λ _. meet without other ≡ false) [
-      | inl same ↦ absurd (true≢false (sym (ap (has other) (sym same) ∙ common.second) ∙ outside))
+    let common = meet-common without other touches in
+    elim (cases_eq common.0 v) as (λ _. meet without other ≡ false) [
+      | inl same ↦ absurd (true≢false (sym (ap (has other) (sym same) ∙ common.2) ∙ outside))
       | inr far ↦
-          let is_barred = sym (ap (λ b. b || has barred common.member) (ne_eqb common.member v far)) ∙ from_with without barred v common.member set_without is_without common.first in
-          absurd (true≢false (sym (meet-from barred other common.member is_barred common.second) ∙ no_barred))
+          let is_barred = sym (ap (λ b. b || has barred common.0) (ne_eqb common.0 v far)) ∙ from_with without barred v common.0 set_without is_without common.1 in
+          absurd (true≢false (sym (meet-from barred other common.0 is_barred common.2) ∙ no_barred))
     ])
     (λ apart. apart)) meets)
 

@@ -1,4 +1,5 @@
 pub mod CountLemmas
+pub mod Meetings
 pub mod Members
 pub mod SetLemmas
 pub mod SumLemmas

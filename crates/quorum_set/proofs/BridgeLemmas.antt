@@ -12,7 +12,8 @@ use Rattle.quorum_set.specs.Meetings.{Meet, AllMeet}
 use Rattle.quorum_set.specs.Bridges.{Bridged, IsBridge, AreBridged, first_apart, IsLeastApart}
 use Rattle.quorum_set.proofs.CoterieLemmas.{position-None, option_or_none, option_map_none}
 use Rattle.quorum_set.proofs.FaultLaws.{position-nil, some_parts}
-use Rattle.quorum_set.proofs.Meetings.{AllMeet-coterie, meet-common}
+use Rattle.numbers.proofs.Meetings.{meet-common}
+use Rattle.quorum_set.proofs.Meetings.{AllMeet-coterie}
 
 -- no pair apart: all meet
 pub first_apart-None : (j : ℕ) (firsts seconds : List (List ℕ)) → first_apart j firsts seconds ≡ None → AreBridged firsts seconds

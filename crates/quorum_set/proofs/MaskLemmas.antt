@@ -10,8 +10,8 @@ use Rattle.std.proofs.lemmas.Nat.Bits.{bit_at-zero, bit_at_and, bit_at_or, bit_a
 use Rattle.std.proofs.lemmas.Nat.Bits.{bit_at_clear_other, bit_at-trailing_zeros, bit_at_cat_low, bit_at_cat_high, bit_at_ones_above, same_from_bits, same_from_bits_below}
 use Rattle.std.proofs.lemmas.Nat.Bits.{shr_and_one}
 use Rattle.std.proofs.lemmas.List.Folds.{list_any_at, Any-from_list_any}
-use Rattle.std.proofs.lemmas.List.Sums.{AllPass-from_list_all, list_all-from_AllPass}
 use Rattle.numbers.specs.Sets.{has, meet, within, union, IsSet, Ascends, set_where, members_of}
+use Rattle.numbers.proofs.Meetings.{meet-common, meet-from, within-from, within-has}
 use Rattle.quorum_set.specs.Words.{below, last_of, below-more, low_more, word_of, word_of-members_of}
 use Rattle.numbers.proofs.SetLemmas.{has-set_where, has-above, has-tail, has-head, Ascends-unique, length-Ascends, IsSet-set_where, is_set_where}
 
@@ -46,26 +46,6 @@ same_true true c f g = sym (f refl)
 same_true false true f g = g refl
 same_true false false f g = refl
 
--- a common member
-meet_common : (s t : List ℕ) → meet s t ≡ true → (x : ℕ) × (has s x ≡ true) × (has t x ≡ true)
-meet_common s t e =
-    let at = Any-from_list_any (has t) s e in
-    (at.1, list_any_at (λ j. eqb j at.1) s at.0 at.1 at.2 (eq-eqb _ _ at.3), at.4)
-
-common_meet : (s t : List ℕ) (x : ℕ) → has s x ≡ true → has t x ≡ true → meet s t ≡ true
-common_meet s t x in_s in_t =
-    let at = Any-from_list_any (λ j. eqb j x) s in_s in
-    list_any_at (has t) s at.0 at.1 at.2 (ap (has t) (at.3 ∙ eqb-true at.1 x at.4) ∙ in_t)
-
--- each member of one in the other
-within_members : (s t : List ℕ) → within s t ≡ true → (x : ℕ) → has s x ≡ true → has t x ≡ true
-within_members s t e x in_s =
-    let at = Any-from_list_any (λ j. eqb j x) s in_s in
-    sym (ap (has t) (at.3 ∙ eqb-true at.1 x at.4)) ∙ AllPass-from_list_all (has t) s e at.0 at.1 at.2
-
-members_within : (s t : List ℕ) → ((x : ℕ) → has s x ≡ true → has t x ≡ true) → within s t ≡ true
-members_within s t each = list_all-from_AllPass (has t) s (λ k d lt. each (get_or s k d) (list_any_at (λ j. eqb j (get_or s k d)) s k d lt (eq-eqb _ _ refl)))
-
 -- the words have a common 1 if the sets have a common member
 pub meet-members_of : (a b : ℕ) → a < 2 ^ 64 → b < 2 ^ 64 → not (eqb (bit_and a b) 0) ≡ meet (members_of a) (members_of b)
 meet-members_of a b fits_a fits_b =
@@ -74,13 +54,13 @@ meet-members_of a b fits_a fits_b =
     let zero : bit_and a b ≡ 0 = same_from_bits (bit_and a b) 0 (λ i.
     elim (cases_eq (bit_at a i) 1) as (λ _. bit_at (bit_and a b) i ≡ bit_at 0 i) [
       | inl one ↦ elim (cases_eq (bit_at b i) 1) as (λ _. bit_at (bit_and a b) i ≡ bit_at 0 i) [
-        | inl two ↦ absurd (false≢true (sym none ∙ common_meet (members_of a) (members_of b) i (set_bit a i fits_a one) (set_bit b i fits_b two)))
+        | inl two ↦ absurd (false≢true (sym none ∙ meet-from (members_of a) (members_of b) i (set_bit a i fits_a one) (set_bit b i fits_b two)))
         | inr off ↦ omega (arith, bit_at_and a b i, bit_at-zero i, bit_at-lt b i)
       ]
       | inr off ↦ omega (arith, bit_at_and a b i, bit_at-zero i, bit_at-lt a i)
     ]) in
     true≢false (sym (eq-eqb (bit_and a b) 0 zero) ∙ not-true (eqb (bit_and a b) 0) some)))
-    (λ common. let at = meet_common (members_of a) (members_of b) common in
+    (λ common. let at = meet-common (members_of a) (members_of b) common in
     not_from_false (eqb (bit_and a b) 0) (ne_eqb (bit_and a b) 0 (λ zero.
     let one = bit_set a at.0 fits_a at.1 in
     let two = bit_set b at.0 fits_b at.2 in
@@ -91,7 +71,7 @@ meet-members_of a b fits_a fits_b =
 pub within-members_of : (a b : ℕ) → a < 2 ^ 64 → b < 2 ^ 64 → eqb (bit_and a (bit_not w64 b)) 0 ≡ within (members_of a) (members_of b)
 within-members_of a b fits_a fits_b =
     same_true (eqb (bit_and a (bit_not w64 b)) 0) (within (members_of a) (members_of b))
-    (λ none. members_within (members_of a) (members_of b) (λ i h.
+    (λ none. within-from (members_of a) (members_of b) (λ i h.
     let one = bit_set a i fits_a h in
     elim (cases_lt i 64) as (λ _. has (members_of b) i ≡ true) [
       | inl lt ↦
@@ -103,7 +83,7 @@ within-members_of a b fits_a fits_b =
     elim (cases_eq (bit_at a i) 1) as (λ _. bit_at (bit_and a (bit_not w64 b)) i ≡ bit_at 0 i) [
       | inl one ↦ elim (cases_lt i 64) as (λ _. bit_at (bit_and a (bit_not w64 b)) i ≡ bit_at 0 i) [
         | inl lt ↦
-            let two = bit_set b i fits_b (within_members (members_of a) (members_of b) all i (set_bit a i fits_a one)) in
+            let two = bit_set b i fits_b (within-has (members_of a) (members_of b) i all (set_bit a i fits_a one)) in
             omega (arith, two, bit_at_and a (bit_not w64 b) i, bit_at_not w64 b i fits_b lt, bit_at-zero i)
         | inr ge ↦ absurd (omega (arith, one, bit_at_above a 64 i fits_a ge))
       ]

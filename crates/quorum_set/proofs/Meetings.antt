@@ -4,27 +4,10 @@ use Rattle.std.specs.Prelude.{◌||◌, slice_index_or}
 use native.Mathlib.Decide.{ℕ_discrete, dec_le}
 use Rattle.numbers.specs.Sets.{has, meet}
 use Rattle.quorum_set.specs.Coteries.{QuorumSystem, IsCoterie}
+use Rattle.numbers.proofs.Meetings.{meet-common}
 use Rattle.numbers.proofs.Members.{All-has}
 use Rattle.numbers.proofs.SetLemmas.{has-head}
 use Rattle.quorum_set.specs.Meetings.{Meet, AllMeet}
-
-has_later : (x v : ℕ) (xs : List ℕ) → has xs v ≡ true → has (x ∷ xs) v ≡ true
-has_later x v xs e = either_way (eqb x v)
-  where
-    either_way : (t : Bool) → (t || has xs v) ≡ true
-    either_way true = refl
-    either_way false = e
-
--- a common member, where the test says that there is one
-pub meet-common : (p q : List ℕ) → meet p q ≡ true → (v : ℕ) × (has p v ≡ true) × (has q v ≡ true)
-meet-common [] q e = absurd (true≢false (sym e))
-meet-common (x ∷ xs) q e = here_or_later (has q x) refl (λ later. meet-common xs q later)
-  where
-    here_or_later : (t : Bool) → has q x ≡ t → (meet xs q ≡ true → (v : ℕ) × (has xs v ≡ true) × (has q v ≡ true)) → (v : ℕ) × (has (x ∷ xs) v ≡ true) × (has q v ≡ true)
-    here_or_later true is others = (x, has-head x xs, is)
-    here_or_later false is others =
-        let later = others (sym (ap (λ (t : Bool). t || meet xs q) is) ∙ e) in
-        (later.0, has_later x later.0 xs later.1, later.2)
 
 -- a set with a member meets itself
 has-some : (p : List ℕ) → 0 < length p → (v : ℕ) × (has p v ≡ true) × (has p v ≡ true)

@@ -8,6 +8,7 @@ use Rattle.std.proofs.lemmas.List.{get_or_default, get_or-map, length-map}
 use Rattle.std.proofs.lemmas.List.Folds.{Any-from_list_any, list_any_at}
 use Rattle.std.proofs.lemmas.Slice.Eq.{bytes_eq-Decides}
 use Rattle.numbers.specs.Sets.{has, meet}
+use Rattle.numbers.proofs.Meetings.{meet-common, meet-from}
 use Rattle.numbers.proofs.SetLemmas.{has-at}
 use Rattle.quorum_set.specs.Bridges.{AreBridged, IsLeastApart, first_apart}
 use Rattle.quorum_set.specs.Coteries.{QuorumSystem, are_disjoint}
@@ -61,24 +62,13 @@ Contains-name names q i e =
     let lt : found.0 < length (names_of names q) = omega (arith, length-map q (name_at names), found.2) in
     (found.0, lt, get_or-map (name_at names) q found.0 found.1 (name_at names i) found.2 ∙ ap (name_at names) (found.3 ∙ same))
 
--- sets with a common member meet
-meet_member : (s t : List ℕ) → meet s t ≡ true → (i : ℕ) × (has s i ≡ true) × (has t i ≡ true)
-meet_member s t e =
-    let found = Any-from_list_any (has t) s e in
-    (found.1, has-at s found.0 found.1 found.2 (get_or_default s found.0 0 found.1 found.2 ∙ found.3), found.4)
-
-member_meets : (s t : List ℕ) (i : ℕ) → has s i ≡ true → has t i ≡ true → meet s t ≡ true
-member_meets s t i e f =
-    let found = Any-from_list_any (λ j. eqb j i) s e in
-    list_any_at (has t) s found.0 found.1 found.2 (ap (has t) (found.3 ∙ eqb-true found.1 i found.4) ∙ f)
-
 -- the test of a voter of the first coterie: a member of a quorum of the second has its name
 abbrev is_namesake : NamedSystem → NamedSystem → ℕ → ℕ → Bool
 is_namesake first second k i = has_name (names_of second.names (quorum_at second k)) (name_at first.names i)
 
 share-meet : (first second : NamedSystem) (j k : ℕ) → meet (quorum_at first j) (namesakes first second (quorum_at second k)) ≡ true → ShareName first second j k
 share-meet first second j k e =
-    let at = meet_member (quorum_at first j) (namesakes first second (quorum_at second k)) e in
+    let at = meet-common (quorum_at first j) (namesakes first second (quorum_at second k)) e in
     let voter = passing-has (is_namesake first second k) (length first.names) at.0 at.2 in
     (name_at first.names at.0, Contains-name first.names (quorum_at first j) at.0 at.1, Contains-has_name (names_of second.names (quorum_at second k)) (name_at first.names at.0) voter.passes)
 
@@ -94,7 +84,7 @@ meet-share first second j k named lj h =
     let there : has_name (names_of second.names (quorum_at second k)) h.0 ≡ true = has_name-Contains (names_of second.names (quorum_at second k)) h.0 h.2 in
     let few : first.system.voters ≤ 64 = named.coterie.few_voters in
     let all : length first.names ≡ first.system.voters = named.one_each in
-    member_meets q (namesakes first second (quorum_at second k)) i (has-at q m i lt refl)
+    meet-from q (namesakes first second (quorum_at second k)) i (has-at q m i lt refl)
     (has-passing (is_namesake first second k) (length first.names) i (omega arith) (omega arith) (ap (has_name (names_of second.names (quorum_at second k))) is ∙ there))
 
 -- all meet, so all share a name
