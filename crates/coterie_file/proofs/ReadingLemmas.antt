@@ -2,20 +2,20 @@
 use Rattle.std.proofs.Common.{◌≡◌, ℕ, ◌+◌, ◌<◌, Bool, true, false, cond, not, List, [], length, map, drop, get_or, sym, refl, ap, ◌∙◌, arith, Option, None, Some, Result, Ok, Err}
 use Rattle.std.proofs.Common.{String, Global, Vec, string_bytes, subst, IsErrAnd}
 use Rattle.std.specs.List.{list_all, position, position_from}
-use Rattle.std.specs.Option.{option_map, is_some}
+use Rattle.std.specs.Option.{option_map, option_or, is_some}
 use Rattle.std.proofs.lemmas.Bool.{ne_eqb, lt-ltb}
-use Rattle.std.proofs.lemmas.List.{drop_more, length-map}
+use Rattle.std.proofs.lemmas.List.{drop_more}
 use Rattle.std.proofs.lemmas.List.Folds.{list_all-map}
 use Rattle.quorum_set.specs.Coteries.{QuorumSystem, first_fault, coterie_or}
 use Rattle.quorum_set.specs.declared.fault.CoterieFault.{CoterieFault}
 use Rattle.quorum_set.specs.declared.fault.CoterieFault.TheVariants.{TooManyVoters}
 use Rattle.coterie_file.specs.Answers.{unless, Gives, Refuses}
 use Rattle.coterie_file.specs.Capacities.{capacities_fault}
-use Rattle.coterie_file.specs.Lists.{NameLists, listed}
+use Rattle.coterie_file.specs.Lists.{NameLists, listed, listed_by}
 use Rattle.coterie_file.specs.Names.{has_name, first_repeat, names_fault}
 use Rattle.coterie_file.specs.Reading.{quorum_of, system_of, lists_fault}
 use Rattle.coterie_file.specs.declared.fault.FileFault.{FileFault}
-use Rattle.coterie_file.specs.declared.fault.FileFault.TheVariants.{Coterie, OutOfMemory}
+use Rattle.coterie_file.specs.declared.fault.FileFault.TheVariants.{Coterie, OutOfMemory, RepeatedMember, UnknownName}
 use Rattle.coterie_file.proofs.ListLemmas.{position-map, map-map}
 
 -- whether a name stands twice among the members
@@ -43,45 +43,47 @@ coterie_or-Err None s fault e = cc
 coterie_or-Err (Some other) s fault e = cc
 
 -- the places of an unknown name and of a repeated one
-pub unknown_at : (names : List (String Global)) (quorums : List (Vec (String Global) Global)) (capacities : List ℕ) (voters : List (List ℕ)) → map string_bytes names ≡ voters
-    → position (λ members. not (list_all (has_name (map string_bytes names)) members)) (listed names quorums capacities).quorums ≡ position
-    (λ q. not (list_all (λ n. has_name voters (string_bytes n)) q.items)) quorums
-unknown_at names quorums capacities voters e =
-    rw (position-map (λ members. not (list_all (has_name (map string_bytes names)) members)) (λ q. map string_bytes q.items) quorums)
-    (rw e (simp list_all-map))
+unknown_at : (names : List (List ℕ)) (quorums : List (Vec (String Global) Global)) → position (λ members. not (list_all (has_name names) members)) (map (λ q. map string_bytes q.items) quorums)
+    ≡ position (λ q. not (list_all (λ n. has_name names (string_bytes n)) q.items)) quorums
+unknown_at names quorums = rw (position-map (λ members. not (list_all (has_name names) members)) (λ q. map string_bytes q.items) quorums) (simp list_all-map)
 
-pub repeated_at : (names : List (String Global)) (quorums : List (Vec (String Global) Global)) (capacities : List ℕ)
-    → position (λ members. is_some (first_repeat [] members)) (listed names quorums capacities).quorums ≡ position repeats quorums
-repeated_at names quorums capacities = position-map (λ members. is_some (first_repeat [] members)) (λ q. map string_bytes q.items) quorums
+repeated_at : (quorums : List (Vec (String Global) Global)) → position (λ members. is_some (first_repeat [] members)) (map (λ q. map string_bytes q.items) quorums) ≡ position repeats quorums
+repeated_at quorums = position-map (λ members. is_some (first_repeat [] members)) (λ q. map string_bytes q.items) quorums
+
+-- the first fault of lists whose names have none
+pub unknown_fault : (names : List (List ℕ)) (quorums : List (Vec (String Global) Global)) (capacities : List ℕ) (j : ℕ) → names_fault names ≡ None
+    → position (λ q. not (list_all (λ n. has_name names (string_bytes n)) q.items)) quorums ≡ Some j → lists_fault (listed_by names quorums capacities) ≡ Some (UnknownName j)
+unknown_fault names quorums capacities j named at = rw (named, unknown_at names quorums ∙ at) refl
+
+pub repeated_fault : (names : List (List ℕ)) (quorums : List (Vec (String Global) Global)) (capacities : List ℕ) (j : ℕ) → names_fault names ≡ None
+    → position (λ q. not (list_all (λ n. has_name names (string_bytes n)) q.items)) quorums ≡ None → position repeats quorums ≡ Some j
+    → lists_fault (listed_by names quorums capacities) ≡ Some (RepeatedMember j)
+repeated_fault names quorums capacities j named known at = rw (named, unknown_at names quorums ∙ known, repeated_at quorums ∙ at) refl
+
+-- the same, if no quorum lists an unknown name or a name twice
+pub later_fault : (names : List (List ℕ)) (quorums : List (Vec (String Global) Global)) (capacities : List ℕ) → names_fault names ≡ None
+    → position (λ q. not (list_all (λ n. has_name names (string_bytes n)) q.items)) quorums ≡ None → position repeats quorums ≡ None
+    → lists_fault (listed_by names quorums capacities) ≡ option_or (capacities_fault (length names) capacities)
+    (option_map Coterie (first_fault (length names) (system_of (listed_by names quorums capacities)).quorums))
+later_fault names quorums capacities named known once = rw (named, unknown_at names quorums ∙ known, repeated_at quorums ∙ once) refl
 
 -- more than 64 voters are refused, whatever the sets
 pub first_fault-too_many : (n : ℕ) (sets : List (List ℕ)) → 64 < n → first_fault n sets ≡ Some TooManyVoters
 first_fault-too_many n sets lt = rw (ne_eqb n 0 (λ e. omega arith), lt-ltb 64 n lt) refl
 
--- lists whose names are known are answered by their sets
-pub known_answer : (lists : NameLists) (system : QuorumSystem) → names_fault lists.names ≡ None → position (λ members. not (list_all (has_name lists.names) members)) lists.quorums ≡ None
-    → position (λ members. is_some (first_repeat [] members)) lists.quorums ≡ None → capacities_fault (length lists.names) lists.capacities ≡ None → system_of lists ≡ system
-    → unless (lists_fault lists) (system_of lists) ≡ unless (option_map Coterie (first_fault system.voters system.quorums)) system
-known_answer lists system named known apart capacities e =
-    rw (named, known, apart, capacities) (ap (λ s. unless (option_map Coterie (first_fault s.voters s.quorums)) s) e)
-
--- lists whose first fault is one of the capacities
-pub capacities_answer : (lists : NameLists) (fault : FileFault) → names_fault lists.names ≡ None → position (λ members. not (list_all (has_name lists.names) members)) lists.quorums ≡ None
-    → position (λ members. is_some (first_repeat [] members)) lists.quorums ≡ None → capacities_fault (length lists.names) lists.capacities ≡ Some fault
-    → lists_fault lists ≡ Some fault
-capacities_answer lists fault named known apart capacities = rw (named, known, apart, capacities) refl
+-- lists with no fault before those of the sets
+pub known_answer : (lists : NameLists) (system : QuorumSystem) → lists_fault lists ≡ option_or None (option_map Coterie (first_fault (length lists.names) (system_of lists).quorums))
+    → system_of lists ≡ system → unless (lists_fault lists) (system_of lists) ≡ unless (option_map Coterie (first_fault system.voters system.quorums)) system
+known_answer lists system fault made = ap (λ o. unless o (system_of lists)) fault ∙ ap (λ s. unless (option_map Coterie (first_fault s.voters s.quorums)) s) made
 
 -- the same lists
 pub listed-same : (n m : List (String Global)) (p q : List (Vec (String Global) Global)) (c d : List ℕ) → n ≡ m → p ≡ q → c ≡ d → listed n p c ≡ listed m q d
 listed-same n m p q c d e f g = rw (e, f, g) refl
 
 -- the system of the lists, by the sets that were made
-pub system_of-listed : (names : List (String Global)) (quorums : List (Vec (String Global) Global)) (capacities : List ℕ) (voters sets : List (List ℕ)) → map string_bytes names ≡ voters
-    → sets ≡ map (λ q. quorum_of voters (map string_bytes q.items)) quorums → system_of (listed names quorums capacities) ≡ record { voters = length names; quorums = sets }
-system_of-listed names quorums capacities voters sets e made =
-    let same : map (quorum_of (map string_bytes names)) (map (λ q. map string_bytes q.items) quorums) ≡ sets =
-    rw e (map-map (quorum_of voters) (λ q. map string_bytes q.items) quorums) ∙ sym made in
-    rw (same, length-map {A = String Global} names string_bytes) refl
+pub system_of-listed : (names : List (List ℕ)) (quorums : List (Vec (String Global) Global)) (capacities : List ℕ) (n : ℕ) (sets : List (List ℕ)) → length names ≡ n
+    → sets ≡ map (λ q. quorum_of names (map string_bytes q.items)) quorums → system_of (listed_by names quorums capacities) ≡ record { voters = n; quorums = sets }
+system_of-listed names quorums capacities n sets count made = rw (map-map (quorum_of names) (λ q. map string_bytes q.items) quorums, ← made, count) refl
 
 -- a refusal that another fault made
 pub Gives-Coterie : {X Y : Type 0} (view : X → Y) (r : Result X FileFault) (wanted : Result Y FileFault) (fault : CoterieFault) → IsErrAnd r (λ e. e ≡ Coterie fault)

@@ -22,6 +22,10 @@ abbrev pub capacity_line : List ℕ → List ℕ
 capacity_line capacities =
     if are_unit capacities then [] else codes "\ncapacity = [" ++ (join_by decimal (codes ", ") capacities ++ codes "]")
 
+-- the text before the lines of the quorums
+abbrev pub head_text : NamedSystem → List ℕ
+head_text n = codes "voters = " ++ (name_list n.names ++ (capacity_line n.capacities ++ codes "\nquorums = [\n"))
+
 -- the text of a coterie: the voters' names, their capacities if one is not 1, and a line for each quorum
 abbrev pub coterie_text : NamedSystem → List ℕ
 coterie_text n =

@@ -1,11 +1,11 @@
 //! Reading a coterie from its text.
-ghost use Rattle.std.specs.Prelude.{◌≡◌, ◌≤◌, [], length, map, not, Err, IfOk, OnOk, position, is_some, string_bytes};
+ghost use Rattle.std.specs.Prelude.{◌≡◌, ◌≤◌, [], length, map, not, None, Err, IfOk, OnOk, position, is_some, string_bytes};
 ghost use Rattle.std.specs.List.{list_all};
 ghost use Rattle.toml.specs.Errors.{IsBlank};
 ghost use Rattle.numbers.specs.Bounds.{max_voters};
 ghost use Rattle.coterie_file.specs.Answers.{Gives, unless};
-ghost use Rattle.coterie_file.specs.Lists.{listed};
-ghost use Rattle.coterie_file.specs.Names.{has_name, number_of, first_repeat, AreNames};
+ghost use Rattle.coterie_file.specs.Lists.{listed, listed_by};
+ghost use Rattle.coterie_file.specs.Names.{has_name, number_of, first_repeat, names_fault, AreNames};
 ghost use Rattle.quorum_set.specs.Capacities.{AreCapacities};
 ghost use Rattle.coterie_file.specs.Reading.{quorum_of, system_of, lists_fault, coterie_at};
 ghost use Rattle.coterie_file.specs.declared.fault.FileFault.TheVariants.{Keys};
@@ -105,6 +105,36 @@ fn sets_of(
     Ok(sets)
 }
 
+/// Returns the coterie of the lists, for voters whose names have no fault, or the first fault.
+fn coterie_by(
+    alloc: Global,
+    voters: &IndexSet<&str>,
+    quorums: &[Vec<String>],
+    capacities: &[u64],
+) -> Result<Coterie, FileFault>
+    requires { names_fault (map (λ k. k.now) voters.now.keys) ≡ None }
+    ensures exact { Gives (λ c. c) result
+        (unless (lists_fault (listed_by (map (λ k. k.now) voters.now.keys) quorums.now capacities.now))
+        (system_of (listed_by (map (λ k. k.now) voters.now.keys) quorums.now capacities.now))) }
+    ensures capacities { OnOk result (AreCapacities capacities.now (length voters.now.keys)) }
+{
+    if let Some(j) = first_unknown(voters, quorums) {
+        return Err(FileFault::UnknownName(j));
+    }
+    if let Some(j) = first_repeated(alloc, quorums)? {
+        return Err(FileFault::RepeatedMember(j));
+    }
+    let count = voters.len();
+    if let Some(fault) = capacities_fault(count, capacities) {
+        return Err(fault);
+    }
+    if count > MAX_VOTERS {
+        return Err(FileFault::Coterie(CoterieFault::TooManyVoters));
+    }
+    let sets = sets_of(alloc, voters, quorums)?;
+    Ok(Coterie::of(count, sets)?)
+}
+
 /// Returns the coterie of the lists, or their first fault.
 fn coterie_of(
     alloc: Global,
@@ -119,20 +149,7 @@ fn coterie_of(
     ensures capacities { OnOk result (AreCapacities capacities.now (length names.now)) }
 {
     let voters = voters_of(alloc, names)?;
-    if let Some(j) = first_unknown(&voters, quorums) {
-        return Err(FileFault::UnknownName(j));
-    }
-    if let Some(j) = first_repeated(alloc, quorums)? {
-        return Err(FileFault::RepeatedMember(j));
-    }
-    if let Some(fault) = capacities_fault(names.len(), capacities) {
-        return Err(fault);
-    }
-    if voters.len() > MAX_VOTERS {
-        return Err(FileFault::Coterie(CoterieFault::TooManyVoters));
-    }
-    let sets = sets_of(alloc, &voters, quorums)?;
-    Ok(Coterie::of(names.len(), sets)?)
+    coterie_by(alloc, &voters, quorums, capacities)
 }
 
 /// Returns the coterie that a text describes.

@@ -1,7 +1,7 @@
 //! Writing a coterie as text.
-ghost use Rattle.std.specs.Prelude.{◌≡◌, ◌<◌, [], decimal, length, map, All, IfOk, slice_index_or, string_bytes};
+ghost use Rattle.std.specs.Prelude.{◌≡◌, ◌<◌, ◌++◌, [], decimal, flat_map, length, map, All, IfOk, OnOk, slice_index_or, string_bytes};
 ghost use Rattle.coterie_file.specs.Names.{name_at};
-ghost use Rattle.coterie_file.specs.Writing.{name_list, quorum_line, capacity_line, coterie_text};
+ghost use Rattle.coterie_file.specs.Writing.{name_list, quorum_line, capacity_line, head_text, coterie_text};
 
 use crate::named::Named;
 use quorum_set::{QSet, are_unit};
@@ -67,6 +67,26 @@ fn capacity_line(alloc: Global, capacities: &[u64]) -> Result<String, AllocError
     format!(in alloc; "\ncapacity = [{list}]")
 }
 
+/// Returns the lines before those of the quorums.
+fn head_of(alloc: Global, named: &Named) -> Result<String, AllocError>
+    ensures { IfOk result (λ t. string_bytes t ≡ head_text named.now) }
+{
+    let voters = list_of(alloc, named.names())?;
+    let capacities = capacity_line(alloc, named.capacities())?;
+    format!(in alloc; "voters = {voters}{capacities}\nquorums = [\n")
+}
+
+/// Adds the lines of the quorums to a text.
+fn push_quorums(text: &mut String, alloc: Global, named: &Named) -> Result<(), AllocError>
+    ensures { OnOk result (string_bytes text.new
+        ≡ string_bytes text.old ++ flat_map (quorum_line named.now.names) named.now.system.quorums) }
+{
+    for j in 0..named.coterie().count() {
+        text.push_str(&line_of(alloc, named, j)?)?;
+    }
+    Ok(())
+}
+
 /// Returns the text of a coterie: a TOML document that `read_coterie` reads back. The names are in
 /// the order of their voters' numbers. The capacities are on the second line if one of them is not
 /// 1; otherwise they are left out. Each quorum is on a line of its own, with its members in
@@ -74,13 +94,8 @@ fn capacity_line(alloc: Global, capacities: &[u64]) -> Result<String, AllocError
 pub fn write_coterie(alloc: Global, named: &Named) -> Result<String, AllocError>
     ensures layout { IfOk result (λ t. string_bytes t ≡ coterie_text named.now) }
 {
-    let voters = list_of(alloc, named.names())?;
-    let capacities = capacity_line(alloc, named.capacities())?;
-    let mut text = format!(in alloc; "voters = {voters}{capacities}\nquorums = [\n")?;
-    for j in 0..named.coterie().count() {
-        let line = line_of(alloc, named, j)?;
-        text.push_str(&line)?;
-    }
+    let mut text = head_of(alloc, named)?;
+    push_quorums(&mut text, alloc, named)?;
     text.push_str("]\n")?;
     Ok(text)
 }
