@@ -62,7 +62,11 @@ class Copy:
             os.makedirs(os.path.dirname(to), exist_ok=True)
             shutil.copy(source, to)
 
+    def command(self, words, log, inside="."):
+        """Starts a command in the copy, and returns it. What it prints goes to this log."""
+        with open(log, "w", encoding="utf-8") as to:
+            return subprocess.Popen(words, cwd=os.path.join(self.folder, inside), stdin=subprocess.DEVNULL, stdout=to, stderr=to)
+
     def start(self, words, inside="."):
-        """Starts a command in the copy. What it prints goes to the log."""
-        with open(self.log, "w", encoding="utf-8") as log:
-            self.run = subprocess.Popen(words, cwd=os.path.join(self.folder, inside), stdin=subprocess.DEVNULL, stdout=log, stderr=log)
+        """Starts the command of the copy. What it prints goes to the log."""
+        self.run = self.command(words, self.log, inside)
