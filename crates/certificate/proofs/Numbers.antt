@@ -9,9 +9,10 @@ use Rattle.std.proofs.lemmas.Bool.{and_parts, and_from, or_cases, or_left, or_ri
 use Rattle.std.proofs.lemmas.Option.{cond_some}
 use Rattle.std.proofs.Math.Nat.{pow-le-pow_right}
 use Rattle.std.proofs.lemmas.Str.Parse.{digits_value_short}
-use Rattle.std.proofs.lemmas.Fmt.{decimal-digits_value, digits_value-decimal, digits_decimal, decimal_injective, decimal_nonempty, decimal_digit, first_decimal, length-decimal-le}
+use Rattle.std.proofs.lemmas.Fmt.{decimal-digits_value, digits_value-decimal, digits_decimal, decimal_injective, decimal_nonempty, length-decimal-le}
 use Rattle.certificate.specs.PlanTexts.{HasDigits, is_number, number_of}
 use Rattle.texts.proofs.CutLemmas.{ascii_numerals}
+use Rattle.texts.proofs.Numbers.{zero_is_short}
 
 all_digits : (bs : List ℕ) → list_all is_ascii_digit bs ≡ all_ascii_digits bs
 all_digits [] = refl
@@ -62,20 +63,13 @@ number_of-Some digits bs n few e =
     let fits = HasDigits-small digits (digits_value 10 bs) few (value-HasDigits digits bs h) in
     sym (decimal-digits_value ascii_numerals bs h.all h.some h.plain fits) ∙ ap decimal parts.1
 
-single_zero : (n : ℕ) → n < 2 ^ 64 → get_or (decimal n) 0 0 ≡ 48 → length (decimal n) ≡ 1
-single_zero n small e =
-    elim (cases_eq n 0) [
-      | inl z ↦ rw (z, decimal_digit 0 (omega arith)) refl
-      | inr nz ↦ absurd (omega (arith, first_decimal n (omega arith) small))
-    ]
-
 IsNumber-decimal : (digits n : ℕ) → 0 < digits → digits ≤ 19 → HasDigits digits n → IsNumber digits (decimal n)
 IsNumber-decimal digits n some few short =
     let fits = HasDigits-small digits n few short in
     record {
       some = decimal_nonempty n fits;
       short = length-decimal-le digits n some short fits;
-      plain = single_zero n fits;
+      plain = zero_is_short n fits;
       all = digits_decimal ascii_numerals n fits;
     }
 

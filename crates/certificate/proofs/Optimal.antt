@@ -1,5 +1,5 @@
 -- Weights whose loads meet are optimal.
-use Rattle.std.proofs.Common.{◌≡◌, ℕ, ◌+◌, ◌*◌, ◌<◌, ◌≤◌, Bool, true, false, cond, List, [], ◌∷◌, length, get_or, zero, suc, ap, subst, ◌∙◌, arith}
+use Rattle.std.proofs.Common.{◌≡◌, ℕ, ◌+◌, ◌*◌, ◌<◌, ◌≤◌, Bool, true, false, cond, List, [], ◌∷◌, length, get_or, ap, subst, ◌∙◌, arith}
 use Rattle.std.specs.List.{All}
 use Rattle.std.proofs.lemmas.List.Sums.{sum_by-cons}
 use Rattle.std.proofs.lemmas.List.Elements.{All-head, All-tail}
@@ -9,7 +9,7 @@ use Rattle.quorum_set.specs.Coteries.{QuorumSystem, IsCoterie}
 use Rattle.numbers.proofs.SetLemmas.{Ascends-all_below}
 use Rattle.std.proofs.Math.Nat.{mul-le-mul_left, mul-le-mul_right, le_of_mul-le-mul_right}
 use Rattle.numbers.proofs.CountLemmas.{least_of-le}
-use Rattle.numbers.proofs.SumsBelow.{sum_below-le, sum_below-same, sum_below-add, sum_below-list, sum_below-members}
+use Rattle.numbers.proofs.SumsBelow.{sum_below-add, sum_below-cross, sum_below-le, sum_below-list, sum_below-members, sum_below-same}
 use Rattle.quorum_set.specs.Capacities.{AreCapacities}
 use Rattle.quorum_set.specs.Counts.{count_of}
 use Rattle.certificate.specs.Loads.{weight_within}
@@ -41,15 +41,6 @@ least-weighed s b [] h small = omega arith
 least-weighed s b (j ∷ list) h small =
     let lt : j < length s.quorums = All-head (λ j. j < length s.quorums) j list small in
     omega (arith, weighed-cons s b j list h lt, least_of-le (weight_within b) s.quorums j [] lt, least-weighed s b list h (All-tail (λ j. j < length s.quorums) j list small))
-
--- sums of products, term by term with factors in the ratio p / q at most
-sum_below-cross : (n p q : ℕ) (f c d : ℕ → ℕ) → ((i : ℕ) → i < n → c i * q ≤ p * d i)
-    → sum_below (λ i. f i * c i) n * q ≤ p * sum_below (λ i. f i * d i) n
-sum_below-cross zero p q f c d bound = omega arith
-sum_below-cross (suc n) p q f c d bound =
-    let rest = sum_below-cross n p q f c d (λ i lt. bound i (omega arith)) in
-    let last : f n * (c n * q) ≤ f n * (p * d n) = mul-le-mul_left (f n) (bound n (omega arith)) in
-    omega (arith, rest, last)
 
 weighed-ratio : (s : QuorumSystem) (capacities b list : List ℕ) → AreCapacities capacities s.voters
     → weighed s b list * (ratio_of s capacities list).1 ≤ (ratio_of s capacities list).0 * sum_below (λ i. get_or b i 0 * get_or capacities i 0) s.voters

@@ -18,6 +18,7 @@ use Rattle.certificate.specs.declared.fault.PlanFault.TheVariants.{BadText}
 use Rattle.certificate.specs.PlanTexts.{HasDigits, IsShort, spaced, title_line, load_line, cycle_line, weights_line, number_of, numbers_of, behind, read_title, read_pair}
 use Rattle.certificate.specs.PlanTexts.{read_load, read_cycle, read_weights, have_a_line, read_capacities, line_at}
 use Rattle.numbers.specs.Bounds.{max_capacity}
+use Rattle.numbers.proofs.Options.{and_then-Some, option_map-Some}
 use Rattle.quorum_set.specs.Capacities.{IsCapacity, are_unit}
 use Rattle.texts.specs.Cuts.{cut_at}
 use Rattle.certificate.proofs.Numbers.{HasDigits-small, number_of-Some, number_of-HasDigits, number_of-decimal}
@@ -31,14 +32,6 @@ spaced-push (x ∷ y ∷ ns) n some =
     ap (λ t. decimal x ++ 32 ∷ t) (spaced-push (y ∷ ns) n (omega arith))
     ∙ sym (append_assoc (decimal x) (32 ∷ spaced (y ∷ ns)) (32 ∷ decimal n))
 
-and_then_Some : {A B : Type 0} (f : A → Option B) (o : Option A) (y : B) → option_and_then f o ≡ Some y → (x : A) × (o ≡ Some x) × (f x ≡ Some y)
-and_then_Some f None y e = cc
-and_then_Some f (Some x) y e = (x, refl, e)
-
-map_Some : {A B : Type 0} (f : A → B) (o : Option A) (y : B) → option_map f o ≡ Some y → (x : A) × (o ≡ Some x) × (f x ≡ y)
-map_Some f None y e = cc
-map_Some f (Some x) y e = (x, refl, cc)
-
 some_is : {A : Type 0} (x y : A) → Some x ≡ Some y → x ≡ y
 some_is x y e = cc
 
@@ -49,8 +42,8 @@ numbers_of-Some [] ns e = ap (map decimal) (nil ns e)
     nil : (ns : List ℕ) → Some [] ≡ Some ns → [] ≡ ns
     nil ns e = cc
 numbers_of-Some (word ∷ words) ns e =
-    let first = and_then_Some (λ n. option_map (λ ns. n ∷ ns) (numbers_of words)) (number_of 7 word) ns e in
-    let others = map_Some (λ ms. first.0 ∷ ms) (numbers_of words) ns first.2 in
+    let first = and_then-Some (λ n. option_map (λ ns. n ∷ ns) (numbers_of words)) (number_of 7 word) ns e in
+    let others = option_map-Some (λ ms. first.0 ∷ ms) (numbers_of words) ns first.2 in
     let word_is = number_of-Some 7 word first.0 (omega arith) first.1 in
     let words_are = numbers_of-Some words others.0 others.1 in
     subst (λ ms. word ∷ words ≡ map decimal ms) others.2 (cc)
@@ -114,10 +107,10 @@ record IsLoad (digits : ℕ) (line : List ℕ) (x : ℕ × ℕ) : Type 0 where
 
 read_load-IsLoad : (digits : ℕ) (line : List ℕ) (x : ℕ × ℕ) → read_load digits line ≡ Some x → IsLoad digits line x
 read_load-IsLoad digits line x e =
-    let word = and_then_Some (λ rest. option_and_then (read_pair digits) (cut_at 47 rest)) (behind (codes "load ") line) x e in
-    let sides = and_then_Some (read_pair digits) (cut_at 47 word.0) x word.2 in
-    let left = and_then_Some (λ p. option_map (λ q. (p, q)) (number_of digits sides.0.1)) (number_of digits sides.0.0) x sides.2 in
-    let right = map_Some (λ q. (left.0, q)) (number_of digits sides.0.1) x left.2 in
+    let word = and_then-Some (λ rest. option_and_then (read_pair digits) (cut_at 47 rest)) (behind (codes "load ") line) x e in
+    let sides = and_then-Some (read_pair digits) (cut_at 47 word.0) x word.2 in
+    let left = and_then-Some (λ p. option_map (λ q. (p, q)) (number_of digits sides.0.1)) (number_of digits sides.0.0) x sides.2 in
+    let right = option_map-Some (λ q. (left.0, q)) (number_of digits sides.0.1) x left.2 in
     let parts = pair_is left.0 right.0 x right.2 in
     record {
       before = sides.0.0;
@@ -141,7 +134,7 @@ read_load-load_line digits x some few left right =
 
 pub read_cycle-Some : (line : List ℕ) (n : ℕ) → read_cycle line ≡ Some n → line ≡ cycle_line n
 read_cycle-Some line n e =
-    let word = and_then_Some (number_of 7) (behind (codes "cycle ") line) n e in
+    let word = and_then-Some (number_of 7) (behind (codes "cycle ") line) n e in
     behind-Some (codes "cycle ") line word.0 word.1 ∙ ap (λ t. codes "cycle " ++ t) (number_of-Some 7 word.0 n (omega arith) word.2)
 
 pub read_cycle-cycle_line : (n : ℕ) → IsShort n → read_cycle (cycle_line n) ≡ Some n
@@ -150,7 +143,7 @@ read_cycle-cycle_line n short =
 
 pub read_weights-Some : (word line ns : List ℕ) → read_weights word line ≡ Some ns → line ≡ weights_line word ns
 read_weights-Some word line ns e =
-    let rest = and_then_Some (λ rest. numbers_of (slice_split (λ b. eqb b 32) rest)) (behind word line) ns e in
+    let rest = and_then-Some (λ rest. numbers_of (slice_split (λ b. eqb b 32) rest)) (behind word line) ns e in
     behind-Some word line rest.0 rest.1
     ∙ ap (λ t. word ++ t) (sym (join_with_byte-slice_split 32 rest.0) ∙ ap (join_with_byte 32) (numbers_of-Some (slice_split (λ b. eqb b 32) rest.0) ns rest.2))
 
@@ -184,8 +177,8 @@ ok_or_Ok (Some y) e x h = cc
 pub line_at-Ok : {X : Type 0} (k : ℕ) (read : List ℕ → Option X) (text : List ℕ) (x : X × List ℕ) → line_at k read text ≡ Ok x → (line : List ℕ) × (text ≡ line ++ 10 ∷ x.1) × (read line ≡ Some x.0)
 line_at-Ok {X} k read text x e =
     let some = ok_or_Ok (option_and_then (λ cut. option_map (λ y. (y, cut.1)) (read cut.0)) (cut_at 10 text)) (BadText k) x e in
-    let cut = and_then_Some (λ cut. option_map (λ y. (y, cut.1)) (read cut.0)) (cut_at 10 text) x some in
-    let stated = map_Some (λ y. (y, cut.0.1)) (read cut.0.0) x cut.2 in
+    let cut = and_then-Some (λ cut. option_map (λ y. (y, cut.1)) (read cut.0)) (cut_at 10 text) x some in
+    let stated = option_map-Some (λ y. (y, cut.0.1)) (read cut.0.0) x cut.2 in
     let same : stated.0 ≡ x.0 = ap (λ p. p.0) stated.2 in
     let rest : cut.0.1 ≡ x.1 = ap (λ p. p.1) stated.2 in
     (cut.0.0, cut_at-Some 10 text cut.0 cut.1 ∙ ap (λ t. cut.0.0 ++ 10 ∷ t) rest, stated.1 ∙ ap Some same)
@@ -201,7 +194,7 @@ read_load-HasDigits digits line x e =
 
 pub read_cycle-IsShort : (line : List ℕ) (n : ℕ) → read_cycle line ≡ Some n → IsShort n
 read_cycle-IsShort line n e =
-    let word = and_then_Some (number_of 7) (behind (codes "cycle ") line) n e in
+    let word = and_then-Some (number_of 7) (behind (codes "cycle ") line) n e in
     number_of-HasDigits 7 word.0 n word.2
 
 numbers-short : (words : List (List ℕ)) (ns : List ℕ) → numbers_of words ≡ Some ns → All IsShort ns × (length ns ≡ length words)
@@ -210,15 +203,15 @@ numbers-short [] ns e = subst (λ ns. All IsShort ns × (length ns ≡ 0)) (nil 
     nil : (ns : List ℕ) → Some [] ≡ Some ns → [] ≡ ns
     nil ns e = cc
 numbers-short (word ∷ words) ns e =
-    let first = and_then_Some (λ n. option_map (λ ns. n ∷ ns) (numbers_of words)) (number_of 7 word) ns e in
-    let others = map_Some (λ ms. first.0 ∷ ms) (numbers_of words) ns first.2 in
+    let first = and_then-Some (λ n. option_map (λ ns. n ∷ ns) (numbers_of words)) (number_of 7 word) ns e in
+    let others = option_map-Some (λ ms. first.0 ∷ ms) (numbers_of words) ns first.2 in
     let rest = numbers-short words others.0 others.1 in
     subst (λ ms. All IsShort ms × (length ms ≡ suc (length words))) others.2
     (All-cons IsShort first.0 others.0 (number_of-HasDigits 7 word first.0 first.1) rest.0, ap suc rest.1)
 
 pub read_weights-IsShort : (word line ns : List ℕ) → read_weights word line ≡ Some ns → All IsShort ns × (0 < length ns)
 read_weights-IsShort word line ns e =
-    let rest = and_then_Some (λ rest. numbers_of (slice_split (λ b. eqb b 32) rest)) (behind word line) ns e in
+    let rest = and_then-Some (λ rest. numbers_of (slice_split (λ b. eqb b 32) rest)) (behind word line) ns e in
     let short = numbers-short (slice_split (λ b. eqb b 32) rest.0) ns rest.2 in
     (short.0, omega (arith, short.1, length-slice_split (λ b. eqb b 32) rest.0))
 
@@ -252,7 +245,7 @@ IsCapacity-IsShort ns each = recursion_from_All IsShort ns (λ i d lt. let range
 
 pub read_capacities-Some : (line ns : List ℕ) → read_capacities line ≡ Some ns → (line ≡ weights_line (codes "capacity ") ns) × (All IsCapacity ns × (are_unit ns ≡ false))
 read_capacities-Some line ns e =
-    let found = and_then_Some (λ numbers. cond (have_a_line numbers) (Some numbers) None) (read_weights (codes "capacity ") line) ns e in
+    let found = and_then-Some (λ numbers. cond (have_a_line numbers) (Some numbers) None) (read_weights (codes "capacity ") line) ns e in
     let parts = cond_some (have_a_line found.0) found.0 ns found.2 in (
       read_weights-Some (codes "capacity ") line found.0 found.1 ∙ ap (weights_line (codes "capacity ")) parts.1,
       subst (λ ms. All IsCapacity ms × (are_unit ms ≡ false)) parts.1 (have_a_line-IsCapacity found.0 parts.0),

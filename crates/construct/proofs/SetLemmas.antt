@@ -3,11 +3,7 @@ use Rattle.std.proofs.Common.{◌≡◌, ℕ, ◌+◌, ◌<◌, Bool, true, fals
 use Rattle.std.proofs.lemmas.Bool.{true≢false, eq-eqb, ne_eqb, lt-ltb, le-ltb, cases_eq, cases_lt}
 use Rattle.numbers.specs.Sets.{has, union, set_where}
 use Rattle.std.proofs.lemmas.List.{take_more}
-use Rattle.numbers.proofs.SetLemmas.{is_set_where, IsSet-set_where, has-set_where, has-above, has-append}
-
--- sets by tests that agree
-pub set_where-same : (p q : ℕ → Bool) → ((i : ℕ) → i < 64 → p i ≡ q i) → set_where p ≡ set_where q
-set_where-same p q e = is_set_where (set_where p) q (IsSet-set_where p) (λ i lt. has-set_where p i lt ∙ e i lt)
+use Rattle.numbers.proofs.SetLemmas.{IsSet-set_where, has-above, has-append, has-set_where, is_set_where, set_where-same}
 
 -- the union of two sets by tests
 pub union-set_where : (p q : ℕ → Bool) → union (set_where p) (set_where q) ≡ set_where (λ v. p v || q v)

@@ -14,6 +14,7 @@ use Rattle.numbers.proofs.SetLemmas.{IsSet-set_where, has-set_where, has-above}
 use Rattle.construct.specs.Tree.{with_node, union, node_quorums, quorums_under, tree_quorums, tree_system}
 use Rattle.construct.proofs.SetLemmas.{has-failed, has-passed}
 use Rattle.numbers.proofs.Meetings.{All-members}
+use Rattle.numbers.proofs.Lists.{All-flat_map}
 use Rattle.construct.proofs.Quorums.{IsQuorum, IsCrossing, IsCoterie-from, IsCrossing-from, not_empty-from, AllPairs-append}
 
 -- the nodes below both children have room where those below the node have
@@ -270,12 +271,6 @@ cross_first h i p s q r a b c d cross =
       left = (w, union_first p q w a.set w_p, union_off s r w w_s (off_right h i p r a d w w_p));
       right = (x, union_first s r x b.set x_s, union_off p q x x_p (off_right h i s q b c x x_s));
     }
-
--- lists
-All-flat_map : {X Y : Type 0} (P : Y → Type 0) (f : X → List Y) (xs : List X) → All (λ x. All P (f x)) xs → All P (flat_map f xs)
-All-flat_map P f [] all = All-nil P
-All-flat_map P f (x ∷ xs) all =
-    All-append P (f x) (flat_map f xs) (All-head (λ y. All P (f y)) x xs all) (All-flat_map P f xs (All-tail (λ y. All P (f y)) x xs all))
 
 pub AllPairs-map : {X Y : Type 0} (R : Y → Y → Type 0) (f : X → Y) (xs : List X) → AllPairs (λ x y. R (f x) (f y)) xs → AllPairs R (map f xs)
 AllPairs-map R f [] pairs = λ a b d before lt. absurd (omega arith)

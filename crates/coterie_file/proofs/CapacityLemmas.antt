@@ -6,7 +6,8 @@ use Rattle.std.proofs.lemmas.List.FromFn.{length-map-range_with_len, get_or-map-
 use Rattle.quorum_set.specs.Capacities.{IsCapacity, AreCapacities, unit_capacities}
 use Rattle.coterie_file.specs.Capacities.{is_capacity, capacities_fault}
 use Rattle.coterie_file.specs.declared.fault.FileFault.TheVariants.{BadCapacity}
-use Rattle.coterie_file.proofs.NameLaws.{and-true, position-None, position-none, option_map-None}
+use Rattle.coterie_file.proofs.NameLaws.{position-none}
+use Rattle.numbers.proofs.Options.{and-true, option_map-None, position-None}
 
 pub IsCapacity-from_test : (c : ℕ) → is_capacity c ≡ true → IsCapacity c
 IsCapacity-from_test c e =

@@ -5,7 +5,7 @@ use Rattle.std.specs.Option.{option_map}
 use Rattle.toml.specs.Data.{Data, Items, no_items, item, string, integer, float, boolean, datetime, array, table, as_integer}
 use Rattle.quorum_set.specs.Capacities.{IsCapacity}
 use Rattle.coterie_file.specs.Lists.{or_zero, numbers_of, integers}
-use Rattle.coterie_file.proofs.StringLaws.{and_then-Some, map-Some}
+use Rattle.numbers.proofs.Options.{and_then-Some, option_map-Some}
 
 as_integer-integer : (d : Data) (z : ℤ) → as_integer d ≡ Some z → d ≡ integer z
 as_integer-integer (string s) z e = cc
@@ -24,7 +24,7 @@ pub numbers_of-integers : (items : Items) (capacities : List ℕ) → All IsCapa
 numbers_of-integers no_items capacities all e = let nothing : capacities ≡ [] = cc in rw nothing refl
 numbers_of-integers (item d items) capacities all e =
     let first = and_then-Some (λ z. option_map (λ rest. or_zero z ∷ rest) (numbers_of items)) (as_integer d) capacities e in
-    let rest = map-Some (λ rest. or_zero first.0 ∷ rest) (numbers_of items) capacities first.2 in
+    let rest = option_map-Some (λ rest. or_zero first.0 ∷ rest) (numbers_of items) capacities first.2 in
     let each : All IsCapacity (or_zero first.0 ∷ rest.0) = let P : List ℕ → Type 0 = All IsCapacity in subst P (sym rest.2) all in
     let one : d ≡ integer (pos (or_zero first.0)) = as_integer-integer d first.0 first.1 ∙ ap integer (or_zero-pos first.0 (each 0 0 (omega arith)).0) in
     let more : items ≡ integers rest.0 = numbers_of-integers items rest.0 (λ k d lt. each (suc k) d (omega arith)) rest.1 in

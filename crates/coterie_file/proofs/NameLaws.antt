@@ -1,10 +1,10 @@
 -- What the tests of names mean, and the names v0, v1, ..
-use Rattle.std.proofs.Common.{◌≡◌, ◌≢◌, ℕ, ◌+◌, ◌<◌, ◌≤◌, Bool, true, false, cond, not, ◌&&◌, ltb, List, [], ◌∷◌, ◌++◌, length, get_or, sym, refl, ap, ◌∙◌, inl, inr, arith, Option}
+use Rattle.std.proofs.Common.{◌≡◌, ◌≢◌, ℕ, ◌+◌, ◌<◌, ◌≤◌, Bool, true, false, cond, not, List, [], ◌∷◌, ◌++◌, length, get_or, sym, refl, ap, ◌∙◌, arith}
 use Rattle.std.proofs.Common.{None, Some, MatchOption, codes, decimal, subst, append_assoc, append-nil}
-use Rattle.std.specs.List.{All, position, position_or_len}
-use Rattle.std.specs.Option.{option_or, option_map}
+use Rattle.std.specs.List.{All, position}
+use Rattle.std.specs.Option.{option_map}
 use Rattle.std.specs.Str.{bytes_eq}
-use Rattle.std.proofs.lemmas.Bool.{ltb-true, lt-ltb, leb-true, le-leb, not-false, not_from_true, cases_lt, cond-true, false≢true}
+use Rattle.std.proofs.lemmas.Bool.{ltb-true, lt-ltb, leb-true, le-leb, not-false, not_from_true, false≢true}
 use Rattle.std.proofs.lemmas.Fmt.{decimal_is_IsNumeral, decimal_injective, length-decimal-le}
 use Rattle.std.proofs.lemmas.List.{length-append, get_or_default, take_more, take_all}
 use Rattle.std.proofs.Math.ListN.{get_or-append}
@@ -13,12 +13,13 @@ use Rattle.std.proofs.lemmas.List.Folds.{Any-from_list_any, list_any_at}
 use Rattle.std.proofs.lemmas.List.Elements.{All-cons}
 use Rattle.std.proofs.lemmas.List.FromFn.{length-map-range_with_len, get_or-map-range_with_len, take-map-range_with_len}
 use Rattle.std.proofs.lemmas.List.Quantifiers.{all_pairs_push, position-Some}
-use Rattle.std.proofs.lemmas.List.Sums.{AllPass-from_list_all, list_all-from_AllPass, fails_before_first}
+use Rattle.std.proofs.lemmas.List.Sums.{AllPass-from_list_all, list_all-from_AllPass}
 use Rattle.std.proofs.lemmas.Slice.Eq.{bytes_eq-Decides}
 use Rattle.std.proofs.lemmas.Str.Parse.{digit_at}
 use Rattle.coterie_file.specs.Names.{is_name_byte, IsName, is_name, has_name, name_at, AllDiffer, AreNames, IsLeastRepeat, first_repeat, names_fault}
 use Rattle.coterie_file.specs.Named.{numbered_names}
 use Rattle.coterie_file.specs.declared.fault.FileFault.TheVariants.{BadName, RepeatedName}
+use Rattle.numbers.proofs.Options.{and-true, option_map-None, option_or-None, position-None}
 
 -- a name that has_name does not find is none of the list
 pub has_name-false : (names : List (List ℕ)) (name : List ℕ) → has_name names name ≡ false → (k : ℕ) (d : List ℕ) → k < length names → get_or names k d ≢ name
@@ -55,10 +56,6 @@ first_repeat-means before (name ∷ names) differ =
           rw one (first_repeat-means (before ++ name ∷ []) names (all_pairs_push (λ m n. m ≢ n) before name differ (has_name-false before name e)))
     ] refl
 
-pub and-true : (a b : Bool) → (a && b) ≡ true → (a ≡ true) × (b ≡ true)
-and-true true b e = (refl, e)
-and-true false b e = cc
-
 pub IsName-from_test : (name : List ℕ) → is_name name ≡ true → IsName name
 IsName-from_test name e =
     let parts = and-true _ _ e in
@@ -71,22 +68,6 @@ IsName-from_test name e =
 
 pub is_name-from_IsName : (name : List ℕ) → IsName name → is_name name ≡ true
 is_name-from_IsName name h = rw (lt-ltb 0 (length name) h.not_empty, le-leb (length name) 64 h.short, list_all-from_AllPass is_name_byte name h.bytes) refl
-
--- names without a fault
-pub position-None : {A : Type 0} (p : A → Bool) (xs : List A) → position p xs ≡ None → All (λ x. p x ≡ false) xs
-position-None p xs e k d lt =
-    elim (cases_lt (position_or_len p xs) (length xs)) [
-      | inl short ↦ let found : position p xs ≡ Some (position_or_len p xs) = cond-true (ltb (position_or_len p xs) (length xs)) (Some (position_or_len p xs)) None (lt-ltb _ _ short) in cc
-      | inr long ↦ fails_before_first p xs k d (omega arith)
-    ]
-
-pub option_or-None : {A : Type 0} (o p : Option A) → option_or o p ≡ None → (o ≡ None) × (p ≡ None)
-option_or-None None p e = (refl, e)
-option_or-None (Some x) p e = cc
-
-pub option_map-None : {A B : Type 0} (f : A → B) (o : Option A) → option_map f o ≡ None → o ≡ None
-option_map-None f None e = refl
-option_map-None f (Some x) e = cc
 
 -- names without a repeat all differ
 pub AllDiffer-from_no_repeat : (names : List (List ℕ)) → first_repeat [] names ≡ None → AllDiffer names

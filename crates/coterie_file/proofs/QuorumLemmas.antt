@@ -1,16 +1,12 @@
 -- Lemmas on the sets of listed members.
-use Rattle.std.proofs.Common.{◌≡◌, ℕ, ◌<◌, Bool, true, false, ◌||◌, eqb, List, [], ◌∷◌, ◌++◌, sym, refl, ap, ◌∙◌, inl, inr, None, Some}
+use Rattle.std.proofs.Common.{◌≡◌, ℕ, Bool, true, false, ◌||◌, eqb, List, [], ◌∷◌, ◌++◌, sym, refl, ap, ◌∙◌, inl, inr, None, Some}
 use Rattle.std.specs.List.{list_any}
 use Rattle.std.proofs.lemmas.Bool.{eq-eqb, ne_eqb, cases_eq}
 use Rattle.std.proofs.lemmas.List.Folds.{list_any-append}
 use Rattle.numbers.specs.Sets.{has, set_where}
-use Rattle.numbers.proofs.SetLemmas.{is_set_where, IsSet-set_where, has-set_where}
+use Rattle.numbers.proofs.SetLemmas.{has-set_where, is_set_where, set_where-same}
 use Rattle.coterie_file.specs.Names.{number_of}
 use Rattle.coterie_file.specs.Reading.{is_number, quorum_of}
-
--- sets by tests that agree
-set_where-same : (p q : ℕ → Bool) → ((i : ℕ) → i < 64 → p i ≡ q i) → set_where p ≡ set_where q
-set_where-same p q e = is_set_where (set_where p) q (IsSet-set_where p) (λ i lt. has-set_where p i lt ∙ e i lt)
 
 eqb_turn : (i j : ℕ) → eqb i j ≡ eqb j i
 eqb_turn i j = elim (cases_eq i j) as (λ _. eqb i j ≡ eqb j i) [

@@ -13,6 +13,7 @@ use Rattle.std.proofs.lemmas.Slice.Eq.{bytes_eq-Decides}
 use Rattle.quorum_set.specs.Coteries.{IsCoterie, first_fault}
 use Rattle.numbers.specs.Sets.{has, IsSet}
 use Rattle.numbers.proofs.SetLemmas.{IsSet-set_where, has-set_where, has-above}
+use Rattle.numbers.proofs.Options.{option_map-None, option_or-None, position-None}
 use Rattle.coterie_file.specs.Capacities.{capacities_fault}
 use Rattle.coterie_file.specs.Lists.{NameLists, lists_at}
 use Rattle.coterie_file.specs.Named.{NamedSystem, IsNamed}
@@ -20,7 +21,7 @@ use Rattle.coterie_file.specs.Names.{has_name, number_of, name_at, AllDiffer, fi
 use Rattle.coterie_file.specs.Reading.{is_number, quorum_of, system_of, lists_fault, named_of, coterie_in, coterie_at, ListsCoterie, Describes}
 use Rattle.coterie_file.specs.declared.fault.FileFault.TheVariants.{UnknownName, RepeatedMember, Coterie}
 use Rattle.coterie_file.proofs.CapacityLemmas.{AreCapacities-from_no_fault, capacities_fault-none}
-use Rattle.coterie_file.proofs.NameLaws.{has_name-true, position-None, position-none, option_or-None, option_map-None, AllDiffer-from_no_repeat, first_repeat-none}
+use Rattle.coterie_file.proofs.NameLaws.{has_name-true, position-none, AllDiffer-from_no_repeat, first_repeat-none}
 use Rattle.coterie_file.proofs.NameLaws.{AreNames-from_no_fault, names_fault-none}
 use Rattle.coterie_file.proofs.ReadingLemmas.{unless-Ok}
 

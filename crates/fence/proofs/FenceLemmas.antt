@@ -1,17 +1,11 @@
 -- The grants that were seen, one voter at a time.
-use Rattle.std.proofs.Common.{◌≡◌, ◌≢◌, ℕ, ◌+◌, ◌<◌, ◌≤◌, Bool, true, false, eqb, List, length, refl, sym, ap, ◌∙◌, arith}
+use Rattle.std.proofs.Common.{◌≡◌, ◌≢◌, ℕ, ◌+◌, ◌<◌, ◌≤◌, true, false, eqb, List, length, refl, sym, ap, ◌∙◌, arith}
 use Rattle.std.specs.Prelude.{max, slice_index, slice_set}
 use Rattle.std.proofs.Math.Nat.{le-max_left, le-max_right}
 use Rattle.std.proofs.lemmas.Bool.Decides.{nat_tests}
 use Rattle.std.proofs.lemmas.Grind.{get_or-set_at}
 use Rattle.std.proofs.lemmas.List.{get_or-set_other, length-set}
 use Rattle.fence.specs.Passes.{HasSeen, SeesAlso, raised}
-
-pub below_next : (f : ℕ → Bool) (n : ℕ) → ((u : ℕ) → u < n → f u ≡ true) → f n ≡ true → (u : ℕ) → u < n + 1 → f u ≡ true
-below_next f n h here u lt = elim (eqb u n) as (λ b. eqb u n ≡ b → f u ≡ true) [
-  | true ↦ λ e. let same : u ≡ n = grind (arith, nat_tests) in ap f same ∙ here
-  | false ↦ λ e. h u (grind (arith, nat_tests))
-] refl
 
 -- below this voter what was seen is raised, and from it on it is as before
 pub record Raised (old shown : List ℕ) (n : ℕ) (seen : List ℕ) : Type 0 where

@@ -1,12 +1,12 @@
 -- The bounds of Naor and Wool.
-use Rattle.std.proofs.Common.{◌≡◌, ℕ, ◌*◌, ◌<◌, ◌≤◌, List, [], ◌∷◌, length, get_or, suc, sum, sum_by, refl, sym, ap, subst, ◌∙◌, inl, inr, arith}
+use Rattle.std.proofs.Common.{◌≡◌, ℕ, ◌*◌, ◌<◌, ◌≤◌, List, [], length, get_or, sum, sum_by, sym, ap, subst, ◌∙◌, inl, inr, arith}
 use Rattle.std.proofs.lemmas.Bool.{cases_lt}
 use Rattle.std.proofs.Math.Nat.{div-le_self, mul-le-mul_left, mul-le-mul_right, le_of_mul-le-mul_right}
 use Rattle.divisor.specs.Gcd.{gcd_of, lowest_terms}
 use Rattle.divisor.proofs.GcdLemmas.{lowest_terms-exact}
-use Rattle.numbers.specs.Counts.{greatest_below, least_of}
+use Rattle.numbers.specs.Counts.{greatest_below}
 use Rattle.numbers.specs.Sums.{sum_below}
-use Rattle.numbers.proofs.CountLemmas.{greatest_below-le, greatest_below-reached}
+use Rattle.numbers.proofs.CountLemmas.{greatest_below-le, greatest_below-reached, least_of-reached}
 use Rattle.numbers.proofs.SumsBelow.{sum_below-list, sum_below-one, sum_by-one}
 use Rattle.quorum_set.specs.Capacities.{AreCapacities}
 use Rattle.quorum_set.specs.Coteries.{QuorumSystem, IsCoterie}
@@ -15,17 +15,6 @@ use Rattle.certificate.specs.Certificates.{Weighted, busiest_count, cycle_count,
 use Rattle.certificate.specs.Loads.{weight_within}
 use Rattle.known_loads.specs.SmallestQuorums.{smallest_size, smallest_capacity}
 use Rattle.known_loads.proofs.Duality.{Bears, Bears-cycle, average, one_quorum}
-
--- the smallest value is one of the values
-least_of-reached : (f : List ℕ → ℕ) (qs : List (List ℕ)) → 0 < length qs → (k : ℕ) × (k < length qs) × (least_of f qs ≡ f (get_or qs k []))
-least_of-reached f [] some = absurd (omega arith)
-least_of-reached f (q ∷ []) some = (0, omega arith, refl)
-least_of-reached f (q ∷ r ∷ qs) some =
-    let found = least_of-reached f (r ∷ qs) (omega arith) in
-    elim (cases_lt (f q) (least_of f (r ∷ qs))) [
-      | inl less ↦ (0, omega arith, omega (arith, less))
-      | inr more ↦ (suc found.0, omega (arith, found.1), omega (arith, more, found.2))
-    ]
 
 -- Counts without capacities
 

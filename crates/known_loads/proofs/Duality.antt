@@ -1,5 +1,5 @@
 -- Weights of voters bound the counts of voters: the weak duality of linear programs, in whole numbers.
-use Rattle.std.proofs.Common.{◌≡◌, ℕ, ◌+◌, ◌*◌, ◌<◌, ◌≤◌, Bool, true, false, cond, List, [], ◌∷◌, length, get_or, zero, suc, sum, sum_by, sym, ap, ◌∙◌, inl, inr, arith}
+use Rattle.std.proofs.Common.{◌≡◌, ℕ, ◌+◌, ◌*◌, ◌<◌, ◌≤◌, Bool, true, false, cond, List, [], ◌∷◌, length, get_or, suc, sum, sum_by, sym, ap, ◌∙◌, inl, inr, arith}
 use Rattle.std.specs.List.{All}
 use Rattle.std.proofs.lemmas.Bool.{cases_eq}
 use Rattle.std.proofs.lemmas.List.Sums.{sum_by-cons}
@@ -10,7 +10,7 @@ use Rattle.numbers.specs.Sets.{has, Ascends}
 use Rattle.numbers.specs.Sums.{sum_below}
 use Rattle.numbers.proofs.CountLemmas.{least_of-le}
 use Rattle.numbers.proofs.SetLemmas.{has-tail, Ascends-all_below}
-use Rattle.numbers.proofs.SumsBelow.{sum_below-same, sum_below-add, sum_below-times, sum_below-members, sum_by-one}
+use Rattle.numbers.proofs.SumsBelow.{sum_below-add, sum_below-cross, sum_below-members, sum_below-same, sum_below-times, sum_by-one}
 use Rattle.quorum_set.specs.Coteries.{QuorumSystem, IsCoterie}
 use Rattle.quorum_set.specs.Counts.{count_of}
 use Rattle.quorum_set.specs.Meetings.{AllMeet}
@@ -80,15 +80,6 @@ pub Bears-cycle : (s : QuorumSystem) (weights : List ℕ) → IsCoterie s → le
 Bears-cycle s weights is long = Bears-weights s.voters s.quorums weights long (λ j lt. quorum-Ascends s j is lt)
 
 -- Two lists of weights
-
--- sums of products, term by term with factors in the ratio p / q at most
-sum_below-cross : (n p q : ℕ) (f c d : ℕ → ℕ) → ((i : ℕ) → i < n → c i * q ≤ p * d i)
-    → sum_below (λ i. f i * c i) n * q ≤ p * sum_below (λ i. f i * d i) n
-sum_below-cross zero p q f c d bound = omega arith
-sum_below-cross (suc n) p q f c d bound =
-    let rest = sum_below-cross n p q f c d (λ i lt. bound i (omega arith)) in
-    let last : f n * (c n * q) ≤ f n * (p * d n) = mul-le-mul_left (f n) (bound n (omega arith)) in
-    omega (arith, rest, last)
 
 -- a member's weight is within the weight of a set
 sum_by-has : (f : ℕ → ℕ) (q : List ℕ) (v : ℕ) → has q v ≡ true → f v ≤ sum_by f q

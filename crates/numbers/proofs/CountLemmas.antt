@@ -1,6 +1,6 @@
 -- How often a number is in a list, and greatest values.
 use Rattle.std.proofs.Common.{◌≡◌, ℕ, ◌+◌, ◌<◌, ◌≤◌, Bool, true, false, cond, eqb, leb, List, [], ◌∷◌, ◌++◌, length, get_or, zero, suc, take, min, sum_by, filter, sym, refl, ap, ◌∙◌, inl, inr, arith}
-use Rattle.std.specs.List.{flat_map, range_with_len}
+use Rattle.std.specs.List.{All, flat_map, range_with_len}
 use Rattle.std.proofs.lemmas.Bool.{cases_Bool, cases_eq, cases_lt, eq-eqb, ne_eqb, lt-leb, false_from_ne_true, both_ways}
 use Rattle.std.proofs.lemmas.List.{append-nil, append_assoc}
 use Rattle.std.specs.List.Sorted.{IsPermutation}
@@ -177,3 +177,19 @@ least_of-le f (q ∷ []) zero d lt = omega arith
 least_of-le f (q ∷ []) (suc j) d lt = absurd (omega arith)
 least_of-le f (q ∷ r ∷ qs) zero d lt = omega arith
 least_of-le f (q ∷ r ∷ qs) (suc j) d lt = omega (arith, least_of-le f (r ∷ qs) j d (omega arith))
+
+-- the smallest value is one of the values
+pub least_of-reached : (f : List ℕ → ℕ) (qs : List (List ℕ)) → 0 < length qs → (k : ℕ) × (k < length qs) × (least_of f qs ≡ f (get_or qs k []))
+least_of-reached f [] some = absurd (omega arith)
+least_of-reached f (q ∷ []) some = (0, omega arith, refl)
+least_of-reached f (q ∷ r ∷ qs) some =
+    let found = least_of-reached f (r ∷ qs) (omega arith) in
+    elim (cases_lt (f q) (least_of f (r ∷ qs))) [
+      | inl less ↦ (0, omega arith, omega (arith, less))
+      | inr more ↦ (suc found.0, omega (arith, found.1), omega (arith, more, found.2))
+    ]
+
+-- all values are t
+pub least_of-level : (f : List ℕ → ℕ) (qs : List (List ℕ)) (t : ℕ) → 0 < length qs → All (λ q. f q ≡ t) qs → least_of f qs ≡ t
+least_of-level f qs t some level =
+    let found = least_of-reached f qs some in found.2 ∙ level found.0 [] found.1

@@ -113,3 +113,14 @@ has-at s k i lt e = list_any_at (λ j. eqb j i) s k 0 lt (eq-eqb _ _ e)
 
 pub has-append : (s t : List ℕ) (i : ℕ) → has (s ++ t) i ≡ (has s i || has t i)
 has-append s t i = list_any-append (λ j. eqb j i) s t
+
+-- sets by tests that agree
+pub set_where-same : (p q : ℕ → Bool) → ((i : ℕ) → i < 64 → p i ≡ q i) → set_where p ≡ set_where q
+set_where-same p q e = is_set_where (set_where p) q (IsSet-set_where p) (λ i lt. has-set_where p i lt ∙ e i lt)
+
+-- a member of a set is below 64
+pub has-IsSet_below : (s : List ℕ) (v : ℕ) → IsSet s → has s v ≡ true → v < 64
+has-IsSet_below s v h member = elim (cases_lt v 64) [
+  | inl less ↦ less
+  | inr above ↦ absurd (false≢true (sym (has-above 0 64 s v h above) ∙ member))
+]

@@ -3,6 +3,7 @@ use Rattle.std.proofs.Common.{◌≡◌, ℕ, ◌+◌, ◌*◌, ◌%◌, ◌<◌
 use Rattle.std.proofs.lemmas.Bool.{cases_eq, cases_lt, eq-eqb, ne_eqb, le-leb, lt-leb}
 use Rattle.std.proofs.lemmas.List.Sums.{sum_by-cons}
 use Rattle.std.proofs.lemmas.Nat.{mod-mul-add}
+use Rattle.std.proofs.Math.Nat.{mul-le-mul_left}
 use Rattle.numbers.specs.Counts.{times}
 use Rattle.numbers.specs.Sets.{has, Ascends}
 use Rattle.numbers.specs.Sums.{sum_below}
@@ -32,6 +33,20 @@ pub sum_below-times : (n k : ℕ) (f : ℕ → ℕ) → sum_below (λ i. k * f i
 sum_below-times zero k f = omega arith
 sum_below-times (suc n) k f = omega (arith, sum_below-times n k f)
 
+-- all terms are m
+pub sum_below-level : (n m : ℕ) (f : ℕ → ℕ) → ((i : ℕ) → i < n → f i ≡ m) → sum_below f n ≡ n * m
+sum_below-level zero m f level = omega arith
+sum_below-level (suc n) m f level = omega (arith, level n (omega arith), sum_below-level n m f (λ i lt. level i (omega arith)))
+
+-- sums of products, term by term with factors in the ratio p / q at most
+pub sum_below-cross : (n p q : ℕ) (f c d : ℕ → ℕ) → ((i : ℕ) → i < n → c i * q ≤ p * d i)
+    → sum_below (λ i. f i * c i) n * q ≤ p * sum_below (λ i. f i * d i) n
+sum_below-cross zero p q f c d bound = omega arith
+sum_below-cross (suc n) p q f c d bound =
+    let rest = sum_below-cross n p q f c d (λ i lt. bound i (omega arith)) in
+    let last : f n * (c n * q) ≤ f n * (p * d n) = mul-le-mul_left (f n) (bound n (omega arith)) in
+    omega (arith, rest, last)
+
 -- the first term apart
 pub sum_below-head : (n : ℕ) (f : ℕ → ℕ) → sum_below f (suc n) ≡ f 0 + sum_below (λ i. f (suc i)) n
 sum_below-head zero f = omega arith
@@ -44,7 +59,7 @@ sum_below-list h (x ∷ xs) =
     omega (arith, sum_below-head (length xs) (λ i. h (get_or (x ∷ xs) i 0)), sum_below-list h xs, sum_by-cons h x xs)
 
 -- a sum over c numbers, in two parts
-sum_below-parts : (a b c : ℕ) (f : ℕ → ℕ) → c ≡ a + b → sum_below f c ≡ sum_below f a + sum_below (λ i. f (a + i)) b
+pub sum_below-parts : (a b c : ℕ) (f : ℕ → ℕ) → c ≡ a + b → sum_below f c ≡ sum_below f a + sum_below (λ i. f (a + i)) b
 sum_below-parts a zero c f e = let same : c ≡ a = omega arith in omega (arith, ap (λ n. sum_below f n) same)
 sum_below-parts a (suc b) zero f e = absurd (omega arith)
 sum_below-parts a (suc b) (suc c) f e =

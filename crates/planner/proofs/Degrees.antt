@@ -18,11 +18,6 @@ sum_below-degrees n (q ∷ qs) h =
     let size = sum_below-members 0 n (λ _. 1) q (All-head (Ascends 0 n) q qs h) ∙ sum_by-one q in
     omega (arith, split, added, size, sum_below-degrees n qs (All-tail (Ascends 0 n) q qs h), sum_by-cons length q qs)
 
--- where all of n values are one, they sum to n times it
-pub sum_below-level : (n m : ℕ) (f : ℕ → ℕ) → ((i : ℕ) → i < n → f i ≡ m) → sum_below f n ≡ n * m
-sum_below-level zero m f level = omega arith
-sum_below-level (suc n) m f level = omega (arith, level n (omega arith), sum_below-level n m f (λ i lt. level i (omega arith)))
-
 pub sum_below-most : (n m : ℕ) (f : ℕ → ℕ) → ((i : ℕ) → i < n → f i ≤ m) → sum_below f n ≤ n * m
 sum_below-most zero m f most = omega arith
 sum_below-most (suc n) m f most = omega (arith, most n (omega arith), sum_below-most n m f (λ i lt. most i (omega arith)))

@@ -12,13 +12,13 @@ use Rattle.numbers.specs.Sets.{has, Ascends}
 use Rattle.quorum_set.specs.Capacities.{AreCapacities}
 use Rattle.quorum_set.specs.Coteries.{QuorumSystem, IsCoterie}
 use Rattle.certificate.specs.Loads.{weight_on, weight_within}
-use Rattle.numbers.specs.Counts.{least_of}
 use Rattle.certificate.specs.Certificates.{IsCertificate, capacity_total, cycle_count, cycle_ratio, lightest_quorum}
-use Rattle.numbers.proofs.CountLemmas.{least_of-le}
+use Rattle.numbers.proofs.CountLemmas.{least_of-le, least_of-level}
 use Rattle.numbers.specs.Sums.{sum_below}
 use Rattle.numbers.proofs.SetLemmas.{Ascends-all_below}
+use Rattle.numbers.proofs.SumsBelow.{sum_below-level}
 use Rattle.planner.specs.Uniform.{AreEqual, IsUniform, ones, all_ones, degree_of}
-use Rattle.planner.proofs.Degrees.{sum_below-degrees, sum_below-level, sum_below-level_from_most, sum_by-level, sum_by-level_from_least, sum_below-most, sum_by-least}
+use Rattle.planner.proofs.Degrees.{sum_below-degrees, sum_below-level_from_most, sum_by-level, sum_by-level_from_least, sum_below-most, sum_by-least}
 
 -- the weight on a voter's quorums is the voter's degree
 weight_on-ones : (i : ℕ) (qs : List (List ℕ)) → weight_on i qs (ones (length qs)) ≡ count_by (λ q. has q i) qs
@@ -33,14 +33,6 @@ weight_within-ones : (n : ℕ) (q : List ℕ) → All (λ i. i < n) q → weight
 weight_within-ones n [] h = refl
 weight_within-ones n (x ∷ xs) h =
     omega (arith, sum_by-cons (λ i. get_or (ones n) i 0) x xs, get_or-ones n x (All-head (λ i. i < n) x xs h), weight_within-ones n xs (All-tail (λ i. i < n) x xs h))
-
-least_of-level : (f : List ℕ → ℕ) (qs : List (List ℕ)) (t : ℕ) → 0 < length qs → All (λ q. f q ≡ t) qs → least_of f qs ≡ t
-least_of-level f [] t some h = absurd (omega arith)
-least_of-level f (q ∷ []) t some h = All-head (λ q. f q ≡ t) q [] h
-least_of-level f (q ∷ r ∷ qs) t some h =
-    let first = All-head (λ q. f q ≡ t) q (r ∷ qs) h in
-    let rest = least_of-level f (r ∷ qs) t (omega arith) (All-tail (λ q. f q ≡ t) q (r ∷ qs) h) in
-    omega (arith, first, rest)
 
 -- the quorums ascend below the number of voters
 Ascends-quorums : (s : QuorumSystem) → IsCoterie s → All (Ascends 0 s.voters) s.quorums

@@ -27,7 +27,8 @@ use Rattle.world.specs.Ranges.{IsAddressed}
 use Rattle.world.specs.Runs.{IsReached, after, run_of, start, start_by}
 use Rattle.world.specs.Steps.{Planned, WorldState, dealing_of, step, voter_at}
 use Rattle.progress.specs.Rules.{Laws, VoterLaws}
-use Rattle.progress.proofs.Moves.{AllByRecursion-get, ClientMoved, IsReached-after, IsReminder, Moved, Moved-step, OnlySent, VoterMoved, with_state}
+use Rattle.progress.proofs.Moves.{ClientMoved, IsReached-after, IsReminder, Moved, Moved-step, OnlySent, VoterMoved, with_state}
+use Rattle.numbers.proofs.Lists.{AllByRecursion-append, AllByRecursion-get, AllByRecursion-weaker}
 
 -- each voter has seen the stamp of each request that it knows
 abbrev pub HasSeen : List VoterState → Type 0
@@ -49,14 +50,6 @@ pub record Always (w : WorldState) : Type 0 where
   pub given : AllByRecursion (WasGiven w.voters) w.sent
 
 -- ---- lists of messages
-
-pub AllByRecursion-append : (P : Message → Type 0) (ms ns : List Message) → AllByRecursion P ms → AllByRecursion P ns → AllByRecursion P (ms ++ ns)
-AllByRecursion-append P [] ns h k = k
-AllByRecursion-append P (m ∷ ms) ns h k = (h.0, AllByRecursion-append P ms ns h.1 k)
-
-pub AllByRecursion-weaker : (P Q : Message → Type 0) → ((m : Message) → P m → Q m) → (ms : List Message) → AllByRecursion P ms → AllByRecursion Q ms
-AllByRecursion-weaker P Q f [] h = tt
-AllByRecursion-weaker P Q f (m ∷ ms) h = (f m h.0, AllByRecursion-weaker P Q f ms h.1)
 
 asks_given : (vs : List VoterState) (out : List ToVoter) → AllByRecursion (WasGiven vs) (map kinds.ToVoter out)
 asks_given vs [] = tt

@@ -6,6 +6,7 @@ use Rattle.std.proofs.lemmas.Bool.{cases_eq, false≢true}
 use Rattle.std.proofs.lemmas.Bool.Decides.{nat_tests}
 use Rattle.std.proofs.lemmas.Option.{none-some, same_Some}
 use Rattle.numbers.specs.Sets.{IsSet, has}
+use Rattle.numbers.proofs.Lists.{AllByRecursion-append, AllByRecursion-get, AllByRecursion-weaker}
 use Rattle.message.specs.declared.message.Message.{Message}
 use Rattle.message.specs.declared.message.Message.TheVariants as kinds
 use Rattle.message.specs.declared.message.ToClient.{ToClient}
@@ -34,9 +35,9 @@ use Rattle.requester.specs.Words.{holds_under, is_idle, is_member, is_spent, mem
 use Rattle.world.specs.Coherence.{AskOk, IsCoherent, MessageOk}
 use Rattle.world.specs.Steps.{WorldState, client_at, voter_at}
 use Rattle.progress.specs.Overtaking.{IsKnownEverywhere, StillRuns}
-use Rattle.progress.proofs.Always.{AllByRecursion-append, AllByRecursion-weaker, Always, IsUpTo, WasGiven, granted_rises, is_named}
+use Rattle.progress.proofs.Always.{Always, IsUpTo, WasGiven, granted_rises, is_named}
 use Rattle.progress.specs.Rules.{ClientLaws, Laws, VoterLaws}
-use Rattle.progress.proofs.Moves.{AllByRecursion-get, Came, ClientMoved, IsReminder, Moved, OnlySent, VoterMoved}
+use Rattle.progress.proofs.Moves.{Came, ClientMoved, IsReminder, Moved, OnlySent, VoterMoved}
 
 -- ---- a client's step
 

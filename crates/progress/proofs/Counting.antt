@@ -1,5 +1,5 @@
 -- how often another client enters
-use Rattle.std.proofs.Common.{◌≡◌, ◌≢◌, ℕ, ◌+◌, ◌<◌, ◌≤◌, Bool, true, false, cond, List, [], ◌∷◌, ◌++◌, Ok, refl, sym, ap, subst, ◌∙◌, ◌⊎◌, inl, inr, arith, eqb, append_assoc}
+use Rattle.std.proofs.Common.{◌≡◌, ◌≢◌, ℕ, ◌+◌, ◌<◌, ◌≤◌, true, false, cond, List, [], ◌∷◌, ◌++◌, Ok, refl, sym, ap, subst, ◌∙◌, ◌⊎◌, inl, inr, arith, eqb, append_assoc}
 use Rattle.std.specs.Prelude.{◌==◌, ◌&&◌}
 use Rattle.std.proofs.lemmas.Bool.{cases_eq, cases_lt, false≢true}
 use Rattle.std.proofs.lemmas.Bool.Decides.{nat_tests}
@@ -19,6 +19,7 @@ use Rattle.requester.specs.RequesterContract.{IsLater, KeepsQuorum, Sees}
 use Rattle.requester.specs.Steps as requester
 use Rattle.requester.specs.Words.{held_of, holds, holds_under, is_asking, is_idle, is_inside, is_member}
 use Rattle.numbers.specs.Sets.{has}
+use Rattle.numbers.proofs.Options.{false-by}
 use Rattle.world.specs.declared.step.Event.{Event}
 use Rattle.world.specs.declared.step.Step.{Step}
 use Rattle.world.specs.Coherence.{IsCoherent}
@@ -238,17 +239,13 @@ IsLater-run laws w (s ∷ steps) u r c =
     let now = laws.coherent (with_state w x) next in
     IsLater-then _ (client_at x.clients c) _ (IsLater-moved laws.client u x ok now (Moved-step (dealing_of w.plans) u ok.numbered s) c) (IsLater-run laws w steps x next c)
 
-busy_by : (a b : Bool) → (a ≡ true → b ≡ true) → b ≡ false → a ≡ false
-busy_by true b goes is = absurd (false≢true (sym is ∙ goes refl))
-busy_by false b goes is = refl
-
 -- a request that still runs later runs before
 still_before : (w u z : WorldState) (c : ℕ) → stamp_of w c ≤ stamp_of u c → IsLater (client_at u.clients c) (client_at z.clients c) → StillRuns w z c → StillRuns w u c
 still_before w u z c least later runs =
     let rises = later.stamp in
     let stamp = runs.same in
     let same : stamp_of u c ≡ stamp_of z c = omega arith in
-    record { runs = busy_by _ _ (later.idle same) runs.runs; same = omega arith }
+    record { runs = false-by _ _ (later.idle same) runs.runs; same = omega arith }
 
 -- a request that runs, the steps so far, and those that are left
 Entries-run : (laws : Laws) (w : Planned) (c d : ℕ) → d ≢ c → (steps : List Step) (u : WorldState) → IsReached (with_state w u) → Always u → StillRuns w.state u c

@@ -1,6 +1,6 @@
 -- what clients gave back and what voters finished fit together, after every run
-use Rattle.std.proofs.Common.{◌≡◌, ℕ, zero, suc, ◌+◌, ◌<◌, ◌≤◌, Bool, true, false, List, [], ◌∷◌, map, length, Option, Some, Ok, refl, sym, ap, subst, ◌∙◌, ◌⊎◌, inl, inr, arith}
-use Rattle.std.specs.Prelude.{replicate, slice_index}
+use Rattle.std.proofs.Common.{◌≡◌, ℕ, ◌+◌, ◌<◌, ◌≤◌, Bool, true, false, List, [], ◌∷◌, map, length, Option, Some, Ok, refl, sym, ap, subst, ◌∙◌, ◌⊎◌, inl, inr, arith}
+use Rattle.std.specs.Prelude.{slice_index}
 use Rattle.std.specs.List.{filter, list_all, range_with_len}
 use Rattle.std.specs.Result.{result_ok}
 use Rattle.std.proofs.lemmas.Bool.{cases_eq, cases_lt, false≢true}
@@ -9,6 +9,8 @@ use Rattle.std.proofs.lemmas.List.{get_or_past}
 use Rattle.std.proofs.lemmas.List.FromFn.{get_or-map-range_with_len, length-map-range_with_len}
 use Rattle.std.proofs.lemmas.Option.{none-some, same_Some}
 use Rattle.numbers.specs.Bounds.{max_voters}
+use Rattle.numbers.proofs.Options.{false-by}
+use Rattle.numbers.proofs.Lists.{AllByRecursion-get, slice_index-replicate_zero}
 use Rattle.message.specs.declared.message.Message.TheVariants as kinds
 use Rattle.message.specs.declared.message.ToClient.{ToClient}
 use Rattle.message.specs.declared.message.ClientBody.{ClientBody}
@@ -35,7 +37,7 @@ use Rattle.world.specs.Steps.{Planned, WorldState, client_at, dealing_of, step, 
 use Rattle.progress.proofs.Always.{granted_later, new_voter, new_voters}
 use Rattle.progress.proofs.Behind.{ask-Ok, grant_moved, meets}
 use Rattle.progress.specs.Rules.{FittingLaws}
-use Rattle.progress.proofs.Moves.{AllByRecursion-get, ClientMoved, IsReached-after, Moved, Moved-step, VoterMoved, with_state}
+use Rattle.progress.proofs.Moves.{ClientMoved, IsReached-after, Moved, Moved-step, VoterMoved, with_state}
 
 -- the voter finished no request of the client that runs
 pub record Unfinished (x : ClientState) (c : ℕ) (y : VoterState) : Type 0 where
@@ -81,10 +83,6 @@ held_under x v is = grind (arith, nat_tests)
 pub under_holds : (x : ClientState) (v g : ℕ) → holds_under x v g ≡ true → holds x v ≡ true
 under_holds x v g is = grind (arith, nat_tests)
 
-busy_by : (a b : Bool) → (a ≡ true → b ≡ true) → b ≡ false → a ≡ false
-busy_by true b goes is = absurd (false≢true (sym is ∙ goes refl))
-busy_by false b goes is = refl
-
 pub take-Ok : (x : ClientState) (m : ToClient) (o : requester.Outcome) → requester.step x (requester.Takes m) ≡ Ok o → requester.take x m ≡ o
 unfolding requester.step
 take-Ok x m o e = same_Some _ o (ap result_ok e)
@@ -99,7 +97,7 @@ Unfinished-later x z c y later ok =
       most = omega arith;
       busy = λ busy. elim (cases_lt x.stamp z.stamp) [
         | inl less ↦ omega arith
-        | inr least ↦ let same : x.stamp ≡ z.stamp = omega arith in let before = ok.busy (busy_by _ _ (later.idle same) busy) in omega arith
+        | inr least ↦ let same : x.stamp ≡ z.stamp = omega arith in let before = ok.busy (false-by _ _ (later.idle same) busy) in omega arith
       ];
     }
 
@@ -271,11 +269,6 @@ Lacks-take x m contract h (to_client.Inquire g) is =
     Lacks-other x m (requester.take x m) contract (ap (λ c. (requester.take_body (requester.see x m.seen) m.voter c).state.phase) is ∙ phase-inquired (requester.see x m.seen) m.voter g)
     (subst NotLocked (sym is) tt) h
 
-zeros : (n v : ℕ) → slice_index (replicate n 0) v ≡ 0
-zeros zero v = refl
-zeros (suc n) zero = refl
-zeros (suc n) (suc v) = zeros n v
-
 none_held : (x : ClientState) (v : ℕ) → held_of x v ≡ 0 → holds x v ≡ false
 none_held x v none = grind (arith, nat_tests)
 
@@ -287,7 +280,7 @@ lacks_all x (v ∷ vs) none some = (let here = none v in grind (arith, nat_tests
 Lacks-client : (x z : ClientState) (cause : requester.Cause) (o : requester.Outcome) → IsSound z → o.state ≡ z → requester.step x cause ≡ Ok o → MeetsContract x cause o → Lacks x → Lacks z
 Lacks-client x z (requester.Asks q) o sound is taken contract h asks =
     let state : requester.begun x q ≡ z = ap (λ (p : requester.Outcome). p.state) (ask-Ok x q o taken) ∙ is in
-    subst (λ (w : ClientState). IsSound w → is_covered w ≡ false) state (λ ok. lacks_all (requester.begun x q) q (λ v. none_held (requester.begun x q) v (zeros max_voters v)) (ok.asked refl)) sound
+    subst (λ (w : ClientState). IsSound w → is_covered w ≡ false) state (λ ok. lacks_all (requester.begun x q) q (λ v. none_held (requester.begun x q) v (slice_index-replicate_zero max_voters v)) (ok.asked refl)) sound
 Lacks-client x z (requester.Takes m) o sound is taken contract h asks =
     let same = take-Ok x m o taken in
     subst (λ (w : ClientState). Lacks w) (ap (λ (p : requester.Outcome). p.state) same ∙ is)
@@ -382,8 +375,8 @@ new_client n limit c = elim (cases_lt c n) [
 
 Pair-start : (c v i l j m : ℕ) → Pair c v (requester.start i l) (voter.start j m)
 Pair-start c v i l j m = record {
-  unfinished = record { most = (let none = zeros 64 c in omega arith); busy = λ busy. absurd (false≢true (sym busy)) };
-  last = (let none = zeros 64 v in omega arith);
+  unfinished = record { most = (let none = slice_index-replicate_zero 64 c in omega arith); busy = λ busy. absurd (false≢true (sym busy)) };
+  last = (let none = slice_index-replicate_zero 64 v in omega arith);
   given = λ below g held. absurd (none-some g held);
 }
 

@@ -1,10 +1,8 @@
 -- what one step of a world changes
-use Rattle.std.proofs.Common.{◌≡◌, ◌≢◌, ℕ, ◌<◌, Bool, true, false, List, [], ◌∷◌, ◌++◌, map, length, set, Option, Some, None, Result, Ok, Err, refl, sym, ap, subst, ◌∙◌, ◌⊎◌, inl, inr, arith}
-use Rattle.std.specs.Prelude.{zero, suc, nat_lt, slice_get}
-use Rattle.std.specs.List.{AllByRecursion}
+use Rattle.std.proofs.Common.{◌≡◌, ◌≢◌, ℕ, ◌<◌, Bool, true, false, List, [], ◌∷◌, ◌++◌, map, length, set, Option, Some, None, Result, Ok, Err, refl, sym, ap, ◌∙◌, ◌⊎◌, inl, inr, arith}
+use Rattle.std.specs.Prelude.{nat_lt, slice_get}
 use Rattle.std.proofs.lemmas.Bool.Decides.{nat_tests}
 use Rattle.std.proofs.lemmas.List.{append-nil, get_or-set_same, get_or-set_other}
-use Rattle.std.proofs.lemmas.Option.{none-some, same_Some}
 use Rattle.message.specs.declared.message.Message.{Message}
 use Rattle.message.specs.declared.message.Message.TheVariants as kinds
 use Rattle.message.specs.declared.message.ToVoter.{ToVoter}
@@ -22,11 +20,7 @@ use Rattle.world.specs.Ranges.{IsAddressed, IsNumbered}
 use Rattle.world.specs.Runs.{IsReached, after, run_of, start_by}
 use Rattle.world.specs.Steps.{Dealing, Outcome, Planned, WorldState, after_client, after_voter, client_at, come, dealing_of, draw_of, events, exchange, if_client, if_voter}
 use Rattle.world.specs.Steps.{next_ticket, quorum_dealt, say, step, voter_at}
-
-pub AllByRecursion-get : (P : Message → Type 0) (ms : List Message) (k : ℕ) (m : Message) → AllByRecursion P ms → slice_get ms k ≡ Some m → P m
-AllByRecursion-get P [] k m h is = absurd (none-some m is)
-AllByRecursion-get P (n ∷ ns) zero m h is = subst P (same_Some n m is) h.0
-AllByRecursion-get P (n ∷ ns) (suc k) m h is = AllByRecursion-get P ns k m h.1 is
+use Rattle.numbers.proofs.Lists.{AllByRecursion-get}
 
 -- what came is a message that was sent to this client
 abbrev pub Came : WorldState → ℕ → requester.Cause → Type 0

@@ -4,6 +4,8 @@ use Rattle.std.specs.List.{AllByRecursion, filter}
 use Rattle.std.proofs.lemmas.Bool.{cases_eq, false≢true}
 use Rattle.std.proofs.lemmas.Bool.Decides.{nat_tests}
 use Rattle.numbers.specs.Sets.{has}
+use Rattle.numbers.proofs.Options.{false-by}
+use Rattle.numbers.proofs.Lists.{AllByRecursion-append, AllByRecursion-get}
 use Rattle.message.specs.declared.message.Message.{Message}
 use Rattle.message.specs.declared.message.Message.TheVariants as kinds
 use Rattle.message.specs.declared.message.ToClient.{ToClient}
@@ -25,11 +27,11 @@ use Rattle.world.specs.declared.step.Step.{Step}
 use Rattle.world.specs.Coherence.{AskOk, IsCoherent, MessageOk}
 use Rattle.world.specs.Runs.{IsReached, after, run_of, start, start_by}
 use Rattle.world.specs.Steps.{Planned, WorldState, client_at, dealing_of, step, voter_at}
-use Rattle.progress.proofs.Always.{AllByRecursion-append, none_entry, new_voter, new_voters}
+use Rattle.progress.proofs.Always.{none_entry, new_voter, new_voters}
 use Rattle.progress.proofs.Behind.{ask-Ok, meets}
 use Rattle.progress.proofs.Fitting.{current_busy, current_stamp, take-Ok}
 use Rattle.progress.specs.Rules.{TogetherLaws}
-use Rattle.progress.proofs.Moves.{AllByRecursion-get, ClientMoved, IsReached-after, IsReminder, Moved, Moved-step, OnlySent, VoterMoved, with_state}
+use Rattle.progress.proofs.Moves.{ClientMoved, IsReached-after, IsReminder, Moved, Moved-step, OnlySent, VoterMoved, with_state}
 
 -- a REQUEST for the request that runs went to a member of its quorum
 abbrev pub AskedBy : ClientState → ℕ → VoterBody → Type 0
@@ -60,10 +62,6 @@ idle_not_current x s idle is = false≢true (sym (current_busy x s is) ∙ idle)
 
 -- ---- a client moves
 
-not_idle : (a b : Bool) → (a ≡ true → b ≡ true) → b ≡ false → a ≡ false
-not_idle true b goes is = absurd (false≢true (sym is ∙ goes refl))
-not_idle false b goes is = refl
-
 -- a request that runs after a step, and was made before, ran before
 ran_before : (x z : ClientState) (s : ℕ) → IsLater x z → s ≤ x.stamp → is_current z s ≡ true → (z.stamp ≡ x.stamp) × (is_current x s ≡ true)
 ran_before x z s later most is =
@@ -71,7 +69,7 @@ ran_before x z s later most is =
     let rises = later.stamp in
     let stamp : z.stamp ≡ x.stamp = omega arith in
     let mine : s ≡ x.stamp = omega arith in
-    (stamp, is_current_of x s (not_idle _ _ (later.idle (sym stamp)) (current_busy z s is)) mine)
+    (stamp, is_current_of x s (false-by _ _ (later.idle (sym stamp)) (current_busy z s is)) mine)
 
 same_members : (x z : ClientState) (cause : requester.Cause) (o : requester.Outcome) → IsSound x → requester.step x cause ≡ Ok o → o.state ≡ z → KeepsQuorum x cause z
     → z.stamp ≡ x.stamp → members z ≡ members x

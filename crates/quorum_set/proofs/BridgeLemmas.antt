@@ -10,17 +10,17 @@ use Rattle.numbers.proofs.Members.{All-has}
 use Rattle.quorum_set.specs.Coteries.{are_disjoint}
 use Rattle.quorum_set.specs.Meetings.{Meet, AllMeet}
 use Rattle.quorum_set.specs.Bridges.{Bridged, IsBridge, AreBridged, first_apart, IsLeastApart}
-use Rattle.quorum_set.proofs.CoterieLemmas.{position-None, option_or_none, option_map_none}
 use Rattle.quorum_set.proofs.FaultLaws.{position-nil, some_parts}
 use Rattle.numbers.proofs.Meetings.{meet-common}
+use Rattle.numbers.proofs.Options.{option_map-None, option_or-None, position-None}
 use Rattle.quorum_set.proofs.Meetings.{AllMeet-coterie}
 
 -- no pair apart: all meet
 pub first_apart-None : (j : ℕ) (firsts seconds : List (List ℕ)) → first_apart j firsts seconds ≡ None → AreBridged firsts seconds
 first_apart-None j [] seconds e = All-nil (λ q. All (λ r. meet q r ≡ true) seconds)
 first_apart-None j (s ∷ sets) seconds e =
-    let both = option_or_none _ _ e in
-    let none = position-None (are_disjoint s) seconds (option_map_none _ _ both.0) in
+    let both = option_or-None _ _ e in
+    let none = position-None (are_disjoint s) seconds (option_map-None _ _ both.0) in
     All-cons (λ q. All (λ r. meet q r ≡ true) seconds) s sets (λ k d lt. not-false _ (none k d lt))
     (first_apart-None (j + 1) sets seconds both.1)
 

@@ -7,7 +7,7 @@ use Rattle.std.specs.List.{All, AllPairs, position}
 use Rattle.std.specs.Option.{option_or, option_map}
 use Rattle.quorum_set.specs.declared.fault.CoterieFault.TheVariants.{NoVoters, TooManyVoters, NoQuorums, TooManyQuorums, EmptyQuorum, VoterOutOfRange, Disjoint, Contained}
 use Rattle.quorum_set.specs.Coteries.{IsCoterie, first_from, first_outside, first_pair, are_disjoint, is_one_within, fault_if, first_fault, IsLeastPair}
-use Rattle.quorum_set.proofs.CoterieLemmas.{position-None}
+use Rattle.numbers.proofs.Options.{position-None}
 
 -- with the pairs counted from d on
 abbrev LeastFrom : (List ℕ → List ℕ → Bool) → ℕ → List (List ℕ) → ℕ × ℕ → Type 0

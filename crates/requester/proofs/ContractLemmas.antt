@@ -19,10 +19,11 @@ use Rattle.requester.specs.Soundness.{IsSound}
 use Rattle.requester.specs.RequesterContract.{Accepts, IsLive, IsLocked, Locks, Sees, KeepsQuorum, Says, MeetsContract, Repeats, AllRepeat}
 use Rattle.requester.specs.Steps.{Outcome, silent, cleared, begun, asked, tell, is_fresh, hold, enter_if, locked, locked_by, failed, failed_by, inquired, inquired_by, see}
 use Rattle.requester.specs.Steps.{take_body, take, released, Cause, Asks, Takes, Leaves, GivesUp, step, remind, remind_in, remind_by, remind_member}
-use Rattle.requester.proofs.Members.{absurd-true_false, both_true-from_and, AllByRecursion-weaker, AllByRecursion-map_members, AllByRecursion-flat_map_members, get_or-zeros}
+use Rattle.requester.proofs.Members.{absurd-true_false, both_true-from_and, AllByRecursion-map_members, AllByRecursion-flat_map_members, get_or-zeros}
 use Rattle.requester.proofs.Giving.{GivesBack, IsGiving, Given, GivesBack-silent, GivesBack-relinquish}
 use Rattle.requester.proofs.SoundSteps.{Counts, Counts-is_fresh, is_current-busy, HoldsMore-hold, is_inside-from_Counts, GivesBack-failed_by, is_asking-outside, IsSound-see}
 use Rattle.requester.proofs.SoundSteps.{Ok-same, ask-Ok, leave-Ok, give_up-Ok}
+use Rattle.numbers.proofs.Lists.{AllByRecursion-weaker}
 
 -- Steps that give votes back
 

@@ -5,7 +5,7 @@ use Rattle.std.specs.List.{list_any, Contains}
 use Rattle.std.proofs.lemmas.Bool.{false≢true, cases_eq, eq-eqb}
 use Rattle.std.proofs.lemmas.Bool.Decides.{nat_tests}
 use Rattle.numbers.specs.Sets.{has}
-use Rattle.numbers.proofs.SetLemmas.{has-set_where}
+use Rattle.numbers.proofs.SetLemmas.{has-IsSet_below, has-set_where}
 use Rattle.message.specs.declared.message.ToClient.{ToClient}
 use Rattle.message.specs.declared.message.ClientBody.{ClientBody}
 use Rattle.message.specs.declared.message.ClientBody.TheVariants as to_client
@@ -15,7 +15,7 @@ use Rattle.requester.specs.Soundness.{HasPlaces, IsSound}
 use Rattle.requester.specs.Steps.{Outcome, relinquish, relinquish_if, relinquish_each, fail, failed, failed_by, inquired, inquired_by, hold, is_fresh, locked, locked_by, enter_if}
 use Rattle.requester.specs.Steps.{see, take, take_body}
 use Rattle.requester.specs.Held.{IsGivenBack, KeepsMark}
-use Rattle.requester.proofs.Members.{absurd-true_false, has-IsSet_below, get_or-some_below, has-without_voter-other}
+use Rattle.requester.proofs.Members.{absurd-true_false, get_or-some_below, has-without_voter-other}
 use Rattle.std.proofs.lemmas.List.{get_or-set_same, get_or-set_other}
 use Rattle.requester.proofs.Giving.{Given, giving, GivesBack-relinquish}
 use Rattle.requester.proofs.SoundSteps.{Counts, Counts-is_fresh, GivesBack-failed_by, IsSound-see}

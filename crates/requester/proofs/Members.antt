@@ -7,7 +7,7 @@ use Rattle.std.proofs.lemmas.Bool.Decides.{nat_tests}
 use Rattle.std.proofs.lemmas.Map.Keys.{IsDistinct-cons}
 use Rattle.std.proofs.lemmas.List.{get_or_past}
 use Rattle.numbers.specs.Sets.{has, Ascends, IsSet, set_where}
-use Rattle.numbers.proofs.SetLemmas.{has-above, has-set_where, length-Ascends, IsSet-set_where}
+use Rattle.numbers.proofs.SetLemmas.{IsSet-set_where, has-IsSet_below, has-set_where, length-Ascends}
 use Rattle.requester.specs.Soundness.{AreMembers}
 use Rattle.requester.specs.Words.{with_voter, without_voter}
 
@@ -42,12 +42,6 @@ length-IsSet s h = let most = length-Ascends 0 64 s (omega arith) h in omega ari
 
 pub AreMembers-set : (s : List ℕ) → IsSet s → AreMembers s
 AreMembers-set s is = record { few = length-IsSet s is; voters = all_below-from_Ascends 0 s is; apart = IsDistinct-from_Ascends 0 s is }
-
-pub has-IsSet_below : (s : List ℕ) (v : ℕ) → IsSet s → has s v ≡ true → v < 64
-has-IsSet_below s v h member = elim (cases_lt v 64) [
-  | inl less ↦ less
-  | inr above ↦ absurd-true_false (has s v) member (has-above 0 64 s v h above)
-]
 
 pub list_all-member : (p : ℕ → Bool) (v : ℕ) (vs : List ℕ) → list_all p vs ≡ true → has vs v ≡ true → p v ≡ true
 list_all-member p v [] a b = absurd (false≢true b)
@@ -87,10 +81,6 @@ has-without_voter-other s v u below other =
 pub AllByRecursion-append : {A : Type 0} (P : A → Type 0) (xs ys : List A) → AllByRecursion P xs → AllByRecursion P ys → AllByRecursion P (xs ++ ys)
 AllByRecursion-append P [] ys h k = k
 AllByRecursion-append P (x ∷ xs) ys h k = (h.0, AllByRecursion-append P xs ys h.1 k)
-
-pub AllByRecursion-weaker : {A : Type 0} (P Q : A → Type 0) → ((x : A) → P x → Q x) → (xs : List A) → AllByRecursion P xs → AllByRecursion Q xs
-AllByRecursion-weaker P Q f [] h = tt
-AllByRecursion-weaker P Q f (x ∷ xs) h = (f x h.0, AllByRecursion-weaker P Q f xs h.1)
 
 -- what is said of each member
 pub AllByRecursion-map_members : {A : Type 0} (P : A → Type 0) (f : ℕ → A) (vs : List ℕ) → ((v : ℕ) → has vs v ≡ true → P (f v)) → AllByRecursion P (map f vs)

@@ -2,6 +2,8 @@
 use Rattle.std.proofs.Common.{◌≡◌, ℕ, ◌+◌, ◌<◌, ◌≤◌, Bool, true, false, List, refl, sym, ap, subst, ◌∙◌, inl, inr, arith, Ok}
 use Rattle.std.proofs.lemmas.Bool.Decides.{nat_tests}
 use Rattle.numbers.specs.Sets.{has, IsSet}
+use Rattle.numbers.proofs.SetLemmas.{has-IsSet_below}
+use Rattle.numbers.proofs.Lists.{AllByRecursion-weaker}
 use Rattle.message.specs.declared.message.ToVoter.{ToVoter}
 use Rattle.message.specs.declared.message.ToClient.{ToClient}
 use Rattle.message.specs.declared.message.VoterBody.TheVariants as asks
@@ -17,7 +19,7 @@ use Rattle.requester.specs.Soundness.{IsSound}
 use Rattle.requester.specs.RequesterContract.{Accepts, AllInRange, ComesInRange, IsLocked, IsReached, Locks, RemindersInRange, SaysInRange}
 use Rattle.requester.specs.Steps.{Outcome, asked, begun, tell, hold, enter_if, locked, locked_by, failed, failed_by, inquired, inquired_by, see, take, take_body, released, Cause}
 use Rattle.requester.specs.Steps.{Asks, Takes, Leaves, GivesUp, step, remind, remind_in, remind_by, remind_member}
-use Rattle.requester.proofs.Members.{AllByRecursion-map_members, AllByRecursion-flat_map_members, AllByRecursion-weaker, has-IsSet_below}
+use Rattle.requester.proofs.Members.{AllByRecursion-map_members, AllByRecursion-flat_map_members}
 use Rattle.requester.proofs.Giving.{GivesBack, IsGiving, GivesBack-relinquish}
 use Rattle.requester.proofs.SoundSteps.{is_asking-busy, ask-Ok, GivesBack-failed_by, give_up-Ok, leave-Ok, Ok-same, IsSound-see}
 

@@ -45,7 +45,7 @@ use Rattle.std.proofs.lemmas.Bool.Decides.{nat_tests}
 use Rattle.std.proofs.lemmas.List.{drop_all, drop_more, take_at, drop_at, length-replicate}
 use Rattle.std.proofs.lemmas.List.Sums.{sum_by-append}
 use Rattle.numbers.specs.Sets.{has, numbers_from, set_where, members_of, IsSet}
-use Rattle.numbers.proofs.SetLemmas.{Ascends-unique, IsSet-set_where, has-above, has-set_where, is_set_where}
+use Rattle.numbers.proofs.SetLemmas.{Ascends-unique, IsSet-set_where, has-IsSet_below, has-above, has-set_where, is_set_where}
 use Rattle.quorum_set.specs.Words.{word_of, word_of-members_of, numbers_from-more}
 use Rattle.requester.specs.declared.state.ClientState.{ClientState}
 use Rattle.requester.specs.Saved.{HasSets, IsKept, has_sound_numbers, head_words, header, phase_word, is_vote_sound, least_client, words_of}
@@ -177,12 +177,6 @@ has_given h idle m f i true true e t = refl
 has_given h idle m f i true false e t = absurd (grind (arith, nat_tests))
 has_given h idle m f i false l e t = absurd (false≢true t)
 
-below_64 : (s : List ℕ) (v : ℕ) → IsSet s → has s v ≡ true → v < 64
-below_64 s v h is = elim (ltb v 64) as (λ b. ltb v 64 ≡ b → v < 64) [
-  | true ↦ λ l. grind (arith, nat_tests)
-  | false ↦ λ l. absurd (false≢true (sym (has-above 0 64 s v h (grind (arith, nat_tests))) ∙ is))
-] refl
-
 held_below : (x : ClientState) (v : ℕ) → HasPlaces x → holds x v ≡ true → v < 64
 held_below x v places is = let below = get_or-some_below x.held v is in let len = places.held in omega arith
 
@@ -250,8 +244,8 @@ IsSound-from x id places quorum sets numbers covered votes =
       asked = λ busy. (n.busy busy).1;
       held = λ v is. held_well x v (votes v (held_below x v places is)) is;
       inside = covered;
-      inquired = λ v is. asked_held x v (votes v (below_64 x.inquired v sets.inquired is)) is;
-      relinquished = λ v is. given_last x v (votes v (below_64 x.relinquished v sets.relinquished is)) is;
+      inquired = λ v is. asked_held x v (votes v (has-IsSet_below x.inquired v sets.inquired is)) is;
+      relinquished = λ v is. given_last x v (votes v (has-IsSet_below x.relinquished v sets.relinquished is)) is;
     }
 
 -- ---- and back
@@ -333,12 +327,6 @@ pub head_words-from : (ws : List ℕ) (x : ClientState) → length ws ≡ 10 →
     → get_or ws 4 0 ≡ phase_word x.phase → get_or ws 5 0 ≡ x.stamp → get_or ws 6 0 ≡ word_of (members x) → get_or ws 7 0 ≡ word_of x.failed
     → get_or ws 8 0 ≡ word_of x.relinquished → get_or ws 9 0 ≡ word_of x.inquired → ws ≡ head_words x
 head_words-from ws x len a b c d e f g h k l = ten ws len ∙ (λ i. a i ∷ b i ∷ c i ∷ d i ∷ e i ∷ f i ∷ g i ∷ h i ∷ k i ∷ l i ∷ [])
-
-pub below_next : (f : ℕ → Bool) (n : ℕ) → ((u : ℕ) → u < n → f u ≡ true) → f n ≡ true → (u : ℕ) → u < n + 1 → f u ≡ true
-below_next f n h here u lt = elim (eqb u n) as (λ b. eqb u n ≡ b → f u ≡ true) [
-  | true ↦ λ e. let same : u ≡ n = grind (arith, nat_tests) in ap f same ∙ here
-  | false ↦ λ e. h u (grind (arith, nat_tests))
-] refl
 
 pub words_of-if : (o : Option ClientState) (y : ClientState) (words head lists held last : List ℕ) → head ≡ take 10 words → lists ≡ drop 10 words → held ≡ take 64 lists → last ≡ drop 64 lists
     → head ≡ head_words y → y.held ≡ held → y.last ≡ last → IfSome o (λ x. x ≡ y) → IfSome o (λ x. words ≡ words_of x)

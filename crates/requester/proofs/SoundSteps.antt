@@ -7,6 +7,8 @@ use Rattle.std.proofs.lemmas.Option.{same_Some}
 use Rattle.std.proofs.lemmas.Bool.Decides.{nat_tests}
 use Rattle.std.proofs.lemmas.List.{get_or-set_other, get_or-set_same, length-set}
 use Rattle.numbers.specs.Sets.{has, IsSet}
+use Rattle.numbers.proofs.SetLemmas.{has-IsSet_below}
+use Rattle.numbers.proofs.Lists.{AllByRecursion-weaker}
 use Rattle.message.specs.declared.message.ToClient.{ToClient}
 use Rattle.message.specs.declared.message.ClientBody.{ClientBody}
 use Rattle.message.specs.declared.message.ClientBody.TheVariants as to_client
@@ -20,7 +22,7 @@ use Rattle.requester.specs.Soundness.{IsHeldWell, HasPlaces, IsSound}
 use Rattle.requester.specs.RequesterContract.{Accepts}
 use Rattle.requester.specs.Steps.{Outcome, cleared, begun, asked, ask, ask_in, ask_unless, is_fresh, hold, enter_if, locked, locked_by, fail, failed, failed_by, inquire, inquired}
 use Rattle.requester.specs.Steps.{inquired_by, see, take_body, take, released, leave, leave_in, give_up, give_up_in, Cause, Asks, Takes, Leaves, GivesUp, step, start}
-use Rattle.requester.proofs.Members.{absurd-true_false, both_true-from_and, AllByRecursion-weaker, false-from_not, has-IsSet_below, list_all-member, has-with_voter, has-without_voter, get_or-zeros}
+use Rattle.requester.proofs.Members.{absurd-true_false, both_true-from_and, false-from_not, list_all-member, has-with_voter, has-without_voter, get_or-zeros}
 use Rattle.requester.proofs.Giving.{GivesBack, IsGiving, Kept, Given, GivesBack-relinquish, GivesBack-relinquish_each}
 
 -- Asking is neither idle nor inside.

@@ -1,5 +1,5 @@
 -- Weights of voters bound their counts: the weak duality of linear programs, in whole numbers.
-use Rattle.std.proofs.Common.{◌≡◌, ℕ, ◌+◌, ◌*◌, ◌<◌, ◌≤◌, Bool, true, false, cond, List, [], ◌∷◌, length, get_or, zero, suc, sum, sum_by, ap, arith}
+use Rattle.std.proofs.Common.{◌≡◌, ℕ, ◌+◌, ◌*◌, ◌<◌, ◌≤◌, Bool, true, false, cond, List, [], ◌∷◌, length, get_or, suc, sum, sum_by, ap, arith}
 use Rattle.std.specs.List.{All}
 use Rattle.std.proofs.lemmas.List.Sums.{sum_by-cons}
 use Rattle.std.proofs.lemmas.List.Elements.{All-head, All-tail}
@@ -9,7 +9,7 @@ use Rattle.numbers.specs.Sets.{has, Ascends}
 use Rattle.numbers.specs.Sums.{sum_below}
 use Rattle.numbers.proofs.CountLemmas.{least_of-le}
 use Rattle.numbers.proofs.SetLemmas.{Ascends-all_below}
-use Rattle.numbers.proofs.SumsBelow.{sum_below-same, sum_below-add, sum_below-times, sum_below-members}
+use Rattle.numbers.proofs.SumsBelow.{sum_below-add, sum_below-cross, sum_below-members, sum_below-same, sum_below-times}
 use Rattle.quorum_set.specs.Coteries.{QuorumSystem, IsCoterie}
 use Rattle.certificate.specs.Loads.{weight_on, weight_within}
 
@@ -36,15 +36,6 @@ weighed n b light (q ∷ quorums) (x ∷ a) long up each =
     let rest = weighed n b light quorums a (omega arith) (All-tail (Ascends 0 n) q quorums up) (λ j lt. each (suc j) (omega arith)) in
     let all : sum (x ∷ a) * light ≡ (x + sum a) * light = ap (λ t. t * light) (sum_by-cons (λ y. y) x a) in
     omega (arith, split, added, first, members, heavy, rest, all)
-
--- sums of products, term by term with factors in the ratio p / q at most
-pub sum_below-cross : (n p q : ℕ) (f c d : ℕ → ℕ) → ((i : ℕ) → i < n → c i * q ≤ p * d i)
-    → sum_below (λ i. f i * c i) n * q ≤ p * sum_below (λ i. f i * d i) n
-sum_below-cross zero p q f c d bound = omega arith
-sum_below-cross (suc n) p q f c d bound =
-    let rest = sum_below-cross n p q f c d (λ i lt. bound i (omega arith)) in
-    let last : f n * (c n * q) ≤ f n * (p * d n) = mul-le-mul_left (f n) (bound n (omega arith)) in
-    omega (arith, rest, last)
 
 -- no cycle whose ratio is at most p / q goes below what the voters' weights show
 pub weak_duality : (s : QuorumSystem) (a b capacities : List ℕ) (p q : ℕ) → IsCoterie s → length a ≡ length s.quorums

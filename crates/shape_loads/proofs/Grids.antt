@@ -4,10 +4,10 @@ use Rattle.std.proofs.lemmas.Bool.{lt-ltb}
 use Rattle.std.proofs.lemmas.Nat.{div-mul-add, mod-mul-add, div_below, mod_below}
 use Rattle.numbers.specs.Sums.{sum_below}
 use Rattle.numbers.proofs.SetLemmas.{has-set_where}
-use Rattle.numbers.proofs.SumsBelow.{sum_below-same}
+use Rattle.numbers.proofs.SumsBelow.{sum_below-level, sum_below-same}
 use Rattle.quorum_set.specs.Coteries.{IsCoterie}
 use Rattle.construct.specs.Grid.{row_with_column, grid_quorums, grid_system}
-use Rattle.shape_loads.proofs.Sums.{sum_below-rows, sum_below-choice, sum_below-level, eqb_turned}
+use Rattle.shape_loads.proofs.Sums.{sum_below-rows, sum_below-choice, eqb_turned}
 use Rattle.shape_loads.proofs.Uniform.{IsUniformOf, IsUniform-made}
 
 -- whether voter v is in row i or in column k of a grid of c columns

@@ -1,18 +1,16 @@
 -- Weights that show a load p / q: no count is above it, and no quorum weighs less.
-use Rattle.std.proofs.Common.{◌≡◌, ℕ, ◌*◌, ◌<◌, ◌≤◌, List, [], ◌∷◌, length, get_or, suc, refl, ap, subst, ◌∙◌, inl, inr, arith}
+use Rattle.std.proofs.Common.{◌≡◌, ℕ, ◌*◌, ◌<◌, ◌≤◌, [], length, get_or, ap, subst, ◌∙◌, arith}
 use Rattle.std.specs.List.{All}
-use Rattle.std.proofs.lemmas.Bool.{cases_lt}
 use Rattle.std.proofs.Math.Nat.{mul-le-mul_right, le_of_mul-le-mul_right}
 use Rattle.numbers.specs.Bounds.{max_cycle}
-use Rattle.numbers.specs.Counts.{least_of}
 use Rattle.numbers.specs.Sums.{sum_below}
-use Rattle.numbers.proofs.CountLemmas.{greatest_below-le, greatest_below-reached, least_of-le}
+use Rattle.numbers.proofs.CountLemmas.{greatest_below-le, greatest_below-reached, least_of-le, least_of-reached}
 use Rattle.numbers.proofs.SetLemmas.{Ascends-all_below}
-use Rattle.numbers.proofs.SumsBelow.{sum_below-list, sum_below-same}
+use Rattle.numbers.proofs.SumsBelow.{sum_below-cross, sum_below-list, sum_below-same}
 use Rattle.quorum_set.specs.Coteries.{IsCoterie}
 use Rattle.certificate.specs.Certificates.{Weighted, IsUnitCertificate, busiest_count, cycle_count, cycle_len, lightest_quorum, voter_total}
 use Rattle.certificate.specs.Loads.{weight_within}
-use Rattle.shape_loads.proofs.Duality.{weighed, sum_below-cross}
+use Rattle.shape_loads.proofs.Duality.{weighed}
 
 -- the weights are those of a plan except for the balance, and show that the load is p / q
 pub record Shows (p q : ℕ) (w : Weighted) : Type 0 where
@@ -26,17 +24,6 @@ pub record Shows (p q : ℕ) (w : Weighted) : Type 0 where
   pub some : 0 < q
   pub counts : (i : ℕ) → i < w.system.voters → cycle_count w i * q ≤ p * cycle_len w
   pub lights : All (λ r. p * voter_total w ≤ q * weight_within w.voter_weights r) w.system.quorums
-
--- the smallest value is one of the values
-least_of-reached : (f : List ℕ → ℕ) (qs : List (List ℕ)) → 0 < length qs → (k : ℕ) × (k < length qs) × (least_of f qs ≡ f (get_or qs k []))
-least_of-reached f [] some = absurd (omega arith)
-least_of-reached f (q ∷ []) some = (0, omega arith, refl)
-least_of-reached f (q ∷ r ∷ qs) some =
-    let found = least_of-reached f (r ∷ qs) (omega arith) in
-    elim (cases_lt (f q) (least_of f (r ∷ qs))) [
-      | inl less ↦ (0, omega arith, omega (arith, less))
-      | inr more ↦ (suc found.0, omega (arith, found.1), omega (arith, more, found.2))
-    ]
 
 -- l * d ≤ b * t, b * q ≤ p * d and p * t ≤ q * l are all equalities
 squeezed : (l d b t p q : ℕ) → 0 < d → 0 < q → l * d ≤ b * t → b * q ≤ p * d → p * t ≤ q * l → (b * t ≡ l * d) × (p * t ≡ q * l)

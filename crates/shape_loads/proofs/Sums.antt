@@ -8,19 +8,7 @@ use Rattle.std.proofs.lemmas.List.Sums.{sum_by-cons}
 use Rattle.std.proofs.lemmas.Nat.{mod-mul-add}
 use Rattle.numbers.specs.Sets.{has, Ascends}
 use Rattle.numbers.specs.Sums.{sum_below}
-use Rattle.numbers.proofs.SumsBelow.{sum_below-add, sum_below-members, sum_below-same, sum_below-zero, sum_by-one}
-
-pub sum_below-level : (n m : ℕ) (f : ℕ → ℕ) → ((i : ℕ) → i < n → f i ≡ m) → sum_below f n ≡ n * m
-sum_below-level zero m f level = omega arith
-sum_below-level (suc n) m f level = omega (arith, level n (omega arith), sum_below-level n m f (λ i lt. level i (omega arith)))
-
--- a sum over c numbers, in two parts
-pub sum_below-parts : (a b c : ℕ) (f : ℕ → ℕ) → c ≡ a + b → sum_below f c ≡ sum_below f a + sum_below (λ i. f (a + i)) b
-sum_below-parts a zero c f e = let same : c ≡ a = omega arith in omega (arith, ap (λ n. sum_below f n) same)
-sum_below-parts a (suc b) zero f e = absurd (omega arith)
-sum_below-parts a (suc b) (suc c) f e =
-    let same : c ≡ a + b = omega arith in
-    omega (arith, sum_below-parts a b c f same, ap f same)
+use Rattle.numbers.proofs.SumsBelow.{sum_below-add, sum_below-level, sum_below-members, sum_below-parts, sum_below-same, sum_below-zero, sum_by-one}
 
 -- a sum over r rows of c numbers
 pub sum_below-rows : (r c : ℕ) (f : ℕ → ℕ) → sum_below f (r * c) ≡ sum_below (λ a. sum_below (λ b. f (a * c + b)) c) r

@@ -1,11 +1,12 @@
 -- The quorums under a node of a tree have nodes below it alone. No node is below both its children.
-use Rattle.std.proofs.Common.{◌≡◌, ◌⊎◌, ℕ, ◌+◌, ◌-◌, ◌*◌, ◌/◌, ◌^◌, ◌<◌, Bool, true, ◌||◌, eqb, List, [], ◌∷◌, ◌++◌, get_or, map, zero, suc, sym, refl, ap, ◌∙◌, inl, inr, arith}
+use Rattle.std.proofs.Common.{◌≡◌, ◌⊎◌, ℕ, ◌+◌, ◌-◌, ◌*◌, ◌/◌, ◌^◌, ◌<◌, Bool, true, ◌||◌, eqb, List, [], ◌++◌, get_or, map, zero, suc, sym, refl, ap, ◌∙◌, inl, inr, arith}
 use Rattle.std.specs.List.{All, flat_map}
 use Rattle.std.proofs.lemmas.Bool.{true≢false, eqb-true, or_cases, cases_lt}
 use Rattle.std.proofs.lemmas.Nat.{shr-shr, shr_le}
-use Rattle.std.proofs.lemmas.List.Elements.{All-nil, All-cons, All-head, All-tail, All-append, All-map}
+use Rattle.std.proofs.lemmas.List.Elements.{All-nil, All-cons, All-append, All-map}
 use Rattle.numbers.specs.Sets.{has, IsSet, set_where, union}
 use Rattle.numbers.proofs.SetLemmas.{IsSet-set_where, has-set_where, has-above}
+use Rattle.numbers.proofs.Lists.{All-flat_map}
 use Rattle.construct.specs.Tree.{with_node, node_quorums, quorums_under}
 
 -- from v, the way up comes to node i
@@ -93,12 +94,6 @@ IsPart-union i p q left right = record {
         | inr there ↦ IsUnder-child i (2 * i + 2) v (inr refl) (right.under v there)
       ];
 }
-
--- what holds of all pieces holds of the list that they make
-pub All-flat_map : {X Y : Type 0} (P : Y → Type 0) (f : X → List Y) (xs : List X) → All (λ x. All P (f x)) xs → All P (flat_map f xs)
-All-flat_map P f [] h = All-nil P
-All-flat_map P f (x ∷ xs) h =
-    All-append P (f x) (flat_map f xs) (All-head (λ y. All P (f y)) x xs h) (All-flat_map P f xs (All-tail (λ y. All P (f y)) x xs h))
 
 -- what holds of the three kinds of a node's quorums holds of all
 pub All-node : (P : List ℕ → Type 0) (i : ℕ) (L R : List (List ℕ)) → All (λ s. P (with_node i s)) L → All (λ s. P (with_node i s)) R

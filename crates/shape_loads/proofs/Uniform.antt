@@ -6,11 +6,11 @@ use Rattle.std.proofs.lemmas.List.Elements.{All-head, All-tail}
 use Rattle.std.proofs.lemmas.List.Folds.{sum_by-replicate}
 use Rattle.std.proofs.lemmas.List.FromFn.{get_or-map-range_with_len, length-map-range_with_len}
 use Rattle.std.proofs.lemmas.List.Sums.{sum_by-cons}
-use Rattle.numbers.specs.Counts.{least_of}
 use Rattle.numbers.specs.Sets.{has}
 use Rattle.numbers.specs.Sums.{sum_below}
 use Rattle.numbers.proofs.SetLemmas.{Ascends-all_below}
 use Rattle.numbers.proofs.SumsBelow.{sum_below-same}
+use Rattle.numbers.proofs.CountLemmas.{least_of-level}
 use Rattle.quorum_set.specs.Capacities.{unit_capacities}
 use Rattle.quorum_set.specs.Coteries.{QuorumSystem, IsCoterie}
 use Rattle.certificate.specs.Certificates.{lightest_quorum, voter_total}
@@ -35,14 +35,6 @@ weight_within-ones n (x ∷ xs) h =
       get_or-replicate {A = ℕ} n x 1 0 (All-head (λ i. i < n) x xs h),
       weight_within-ones n xs (All-tail (λ i. i < n) x xs h),
     )
-
-pub least_of-level : (f : List ℕ → ℕ) (qs : List (List ℕ)) (t : ℕ) → 0 < length qs → All (λ q. f q ≡ t) qs → least_of f qs ≡ t
-least_of-level f [] t some h = absurd (omega arith)
-least_of-level f (q ∷ []) t some h = All-head (λ q. f q ≡ t) q [] h
-least_of-level f (q ∷ r ∷ qs) t some h =
-    let first = All-head (λ q. f q ≡ t) q (r ∷ qs) h in
-    let rest = least_of-level f (r ∷ qs) t (omega arith) (All-tail (λ q. f q ≡ t) q (r ∷ qs) h) in
-    omega (arith, first, rest)
 
 -- all weights 1 show the size of a quorum, divided by the number of voters
 pub ones-shown : (s : QuorumSystem) (u : IsUniform s) → IsCoterie s

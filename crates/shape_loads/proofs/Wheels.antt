@@ -11,7 +11,7 @@ use Rattle.std.proofs.lemmas.List.Sums.{sum_by-cons, sum_by-append}
 use Rattle.numbers.specs.Sets.{has, IsSet, set_where}
 use Rattle.numbers.specs.Sums.{sum_below}
 use Rattle.numbers.proofs.SetLemmas.{Ascends-all_below, IsSet-set_where, has-set_where}
-use Rattle.numbers.proofs.SumsBelow.{sum_below-head, sum_below-members, sum_below-same}
+use Rattle.numbers.proofs.SumsBelow.{sum_below-head, sum_below-level, sum_below-members, sum_below-same}
 use Rattle.quorum_set.specs.Coteries.{IsCoterie}
 use Rattle.certificate.specs.Certificates.{cycle_count, cycle_len, voter_total}
 use Rattle.certificate.specs.Loads.{weight_on, weight_within}
@@ -19,7 +19,7 @@ use Rattle.construct.specs.Wheel.{spoke, rim, wheel_quorums, wheel_system}
 use Rattle.planner.specs.Uniform.{ones}
 use Rattle.shape_loads.specs.ShapeLoads.{wheel_plan}
 use Rattle.shape_loads.proofs.Shown.{Shows}
-use Rattle.shape_loads.proofs.Sums.{eqb_turned, sum_below-choice, sum_below-level, sum_by-made}
+use Rattle.shape_loads.proofs.Sums.{eqb_turned, sum_below-choice, sum_by-made}
 use Rattle.shape_loads.proofs.Weights.{weight_on-append, weight_on-ones}
 
 -- members

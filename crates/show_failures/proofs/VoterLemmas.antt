@@ -1,19 +1,16 @@
 -- Lemmas on the set of the voters that pass a test.
-use Rattle.std.proofs.Common.{◌≡◌, ℕ, ◌+◌, ◌<◌, ◌≤◌, Bool, true, false, ◌&&◌, ◌||◌, List, [], get_or, sym, refl, ap, ◌∙◌, inl, inr, arith}
+use Rattle.std.proofs.Common.{◌≡◌, ℕ, ◌+◌, ◌<◌, ◌≤◌, Bool, true, false, ◌&&◌, ◌||◌, List, get_or, sym, refl, ap, ◌∙◌, inl, inr, arith}
 use Rattle.std.specs.Prelude.{◌==◌, nat_lt}
 use Rattle.std.specs.List.{All}
 use Rattle.std.proofs.lemmas.Bool.{cases_lt, cases_order, eq-eqb, ltb-true, ne_eqb, lt-ltb, le-ltb, true≢false}
 use Rattle.std.proofs.lemmas.List.Elements.{All-from_get_or}
 use Rattle.numbers.specs.Sets.{has, set_where}
-use Rattle.numbers.proofs.SetLemmas.{IsSet-set_where, has-set_where, has-above, has-at, is_set_where}
+use Rattle.numbers.proofs.SetLemmas.{IsSet-set_where, has-above, has-at, has-set_where, set_where-same}
+use Rattle.numbers.proofs.Options.{and-true}
 
 -- the voters below n that pass
 abbrev pub passing : (ℕ → Bool) → ℕ → List ℕ
 passing p n = set_where (λ j. nat_lt j n && p j)
-
--- tests that agree give one set
-same_set : (p q : ℕ → Bool) → ((i : ℕ) → i < 64 → p i ≡ q i) → set_where p ≡ set_where q
-same_set p q e = is_set_where (set_where p) q (IsSet-set_where p) (λ i lt. has-set_where p i lt ∙ e i lt)
 
 more_passes : (p : ℕ → Bool) (n i : ℕ) → p n ≡ true → ((i == n) || (nat_lt i n && p i)) ≡ (nat_lt i (n + 1) && p i)
 more_passes p n i has_it = elim (cases_order i n) as (λ _. ((i == n) || (nat_lt i n && p i)) ≡ (nat_lt i (n + 1) && p i)) [
@@ -35,17 +32,12 @@ fewer_pass p n i out = elim (cases_order i n) as (λ _. (nat_lt i n && p i) ≡ 
 
 -- the next voter passes, and is added
 pub passing-with : (p : ℕ → Bool) (n v : ℕ) (s : List ℕ) → v ≡ n → s ≡ passing p n → p n ≡ true → set_where (λ j. (j == v) || has s j) ≡ passing p (n + 1)
-passing-with p n v s at e has_it = rw (at, e) (same_set (λ j. (j == n) || has (passing p n) j) (λ j. nat_lt j (n + 1) && p j)
+passing-with p n v s at e has_it = rw (at, e) (set_where-same (λ j. (j == n) || has (passing p n) j) (λ j. nat_lt j (n + 1) && p j)
     (λ i lt. ap (λ b. (i == n) || b) (has-set_where (λ j. nat_lt j n && p j) i lt) ∙ more_passes p n i has_it))
 
 -- the next voter does not pass
 pub passing-without : (p : ℕ → Bool) (n : ℕ) (s : List ℕ) → s ≡ passing p n → p n ≡ false → s ≡ passing p (n + 1)
-passing-without p n s e out = e ∙ same_set (λ j. nat_lt j n && p j) (λ j. nat_lt j (n + 1) && p j) (λ i lt. fewer_pass p n i out)
-
--- who passes is below n, and passes
-and-both : (a b : Bool) → (a && b) ≡ true → (a ≡ true) × (b ≡ true)
-and-both true b e = (refl, e)
-and-both false b e = cc
+passing-without p n s e out = e ∙ set_where-same (λ j. nat_lt j n && p j) (λ j. nat_lt j (n + 1) && p j) (λ i lt. fewer_pass p n i out)
 
 pub record Passes (p : ℕ → Bool) (n i : ℕ) : Type 0 where
   pub below : i < n
@@ -54,7 +46,7 @@ pub record Passes (p : ℕ → Bool) (n i : ℕ) : Type 0 where
 pub passing-has : (p : ℕ → Bool) (n i : ℕ) → has (passing p n) i ≡ true → Passes p n i
 passing-has p n i e = elim (cases_lt i 64) as (λ _. Passes p n i) [
   | inl lt ↦
-      let both = and-both (nat_lt i n) (p i) (sym (has-set_where (λ j. nat_lt j n && p j) i lt) ∙ e) in
+      let both = and-true (nat_lt i n) (p i) (sym (has-set_where (λ j. nat_lt j n && p j) i lt) ∙ e) in
       record { below = ltb-true i n both.0; passes = both.1 }
   | inr ge ↦ absurd (true≢false (sym e ∙ has-above 0 64 (passing p n) i (IsSet-set_where (λ j. nat_lt j n && p j)) ge))
 ]

@@ -17,18 +17,6 @@ use Rattle.show_tickets.specs.EvenOrder.{account_of_list, even_lines, even_page_
 use Rattle.show_tickets.specs.Lines.{named_receipt_line}
 use Rattle.show_tickets.specs.Rounds.{deal_page_text, named_ticket_lines, receipt_lines}
 
--- two parts that were written one after the other, behind what there was
-pub two_parts : (before a b one all : List ℕ) → one ≡ before ++ a → all ≡ one ++ b → all ≡ before ++ (a ++ b)
-two_parts before a b one all first second = second ∙ ap (λ t. t ++ b) first ∙ append_assoc before a b
-
-pub three_parts : (before a b c one two all : List ℕ) → one ≡ before ++ a → two ≡ one ++ b → all ≡ two ++ c → all ≡ before ++ (a ++ (b ++ c))
-three_parts before a b c one two all first second third = two_parts before a (b ++ c) one all first (two_parts one b c two all second third)
-
-pub four_parts : (before a b c d one two three all : List ℕ) → one ≡ before ++ a → two ≡ one ++ b → three ≡ two ++ c → all ≡ three ++ d
-    → all ≡ before ++ (a ++ (b ++ (c ++ d)))
-four_parts before a b c d one two three all first second third fourth =
-    two_parts before a (b ++ (c ++ d)) one all first (three_parts one b c d two three all second third fourth)
-
 -- what was written for the numbers below n, and then the line of n
 pub flat_map-more_lines : (line : ℕ → List ℕ) (n : ℕ) (before now after : List ℕ) → now ≡ before ++ flat_map line (range_with_len 0 n) → after ≡ now ++ line n
     → after ≡ before ++ flat_map line (range_with_len 0 (n + 1))

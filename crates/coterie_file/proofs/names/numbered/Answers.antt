@@ -2,9 +2,9 @@ use Rattle.std.proofs.Common.{◌≡◌, false, cond, sym, ap, ◌∙◌, arith,
 use Rattle.std.proofs.lemmas.Bool.{not-false, not-true}
 use Rattle.std.specs.List.{list_any}
 use Rattle.std.specs.Str.{bytes_eq}
-use Rattle.coterie_file.proofs.ListLemmas.{map-push}
 use Rattle.coterie_file.proofs.NameLemmas.{seen_at, texts_before-push, repeat_here, repeat_later}
 use Rattle.coterie_file.proofs.names.numbered.Goals as goal
+use Rattle.numbers.proofs.Lists.{map-push}
 
 pub returns-then-not-is_new : goal.returns-then-not-is_new
 returns-then-not-is_new c =

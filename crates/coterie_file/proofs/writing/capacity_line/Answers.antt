@@ -1,7 +1,7 @@
 use Rattle.std.proofs.Common.{rules, ◌≡◌, ◌++◌, ◌∙◌, sym, ap, codes, decimal, IfOk, string_bytes}
 use Rattle.std.specs.List.{join_by}
-use Rattle.coterie_file.proofs.WritingLemmas.{join_by-same}
 use Rattle.coterie_file.proofs.writing.capacity_line.Goals as goal
+use Rattle.numbers.proofs.Lists.{join_by-same}
 
 pub returns : goal.returns
 returns c =

@@ -1,9 +1,9 @@
 use Rattle.std.proofs.Common.{◌∙◌, ap, ap₂, sym, arith, map, get_or, ◌++◌, ◌∷◌, [], take, slice_get}
 use Rattle.std.proofs.lemmas.List.{take_more}
 use Rattle.coterie_file.specs.Names.{name_at}
-use Rattle.coterie_file.proofs.ListLemmas.{map-push}
 use Rattle.coterie_file.proofs.WritingLemmas.{name_at-found}
 use Rattle.coterie_file.proofs.writing.members_of.Goals as goal
+use Rattle.numbers.proofs.Lists.{map-push}
 
 pub loop-i-preserved : goal.loop-i-preserved
 loop-i-preserved c =

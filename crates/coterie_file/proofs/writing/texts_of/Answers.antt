@@ -1,7 +1,7 @@
 use Rattle.std.proofs.Common.{◌∙◌, ap, ap₂, sym, arith, map, get_or, ◌++◌, ◌∷◌, [], take, decimal, string_bytes}
 use Rattle.std.proofs.lemmas.List.{take_more}
-use Rattle.coterie_file.proofs.ListLemmas.{map-push}
 use Rattle.coterie_file.proofs.writing.texts_of.Goals as goal
+use Rattle.numbers.proofs.Lists.{map-push}
 
 pub loop-number-preserved : goal.loop-number-preserved
 loop-number-preserved c =

@@ -2,8 +2,8 @@ use Rattle.std.proofs.Common.{◌∙◌, ap, ap₂, sym, arith, map, get_or, ◌
 use Rattle.std.proofs.lemmas.List.{take_more}
 use Rattle.std.proofs.lemmas.Option.{get_or_from_slice_get}
 use Rattle.coterie_file.specs.Names.{name_at}
-use Rattle.show_failures.proofs.ListLemmas.{map-push}
 use Rattle.show_failures.proofs.names.names_of.Goals as goal
+use Rattle.numbers.proofs.Lists.{map-push}
 
 pub loop-voter-preserved : goal.loop-voter-preserved
 loop-voter-preserved c =

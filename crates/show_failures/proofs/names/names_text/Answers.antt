@@ -3,8 +3,8 @@ use Rattle.std.specs.List.{join_by}
 use Rattle.std.proofs.lemmas.Result.{IfOk-weaker}
 use Rattle.coterie_file.specs.Names.{name_at}
 use Rattle.show_failures.specs.Names.{names_text}
-use Rattle.show_failures.proofs.ListLemmas.{join_by-same}
 use Rattle.show_failures.proofs.names.names_text.Goals as goal
+use Rattle.numbers.proofs.Lists.{join_by-same}
 
 pub returns : goal.returns
 returns c =

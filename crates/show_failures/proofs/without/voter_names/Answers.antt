@@ -1,9 +1,9 @@
 use Rattle.std.proofs.Common.{◌∙◌, ◌++◌, ◌∷◌, [], ap, ap₂, map, string_bytes, sym}
 use Rattle.std.proofs.lemmas.List.{take_more}
 use Rattle.std.proofs.lemmas.Option.{get_or_from_slice_get}
-use Rattle.show_failures.proofs.ListLemmas.{map-push}
 use Rattle.show_failures.proofs.NameLemmas.{below_names}
 use Rattle.show_failures.proofs.without.voter_names.Goals as goal
+use Rattle.numbers.proofs.Lists.{map-push}
 
 pub loop-voter-preserved : goal.loop-voter-preserved
 loop-voter-preserved c =

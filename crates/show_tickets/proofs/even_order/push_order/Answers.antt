@@ -1,6 +1,6 @@
 use Rattle.std.proofs.lemmas.Result.{on_ok_weaker}
-use Rattle.show_tickets.proofs.PageLemmas.{two_parts}
 use Rattle.show_tickets.proofs.even_order.push_order.Goals as goal
+use Rattle.numbers.proofs.Lists.{two_parts}
 
 pub returns : goal.returns
 returns c =

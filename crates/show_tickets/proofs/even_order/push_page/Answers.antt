@@ -1,6 +1,6 @@
 use Rattle.std.proofs.lemmas.Result.{on_ok_weaker}
-use Rattle.show_tickets.proofs.PageLemmas.{four_parts}
 use Rattle.show_tickets.proofs.even_order.push_page.Goals as goal
+use Rattle.numbers.proofs.Lists.{four_parts}
 
 pub returns : goal.returns
 returns c =

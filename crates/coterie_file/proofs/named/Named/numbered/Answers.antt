@@ -1,8 +1,8 @@
 use Rattle.std.proofs.Common.{◌∙◌, ap, ap₂, sym, arith, map, ◌++◌, ◌∷◌, [], length, string_bytes}
 use Rattle.std.proofs.lemmas.List.{length-map}
-use Rattle.coterie_file.proofs.ListLemmas.{map-push}
 use Rattle.coterie_file.proofs.NameLaws.{AreNames-numbered, length-numbered_names, numbered_names-push}
 use Rattle.coterie_file.proofs.named.Named.numbered.Goals as goal
+use Rattle.numbers.proofs.Lists.{map-push}
 
 pub loop-i-preserved : goal.loop-i-preserved
 loop-i-preserved c =

@@ -1,6 +1,6 @@
 use Rattle.std.proofs.lemmas.Result.{on_ok_weaker}
-use Rattle.show_report.proofs.PartLemmas.{three_parts}
 use Rattle.show_report.proofs.quorums.QuorumRowsRows.push_row.Goals as goal
+use Rattle.numbers.proofs.Lists.{three_parts}
 
 pub returns : goal.returns
 returns c =
