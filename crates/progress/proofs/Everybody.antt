@@ -2,7 +2,7 @@
 use Rattle.std.proofs.Common.{◌≡◌, ◌≢◌, ℕ, zero, suc, ◌+◌, ◌*◌, ◌<◌, ◌≤◌, true, false, List, [], ◌∷◌, ◌++◌, map, length, refl, sym, ap, subst, ◌∙◌, ◌⊎◌, inl, inr, arith, length-append}
 use Rattle.std.specs.List.{AllByRecursion}
 use Rattle.std.proofs.lemmas.Bool.{cases_eq, cases_lt, false≢true}
-use Rattle.std.proofs.lemmas.List.{get_or_past, length-set}
+use Rattle.std.proofs.lemmas.List.{append_assoc, get_or_past, length-set}
 use Rattle.message.specs.declared.message.Message.TheVariants as kinds
 use Rattle.requester.specs.declared.state.ClientState.{ClientState}
 use Rattle.requester.specs.declared.state.Phase.{Phase}
@@ -24,6 +24,7 @@ use Rattle.progress.specs.Rules.{LeavingLaws}
 use Rattle.progress.proofs.Moves.{client_here, client_others, with_state}
 use Rattle.progress.proofs.Together.{asks_within, lets_in, one_entry}
 use Rattle.progress.proofs.Ways.{IsReached-run, run_then}
+use Rattle.numbers.proofs.Lists.{AllByRecursion-append, AllByRecursion-weaker}
 
 -- ---- sums
 
@@ -138,9 +139,7 @@ serves_later m n (RemindVoter v) most h = h
 serves_later m n Exchange most h = h
 
 serve_then : (m n : ℕ) (a b : List Step) → m ≤ n → AllByRecursion (Serves m) a → AllByRecursion (Serves n) b → AllByRecursion (Serves m) (a ++ b)
-serve_then m n [] [] most h k = tt
-serve_then m n [] (s ∷ b) most h k = (serves_later m n s most k.0, serve_then m n [] b most h k.1)
-serve_then m n (s ∷ a) b most h k = (h.0, serve_then m n a b most h.1 k)
+serve_then m n a b most h k = AllByRecursion-append (Serves m) a b h (AllByRecursion-weaker (Serves n) (Serves m) (λ s. serves_later m n s most) b k)
 
 help_serves : (n : ℕ) (s : Step) → Helps n s → Serves n s
 help_serves n (Ask c) h = h
@@ -150,14 +149,6 @@ help_serves n (GiveUp c) h = h
 help_serves n (RemindClient c) h = h
 help_serves n (RemindVoter v) h = h
 help_serves n Exchange h = h
-
-helps_serve : (n : ℕ) (a : List Step) → AllByRecursion (Helps n) a → AllByRecursion (Serves n) a
-helps_serve n [] h = tt
-helps_serve n (s ∷ a) h = (help_serves n s h.0, helps_serve n a h.1)
-
-join_events : (a b c : List Event) → (a ++ b) ++ c ≡ a ++ (b ++ c)
-join_events [] b c = refl
-join_events (e ∷ a) b c = ap (λ es. e ∷ es) (join_events a b c)
 
 -- steps that serve, and lead from one world to another
 record Served (deal : Dealing) (u x : WorldState) : Type 0 where
@@ -172,12 +163,21 @@ GetsIn-after : (deal : Dealing) (c : ℕ) (u x : WorldState) (rest : List Step) 
 GetsIn-after deal c u x rest a g = record {
   serves = serve_then (length u.sent) (length x.sent) a.steps rest a.sent a.serves g.serves;
   more = a.more ++ g.more;
-  visible = ap (λ (z : WorldState). z.visible) (run_then deal a.steps rest u ∙ ap (run_of deal rest) a.run) ∙ g.visible ∙ ap (λ es. es ++ g.more) a.visible ∙ join_events u.visible a.more g.more;
+  visible = ap (λ (z : WorldState). z.visible) (run_then deal a.steps rest u ∙ ap (run_of deal rest) a.run) ∙ g.visible ∙ ap (λ es. es ++ g.more) a.visible ∙ append_assoc u.visible a.more g.more;
   enters = (let count = entered_by-append c a.more g.more in let some = g.enters in omega arith);
 }
 
 Served-enters : (deal : Dealing) (e : ℕ) (n : ℕ → ℕ) (u : WorldState) → (a : EntersBy deal e n u) → Served deal u a.world
-Served-enters deal e n u a = record { steps = a.steps; serves = helps_serve (length u.sent) a.steps a.helps; run = a.run; sent = a.sent; more = events e Entered; visible = a.visible }
+Served-enters deal e n u a =
+    let sent = length u.sent in
+    record {
+      steps = a.steps;
+      serves = AllByRecursion-weaker (Helps sent) (Serves sent) (help_serves sent) a.steps a.helps;
+      run = a.run;
+      sent = a.sent;
+      more = events e Entered;
+      visible = a.visible;
+    }
 
 -- ---- a client leaves
 

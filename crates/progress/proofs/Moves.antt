@@ -97,51 +97,32 @@ pub voter_others : (vs : List VoterState) (v : ℕ) (y : VoterState) (q : ℕ) �
 unfolding voter_at
 voter_others vs v y q other = get_or-set_other vs v q y (voter.start 0 1) other
 
-Moved-after_client : (w : WorldState) (c : ℕ) (cause : requester.Cause) → c < length w.clients → Came w c cause
-    → (r : Result requester.Outcome ClientFault) → requester.step (client_at w.clients c) cause ≡ r → Moved w (after w (after_client w c r))
-Moved-after_client w c cause within came (Ok o) is = inl (record {
+-- a client's step, and what became of the world
+client_moved : (w : WorldState) (c : ℕ) (cause : requester.Cause) → c < length w.clients → Came w c cause → (o : requester.Outcome) → requester.step (client_at w.clients c) cause ≡ Ok o
+    → (u : WorldState) → u.clients ≡ set w.clients c o.state → u.voters ≡ w.voters → u.sent ≡ w.sent ++ map kinds.ToVoter o.out → u.visible ≡ w.visible ++ events c o.seen → Moved w u
+client_moved w c cause within came o is u clients voters sent visible = inl (record {
   who = c;
   cause = cause;
   outcome = o;
   within = within;
   step = is;
   came = came;
-  here = client_here w.clients c o.state within;
-  others = client_others w.clients c o.state;
-  voters = refl;
-  sent = refl;
-  visible = refl;
+  here = ap (λ (cs : List ClientState). client_at cs c) clients ∙ client_here w.clients c o.state within;
+  others = λ q other. ap (λ (cs : List ClientState). client_at cs q) clients ∙ client_others w.clients c o.state q other;
+  voters = voters;
+  sent = sent;
+  visible = visible;
 })
+
+Moved-after_client : (w : WorldState) (c : ℕ) (cause : requester.Cause) → c < length w.clients → Came w c cause
+    → (r : Result requester.Outcome ClientFault) → requester.step (client_at w.clients c) cause ≡ r → Moved w (after w (after_client w c r))
+Moved-after_client w c cause within came (Ok o) is = client_moved w c cause within came o is (after w (after_client w c (Ok o))) refl refl refl refl
 Moved-after_client w c cause within came (Err fault) is = Moved-self w w refl refl refl refl
 
 Moved-after_draw : (side : Side) (w : WorldState) (c : ℕ) (cause : requester.Cause) → c < length w.clients → Came w c cause
     → (r : Result requester.Outcome ClientFault) → requester.step (client_at w.clients c) cause ≡ r → Moved w (after w (after_client (draw_of side w c) c r))
-Moved-after_draw First w c cause within came (Ok o) is = inl (record {
-  who = c;
-  cause = cause;
-  outcome = o;
-  within = within;
-  step = is;
-  came = came;
-  here = client_here w.clients c o.state within;
-  others = client_others w.clients c o.state;
-  voters = refl;
-  sent = refl;
-  visible = refl;
-})
-Moved-after_draw Second w c cause within came (Ok o) is = inl (record {
-  who = c;
-  cause = cause;
-  outcome = o;
-  within = within;
-  step = is;
-  came = came;
-  here = client_here w.clients c o.state within;
-  others = client_others w.clients c o.state;
-  voters = refl;
-  sent = refl;
-  visible = refl;
-})
+Moved-after_draw First w c cause within came (Ok o) is = client_moved w c cause within came o is (after w (after_client (draw_of First w c) c (Ok o))) refl refl refl refl
+Moved-after_draw Second w c cause within came (Ok o) is = client_moved w c cause within came o is (after w (after_client (draw_of Second w c) c (Ok o))) refl refl refl refl
 Moved-after_draw side w c cause within came (Err fault) is = Moved-self w w refl refl refl refl
 
 Moved-after_voter : (w : WorldState) (m : ToVoter) (k : ℕ) → slice_get w.sent k ≡ Some (kinds.ToVoter m) → m.voter < length w.voters

@@ -9,6 +9,7 @@ use Rattle.std.proofs.lemmas.Bool.Decides.{nat_tests}
 use Rattle.std.proofs.lemmas.List.{append-nil, get_or-set_same, get_or-set_other, length-set}
 use Rattle.std.proofs.lemmas.Option.{none-some, same_Some}
 use Rattle.numbers.specs.Sets.{has}
+use Rattle.numbers.proofs.Lists.{AllByRecursion-append, AllByRecursion-weaker}
 use Rattle.message.specs.declared.message.Message.TheVariants as kinds
 use Rattle.message.specs.declared.message.ToClient.{ToClient}
 use Rattle.message.specs.declared.message.ToVoter.{ToVoter}
@@ -56,9 +57,7 @@ helps_later m n (RemindVoter v) most h = h
 helps_later m n Exchange most h = h
 
 pub help_then : (m n : ℕ) (a b : List Step) → m ≤ n → AllByRecursion (Helps m) a → AllByRecursion (Helps n) b → AllByRecursion (Helps m) (a ++ b)
-help_then m n [] [] most h k = tt
-help_then m n [] (s ∷ b) most h k = (helps_later m n s most k.0, help_then m n [] b most h k.1)
-help_then m n (s ∷ a) b most h k = (h.0, help_then m n a b most h.1 k)
+help_then m n a b most h k = AllByRecursion-append (Helps m) a b h (AllByRecursion-weaker (Helps n) (Helps m) (λ s. helps_later m n s most) b k)
 
 pub IsReached-run : (p : Planned) (steps : List Step) (u : WorldState) → IsReached (with_state p u) → IsReached (with_state p (run_of (dealing_of p.plans) steps u))
 IsReached-run p [] u r = r
