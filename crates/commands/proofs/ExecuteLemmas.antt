@@ -6,7 +6,7 @@ use Rattle.commands.specs.Devices.{IsOfReading, IsOwn}
 use Rattle.whole_io.specs.declared.fault.DeviceFault.TheVariants as device
 use Rattle.whole_io.specs.declared.fault.DeviceFault.TheVariants.{ReadFault, TooLong, WriteFault}
 use Rattle.commands.specs.declared.fault.Fault.{Fault}
-use Rattle.commands.specs.declared.fault.Fault.TheVariants.{MissingPart, UnknownVoter, Device, Construct, Input, Replay, Cluster, OutOfMemory}
+use Rattle.commands.specs.declared.fault.Fault.TheVariants.{MissingPart, UnknownVoter, NotBridged, Device, Construct, Input, Replay, Cluster, OutOfMemory}
 use Rattle.command_line.specs.declared.command.Command.{Command}
 use Rattle.command_line.specs.declared.command.Command.TheVariants as commands
 use Rattle.command_line.specs.declared.command.Command.TheVariants.{Check, Deal, Make, Plan, Run, World}
@@ -22,6 +22,7 @@ reading_comes command (Some input) (Device WriteFault) reads h = absurd h
 reading_comes command (Some input) (Device device.OutOfMemory) reads h = absurd h
 reading_comes command (Some input) (MissingPart k) reads h = absurd h
 reading_comes command (Some input) (UnknownVoter k) reads h = absurd h
+reading_comes command (Some input) (NotBridged j k) reads h = absurd h
 reading_comes command (Some input) (Construct fault) reads h = absurd h
 reading_comes command (Some input) (Input fault) reads h = absurd h
 reading_comes command (Some input) (Replay fault) reads h = absurd h
@@ -33,6 +34,7 @@ own_comes command input (Device fault) own short h = absurd own
 own_comes command input OutOfMemory own short h = tt
 own_comes command input (MissingPart k) own short h = (short, h)
 own_comes command input (UnknownVoter k) own short h = (short, h)
+own_comes command input (NotBridged j k) own short h = (short, h)
 own_comes command input (Construct fault) own short h = (short, h)
 own_comes command input (Input fault) own short h = (short, h)
 own_comes command input (Replay fault) own short h = (short, h)
@@ -61,6 +63,7 @@ idle_fault (Device fault) shape a b own h = absurd own
 idle_fault OutOfMemory shape a b own h = tt
 idle_fault (MissingPart k) shape a b own h = (λ reads. cc, h.1)
 idle_fault (UnknownVoter k) shape a b own h = (λ reads. cc, h.1)
+idle_fault (NotBridged j k) shape a b own h = (λ reads. cc, h.1)
 idle_fault (Construct fault) shape a b own h = (λ reads. cc, h.1)
 idle_fault (Input fault) shape a b own h = (λ reads. cc, h.1)
 idle_fault (Replay fault) shape a b own h = (λ reads. cc, h.1)

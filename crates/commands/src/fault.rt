@@ -22,6 +22,11 @@ pub enum Fault {
     /// place of the first such word, from 0. Only commands of `qlock-show` have such words.
     #[error("I6 UnknownVoter {0}")]
     UnknownVoter(usize),
+    /// This quorum of the first coterie of an input has no common voter with this one of the second.
+    /// Of several pairs it is the smallest: by the first number, then by the second. Only commands of
+    /// `qlock-show` read two coteries.
+    #[error("J1 NotBridged {0} {1}")]
+    NotBridged(usize, usize),
     /// The input is too long, or a read or a write failed.
     #[error(transparent)]
     Device(DeviceFault),

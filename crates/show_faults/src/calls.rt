@@ -162,8 +162,8 @@ const U4: Explanation = Explanation {
         exchanged before. The step changes nothing. The crate is `world`.",
     example: "world.step(Step::Exchange) // in a world over Plans::single(plan)\n\
         U4 NoSecondPlan",
-    mistakes: "The world was made with one plan: pass two by `Plans::bridged`. A world\n\
-        makes one exchange.",
+    mistakes: "The world was made with one plan: pass two by `Plans::bridged`, or an input of\n\
+        five parts to `qlock-show world`. A world makes one exchange.",
 };
 
 const J1: Explanation = Explanation {
@@ -172,7 +172,8 @@ const J1: Explanation = Explanation {
     arguments: "j k",
     meaning: "Quorum j of the old coterie and quorum k of the new one have no common\n\
         member. Quorums count from 0. While one plan is exchanged for the other, two\n\
-        clients could hold the lock at once. The crate is `quorum_set`.",
+        clients could hold the lock at once. The crate is `quorum_set`. `qlock-show world`\n\
+        fails with it for an input of two coteries.",
     example: "Bridge::of(alloc, &any_two_of_three, &voter_0_alone)\n\
         J1 NotBridged 2 0",
     mistakes: "The new quorums are too small, or the voters of the new coterie are in\n\

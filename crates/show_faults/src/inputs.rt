@@ -73,12 +73,14 @@ const I6: Explanation = Explanation {
     code: "I6",
     name: "UnknownVoter",
     arguments: "i",
-    meaning: "Word i behind `without` is not the name of a voter of the coterie. Words count\n\
-        from 0.",
+    meaning: "Word i behind `without` is not the name of a voter of the coterie. Or, of\n\
+        `world`, voter i is the first at which the two coteries list different names.\n\
+        Words and voters count from 0.",
     example: "$ ./qlock-show without hub rim9 < examples/wheel-3.toml\n\
         I6 UnknownVoter 1",
     mistakes: "The name is in capitals, or is the number of a voter. Or another coterie\n\
-        was passed: names are in the line `voters` of the input.",
+        was passed: names are in the line `voters` of the input. Two coteries have\n\
+        to list the same voters in the same order.",
 };
 
 const O1: Explanation = Explanation {

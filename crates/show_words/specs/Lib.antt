@@ -2,6 +2,5 @@ pub mod Figures
 pub mod Lines
 pub mod Plans
 pub mod Reasons
-pub mod Stories
 pub mod Sums
 pub mod Worlds

@@ -3,8 +3,7 @@
 //! [`quorum_figures`] and [`voter_figures`] say how often a cycle of a plan uses each quorum and
 //! each voter. [`plan_words`] makes a page of them: the load, whom to ask how often, and why no
 //! plan is better. With capacities the page also has the throughput, and how busy each voter is for
-//! its capacity. [`story_of`] plays a script and keeps what each step did, and [`world_words`] says
-//! it in sentences.
+//! its capacity. [`world_words`] plays a story of `stories`, and says in sentences what happens.
 //!
 //! # What is proved
 //!
@@ -15,11 +14,10 @@
 //! The page of [`plan_words`] is determined letter by letter: `specs/Plans.antt`, `specs/Reasons.antt`
 //! and `specs/Sums.antt` define it from the plan, the figures and the names.
 //!
-//! A story has a moment for each step of the script, in order. What a moment says of its step is
-//! only tested, and so is the page of [`world_words`], except that it has the heading of its end.
+//! The page of [`world_words`] is only tested, except that it has the heading of its end.
 //!
-//! Depends on `certificate` for plans, on `coterie_file` for names, on `known_loads` for bounds, on
-//! `replay` for scripts, and on `world`, which plays them.
+//! Depends on `certificate` for plans, on `coterie_file` for names, on `known_loads` for bounds, and on
+//! `stories`, `world` and `ways`, which play stories.
 //!
 //! ```
 //! // Of the wheel with three rims:
@@ -36,7 +34,6 @@ mod plans;
 mod reasons;
 mod rows;
 mod share;
-mod story;
 mod sums;
 mod voters;
 mod weights;
@@ -47,7 +44,6 @@ pub use names::{name_of, push_members, push_names};
 pub use plans::{plan_words, push_quorum_members};
 pub use rows::{Rows, push_rows};
 pub use share::{push_bar, push_fraction, push_percent, push_quotient, push_tenths, scaled};
-pub use story::{Happening, Moment, Story, story_of};
 pub use sums::{Wording, push_sums};
 pub use voters::busy_part;
 pub use weights::{WeightFigure, weight_figures};

@@ -1,22 +1,21 @@
-//! A script's run in words: who asks whom, who gets which vote, and who waits for whom.
+//! A story in words: who asks whom, who gets which vote, and who waits for whom.
 ghost use Rattle.std.specs.Prelude.{IfOk, string_bytes};
 ghost use Rattle.show_words.specs.Worlds.{IsWorldPage};
 
 use crate::names::{name_of, push_names};
-use crate::story::{Happening, happening_of, world_of};
-use certificate::Plan;
 use coterie_file::Named;
+use dealer::Plans;
 use message::{ClientBody, Message, ToClient, ToVoter, VoterBody};
-use replay::Script;
 use requester::{Phase, Requester, Seen};
 use std::alloc::{AllocError, Global};
+use stories::{Happening, Player, StoryScript, Turn};
 use voter::Voter;
 use ways::let_in;
 use world::{Step, World, WorldFault};
 
 /// Returns the client that has the vote of a voter, if there is one.
-fn holder_of(world: &World, voter: u8) -> Option<u8> {
-    match world.voter(voter) {
+fn holder_of(voter: Option<&Voter>) -> Option<u8> {
+    match voter {
         Some(voter) => match voter.held() {
             Some(grant) => Some(grant.client),
             None => None,
@@ -77,14 +76,14 @@ pub fn push_message_words(
 }
 
 /// Appends who has the vote for which a client has to wait, if a message says that it has to.
-fn push_wait(text: &mut String, world: &World, message: &Message) -> Result<(), AllocError> {
+fn push_wait(text: &mut String, player: &Player, message: &Message) -> Result<(), AllocError> {
     let Message::ToClient(message) = message else {
         return Ok(());
     };
     let ClientBody::Fail { .. } = message.body else {
         return Ok(());
     };
-    match holder_of(world, message.voter) {
+    match holder_of(player.voter(message.voter)) {
         Some(holder) => write!(text, "; client {holder} has the vote"),
         None => Ok(()),
     }
@@ -94,16 +93,17 @@ fn push_wait(text: &mut String, world: &World, message: &Message) -> Result<(), 
 fn push_sent(
     text: &mut String,
     named: &Named,
-    world: &World,
+    player: &Player,
     number: usize,
 ) -> Result<(), AllocError> {
+    let world = player.world();
     if number >= world.sent() {
         return Ok(());
     }
     let message = world.message(number);
     write!(text, "    m {number}: ")?;
     push_message_words(text, named, &message)?;
-    push_wait(text, world, &message)?;
+    push_wait(text, player, &message)?;
     text.push('\n')
 }
 
@@ -155,34 +155,70 @@ fn push_step(
     }
 }
 
-/// Appends why a step was refused.
-fn push_refusal(text: &mut String, fault: WorldFault) -> Result<(), AllocError> {
-    write!(text, "    refused: {fault}\n")
+/// Appends a turn, before it is made.
+fn push_turn(
+    text: &mut String,
+    named: &Named,
+    world: &World,
+    turn: Turn,
+) -> Result<(), AllocError> {
+    match turn {
+        Turn::Step(step) => push_step(text, named, world, step),
+        Turn::CrashClient(client) => write!(
+            text,
+            "client {client} crashes, and restarts from what it saved"
+        ),
+        Turn::CrashVoter(voter) => {
+            let name = name_of(named, voter);
+            write!(text, "{name} crashes, and restarts from what it saved")
+        }
+    }
 }
 
-/// Makes a step, and appends its lines. `place` is the step's place, from 1.
+/// Appends the line of how many messages were forgotten in a crash.
+fn push_forgotten(text: &mut String, messages: usize) -> Result<(), AllocError> {
+    match messages {
+        0 => text.push_str("    it forgets nothing\n"),
+        1 => text.push_str("    it forgets the last message that it received\n"),
+        _ => write!(
+            text,
+            "    it forgets the last {messages} messages that it received\n"
+        ),
+    }
+}
+
+/// Appends what a turn did.
+fn push_happening(
+    text: &mut String,
+    named: &Named,
+    player: &Player,
+    happening: Happening,
+) -> Result<(), AllocError> {
+    match happening {
+        Happening::Refused(fault) => write!(text, "    refused: {fault}\n"),
+        Happening::Crashed(messages) => push_forgotten(text, messages),
+        Happening::Done { first, sent, seen } => {
+            for number in first..first.saturating_add(sent) {
+                push_sent(text, named, player, number)?;
+            }
+            push_seen(text, player.world(), seen)
+        }
+    }
+}
+
+/// Makes a turn, and appends its lines. `place` is the turn's place, from 1.
 fn push_moment(
     text: &mut String,
     named: &Named,
-    world: &mut World,
+    player: &mut Player,
     place: usize,
-    step: Step,
+    turn: Turn,
 ) -> Result<(), AllocError> {
     write!(text, "{place}. ")?;
-    push_step(text, named, world, step)?;
+    push_turn(text, named, player.world(), turn)?;
     text.push('\n')?;
-    let Some(happening) = happening_of(world, step) else {
-        return Err(AllocError);
-    };
-    match happening {
-        Happening::Refused(fault) => push_refusal(text, fault),
-        Happening::Done { first, sent, seen } => {
-            for number in first..first.saturating_add(sent) {
-                push_sent(text, named, world, number)?;
-            }
-            push_seen(text, world, seen)
-        }
-    }
+    let happening = player.play(turn)?;
+    push_happening(text, named, player, happening)
 }
 
 /// Appends the vote that a client waits for, with who has it.
@@ -194,7 +230,7 @@ fn push_missing(
     voter: u8,
 ) -> Result<(), AllocError> {
     let name = name_of(named, voter);
-    match holder_of(world, voter) {
+    match holder_of(world.voter(voter)) {
         Some(holder) if holder == client => write!(text, " {name} (given, but not arrived)"),
         Some(holder) => write!(text, " {name} (client {holder} has it)"),
         None => write!(text, " {name} (nobody has it)"),
@@ -241,16 +277,16 @@ fn push_client(
     }
 }
 
-/// Returns a line for each step of a script, and for each message that it sends. Makes the steps.
-fn steps_words(
+/// Returns a line for each turn of a story, and for each message that it sends. Makes the turns.
+fn turns_words(
     alloc: Global,
     named: &Named,
-    world: &mut World,
-    steps: &[Step],
+    player: &mut Player,
+    turns: &[Turn],
 ) -> Result<String, AllocError> {
     let mut text = String::new(alloc);
-    for (place, step) in steps.iter().enumerate() {
-        push_moment(&mut text, named, world, place.saturating_add(1), *step)?;
+    for (place, turn) in turns.iter().enumerate() {
+        push_moment(&mut text, named, player, place.saturating_add(1), *turn)?;
     }
     Ok(text)
 }
@@ -340,20 +376,21 @@ fn ending_words(
     Ok(text)
 }
 
-/// Returns a script's run in words: a line for each step, a line for each message that it sends,
-/// and at the end what each client does and whom it waits for. If clients wait while nobody is
-/// inside, a way in follows. The plan is one of the named coterie. Fails only if memory runs out.
+/// Returns a story in words: a line for each turn, a line for each message that it sends, and at the
+/// end what each client does and whom it waits for. If clients wait while nobody is inside, a way in
+/// follows. The plans are of coteries with these names. Fails only if memory runs out.
 pub fn world_words(
     alloc: Global,
     named: &Named,
-    plan: Plan,
-    script: &Script,
+    plans: Plans,
+    script: &StoryScript,
 ) -> Result<String, AllocError>
     ensures { IfOk result (λ page. IsWorldPage (string_bytes page)) }
 {
-    let mut world = world_of(alloc, plan, script)?;
-    let steps = steps_words(alloc, named, &mut world, script.steps())?;
+    let mut player = Player::new(alloc, plans, script)?;
+    let turns = turns_words(alloc, named, &mut player, script.turns())?;
+    let mut world = player.end()?;
     let ending = ending_words(alloc, named, &mut world, script.clients())?;
-    let page = format!(in alloc; "{steps}\nAt the end:\n{ending}")?;
+    let page = format!(in alloc; "{turns}\nAt the end:\n{ending}")?;
     Ok(page)
 }

@@ -4,8 +4,9 @@ use crate::kinds::{Kind, arrow, kind_of, lost};
 use coterie_file::Named;
 use message::Message;
 use show_svg::{Point, close_group, close_text, close_title, open_text, open_titled, push_escaped};
-use show_words::{Moment, Story, push_message_words};
+use show_words::push_message_words;
 use std::alloc::{AllocError, Global};
+use stories::{Moment, Story};
 
 /// How far before its receiver's column the line of a message ends that never came.
 const SHORT: u64 = 14;

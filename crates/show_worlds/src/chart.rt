@@ -1,9 +1,9 @@
-//! What a picture of a world shows: its steps, and the messages that they sent.
+//! What a picture of a world shows: its turns, and the messages that they sent.
 use crate::lanes::Lanes;
 use coterie_file::Named;
 use show_svg::Point;
-use show_words::{Happening, Moment, Story};
 use std::alloc::{AllocError, Global};
+use stories::{Happening, Moment, Story, Turn};
 use world::Step;
 
 /// How many steps a picture has at most.
@@ -38,7 +38,7 @@ pub fn shown_moments(story: &Story) -> &[Moment] {
 fn sent_by(moment: &Moment) -> usize {
     match moment.happening {
         Happening::Done { sent, .. } => sent,
-        Happening::Refused(_) => 0,
+        Happening::Refused(_) | Happening::Crashed(_) => 0,
     }
 }
 
@@ -61,9 +61,33 @@ fn senders_of(alloc: Global, moments: &[Moment]) -> Result<Vec<u64>, AllocError>
 
 /// Returns the number of the message that came in a step, if one did.
 pub fn arrival(moment: &Moment) -> Option<usize> {
-    match (moment.step, moment.happening) {
-        (Step::Deliver(number), Happening::Done { .. }) => Some(number as usize),
+    match (moment.turn, moment.happening) {
+        (Turn::Step(Step::Deliver(number)), Happening::Done { .. }) => Some(number as usize),
         _ => None,
+    }
+}
+
+/// A client or a voter.
+#[derive(Clone, Copy)]
+pub enum Node {
+    /// The client with this number.
+    Client(u8),
+    /// The voter with this number.
+    Voter(u8),
+}
+
+/// Returns the client or the voter that does this by itself, if one does.
+pub fn maker_of(turn: Turn) -> Option<Node> {
+    match turn {
+        Turn::Step(
+            Step::Ask(client)
+            | Step::Leave(client)
+            | Step::GiveUp(client)
+            | Step::RemindClient(client),
+        )
+        | Turn::CrashClient(client) => Some(Node::Client(client)),
+        Turn::Step(Step::RemindVoter(voter)) | Turn::CrashVoter(voter) => Some(Node::Voter(voter)),
+        Turn::Step(Step::Deliver(_) | Step::Exchange) => None,
     }
 }
 

@@ -1,11 +1,13 @@
 //! Where the columns of clients and voters are in the picture of a world.
+use crate::chart::{Node, maker_of};
 use coterie_file::Named;
 use message::Message;
 use quorum_set::QSet;
 use show_svg::{LETTER, Point, line, upright_words, words};
-use show_words::{Moment, name_of};
+use show_words::name_of;
 use std::alloc::{AllocError, Global};
-use world::{Step, World};
+use stories::{Moment, Turn};
+use world::World;
 
 /// How far the first column is from the left edge.
 const LEFT: u64 = 250;
@@ -66,23 +68,20 @@ impl Lanes {
         }
     }
 
-    /// Adds the client or the voter of a step.
-    fn mark_step(&mut self, world: &World, step: Step) {
-        match step {
-            Step::Ask(client)
-            | Step::Leave(client)
-            | Step::GiveUp(client)
-            | Step::RemindClient(client) => {
+    /// Adds the client or the voter that does this by itself.
+    fn mark_maker(&mut self, world: &World, turn: Turn) {
+        match maker_of(turn) {
+            Some(Node::Client(client)) => {
                 if world.client(client).is_some() {
                     mark(&mut self.clients, client);
                 }
             }
-            Step::RemindVoter(voter) => {
+            Some(Node::Voter(voter)) => {
                 if world.voter(voter).is_some() {
                     mark(&mut self.voters, voter);
                 }
             }
-            Step::Deliver(_) | Step::Exchange => {}
+            None => {}
         }
     }
 
@@ -108,11 +107,11 @@ impl Lanes {
         }
     }
 
-    /// Returns the columns of what occurs in these steps and in the first messages.
+    /// Returns the columns of what occurs in these turns and in the first messages.
     pub fn of(world: &World, moments: &[Moment], messages: usize) -> Lanes {
         let mut lanes = Lanes::none();
         for moment in moments {
-            lanes.mark_step(world, moment.step);
+            lanes.mark_maker(world, moment.turn);
         }
         lanes.mark_messages(world, messages);
         lanes
@@ -138,6 +137,14 @@ impl Lanes {
     pub fn voter(&self, voter: u8) -> u64 {
         let clients = self.clients.len() as u64;
         self.at(clients.saturating_add(rank(&self.voters, voter)))
+    }
+
+    /// Returns where the column of a client or a voter is.
+    pub fn node(&self, node: Node) -> u64 {
+        match node {
+            Node::Client(client) => self.client(client),
+            Node::Voter(voter) => self.voter(voter),
+        }
     }
 
     /// Returns where the sender and the receiver of a message are.

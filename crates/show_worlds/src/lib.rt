@@ -1,8 +1,8 @@
-//! Pictures of scripts, as SVG 1.1 texts.
+//! Pictures of stories, as SVG 1.1 texts.
 //!
-//! [`world_picture`] shows a script's run as a sequence chart: who sends what to whom, and when it
+//! [`world_picture`] shows a story as a sequence chart: who sends what to whom, and when it
 //! arrives. There is a column for each client and each voter that sends or receives something, and
-//! a row for each step, 200 at most. A message that is delivered twice has two arrows, and one that
+//! a row for each turn, 200 at most. A message that is delivered twice has two arrows, and one that
 //! is not delivered in these rows ends in a cross. Arrows have titles with exact figures, which a
 //! browser shows under the pointer.
 //!
@@ -10,11 +10,10 @@
 //! returns, fails only if memory runs out, and that its text ends with `</svg>`. That the picture
 //! shows the messages of `world` is only tested.
 //!
-//! Depends on `svg` for the texts, on `shown` for the story of the script, and on `coterie_file` for
-//! names.
+//! Depends on `show_svg` for the texts, on `stories` for the story, and on `coterie_file` for names.
 //!
 //! ```
-//! let text = world_picture(alloc, &named, plan, &script)?; // <svg xmlns=..
+//! let text = world_picture(alloc, &named, plans, &script)?; // <svg xmlns=..
 //! ```
 #![tactic(auto)]
 

@@ -1,12 +1,12 @@
-//! The rows of a world's picture: what each step is, and who is inside.
-use crate::chart::{Chart, shown_moments};
+//! The rows of a world's picture: what each turn is, and who is inside.
+use crate::chart::{Chart, Node, maker_of, shown_moments};
 use message::Message;
 use requester::Seen;
 use show_svg::{
     Area, Point, circle, close_group, close_text, close_title, line, open_text, open_titled, rect,
 };
-use show_words::{Happening, Moment, Story};
 use std::alloc::AllocError;
+use stories::{Happening, Moment, Story, Turn};
 use world::{Step, World, WorldFault};
 
 /// How far the words of a row are from the left edge.
@@ -17,6 +17,9 @@ pub const INSIDE: &str = "fill=\"#f2c14e\" stroke=\"#8a6d1f\"";
 
 /// The style of a dot where a client or a voter acts by itself.
 pub const MAKER: &str = "fill=\"#222222\"";
+
+/// The style of a square where a client or a voter crashes.
+pub const CRASH: &str = "fill=\"#b22222\"";
 
 /// Where the faint line of a row begins.
 const GUIDE: u64 = 145;
@@ -34,6 +37,15 @@ fn push_step(out: &mut String, step: Step) -> Result<(), AllocError> {
     }
 }
 
+/// Appends a turn, as a script has it.
+fn push_turn(out: &mut String, turn: Turn) -> Result<(), AllocError> {
+    match turn {
+        Turn::Step(step) => push_step(out, step),
+        Turn::CrashClient(client) => write!(out, "crash-client {client}"),
+        Turn::CrashVoter(voter) => write!(out, "crash-voter {voter}"),
+    }
+}
+
 /// Appends the sign of a refused step, and why it was refused.
 fn push_refusal(out: &mut String, y: u64, fault: WorldFault) -> Result<(), AllocError> {
     let place = Point::at(LEFT + 18, y.saturating_add(13));
@@ -46,41 +58,53 @@ fn push_refusal(out: &mut String, y: u64, fault: WorldFault) -> Result<(), Alloc
     close_text(out)
 }
 
-/// Appends a dot at the column of the client or the voter that makes a step.
-fn push_maker(out: &mut String, chart: &Chart, y: u64, step: Step) -> Result<(), AllocError> {
-    let x = match step {
-        Step::Ask(client)
-        | Step::Leave(client)
-        | Step::GiveUp(client)
-        | Step::RemindClient(client) => chart.lanes.client(client),
-        Step::RemindVoter(voter) => chart.lanes.voter(voter),
-        Step::Deliver(_) | Step::Exchange => return Ok(()),
+/// Appends a square at a place, for a crash.
+pub fn push_crash(out: &mut String, place: Point) -> Result<(), AllocError> {
+    let area = Area {
+        x: place.x.saturating_sub(4),
+        y: place.y.saturating_sub(4),
+        width: 8,
+        height: 8,
     };
-    circle(out, Point::at(x, y), 35, MAKER)
+    rect(out, area, CRASH)
+}
+
+/// Appends a mark at the column of the client or the voter that does this by itself, if one does: a
+/// square for a crash, else a dot.
+fn push_maker(out: &mut String, chart: &Chart, y: u64, moment: &Moment) -> Result<(), AllocError> {
+    let Some(node) = maker_of(moment.turn) else {
+        return Ok(());
+    };
+    let place = Point::at(chart.lanes.node(node), y);
+    match moment.happening {
+        Happening::Done { .. } => circle(out, place, 35, MAKER),
+        Happening::Crashed(_) => push_crash(out, place),
+        Happening::Refused(_) => Ok(()),
+    }
 }
 
 /// Appends the words of a row, and a faint line from them to the columns.
-fn push_words(out: &mut String, chart: &Chart, row: u64, step: Step) -> Result<(), AllocError> {
+fn push_words(out: &mut String, chart: &Chart, row: u64, turn: Turn) -> Result<(), AllocError> {
     let y = chart.row(row);
     let to = Point::at(chart.lanes.right(), y);
     line(out, Point::at(GUIDE, y), to, "stroke=\"#e8e8e8\"")?;
     open_text(out, Point::at(LEFT, y.saturating_add(3)), "")?;
     let place = row.saturating_add(1);
     write!(out, "{place}. ")?;
-    push_step(out, step)?;
+    push_turn(out, turn)?;
     close_text(out)
 }
 
-/// Appends the row of a step: its words, and why it was refused if it was.
+/// Appends the row of a turn: its words, and why it was refused if it was.
 fn push_row(out: &mut String, chart: &Chart, row: u64, moment: &Moment) -> Result<(), AllocError> {
-    push_words(out, chart, row, moment.step)?;
+    push_words(out, chart, row, moment.turn)?;
     match moment.happening {
         Happening::Refused(fault) => push_refusal(out, chart.row(row), fault),
-        Happening::Done { .. } => Ok(()),
+        Happening::Done { .. } | Happening::Crashed(_) => Ok(()),
     }
 }
 
-/// Appends a row for each step.
+/// Appends a row for each turn.
 pub fn push_rows(out: &mut String, story: &Story, chart: &Chart) -> Result<(), AllocError> {
     for (row, moment) in shown_moments(story).iter().enumerate() {
         push_row(out, chart, row as u64, moment)?;
@@ -88,26 +112,20 @@ pub fn push_rows(out: &mut String, story: &Story, chart: &Chart) -> Result<(), A
     Ok(())
 }
 
-/// Appends a dot for each step that a client or a voter makes by itself.
+/// Appends a mark for each turn that a client or a voter makes by itself.
 pub fn push_makers(out: &mut String, story: &Story, chart: &Chart) -> Result<(), AllocError> {
     for (row, moment) in shown_moments(story).iter().enumerate() {
-        match moment.happening {
-            Happening::Done { .. } => push_maker(out, chart, chart.row(row as u64), moment.step)?,
-            Happening::Refused(_) => {}
-        }
+        push_maker(out, chart, chart.row(row as u64), moment)?;
     }
     Ok(())
 }
 
-/// Returns the client that a message came to in a step, or the client that made the step.
-fn client_of(world: &World, step: Step) -> Option<u8> {
-    match step {
-        Step::Ask(client)
-        | Step::Leave(client)
-        | Step::GiveUp(client)
-        | Step::RemindClient(client) => Some(client),
-        Step::Deliver(number) => receiver_of(world, number as usize),
-        Step::RemindVoter(_) | Step::Exchange => None,
+/// Returns the client that a message came to in a turn, or the client that made the turn.
+fn client_of(world: &World, turn: Turn) -> Option<u8> {
+    match (turn, maker_of(turn)) {
+        (Turn::Step(Step::Deliver(number)), _) => receiver_of(world, number as usize),
+        (_, Some(Node::Client(client))) => Some(client),
+        _ => None,
     }
 }
 
@@ -122,11 +140,11 @@ fn receiver_of(world: &World, number: usize) -> Option<u8> {
     }
 }
 
-/// Returns whether a client entered or left in a step.
+/// Returns whether a client entered or left in a turn.
 fn seen_in(moment: &Moment) -> Seen {
     match moment.happening {
         Happening::Done { seen, .. } => seen,
-        Happening::Refused(_) => Seen::Nothing,
+        Happening::Refused(_) | Happening::Crashed(_) => Seen::Nothing,
     }
 }
 
@@ -175,7 +193,7 @@ fn push_entry(
     if seen_in(moment) != Seen::Entered {
         return Ok(());
     }
-    match client_of(&story.world, moment.step) {
+    match client_of(&story.world, moment.turn) {
         Some(client) => {
             let foot = leave_height(chart, shown_moments(story), row);
             push_bar(out, chart, client, row, foot)

@@ -1,19 +1,18 @@
-//! The picture of a script's run.
+//! The picture of a story.
 ghost use Rattle.std.specs.Prelude.{IfOk, string_bytes};
 ghost use Rattle.show_svg.specs.Pictures.{IsEnded};
 
 use crate::arrows::{push_all_lost, push_arrows};
 use crate::chart::{Chart, shown_moments};
 use crate::kinds::{Kind, lost, push_heads, push_kinds};
-use crate::rows::{INSIDE, MAKER, push_bars, push_makers, push_rows};
-use certificate::Plan;
+use crate::rows::{INSIDE, MAKER, push_bars, push_crash, push_makers, push_rows};
 use coterie_file::Named;
-use replay::Script;
+use dealer::Plans;
 use show_svg::{
     Area, Point, circle, close_picture, close_text, open_picture, open_text, rect, words,
 };
-use show_words::{Story, story_of};
 use std::alloc::{AllocError, Global};
+use stories::{Story, StoryScript, story_of};
 
 /// How much room the heading takes.
 const HEADING: u64 = 96;
@@ -42,8 +41,10 @@ fn push_signs(out: &mut String, y: u64) -> Result<(), AllocError> {
         out,
         Point::at(340, low),
         "",
-        "a client or a voter acts by itself: it asks, leaves, gives up or repeats",
-    )
+        "acts by itself: asks, leaves, gives up or repeats",
+    )?;
+    push_crash(out, Point::at(644, y))?;
+    words(out, Point::at(656, low), "", "crashes, and restarts")
 }
 
 /// Appends the heading, which says what the lines and bars are.
@@ -119,19 +120,19 @@ fn push_story(
     push_chart(alloc, out, named, story, &chart)
 }
 
-/// Returns a picture of a script's run as a sequence chart: a column for each client and each voter
-/// that occurs, a row for each step, an arrow for each arrival of a message, a cross for each
-/// message that never arrives, and a bar where a client is inside. The plan is one of the named
-/// coterie. Fails only if memory runs out.
+/// Returns a picture of a story as a sequence chart: a column for each client and each voter that
+/// occurs, a row for each turn, an arrow for each arrival of a message, a cross for each message that
+/// never arrives, and a bar where a client is inside. The plans are of coteries with these names. Fails
+/// only if memory runs out.
 pub fn world_picture(
     alloc: Global,
     named: &Named,
-    plan: Plan,
-    script: &Script,
+    plans: Plans,
+    script: &StoryScript,
 ) -> Result<String, AllocError>
     ensures { IfOk result (λ page. IsEnded (string_bytes page)) }
 {
-    let story = story_of(alloc, plan, script)?;
+    let story = story_of(alloc, plans, script)?;
     let mut out = String::new(alloc);
     push_story(alloc, &mut out, named, &story)?;
     close_picture(&mut out)?;

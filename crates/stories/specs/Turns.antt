@@ -1,0 +1,118 @@
+-- The lines of a story: the steps of a script, an exchange of the plan, and crashes.
+--
+--     exchange             later requests use the second plan
+--     crash-client C       client C crashes, and restarts from what it saved
+--     crash-voter V        the same of voter V
+--
+-- All other lines are those of a script. C and V are at most 255.
+use Rattle.std.specs.Prelude.{ℕ, ◌≡◌, ◌≤◌, List, [], ◌∷◌, codes, Option, Some, None, ⊤, if◌then◌else◌}
+use Rattle.std.specs.Str.{bytes_eq}
+use Rattle.std.proofs.Common.{ap, ap₂, sym, ◌∙◌, refl, get_or, length, ◌+◌, ◌<◌, ◌^◌, arith, rules}
+use Rattle.texts.specs.Fields.{AllFit}
+use Rattle.text_lines.specs.Forms.{Form, IsForm, IsWord}
+use Rattle.world.specs.declared.step.Step.{Step}
+use Rattle.world.specs.declared.step.Step.TheVariants.{Ask, Deliver, Leave, GiveUp, RemindClient, RemindVoter, Exchange}
+use Rattle.replay.specs.Scripts.{HasStepLine, step_form, step_number, step_word, steps_have_form}
+use Rattle.stories.specs.declared.turn.Turn.{Turn}
+use Rattle.stories.specs.declared.turn.Turn.TheVariants.{CrashClient, CrashVoter, Step as Makes}
+
+-- the word of a turn: that of its step, if a script has a line for it
+abbrev pub turn_word : Turn → List ℕ
+turn_word (Makes Exchange) = codes "exchange"
+turn_word (Makes step) = step_word step
+turn_word (CrashClient client) = codes "crash-client"
+turn_word (CrashVoter voter) = codes "crash-voter"
+
+-- the number of a turn, of a message, a client or a voter; an exchange has none
+abbrev pub turn_numbers : Turn → List ℕ
+turn_numbers (Makes Exchange) = []
+turn_numbers (Makes step) = step_number step ∷ []
+turn_numbers (CrashClient client) = client ∷ []
+turn_numbers (CrashVoter voter) = voter ∷ []
+
+-- which turns have a line; of a script's steps those that have one there
+abbrev pub HasTurnLine : Turn → Type 0
+HasTurnLine (Makes Exchange) = ⊤
+HasTurnLine (Makes step) = HasStepLine step
+HasTurnLine (CrashClient client) = client ≤ 255
+HasTurnLine (CrashVoter voter) = voter ≤ 255
+
+-- the line of a turn
+abbrev pub turn_form : Form Turn
+turn_form = record { word = turn_word; numbers = turn_numbers; fits = HasTurnLine }
+
+-- the turn is a crash
+abbrev pub IsCrash : Turn → Type 0
+IsCrash (Makes step) = ⊥
+IsCrash (CrashClient client) = ⊤
+IsCrash (CrashVoter voter) = ⊤
+
+-- The form is that of lines
+
+-- the turn of a word and a number
+turn_by : List ℕ → ℕ → Option Turn
+turn_by word n =
+    if bytes_eq word (codes "exchange") then Some (Makes Exchange) else
+    if bytes_eq word (codes "ask") then Some (Makes (Ask n)) else
+    if bytes_eq word (codes "deliver") then Some (Makes (Deliver n)) else
+    if bytes_eq word (codes "leave") then Some (Makes (Leave n)) else
+    if bytes_eq word (codes "give-up") then Some (Makes (GiveUp n)) else
+    if bytes_eq word (codes "remind-client") then Some (Makes (RemindClient n)) else
+    if bytes_eq word (codes "remind-voter") then Some (Makes (RemindVoter n)) else
+    if bytes_eq word (codes "crash-client") then Some (CrashClient n) else
+    if bytes_eq word (codes "crash-voter") then Some (CrashVoter n) else None
+
+turn_by-word : (t : Turn) → HasTurnLine t → turn_by (turn_word t) (get_or (turn_numbers t) 0 0) ≡ Some t
+unfolding turn_by
+turn_by-word (Makes (Ask c)) h = refl
+turn_by-word (Makes (Deliver k)) h = refl
+turn_by-word (Makes (Leave c)) h = refl
+turn_by-word (Makes (GiveUp c)) h = refl
+turn_by-word (Makes (RemindClient c)) h = refl
+turn_by-word (Makes (RemindVoter v)) h = refl
+turn_by-word (Makes Exchange) h = refl
+turn_by-word (CrashClient c) h = refl
+turn_by-word (CrashVoter v) h = refl
+
+turn_words : (t : Turn) → HasTurnLine t → IsWord (turn_word t)
+turn_words (Makes (Ask c)) h = search rules
+turn_words (Makes (Deliver k)) h = search rules
+turn_words (Makes (Leave c)) h = search rules
+turn_words (Makes (GiveUp c)) h = search rules
+turn_words (Makes (RemindClient c)) h = search rules
+turn_words (Makes (RemindVoter v)) h = search rules
+turn_words (Makes Exchange) h = search rules
+turn_words (CrashClient c) h = search rules
+turn_words (CrashVoter v) h = search rules
+
+turns_fit : (t : Turn) → HasTurnLine t → AllFit (turn_numbers t)
+turns_fit (Makes (Ask c)) h = (omega arith, tt)
+turns_fit (Makes (Deliver k)) h = (h, tt)
+turns_fit (Makes (Leave c)) h = (omega arith, tt)
+turns_fit (Makes (GiveUp c)) h = (omega arith, tt)
+turns_fit (Makes (RemindClient c)) h = (omega arith, tt)
+turns_fit (Makes (RemindVoter v)) h = (omega arith, tt)
+turns_fit (Makes Exchange) h = tt
+turns_fit (CrashClient c) h = (omega arith, tt)
+turns_fit (CrashVoter v) h = (omega arith, tt)
+
+turns_few : (t : Turn) → length (turn_numbers t) ≤ 1
+turns_few (Makes (Ask c)) = omega arith
+turns_few (Makes (Deliver k)) = omega arith
+turns_few (Makes (Leave c)) = omega arith
+turns_few (Makes (GiveUp c)) = omega arith
+turns_few (Makes (RemindClient c)) = omega arith
+turns_few (Makes (RemindVoter v)) = omega arith
+turns_few (Makes Exchange) = omega arith
+turns_few (CrashClient c) = omega arith
+turns_few (CrashVoter v) = omega arith
+
+pub turns_have_form : IsForm turn_form
+turns_have_form = record {
+  words = turn_words;
+  small = turns_fit;
+  few = λ t h. omega (arith, turns_few t);
+  one = λ s t hs ht word numbers.
+      let by : ◌≡◌ {A = Option Turn} (Some s) (Some t) = sym (turn_by-word s hs) ∙ ap₂ turn_by word (ap (λ (ns : List ℕ). get_or ns 0 0) numbers) ∙ turn_by-word t ht in
+      cc;
+}

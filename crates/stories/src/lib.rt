@@ -1,0 +1,57 @@
+//! Stories of the voting lock: scripts in which plans are exchanged, and clients and voters crash.
+//!
+//! A story has the lines of a script of `replay`, and these:
+//!
+//! | Line | Turn |
+//! |---|---|
+//! | `exchange` | later requests use the second plan |
+//! | `crash-client C` | client C crashes, and restarts from what it saved |
+//! | `crash-voter V` | the same of voter V |
+//!
+//! Empty lines, and lines that begin with `#`, are notes: they are left out.
+//!
+//! # What a crash is
+//!
+//! Save, then send: a client or a voter saves its state at each step of its own that sends a message,
+//! or lets a client enter or leave. Other steps are silent. A crash brings it back to what it saved
+//! last. So a crash undoes exactly the silent steps since then, and nobody else knew of them.
+//!
+//! A [`Player`] has a world in which each client and each voter is as it was saved last, and beside it
+//! each of them as it is now. A silent step is made there alone. Before a step that saves, the messages
+//! that arrived silently arrive in the world. So a crash leaves the world as it is: those messages
+//! never arrived.
+//!
+//! # What is proved
+//!
+//! - A text is read if and only if, without notes, it is the text of a script. Otherwise the fault names
+//!   its first bad line (`specs/Scripts.antt`).
+//! - A story has a moment for each turn of its script, in order.
+//! - The world of a story is one of `world`, of these plans. So at most one client is inside at a time.
+//!   A crash leaves it as it is.
+//!
+//! That a silent step beside the world does what it does in the world is only tested, and so is what a
+//! moment says of its turn.
+//!
+//! Depends on `world`, `voter` and `requester`, on `replay` for the lines of steps, and on `dealer` for
+//! plans.
+//!
+//! ```
+//! let script = read_story(alloc, b"world 1 9\n# a note\nask 0\ncrash-client 0\n")?;
+//! let story = story_of(alloc, Plans::single(plan), &script)?; // two moments
+//! ```
+#![tactic(auto)]
+
+mod ahead;
+mod happening;
+mod player;
+mod reading;
+mod script;
+mod story;
+mod turn;
+
+pub use happening::Happening;
+pub use player::Player;
+pub use reading::read_story;
+pub use script::StoryScript;
+pub use story::{Moment, Story, story_of};
+pub use turn::Turn;

@@ -1,0 +1,49 @@
+//! What the turns of a story did, one after the other.
+ghost use Rattle.std.specs.Prelude.{◌≡◌, IfOk};
+ghost use Rattle.stories.specs.Moments.{turns_of};
+
+use crate::happening::Happening;
+use crate::player::Player;
+use crate::script::StoryScript;
+use crate::turn::Turn;
+use dealer::Plans;
+use std::alloc::{AllocError, Global};
+use world::World;
+
+/// A turn, and what it did.
+#[derive(Clone, Copy)]
+pub struct Moment {
+    /// The turn.
+    pub turn: Turn,
+    /// What it did.
+    pub happening: Happening,
+}
+
+/// A world after a story, and what each turn of the story did.
+#[derive(Drop)]
+pub struct Story {
+    /// The world after the last turn. It has all messages.
+    pub world: World,
+    /// The turns, in order.
+    pub moments: Vec<Moment>,
+}
+
+/// Plays a story by these plans. Returns a moment for each turn, in order. Fails only if memory runs
+/// out.
+pub fn story_of(alloc: Global, plans: Plans, script: &StoryScript) -> Result<Story, AllocError>
+    ensures moments { IfOk result (λ story. turns_of story.moments.items ≡ script.now.turns) }
+    ensures plans { IfOk result (λ story. story.world.plans ≡ plans) }
+{
+    let mut player = Player::new(alloc, plans, script)?;
+    let mut moments = Vec::new(alloc);
+    let turns = script.turns();
+    for turn in turns {
+        let happening = player.play(*turn)?;
+        moments.push(Moment {
+            turn: *turn,
+            happening,
+        })?;
+    }
+    let world = player.end()?;
+    Ok(Story { world, moments })
+}
