@@ -4,7 +4,7 @@ ghost use Rattle.std.specs.List.{range_with_len};
 ghost use Rattle.numbers.specs.Bounds.{max_clients, max_tickets};
 ghost use Rattle.dealer.specs.Plans.{coteries_of};
 ghost use Rattle.clerks.specs.Clerks.{fresh_clerks, office_names, plan_quorums};
-ghost use Rattle.members.specs.Clusters.{ClusterState, IsCluster, names_in};
+ghost use Rattle.members.specs.Clusters.{ClusterState, IsBlank, IsCluster, names_in};
 ghost use Rattle.members.specs.Members.{AreIdle, fresh_member};
 
 use crate::cluster::{Cluster, Left};
@@ -178,6 +178,34 @@ fn members_of<N: ClusterName>(
     Ok(members)
 }
 
+/// Creates what a cluster has besides its board and its offices, and its members. They get all seats
+/// of the root and all tickets of the clerks.
+fn parts_of<N: ClusterName>(
+    alloc: Global,
+    board: &Board,
+    root: &mut BoardRoot,
+    offices: &Offices,
+    clerks: &mut Clerks,
+    voters: u8,
+    clients: u8,
+    quota: u64,
+) -> Result<(Rooms<N>, Vec<Member<N>>), AllocError>
+    requires board { board.now ≡ N.cluster.board }
+    requires quota { quota ≡ N.cluster.quota }
+    requires blank { IsBlank N.cluster offices.now root.old clerks.old voters clients }
+    ensures nodes { IfOk result (λ parts. length parts.0.nodes.items ≡ voters) }
+    ensures lines { IfOk result (λ parts. length parts.0.lines.items ≡ voters) }
+    ensures mailboxes { IfOk result (λ parts. length parts.0.mailboxes.items ≡ clients) }
+    ensures members { IfOk result (λ parts. parts.1.items ≡ map (fresh_member N.cluster) (range_with_len 0 clients)) }
+    ensures seats { IfOk result (λ _. (root.new.seats ≡ 0) × (root.new.passes ≡ [])) }
+    ensures clerks { IfOk result (λ _. clerks.new ≡ fresh_clerks (names_in N.cluster) 0) }
+    ensures table { root.new.table ≡ root.old.table }
+{
+    let rooms = rooms_of(alloc, board, root, voters, clients)?;
+    let members = members_of(alloc, board, root, offices, clerks, clients, quota)?;
+    Ok((rooms, members))
+}
+
 /// Creates the board of one plan's coterie, or of two plans' coteries, and its root.
 fn board_of(
     alloc: Global,
@@ -270,13 +298,13 @@ impl Blank {
             clients,
             quota,
         } = self;
-        let rooms = rooms_of(alloc, &board, &mut root, voters, clients)?;
-        let members = members_of(
+        let (rooms, members) = parts_of(
             alloc,
             &board,
             &mut root,
             &offices,
             &mut clerks,
+            voters,
             clients,
             quota,
         )?;

@@ -248,6 +248,35 @@ fn join_nodes<N: ClusterName>(
     Ok(())
 }
 
+/// Joins all members' clerks and seats, and then the seats of all nodes.
+fn join_all<N: ClusterName>(
+    board: &Board,
+    offices: &Offices,
+    root: &mut BoardRoot,
+    clerks: &mut Clerks,
+    members: Vec<Member<N>>,
+    nodes: Vec<Mutex<Node<N>>>,
+) -> Result<(), BoardFault>
+    requires board { board.now ≡ N.cluster.board }
+    requires offices { office_names offices.now ≡ names_in N.cluster }
+    requires table { root.old.table ≡ N.cluster.board.table }
+    requires clerks { names_of clerks.old ≡ names_in N.cluster }
+    ensures seats { IfOk result (λ _. root.new.seats ≡ root.old.seats + length members.items + length nodes.items) }
+    ensures passes { IfOk result (λ _. root.new.passes ≡ root.old.passes ++ all_passes members.items) }
+    ensures each { IfOk result (λ _. All (λ p. p.0 < N.cluster.board.clients) (all_passes members.items)) }
+    ensures receipts { IfOk result (λ _. (side : Side) →
+        receipts_of clerks.new side ≡ receipts_of clerks.old side ++ all_receipts side members.items) }
+    ensures share { IfOk result (λ _. (n : ℕ) → HasShare clerks.old n →
+        HasShare clerks.new (n + length members.items * N.cluster.quota)) }
+    ensures table { root.new.table ≡ root.old.table }
+    ensures names { names_of clerks.new ≡ names_of clerks.old }
+    ensures lost { IfErr result (IsLoss N.cluster) }
+{
+    join_members(board, offices, root, clerks, members)?;
+    join_nodes(board, root, nodes)?;
+    Ok(())
+}
+
 /// Returns the fault of a close that lost cluster and members by this fault of the board: a vote that
 /// is out stays a vote that is out.
 fn lost_by_board<N: ClusterName>(fault: BoardFault) -> CloseFault<N>
@@ -332,8 +361,7 @@ impl<N: ClusterName> Cluster<N> {
             mut clerks,
             of: _,
         } = left.into_inner();
-        join_members(&board, &offices, &mut root, &mut clerks, members)?;
-        join_nodes(&board, &mut root, nodes)?;
+        join_all(&board, &offices, &mut root, &mut clerks, members, nodes)?;
         offices.end(clerks);
         let Ok(total) = board.close(root) else {
             unreachable!()

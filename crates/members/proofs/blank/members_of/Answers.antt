@@ -9,6 +9,12 @@ use Rattle.members.specs.Members.{fresh_member}
 use Rattle.members.proofs.BlankLemmas.{le-quotas_left, mul-less_one}
 use Rattle.members.proofs.blank.members_of.Goals as goal
 
+pub split-part-requires-clause-rest : goal.split-part-requires-clause-rest
+split-part-requires-clause-rest g c =
+    let quota = c.args.quota in
+    subst (λ (k : ClerksState). quota ≤ k.first.rest) (sym c.loop-client.invariant.clerks)
+    (le-quotas_left c.args.clients c.loop-client.client quota c.loop-client-test.true)
+
 pub split-part-requires-clause-second : goal.split-part-requires-clause-second
 split-part-requires-clause-second g c =
     let quota = c.args.quota in

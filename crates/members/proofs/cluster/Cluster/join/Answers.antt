@@ -20,14 +20,14 @@ end-requires-clause-whole g c =
     let left = c.into_inner-root.result.no_tickets in
     let clients = cluster.board.clients * cluster.quota in
     let members : ℕ = 0 + length c.args.members.items * cluster.quota in
-    AreWhole-HasShare c.self.inside.offices c.join_members.new.clerks names clients members c.self.invariant.offices_are
-    (c.in_ok-join_members.ensures.names ∙ ap names_of left ∙ names_of-fresh names 0)
-    (c.in_ok-join_members.ensures.share 0 (subst (λ (k : ClerksState). HasShare k 0) (sym left) (HasShare-fresh names 0)))
+    AreWhole-HasShare c.self.inside.offices c.join_all.new.clerks names clients members c.self.invariant.offices_are
+    (c.in_ok-join_all.ensures.names ∙ ap names_of left ∙ names_of-fresh names 0)
+    (c.in_ok-join_all.ensures.share 0 (subst (λ (k : ClerksState). HasShare k 0) (sym left) (HasShare-fresh names 0)))
     (omega (arith, mul-le-mul_right cluster.quota c.requires))
 
 -- the root has the passes of all members
-passes : (g : Over) (c : After-close g) → c.join_nodes.new.root.passes ≡ all_passes c.args.members.items
-passes g c = c.in_ok-join_nodes.ensures.passes ∙ c.in_ok-join_members.ensures.passes
+passes : (g : Over) (c : After-close g) → c.join_all.new.root.passes ≡ all_passes c.args.members.items
+passes g c = c.in_ok-join_all.ensures.passes
     ∙ ap (λ (l : List Pass). l ++ all_passes c.args.members.items) c.into_inner-root.result.no_passes
 
 pub returns-clause-passes : goal.returns-clause-passes
@@ -45,8 +45,8 @@ returns-clause-tickets g c =
     let members = c.args.members.items in
     let left = c.into_inner-root.result.no_tickets in
     let names = names_in g.N.ClusterName.cluster in
-    let receipts : (side : Side) → receipts_of c.join_members.new.clerks side ≡ all_receipts side members = λ side.
-    c.in_ok-join_members.ensures.receipts side ∙ ap (λ (k : ClerksState). receipts_of k side ++ all_receipts side members) left
+    let receipts : (side : Side) → receipts_of c.join_all.new.clerks side ≡ all_receipts side members = λ side.
+    c.in_ok-join_all.ensures.receipts side ∙ ap (λ (k : ClerksState). receipts_of k side ++ all_receipts side members) left
     ∙ ap (λ (l : List Receipt). l ++ all_receipts side members) (receipts_of-fresh names 0 side) in
     λ side. elim side as (λ s. AreAllBelow (tickets_of (all_receipts s members)) (length (all_receipts s members))) [
       | First ↦ subst (λ (l : List Receipt). AreAllBelow (tickets_of l) (length l)) (receipts First) c.end.ensures.first
