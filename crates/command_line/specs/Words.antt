@@ -49,11 +49,16 @@ make_app = with_rule (with_rule (new_app (codes "make")) (word_rule (codes "SHAP
 abbrev pub deal_app : App
 deal_app = with_rule (new_app (codes "deal")) tickets_rule
 
+-- the app with these arguments too
+abbrev pub with_rules : App → List Rule → App
+with_rules a [] = a
+with_rules a (rule ∷ rules) = with_rules (with_rule a rule) rules
+
 -- qlock run, with CLIENTS, PASSES and TURNS
 abbrev pub run_app : App
 run_app =
-    with_rule (with_rule (with_rule (new_app (codes "run")) (number_rule (codes "CLIENTS") 1 max_clients))
-    (number_rule (codes "PASSES") 0 1000)) (number_rule (codes "TURNS") 0 (10 ^ 12))
+    with_rules (new_app (codes "run"))
+    (number_rule (codes "CLIENTS") 1 max_clients ∷ number_rule (codes "PASSES") 0 1000 ∷ number_rule (codes "TURNS") 0 (10 ^ 12) ∷ [])
 
 -- the app with these subcommands too
 abbrev pub with_subcommands : App → List App → App

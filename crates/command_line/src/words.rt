@@ -1,5 +1,5 @@
 //! The command line: which command its words name.
-ghost use Rattle.std.specs.Prelude.{◌≡◌, ◌≤◌, ℕ, List, [], false, IfErr, IfOk, IfSome, None, codes, map, string_bytes};
+ghost use Rattle.std.specs.Prelude.{◌≡◌, ◌≢◌, ◌≤◌, ℕ, List, [], false, IfErr, IfOk, IfSome, None, codes, map, string_bytes};
 ghost use Rattle.clap.specs.Words.{app_of, found_of, rows_of, rule_of, subcommand_rows_of};
 ghost use Rattle.command_line.specs.declared.command.Shape.{Shape};
 ghost use Rattle.command_line.specs.Words.{AreSizes, IsLocal, IsNamedBy, IsNumber, IsShapeOf, Names, Refuses, RefusesUse, deal_app, make_app, planning_app, qlock_app, run_app, running_app, size_texts, sizes_rule, used_as};
@@ -73,35 +73,35 @@ fn run_command<'a>(alloc: Global) -> Result<clap::Command<'a>, AllocError>
     ensures app { IfOk result (λ c. app_of c ≡ run_app) }
     ensures local { IfOk result IsLocal }
 {
-    let clients = number_argument(
-        alloc,
-        "CLIENTS",
-        "How many clients there are, 1 to 64",
-        1,
-        MOST_CLIENTS,
-    );
-    let passes = number_argument(
-        alloc,
-        "PASSES",
-        "How often each client passes, 0 to 1000",
-        0,
-        MOST_PASSES,
-    );
-    let turns = number_argument(
-        alloc,
-        "TURNS",
-        "How many turns each client has for all its passes, 0 to 1000000000000",
-        0,
-        MOST_TURNS,
-    );
+    let arguments = vec![in alloc;
+        number_argument(
+            alloc,
+            "CLIENTS",
+            "How many clients there are, 1 to 64",
+            1,
+            MOST_CLIENTS,
+        ),
+        number_argument(
+            alloc,
+            "PASSES",
+            "How often each client passes, 0 to 1000",
+            0,
+            MOST_PASSES,
+        ),
+        number_argument(
+            alloc,
+            "TURNS",
+            "How many turns each client has for all its passes, 0 to 1000000000000",
+            0,
+            MOST_TURNS,
+        ),
+    ]?;
     bare_command(
         alloc,
         "run",
         "Run clients in threads, and write their record: standard input has the coterie, a line %%, and the plan",
     )
-    .arg(clients)?
-    .arg(passes)?
-    .arg(turns)
+    .args(arguments)
 }
 
 /// Returns the command line with `make`, `plan` and `check`.
@@ -201,20 +201,29 @@ fn cyclic_shape(mut sizes: Vec<u32>) -> Option<Shape>
     Some(Shape::Cyclic(voters, sizes))
 }
 
+/// Returns the shape with this name and these sizes, or `None` if there is none or it is cyclic.
+fn fixed_shape(name: &str, sizes: &[u32]) -> Option<Shape>
+    ensures some { IfSome result (IsShapeOf name.now sizes.now) }
+    ensures none { result ≡ None → name.now ≢ codes "cyclic" → (shape : Shape) → ¬ IsShapeOf name.now sizes.now shape }
+{
+    match (name, sizes) {
+        ("grid", [rows, columns]) => Some(Shape::Grid(*rows, *columns)),
+        ("majority", [voters]) => Some(Shape::Majority(*voters)),
+        ("tree", [height]) => Some(Shape::Tree(*height)),
+        ("wheel", [rims]) => Some(Shape::Wheel(*rims)),
+        _ => None,
+    }
+}
+
 /// Returns the shape with this name and these sizes, or `None` if there is none.
 fn shape_of(name: &str, sizes: Vec<u32>) -> Option<Shape>
     ensures some { IfSome result (IsShapeOf name.now sizes.items) }
     ensures none { result ≡ None → (shape : Shape) → ¬ IsShapeOf name.now sizes.items shape }
 {
     if name == "cyclic" {
-        return cyclic_shape(sizes);
-    }
-    match (name, sizes.as_slice()) {
-        ("grid", [rows, columns]) => Some(Shape::Grid(*rows, *columns)),
-        ("majority", [voters]) => Some(Shape::Majority(*voters)),
-        ("tree", [height]) => Some(Shape::Tree(*height)),
-        ("wheel", [rims]) => Some(Shape::Wheel(*rims)),
-        _ => None,
+        cyclic_shape(sizes)
+    } else {
+        fixed_shape(name, &sizes)
     }
 }
 
