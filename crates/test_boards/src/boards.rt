@@ -5,7 +5,6 @@ ghost use Rattle.board.specs.Words.{nobody};
 use board::{Board, BoardFault, BoardRoot, ClientSeat, Total, VoterSeat};
 use quorum_set::{Coterie, QSet, Side};
 use std::alloc::Global;
-use std::test::Fail;
 use std::thread;
 use std::thread::Threads;
 
@@ -19,21 +18,26 @@ fn zero() -> QSet
 }
 
 /// Returns the coterie of one voter, with one quorum.
-fn one(alloc: Global) -> Result<Coterie, Fail>
-    ensures { IfOk result (λ c. c ≡ record { voters = 1; quorums = (0 ∷ []) ∷ [] }) }
+fn one(alloc: Global) -> Option<Coterie>
+    ensures { IfSome result (λ c. c ≡ record { voters = 1; quorums = (0 ∷ []) ∷ [] }) }
 {
-    let sets = vec![in alloc; zero()]?;
-    Ok(Coterie::of(1, sets)?)
+    let Ok(sets) = vec![in alloc; zero()] else {
+        return None;
+    };
+    Coterie::of(1, sets).ok()
 }
 
 /// Returns a board of one voter, for this many clients and with this limit, and its root.
-fn board_of(alloc: Global, clients: u8, limit: u64) -> Result<(Board, BoardRoot), Fail>
+fn board_of(alloc: Global, clients: u8, limit: u64) -> Option<(Board, BoardRoot)>
     requires clients { (1 ≤ clients) × (clients ≤ 64) }
     requires limit { (1 ≤ limit) × (limit ≤ 100) }
-    ensures board { IfOk result (λ p. (p.0.voters ≡ 1) × (p.0.quorums ≡ (0 ∷ []) ∷ []) × (p.0.firsts ≡ 1) × (p.0.clients ≡ clients)) }
-    ensures root { IfOk result (λ p. p.1.table ≡ p.0.table) }
+    ensures board { IfSome result (λ p. (p.0.voters ≡ 1) × (p.0.quorums ≡ (0 ∷ []) ∷ []) × (p.0.firsts ≡ 1) × (p.0.clients ≡ clients)) }
+    ensures root { IfSome result (λ p. p.1.table ≡ p.0.table) }
 {
-    Ok(Board::new(alloc, &one(alloc)?, clients, limit)?)
+    match one(alloc) {
+        Some(coterie) => Board::new(alloc, &coterie, clients, limit).ok(),
+        None => None,
+    }
 }
 
 /// Returns the seat of voter 0, if the root has it.
@@ -64,18 +68,20 @@ fn client_of(root: &mut BoardRoot, board: &Board, client: u8) -> Option<ClientSe
 pub(crate) type Seated = (Board, BoardRoot, VoterSeat, ClientSeat);
 
 /// Returns such a board, for this many clients and with this limit.
-pub(crate) fn seated(alloc: Global, clients: u8, limit: u64) -> Result<Option<Seated>, Fail>
+pub(crate) fn seated(alloc: Global, clients: u8, limit: u64) -> Option<Seated>
     requires clients { (1 ≤ clients) × (clients ≤ 64) }
     requires limit { (1 ≤ limit) × (limit ≤ 100) }
-    ensures board { IfOk result (λ r. IfSome r (λ p. (p.0.voters ≡ 1) × (p.0.quorums ≡ (0 ∷ []) ∷ []) × (p.0.firsts ≡ 1) × (p.0.clients ≡ clients))) }
-    ensures root { IfOk result (λ r. IfSome r (λ p. p.1.table ≡ p.0.table)) }
-    ensures voter { IfOk result (λ r. IfSome r (λ p. p.2 ≡ record { table = p.0.table; voter = 0; current = None; last = 0 })) }
-    ensures client { IfOk result (λ r. IfSome r (λ p. p.3 ≡ record { table = p.0.table; client = 0; held = nobody; reading = None; passes = [] })) }
+    ensures board { IfSome result (λ p. (p.0.voters ≡ 1) × (p.0.quorums ≡ (0 ∷ []) ∷ []) × (p.0.firsts ≡ 1) × (p.0.clients ≡ clients)) }
+    ensures root { IfSome result (λ p. p.1.table ≡ p.0.table) }
+    ensures voter { IfSome result (λ p. p.2 ≡ record { table = p.0.table; voter = 0; current = None; last = 0 }) }
+    ensures client { IfSome result (λ p. p.3 ≡ record { table = p.0.table; client = 0; held = nobody; reading = None; passes = [] }) }
 {
-    let (board, mut root) = board_of(alloc, clients, limit)?;
+    let Some((board, mut root)) = board_of(alloc, clients, limit) else {
+        return None;
+    };
     match (voter_of(&mut root, &board), client_of(&mut root, &board, 0)) {
-        (Some(voter), Some(client)) => Ok(Some((board, root, voter, client))),
-        _ => Ok(None),
+        (Some(voter), Some(client)) => Some((board, root, voter, client)),
+        _ => None,
     }
 }
 
@@ -90,24 +96,6 @@ fn enters(board: &Board, voter: &mut VoterSeat, client: &mut ClientSeat) -> bool
 {
     voter.grant(board, 0, 1);
     client.take(board, 0, 1)
-}
-
-/// Returns such a board whose client 0 is inside: it took the vote under grant 1.
-fn inside(alloc: Global, clients: u8, limit: u64) -> Result<Option<Seated>, Fail>
-    requires clients { (1 ≤ clients) × (clients ≤ 64) }
-    requires limit { (1 ≤ limit) × (limit ≤ 100) }
-    ensures board { IfOk result (λ r. IfSome r (λ p. (p.0.voters ≡ 1) × (p.0.quorums ≡ (0 ∷ []) ∷ []) × (p.0.firsts ≡ 1) × (p.0.clients ≡ clients))) }
-    ensures root { IfOk result (λ r. IfSome r (λ p. p.1.table ≡ p.0.table)) }
-    ensures voter { IfOk result (λ r. IfSome r (λ p. p.2 ≡ record { table = p.0.table; voter = 0; current = Some (0, 1); last = 1 })) }
-    ensures client { IfOk result (λ r. IfSome r (λ p. (p.3.table ≡ p.0.table) × (slice_index p.3.held 0 ≡ 1))) }
-{
-    let Some((board, root, mut voter, mut client)) = seated(alloc, clients, limit)? else {
-        return Ok(None);
-    };
-    if !enters(&board, &mut voter, &mut client) {
-        return Ok(None);
-    }
-    Ok(Some((board, root, voter, client)))
 }
 
 /// Returns whether client 0 can take the vote once it is offered, and not before, and keeps it.
@@ -126,15 +114,14 @@ fn takes_what_is_offered(board: &Board, voter: &mut VoterSeat, client: &mut Clie
 }
 
 #[test]
-fn vote_is_taken_once_it_is_offered(rt: HostRuntime) -> Result<(), Fail> {
-    let took = match seated(rt.alloc(), 1, 1)? {
+fn vote_is_taken_once_it_is_offered(rt: HostRuntime) {
+    let took = match seated(rt.alloc(), 1, 1) {
         Some((board, _root, mut voter, mut client)) => {
             takes_what_is_offered(&board, &mut voter, &mut client)
         }
         None => false,
     };
     assert!(rt; took);
-    Ok(())
 }
 
 /// Returns whether client 0 can't take a vote that is offered to client 1, and the offer ends.
@@ -149,15 +136,14 @@ fn settles_an_offer(board: &Board, voter: &mut VoterSeat, client: &mut ClientSea
 }
 
 #[test]
-fn offered_vote_is_settled(rt: HostRuntime) -> Result<(), Fail> {
-    let settled = match seated(rt.alloc(), 2, 9)? {
+fn offered_vote_is_settled(rt: HostRuntime) {
+    let settled = match seated(rt.alloc(), 2, 9) {
         Some((board, _root, mut voter, mut client)) => {
             settles_an_offer(&board, &mut voter, &mut client)
         }
         None => false,
     };
     assert!(rt; settled);
-    Ok(())
 }
 
 /// Returns whether the root gives the seats of voter 0 and of client 0 once, and no other.
@@ -178,10 +164,12 @@ fn gives_once(board: &Board, root: &mut BoardRoot) -> bool
 }
 
 #[test]
-fn seats_are_given_once(rt: HostRuntime) -> Result<(), Fail> {
-    let (board, mut root) = board_of(rt.alloc(), 1, 1)?;
-    assert!(rt; gives_once(&board, &mut root));
-    Ok(())
+fn seats_are_given_once(rt: HostRuntime) {
+    let once = match board_of(rt.alloc(), 1, 1) {
+        Some((board, mut root)) => gives_once(&board, &mut root),
+        None => false,
+    };
+    assert!(rt; once);
 }
 
 /// Closes a board after client 0 has joined, and returns the fault.
@@ -197,18 +185,17 @@ fn closed_without_voter(board: Board, mut root: BoardRoot, client: ClientSeat) -
 }
 
 #[test]
-fn seat_that_is_out_is_reported(rt: HostRuntime) -> Result<(), Fail> {
-    let fault = match seated(rt.alloc(), 1, 1)? {
+fn seat_that_is_out_is_reported(rt: HostRuntime) {
+    let fault = match seated(rt.alloc(), 1, 1) {
         Some((board, root, _voter, client)) => closed_without_voter(board, root, client),
         None => None,
     };
     assert!(rt; fault == Some(BoardFault::SeatsOut(1)));
-    Ok(())
 }
 
 #[test]
-fn seats_that_are_lost_are_reported(rt: HostRuntime) -> Result<(), Fail> {
-    let fault = match seated(rt.alloc(), 1, 1)? {
+fn seats_that_are_lost_are_reported(rt: HostRuntime) {
+    let fault = match seated(rt.alloc(), 1, 1) {
         Some((board, root, voter, client)) => {
             drop(voter);
             drop(client);
@@ -217,15 +204,21 @@ fn seats_that_are_lost_are_reported(rt: HostRuntime) -> Result<(), Fail> {
         None => None,
     };
     assert!(rt; fault == Some(BoardFault::SeatsOut(2)));
-    Ok(())
 }
 
-/// Returns whether the seats of a client that holds the vote, and of its voter, can't join.
-fn stay_out(board: &Board, root: &mut BoardRoot, voter: VoterSeat, client: ClientSeat) -> bool
+/// Returns whether the seats of a client that takes the vote, and of its voter, can't join.
+fn stay_out(
+    board: &Board,
+    root: &mut BoardRoot,
+    mut voter: VoterSeat,
+    mut client: ClientSeat,
+) -> bool
+    requires sizes { (board.now.voters ≡ 1) × (1 ≤ board.now.clients) }
     requires root { root.old.table ≡ board.now.table }
-    requires voter { voter.table ≡ board.now.table }
-    requires client { client.table ≡ board.now.table }
+    requires voter { voter ≡ record { table = board.now.table; voter = 0; current = None; last = 0 } }
+    requires client { client ≡ record { table = board.now.table; client = 0; held = nobody; reading = None; passes = [] } }
 {
+    let entered = enters(board, &mut voter, &mut client);
     let client_out = match root.join_client(board, client) {
         Ok(()) => false,
         Err((_client, fault)) => fault == BoardFault::VoteOut(0),
@@ -236,17 +229,16 @@ fn stay_out(board: &Board, root: &mut BoardRoot, voter: VoterSeat, client: Clien
             (fault == BoardFault::VoteOut(0)) & (voter.current() == Some((0, 1)))
         }
     };
-    client_out & voter_out
+    entered & client_out & voter_out
 }
 
 #[test]
-fn vote_that_is_held_keeps_the_seat_out(rt: HostRuntime) -> Result<(), Fail> {
-    let out = match inside(rt.alloc(), 1, 1)? {
+fn vote_that_is_held_keeps_the_seat_out(rt: HostRuntime) {
+    let out = match seated(rt.alloc(), 1, 1) {
         Some((board, mut root, voter, client)) => stay_out(&board, &mut root, voter, client),
         None => false,
     };
     assert!(rt; out);
-    Ok(())
 }
 
 /// What a client that is inside does with the register: the number that it reads, what it is then
@@ -266,12 +258,16 @@ fn pass(board: &Board, client: &mut ClientSeat) -> Pass
     (number, reading, client.write_register(board))
 }
 
-/// Returns whether the client can pass once, up to the limit 1, and not again.
-fn passes_once(board: &Board, client: &mut ClientSeat) -> bool
-    requires table { client.old.table ≡ board.now.table }
+/// Returns whether a client that takes the vote can pass once, up to the limit 1, and not again.
+fn passes_once(board: &Board, voter: &mut VoterSeat, client: &mut ClientSeat) -> bool
+    requires sizes { (board.now.voters ≡ 1) × (1 ≤ board.now.clients) }
     requires quorums { (board.now.quorums ≡ (0 ∷ []) ∷ []) × (board.now.firsts ≡ 1) }
-    requires held { slice_index client.old.held 0 ≡ 1 }
+    requires voter { voter.old ≡ record { table = board.now.table; voter = 0; current = None; last = 0 } }
+    requires client { client.old ≡ record { table = board.now.table; client = 0; held = nobody; reading = None; passes = [] } }
 {
+    if !enters(board, voter, client) {
+        return false;
+    }
     let first = pass(board, client);
     let passed = (client.passes() == [0].as_slice()) & client.reading().is_none();
     let second = pass(board, client);
@@ -282,22 +278,14 @@ fn passes_once(board: &Board, client: &mut ClientSeat) -> bool
 }
 
 #[test]
-fn client_inside_passes_up_to_the_limit(rt: HostRuntime) -> Result<(), Fail> {
-    let once = match inside(rt.alloc(), 1, 1)? {
-        Some((board, _root, _voter, mut client)) => passes_once(&board, &mut client),
+fn client_inside_passes_up_to_the_limit(rt: HostRuntime) {
+    let once = match seated(rt.alloc(), 1, 1) {
+        Some((board, _root, mut voter, mut client)) => {
+            passes_once(&board, &mut voter, &mut client)
+        }
         None => false,
     };
     assert!(rt; once);
-    Ok(())
-}
-
-#[test]
-fn faults_are_written(rt: HostRuntime) -> Result<(), Fail> {
-    let (seats, vote) = (BoardFault::SeatsOut(1), BoardFault::VoteOut(0));
-    let (full, memory) = (BoardFault::RegisterFull, BoardFault::OutOfMemory);
-    let text = format!(in rt.alloc(); "{seats}, {vote}, {full}, {memory}")?;
-    assert!(rt; text.as_str() == "B1 SeatsOut 1, B2 VoteOut 0, B3 RegisterFull, O1 OutOfMemory");
-    Ok(())
 }
 
 /// Has the client, which is inside by quorum 0, pass and give back the vote of voter 0.
@@ -329,18 +317,22 @@ fn offer_next(board: &Board, mut voter: VoterSeat) -> Result<VoterSeat, VoterSea
     Err(voter)
 }
 
-/// Has a client pass and everything come back, and returns what the board closes with.
+/// Has a client take the vote and pass, and everything come back. Returns what the board closes with.
 fn come_back(
     board: Board,
     mut root: BoardRoot,
     mut voter: VoterSeat,
-    client: ClientSeat,
+    mut client: ClientSeat,
 ) -> Option<Total>
+    requires sizes { (board.voters ≡ 1) × (1 ≤ board.clients) }
     requires root { root.table ≡ board.table }
-    requires voter { (voter.table ≡ board.table) × IsSome voter.current }
+    requires voter { voter ≡ record { table = board.table; voter = 0; current = None; last = 0 } }
     requires quorums { (board.quorums ≡ (0 ∷ []) ∷ []) × (board.firsts ≡ 1) }
-    requires client { (client.table ≡ board.table) × (slice_index client.held 0 ≡ 1) }
+    requires client { client ≡ record { table = board.table; client = 0; held = nobody; reading = None; passes = [] } }
 {
+    if !enters(&board, &mut voter, &mut client) {
+        return None;
+    }
     let client = pass_once(&board, client);
     let settled = voter.settle(&board);
     let voter_back = root.join_voter(&board, voter).is_ok();
@@ -352,8 +344,8 @@ fn come_back(
 }
 
 #[test]
-fn passes_come_back(rt: HostRuntime) -> Result<(), Fail> {
-    let total = match inside(rt.alloc(), 1, 1)? {
+fn passes_come_back(rt: HostRuntime) {
+    let total = match seated(rt.alloc(), 1, 1) {
         Some((board, root, voter, client)) => come_back(board, root, voter, client),
         None => None,
     };
@@ -362,23 +354,25 @@ fn passes_come_back(rt: HostRuntime) -> Result<(), Fail> {
         None => false,
     };
     assert!(rt; one);
-    Ok(())
 }
 
-/// Has client 0 pass and the voter offer the vote to client 1, in two threads. Returns whether
+/// Has client 0 take the vote, and then pass and the voter offer the vote to client 1, in two threads. Returns whether
 /// client 1 can then take it.
 fn pass_on<R: Threads>(
     rt: &R,
     board: &Board,
-    voter: VoterSeat,
-    first: ClientSeat,
+    mut voter: VoterSeat,
+    mut first: ClientSeat,
     mut second: ClientSeat,
 ) -> bool
     requires sizes { (board.now.voters ≡ 1) × (1 < board.now.clients) × (board.now.quorums ≡ (0 ∷ []) ∷ []) × (board.now.firsts ≡ 1) }
-    requires voter { voter ≡ record { table = board.now.table; voter = 0; current = Some (0, 1); last = 1 } }
-    requires first { (first.table ≡ board.now.table) × (slice_index first.held 0 ≡ 1) }
+    requires voter { voter ≡ record { table = board.now.table; voter = 0; current = None; last = 0 } }
+    requires first { first ≡ record { table = board.now.table; client = 0; held = nobody; reading = None; passes = [] } }
     requires second { second ≡ record { table = board.now.table; client = 1; held = nobody; reading = None; passes = [] } }
 {
+    if !enters(board, &mut voter, &mut first) {
+        return false;
+    }
     let (first, offered) = thread::join(
         rt,
         move ||
@@ -398,8 +392,8 @@ fn pass_on<R: Threads>(
 }
 
 #[test]
-fn two_threads_pass_a_vote_on(rt: HostRuntime) -> Result<(), Fail> {
-    let passed = match inside(rt.alloc(), 2, 9)? {
+fn two_threads_pass_a_vote_on(rt: HostRuntime) {
+    let passed = match seated(rt.alloc(), 2, 9) {
         Some((board, mut root, voter, first)) => match client_of(&mut root, &board, 1) {
             Some(second) => pass_on(&rt, &board, voter, first, second),
             None => false,
@@ -407,5 +401,4 @@ fn two_threads_pass_a_vote_on(rt: HostRuntime) -> Result<(), Fail> {
         None => false,
     };
     assert!(rt; passed);
-    Ok(())
 }

@@ -7,7 +7,6 @@ use message::{ClientBody, ToClient, ToVoter, VoterBody};
 use node::{ClusterName, Mailbox, Node};
 use std::alloc::{AllocError, Global};
 use std::marker::Brand;
-use std::test::Fail;
 
 /// A FAIL of voter 2 to client 1.
 const FAIL: ToClient = ToClient {
@@ -85,9 +84,8 @@ fn queues<N: ClusterName>(alloc: Global, voters: usize) -> Result<bool, AllocErr
 }
 
 #[test]
-fn mailbox_is_a_queue(rt: HostRuntime) -> Result<(), Fail> {
-    assert!(rt; queues::<Brand>(rt.alloc(), 3)?);
-    Ok(())
+fn mailbox_is_a_queue(rt: HostRuntime) {
+    assert!(rt; queues::<Brand>(rt.alloc(), 3) == Ok(true));
 }
 
 /// Returns whether a node takes this message of client 0 to voter 0.
@@ -176,23 +174,22 @@ fn left_of<N: ClusterName>(
     Ok((entered & freed, node.into_seat(board).current()))
 }
 
-/// Returns the same of a node on a board of its own.
-fn left(alloc: Global, gives: bool) -> Result<Option<Left>, Fail> {
-    let Some((board, _root, seat, mut client)) = seated(alloc, 1, 1)? else {
-        return Ok(None);
-    };
-    let left = left_of::<Brand>(alloc, &board, seat, &mut client, gives)?;
-    Ok(Some(left))
+/// Returns the same of a node on a board of its own, or `None` if memory runs out.
+fn left(alloc: Global, gives: bool) -> Option<Left> {
+    match seated(alloc, 1, 1) {
+        Some((board, _root, seat, mut client)) => {
+            left_of::<Brand>(alloc, &board, seat, &mut client, gives).ok()
+        }
+        None => None,
+    }
 }
 
 #[test]
-fn node_takes_and_settles(rt: HostRuntime) -> Result<(), Fail> {
-    assert!(rt; left(rt.alloc(), true)? == Some((true, None)));
-    Ok(())
+fn node_takes_and_settles(rt: HostRuntime) {
+    assert!(rt; left(rt.alloc(), true) == Some((true, None)));
 }
 
 #[test]
-fn node_keeps_a_grant_that_is_taken(rt: HostRuntime) -> Result<(), Fail> {
-    assert!(rt; left(rt.alloc(), false)? == Some((true, Some((0, 1)))));
-    Ok(())
+fn node_keeps_a_grant_that_is_taken(rt: HostRuntime) {
+    assert!(rt; left(rt.alloc(), false) == Some((true, Some((0, 1)))));
 }

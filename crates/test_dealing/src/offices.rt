@@ -6,8 +6,8 @@ use crate::cycles::{
 };
 use dealer::{Clerk, Cycle, DealFault, Office, OfficeFault, Receipt};
 use std::alloc::Global;
-use std::test::Fail;
 use std::thread;
+use std::thread::Threads;
 
 /// Returns an office for a cycle with this quota, and its clerk.
 fn office_of(alloc: Global, cycle: Option<Cycle>, quota: u64) -> Option<(Office, Clerk)>
@@ -66,58 +66,100 @@ fn draws_one(office: &Office, clerk: &mut Clerk) -> bool
     (first == Ok(receipt)) & (second == Err(DealFault::QuotaSpent)) & (clerk.receipts().len() == 1)
 }
 
+/// Returns whether a clerk that is split off can draw its one ticket, and no other.
+fn draws_its_share(office: &Office, root: &mut Clerk) -> bool
+    requires office { root.old.office ≡ office.now.name }
+    requires rest { 1 ≤ root.old.rest }
+{
+    let mut clerk = root.split(office, 1);
+    let drew = draws_one(office, &mut clerk);
+    drew & (root.rest() == 2) & (office.cycle().plan().cycle_len() == 3)
+}
+
+/// What becomes of a clerk that is split off from an office of 8 tickets.
+#[derive(Clone, Copy)]
+enum Share {
+    /// It draws its ticket, and tries to draw another.
+    Draws,
+    /// It draws its ticket, and is out when the office closes.
+    IsOut,
+    /// It draws its ticket and joins.
+    Joins,
+    /// It is lost.
+    IsLost,
+}
+
+/// Returns whether an office closes without its clerk as it has to.
+fn is_refused(alloc: Global, office: Office, root: Clerk, out: u64) -> bool
+    requires { root.office ≡ office.name }
+{
+    refusal(alloc, office, root) == Some((0, OfficeFault::ClerksOut(out)))
+}
+
+/// Returns whether an office closes as it has to, after this became of a clerk with `quota` tickets.
+fn ends(alloc: Global, office: Office, mut root: Clerk, quota: u64, share: Share) -> bool
+    requires root { root.office ≡ office.name }
+    requires quota { quota ≤ root.rest }
+{
+    let mut clerk = root.split(&office, quota);
+    match share {
+        Share::Draws => {
+            let len = office.cycle().plan().cycle_len();
+            draws_one(&office, &mut clerk) & (root.rest() == 7) & (len == 3)
+        }
+        Share::IsOut => {
+            let clerk = draw_all(&office, clerk);
+            let refused = is_refused(alloc, office, root, quota);
+            refused & (clerk.receipts().len() == 1)
+        }
+        Share::Joins => {
+            let clerk = draw_all(&office, clerk);
+            let joined = root.join(&office, clerk).is_ok();
+            joined & closes(alloc, office, root, &(1, &[1, 0, 0], &[1, 1, 0], 1, (1, 1)))
+        }
+        Share::IsLost => {
+            drop(clerk);
+            is_refused(alloc, office, root, quota)
+        }
+    }
+}
+
+/// Returns the same of an office of the majorities of three voters that deals 8 tickets.
+fn ends_well(alloc: Global, quota: u64, share: Share) -> bool
+    requires { quota ≤ 8 }
+{
+    match office_of(alloc, majority_cycle(alloc), 8) {
+        Some((office, root)) => ends(alloc, office, root, quota, share),
+        None => false,
+    }
+}
+
 #[test]
 fn a_clerk_with_nothing_left_is_refused(rt: HostRuntime) {
-    let Some((office, mut root)) = office_of(rt.alloc(), majority_cycle(rt.alloc()), 3) else {
-        panic!(rt; "no office")
-    };
-    let mut clerk = root.split(&office, 1);
-    let drew = draws_one(&office, &mut clerk);
-    assert!(rt; drew & (root.rest() == 2) & (office.cycle().plan().cycle_len() == 3));
+    assert!(rt; ends_well(rt.alloc(), 1, Share::Draws));
 }
 
 #[test]
 fn a_clerk_that_is_out_has_to_join_before_the_account(rt: HostRuntime) {
-    let Some((office, mut root)) = office_of(rt.alloc(), majority_cycle(rt.alloc()), 3) else {
-        panic!(rt; "no office")
-    };
-    let clerk = draw_all(&office, root.split(&office, 1));
-    let refused = refusal(rt.alloc(), office, root);
-    drop(clerk);
-    assert_eq!(rt; refused, Some((0, OfficeFault::ClerksOut(1))));
+    assert!(rt; ends_well(rt.alloc(), 1, Share::IsOut));
 }
 
 #[test]
 fn a_clerk_that_joined_is_in_the_account(rt: HostRuntime) {
-    let Some((office, mut root)) = office_of(rt.alloc(), majority_cycle(rt.alloc()), 3) else {
-        panic!(rt; "no office")
-    };
-    let clerk = draw_all(&office, root.split(&office, 1));
-    let joined = root.join(&office, clerk).is_ok();
-    let closed = closes(
-        rt.alloc(),
-        office,
-        root,
-        &(1, &[1, 0, 0], &[1, 1, 0], 1, (1, 1)),
-    );
-    assert!(rt; joined & closed);
+    assert!(rt; ends_well(rt.alloc(), 1, Share::Joins));
 }
 
 #[test]
 fn a_clerk_that_is_lost_keeps_its_share(rt: HostRuntime) {
-    let Some((office, mut root)) = office_of(rt.alloc(), majority_cycle(rt.alloc()), 8) else {
-        panic!(rt; "no office")
-    };
-    drop(root.split(&office, 5));
-    let refused = refusal(rt.alloc(), office, root);
-    assert_eq!(rt; refused, Some((0, OfficeFault::ClerksOut(5))));
+    assert!(rt; ends_well(rt.alloc(), 5, Share::IsLost));
 }
 
 /// Returns whether an office of this cycle that deals as many tickets as the account has closes
 /// with this account.
-fn deals(alloc: Global, cycle: Option<Cycle>, row: &Row) -> bool
-    requires { row.now.0 ≤ 2 ^ 63 }
-{
+fn deals(alloc: Global, cycle: Option<Cycle>, row: &Row) -> bool {
+    if row.0 > 100 {
+        return false;
+    }
     match office_of(alloc, cycle, row.0) {
         Some((office, clerk)) => {
             let clerk = draw_all(&office, clerk);
@@ -130,57 +172,54 @@ fn deals(alloc: Global, cycle: Option<Cycle>, row: &Row) -> bool
 #[test]
 fn deals_in_the_plan_s_proportions(rt: HostRuntime) {
     for row in &SHORT_ROWS {
-        let dealt = row.0 < 11 && deals(rt.alloc(), wheel_cycle(rt.alloc(), SHORT), row);
-        assert!(rt; dealt, "{} draws", row.0);
+        assert!(rt; deals(rt.alloc(), wheel_cycle(rt.alloc(), SHORT), row));
     }
 }
 
 #[test]
 fn deals_in_proportion_to_capacities(rt: HostRuntime) {
     for row in &HUB_ROWS {
-        let dealt = row.0 < 15 && deals(rt.alloc(), hub_cycle(rt.alloc()), row);
-        assert!(rt; dealt, "{} draws", row.0);
+        assert!(rt; deals(rt.alloc(), hub_cycle(rt.alloc()), row));
+    }
+}
+
+/// Has both clerks draw all that they may draw, each in a thread of its own.
+fn both_draw<R: Threads>(rt: &R, office: &Office, one: Clerk, other: Clerk) -> (Clerk, Clerk)
+    requires one { one.office ≡ office.now.name }
+    requires other { other.office ≡ office.now.name }
+    ensures one { result.0.office ≡ office.now.name }
+    ensures other { result.1.office ≡ office.now.name }
+{
+    thread::join(
+        rt,
+        move ||
+            requires { one.office ≡ office.now.name }
+            ensures { result.office ≡ office.entry.now.name }
+        { draw_all(office, one) },
+        move ||
+            requires { other.office ≡ office.now.name }
+            ensures { result.office ≡ office.entry.now.name }
+        { draw_all(office, other) },
+    )
+}
+
+/// The account of 30,000 tickets of the majorities.
+const TEN_THOUSAND_CYCLES: Row = (30_000, &[10_000; 3], &[20_000; 3], 20_000, (20_000, 1));
+
+/// Returns whether two threads draw each of 30,000 tickets once.
+fn threads_draw<R: Threads>(rt: &R, alloc: Global) -> bool {
+    match office_of(alloc, majority_cycle(alloc), 30_000) {
+        Some((office, mut root)) => {
+            let clerk = root.split(&office, 15_000);
+            let (mut one, other) = both_draw(rt, &office, clerk, root);
+            let joined = one.join(&office, other).is_ok();
+            joined & closes(alloc, office, one, &TEN_THOUSAND_CYCLES)
+        }
+        None => false,
     }
 }
 
 #[test]
-fn faults_have_their_lines(rt: HostRuntime) -> Result<(), Fail> {
-    let (deal, office) = (DealFault::QuotaSpent, OfficeFault::ClerksOut(1));
-    let (no_draw, no_account) = (DealFault::OutOfMemory, OfficeFault::OutOfMemory);
-    let text = format!(in rt.alloc(); "{deal}, {office}, {no_draw}, {no_account}")?;
-    assert_eq!(rt;
-        text.as_str(),
-        "L1 QuotaSpent, L2 ClerksOut 1, O1 OutOfMemory, O1 OutOfMemory"
-    );
-    Ok(())
-}
-
-#[test]
 fn two_threads_draw_each_ticket_once(rt: HostRuntime) {
-    let alloc = rt.alloc();
-    let Some((office, mut root)) = office_of(alloc, majority_cycle(alloc), 30_000) else {
-        panic!(rt; "no office")
-    };
-    let clerk = root.split(&office, 15_000);
-    let shared = &office;
-    let (mut one, other) = thread::join(
-        &rt,
-        move ||
-            requires { clerk.office ≡ shared.now.name }
-            ensures { result.office ≡ shared.entry.now.name }
-        { draw_all(shared, clerk) },
-        move ||
-            requires { root.office ≡ shared.now.name }
-            ensures { result.office ≡ shared.entry.now.name }
-        { draw_all(shared, root) },
-    );
-    let joined = one.join(&office, other).is_ok();
-    let row = (
-        30_000,
-        [10_000; 3].as_slice(),
-        [20_000; 3].as_slice(),
-        20_000,
-        (20_000, 1),
-    );
-    assert!(rt; joined & closes(alloc, office, one, &row));
+    assert!(rt; threads_draw(&rt, rt.alloc()));
 }

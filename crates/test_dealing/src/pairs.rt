@@ -1,77 +1,64 @@
 //! Two plans, of which the first is exchanged for the second.
-use certificate::{Plan, write_plan};
+use certificate::Plan;
 use dealer::Plans;
-use std::alloc::{AllocError, Global};
-use std::test::Fail;
-use test_plans::{majority_plan, plan_of, whole_plan};
+use quorum_set::BridgeFault;
+use std::alloc::Global;
+use test_plans::{bridged_plans, majority_plan, plan_of, whole_plan};
 
 /// Returns the plan of voter 0 alone, out of three, or `None` if memory runs out.
 fn first_of_three(alloc: Global) -> Option<Plan> {
     plan_of(alloc, &[&[0]], &[1], &[1, 0, 0])
 }
 
-/// Returns the fault of these plans, and the lines of both plans that came back with it. Returns an
-/// empty text if both can be put together.
-fn refusal(alloc: Global, old: Plan, new: Plan) -> Result<String, Fail> {
+/// Returns why these plans can't be put together, and the loads of both plans that come back.
+fn refusal(alloc: Global, old: Plan, new: Plan) -> Option<((u64, u64), (u64, u64), BridgeFault)> {
     if old.coterie().voters() != new.coterie().voters() {
-        return Err(Fail::new("other voters"));
+        return None;
     }
-    let mut text = String::new(alloc);
-    if let Err((old, new, fault)) = Plans::bridged(alloc, old, new) {
-        let old = write_plan(alloc, &old)?;
-        let new = write_plan(alloc, &new)?;
-        write!(text, "{fault}\n{old}{new}")?;
+    match Plans::bridged(alloc, old, new) {
+        Ok(_) => None,
+        Err((old, new, fault)) => Some((old.load(), new.load(), fault)),
     }
-    Ok(text)
 }
 
 #[test]
-fn refused_plans_come_back(rt: HostRuntime) -> Result<(), Fail> {
-    let alloc = rt.alloc();
-    let old = majority_plan(alloc).ok_or(AllocError)?;
-    let new = first_of_three(alloc).ok_or(AllocError)?;
-    let want = "J1 NotBridged 2 0
-quorum-plan 1
-load 2/3
-cycle 3
-quorum 1 1 1
-voter 1 1 1
-quorum-plan 1
-load 1/1
-cycle 1
-quorum 1
-voter 1 0 0
-";
-    assert_eq!(rt; refusal(alloc, old, new)?.as_str(), want);
-    Ok(())
-}
-
-#[test]
-fn parts_are_what_was_put_together(rt: HostRuntime) -> Result<(), Fail> {
-    let alloc = rt.alloc();
-    let old = majority_plan(alloc).ok_or(AllocError)?;
-    let new = whole_plan(alloc).ok_or(AllocError)?;
-    if old.coterie().voters() != new.coterie().voters() {
-        panic!(rt; "other voters")
-    }
-    let Ok(plans) = Plans::bridged(alloc, old, new) else {
-        panic!(rt; "no bridge")
+fn refused_plans_come_back(rt: HostRuntime) {
+    let refused = match (majority_plan(rt.alloc()), first_of_three(rt.alloc())) {
+        (Some(old), Some(new)) => refusal(rt.alloc(), old, new),
+        _ => None,
     };
-    let (old, second) = plans.into_parts();
-    assert_eq!(rt; old.cycle_len(), 3);
-    let Some((new, bridge)) = second else {
-        panic!(rt; "no second plan")
-    };
-    assert_eq!(rt; new.cycle_len(), 1);
-    assert_eq!(rt; bridge.second().count(), 1);
-    Ok(())
+    assert!(rt; refused == Some(((2, 3), (1, 1), BridgeFault::NotBridged(2, 0))));
+}
+
+/// Returns the length of the first plan's cycle; and of the second one, if there is one, the length of
+/// its cycle and how many quorums it has on the bridge.
+fn parts_of(plans: Plans) -> (u64, Option<(u64, usize)>) {
+    match plans.into_parts() {
+        (old, Some((new, bridge))) => {
+            (
+                old.cycle_len(),
+                Some((new.cycle_len(), bridge.second().count())),
+            )
+        }
+        (old, None) => (old.cycle_len(), None),
+    }
 }
 
 #[test]
-fn plan_alone_has_no_second(rt: HostRuntime) -> Result<(), Fail> {
-    let plan = majority_plan(rt.alloc()).ok_or(AllocError)?;
-    let (first, second) = Plans::single(plan).into_parts();
-    assert_eq!(rt; first.cycle_len(), 3);
-    assert!(rt; second.is_none());
-    Ok(())
+fn parts_are_what_was_put_together(rt: HostRuntime) {
+    let alloc = rt.alloc();
+    let parts = match bridged_plans(alloc, majority_plan(alloc), whole_plan(alloc)) {
+        Some(plans) => parts_of(plans),
+        None => (0, None),
+    };
+    assert!(rt; parts == (3, Some((1, 1))));
+}
+
+#[test]
+fn plan_alone_has_no_second(rt: HostRuntime) {
+    let parts = match majority_plan(rt.alloc()) {
+        Some(plan) => parts_of(Plans::single(plan)),
+        None => (0, None),
+    };
+    assert!(rt; parts == (3, None));
 }

@@ -1,146 +1,147 @@
 //! Plans: the check of weights, and plans as texts.
-ghost use Rattle.std.specs.Prelude.{◌≡◌, IfOk};
-
+use crate::sets::coterie_of;
+use certificate::PlanFault::{
+    BadText, Empty, NotOptimal, NotOptimalRatio, TooLarge, WrongCapacity, WrongCycle, WrongLength,
+    WrongLoad,
+};
 use certificate::{Plan, PlanFault, check, greatest_ratio, read_plan, write_plan};
 use quorum_set::Coterie;
 use std::alloc::{AllocError, Global};
-use std::test::Fail;
-use test_plans::{are_capacities, coterie_of};
+use test_plans::are_capacities;
 
-/// Returns the coterie of any two of three voters.
-pub(crate) fn majority(alloc: Global) -> Result<Coterie, Fail>
-    ensures { IfOk result (λ coterie. coterie.voters ≡ 3) }
-{
-    coterie_of(alloc, 3, &[&[0, 1], &[0, 2], &[1, 2]])
+/// Any two of three voters.
+const MAJORITY: [&[u8]; 3] = [&[0, 1], &[0, 2], &[1, 2]];
+
+/// The wheel with three rims: the hub 0 with each rim, and the rims.
+const WHEEL: [&[u8]; 4] = [&[0, 1], &[0, 2], &[0, 3], &[1, 2, 3]];
+
+/// Returns the wheel if there are capacities of four voters, and else the majority.
+fn coterie_with(alloc: Global, capacities: &[u64]) -> Option<Coterie> {
+    match capacities.len() {
+        4 => coterie_of(alloc, 4, &WHEEL),
+        _ => coterie_of(alloc, 3, &MAJORITY),
+    }
 }
 
-/// Returns the coterie of the wheel with three rims: the hub 0 with each rim, and the rims.
-fn wheel(alloc: Global) -> Result<Coterie, Fail>
-    ensures { IfOk result (λ coterie. coterie.voters ≡ 4) }
-{
-    coterie_of(alloc, 4, &[&[0, 1], &[0, 2], &[0, 3], &[1, 2, 3]])
-}
+/// The load, the length of a cycle and its ratio, or the fault.
+type Seen = Result<((u64, u64), u64, (u64, u64)), PlanFault>;
 
-const WHEEL_PLAN: &str = plan_text!("3/5", "5", "1 1 1 2", "2 1 1 1");
-
-/// The plan of the wheel whose hub has capacity 2.
-const WEIGHTED_PLAN: &str = plan_text!("3/7", "7", "2 1 1 1", "2 2 2 1", "2 1 1 1");
-
-/// Returns the load, the length of a cycle and its ratio, or the text of the fault.
-fn shown(alloc: Global, answer: Result<Plan, PlanFault>) -> Result<String, AllocError> {
+fn seen(answer: Result<Plan, PlanFault>) -> Seen {
     match answer {
-        Ok(plan) => {
-            let (numerator, denominator) = plan.load();
-            let cycle_len = plan.cycle_len();
-            let ratio = plan.ratio();
-            format!(in alloc;
-                "{numerator}/{denominator} {cycle_len} {}/{}",
-                ratio.0, ratio.1
-            )
-        }
-        Err(fault) => fault.to_string(alloc),
+        Ok(plan) => Ok((plan.load(), plan.cycle_len(), plan.ratio())),
+        Err(fault) => Err(fault),
     }
 }
 
-/// Capacities, weights of the quorums, weights of the voters, and what the check shows.
-type Weighed<'a> = (&'a [u64], &'a [u64], &'a [u64], &'a str);
+/// Capacities, weights of the quorums, and weights of the voters.
+type Weighed = (&'static [u64], &'static [u64], &'static [u64], Seen);
 
-/// Returns whether each check shows what its row says.
-fn are_checked(alloc: Global, coterie: &Coterie, rows: &[Weighed]) -> Result<bool, AllocError> {
-    for (capacities, quorums, voters, wanted) in rows {
-        if !are_capacities(capacities, coterie.voters()) {
-            return Ok(false);
-        }
-        let quorum_weights = quorums.to_vec(alloc)?;
-        let voter_weights = voters.to_vec(alloc)?;
-        let answer = check(alloc, coterie, capacities, quorum_weights, voter_weights);
-        if shown(alloc, answer)?.as_str() != *wanted {
-            return Ok(false);
-        }
-    }
-    Ok(true)
-}
-
-/// Returns whether each text is read as what is next to it.
-fn are_read(
-    alloc: Global,
-    coterie: &Coterie,
-    capacities: &[u64],
-    rows: &[(&str, &str)],
-) -> Result<bool, AllocError> {
+/// Returns what the check of these weights returns.
+fn checked(alloc: Global, coterie: &Coterie, row: &Weighed) -> Result<Plan, PlanFault> {
+    let (capacities, quorums, voters, _) = *row;
     if !are_capacities(capacities, coterie.voters()) {
-        return Ok(false);
+        return Err(PlanFault::OutOfMemory);
     }
-    for (text, wanted) in rows {
-        let answer = read_plan(alloc, coterie, capacities, text.as_bytes());
-        if shown(alloc, answer)?.as_str() != *wanted {
-            return Ok(false);
-        }
-    }
-    Ok(true)
+    let quorum_weights = quorums.to_vec(alloc)?;
+    let voter_weights = voters.to_vec(alloc)?;
+    check(alloc, coterie, capacities, quorum_weights, voter_weights)
 }
 
-/// Weights of the wheel, and what the check shows.
-const WHEEL_WEIGHTS: [Weighed; 13] = [
-    (&[1; 4], &[1, 1, 1, 2], &[2, 1, 1, 1], "3/5 5 3/1"),
-    (&[1; 4], &[2, 2, 2, 4], &[2, 1, 1, 1], "3/5 10 6/1"),
+/// Returns whether the check of a row's weights returns what the row says.
+fn is_checked(alloc: Global, row: &Weighed) -> bool {
+    match coterie_with(alloc, row.0) {
+        Some(coterie) => seen(checked(alloc, &coterie, row)) == row.3,
+        None => false,
+    }
+}
+
+/// The busiest voter's count, the sum of the voters' weights, the weight of the lightest quorum, and
+/// the length of a cycle.
+macro_rules! not_optimal {
+    ($busiest:literal, $total:literal, $lightest:literal, $cycle:literal) => {
+        Err(NotOptimal {
+            busiest_count: $busiest,
+            voter_total: $total,
+            lightest_quorum: $lightest,
+            cycle_len: $cycle,
+        })
+    };
+}
+
+/// The cycle's ratio, the sum of the voters' weights times their capacities, the weight of the
+/// lightest quorum, and the length of a cycle.
+macro_rules! not_optimal_ratio {
+    ($numerator:literal / $denominator:literal, $total:literal, $lightest:literal, $cycle:literal) => {
+        Err(NotOptimalRatio {
+            ratio_numerator: $numerator,
+            ratio_denominator: $denominator,
+            capacity_total: $total,
+            lightest_quorum: $lightest,
+            cycle_len: $cycle,
+        })
+    };
+}
+
+/// The fault of a text in a line.
+macro_rules! bad_text {
+    ($line:literal) => {
+        Err(BadText { line: $line })
+    };
+}
+
+/// Capacity 1 for each voter of the wheel, and capacity 2 for its hub.
+const ONES: &[u64] = &[1; 4];
+
+const HUB: &[u64] = &[2, 1, 1, 1];
+
+/// Weights of the wheel and of the majority, and what the check returns.
+const WEIGHTS: [Weighed; 19] = [
+    (ONES, &[1, 1, 1, 2], &[2, 1, 1, 1], Ok(((3, 5), 5, (3, 1)))),
+    (ONES, &[2, 2, 2, 4], &[2, 1, 1, 1], Ok(((3, 5), 10, (6, 1)))),
+    (ONES, &[1; 4], &[2, 1, 1, 1], not_optimal!(3, 5, 3, 4)),
+    (ONES, &[1, 1, 0, 0], &[1, 0, 0, 0], not_optimal!(2, 1, 0, 2)),
+    (ONES, &[0; 4], &[0; 4], Err(Empty)),
+    (ONES, &[1, 1, 1, 2], &[0; 4], Err(Empty)),
+    (ONES, &[1_000_001, 1, 1, 2], &[2, 1, 1, 1], Err(TooLarge)),
+    (ONES, &[1_000_000, 1, 0, 0], &[2, 1, 1, 1], Err(TooLarge)),
     (
-        &[1; 4],
-        &[1, 1, 1, 1],
-        &[2, 1, 1, 1],
-        "P4 NotOptimal 3 5 3 4",
-    ),
-    (
-        &[1; 4],
-        &[1, 1, 0, 0],
-        &[1, 0, 0, 0],
-        "P4 NotOptimal 2 1 0 2",
-    ),
-    (&[1; 4], &[0; 4], &[0; 4], "P3 Empty"),
-    (&[1; 4], &[1, 1, 1, 2], &[0; 4], "P3 Empty"),
-    (&[1; 4], &[1_000_001, 1, 1, 2], &[2, 1, 1, 1], "P2 TooLarge"),
-    (&[1; 4], &[1_000_000, 1, 0, 0], &[2, 1, 1, 1], "P2 TooLarge"),
-    (
-        &[1; 4],
+        ONES,
         &[1, 1, 1, 2],
         &[u64::MAX, u64::MAX, 1, 1],
-        "P2 TooLarge",
+        Err(TooLarge),
     ),
-    (&[1; 4], &[1, 1, 1], &[2, 1, 1, 1], "P1 WrongLength"),
-    (&[2, 1, 1, 1], &[2, 2, 2, 1], &[2, 1, 1, 1], "3/7 7 3/1"),
+    (ONES, &[1, 1, 1], &[2, 1, 1, 1], Err(WrongLength)),
+    (HUB, &[2, 2, 2, 1], &[2, 1, 1, 1], Ok(((3, 7), 7, (3, 1)))),
     (
-        &[2, 1, 1, 1],
+        HUB,
         &[1, 1, 1, 2],
         &[2, 1, 1, 1],
-        "P8 NotOptimalRatio 3 1 7 3 5",
+        not_optimal_ratio!(3 / 1, 7, 3, 5),
     ),
-    (&[1000, 1, 1, 1], &[1, 1, 1, 0], &[0, 1, 1, 1], "1/3 3 1/1"),
+    (
+        &[1000, 1, 1, 1],
+        &[1, 1, 1, 0],
+        &[0, 1, 1, 1],
+        Ok(((1, 3), 3, (1, 1))),
+    ),
+    (&[1; 3], &[1; 3], &[1; 3], Ok(((2, 3), 3, (2, 1)))),
+    (&[1; 3], &[1; 3], &[1, 1, 0], not_optimal!(2, 2, 1, 3)),
+    (&[2; 3], &[1; 3], &[1; 3], Ok(((1, 3), 3, (1, 1)))),
+    (&[3; 3], &[1; 3], &[1; 3], Ok(((2, 9), 3, (2, 3)))),
+    (
+        &[3; 3],
+        &[1; 3],
+        &[1, 1, 0],
+        not_optimal_ratio!(2 / 3, 6, 1, 3),
+    ),
+    (&[1000; 3], &[1; 3], &[1; 3], Ok(((1, 1500), 3, (1, 500)))),
 ];
 
 #[test]
-fn weights_of_the_wheel(rt: HostRuntime) -> Result<(), Fail> {
-    let alloc = rt.alloc();
-    let wheel = wheel(alloc)?;
-    assert!(rt; are_checked(alloc, &wheel, &WHEEL_WEIGHTS)?);
-    Ok(())
-}
-
-/// Weights of a majority, and what the check shows.
-const MAJORITY_WEIGHTS: [Weighed; 6] = [
-    (&[1; 3], &[1; 3], &[1; 3], "2/3 3 2/1"),
-    (&[1; 3], &[1; 3], &[1, 1, 0], "P4 NotOptimal 2 2 1 3"),
-    (&[2; 3], &[1; 3], &[1; 3], "1/3 3 1/1"),
-    (&[3; 3], &[1; 3], &[1; 3], "2/9 3 2/3"),
-    (&[3; 3], &[1; 3], &[1, 1, 0], "P8 NotOptimalRatio 2 3 6 1 3"),
-    (&[1000; 3], &[1; 3], &[1; 3], "1/1500 3 1/500"),
-];
-
-#[test]
-fn weights_of_a_majority(rt: HostRuntime) -> Result<(), Fail> {
-    let alloc = rt.alloc();
-    let majority = majority(alloc)?;
-    assert!(rt; are_checked(alloc, &majority, &MAJORITY_WEIGHTS)?);
-    Ok(())
+fn weights_are_checked(rt: HostRuntime) {
+    for row in &WEIGHTS {
+        assert!(rt; is_checked(rt.alloc(), row));
+    }
 }
 
 /// Counts, capacities, and the ratio.
@@ -163,215 +164,253 @@ fn ratio_of(counts: &[u64], capacities: &[u64]) -> Option<(u64, u64)> {
 }
 
 #[test]
-fn ratios_of_counts(rt: HostRuntime) -> Result<(), Fail> {
+fn ratios_of_counts(rt: HostRuntime) {
     for (counts, capacities, wanted) in &RATIOS {
         assert!(rt; ratio_of(counts, capacities) == Some(*wanted));
     }
-    Ok(())
 }
 
-/// Texts of the wheel, and what they are read as.
-const WHEEL_TEXTS: [(&str, &str); 16] = [
-    (WHEEL_PLAN, "3/5 5 3/1"),
-    (plan_text!("3/5", "10", "2 2 2 4", "2 1 1 1"), "3/5 10 6/1"),
-    ("", "P5 BadText 1"),
-    (
-        "quorum-plan 3\nload 3/5\ncycle 5\nquorum 1 1 1 2\nvoter 2 1 1 1\n",
-        "P5 BadText 1",
-    ),
-    (
-        plan_text!("30000000/5", "5", "1 1 1 2", "2 1 1 1"),
-        "P5 BadText 2",
-    ),
-    (
-        plan_text!("03/5", "5", "1 1 1 2", "2 1 1 1"),
-        "P5 BadText 2",
-    ),
-    (plan_text!("3", "5", "1 1 1 2", "2 1 1 1"), "P5 BadText 2"),
-    (
-        plan_text!("3/5", "12345678", "1 1 1 2", "2 1 1 1"),
-        "P5 BadText 3",
-    ),
-    (
-        plan_text!("3/5", "+5", "1 1 1 2", "2 1 1 1"),
-        "P5 BadText 3",
-    ),
-    ("quorum-plan 1\nload 3/5\ncycle 5\n", "P5 BadText 4"),
-    (
-        plan_text!("3/5", "5", "1 1  1 2", "2 1 1 1"),
-        "P5 BadText 4",
-    ),
-    (
-        "quorum-plan 1\nload 3/5\ncycle 5\nquorum\nvoter 2 1 1 1\n",
-        "P5 BadText 4",
-    ),
-    (
-        plan_text!("3/5", "5", "99999999999999999999999", "2"),
-        "P5 BadText 4",
-    ),
-    (
-        "quorum-plan 1\nload 3/5\ncycle 5\nquorum 1 1 1 2\nvoter 2 1 1 1",
-        "P5 BadText 5",
-    ),
-    (
-        plan_text!("3/5", "5", "1 1 1 2", "2 1 1 1 "),
-        "P5 BadText 5",
-    ),
-    (
-        "quorum-plan 1\nload 3/5\ncycle 5\nquorum 1 1 1 2\nvoter 2 1 1 1\n\n",
-        "P5 BadText 6",
-    ),
-];
-
-#[test]
-fn texts_of_the_wheel(rt: HostRuntime) -> Result<(), Fail> {
-    let alloc = rt.alloc();
-    let wheel = wheel(alloc)?;
-    assert!(rt; are_read(alloc, &wheel, &[1; 4], &WHEEL_TEXTS)?);
-    Ok(())
-}
-
-/// Texts of the wheel that are no plans, and their faults.
-const WHEEL_PLANS: [(&str, &str); 8] = [
-    (plan_text!("3/5", "5", "1 1 1", "2 1 1 1"), "P1 WrongLength"),
-    (
-        plan_text!("3/5", "5", "1000001 1 1 2", "2 1 1 1"),
-        "P2 TooLarge",
-    ),
-    (plan_text!("3/5", "5", "0 0 0 0", "0 0 0 0"), "P3 Empty"),
-    (
-        plan_text!("3/4", "4", "1 1 1 1", "2 1 1 1"),
-        "P4 NotOptimal 3 5 3 4",
-    ),
-    (
-        plan_text!("1/1", "2", "1 1 0 0", "1 0 0 0"),
-        "P4 NotOptimal 2 1 0 2",
-    ),
-    (
-        plan_text!("6/10", "5", "1 1 1 2", "2 1 1 1"),
-        "P6 WrongLoad",
-    ),
-    (
-        plan_text!("6/10", "10", "2 2 2 4", "2 1 1 1"),
-        "P6 WrongLoad",
-    ),
-    (
-        plan_text!("3/5", "10", "1 1 1 2", "2 1 1 1"),
-        "P7 WrongCycle",
-    ),
-];
-
-#[test]
-fn plans_of_the_wheel(rt: HostRuntime) -> Result<(), Fail> {
-    let alloc = rt.alloc();
-    let wheel = wheel(alloc)?;
-    assert!(rt; are_read(alloc, &wheel, &[1; 4], &WHEEL_PLANS)?);
-    Ok(())
-}
-
-/// Texts of the wheel whose hub has capacity 2, and what they are read as.
-const WEIGHTED_TEXTS: [(&str, &str); 15] = [
-    (WEIGHTED_PLAN, "3/7 7 3/1"),
-    (WHEEL_PLAN, "P9 WrongCapacity"),
-    (
-        plan_text!("3/7", "7", "1 2 1 1", "2 2 2 1", "2 1 1 1"),
-        "P9 WrongCapacity",
-    ),
-    (
-        plan_text!("3/7", "7", "2 1 1", "2 2 2 1", "2 1 1 1"),
-        "P9 WrongCapacity",
-    ),
-    (
-        plan_text!("12345678901/7", "7", "2 1 1 1", "1", "1"),
-        "P5 BadText 2",
-    ),
-    (
-        plan_text!("3/7", "7", "1 1 1 1", "2 2 2 1", "2 1 1 1"),
-        "P5 BadText 4",
-    ),
-    (
-        plan_text!("3/7", "7", "2 1 1 0", "2 2 2 1", "2 1 1 1"),
-        "P5 BadText 4",
-    ),
-    (
-        plan_text!("3/7", "7", "1001 1 1 1", "2 2 2 1", "2 1 1 1"),
-        "P5 BadText 4",
-    ),
-    (
-        "quorum-plan 2\nload 3/7\ncycle 7\nquorum 2 2 2 1\nvoter 2 1 1 1\n",
-        "P5 BadText 4",
-    ),
-    (
-        "quorum-plan 2\nload 3/7\ncycle 7\ncapacity 2 1 1 1\nvoter 2 1 1 1\n",
-        "P5 BadText 5",
-    ),
-    (
-        "quorum-plan 2\nload 3/7\ncycle 7\ncapacity 2 1 1 1\nquorum 2 2 2 1\nvoter 2 1 1 1",
-        "P5 BadText 6",
-    ),
-    (
-        "quorum-plan 2\nload 3/7\ncycle 7\ncapacity 2 1 1 1\nquorum 2 2 2 1\nvoter 2 1 1 1\n\n",
-        "P5 BadText 7",
-    ),
-    (
-        plan_text!("3/5", "5", "2 1 1 1", "1 1 1 2", "2 1 1 1"),
-        "P8 NotOptimalRatio 3 1 7 3 5",
-    ),
-    (
-        plan_text!("1234567890/1", "7", "2 1 1 1", "2 2 2 1", "2 1 1 1"),
-        "P6 WrongLoad",
-    ),
-    (
-        plan_text!("3/7", "14", "2 1 1 1", "2 2 2 1", "2 1 1 1"),
-        "P7 WrongCycle",
-    ),
-];
-
-#[test]
-fn texts_with_capacities(rt: HostRuntime) -> Result<(), Fail> {
-    let alloc = rt.alloc();
-    let wheel = wheel(alloc)?;
-    let weighted = are_read(alloc, &wheel, &[2, 1, 1, 1], &WEIGHTED_TEXTS)?;
-    let other = are_read(
-        alloc,
-        &wheel,
-        &[1; 4],
-        &[(WEIGHTED_PLAN, "P9 WrongCapacity")],
-    )?;
-    assert!(rt; weighted & other);
-    Ok(())
-}
-
-/// Returns a copy of the plan of the wheel with these capacities that is read from a text.
-fn copied(alloc: Global, capacities: &[u64], text: &str) -> Result<Plan, Fail> {
-    let wheel = wheel(alloc)?;
-    if !are_capacities(capacities, wheel.voters()) {
-        return Err(Fail::from(AllocError));
+/// Returns what a text is read as, by the coterie of as many voters and these capacities.
+fn read(alloc: Global, capacities: &[u64], text: &str) -> Result<Plan, PlanFault> {
+    match coterie_with(alloc, capacities) {
+        Some(coterie) if are_capacities(capacities, coterie.voters()) => {
+            read_plan(alloc, &coterie, capacities, text.as_bytes())
+        }
+        _ => Err(PlanFault::OutOfMemory),
     }
-    let plan = read_plan(alloc, &wheel, capacities, text.as_bytes())?;
+}
+
+const WHEEL_PLAN: &str = plan_text!("3/5", "5", "1 1 1 2", "2 1 1 1");
+
+/// The plan of the wheel whose hub has capacity 2.
+const HUB_PLAN: &str = plan_text!("3/7", "7", "2 1 1 1", "2 2 2 1", "2 1 1 1");
+
+/// Capacities of the wheel, a text, and what it is read as.
+type Text = (&'static [u64], &'static str, Seen);
+
+const TEXTS: [Text; 40] = [
+    (ONES, WHEEL_PLAN, Ok(((3, 5), 5, (3, 1)))),
+    (
+        ONES,
+        plan_text!("3/5", "10", "2 2 2 4", "2 1 1 1"),
+        Ok(((3, 5), 10, (6, 1))),
+    ),
+    (ONES, "", bad_text!(1)),
+    (
+        ONES,
+        "quorum-plan 3\nload 3/5\ncycle 5\nquorum 1 1 1 2\nvoter 2 1 1 1\n",
+        bad_text!(1),
+    ),
+    (
+        ONES,
+        plan_text!("30000000/5", "5", "1 1 1 2", "2 1 1 1"),
+        bad_text!(2),
+    ),
+    (
+        ONES,
+        plan_text!("03/5", "5", "1 1 1 2", "2 1 1 1"),
+        bad_text!(2),
+    ),
+    (
+        ONES,
+        plan_text!("3", "5", "1 1 1 2", "2 1 1 1"),
+        bad_text!(2),
+    ),
+    (
+        ONES,
+        plan_text!("3/5", "12345678", "1 1 1 2", "2 1 1 1"),
+        bad_text!(3),
+    ),
+    (
+        ONES,
+        plan_text!("3/5", "+5", "1 1 1 2", "2 1 1 1"),
+        bad_text!(3),
+    ),
+    (ONES, "quorum-plan 1\nload 3/5\ncycle 5\n", bad_text!(4)),
+    (
+        ONES,
+        plan_text!("3/5", "5", "1 1  1 2", "2 1 1 1"),
+        bad_text!(4),
+    ),
+    (
+        ONES,
+        "quorum-plan 1\nload 3/5\ncycle 5\nquorum\nvoter 2 1 1 1\n",
+        bad_text!(4),
+    ),
+    (
+        ONES,
+        plan_text!("3/5", "5", "99999999999999999999999", "2"),
+        bad_text!(4),
+    ),
+    (
+        ONES,
+        "quorum-plan 1\nload 3/5\ncycle 5\nquorum 1 1 1 2\nvoter 2 1 1 1",
+        bad_text!(5),
+    ),
+    (
+        ONES,
+        plan_text!("3/5", "5", "1 1 1 2", "2 1 1 1 "),
+        bad_text!(5),
+    ),
+    (
+        ONES,
+        "quorum-plan 1\nload 3/5\ncycle 5\nquorum 1 1 1 2\nvoter 2 1 1 1\n\n",
+        bad_text!(6),
+    ),
+    (
+        ONES,
+        plan_text!("3/5", "5", "1 1 1", "2 1 1 1"),
+        Err(WrongLength),
+    ),
+    (
+        ONES,
+        plan_text!("3/5", "5", "1000001 1 1 2", "2 1 1 1"),
+        Err(TooLarge),
+    ),
+    (
+        ONES,
+        plan_text!("3/5", "5", "0 0 0 0", "0 0 0 0"),
+        Err(Empty),
+    ),
+    (
+        ONES,
+        plan_text!("3/4", "4", "1 1 1 1", "2 1 1 1"),
+        not_optimal!(3, 5, 3, 4),
+    ),
+    (
+        ONES,
+        plan_text!("1/1", "2", "1 1 0 0", "1 0 0 0"),
+        not_optimal!(2, 1, 0, 2),
+    ),
+    (
+        ONES,
+        plan_text!("6/10", "5", "1 1 1 2", "2 1 1 1"),
+        Err(WrongLoad),
+    ),
+    (
+        ONES,
+        plan_text!("6/10", "10", "2 2 2 4", "2 1 1 1"),
+        Err(WrongLoad),
+    ),
+    (
+        ONES,
+        plan_text!("3/5", "10", "1 1 1 2", "2 1 1 1"),
+        Err(WrongCycle),
+    ),
+    (ONES, HUB_PLAN, Err(WrongCapacity)),
+    (HUB, HUB_PLAN, Ok(((3, 7), 7, (3, 1)))),
+    (HUB, WHEEL_PLAN, Err(WrongCapacity)),
+    (
+        HUB,
+        plan_text!("3/7", "7", "1 2 1 1", "2 2 2 1", "2 1 1 1"),
+        Err(WrongCapacity),
+    ),
+    (
+        HUB,
+        plan_text!("3/7", "7", "2 1 1", "2 2 2 1", "2 1 1 1"),
+        Err(WrongCapacity),
+    ),
+    (
+        HUB,
+        plan_text!("12345678901/7", "7", "2 1 1 1", "1", "1"),
+        bad_text!(2),
+    ),
+    (
+        HUB,
+        plan_text!("3/7", "7", "1 1 1 1", "2 2 2 1", "2 1 1 1"),
+        bad_text!(4),
+    ),
+    (
+        HUB,
+        plan_text!("3/7", "7", "2 1 1 0", "2 2 2 1", "2 1 1 1"),
+        bad_text!(4),
+    ),
+    (
+        HUB,
+        plan_text!("3/7", "7", "1001 1 1 1", "2 2 2 1", "2 1 1 1"),
+        bad_text!(4),
+    ),
+    (
+        HUB,
+        "quorum-plan 2\nload 3/7\ncycle 7\nquorum 2 2 2 1\nvoter 2 1 1 1\n",
+        bad_text!(4),
+    ),
+    (
+        HUB,
+        "quorum-plan 2\nload 3/7\ncycle 7\ncapacity 2 1 1 1\nvoter 2 1 1 1\n",
+        bad_text!(5),
+    ),
+    (
+        HUB,
+        "quorum-plan 2\nload 3/7\ncycle 7\ncapacity 2 1 1 1\nquorum 2 2 2 1\nvoter 2 1 1 1",
+        bad_text!(6),
+    ),
+    (
+        HUB,
+        "quorum-plan 2\nload 3/7\ncycle 7\ncapacity 2 1 1 1\nquorum 2 2 2 1\nvoter 2 1 1 1\n\n",
+        bad_text!(7),
+    ),
+    (
+        HUB,
+        plan_text!("3/5", "5", "2 1 1 1", "1 1 1 2", "2 1 1 1"),
+        not_optimal_ratio!(3 / 1, 7, 3, 5),
+    ),
+    (
+        HUB,
+        plan_text!("1234567890/1", "7", "2 1 1 1", "2 2 2 1", "2 1 1 1"),
+        Err(WrongLoad),
+    ),
+    (
+        HUB,
+        plan_text!("3/7", "14", "2 1 1 1", "2 2 2 1", "2 1 1 1"),
+        Err(WrongCycle),
+    ),
+];
+
+#[test]
+fn texts_are_read(rt: HostRuntime) {
+    for (capacities, text, wanted) in &TEXTS {
+        assert!(rt; seen(read(rt.alloc(), capacities, text)) == *wanted);
+    }
+}
+
+/// Capacities of the wheel, a plan's text, its ratio, and the busiest voter's count.
+const COPIED: [(&[u64], &str, (u64, u64), u64); 2] = [
+    (ONES, WHEEL_PLAN, (3, 1), 3),
+    (HUB, HUB_PLAN, (3, 1), 6),
+];
+
+/// Returns whether a plan of the wheel has this ratio, busiest count and capacities.
+fn has(plan: &Plan, capacities: &[u64], ratio: (u64, u64), busiest: u64) -> bool {
+    (plan.ratio() == ratio)
+        & (plan.busiest() == busiest)
+        & (plan.coterie().count() == 4)
+        & (plan.capacities() == capacities)
+        & (plan.coterie().voters() > 0 && Some(&plan.capacity(0)) == capacities.first())
+}
+
+/// Returns a copy of the plan that is read from a text.
+fn copied(alloc: Global, capacities: &[u64], text: &str) -> Result<Plan, PlanFault> {
+    let plan = read(alloc, capacities, text)?;
     Ok(plan.copy(alloc)?)
 }
 
-#[test]
-fn a_copy_is_written_alike(rt: HostRuntime) -> Result<(), Fail> {
-    let copy = copied(rt.alloc(), &[1; 4], WHEEL_PLAN)?;
-    let parts = (copy.load() == (3, 5)) & (copy.busiest() == 3) & (copy.coterie().count() == 4);
-    assert!(rt; parts & (write_plan(rt.alloc(), &copy)?.as_str() == WHEEL_PLAN));
-    Ok(())
+/// Returns whether a plan is written as this text.
+fn is_written(alloc: Global, plan: &Plan, text: &str) -> Result<bool, AllocError> {
+    Ok(write_plan(alloc, plan)?.as_str() == text)
 }
 
-/// Returns whether a plan has the ratio, the busiest voter's count and the capacities of the wheel whose
-/// hub has capacity 2.
-fn is_weighted(plan: &Plan) -> bool {
-    (plan.ratio() == (3, 1))
-        & (plan.busiest() == 6)
-        & (plan.capacities() == [2u64, 1, 1, 1].as_slice())
-        & (plan.coterie().voters() > 0 && plan.capacity(0) == 2)
+/// Returns whether a copy of the plan of a row's text is what the row says, and is written alike.
+fn is_copied(alloc: Global, row: &(&[u64], &str, (u64, u64), u64)) -> bool {
+    match copied(alloc, row.0, row.1) {
+        Ok(copy) => has(&copy, row.0, row.2, row.3) & (is_written(alloc, &copy, row.1) == Ok(true)),
+        Err(_) => false,
+    }
 }
 
 #[test]
-fn a_copy_has_the_capacities(rt: HostRuntime) -> Result<(), Fail> {
-    let copy = copied(rt.alloc(), &[2, 1, 1, 1], WEIGHTED_PLAN)?;
-    assert!(rt; is_weighted(&copy) & (write_plan(rt.alloc(), &copy)?.as_str() == WEIGHTED_PLAN));
-    Ok(())
+fn a_copy_is_written_alike(rt: HostRuntime) {
+    for row in &COPIED {
+        assert!(rt; is_copied(rt.alloc(), row));
+    }
 }

@@ -1,40 +1,31 @@
 //! Texts of coteries: read, refused and written.
-use crate::certificates::majority;
+use crate::sets::coterie_of;
 use coterie_file::FileFault::{
     BadCapacity, BadName, CapacityCount, Keys, NotToml, RepeatedMember, RepeatedName, UnknownName,
 };
 use coterie_file::{FileFault, Named, read_coterie, write_coterie};
-use quorum_set::CoterieFault;
+use quorum_set::{Coterie, CoterieFault};
 use std::alloc::{AllocError, Global};
-use std::test::Fail;
 
-/// Returns whether this is a coterie, and is written as this text.
-fn is_written(
-    alloc: Global,
-    answer: Result<Named, FileFault>,
-    wanted: &str,
-) -> Result<bool, AllocError> {
-    match answer {
-        Ok(named) => Ok(write_coterie(alloc, &named)?.as_str() == wanted),
-        Err(_) => Ok(false),
-    }
+/// The text of the coterie of three voters and their pairs, with these lines between and after its
+/// lists.
+macro_rules! majority {
+    ($between:literal, $after:literal) => {
+        concat!(
+            "voters = [\"v0\", \"v1\", \"v2\"]\n", $between,
+            "quorums = [\n  [\"v0\", \"v1\"],\n  [\"v0\", \"v2\"],\n  [\"v1\", \"v2\"],\n]\n", $after
+        )
+    };
 }
 
-/// Returns the fault, if there is one.
-fn fault_of(answer: Result<Named, FileFault>) -> Option<FileFault> {
-    match answer {
-        Ok(_) => None,
-        Err(fault) => Some(fault),
-    }
-}
+/// The coterie as it is written.
+const MAJORITY: &str = majority!("", "");
 
-/// Returns the fault of a text, if it is no coterie.
-fn fault_in(alloc: Global, text: &str) -> Option<FileFault> {
-    fault_of(read_coterie(alloc, text))
-}
+/// The same with other capacities.
+const WEIGHTED: &str = majority!("capacity = [2, 1, 1]\n", "");
 
 /// Texts that are no coterie, and the first fault of each.
-const REFUSED: [(&str, FileFault); 31] = [
+const REFUSED: [(&str, FileFault); 45] = [
     ("voters = [", NotToml),
     ("voters = []\nvoters = []\nquorums = []", NotToml),
     ("", Keys),
@@ -105,7 +96,38 @@ const REFUSED: [(&str, FileFault); 31] = [
         "voters = ['a', 'b', 'c']\nquorums = [['a', 'b'], ['b', 'a']]",
         FileFault::Coterie(CoterieFault::Contained(0, 1)),
     ),
+    (majority!("", "capacity = [2, 1]\n"), CapacityCount(2)),
+    (majority!("", "capacity = []\n"), CapacityCount(0)),
+    (majority!("", "capacity = [2, 1, 1, 0]\n"), CapacityCount(4)),
+    (majority!("", "capacity = [2, 0, 1]\n"), BadCapacity(1)),
+    (
+        majority!("", "capacity = [1000, 1, 1001]\n"),
+        BadCapacity(2),
+    ),
+    (majority!("", "capacity = [-1, 1, 0]\n"), BadCapacity(0)),
+    (
+        majority!("", "capacity = [1, -9223372036854775808, 0]\n"),
+        BadCapacity(1),
+    ),
+    (
+        majority!("", "capacity = [1, 1, 9223372036854775807]\n"),
+        BadCapacity(2),
+    ),
+    (majority!("", "capacity = 'x'\n"), Keys),
+    (majority!("", "capacity = 1\n"), Keys),
+    (majority!("", "capacity = [1, 'x', 1]\n"), Keys),
+    (majority!("", "capacity = [1.5, 1, 1]\n"), Keys),
+    (majority!("", "capacity = [[1], 1, 1]\n"), Keys),
+    (
+        majority!("", "capacity = [1, 1, 1]\nweights = [1, 1, 1]\n"),
+        Keys,
+    ),
 ];
+
+/// Returns the fault of a text, if it is no coterie.
+fn fault_in(alloc: Global, text: &str) -> Option<FileFault> {
+    read_coterie(alloc, text).err()
+}
 
 #[test]
 fn first_faults(rt: HostRuntime) {
@@ -114,115 +136,70 @@ fn first_faults(rt: HostRuntime) {
     }
 }
 
-/// The coterie of three voters and their pairs, as it is written.
-const MAJORITY: &str = r#"voters = ["v0", "v1", "v2"]
-quorums = [
-  ["v0", "v1"],
-  ["v0", "v2"],
-  ["v1", "v2"],
-]
-"#;
-
-/// Lists of capacities, and the text with them.
-const CAPACITIES: [(&str, &str); 3] = [
-    ("[1, 1, 1]", MAJORITY),
-    ("[2, 1, 1]", WEIGHTED),
-    ("[\n  0x2, # twice as often\n  1,\n  1,\n]", WEIGHTED),
+/// Layouts of the coterie, and how it is written.
+const LAYOUTS: [(&str, &str); 7] = [
+    (MAJORITY, MAJORITY),
+    (
+        "quorums=[['v1','v0'],['v2','v0'],['v2','v1']]\nvoters=['v0','v1','v2']",
+        MAJORITY,
+    ),
+    (
+        "# three voters\nvoters = [\n  'v0', # the first\n  'v1',\n  'v2',\n]\nquorums = [ ['v0', 'v1'], ['v0', 'v2'],\n  ['v1', # and\n 'v2'] ]\n",
+        MAJORITY,
+    ),
+    (
+        "\"voters\" = [\"\\u0076\\u0030\", '''v1''', \"\"\"v2\"\"\"]\r\n'quorums' = [[\"v0\", \"v1\"], [\"v0\", \"v2\"], [\"v1\", \"v2\"]]\r\n",
+        MAJORITY,
+    ),
+    (majority!("", "capacity = [1, 1, 1]\n"), MAJORITY),
+    (majority!("", "capacity = [2, 1, 1]\n"), WEIGHTED),
+    (
+        majority!("", "capacity = [\n  0x2, # twice as often\n  1,\n  1,\n]\n"),
+        WEIGHTED,
+    ),
 ];
 
-/// Lists that are no capacities of three voters, and the fault.
-const BAD_CAPACITIES: [(&str, FileFault); 14] = [
-    ("[2, 1]", CapacityCount(2)),
-    ("[]", CapacityCount(0)),
-    ("[2, 1, 1, 0]", CapacityCount(4)),
-    ("[2, 0, 1]", BadCapacity(1)),
-    ("[1000, 1, 1001]", BadCapacity(2)),
-    ("[-1, 1, 0]", BadCapacity(0)),
-    ("[1, -9223372036854775808, 0]", BadCapacity(1)),
-    ("[1, 1, 9223372036854775807]", BadCapacity(2)),
-    ("'x'", Keys),
-    ("1", Keys),
-    ("[1, 'x', 1]", Keys),
-    ("[1.5, 1, 1]", Keys),
-    ("[[1], 1, 1]", Keys),
-    ("[1, 1, 1]\nweights = [1, 1, 1]", Keys),
-];
-
-/// Returns the text of these pieces.
-fn joined(alloc: Global, pieces: &[&str]) -> Result<String, AllocError> {
-    let mut text = String::new(alloc);
-    for piece in pieces {
-        text.push_str(piece)?;
-    }
-    Ok(text)
+/// Returns whether a coterie is written as this text.
+fn is_written(alloc: Global, named: &Named, wanted: &str) -> Result<bool, AllocError> {
+    Ok(write_coterie(alloc, named)?.as_str() == wanted)
 }
 
-/// Reads the majority with this list of capacities.
-fn read_with_list(alloc: Global, list: &str) -> Result<Result<Named, FileFault>, AllocError> {
-    let text = joined(alloc, &[MAJORITY, "capacity = ", list, "\n"])?;
-    Ok(read_coterie(alloc, &text))
+/// Returns whether this is a coterie, and is written as this text.
+fn is_text_of(alloc: Global, answer: Result<Named, FileFault>, wanted: &str) -> bool {
+    match answer {
+        Ok(named) => is_written(alloc, &named, wanted) == Ok(true),
+        Err(_) => false,
+    }
 }
 
 #[test]
-fn capacities_are_read(rt: HostRuntime) -> Result<(), Fail> {
-    let alloc = rt.alloc();
-    for (list, wanted) in &CAPACITIES {
-        assert!(rt; is_written(alloc, read_with_list(alloc, list)?, wanted)?);
+fn layouts_read_alike(rt: HostRuntime) {
+    for (text, wanted) in &LAYOUTS {
+        assert!(rt; is_text_of(rt.alloc(), read_coterie(rt.alloc(), text), wanted));
     }
-    for (list, fault) in &BAD_CAPACITIES {
-        assert!(rt; fault_of(read_with_list(alloc, list)?) == Some(*fault));
-    }
-    Ok(())
 }
 
-/// Layouts of the majority.
-const LAYOUTS: [&str; 4] = [
-    MAJORITY,
-    "quorums=[['v1','v0'],['v2','v0'],['v2','v1']]\nvoters=['v0','v1','v2']",
-    "# three voters\nvoters = [\n  'v0', # the first\n  'v1',\n  'v2',\n]\nquorums = [ ['v0', 'v1'], ['v0', 'v2'],\n  ['v1', # and\n 'v2'] ]\n",
-    "\"voters\" = [\"\\u0076\\u0030\", '''v1''', \"\"\"v2\"\"\"]\r\n'quorums' = [[\"v0\", \"v1\"], [\"v0\", \"v2\"], [\"v1\", \"v2\"]]\r\n",
-];
-
-#[test]
-fn layouts_read_alike(rt: HostRuntime) -> Result<(), Fail> {
-    for text in &LAYOUTS {
-        assert!(rt; is_written(rt.alloc(), read_coterie(rt.alloc(), text), MAJORITY)?);
-    }
-    Ok(())
+/// Returns the coterie of three voters and their pairs, or `None` if memory runs out.
+fn majority(alloc: Global) -> Option<Coterie> {
+    coterie_of(alloc, 3, &[&[0, 1], &[0, 2], &[1, 2]])
 }
 
-/// The same with other capacities.
-const WEIGHTED: &str = r#"voters = ["v0", "v1", "v2"]
-capacity = [2, 1, 1]
-quorums = [
-  ["v0", "v1"],
-  ["v0", "v2"],
-  ["v1", "v2"],
-]
-"#;
-
-#[test]
-fn numbered_coterie_is_written(rt: HostRuntime) -> Result<(), Fail> {
-    let alloc = rt.alloc();
-    let named = Named::numbered(alloc, majority(alloc)?)?;
-    let parts = (named.coterie().count() == 3)
-        & (named.name(2) == "v2")
-        & (named.capacities().len() == 3);
-    assert!(rt; parts & is_written(alloc, Ok(named), MAJORITY)?);
-    Ok(())
-}
-
-/// Returns the majority with these names.
-fn with_names(alloc: Global, names: &[&str]) -> Result<Result<Named, FileFault>, Fail> {
+/// Returns these names.
+fn names_of(alloc: Global, names: &[&str]) -> Result<Vec<String>, AllocError> {
     let mut given = Vec::new(alloc);
     for name in names {
         given.push(name.to_string(alloc)?)?;
     }
-    let coterie = majority(alloc)?;
-    if given.len() != coterie.voters() {
-        return Ok(Err(FileFault::OutOfMemory));
+    Ok(given)
+}
+
+/// Returns the majority with these names.
+fn with_names(alloc: Global, names: &[&str]) -> Result<Named, FileFault> {
+    let given = names_of(alloc, names)?;
+    match majority(alloc) {
+        Some(coterie) if given.len() == coterie.voters() => Named::of(coterie, given),
+        _ => Err(FileFault::OutOfMemory),
     }
-    Ok(Named::of(coterie, given))
 }
 
 /// Names that voters can't have, and the fault.
@@ -233,20 +210,34 @@ const BAD_NAMES: [([&str; 3], FileFault); 3] = [
 ];
 
 #[test]
-fn names_are_given(rt: HostRuntime) -> Result<(), Fail> {
-    let alloc = rt.alloc();
+fn names_are_given(rt: HostRuntime) {
     for (names, fault) in &BAD_NAMES {
-        assert!(rt; fault_of(with_names(alloc, names.as_slice())?) == Some(*fault));
+        assert!(rt; with_names(rt.alloc(), names.as_slice()).err() == Some(*fault));
     }
-    let named = with_names(alloc, ["v0", "v1", "v2"].as_slice())?;
-    assert!(rt; is_written(alloc, named, MAJORITY)?);
-    Ok(())
+    let named = with_names(rt.alloc(), ["v0", "v1", "v2"].as_slice());
+    assert!(rt; is_text_of(rt.alloc(), named, MAJORITY));
 }
 
-/// Returns the majority with these capacities.
-fn weighing(alloc: Global, capacities: &[u64]) -> Result<Result<Named, FileFault>, Fail> {
+/// Returns the majority with numbered names and these capacities.
+fn weighing(alloc: Global, capacities: &[u64]) -> Result<Named, FileFault> {
     let given = capacities.to_vec(alloc)?;
-    Ok(Named::numbered(alloc, majority(alloc)?)?.with_capacities(given))
+    match majority(alloc) {
+        Some(coterie) => Named::numbered(alloc, coterie)?.with_capacities(given),
+        None => Err(FileFault::OutOfMemory),
+    }
+}
+
+/// Returns whether a coterie has three numbered voters with these capacities and their three pairs.
+fn is_numbered(alloc: Global, capacities: &[u64], wanted: &str) -> bool {
+    match weighing(alloc, capacities) {
+        Ok(named) => {
+            (named.coterie().count() == 3)
+                & (named.coterie().voters() == 3 && named.name(2) == "v2")
+                & (named.capacities() == capacities)
+                & (is_written(alloc, &named, wanted) == Ok(true))
+        }
+        Err(_) => false,
+    }
 }
 
 /// Capacities, and the text with them.
@@ -261,74 +252,64 @@ const BAD_WEIGHTS: [(&[u64], FileFault); 4] = [
 ];
 
 #[test]
-fn capacities_are_given(rt: HostRuntime) -> Result<(), Fail> {
-    let alloc = rt.alloc();
+fn capacities_are_given(rt: HostRuntime) {
     for (capacities, fault) in &BAD_WEIGHTS {
-        assert!(rt; fault_of(weighing(alloc, capacities)?) == Some(*fault));
+        assert!(rt; weighing(rt.alloc(), capacities).err() == Some(*fault));
     }
     for (capacities, wanted) in &WEIGHTS {
-        assert!(rt; is_written(alloc, weighing(alloc, capacities)?, wanted)?);
+        assert!(rt; is_numbered(rt.alloc(), capacities, wanted));
     }
-    Ok(())
 }
 
 /// The names `n0` to `n63`, each in quotes and with a comma.
-fn many_names(alloc: Global) -> Result<String, AllocError> {
-    let mut names = String::new(alloc);
-    for i in 0..64 {
-        write!(names, "'n{i}',")?;
+const NAMES: &str =
+    "'n0','n1','n2','n3','n4','n5','n6','n7','n8','n9','n10','n11','n12','n13','n14','n15','n16','n17','n18','n19','n20','n21','n22','n23','n24','n25','n26','n27','n28','n29','n30','n31','n32','n33','n34','n35','n36','n37','n38','n39','n40','n41','n42','n43','n44','n45','n46','n47','n48','n49','n50','n51','n52','n53','n54','n55','n56','n57','n58','n59','n60','n61','n62','n63',";
+
+/// A name of 64 letters.
+const LONG: &str = "nnnnnnnnnnnnnnnnnnnnnnnnnnnnnnnnnnnnnnnnnnnnnnnnnnnnnnnnnnnnnnnn";
+
+/// Returns the fault of the text of these pieces.
+fn fault_of(alloc: Global, pieces: &[&str]) -> Result<Option<FileFault>, AllocError> {
+    let mut text = String::new(alloc);
+    for piece in pieces {
+        text.push_str(piece)?;
     }
-    Ok(names)
+    Ok(fault_in(alloc, &text))
 }
 
-/// Returns the fault of one voter with a name of this many letters.
-fn named_by(alloc: Global, letters: usize) -> Result<Option<FileFault>, AllocError> {
-    let name = "n".repeat(alloc, letters)?;
-    let pieces = ["voters=['", &name, "']\nquorums=[['", &name, "']]"];
-    Ok(fault_in(alloc, &joined(alloc, &pieces)?))
-}
-
-/// Returns the fault of 64 voters, and whatever further ones, with these quorums.
-fn with_many(alloc: Global, more: &str, quorums: &str) -> Result<Option<FileFault>, AllocError> {
-    let names = many_names(alloc)?;
-    let pieces = ["voters=[", &names, more, "]\nquorums=[", quorums, "]"];
-    Ok(fault_in(alloc, &joined(alloc, &pieces)?))
-}
-
-#[test]
-fn names_have_at_most_64_letters(rt: HostRuntime) -> Result<(), Fail> {
-    let faults = (named_by(rt.alloc(), 64)?, named_by(rt.alloc(), 65)?);
-    assert!(rt; faults == (None, Some(BadName(0))));
-    Ok(())
-}
-
-/// Returns the fault of 64 voters that are one quorum.
-fn with_all(alloc: Global) -> Result<Option<FileFault>, AllocError> {
-    let names = many_names(alloc)?;
-    let pieces = ["voters=[", &names, "]\nquorums=[[", &names, "]]"];
-    Ok(fault_in(alloc, &joined(alloc, &pieces)?))
-}
-
-/// Quorums of 65 voters, and the fault.
-const MORE_VOTERS: [(&str, FileFault); 2] = [
-    ("['n0']", FileFault::Coterie(CoterieFault::TooManyVoters)),
-    ("['n0'],['m','m']", RepeatedMember(1)),
+/// Texts with names of 64 letters, and of 64 voters or more, and their faults.
+const LARGE: [(&[&str], Option<FileFault>); 5] = [
+    (&["voters=['", LONG, "']\nquorums=[['", LONG, "']]"], None),
+    (
+        &["voters=['n", LONG, "']\nquorums=[['n", LONG, "']]"],
+        Some(BadName(0)),
+    ),
+    (&["voters=[", NAMES, "]\nquorums=[[", NAMES, "]]"], None),
+    (
+        &["voters=[", NAMES, "'m']\nquorums=[['n0']]"],
+        Some(FileFault::Coterie(CoterieFault::TooManyVoters)),
+    ),
+    (
+        &["voters=[", NAMES, "'m']\nquorums=[['n0'],['m','m']]"],
+        Some(RepeatedMember(1)),
+    ),
 ];
 
 #[test]
-fn voters_are_at_most_64(rt: HostRuntime) -> Result<(), Fail> {
-    let alloc = rt.alloc();
-    assert!(rt; with_all(alloc)?.is_none());
-    for (quorums, fault) in &MORE_VOTERS {
-        assert!(rt; with_many(alloc, "'m'", quorums)? == Some(*fault));
+fn voters_and_letters_are_at_most_64(rt: HostRuntime) {
+    for (pieces, wanted) in &LARGE {
+        assert!(rt; fault_of(rt.alloc(), pieces) == Ok(*wanted));
     }
-    Ok(())
+}
+
+/// Returns the fault of 4097 quorums of one of 64 voters.
+fn fault_of_many(alloc: Global) -> Result<Option<FileFault>, AllocError> {
+    let quorums = "['n1'],".repeat(alloc, 4097)?;
+    fault_of(alloc, &["voters=[", NAMES, "]\nquorums=[", &quorums, "]"])
 }
 
 #[test]
-fn quorums_are_at_most_4096(rt: HostRuntime) -> Result<(), Fail> {
-    let quorums = "['n1'],".repeat(rt.alloc(), 4097)?;
+fn quorums_are_at_most_4096(rt: HostRuntime) {
     let wanted = Some(FileFault::Coterie(CoterieFault::TooManyQuorums));
-    assert!(rt; with_many(rt.alloc(), "", &quorums)? == wanted);
-    Ok(())
+    assert!(rt; fault_of_many(rt.alloc()) == Ok(wanted));
 }

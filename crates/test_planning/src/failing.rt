@@ -1,10 +1,8 @@
 //! Voters that fail.
 use crate::shapes::{Shape, built};
-use construct::wheel;
 use failures::{bears, coterie_without, transversal_of};
 use quorum_set::{Coterie, QSet};
-use std::alloc::{AllocError, Global};
-use std::test::Fail;
+use std::alloc::Global;
 
 /// Returns how many members a smallest set has whose failure the coterie does not bear, by trying
 /// all sets of its voters, of which there may be 12 at most. Returns 64 if there is none.
@@ -53,36 +51,40 @@ fn smallest_sets_are_those_of_trial(rt: HostRuntime) {
     }
 }
 
-#[test]
-fn a_search_without_steps_finds_a_quorum(rt: HostRuntime) -> Result<(), Fail> {
-    let Ok(coterie) = wheel(rt.alloc(), 5) else {
-        return Err(Fail::from(AllocError));
-    };
-    let found = transversal_of(&coterie, 0);
-    assert!(rt; !found.is_smallest & (found.voters.len() == 2));
-    Ok(())
-}
-
-/// Returns how many voters and quorums the wheel of three rims has without these voters, or `None` if
-/// it has no quorum left.
-fn left_of_wheel(alloc: Global, failed: u64) -> Result<Option<(usize, usize)>, AllocError> {
-    let Ok(coterie) = wheel(alloc, 3) else {
-        return Err(AllocError);
-    };
-    match coterie_without(alloc, &coterie, &QSet::of_bits(failed))? {
-        Some(left) => Ok(Some((left.voters(), left.count()))),
-        None => Ok(None),
-    }
+/// Returns whether a search without steps in a wheel finds a smallest set, and how many members the
+/// set has that it finds.
+fn found_at_once(alloc: Global) -> Option<(bool, usize)> {
+    let found = transversal_of(&built(alloc, Shape::Wheel(5)).ok()?, 0);
+    Some((found.is_smallest, found.voters.len()))
 }
 
 #[test]
-fn what_is_left_are_the_quorums_without_the_failed(rt: HostRuntime) -> Result<(), Fail> {
-    for (failed, wanted) in [
-        (0b0010, Some((4, 2))),
-        (0b0001, Some((4, 1))),
-        (0b0011, None),
-    ] {
-        assert!(rt; left_of_wheel(rt.alloc(), failed)? == wanted);
+fn a_search_without_steps_finds_a_quorum(rt: HostRuntime) {
+    assert!(rt; found_at_once(rt.alloc()) == Some((false, 2)));
+}
+
+/// Failed voters of the wheel of three rims, and how many voters and quorums are left, or `None` if no
+/// quorum is.
+const LEFT: [(u64, Option<(usize, usize)>); 3] = [
+    (0b0010, Some((4, 2))),
+    (0b0001, Some((4, 1))),
+    (0b0011, None),
+];
+
+/// Returns the same of these failed voters, or `None` if memory runs out.
+fn left_of_wheel(alloc: Global, failed: u64) -> Option<Option<(usize, usize)>> {
+    let wheel = built(alloc, Shape::Wheel(3)).ok()?;
+    Some(
+        match coterie_without(alloc, &wheel, &QSet::of_bits(failed)).ok()? {
+            Some(left) => Some((left.voters(), left.count())),
+            None => None,
+        },
+    )
+}
+
+#[test]
+fn what_is_left_are_the_quorums_without_the_failed(rt: HostRuntime) {
+    for (failed, wanted) in &LEFT {
+        assert!(rt; left_of_wheel(rt.alloc(), *failed) == Some(*wanted));
     }
-    Ok(())
 }

@@ -6,7 +6,6 @@ ghost use Rattle.fraction.specs.Tables.{IsPlace, entry_at};
 use fraction::{Frac, FracFault, Shared};
 use std::alloc::{AllocError, Global};
 use std::cmp::Ordering;
-use std::test::Fail;
 
 const HUGE: i128 = 1 << 126;
 
@@ -119,22 +118,31 @@ fn pivoted(table: &mut Shared) -> (Result<(), FracFault>, [i128; 4], i128)
     }
 }
 
-#[test]
-fn tables_are_pivoted(rt: HostRuntime) -> Result<(), Fail> {
-    let mut small = square(rt.alloc(), 2, 1, 1, 3)?;
-    let mut large = square(rt.alloc(), 3, HUGE, HUGE, 1)?;
+/// Returns whether one table is pivoted, and another, whose numbers grow too large, stays as it was.
+fn are_pivoted(alloc: Global) -> Result<bool, AllocError> {
+    let mut small = square(alloc, 2, 1, 1, 3)?;
+    let mut large = square(alloc, 3, HUGE, HUGE, 1)?;
     let found = pivoted(&mut small) == (Ok(()), [2, 1, 0, 5], 2);
-    assert!(rt; found & (pivoted(&mut large) == (Err(FracFault::Overflow), [3, HUGE, HUGE, 1], 1)));
-    Ok(())
+    Ok(found & (pivoted(&mut large) == (Err(FracFault::Overflow), [3, HUGE, HUGE, 1], 1)))
 }
 
 #[test]
-fn columns_are_summed(rt: HostRuntime) -> Result<(), Fail> {
-    let mut table = square(rt.alloc(), 2, 1, 1, 3)?;
-    let mut large = square(rt.alloc(), HUGE, HUGE, 0, 0)?;
-    let summed = (table.sum(0, [0usize, 1, 1].as_slice()) == Ok(4))
-        & (table.sum_columns([0usize, 1].as_slice(), 0) == Ok(()))
-        & (large.sum_columns([0usize, 1].as_slice(), 1) == Err(FracFault::Overflow));
-    assert!(rt; summed);
-    Ok(())
+fn tables_are_pivoted(rt: HostRuntime) {
+    assert!(rt; are_pivoted(rt.alloc()) == Ok(true));
+}
+
+/// Returns whether columns of two tables are summed, and a sum that grows too large is refused.
+fn are_summed(alloc: Global) -> Result<bool, AllocError> {
+    let mut table = square(alloc, 2, 1, 1, 3)?;
+    let mut large = square(alloc, HUGE, HUGE, 0, 0)?;
+    Ok(
+        (table.sum(0, [0usize, 1, 1].as_slice()) == Ok(4))
+            & (table.sum_columns([0usize, 1].as_slice(), 0) == Ok(()))
+            & (large.sum_columns([0usize, 1].as_slice(), 1) == Err(FracFault::Overflow)),
+    )
+}
+
+#[test]
+fn columns_are_summed(rt: HostRuntime) {
+    assert!(rt; are_summed(rt.alloc()) == Ok(true));
 }

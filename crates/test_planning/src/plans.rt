@@ -1,42 +1,35 @@
 //! Plans that are found, and searches that end without one.
+use crate::sets::coterie_of;
 use crate::shapes::{Shape, built};
 use certificate::write_plan;
 use planner::{Cause, PlannerFault, plan};
 use quorum_set::{Coterie, QSet};
 use std::alloc::{AllocError, Global};
-use std::test::Fail;
-use test_plans::{are_capacities, coterie_of, unit_capacities};
+use test_plans::are_capacities;
 
-/// Returns whether the plan of a coterie has this text.
+/// Returns whether the plan of a coterie has this text, or its fault.
 fn is_planned(
     alloc: Global,
     coterie: &Coterie,
     capacities: &[u64],
     wanted: &str,
-) -> Result<bool, AllocError> {
+) -> Result<bool, PlannerFault> {
     if !are_capacities(capacities, coterie.voters()) {
         return Ok(false);
     }
-    match plan(alloc, coterie, capacities) {
-        Ok(plan) => Ok(write_plan(alloc, &plan)?.as_str() == wanted),
-        Err(_) => Ok(false),
-    }
+    let plan = plan(alloc, coterie, capacities)?;
+    Ok(write_plan(alloc, &plan)?.as_str() == wanted)
 }
 
 /// A shape, the capacities of its voters, and the text of its plan.
-type Planned<'a> = (Shape, &'a [u64], &'a str);
+type Planned = (Shape, &'static [u64], &'static str);
 
-/// Returns whether the coterie of each shape has its plan.
-fn are_planned(alloc: Global, rows: &[Planned]) -> Result<bool, AllocError> {
-    for (shape, capacities, wanted) in rows {
-        let Ok(coterie) = built(alloc, *shape) else {
-            return Ok(false);
-        };
-        if !is_planned(alloc, &coterie, capacities, wanted)? {
-            return Ok(false);
-        }
+/// Returns whether the coterie of a shape has its plan.
+fn has_plan(alloc: Global, row: &Planned) -> bool {
+    match built(alloc, row.0) {
+        Ok(coterie) => is_planned(alloc, &coterie, row.1, row.2) == Ok(true),
+        Err(_) => false,
     }
-    Ok(true)
 }
 
 /// Returns 33 of 64 voters: `start`, and then each time five times the last one plus `step`, modulo
@@ -64,17 +57,19 @@ fn walks(alloc: Global) -> Result<Vec<QSet>, AllocError> {
     Ok(sets)
 }
 
-#[test]
-fn numbers_that_grow_too_large_end_the_search(rt: HostRuntime) -> Result<(), Fail> {
-    let walks = Coterie::of(64, walks(rt.alloc())?)?;
-    let capacities = unit_capacities(rt.alloc(), 64)?;
-    let fault = plan(rt.alloc(), &walks, &capacities).err();
-    assert!(rt; fault == Some(PlannerFault::NoPlan(Cause::Overflow)));
-    Ok(())
+/// Returns the fault of the coterie of all walks, if no plan is found.
+fn fault_of_walks(alloc: Global) -> Option<PlannerFault> {
+    let walks = Coterie::of(64, walks(alloc).ok()?).ok()?;
+    is_planned(alloc, &walks, &[1; 64], "").err()
 }
 
-/// Wheels, and their plans.
-const WHEELS: [Planned; 2] = [
+#[test]
+fn numbers_that_grow_too_large_end_the_search(rt: HostRuntime) {
+    assert!(rt; fault_of_walks(rt.alloc()) == Some(PlannerFault::NoPlan(Cause::Overflow)));
+}
+
+/// Wheels, uniform coteries, and coteries of voters with capacities, and their plans.
+const PLANNED: [Planned; 10] = [
     (
         Shape::Wheel(3),
         &[1; 4],
@@ -85,24 +80,6 @@ const WHEELS: [Planned; 2] = [
         &[1; 5],
         plan_text!("4/7", "7", "1 1 1 1 3", "3 1 1 1 1"),
     ),
-];
-
-#[test]
-fn wheels_are_planned(rt: HostRuntime) -> Result<(), Fail> {
-    assert!(rt; are_planned(rt.alloc(), &WHEELS)?);
-    Ok(())
-}
-
-#[test]
-fn a_dictator_is_planned(rt: HostRuntime) -> Result<(), Fail> {
-    let dictator = coterie_of(rt.alloc(), 3, &[&[0]])?;
-    let wanted = plan_text!("1/1", "1", "1", "1 0 0");
-    assert!(rt; is_planned(rt.alloc(), &dictator, &[1; 3], wanted)?);
-    Ok(())
-}
-
-/// Uniform coteries, and their plans.
-const UNIFORM: [Planned; 4] = [
     (
         Shape::Majority(3),
         &[1; 3],
@@ -123,16 +100,6 @@ const UNIFORM: [Planned; 4] = [
         &[1; 4],
         plan_text!("3/4", "4", "1 1 1 1", "1 1 1 1"),
     ),
-];
-
-#[test]
-fn uniform_coteries_are_planned(rt: HostRuntime) -> Result<(), Fail> {
-    assert!(rt; are_planned(rt.alloc(), &UNIFORM)?);
-    Ok(())
-}
-
-/// Coteries of voters with capacities, and their plans.
-const CAPACITIES: [Planned; 4] = [
     (
         Shape::Wheel(3),
         &[2, 1, 1, 1],
@@ -162,19 +129,22 @@ const CAPACITIES: [Planned; 4] = [
 ];
 
 #[test]
-fn voters_with_capacities_are_planned(rt: HostRuntime) -> Result<(), Fail> {
-    assert!(rt; are_planned(rt.alloc(), &CAPACITIES)?);
-    Ok(())
+fn shapes_are_planned(rt: HostRuntime) {
+    for row in &PLANNED {
+        assert!(rt; has_plan(rt.alloc(), row));
+    }
 }
 
-/// Returns the load of the tree of this height.
-fn load_of_tree(alloc: Global, height: u32) -> Option<(u64, u64)> {
-    let tree = built(alloc, Shape::Tree(height)).ok()?;
-    let capacities = unit_capacities(alloc, tree.voters()).ok()?;
-    Some(plan(alloc, &tree, &capacities).ok()?.load())
+/// Returns whether the coterie of one of three voters alone has this plan.
+fn dictator_has_plan(alloc: Global, wanted: &str) -> bool {
+    match coterie_of(alloc, 3, &[&[0]]) {
+        Some(dictator) => is_planned(alloc, &dictator, &[1; 3], wanted) == Ok(true),
+        None => false,
+    }
 }
 
 #[test]
-fn the_tree_of_height_two_has_load_one_half(rt: HostRuntime) {
-    assert!(rt; load_of_tree(rt.alloc(), 2) == Some((1, 2)));
+fn a_dictator_is_planned(rt: HostRuntime) {
+    let wanted = plan_text!("1/1", "1", "1", "1 0 0");
+    assert!(rt; dictator_has_plan(rt.alloc(), wanted));
 }

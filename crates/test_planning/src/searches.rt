@@ -1,65 +1,69 @@
 //! Solutions by the simplex method.
+use crate::sets::coterie_of;
 use quorum_set::Coterie;
 use simplex::{Candidate, Rule, SimplexFault, solve, solve_by};
-use std::alloc::{AllocError, Global};
-use std::test::Fail;
-use test_plans::{are_capacities, coterie_of};
+use std::alloc::Global;
+use test_plans::are_capacities;
 
-/// Returns the numbers of a candidate, or the fault.
-fn shown(alloc: Global, answer: Result<Candidate, SimplexFault>) -> Result<String, AllocError> {
-    match answer {
-        Ok(c) => format!(in alloc; "{:?} {:?}", c.quorum_weights, c.voter_weights),
-        Err(fault) => fault.to_string(alloc),
+/// The quorums' weights and the voters' weights, or the fault.
+type Solution = Result<(&'static [u64], &'static [u64]), SimplexFault>;
+
+/// Returns whether a candidate has these weights, or this is the fault.
+fn is_solution(answer: Result<Candidate, SimplexFault>, wanted: &Solution) -> bool {
+    match (answer, wanted) {
+        (Ok(found), Ok((quorums, voters))) => {
+            (found.quorum_weights.as_slice() == *quorums)
+                & (found.voter_weights.as_slice() == *voters)
+        }
+        (Err(fault), Err(wanted)) => fault == *wanted,
+        _ => false,
     }
 }
 
-/// Capacities, the rule, the most pivots, and the solution.
-type Solved = ([u64; 4], Rule, u32, &'static str);
+/// Capacities, the rule if one is given, the most pivots, and the solution.
+type Row = ([u64; 4], Option<Rule>, u32, Solution);
 
-const SOLUTIONS: [Solved; 4] = [
-    ([1; 4], Rule::Dantzig, 0, "S2 PivotLimit"),
+const UNIT: Solution = Ok((&[1, 1, 1, 2], &[2, 1, 1, 1]));
+
+const HUB: Solution = Ok((&[2, 2, 2, 1], &[2, 1, 1, 1]));
+
+const SOLUTIONS: [Row; 5] = [
     (
         [1; 4],
-        Rule::LeastPivot,
-        10_000,
-        "[1, 1, 1, 2] [2, 1, 1, 1]",
+        Some(Rule::Dantzig),
+        0,
+        Err(SimplexFault::PivotLimit),
     ),
-    (
-        [2, 1, 1, 1],
-        Rule::Dantzig,
-        10_000,
-        "[2, 2, 2, 1] [2, 1, 1, 1]",
-    ),
-    (
-        [2, 1, 1, 1],
-        Rule::LeastPivot,
-        10_000,
-        "[2, 2, 2, 1] [2, 1, 1, 1]",
-    ),
+    ([1; 4], Some(Rule::LeastPivot), 10_000, UNIT),
+    ([1; 4], None, 10_000, UNIT),
+    ([2, 1, 1, 1], Some(Rule::Dantzig), 10_000, HUB),
+    ([2, 1, 1, 1], Some(Rule::LeastPivot), 10_000, HUB),
 ];
 
-/// Returns whether each solution of the coterie is what its row says.
-fn are_solved(alloc: Global, coterie: &Coterie) -> Result<bool, AllocError> {
-    for (capacities, rule, most, wanted) in SOLUTIONS {
-        if !are_capacities(&capacities, coterie.voters()) {
-            return Ok(false);
-        }
-        let answer = solve_by(alloc, coterie, &capacities, rule, most);
-        if shown(alloc, answer)?.as_str() != wanted {
-            return Ok(false);
-        }
+/// Returns whether a row's solution of the coterie is what the row says.
+fn is_solved(alloc: Global, coterie: &Coterie, row: &Row) -> bool {
+    let (capacities, rule, most, wanted) = row;
+    if !are_capacities(capacities, coterie.voters()) {
+        return false;
     }
-    Ok(true)
+    let answer = match rule {
+        Some(rule) => solve_by(alloc, coterie, capacities, *rule, *most),
+        None => solve(alloc, coterie, capacities, *most),
+    };
+    is_solution(answer, wanted)
+}
+
+/// Returns whether a row's solution of the wheel is what the row says.
+fn is_solved_of_wheel(alloc: Global, row: &Row) -> bool {
+    match coterie_of(alloc, 4, &[&[0, 1], &[0, 2], &[0, 3], &[1, 2, 3]]) {
+        Some(wheel) => is_solved(alloc, &wheel, row),
+        None => false,
+    }
 }
 
 #[test]
-fn the_wheel_is_solved(rt: HostRuntime) -> Result<(), Fail> {
-    let alloc = rt.alloc();
-    let wheel = coterie_of(alloc, 4, &[&[0, 1], &[0, 2], &[0, 3], &[1, 2, 3]])?;
-    assert!(rt; are_solved(alloc, &wheel)?);
-    if are_capacities(&[1; 4], wheel.voters()) {
-        let answer = solve(alloc, &wheel, &[1; 4], 10_000);
-        assert!(rt; shown(alloc, answer)?.as_str() == "[1, 1, 1, 2] [2, 1, 1, 1]");
+fn the_wheel_is_solved(rt: HostRuntime) {
+    for row in &SOLUTIONS {
+        assert!(rt; is_solved_of_wheel(rt.alloc(), row));
     }
-    Ok(())
 }

@@ -3,20 +3,18 @@ use quorum_set::CoterieFault::{
     Contained, Disjoint, EmptyQuorum, NoQuorums, NoVoters, TooManyVoters, VoterOutOfRange,
 };
 use quorum_set::{Bridge, BridgeFault, Coterie, CoterieFault, QSet};
-use std::alloc::{AllocError, Global};
-use std::test::Fail;
-use test_plans::{coterie_of, set_of, sets_of};
+use std::alloc::Global;
+use test_plans::{set_of, sets_of};
 
-/// Returns the fault of these quorums, if they are no coterie.
-fn fault_of(
-    alloc: Global,
-    voters: usize,
-    quorums: &[&[u8]],
-) -> Result<Option<CoterieFault>, AllocError> {
-    match Coterie::of(voters, sets_of(alloc, quorums)?) {
-        Ok(_) => Ok(None),
-        Err(fault) => Ok(Some(fault)),
-    }
+/// Returns the coterie of these quorums, or `None` if they are no coterie or memory runs out.
+pub(crate) fn coterie_of(alloc: Global, voters: usize, quorums: &[&[u8]]) -> Option<Coterie> {
+    Coterie::of(voters, sets_of(alloc, quorums).ok()?).ok()
+}
+
+/// Returns the fault of these quorums, if they are no coterie. Returns `None` if memory runs out.
+fn fault_of(alloc: Global, voters: usize, quorums: &[&[u8]]) -> Option<Option<CoterieFault>> {
+    let sets = sets_of(alloc, quorums).ok()?;
+    Some(Coterie::of(voters, sets).err())
 }
 
 /// How many voters, the quorums, and the fault.
@@ -37,22 +35,21 @@ const FAULTS: [Row; 11] = [
 ];
 
 #[test]
-fn each_fault_in_its_order(rt: HostRuntime) -> Result<(), Fail> {
+fn each_fault_in_its_order(rt: HostRuntime) {
     for (voters, quorums, wanted) in &FAULTS {
-        assert!(rt; fault_of(rt.alloc(), *voters, quorums)? == *wanted);
+        assert!(rt; fault_of(rt.alloc(), *voters, quorums) == Some(*wanted));
     }
-    Ok(())
+}
+
+/// Returns the fault of 4097 quorums, or `None` if memory runs out.
+fn fault_of_many(alloc: Global) -> Option<CoterieFault> {
+    let sets = vec![in alloc; set_of(&[0]); 4097].ok()?;
+    Coterie::of(1, sets).err()
 }
 
 #[test]
-fn too_many_quorums(rt: HostRuntime) -> Result<(), Fail> {
-    let alloc = rt.alloc();
-    let mut sets = Vec::new(alloc);
-    for _ in 0..4097 {
-        sets.push(set_of(&[0]))?;
-    }
-    assert!(rt; matches!(Coterie::of(1, sets), Err(CoterieFault::TooManyQuorums)));
-    Ok(())
+fn too_many_quorums(rt: HostRuntime) {
+    assert!(rt; fault_of_many(rt.alloc()) == Some(CoterieFault::TooManyQuorums));
 }
 
 /// Returns whether a set of two numbers is what it should be.
@@ -84,12 +81,8 @@ fn holds_two() -> bool {
 }
 
 #[test]
-fn sets_and_a_copy(rt: HostRuntime) -> Result<(), Fail> {
-    let alloc = rt.alloc();
-    let coterie = coterie_of(alloc, 3, &[&[0, 1], &[0, 2], &[1, 2]])?;
-    let copy = coterie.copy(alloc)?;
-    assert!(rt; holds_two() & (copy.voters() == 3) & (copy.count() == 3));
-    Ok(())
+fn a_set_of_two_numbers(rt: HostRuntime) {
+    assert!(rt; holds_two());
 }
 
 const ANY_TWO: &[&[u8]] = &[&[0, 1], &[0, 2], &[1, 2]];
@@ -100,49 +93,45 @@ const ALL: &[&[u8]] = &[&[0, 1, 2]];
 
 const FIRST: &[&[u8]] = &[&[0]];
 
-/// Quorums of three voters, others, and the first pair that does not meet.
-type Pair = (
-    &'static [&'static [u8]],
-    &'static [&'static [u8]],
-    Option<BridgeFault>,
-);
+/// How many quorums two coteries have, or the fault between them.
+type Bridged = Result<(usize, usize), BridgeFault>;
 
-const PAIRS: [Pair; 6] = [
-    (ANY_TWO, ALL, None),
-    (ALL, ANY_TWO, None),
-    (ANY_TWO, OTHER_WAY, None),
-    (ANY_TWO, FIRST, Some(BridgeFault::NotBridged(2, 0))),
-    (FIRST, ANY_TWO, Some(BridgeFault::NotBridged(0, 2))),
-    (FIRST, ALL, None),
+/// Quorums of three voters, others, and the numbers of both or the first pair that does not meet.
+const PAIRS: [(&[&[u8]], &[&[u8]], Bridged); 6] = [
+    (ANY_TWO, ALL, Ok((3, 1))),
+    (ALL, ANY_TWO, Ok((1, 3))),
+    (ANY_TWO, OTHER_WAY, Ok((3, 3))),
+    (ANY_TWO, FIRST, Err(BridgeFault::NotBridged(2, 0))),
+    (FIRST, ANY_TWO, Err(BridgeFault::NotBridged(0, 2))),
+    (FIRST, ALL, Ok((1, 1))),
 ];
 
-/// Returns the fault between two coteries of three voters, if they have no bridge.
-fn bridge_fault(alloc: Global, old: &[&[u8]], new: &[&[u8]]) -> Result<Option<BridgeFault>, Fail> {
-    let old = coterie_of(alloc, 3, old)?;
-    let new = coterie_of(alloc, 3, new)?;
-    match Bridge::of(alloc, &old, &new) {
-        Ok(_) => Ok(None),
-        Err(fault) => Ok(Some(fault)),
-    }
-}
-
-#[test]
-fn bridges_between_coteries(rt: HostRuntime) -> Result<(), Fail> {
-    for (old, new, wanted) in &PAIRS {
-        assert!(rt; bridge_fault(rt.alloc(), old, new)? == *wanted);
-    }
-    Ok(())
-}
-
-#[test]
-fn bridge_keeps_both(rt: HostRuntime) -> Result<(), Fail> {
-    let alloc = rt.alloc();
-    let old = coterie_of(alloc, 3, &[&[0, 1], &[0, 2], &[1, 2]])?;
-    let new = coterie_of(alloc, 3, &[&[0, 1, 2]])?;
-    let counts = match Bridge::of(alloc, &old, &new) {
-        Ok(bridge) => (bridge.first().count(), bridge.second().count()),
-        Err(_) => (0, 0),
+/// Returns how many quorums two coteries of three voters have on their bridge, if they have one.
+fn bridged(alloc: Global, old: &[&[u8]], new: &[&[u8]]) -> Bridged {
+    let (Some(old), Some(new)) = (coterie_of(alloc, 3, old), coterie_of(alloc, 3, new)) else {
+        return Err(BridgeFault::OutOfMemory);
     };
-    assert!(rt; counts == (3, 1));
-    Ok(())
+    if old.voters() != new.voters() {
+        return Err(BridgeFault::OutOfMemory);
+    }
+    let bridge = Bridge::of(alloc, &old, &new)?;
+    Ok((bridge.first().count(), bridge.second().count()))
+}
+
+#[test]
+fn bridges_between_coteries(rt: HostRuntime) {
+    for (old, new, wanted) in &PAIRS {
+        assert!(rt; bridged(rt.alloc(), old, new) == *wanted);
+    }
+}
+
+/// Returns how many voters and quorums the copy of a coterie has, or `None` if memory runs out.
+fn copied(alloc: Global) -> Option<(usize, usize)> {
+    let copy = coterie_of(alloc, 3, ANY_TWO)?.copy(alloc).ok()?;
+    Some((copy.voters(), copy.count()))
+}
+
+#[test]
+fn a_copy_of_a_coterie(rt: HostRuntime) {
+    assert!(rt; copied(rt.alloc()) == Some((3, 3)));
 }

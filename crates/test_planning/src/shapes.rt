@@ -40,7 +40,7 @@ const BAD_SIZE: Sizes = Err(ConstructFault::BadSize);
 const TOO_LARGE: Sizes = Err(ConstructFault::TooLarge);
 
 /// Shapes, and the sizes of what is constructed.
-const SIZES: [(Shape, Sizes); 18] = [
+const SIZES: [(Shape, Sizes); 32] = [
     (Shape::Grid(1, 5), BAD_SIZE),
     (Shape::Grid(5, 1), BAD_SIZE),
     (Shape::Grid(0, 100), BAD_SIZE),
@@ -59,17 +59,6 @@ const SIZES: [(Shape, Sizes); 18] = [
     (Shape::Wheel(1), BAD_SIZE),
     (Shape::Wheel(64), TOO_LARGE),
     (Shape::Wheel(63), Ok((64, 64))),
-];
-
-#[test]
-fn sizes_and_faults(rt: HostRuntime) {
-    for (shape, wanted) in &SIZES {
-        assert!(rt; sizes_of(rt.alloc(), *shape) == *wanted);
-    }
-}
-
-/// Shapes on a ring, and the sizes of what is constructed.
-const RINGS: [(Shape, Sizes); 14] = [
     (Shape::Cyclic(0, &[]), BAD_SIZE),
     (Shape::Cyclic(0, &[0]), BAD_SIZE),
     (Shape::Cyclic(7, &[]), BAD_SIZE),
@@ -99,8 +88,8 @@ const RINGS: [(Shape, Sizes); 14] = [
 ];
 
 #[test]
-fn bases_and_faults(rt: HostRuntime) {
-    for (shape, wanted) in &RINGS {
+fn sizes_and_faults(rt: HostRuntime) {
+    for (shape, wanted) in &SIZES {
         assert!(rt; sizes_of(rt.alloc(), *shape) == *wanted);
     }
 }
@@ -123,7 +112,7 @@ fn is_list(alloc: Global, shape: Shape, voters: usize, quorums: &[&[u8]]) -> boo
 }
 
 /// Shapes, how many voters they have, and their quorums.
-const LISTS: [(Shape, usize, &[&[u8]]); 7] = [
+const LISTS: [(Shape, usize, &[&[u8]]); 8] = [
     (
         Shape::Grid(2, 2),
         4,
@@ -148,6 +137,27 @@ const LISTS: [(Shape, usize, &[&[u8]]); 7] = [
         &[&[0, 1, 2], &[0, 1, 3], &[0, 2, 3], &[1, 2, 3]],
     ),
     (Shape::Tree(1), 3, &[&[0, 1], &[0, 2], &[1, 2]]),
+    (
+        Shape::Tree(2),
+        7,
+        &[
+            &[0, 1, 3],
+            &[0, 1, 4],
+            &[0, 3, 4],
+            &[0, 2, 5],
+            &[0, 2, 6],
+            &[0, 5, 6],
+            &[1, 2, 3, 5],
+            &[1, 2, 3, 6],
+            &[1, 3, 5, 6],
+            &[1, 2, 4, 5],
+            &[1, 2, 4, 6],
+            &[1, 4, 5, 6],
+            &[2, 3, 4, 5],
+            &[2, 3, 4, 6],
+            &[3, 4, 5, 6],
+        ],
+    ),
     (Shape::Wheel(3), 4, &[&[0, 1], &[0, 2], &[0, 3], &[1, 2, 3]]),
     (
         Shape::Cyclic(7, &[0, 1, 3]),
@@ -169,28 +179,4 @@ fn small_lists(rt: HostRuntime) {
     for (shape, voters, quorums) in &LISTS {
         assert!(rt; is_list(rt.alloc(), *shape, *voters, quorums));
     }
-}
-
-/// The quorums of the tree of height two.
-const TREE: [&[u8]; 15] = [
-    &[0, 1, 3],
-    &[0, 1, 4],
-    &[0, 3, 4],
-    &[0, 2, 5],
-    &[0, 2, 6],
-    &[0, 5, 6],
-    &[1, 2, 3, 5],
-    &[1, 2, 3, 6],
-    &[1, 3, 5, 6],
-    &[1, 2, 4, 5],
-    &[1, 2, 4, 6],
-    &[1, 4, 5, 6],
-    &[2, 3, 4, 5],
-    &[2, 3, 4, 6],
-    &[3, 4, 5, 6],
-];
-
-#[test]
-fn a_tree_of_seven(rt: HostRuntime) {
-    assert!(rt; is_list(rt.alloc(), Shape::Tree(2), 7, &TREE));
 }

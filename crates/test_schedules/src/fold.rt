@@ -1,7 +1,7 @@
 //! A world that is run step by step, and what can be seen of it.
 ghost use Rattle.std.specs.Prelude.{◌≤◌, ◌^◌};
 
-use dealer::Plans;
+use crate::plans::Kind;
 use std::alloc::{AllocError, Global};
 use world::{Event, Step, Stepped, Trace, World, WorldFault};
 
@@ -28,8 +28,9 @@ pub struct Fold {
 }
 
 impl Fold {
-    /// Returns a new world.
-    pub fn new(alloc: Global, plans: Plans, sizes: Sizes) -> Result<Fold, AllocError> {
+    /// Returns a new world of these coteries.
+    pub fn of_kind(alloc: Global, kind: Kind, sizes: Sizes) -> Result<Fold, AllocError> {
+        let plans = kind.plans(alloc).ok_or(AllocError)?;
         Ok(Fold {
             world: World::new(alloc, plans, sizes.clients, sizes.limit)?,
             refused: Vec::new(alloc),

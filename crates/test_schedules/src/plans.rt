@@ -3,12 +3,11 @@ ghost use Rattle.std.specs.Prelude.{◌≤◌};
 
 use certificate::Plan;
 use dealer::Plans;
-use std::alloc::{AllocError, Global};
-use std::test::Fail;
+use std::alloc::Global;
 use test_plans::{bridged_plans, grid_plan, majority_plan, wheel_plan, whole_plan};
 
 /// A coterie with an optimal plan, or two with a bridge from the first to the second.
-#[derive(Clone, Copy, PartialEq, Eq)]
+#[derive(Clone, Copy)]
 pub enum Kind {
     /// Any two of three voters.
     Majority,
@@ -22,14 +21,9 @@ pub enum Kind {
     GridThenWheel,
 }
 
-/// Returns both plans, or fails if memory ran out.
-fn both(plans: Option<Plans>) -> Result<Plans, Fail> {
-    Ok(plans.ok_or(AllocError)?)
-}
-
-/// Returns this plan alone, or fails if memory ran out.
-fn single(plan: Option<Plan>) -> Result<Plans, Fail> {
-    Ok(Plans::single(plan.ok_or(AllocError)?))
+/// Returns this plan alone, if there is one.
+fn single(plan: Option<Plan>) -> Option<Plans> {
+    Some(Plans::single(plan?))
 }
 
 impl Kind {
@@ -49,18 +43,14 @@ impl Kind {
         matches!(self, Kind::MajorityThenAll | Kind::GridThenWheel)
     }
 
-    /// Returns the plans.
-    pub fn plans(self, alloc: Global) -> Result<Plans, Fail> {
+    /// Returns the plans, or `None` if memory runs out.
+    pub fn plans(self, alloc: Global) -> Option<Plans> {
         match self {
             Kind::Majority => single(majority_plan(alloc)),
             Kind::Grid => single(grid_plan(alloc)),
             Kind::Wheel => single(wheel_plan(alloc)),
-            Kind::MajorityThenAll => both(bridged_plans(
-                alloc,
-                majority_plan(alloc),
-                whole_plan(alloc),
-            )),
-            Kind::GridThenWheel => both(bridged_plans(alloc, grid_plan(alloc), wheel_plan(alloc))),
+            Kind::MajorityThenAll => bridged_plans(alloc, majority_plan(alloc), whole_plan(alloc)),
+            Kind::GridThenWheel => bridged_plans(alloc, grid_plan(alloc), wheel_plan(alloc)),
         }
     }
 }

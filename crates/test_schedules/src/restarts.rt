@@ -12,7 +12,6 @@ use rand_core::SeedableRng;
 use rand_pcg::Pcg64;
 use requester::{ClientFault, Phase, Reply, Requester, Seen};
 use std::alloc::{AllocError, Global};
-use std::test::Fail;
 use test_plans::set_of;
 use voter::{SavedWords, Voter};
 
@@ -35,7 +34,7 @@ const OFTEN: u64 = 100;
 const QUORUMS: [&[u8]; 4] = [&[0, 1], &[0, 2], &[0, 3], &[1, 2, 3]];
 
 /// What schedules tried.
-#[derive(Clone, Copy, Debug, Default)]
+#[derive(Clone, Copy, Default)]
 struct Tally {
     /// How many clients entered.
     entries: u64,
@@ -85,6 +84,30 @@ fn words_of_client(client: &Requester) -> SavedWords {
     words
 }
 
+/// Returns new voters, and what each saved.
+fn new_voters(alloc: Global) -> Result<(Vec<Voter>, Vec<SavedWords>), AllocError> {
+    let mut voters = Vec::new(alloc);
+    let mut words = Vec::new(alloc);
+    for id in 0..VOTERS {
+        let voter = Voter::new(id, LIMIT);
+        words.push(words_of_voter(&voter))?;
+        voters.push(voter)?;
+    }
+    Ok((voters, words))
+}
+
+/// Returns new clients, and what each saved.
+fn new_clients(alloc: Global) -> Result<(Vec<Requester>, Vec<SavedWords>), AllocError> {
+    let mut clients = Vec::new(alloc);
+    let mut words = Vec::new(alloc);
+    for id in 0..CLIENTS {
+        let client = Requester::new(id, LIMIT);
+        words.push(words_of_client(&client))?;
+        clients.push(client)?;
+    }
+    Ok((clients, words))
+}
+
 /// Counts one more.
 fn count(number: &mut u64) {
     *number = number.saturating_add(1);
@@ -111,30 +134,21 @@ fn quorum_at(number: u64) -> &'static [u8] {
 
 impl Cluster {
     /// Returns new voters and clients. Each has saved its first state.
-    fn new(alloc: Global, seed: u64) -> Result<Cluster, AllocError> {
-        let mut cluster = Cluster {
-            voters: Vec::new(alloc),
-            clients: Vec::new(alloc),
-            voter_words: Vec::new(alloc),
-            client_words: Vec::new(alloc),
+    fn new(alloc: Global, seed: u64, tally: Tally) -> Result<Cluster, AllocError> {
+        let (voters, voter_words) = new_voters(alloc)?;
+        let (clients, client_words) = new_clients(alloc)?;
+        Ok(Cluster {
+            voters,
+            clients,
+            voter_words,
+            client_words,
             sent: Vec::new(alloc),
             next: 0,
             inside: None,
             broken: false,
             rng: Pcg64::seed_from_u64(seed),
-            tally: Tally::default(),
-        };
-        for id in 0..VOTERS {
-            let voter = Voter::new(id, LIMIT);
-            cluster.voter_words.push(words_of_voter(&voter))?;
-            cluster.voters.push(voter)?;
-        }
-        for id in 0..CLIENTS {
-            let client = Requester::new(id, LIMIT);
-            cluster.client_words.push(words_of_client(&client))?;
-            cluster.clients.push(client)?;
-        }
-        Ok(cluster)
+            tally,
+        })
     }
 
     fn save_voter(&mut self, voter: u8) {
@@ -419,8 +433,7 @@ impl Cluster {
 /// Plays the schedule of a seed, and adds what it tried. Returns whether at most one client was
 /// inside at a time, and no saved state was refused.
 fn plays(alloc: Global, seed: u64, tally: &mut Tally) -> Result<bool, AllocError> {
-    let mut cluster = Cluster::new(alloc, seed)?;
-    cluster.tally = *tally;
+    let mut cluster = Cluster::new(alloc, seed, *tally)?;
     for _ in 0..STEPS {
         cluster.step()?;
     }
@@ -428,20 +441,23 @@ fn plays(alloc: Global, seed: u64, tally: &mut Tally) -> Result<bool, AllocError
     Ok(!cluster.broken)
 }
 
-/// Returns what the schedules from one seed to another tried, and how many of them were broken.
-fn tried(alloc: Global, first: u64, end: u64) -> Result<(Tally, u64), AllocError> {
+/// Returns what the schedules of 250 seeds tried, from the first seed on. Returns `None` if one of them
+/// was broken or memory ran out.
+fn tried(alloc: Global, first: u64) -> Option<Tally> {
     let mut tally = Tally::default();
-    let mut broken = 0;
-    for seed in first..end {
-        if !plays(alloc, seed, &mut tally)? {
-            count(&mut broken);
+    for seed in first..first.saturating_add(250) {
+        if plays(alloc, seed, &mut tally) != Ok(true) {
+            return None;
         }
     }
-    Ok((tally, broken))
+    Some(tally)
 }
 
 /// Returns whether these schedules kept exclusion, and everything was tried often.
-fn is_hostile(tally: &Tally, broken: u64) -> bool {
+fn is_hostile(alloc: Global, first: u64) -> bool {
+    let Some(tally) = tried(alloc, first) else {
+        return false;
+    };
     let counts = [
         tally.entries,
         tally.leaves,
@@ -451,33 +467,12 @@ fn is_hostile(tally: &Tally, broken: u64) -> bool {
         tally.voters,
         tally.forgot,
     ];
-    broken == 0 && counts.iter().all(|count| *count >= OFTEN)
+    counts.iter().all(|count| *count >= OFTEN)
 }
 
 #[test]
-fn restarts_of_the_first_seeds(rt: HostRuntime) -> Result<(), Fail> {
-    let (tally, broken) = tried(rt.alloc(), 0, 250)?;
-    assert!(rt; is_hostile(&tally, broken), "{} {:?}", broken, tally);
-    Ok(())
-}
-
-#[test]
-fn restarts_of_the_second_seeds(rt: HostRuntime) -> Result<(), Fail> {
-    let (tally, broken) = tried(rt.alloc(), 250, 500)?;
-    assert!(rt; is_hostile(&tally, broken), "{} {:?}", broken, tally);
-    Ok(())
-}
-
-#[test]
-fn restarts_of_the_third_seeds(rt: HostRuntime) -> Result<(), Fail> {
-    let (tally, broken) = tried(rt.alloc(), 500, 750)?;
-    assert!(rt; is_hostile(&tally, broken), "{} {:?}", broken, tally);
-    Ok(())
-}
-
-#[test]
-fn restarts_of_the_last_seeds(rt: HostRuntime) -> Result<(), Fail> {
-    let (tally, broken) = tried(rt.alloc(), 750, 1000)?;
-    assert!(rt; is_hostile(&tally, broken), "{} {:?}", broken, tally);
-    Ok(())
+fn schedules_with_restarts_keep_exclusion(rt: HostRuntime) {
+    for first in [0u64, 250, 500, 750] {
+        assert!(rt; is_hostile(rt.alloc(), first));
+    }
 }

@@ -8,7 +8,6 @@ use rand_core::{Rng, SeedableRng};
 use rand_pcg::Pcg64;
 use requester::Seen;
 use std::alloc::{AllocError, Global};
-use std::test::Fail;
 use world::{Step, Stepped, WorldFault};
 
 /// How many steps a schedule of one plan has.
@@ -21,7 +20,7 @@ const STEPS_OF_TWO: usize = 500;
 const EXCHANGES: u64 = 128;
 
 /// What schedules tried.
-#[derive(Clone, Copy, Debug, Default)]
+#[derive(Clone, Copy, Default)]
 pub struct Tally {
     /// How many clients entered.
     pub entries: u64,
@@ -86,11 +85,12 @@ fn draw_sizes(rng: &mut Pcg64) -> Sizes {
 
 impl Schedule {
     /// Returns the schedule of a seed, with no step yet.
-    fn new(alloc: Global, kind: Kind, seed: u64) -> Result<Schedule, Fail> {
+    fn new(alloc: Global, kind: Kind, seed: u64) -> Result<Schedule, AllocError> {
         let mut rng = Pcg64::seed_from_u64(seed);
         let sizes = draw_sizes(&mut rng);
+        let fold = Fold::of_kind(alloc, kind, sizes)?;
         Ok(Schedule {
-            fold: Fold::new(alloc, kind.plans(alloc)?, sizes)?,
+            fold,
             steps: Vec::new(alloc),
             sizes,
             kind,
@@ -197,7 +197,7 @@ impl Schedule {
     }
 
     /// Exchanges the plan, and counts it.
-    fn exchange(&mut self, tally: &mut Tally) -> Result<(), Fail> {
+    fn exchange(&mut self, tally: &mut Tally) -> Result<(), AllocError> {
         if self.fold.play(Step::Exchange)?.is_err() {
             tally.refusals = tally.refusals.saturating_add(1);
             return Ok(());
@@ -211,7 +211,7 @@ impl Schedule {
     }
 
     /// Draws a step, makes it, and counts what it tried.
-    fn add_step(&mut self, tally: &mut Tally) -> Result<(), Fail> {
+    fn add_step(&mut self, tally: &mut Tally) -> Result<(), AllocError> {
         let step = self.draw_step();
         self.steps.push(step)?;
         if let Step::Exchange = step {
@@ -260,7 +260,12 @@ impl Tally {
 }
 
 /// Draws the schedule of a seed, makes its steps as they are drawn, and counts what they tried.
-pub fn drawn(alloc: Global, kind: Kind, seed: u64, tally: &mut Tally) -> Result<Schedule, Fail> {
+pub fn drawn(
+    alloc: Global,
+    kind: Kind,
+    seed: u64,
+    tally: &mut Tally,
+) -> Result<Schedule, AllocError> {
     let mut schedule = Schedule::new(alloc, kind, seed)?;
     let steps = if kind.are_two() { STEPS_OF_TWO } else { STEPS };
     for _ in 0..steps {

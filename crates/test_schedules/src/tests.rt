@@ -3,135 +3,128 @@ ghost use Rattle.std.specs.Prelude.{◌<◌};
 use crate::fold::{Fold, is_exclusive};
 use crate::plans::Kind;
 use crate::schedule::{Schedule, Tally, drawn};
-use std::alloc::Global;
-use std::test::Fail;
+use std::alloc::{AllocError, Global};
 use world::{Event, Step, Trace, run};
 
-/// The end of the seeds. They are 0 to 999, and each coterie has a third of them. Each pair of
-/// coteries has half of them.
-const SEEDS: u64 = 1000;
-
-/// The end of the first half of the seeds. Each test has half of a coterie's seeds.
-const HALF: u64 = 500;
-
-/// How often, at least, half of a coterie's schedules have to try each thing that is counted.
+/// How often, at least, the schedules of a row have to try each thing that is counted.
 const OFTEN: u64 = 100;
 
 /// Returns the trace of a schedule's run.
-fn trace_of(alloc: Global, kind: Kind, schedule: &Schedule) -> Result<Trace, Fail> {
+fn trace_of(alloc: Global, kind: Kind, schedule: &Schedule) -> Result<Trace, AllocError> {
     let sizes = schedule.sizes;
-    let plans = kind.plans(alloc)?;
-    Ok(run(alloc, plans, sizes.clients, sizes.limit, &schedule.steps)?)
+    let plans = kind.plans(alloc).ok_or(AllocError)?;
+    run(alloc, plans, sizes.clients, sizes.limit, &schedule.steps)
 }
 
-/// Returns what the schedules of some seeds tried: from the first to the end, every third seed, or
-/// every other one if there are two plans.
-///
-/// Returns `None` if a run differs from the steps as they were drawn, or two clients were inside at
-/// once.
-fn tried(alloc: Global, kind: Kind, first: u64, end: u64) -> Result<Option<Tally>, Fail> {
+/// Draws the schedule of a seed, and counts what it tried. Returns whether its run is as its steps were
+/// when they were drawn, and at most one client was inside at once.
+fn plays(alloc: Global, kind: Kind, seed: u64, tally: &mut Tally) -> Result<bool, AllocError> {
+    let schedule = drawn(alloc, kind, seed, tally)?;
+    let trace = trace_of(alloc, kind, &schedule)?;
+    Ok(schedule.fold.is_written_in(&trace) & is_exclusive(&trace.visible))
+}
+
+/// A coterie or a pair of them, and seeds: from the first to the end, every third one, or every other
+/// one if there are two plans.
+type Row = (Kind, u64, u64);
+
+/// Returns what the schedules of a row tried, or `None` if one of them was wrong or memory ran out.
+fn tried(alloc: Global, row: &Row) -> Option<Tally> {
+    let (kind, first, end) = *row;
     let mut tally = Tally::default();
     let kinds = if kind.are_two() { 2 } else { 3 };
     for seed in first..end {
-        if seed % kinds == first % kinds {
-            let schedule = drawn(alloc, kind, seed, &mut tally)?;
-            let trace = trace_of(alloc, kind, &schedule)?;
-            if !schedule.fold.is_written_in(&trace) || !is_exclusive(&trace.visible) {
-                return Ok(None);
-            }
+        if seed % kinds == first % kinds && plays(alloc, kind, seed, &mut tally) != Ok(true) {
+            return None;
         }
     }
-    Ok(Some(tally))
+    Some(tally)
 }
 
-/// Returns whether the runs were right, and everything was tried often.
-fn is_hostile(tally: &Option<Tally>) -> bool {
-    let Some(tally) = tally else {
+/// Returns whether the runs of a row were right, and everything was tried often.
+fn is_hostile(alloc: Global, row: &Row) -> bool {
+    let Some(seen) = tried(alloc, row) else {
         return false;
     };
     let counts = [
-        tally.entries,
-        tally.repeats,
-        tally.late,
-        tally.spent,
-        tally.absent,
+        seen.entries,
+        seen.repeats,
+        seen.late,
+        seen.spent,
+        seen.absent,
     ];
     counts.iter().all(|count| *count >= OFTEN)
 }
 
-/// Returns whether the runs over two plans were right, and everything was tried often. Exchanges
-/// while a client is inside are counted twice: they are rarer.
-fn is_exchanged(tally: &Option<Tally>) -> bool {
-    let Some(seen) = tally else {
+/// Returns the same of runs over two plans. Exchanges while a client is inside are counted twice: they
+/// are rarer.
+fn is_exchanged(alloc: Global, row: &Row) -> bool {
+    let Some(seen) = tried(alloc, row) else {
         return false;
     };
     let amid = seen.amid.saturating_mul(2);
-    let counts = [seen.exchanges, amid, seen.refusals, seen.later];
-    is_hostile(tally) && counts.iter().all(|count| *count >= OFTEN)
+    let counts = [
+        seen.entries,
+        seen.repeats,
+        seen.late,
+        seen.spent,
+        seen.absent,
+        seen.exchanges,
+        amid,
+        seen.refusals,
+        seen.later,
+    ];
+    counts.iter().all(|count| *count >= OFTEN)
+}
+
+// The seeds are 0 to 999, and each coterie has a third of them, in two halves.
+
+#[test]
+fn majorities_keep_exclusion(rt: HostRuntime) {
+    for row in &[(Kind::Majority, 0, 500), (Kind::Majority, 501, 1000)] {
+        assert!(rt; is_hostile(rt.alloc(), row));
+    }
 }
 
 #[test]
-fn majorities_of_the_first_seeds(rt: HostRuntime) -> Result<(), Fail> {
-    let tally = tried(rt.alloc(), Kind::Majority, 0, HALF)?;
-    assert!(rt; is_hostile(&tally), "{:?}", tally);
-    Ok(())
+fn grids_keep_exclusion(rt: HostRuntime) {
+    for row in &[(Kind::Grid, 1, 500), (Kind::Grid, 502, 1000)] {
+        assert!(rt; is_hostile(rt.alloc(), row));
+    }
 }
 
 #[test]
-fn majorities_of_the_last_seeds(rt: HostRuntime) -> Result<(), Fail> {
-    let tally = tried(rt.alloc(), Kind::Majority, HALF + 1, SEEDS)?;
-    assert!(rt; is_hostile(&tally), "{:?}", tally);
-    Ok(())
+fn wheels_keep_exclusion(rt: HostRuntime) {
+    for row in &[(Kind::Wheel, 2, 500), (Kind::Wheel, 500, 1000)] {
+        assert!(rt; is_hostile(rt.alloc(), row));
+    }
 }
 
-#[test]
-fn grids_of_the_first_seeds(rt: HostRuntime) -> Result<(), Fail> {
-    let tally = tried(rt.alloc(), Kind::Grid, 1, HALF)?;
-    assert!(rt; is_hostile(&tally), "{:?}", tally);
-    Ok(())
-}
+/// The same seeds, of which each pair of coteries has half.
+const TWO: [Row; 2] = [
+    (Kind::MajorityThenAll, 0, 1000),
+    (Kind::GridThenWheel, 1, 1000),
+];
 
 #[test]
-fn grids_of_the_last_seeds(rt: HostRuntime) -> Result<(), Fail> {
-    let tally = tried(rt.alloc(), Kind::Grid, HALF + 2, SEEDS)?;
-    assert!(rt; is_hostile(&tally), "{:?}", tally);
-    Ok(())
-}
-
-#[test]
-fn wheels_of_the_first_seeds(rt: HostRuntime) -> Result<(), Fail> {
-    let tally = tried(rt.alloc(), Kind::Wheel, 2, HALF)?;
-    assert!(rt; is_hostile(&tally), "{:?}", tally);
-    Ok(())
-}
-
-#[test]
-fn wheels_of_the_last_seeds(rt: HostRuntime) -> Result<(), Fail> {
-    let tally = tried(rt.alloc(), Kind::Wheel, HALF, SEEDS)?;
-    assert!(rt; is_hostile(&tally), "{:?}", tally);
-    Ok(())
-}
-
-#[test]
-fn exchanges_for_all_voters(rt: HostRuntime) -> Result<(), Fail> {
-    let tally = tried(rt.alloc(), Kind::MajorityThenAll, 0, SEEDS)?;
-    assert!(rt; is_exchanged(&tally), "{:?}", tally);
-    Ok(())
-}
-
-#[test]
-fn exchanges_for_a_wheel(rt: HostRuntime) -> Result<(), Fail> {
-    let tally = tried(rt.alloc(), Kind::GridThenWheel, 1, SEEDS)?;
-    assert!(rt; is_exchanged(&tally), "{:?}", tally);
-    Ok(())
+fn schedules_with_exchanges_keep_exclusion(rt: HostRuntime) {
+    for row in &TWO {
+        assert!(rt; is_exchanged(rt.alloc(), row));
+    }
 }
 
 /// Makes the steps of a schedule, except each delivery whose number in order, from 1 on, is a
-/// multiple of `every`.
-fn skipping(alloc: Global, kind: Kind, schedule: &Schedule, every: u32) -> Result<Fold, Fail>
+/// multiple of `every`. Returns whether the trace has the same messages, events and refusals.
+fn is_seen_without(
+    alloc: Global,
+    kind: Kind,
+    schedule: &Schedule,
+    every: u32,
+    trace: &Trace,
+) -> Result<bool, AllocError>
     requires { 0 < every }
 {
-    let mut fold = Fold::new(alloc, kind.plans(alloc)?, schedule.sizes)?;
+    let mut fold = Fold::of_kind(alloc, kind, schedule.sizes)?;
     let mut turn = 0u32;
     for step in &schedule.steps {
         if matches!(step, Step::Deliver(_)) {
@@ -142,43 +135,62 @@ fn skipping(alloc: Global, kind: Kind, schedule: &Schedule, every: u32) -> Resul
         }
         let _ = fold.play(*step)?;
     }
-    Ok(fold)
+    Ok(fold.is_written_in(trace))
+}
+
+/// Returns whether a run differs from the same steps without every third delivery, and not from all of
+/// them.
+fn skips_are_seen(alloc: Global, kind: Kind) -> Result<bool, AllocError> {
+    let schedule = drawn(alloc, kind, 1000, &mut Tally::default())?;
+    let trace = trace_of(alloc, kind, &schedule)?;
+    let whole = is_seen_without(alloc, kind, &schedule, u32::MAX, &trace)?;
+    Ok(whole & !is_seen_without(alloc, kind, &schedule, 3, &trace)?)
 }
 
 #[test]
-fn skipped_deliveries_are_seen(rt: HostRuntime) -> Result<(), Fail> {
-    let alloc = rt.alloc();
-    let kinds = [
+fn skipped_deliveries_are_seen(rt: HostRuntime) {
+    for kind in [
         Kind::Majority,
         Kind::Grid,
         Kind::Wheel,
         Kind::MajorityThenAll,
         Kind::GridThenWheel,
-    ];
-    for kind in kinds {
-        let mut tally = Tally::default();
-        let schedule = drawn(alloc, kind, SEEDS, &mut tally)?;
-        let trace = trace_of(alloc, kind, &schedule)?;
-        let whole = skipping(alloc, kind, &schedule, u32::MAX)?;
-        assert!(rt; whole.is_written_in(&trace));
-        let skipped = skipping(alloc, kind, &schedule, 3)?;
-        assert!(rt; !skipped.is_written_in(&trace));
+    ] {
+        assert!(rt; skips_are_seen(rt.alloc(), kind) == Ok(true));
     }
-    Ok(())
 }
+
+/// A client enters.
+macro_rules! enters {
+    ($client:literal) => {
+        Event {
+            client: $client,
+            entered: true,
+        }
+    };
+}
+
+/// A client leaves.
+macro_rules! leaves {
+    ($client:literal) => {
+        Event {
+            client: $client,
+            entered: false,
+        }
+    };
+}
+
+/// Events, and whether at most one client is inside at a time.
+const EVENTS: [(&[Event], bool); 4] = [
+    (&[enters!(0), leaves!(0), enters!(1)], true),
+    (&[enters!(0), enters!(1)], false),
+    (&[enters!(0), leaves!(1)], false),
+    (&[leaves!(0)], false),
+];
 
 #[test]
 fn two_inside_are_seen(rt: HostRuntime) {
-    let enter = |client| Event {
-        client,
-        entered: true,
-    };
-    let leave = |client| Event {
-        client,
-        entered: false,
-    };
-    assert!(rt; is_exclusive(&[enter(0), leave(0), enter(1)]));
-    assert!(rt; !is_exclusive(&[enter(0), enter(1)]));
-    assert!(rt; !is_exclusive(&[enter(0), leave(1)]));
-    assert!(rt; !is_exclusive(&[leave(0)]));
+    for (events, wanted) in &EVENTS {
+        assert!(rt; is_exclusive(events) == *wanted);
+    }
 }
