@@ -3,7 +3,7 @@ use Rattle.std.proofs.Common.{◌≡◌, List, ℕ, Bool, true, false, inr, subs
 use Rattle.std.specs.Bool.{OnFalse}
 use Rattle.commands.specs.Commands.{ComesOf, IsAnswer, IsServed, Refuses, planned_in}
 use Rattle.commands.specs.declared.fault.Fault.{Fault}
-use Rattle.commands.specs.declared.fault.Fault.TheVariants.{Cluster, Construct, Device, Input, MissingPart, OutOfMemory, Replay, UnknownVoter}
+use Rattle.commands.specs.declared.fault.Fault.TheVariants.{Cluster, Construct, Device, Input, MissingPart, NotBridged, OutOfMemory, Replay, UnknownVoter}
 use Rattle.command_line.specs.declared.command.Command.{Command}
 use Rattle.command_line.specs.declared.command.Command.TheVariants as qlock
 use Rattle.show_refusals.specs.Codes.{code_of}
@@ -30,6 +30,7 @@ fault_comes command input OutOfMemory h = tt
 fault_comes command input (Cluster fault) h = tt
 fault_comes command input (MissingPart k) h = h.1
 fault_comes command input (UnknownVoter k) h = h.1
+fault_comes command input (NotBridged j k) h = h.1
 fault_comes command input (Construct fault) h = h.1
 fault_comes command input (Input fault) h = h.1
 fault_comes command input (Replay fault) h = h.1
@@ -45,6 +46,7 @@ run_fault_comes clients passes turns input OutOfMemory h = tt
 run_fault_comes clients passes turns input (Cluster fault) h = tt
 run_fault_comes clients passes turns input (MissingPart k) h = h
 run_fault_comes clients passes turns input (UnknownVoter k) h = h
+run_fault_comes clients passes turns input (NotBridged j k) h = h
 run_fault_comes clients passes turns input (Construct fault) h = h
 run_fault_comes clients passes turns input (Input fault) h = h
 run_fault_comes clients passes turns input (Replay fault) h = h

@@ -15,7 +15,7 @@ use Rattle.construct.specs.declared.fault.ConstructFault.TheVariants as construc
 use Rattle.plan_inputs.specs.declared.fault.InputFault.{InputFault}
 use Rattle.plan_inputs.specs.declared.fault.InputFault.TheVariants as inputs
 use Rattle.commands.specs.declared.fault.Fault.{Fault}
-use Rattle.commands.specs.declared.fault.Fault.TheVariants.{Cluster, Construct, Device, Input, MissingPart, OutOfMemory, Replay, UnknownVoter}
+use Rattle.commands.specs.declared.fault.Fault.TheVariants.{Cluster, Construct, Device, Input, MissingPart, NotBridged, OutOfMemory, Replay, UnknownVoter}
 
 -- of a fault of the quorums of a coterie
 abbrev pub coterie_code : CoterieFault → List ℕ
@@ -89,6 +89,7 @@ construct_code construct.OutOfMemory = codes "O1"
 abbrev pub code_of : Fault → List ℕ
 code_of (MissingPart part) = codes "I1"
 code_of (UnknownVoter place) = codes "I6"
+code_of (NotBridged j k) = codes "J1"
 code_of (Construct fault) = construct_code fault
 code_of (Input fault) = input_code fault
 code_of (Replay fault) = replay_code fault

@@ -120,6 +120,7 @@ pub(crate) fn code_of(fault: Fault) -> &'static str
     match fault {
         Fault::MissingPart(_) => "I1",
         Fault::UnknownVoter(_) => "I6",
+        Fault::NotBridged(..) => "J1",
         Fault::Construct(fault) => construct_code(fault),
         Fault::Input(fault) => input_code(fault),
         Fault::Replay(fault) => replay_code(fault),

@@ -324,9 +324,11 @@ fn push_place(
         Fault::Input(fault) => push_input_fault(alloc, text, refused, fault),
         Fault::Replay(fault) => push_replay_fault(text, refused, fault),
         Fault::Construct(fault) => push_made(text, refused, fault),
-        Fault::UnknownVoter(_) | Fault::Device(_) | Fault::Cluster(_) | Fault::OutOfMemory => {
-            Ok(())
-        }
+        Fault::UnknownVoter(_)
+        | Fault::NotBridged(..)
+        | Fault::Device(_)
+        | Fault::Cluster(_)
+        | Fault::OutOfMemory => Ok(()),
     }
 }
 
