@@ -60,6 +60,24 @@ fn open_office(alloc: Global, plan: Plan, quota: u64) -> Result<(Office, Clerk),
     }
 }
 
+/// Opens the office of the second plan, if there is one, with its clerk.
+fn open_second(
+    alloc: Global,
+    plan: Option<Plan>,
+    quota: u64,
+) -> Result<(Option<Office>, Option<Clerk>), AllocError>
+    requires { quota ≤ max_tickets }
+    ensures cycle { IfOk result (λ made. option_map (λ o. o.name.cycle) made.0 ≡ plan) }
+    ensures quota { IfOk result (λ made. IfSome made.0 (λ o. o.quota ≡ quota)) }
+    ensures clerk { IfOk result (λ made. made.1 ≡ option_map (λ o. fresh_clerk o.name quota) made.0) }
+{
+    let Some(plan) = plan else {
+        return Ok((None, None));
+    };
+    let (office, clerk) = open_office(alloc, plan, quota)?;
+    Ok((Some(office), Some(clerk)))
+}
+
 /// Opens the offices of one or two plans, with clerks that may draw all the `quota` tickets of each.
 pub fn open_offices(
     alloc: Global,
@@ -74,28 +92,12 @@ pub fn open_offices(
     ensures clerks { IfOk result (λ made. made.1 ≡ fresh_clerks (office_names made.0) quota) }
 {
     let (first, first_clerk) = open_office(alloc, first, quota)?;
-    let Some(plan) = second else {
-        return Ok((
-            Offices {
-                first,
-                second: None,
-            },
-            Clerks {
-                first: first_clerk,
-                second: None,
-                side: Side::First,
-            },
-        ));
-    };
-    let (second, second_clerk) = open_office(alloc, plan, quota)?;
+    let (second, second_clerk) = open_second(alloc, second, quota)?;
     Ok((
-        Offices {
-            first,
-            second: Some(second),
-        },
+        Offices { first, second },
         Clerks {
             first: first_clerk,
-            second: Some(second_clerk),
+            second: second_clerk,
             side: Side::First,
         },
     ))

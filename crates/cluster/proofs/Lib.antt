@@ -1,1 +1,2 @@
 mod DriveLemmas
+mod LeastLemmas
