@@ -120,6 +120,7 @@ struct Sums {
 }
 
 /// Returns what the plan of these weights stores, or their first fault.
+#[tactic(auto, using(crate::proofs::LoadLemmas::balance_fits))]
 fn sums_of(
     coterie: &Coterie,
     capacities: &[u64],

@@ -4,7 +4,7 @@ use Rattle.std.specs.Int.{w128}
 use Rattle.std.proofs.lemmas.Bool.{true≢false}
 use Rattle.std.proofs.lemmas.Int.{to_z-of_z, fits_signed_from_abs}
 use Rattle.fraction.specs.declared.fault.FracFault.{FracFault}
-use Rattle.fraction.specs.Fractions.{Fraction, Fits, IsReduced}
+use Rattle.fraction.specs.Fractions.{Fraction, Fits, IsRatio, IsReduced}
 use Rattle.fraction.proofs.Lowest.{product-some}
 
 -- a number as the code passes it
@@ -27,6 +27,23 @@ passed-product z x y x' y' ex ey formed =
 
 pub passed_product-some : (z x y x' y' : ℤ) → x' ≡ x → y' ≡ y → (z ≡ x' *ℤ y') × Fits (x' *ℤ y') → x ≢ pos 0 → y ≢ pos 0 → to_z w128 (of_z w128 z) ≢ pos 0
 passed_product-some z x y x' y' ex ey formed some_x some_y = product-some x y _ some_x some_y (passed-product z x y x' y' ex ey formed)
+
+-- a number that was formed, as the code passes it
+pub passed-equal : (z t : ℤ) → (z ≡ t) × Fits t → to_z w128 (of_z w128 z) ≡ t
+passed-equal z t formed = to_z-of_z_equal z t (subst Fits (sym formed.0) formed.1) formed.0
+
+pub passed-fits : (z t : ℤ) → (z ≡ t) × Fits t → Fits (to_z w128 (of_z w128 z))
+passed-fits z t formed = subst Fits (sym (passed-equal z t formed)) formed.1
+
+pub passed-sum : (z x y x' y' : ℤ) → x' ≡ x → y' ≡ y → (z ≡ x' +ℤ y') × Fits (x' +ℤ y') → to_z w128 (of_z w128 z) ≡ x +ℤ y
+passed-sum z x y x' y' ex ey formed = passed-equal z (x' +ℤ y') formed ∙ ap (λ t. t +ℤ y') ex ∙ ap (λ t. x +ℤ t) ey
+
+pub passed-difference : (z x y x' y' : ℤ) → x' ≡ x → y' ≡ y → (z ≡ x' -ℤ y') × Fits (x' -ℤ y') → to_z w128 (of_z w128 z) ≡ x -ℤ y
+passed-difference z x y x' y' ex ey formed = passed-equal z (x' -ℤ y') formed ∙ ap (λ t. t -ℤ y') ex ∙ ap (λ t. x -ℤ t) ey
+
+-- a fraction of numbers as the code passes them
+pub IsRatio-passed : (p q p' q' : ℤ) (f : Fraction) → p' ≡ p → q' ≡ q → IsRatio p' q' f → IsRatio p q f
+IsRatio-passed p q p' q' f ep eq is = subst (λ t. IsRatio p t f) eq (subst (λ t. IsRatio t q' f) ep is)
 
 -- what does not fit as the code passes it does not fit
 

@@ -1,5 +1,5 @@
 -- Lemmas on one row of a table, and on the numbers that are formed of it.
-use Rattle.std.proofs.Common.{◌≡◌, ◌≢◌, ℕ, ◌+◌, ◌*◌, ◌/◌, ◌<◌, ◌≤◌, Bool, true, false, ℤ, pos, negsuc, ◌-ℤ◌, ◌*ℤ◌, unsigned_abs, to_z, of_z, List, length, get_or, refl, sym, subst}
+use Rattle.std.proofs.Common.{◌≡◌, ◌≢◌, ℕ, ◌+◌, ◌*◌, ◌/◌, ◌<◌, ◌≤◌, Bool, true, false, ℤ, pos, negsuc, ◌+ℤ◌, ◌-ℤ◌, ◌*ℤ◌, unsigned_abs, to_z, of_z, List, length, get_or, refl, sym, subst}
 use Rattle.std.proofs.Common.{ap, ◌∙◌, arith, below_more, get_or-set_same, get_or-set_other}
 use Rattle.std.proofs.Math.ListN.{set}
 use Rattle.std.specs.Prelude.{FitsSigned}
@@ -51,6 +51,9 @@ FitsSigned-difference a b a' b' ea eb fits = subst (FitsSigned w128) (sym (ap (�
 -- what fits as the code passes it fits
 pub Fits-product : (x y x' y' : ℤ) → x' ≡ x → y' ≡ y → Fits (x' *ℤ y') → Fits (x *ℤ y)
 Fits-product x y x' y' ex ey fits = subst (λ t. Fits (t *ℤ y)) ex (subst (λ t. Fits (x' *ℤ t)) ey fits)
+
+pub Fits-sum : (x y x' y' : ℤ) → x' ≡ x → y' ≡ y → Fits (x' +ℤ y') → Fits (x +ℤ y)
+Fits-sum x y x' y' ex ey fits = subst (λ t. Fits (t +ℤ y)) ex (subst (λ t. Fits (x' +ℤ t)) ey fits)
 
 pub Fits-difference : (x y x' y' : ℤ) → x' ≡ x → y' ≡ y → Fits (x' -ℤ y') → Fits (x -ℤ y)
 Fits-difference x y x' y' ex ey fits = subst (λ t. Fits (t -ℤ y)) ex (subst (λ t. Fits (x' -ℤ t)) ey fits)

@@ -3,7 +3,7 @@ use Rattle.std.specs.Prelude.{FitsSigned}
 use Rattle.std.specs.Int.{w128}
 use Rattle.std.proofs.lemmas.Int.{to_z-of_z}
 use Rattle.fraction.specs.Rows.{combined}
-use Rattle.fraction.proofs.RowLemmas.{set-holds_below_next, set-keeps_above, to_z-of_z_product, to_z-of_z_difference, FitsSigned-difference}
+use Rattle.fraction.proofs.RowLemmas.{set-holds_below_next, set-keeps_above, to_z-of_z_product, to_z-of_z_difference, FitsSigned-product, FitsSigned-difference}
 use Rattle.fraction.proofs.row.combine.Goals as goal
 
 pub overflow_sub-entry : goal.overflow_sub-entry
@@ -30,3 +30,10 @@ loop-j-preserved c =
           (to_z-of_z_difference _ _ _ _ (to_z-of_z_product _ _ _ at c.ranges.scale was fits.0) (to_z-of_z_product _ _ _ c.ranges.taken other refl fits.1) fits.2 ∙ back);
       left = set-keeps_above _ _ _ _ c.loop-j.invariant.left;
     }
+
+pub overflow_mul-entry : goal.overflow_mul-entry
+overflow_mul-entry c =
+    let j : ℕ = c.loop-j.j in
+    let at : FitsSigned w128 (get_or c.loop-j.row j (pos 0)) = search rules in
+    let fits = c.requires.fits j (omega arith) in
+    FitsSigned-product _ _ _ at c.ranges.scale (c.loop-j.invariant.left j (omega arith)) fits.0

@@ -1,7 +1,8 @@
-use Rattle.std.proofs.Common.{rules, pos, get_or, refl, arith, below_more}
+use Rattle.std.proofs.Common.{rules, pos, to_z, of_z, get_or, refl, subst, arith, below_more}
 use Rattle.std.specs.Prelude.{FitsSigned}
 use Rattle.std.specs.Int.{w128}
 use Rattle.std.proofs.lemmas.Int.{to_z-of_z}
+use Rattle.fraction.specs.Rows.{CombineFits}
 use Rattle.fraction.proofs.Passed.{passed-product, product-unfit, difference-unfit, IsOk-iff_unmet}
 use Rattle.fraction.proofs.RowLemmas.{Fits-product, Fits-difference}
 use Rattle.fraction.proofs.row.test_combine.Goals as goal
@@ -34,3 +35,17 @@ loop-j-preserved c =
       Fits-product _ _ _ _ refl seen_other c.in_ok-product-2.ensures.1,
       Fits-difference _ _ _ _ left right c.in_ok-difference.ensures.1,
     )
+
+pub returns-in_err-product-clause-fits : goal.returns-in_err-product-clause-fits
+returns-in_err-product-clause-fits c =
+    let at : FitsSigned w128 (get_or c.args.row.now c.loop-j.j (pos 0)) = search rules in
+    IsOk-iff_unmet _ _ c.from_residual.ensures.0
+    (λ fits. product-unfit _ _ _ _ (to_z-of_z w128 _ at) (to_z-of_z w128 c.args.scale c.ranges.scale) c.in_err-product.ensures.1 (fits c.loop-j.j (omega arith)).0)
+
+pub returns-clause-fits : goal.returns-clause-fits
+returns-clause-fits c =
+    let row = c.args.row.now in
+    let other = c.args.pivot_row.now in
+    let fits : CombineFits row c.args.scale other c.args.taken = subst (λ s. CombineFits row s other c.args.taken) (to_z-of_z w128 c.args.scale c.ranges.scale)
+    (subst (λ t. CombineFits row (to_z w128 (of_z w128 c.args.scale)) other t) (to_z-of_z w128 c.args.taken c.ranges.taken) (λ j lt. c.loop-j.invariant j (omega arith))) in
+    (λ ok. fits, λ met. refl)

@@ -3,9 +3,9 @@ use Rattle.std.specs.Int.{w128}
 use Rattle.std.proofs.lemmas.Int.{to_z-of_z}
 use Rattle.std.proofs.lemmas.List.{length-map}
 use Rattle.fraction.specs.Fractions.{Fits}
-use Rattle.fraction.specs.Tables.{Table, IsTable, IsPivoted, entry_at}
+use Rattle.fraction.specs.Tables.{Table, IsTable, IsPivoted, PivotFits, entry_at}
 use Rattle.fraction.specs.Rows.{lists_of, entry_of, IsUnreduced, IsLowest}
-use Rattle.fraction.proofs.RowLemmas.{to_z-of_z_product}
+use Rattle.fraction.proofs.RowLemmas.{to_z-of_z_product, FitsSigned-product}
 use Rattle.fraction.proofs.SolveLemmas.{positive-product, IsPivoted-from_unreduced, IsTable-pivoted, Fits-unreduced}
 use Rattle.fraction.proofs.rows.solve.Goals as goal
 
@@ -50,3 +50,21 @@ returns-clause-table c =
     let is = IsPivoted-from_unreduced t (lists_of c.pivot.new.rows) (lists_of c.reduce.new.rows) c.reduce.result c.args.row c.args.column made lowest in
     let result_is = to_z-of_z w128 c.reduce.result (record { sfits = c.reduce.type_inv }) in
     subst (λ d. IsTable (record { rows = lists_of c.reduce.new.rows; den = d })) (sym result_is) (IsTable-pivoted t _ c.args.row c.args.column c.requires.table c.requires.fits c.requires.positive is)
+
+pub overflow_mul-new_den : goal.overflow_mul-new_den
+overflow_mul-new_den c =
+    let t : Table = record { rows = lists_of c.args.rows.now; den = c.args.den } in
+    let entry_is : c.entry.result ≡ entry_at t c.args.row c.args.column = c.entry.ensures ∙ ap (λ r. entry_of r c.args.column) c.row_of.ensures in
+    let fits : Fits (c.args.den *ℤ c.entry.result) = subst (λ e. Fits (c.args.den *ℤ e)) (sym entry_is) c.requires.fits.den in
+    FitsSigned-product c.args.den c.entry.result c.args.den c.ranges.den (record { sfits = c.entry.type_inv }) refl fits
+
+pub pivot-requires-clause-fits : goal.pivot-requires-clause-fits
+pivot-requires-clause-fits c =
+    subst (λ d. PivotFits (record { rows = lists_of c.args.rows.now; den = d }) c.args.row c.args.column) (sym (to_z-of_z w128 c.args.den c.ranges.den)) c.requires.fits
+
+pub reduce-requires-clause-den_fits : goal.reduce-requires-clause-den_fits
+reduce-requires-clause-den_fits c =
+    let t : Table = record { rows = lists_of c.args.rows.now; den = c.args.den } in
+    let entry_is : c.entry.result ≡ entry_at t c.args.row c.args.column = c.entry.ensures ∙ ap (λ r. entry_of r c.args.column) c.row_of.ensures in
+    let fits : Fits (c.args.den *ℤ c.entry.result) = subst (λ e. Fits (c.args.den *ℤ e)) (sym entry_is) c.requires.fits.den in
+    subst Fits (sym (to_z-of_z_product c.args.den c.entry.result c.args.den c.ranges.den (record { sfits = c.entry.type_inv }) refl fits ∙ ap (λ e. c.args.den *ℤ e) entry_is)) c.requires.fits.den

@@ -1,4 +1,4 @@
-use Rattle.std.proofs.Common.{◌≢◌, to_z, of_z, sym, refl, arith, below_more}
+use Rattle.std.proofs.Common.{◌≢◌, to_z, of_z, sym, subst, refl, arith, below_more}
 use Rattle.std.specs.Int.{w128}
 use Rattle.std.proofs.lemmas.Int.{to_z-of_z}
 use Rattle.std.proofs.lemmas.List.{length-map}
@@ -24,3 +24,11 @@ loop-i-preserved c =
       | then-i-row+in_ok-test_eliminate w ↦ EliminateFits-as _ _ _ _ _ _ c.args.column w.row_of.ensures w.row_of-then-i-row.ensures refl (w.in_ok-test_eliminate.ensures.fits.0 refl)
       | else-i-row w ↦ absurd (ne w.if-i-row.false)
     ])
+
+pub returns-clause-fits : goal.returns-clause-fits
+returns-clause-fits c =
+    let L = lists_of c.args.rows.now in
+    let many = length-map c.args.rows.now (λ row. row.items) in (
+      λ ok i lt ne. subst (λ s. EliminateFits (row_at L i) s (row_at L c.args.row) c.args.column) (to_z-of_z w128 c.args.scale c.ranges.scale) (c.loop-i.invariant i (omega arith) ne),
+      λ fits. refl,
+    )

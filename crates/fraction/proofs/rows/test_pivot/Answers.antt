@@ -5,7 +5,7 @@ use Rattle.std.proofs.lemmas.List.{length-map}
 use Rattle.std.proofs.lemmas.Bool.{false≢true}
 use Rattle.fraction.specs.Fractions.{Fits}
 use Rattle.fraction.specs.Rows.{lists_of, row_at, entry_of, EachFits, OthersFit}
-use Rattle.fraction.proofs.Passed.{IsOk-iff_unmet}
+use Rattle.fraction.proofs.Passed.{product-unfit, IsOk-iff_unmet}
 use Rattle.fraction.proofs.RowLemmas.{Fits-product}
 use Rattle.fraction.proofs.PivotLemmas.{PivotFits-from_parts, OthersFit-PivotFits}
 use Rattle.fraction.proofs.SmallLemmas.{PivotFits-small}
@@ -38,3 +38,9 @@ returns-clause-fits c =
     (subst (λ r. EachFits r (to_z w128 (of_z w128 c.args.den))) c.row_of-pivot_row.ensures (c.in_ok-test_scale.ensures.fits.0 refl)) in
     let others = subst (λ s. IsOk c.test_others.result ↔ OthersFit L s c.args.row c.args.column) passed c.test_others.ensures.fits in
     (λ ok. PivotFits-from_parts L c.args.den c.args.row c.args.column at own (others.0 ok), λ fits. others.1 (OthersFit-PivotFits L c.args.den c.args.row c.args.column fits))
+
+pub returns-in_err-product-clause-fits : goal.returns-in_err-product-clause-fits
+returns-in_err-product-clause-fits c =
+    let entry_is : c.entry-entry.result ≡ entry_of (row_at (lists_of c.args.rows.now) c.args.row) c.args.column = c.entry-entry.ensures ∙ ap (λ r. entry_of r c.args.column) c.row_of-pivot_row.ensures in
+    let passed = to_z-of_z w128 c.entry-entry.result (record { sfits = c.entry-entry.type_inv }) ∙ entry_is in
+    IsOk-iff_unmet _ _ c.from_residual.ensures.0 (λ fits. product-unfit _ _ _ _ (to_z-of_z w128 c.args.den c.ranges.den) passed c.in_err-product.ensures.1 fits.den)

@@ -1,7 +1,7 @@
 use Rattle.std.proofs.Common.{of_z, refl, ap}
 use Rattle.std.specs.Int.{w128}
 use Rattle.fraction.proofs.Lowest.{positive-some}
-use Rattle.fraction.proofs.Passed.{to_z-of_z_equal, passed-num, passed-den, passed_product-some, product-unfit, IsOk-iff_unmet}
+use Rattle.fraction.proofs.Passed.{to_z-of_z_equal, passed-fits, passed-num, passed-den, passed-product, passed_product-some, IsRatio-passed, product-unfit, IsOk-iff_unmet}
 use Rattle.fraction.proofs.frac.Frac.div.Goals as goal
 
 pub returns-in_err-num-clause-fits : goal.returns-in_err-num-clause-fits
@@ -21,3 +21,17 @@ reduced-requires-clause-divisor c =
     passed_product-some _ c.self.inside.den c.other.inside.num _ _ (to_z-of_z_equal c.self.inside.den _ c.self.invariant.den_fits refl)
     (to_z-of_z_equal c.other.inside.num _ c.other.invariant.num_fits refl) c.in_ok-product.ensures (positive-some c.self.inside.den c.self.invariant.positive)
     (λ none. c.if-other-eq0.false (ap (λ z. of_z w128 z) none))
+
+pub reduced-requires-clause-num_fits : goal.reduced-requires-clause-num_fits
+reduced-requires-clause-num_fits c = passed-fits _ _ c.in_ok-num.ensures
+
+pub reduced-requires-clause-den_fits : goal.reduced-requires-clause-den_fits
+reduced-requires-clause-den_fits c = passed-fits _ _ c.in_ok-product.ensures
+
+pub returns-clause-value : goal.returns-clause-value
+returns-clause-value c =
+    let num = passed-product _ _ _ _ _
+    (passed-num _ _ _ c.self.invariant c.self.view_is) (passed-den _ _ _ c.other.invariant c.other.view_is) c.in_ok-num.ensures in
+    let den = passed-product _ _ _ _ _
+    (passed-den _ _ _ c.self.invariant c.self.view_is) (passed-num _ _ _ c.other.invariant c.other.view_is) c.in_ok-product.ensures in
+    IsRatio-passed _ _ _ _ c.reduced.result num den c.reduced.ensures.value
