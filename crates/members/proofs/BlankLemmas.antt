@@ -2,6 +2,7 @@
 use Rattle.std.proofs.Common.{◌≡◌, ℕ, ◌+◌, ◌-◌, ◌*◌, ◌<◌, ◌≤◌, true, Option, None, Some, List, map, refl, sym, ap, ◌∙◌, subst, arith}
 use Rattle.std.specs.List.{range_with_len}
 use Rattle.std.proofs.lemmas.List.Elements.{All-map}
+use Rattle.std.proofs.Math.Nat.{zero-mul}
 use native.Mathlib.Nat.{add-mul}
 use Rattle.requester.specs.Words.{is_idle}
 use Rattle.std.specs.Prelude.{IfSome, option_map}
@@ -27,6 +28,12 @@ le-quotas_left n i q less =
     let more : n - i ≡ m + 1 = omega (arith, less) in
     let part : (n - i) * q ≡ m * q + 1 * q = ap (λ (k : ℕ). k * q) more ∙ add-mul m 1 q in
     omega (arith, part)
+
+-- no quota is left
+pub mul-none_left : (n i q : ℕ) → n ≤ i → (n - i) * q ≡ 0
+mul-none_left n i q all =
+    let none : n - i ≡ 0 = omega (arith, all) in
+    ap (λ (k : ℕ). k * q) none ∙ zero-mul q
 
 -- The offices of one or two plans
 

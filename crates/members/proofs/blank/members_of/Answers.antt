@@ -6,7 +6,7 @@ use Rattle.clerks.specs.Clerks.{ClerksState, fresh_clerks, less_each}
 use Rattle.members.specs.Clusters.{names_in}
 use Rattle.members.proofs.ClerkLemmas.{less_each-fresh, rest-fresh}
 use Rattle.members.specs.Members.{fresh_member}
-use Rattle.members.proofs.BlankLemmas.{le-quotas_left, mul-less_one}
+use Rattle.members.proofs.BlankLemmas.{le-quotas_left, mul-less_one, mul-none_left}
 use Rattle.members.proofs.blank.members_of.Goals as goal
 
 pub split-part-requires-clause-rest : goal.split-part-requires-clause-rest
@@ -44,3 +44,7 @@ loop-client-preserved g c =
           ∙ ap (fresh_clerks names) (mul-less_one n i c.args.quota less);
       members = c.in_ok-push.ensures.items ∙ (λ j. inv.members j ++ made j ∷ []) ∙ sym (map-range_with_len_more (fresh_member cluster) 0 i i (omega arith));
     }
+
+pub returns-clause-clerks : goal.returns-clause-clerks
+returns-clause-clerks g c =
+    c.loop-client.invariant.clerks ∙ ap (fresh_clerks (names_in g.N.ClusterName.cluster)) (mul-none_left c.args.clients c.loop-client.client c.args.quota c.loop-client-test.false)
