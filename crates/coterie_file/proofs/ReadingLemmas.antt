@@ -13,7 +13,7 @@ use Rattle.coterie_file.specs.Answers.{unless, Gives, Refuses}
 use Rattle.coterie_file.specs.Capacities.{capacities_fault}
 use Rattle.coterie_file.specs.Lists.{NameLists, listed, listed_by}
 use Rattle.coterie_file.specs.Names.{has_name, first_repeat, names_fault}
-use Rattle.coterie_file.specs.Reading.{quorum_of, system_of, lists_fault}
+use Rattle.coterie_file.specs.Reading.{quorum_of, system_of, named_of, lists_fault}
 use Rattle.coterie_file.specs.declared.fault.FileFault.{FileFault}
 use Rattle.coterie_file.specs.declared.fault.FileFault.TheVariants.{Coterie, OutOfMemory, RepeatedMember, UnknownName}
 use Rattle.coterie_file.proofs.ListLemmas.{position-map, map-map}
@@ -84,6 +84,11 @@ listed-same n m p q c d e f g = rw (e, f, g) refl
 pub system_of-listed : (names : List (List ℕ)) (quorums : List (Vec (String Global) Global)) (capacities : List ℕ) (n : ℕ) (sets : List (List ℕ)) → length names ≡ n
     → sets ≡ map (λ q. quorum_of names (map string_bytes q.items)) quorums → system_of (listed_by names quorums capacities) ≡ record { voters = n; quorums = sets }
 system_of-listed names quorums capacities n sets count made = rw (map-map (quorum_of names) (λ q. map string_bytes q.items) quorums, ← made, count) refl
+
+-- the system, the names and the capacities of the lists, as they were kept
+pub named_of-same : (lists : NameLists) (system : QuorumSystem) (names : List (List ℕ)) (capacities : List ℕ) → system_of lists ≡ system → lists.names ≡ names → lists.capacities ≡ capacities
+    → named_of lists ≡ record { system = system; names = names; capacities = capacities }
+named_of-same lists system names capacities e f g = rw (e, f, g) refl
 
 -- a refusal that another fault made
 pub Gives-Coterie : {X Y : Type 0} (view : X → Y) (r : Result X FileFault) (wanted : Result Y FileFault) (fault : CoterieFault) → IsErrAnd r (λ e. e ≡ Coterie fault)

@@ -11,7 +11,7 @@ use Rattle.fraction.specs.Rows.{row_at, entry_of, EachRow, IsSummedRow}
 use Rattle.fraction.proofs.RowLemmas.{to_z-of_z_equal}
 
 -- a sum of one column more, as the code forms it
-sum_is : (r : List ℤ) (columns : List ℕ) (i : ℕ) (t x : ℤ) → i < length columns → t ≡ sum_in r (take i columns) → x ≡ entry_of r (get_or columns i 0) → FitsSigned w128 x
+pub sum_is : (r : List ℤ) (columns : List ℕ) (i : ℕ) (t x : ℤ) → i < length columns → t ≡ sum_in r (take i columns) → x ≡ entry_of r (get_or columns i 0) → FitsSigned w128 x
     → t +ℤ to_z w128 (of_z w128 x) ≡ sum_in r (take (i + 1) columns)
 sum_is r columns i t x lt et ex fits_x =
     ap (λ a. a +ℤ to_z w128 (of_z w128 x)) et

@@ -1,4 +1,6 @@
-use Rattle.std.proofs.Common.{◌≡◌, None, map, string_bytes}
+use Rattle.std.proofs.Common.{◌≡◌, ◌∙◌, None, OnOk, sym, subst, ap, length, map, string_bytes}
+use Rattle.std.proofs.lemmas.List.{length-map}
+use Rattle.quorum_set.specs.Capacities.{AreCapacities}
 use Rattle.coterie_file.specs.Names.{names_fault}
 use Rattle.coterie_file.proofs.ReadingLemmas.{unless-Ok}
 use Rattle.coterie_file.proofs.reading.coterie_of.Goals as goal
@@ -17,3 +19,11 @@ pub returns-clause-exact : goal.returns-clause-exact
 returns-clause-exact c =
     let is = known (goal.at.returns-clause-exact c).In_ok-voters in
     rw is.1 c.coterie_by.ensures.exact
+
+pub returns-clause-capacities : goal.returns-clause-capacities
+returns-clause-capacities c =
+    let names = c.args.names.now in
+    let keys = c.in_ok-voters.voters.keys in
+    let is = known (goal.at.returns-clause-capacities c).In_ok-voters in
+    let count = sym (length-map keys (λ k. k.now)) ∙ sym (ap length is.1) ∙ length-map names string_bytes in
+    subst (λ n. OnOk c.coterie_by.result (AreCapacities c.args.capacities.now n)) count c.coterie_by.ensures.capacities

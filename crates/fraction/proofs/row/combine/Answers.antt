@@ -37,3 +37,10 @@ overflow_mul-entry c =
     let at : FitsSigned w128 (get_or c.loop-j.row j (pos 0)) = search rules in
     let fits = c.requires.fits j (omega arith) in
     FitsSigned-product _ _ _ at c.ranges.scale (c.loop-j.invariant.left j (omega arith)) fits.0
+
+pub returns : goal.returns
+returns c = λ j lt.
+    let row = c.args.row.now in
+    let other = c.args.pivot_row.now in
+    c.loop-j.invariant.done j (omega arith) ∙ ap (λ s. combined row s other (to_z w128 (of_z w128 c.args.taken)) j) (to_z-of_z w128 c.args.scale c.ranges.scale)
+    ∙ ap (λ t. combined row c.args.scale other t j) (to_z-of_z w128 c.args.taken c.ranges.taken)

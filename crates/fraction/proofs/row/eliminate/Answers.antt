@@ -1,4 +1,4 @@
-use Rattle.std.proofs.Common.{rules, ◌≡◌, ◌<◌, ℕ, pos, to_z, of_z, length, get_or, sym, subst, ap, ◌∙◌}
+use Rattle.std.proofs.Common.{rules, pos, to_z, of_z, get_or, sym, subst, ap, ◌∙◌}
 use Rattle.std.specs.Prelude.{FitsSigned}
 use Rattle.std.specs.Int.{w128}
 use Rattle.std.proofs.lemmas.Int.{to_z-of_z}
