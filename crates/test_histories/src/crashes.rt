@@ -8,7 +8,6 @@ use fencing::pass_of;
 use message::{Message, ToClient, ToVoter, read_message};
 use requester::{Phase, Reply, Requester};
 use std::alloc::{AllocError, Global};
-use std::test::Fail;
 use test_plans::set_of;
 use voter::{SavedWords, Voter};
 
@@ -16,7 +15,7 @@ use voter::{SavedWords, Voter};
 const LIMIT: u64 = 1000;
 
 /// What of its saved state a voter has after a crash.
-#[derive(Clone, Copy, PartialEq, Eq)]
+#[derive(Clone, Copy)]
 pub(crate) enum VoterKeeps {
     /// All.
     All,
@@ -27,7 +26,7 @@ pub(crate) enum VoterKeeps {
 }
 
 /// What of its saved state a client has after a crash.
-#[derive(Clone, Copy, PartialEq, Eq)]
+#[derive(Clone, Copy)]
 pub(crate) enum ClientKeeps {
     /// All.
     All,
@@ -42,7 +41,7 @@ pub(crate) enum ClientKeeps {
 }
 
 /// When a voter that crashes after a message had saved its state.
-#[derive(Clone, Copy, PartialEq, Eq)]
+#[derive(Clone, Copy)]
 pub(crate) enum Order {
     /// Before it sent its replies.
     SavedThenSent,
@@ -95,9 +94,9 @@ pub(crate) enum Step {
 #[derive(Drop)]
 pub(crate) struct World {
     rules: Rules,
-    voters: Vec<Voter>,
-    clients: Vec<Requester>,
-    sent: Vec<Message>,
+    pub(crate) voters: Vec<Voter>,
+    pub(crate) clients: Vec<Requester>,
+    pub(crate) sent: Vec<Message>,
 }
 
 /// Returns the numbers of a saved voter.
@@ -159,7 +158,7 @@ fn client_again(words: &[u64], keeps: ClientKeeps) -> Option<Requester> {
 }
 
 /// Keeps what a client sends.
-pub(crate) fn keep(reply: &Reply, sent: &mut Vec<Message>) -> Result<(), AllocError> {
+fn keep(reply: &Reply, sent: &mut Vec<Message>) -> Result<(), AllocError> {
     for message in reply.out.as_slice() {
         sent.push(Message::ToVoter(*message))?;
     }
@@ -242,7 +241,7 @@ impl World {
     }
 
     /// Returns how many clients are inside.
-    fn inside(&self) -> usize {
+    pub(crate) fn inside(&self) -> usize {
         let clients = self.clients.iter();
         clients
             .filter(|client| client.phase() == Phase::Inside)
@@ -280,7 +279,7 @@ impl World {
     }
 
     /// Has a message arrive.
-    fn deliver(&mut self, message: &Message) -> Result<(), AllocError> {
+    pub(crate) fn deliver(&mut self, message: &Message) -> Result<(), AllocError> {
         match message {
             Message::ToVoter(heard) => match self.voters.get_mut(usize::from(heard.voter)) {
                 Some(voter) => tell_voter(voter, heard, &mut self.sent),
@@ -308,14 +307,14 @@ impl World {
         Ok(())
     }
 
-    fn ask(&mut self, client: u8, members: &[u8]) -> Result<(), AllocError> {
+    pub(crate) fn ask(&mut self, client: u8, members: &[u8]) -> Result<(), AllocError> {
         match self.clients.get_mut(usize::from(client)) {
             Some(client) => ask(client, members, &mut self.sent),
             None => Ok(()),
         }
     }
 
-    fn give_up(&mut self, client: u8) -> Result<(), AllocError> {
+    pub(crate) fn give_up(&mut self, client: u8) -> Result<(), AllocError> {
         let Some(client) = self.clients.get_mut(usize::from(client)) else {
             return Ok(());
         };
@@ -325,7 +324,7 @@ impl World {
         }
     }
 
-    fn leave(&mut self, client: u8) -> Result<(), AllocError> {
+    pub(crate) fn leave(&mut self, client: u8) -> Result<(), AllocError> {
         let Some(client) = self.clients.get_mut(usize::from(client)) else {
             return Ok(());
         };
@@ -384,16 +383,6 @@ fn inside(alloc: Global, rules: Rules, steps: &[Step]) -> Result<usize, AllocErr
     let mut world = World::new(alloc, rules)?;
     world.play(steps)?;
     Ok(world.inside())
-}
-
-/// Returns whether a run that follows each of these rules ends with this many clients inside.
-fn are_inside(alloc: Global, steps: &[Step], rows: &[(Rules, usize)]) -> Result<bool, AllocError> {
-    for (rules, wanted) in rows {
-        if inside(alloc, *rules, steps)? != *wanted {
-            return Ok(false);
-        }
-    }
-    Ok(true)
 }
 
 /// Voter 0 grants its vote to client 1, and crashes after its LOCKED is sent. Then client 0's
@@ -486,71 +475,72 @@ const REUSED_NUMBER: &[Step] = &[
     Step::Deliver("locked 0 0 2 5 2"),
 ];
 
-#[test]
-fn sent_before_saved(rt: HostRuntime) -> Result<(), Fail> {
-    let late = Rules {
-        order: Order::SentThenSaved,
-        ..ALL
+/// What a voter and a client have after a crash.
+macro_rules! keeping {
+    ($voter:ident, $client:ident) => {
+        Rules {
+            voter: VoterKeeps::$voter,
+            client: ClientKeeps::$client,
+            order: Order::SavedThenSent,
+        }
     };
-    let rows = [(ALL, 1), (LEAST, 1), (late, 2)];
-    assert!(rt; are_inside(rt.alloc(), SENT_FIRST, &rows)?);
-    Ok(())
+}
+
+/// A run, what survives a crash, and how many clients are inside at the end.
+type Row = (&'static [Step], Rules, usize);
+
+/// A voter sends before it has saved, or forgets all.
+const SENDERS: [Row; 4] = [
+    (SENT_FIRST, ALL, 1),
+    (SENT_FIRST, LEAST, 1),
+    (
+        SENT_FIRST,
+        Rules {
+            voter: VoterKeeps::All,
+            client: ClientKeeps::All,
+            order: Order::SentThenSaved,
+        },
+        2,
+    ),
+    (SENT_FIRST, keeping!(Nothing, All), 2),
+];
+
+/// A client forgets its stamp.
+const STAMPS: [Row; 3] = [
+    (LATE_RELEASE, ALL, 1),
+    (LATE_RELEASE, LEAST, 1),
+    (LATE_RELEASE, keeping!(All, Nothing), 2),
+];
+
+/// A client forgets the last grants that it gave back: it asks on, or its voter uses a number twice.
+const GRANTS: [Row; 8] = [
+    (LATE_LOCKED, ALL, 1),
+    (LATE_LOCKED, LEAST, 1),
+    (LATE_LOCKED, keeping!(All, Request), 2),
+    (REUSED_NUMBER, ALL, 1),
+    (REUSED_NUMBER, LEAST, 1),
+    (REUSED_NUMBER, keeping!(Nothing, Least), 1),
+    (REUSED_NUMBER, keeping!(Least, Clock), 1),
+    (REUSED_NUMBER, keeping!(Nothing, Clock), 2),
+];
+
+#[test]
+fn a_voter_saves_all_before_it_sends(rt: HostRuntime) {
+    for (steps, rules, wanted) in &SENDERS {
+        assert!(rt; inside(rt.alloc(), *rules, steps) == Ok(*wanted));
+    }
 }
 
 #[test]
-fn voter_that_forgets_all(rt: HostRuntime) -> Result<(), Fail> {
-    let less = Rules {
-        voter: VoterKeeps::Nothing,
-        ..ALL
-    };
-    assert!(rt; are_inside(rt.alloc(), SENT_FIRST, &[(less, 2)])?);
-    Ok(())
+fn a_client_keeps_its_stamp(rt: HostRuntime) {
+    for (steps, rules, wanted) in &STAMPS {
+        assert!(rt; inside(rt.alloc(), *rules, steps) == Ok(*wanted));
+    }
 }
 
 #[test]
-fn client_that_forgets_its_stamp(rt: HostRuntime) -> Result<(), Fail> {
-    let less = Rules {
-        client: ClientKeeps::Nothing,
-        ..ALL
-    };
-    let rows = [(ALL, 1), (LEAST, 1), (less, 2)];
-    assert!(rt; are_inside(rt.alloc(), LATE_RELEASE, &rows)?);
-    Ok(())
-}
-
-#[test]
-fn client_that_asks_on_without_its_last_grants(rt: HostRuntime) -> Result<(), Fail> {
-    let less = Rules {
-        client: ClientKeeps::Request,
-        ..ALL
-    };
-    let rows = [(ALL, 1), (LEAST, 1), (less, 2)];
-    assert!(rt; are_inside(rt.alloc(), LATE_LOCKED, &rows)?);
-    Ok(())
-}
-
-#[test]
-fn number_of_a_grant_that_is_used_twice(rt: HostRuntime) -> Result<(), Fail> {
-    let forgetful_voter = Rules {
-        voter: VoterKeeps::Nothing,
-        ..LEAST
-    };
-    let forgetful_client = Rules {
-        client: ClientKeeps::Clock,
-        ..LEAST
-    };
-    let both = Rules {
-        voter: VoterKeeps::Nothing,
-        client: ClientKeeps::Clock,
-        order: Order::SavedThenSent,
-    };
-    let rows = [
-        (ALL, 1),
-        (LEAST, 1),
-        (forgetful_voter, 1),
-        (forgetful_client, 1),
-        (both, 2),
-    ];
-    assert!(rt; are_inside(rt.alloc(), REUSED_NUMBER, &rows)?);
-    Ok(())
+fn a_client_keeps_its_last_grants_or_its_voter_their_number(rt: HostRuntime) {
+    for (steps, rules, wanted) in &GRANTS {
+        assert!(rt; inside(rt.alloc(), *rules, steps) == Ok(*wanted));
+    }
 }

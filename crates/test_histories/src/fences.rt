@@ -2,7 +2,6 @@
 use crate::crashes::{ALL, Step, World};
 use fence::Fence;
 use std::alloc::{AllocError, Global};
-use std::test::Fail;
 
 /// Client 1 enters under stamp 2. Client 0 has asked under stamp 1, and its request is slow.
 const FIRST: &[Step] = &[
@@ -52,23 +51,35 @@ fn passes(alloc: Global) -> Result<(Pass, Pass), AllocError> {
     Ok((first, world.pass(0)))
 }
 
-#[test]
-fn late_client_is_refused(rt: HostRuntime) -> Result<(), Fail> {
-    let ((_, first), (_, second)) = passes(rt.alloc())?;
-    assert!(rt;
-        (first == shows(1))
-            & (second == shows(2))
-            & (admitted(&first, &second) == [true, true, true, false])
-    );
-    Ok(())
+/// Returns whether the passes show grants 1 and 2 of voter 0, and the first one is refused after the
+/// second.
+fn fence_refuses_the_late_client(first: &[u64; 64], second: &[u64; 64]) -> bool {
+    (*first == shows(1))
+        & (*second == shows(2))
+        & (admitted(first, second) == [true, true, true, false])
+}
+
+/// Returns whether the late client is refused.
+fn refuses_the_late_client(alloc: Global) -> Result<bool, AllocError> {
+    let ((_, first), (_, second)) = passes(alloc)?;
+    Ok(fence_refuses_the_late_client(&first, &second))
 }
 
 #[test]
-fn stamps_are_no_fencing_numbers(rt: HostRuntime) -> Result<(), Fail> {
-    let ((first, _), (second, _)) = passes(rt.alloc())?;
-    assert!(rt;
+fn late_client_is_refused(rt: HostRuntime) {
+    assert!(rt; refuses_the_late_client(rt.alloc()) == Ok(true));
+}
+
+/// Returns whether the stamps are 2 and 1, so that a guard that goes by them refuses the second client.
+fn stamps_refuse_the_second_client(alloc: Global) -> Result<bool, AllocError> {
+    let ((first, _), (second, _)) = passes(alloc)?;
+    Ok(
         ((first, second) == (2, 1))
-            & (admitted(&shows(first), &shows(second)) == [true, true, false, true])
-    );
-    Ok(())
+            & (admitted(&shows(first), &shows(second)) == [true, true, false, true]),
+    )
+}
+
+#[test]
+fn stamps_are_no_fencing_numbers(rt: HostRuntime) {
+    assert!(rt; stamps_refuse_the_second_client(rt.alloc()) == Ok(true));
 }

@@ -6,7 +6,6 @@ use crate::crashes::{ALL, LATE_LOCKED, World, words_of_client, words_of_voter};
 use arrayvec::ArrayVec;
 use requester::Requester;
 use std::alloc::{AllocError, Global};
-use std::test::Fail;
 use voter::{SavedWords, Voter};
 use words::{read_words, write_words};
 
@@ -14,11 +13,21 @@ use words::{read_words, write_words};
 /// and voter 0 has granted it to client 1.
 const STEPS: usize = 12;
 
-/// Returns the world after these steps.
-fn busy_world(alloc: Global) -> Result<World, AllocError> {
+/// Whose numbers are tried: those of voter 0, or of client 2.
+#[derive(Clone, Copy)]
+enum Who {
+    Voter,
+    Client,
+}
+
+/// Returns the numbers that are saved after these steps.
+fn busy_words(alloc: Global, who: Who) -> Result<SavedWords, AllocError> {
     let mut world = World::new(alloc, ALL)?;
     world.play(LATE_LOCKED.get(..STEPS).unwrap_or(&[]))?;
-    Ok(world)
+    Ok(match who {
+        Who::Voter => world.voter_words(0),
+        Who::Client => world.client_words(2),
+    })
 }
 
 /// Returns how many of these numbers are not 0.
@@ -40,7 +49,7 @@ fn flipped(words: &[u64], place: usize, bit: u32) -> SavedWords
 
 /// What became of numbers that were changed.
 #[derive(Clone, Copy, PartialEq, Eq)]
-enum Read {
+enum Outcome {
     /// They are those of no voter or client.
     Refused,
     /// They are those of another voter or client, which is saved as exactly these numbers.
@@ -49,81 +58,37 @@ enum Read {
     Wrong,
 }
 
-fn read_voter(words: &[u64]) -> Read {
-    match Voter::restore(words) {
-        Some(voter) if words_of_voter(&voter).as_slice() == words => Read::Other,
-        Some(_) => Read::Wrong,
-        None => Read::Refused,
+/// Returns what is saved of the voter or client that was saved as these numbers, if there is one.
+fn saved_again(who: Who, words: &[u64]) -> Option<SavedWords> {
+    match who {
+        Who::Voter => Some(words_of_voter(&Voter::restore(words)?)),
+        Who::Client => Some(words_of_client(&Requester::restore(words)?)),
     }
 }
 
-fn read_client(words: &[u64]) -> Read {
-    match Requester::restore(words) {
-        Some(client) if words_of_client(&client).as_slice() == words => Read::Other,
-        Some(_) => Read::Wrong,
-        None => Read::Refused,
+fn outcome_of(who: Who, words: &[u64]) -> Outcome {
+    match saved_again(who, words) {
+        Some(again) if again.as_slice() == words => Outcome::Other,
+        Some(_) => Outcome::Wrong,
+        None => Outcome::Refused,
     }
 }
 
-/// How many changes were refused, and how many gave another state.
-#[derive(Clone, Copy, Default, PartialEq, Eq)]
-struct Count {
-    refused: u32,
-    other: u32,
-}
-
-impl Count {
-    /// Counts a change. Returns whether it was read rightly.
-    fn add(&mut self, read: Read) -> bool {
-        match read {
-            Read::Refused => self.refused = self.refused.saturating_add(1),
-            Read::Other => self.other = self.other.saturating_add(1),
-            Read::Wrong => return false,
-        }
-        true
-    }
-}
-
-/// Counts each flipped bit of one number of a voter. Returns whether each was read rightly.
-fn flip_voter(words: &[u64], place: usize, count: &mut Count) -> bool {
-    for bit in 0..64u32 {
-        if !count.add(read_voter(flipped(words, place, bit).as_slice())) {
-            return false;
-        }
-    }
-    true
-}
-
-/// Counts each flipped bit of one number of a client. Returns whether each was read rightly.
-fn flip_client(words: &[u64], place: usize, count: &mut Count) -> bool {
-    for bit in 0..64u32 {
-        if !count.add(read_client(flipped(words, place, bit).as_slice())) {
-            return false;
-        }
-    }
-    true
-}
-
-/// Counts each flipped bit of a voter; `None` if one was read wrongly.
-fn voter_flips(words: &[u64]) -> Option<Count> {
-    let mut count = Count::default();
+/// Returns of how many flipped bits the numbers are refused, and of how many they are those of another
+/// voter or client. Returns `None` if any were taken for other numbers.
+fn flips(who: Who, words: &[u64]) -> Option<(u32, u32)> {
+    let mut refused = 0u32;
+    let mut other = 0u32;
     for place in 0..words.len() {
-        if !flip_voter(words, place, &mut count) {
-            return None;
+        for bit in 0..64u32 {
+            match outcome_of(who, flipped(words, place, bit).as_slice()) {
+                Outcome::Refused => refused = refused.saturating_add(1),
+                Outcome::Other => other = other.saturating_add(1),
+                Outcome::Wrong => return None,
+            }
         }
     }
-    Some(count)
-}
-
-/// Counts each flipped bit of a client; `None` if one was read wrongly.
-fn client_flips(words: &[u64]) -> Option<Count> {
-    let mut count = Count::default();
-    for place in 0..words.len() {
-        if !flip_client(words, place, &mut count) {
-            return None;
-        }
-    }
-    Some(count)
+    Some((refused, other))
 }
 
 /// Returns how many of the shorter parts of these numbers are a voter or a client.
@@ -149,52 +114,42 @@ fn through_bytes(words: &[u64]) -> SavedWords {
     again
 }
 
-#[test]
-fn voter_comes_back_through_bytes(rt: HostRuntime) -> Result<(), Fail> {
-    let words = busy_world(rt.alloc())?.voter_words(0);
+/// Returns whether the saved numbers come back through bytes, and no shorter part of them is read.
+fn come_back(alloc: Global, who: Who) -> Result<bool, AllocError> {
+    let words = busy_words(alloc, who)?;
     let again = through_bytes(words.as_slice());
-    let read = (
-        read_voter(again.as_slice()) == Read::Other,
-        again.as_slice() == words.as_slice(),
-        prefixes_read(words.as_slice()),
-    );
-    assert!(rt; read == (true, true, 0));
-    Ok(())
+    Ok(
+        (outcome_of(who, again.as_slice()) == Outcome::Other)
+            & (again.as_slice() == words.as_slice())
+            & (prefixes_read(words.as_slice()) == 0),
+    )
 }
 
 #[test]
-fn client_comes_back_through_bytes(rt: HostRuntime) -> Result<(), Fail> {
-    let words = busy_world(rt.alloc())?.client_words(2);
-    let again = through_bytes(words.as_slice());
-    let read = (
-        read_client(again.as_slice()) == Read::Other,
-        again.as_slice() == words.as_slice(),
-        prefixes_read(words.as_slice()),
-    );
-    assert!(rt; read == (true, true, 0));
-    Ok(())
+fn voters_and_clients_come_back_through_bytes(rt: HostRuntime) {
+    for who in [Who::Voter, Who::Client] {
+        assert!(rt; come_back(rt.alloc(), who) == Ok(true));
+    }
+}
+
+/// How many numbers are not 0, and what becomes of each flipped bit.
+type Flipped = (usize, Option<(u32, u32)>);
+
+/// The numbers of a voter and of a client.
+const FLIPPED: [(Who, Flipped); 2] = [
+    (Who::Voter, (9, Some((515, 8317)))),
+    (Who::Client, (10, Some((4371, 4461)))),
+];
+
+/// Returns the same of the saved numbers.
+fn flipped_bits(alloc: Global, who: Who) -> Result<Flipped, AllocError> {
+    let words = busy_words(alloc, who)?;
+    Ok((marks(words.as_slice()), flips(who, words.as_slice())))
 }
 
 #[test]
-fn flipped_bits_of_a_voter(rt: HostRuntime) -> Result<(), Fail> {
-    let words = busy_world(rt.alloc())?.voter_words(0);
-    let found = (marks(words.as_slice()), voter_flips(words.as_slice()));
-    let want = Count {
-        refused: 515,
-        other: 8317,
-    };
-    assert!(rt; found == (9, Some(want)));
-    Ok(())
-}
-
-#[test]
-fn flipped_bits_of_a_client(rt: HostRuntime) -> Result<(), Fail> {
-    let words = busy_world(rt.alloc())?.client_words(2);
-    let found = (marks(words.as_slice()), client_flips(words.as_slice()));
-    let want = Count {
-        refused: 4371,
-        other: 4461,
-    };
-    assert!(rt; found == (10, Some(want)));
-    Ok(())
+fn flipped_bits_are_refused_or_read_as_they_are(rt: HostRuntime) {
+    for (who, wanted) in &FLIPPED {
+        assert!(rt; flipped_bits(rt.alloc(), *who) == Ok(*wanted));
+    }
 }

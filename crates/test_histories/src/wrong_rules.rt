@@ -26,7 +26,6 @@
 use crate::play::Step::{Ask, Deliver, GiveUp, Leave, RemindVoter};
 use crate::play::{Play, Rule, Step};
 use std::alloc::{AllocError, Global};
-use std::test::Fail;
 
 /// Client 0 enters and leaves, and enters again. Client 1 asks. Then the RELEASEs of the first time,
 /// messages 4 and 5, arrive once more.
@@ -100,60 +99,57 @@ const EACH_HAS_ONE: [Step; 3] = [Ask(0, 0, 1), Ask(1, 0, 1), Deliver(&[0, 3, 4, 
 
 /// Returns how often client 0 enters while both voters know client 1's request.
 fn overtakes(alloc: Global, rule: Rule) -> Result<usize, AllocError> {
-    let mut play = Play::new(alloc, rule);
+    let mut play = Play::new(alloc, rule)?;
     play.most_inside(&KNOWN_EVERYWHERE)?;
     play.entries_of_0(&OVERTAKEN)
 }
 
 /// Returns the most clients that are inside at once.
 fn most_inside(alloc: Global, rule: Rule, steps: &[Step]) -> Result<usize, AllocError> {
-    Play::new(alloc, rule).most_inside(steps)
+    Play::new(alloc, rule)?.most_inside(steps)
+}
+
+/// Returns whether client 1 is inside at the end.
+fn lets_1_in(alloc: Global, rule: Rule, steps: &[Step]) -> Result<bool, AllocError> {
+    Play::new(alloc, rule)?.lets_1_in(steps)
+}
+
+/// Returns whether somebody gets in by this many rounds of reminders.
+fn lets_in(alloc: Global, rule: Rule, steps: &[Step], rounds: usize) -> Result<bool, AllocError> {
+    Play::new(alloc, rule)?.lets_somebody_in(steps, rounds)
 }
 
 #[test]
-fn a_voter_that_frees_its_vote_on_any_release_lets_two_clients_in(
-    rt: HostRuntime,
-) -> Result<(), Fail> {
-    let sound = most_inside(rt.alloc(), Rule::Sound, &LATE_RELEASE)?;
-    let wrong = most_inside(rt.alloc(), Rule::AnyReleaseFrees, &LATE_RELEASE)?;
-    assert!(rt; (sound == 1) & (wrong == 2));
-    Ok(())
+fn a_voter_that_frees_its_vote_on_any_release_lets_two_clients_in(rt: HostRuntime) {
+    let sound = most_inside(rt.alloc(), Rule::Sound, &LATE_RELEASE);
+    let wrong = most_inside(rt.alloc(), Rule::AnyReleaseFrees, &LATE_RELEASE);
+    assert!(rt; (sound == Ok(1)) & (wrong == Ok(2)));
 }
 
 #[test]
-fn a_client_that_counts_a_vote_given_back_gets_in_beside_another(
-    rt: HostRuntime,
-) -> Result<(), Fail> {
-    let sound = most_inside(rt.alloc(), Rule::Sound, &LATE_VOTE)?;
-    let wrong = most_inside(rt.alloc(), Rule::VoteGivenBackCounts, &LATE_VOTE)?;
-    assert!(rt; (sound == 1) & (wrong == 2));
-    Ok(())
+fn a_client_that_counts_a_vote_given_back_gets_in_beside_another(rt: HostRuntime) {
+    let sound = most_inside(rt.alloc(), Rule::Sound, &LATE_VOTE);
+    let wrong = most_inside(rt.alloc(), Rule::VoteGivenBackCounts, &LATE_VOTE);
+    assert!(rt; (sound == Ok(1)) & (wrong == Ok(2)));
 }
 
 #[test]
-fn a_client_whose_clock_ignores_its_voters_overtakes_three_times(
-    rt: HostRuntime,
-) -> Result<(), Fail> {
-    let sound = overtakes(rt.alloc(), Rule::Sound)?;
-    let wrong = overtakes(rt.alloc(), Rule::ClockIgnoresVoters)?;
-    assert!(rt; (sound == 2) & (wrong == 3));
-    Ok(())
+fn a_client_whose_clock_ignores_its_voters_overtakes_three_times(rt: HostRuntime) {
+    let sound = overtakes(rt.alloc(), Rule::Sound);
+    let wrong = overtakes(rt.alloc(), Rule::ClockIgnoresVoters);
+    assert!(rt; (sound == Ok(2)) & (wrong == Ok(3)));
 }
 
 #[test]
-fn an_idle_client_that_takes_no_messages_keeps_another_out(rt: HostRuntime) -> Result<(), Fail> {
-    let sound = Play::new(rt.alloc(), Rule::Sound).lets_1_in(&LOST_RELEASES)?;
-    let wrong = Play::new(rt.alloc(), Rule::IdleClientIsDeaf).lets_1_in(&LOST_RELEASES)?;
-    assert!(rt; sound & !wrong);
-    Ok(())
+fn an_idle_client_that_takes_no_messages_keeps_another_out(rt: HostRuntime) {
+    let sound = lets_1_in(rt.alloc(), Rule::Sound, &LOST_RELEASES);
+    let wrong = lets_1_in(rt.alloc(), Rule::IdleClientIsDeaf, &LOST_RELEASES);
+    assert!(rt; (sound == Ok(true)) & (wrong == Ok(false)));
 }
 
 #[test]
-fn a_client_that_keeps_votes_that_are_asked_for_leaves_no_way_in(
-    rt: HostRuntime,
-) -> Result<(), Fail> {
-    let sound = Play::new(rt.alloc(), Rule::Sound).lets_somebody_in(&EACH_HAS_ONE, 1)?;
-    let wrong = Play::new(rt.alloc(), Rule::AskedVoteIsKept).lets_somebody_in(&EACH_HAS_ONE, 20)?;
-    assert!(rt; sound & !wrong);
-    Ok(())
+fn a_client_that_keeps_votes_that_are_asked_for_leaves_no_way_in(rt: HostRuntime) {
+    let sound = lets_in(rt.alloc(), Rule::Sound, &EACH_HAS_ONE, 1);
+    let wrong = lets_in(rt.alloc(), Rule::AskedVoteIsKept, &EACH_HAS_ONE, 20);
+    assert!(rt; (sound == Ok(true)) & (wrong == Ok(false)));
 }

@@ -33,7 +33,7 @@ fn seen(answer: Result<Plan, PlanFault>) -> Seen {
     }
 }
 
-/// Capacities, weights of the quorums, and weights of the voters.
+/// Capacities, weights of the quorums and of the voters, and what the check returns.
 type Weighed = (&'static [u64], &'static [u64], &'static [u64], Seen);
 
 /// Returns what the check of these weights returns.
@@ -89,9 +89,10 @@ macro_rules! bad_text {
     };
 }
 
-/// Capacity 1 for each voter of the wheel, and capacity 2 for its hub.
+/// Capacities of the wheel: 1 for each voter.
 const ONES: &[u64] = &[1; 4];
 
+/// The same, and 2 for the hub.
 const HUB: &[u64] = &[2, 1, 1, 1];
 
 /// Weights of the wheel and of the majority, and what the check returns.

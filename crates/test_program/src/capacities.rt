@@ -1,5 +1,4 @@
 //! Coteries and plans whose voters have capacities.
-use std::test::Fail;
 use test_runs::{FAST_HUB, FAST_HUB_PLAN, MAJORITY, Row, WHEEL_PLAN, first_wrong, plan};
 
 /// The wheel with three rims, and a third key.
@@ -44,7 +43,11 @@ macro_rules! plan_two {
     };
 }
 
-const PLANNED: [Row; 5] = [
+/// A record of one draw and one pass by the plan of the wheel whose hub has capacity 2.
+const RECORD: &str = "quorum-record 1\ndraw 0 0 0\npass 0 0\nregister 1\n";
+
+/// Plans that are found, and capacities that are refused.
+const PLANNED: [Row; 15] = [
     ("plan", &[FAST_HUB], FAST_HUB_PLAN),
     (
         "plan",
@@ -62,15 +65,6 @@ const PLANNED: [Row; 5] = [
         plan!("2/3", "3", "1 1 1", "1 1 1"),
     ),
     ("plan", &[wheel!("[1, 1, 1, 1]")], WHEEL_PLAN),
-];
-
-#[test]
-fn plans_are_found(rt: HostRuntime) -> Result<(), Fail> {
-    assert_eq!(rt; first_wrong(&rt, rt.alloc(), &PLANNED)?, None);
-    Ok(())
-}
-
-const COTERIES: [Row; 10] = [
     ("plan", &[majority!("[2, 1]")], "F7 CapacityCount 2"),
     ("plan", &[majority!("[]")], "F7 CapacityCount 0"),
     ("plan", &[majority!("[0, 1, 1, 1]")], "F7 CapacityCount 4"),
@@ -88,12 +82,12 @@ const COTERIES: [Row; 10] = [
 ];
 
 #[test]
-fn capacities_are_refused(rt: HostRuntime) -> Result<(), Fail> {
-    assert_eq!(rt; first_wrong(&rt, rt.alloc(), &COTERIES)?, None);
-    Ok(())
+fn plans_follow_capacities(rt: HostRuntime) {
+    assert!(rt; first_wrong(&rt, rt.alloc(), &PLANNED) == Ok(None));
 }
 
-const CHECKED: [Row; 12] = [
+/// Plans that are checked, tickets that are dealt, and a record that is replayed.
+const SERVED: [Row; 16] = [
     ("check", &[FAST_HUB, FAST_HUB_PLAN], "load 3/7 cycle 7\n"),
     ("check", &[FAST_HUB, WHEEL_PLAN], "P9 WrongCapacity"),
     (
@@ -166,15 +160,6 @@ const CHECKED: [Row; 12] = [
         ],
         "P7 WrongCycle",
     ),
-];
-
-#[test]
-fn plans_are_checked(rt: HostRuntime) -> Result<(), Fail> {
-    assert_eq!(rt; first_wrong(&rt, rt.alloc(), &CHECKED)?, None);
-    Ok(())
-}
-
-const DEALT: [Row; 3] = [
     (
         "deal 7",
         &[FAST_HUB, FAST_HUB_PLAN],
@@ -190,25 +175,14 @@ const DEALT: [Row; 3] = [
         &[FAST_HUB, FAST_HUB_PLAN],
         "voter v0 0\nvoter v1 0\nvoter v2 0\nvoter v3 0\nbusiest 0\nratio 0/1\n",
     ),
+    (
+        "replay",
+        &[FAST_HUB, FAST_HUB_PLAN, RECORD],
+        "drawn 1\nvoter v0 1\nvoter v1 1\nvoter v2 0\nvoter v3 0\nbusiest 1\nregister 1\n",
+    ),
 ];
 
 #[test]
-fn tickets_are_dealt(rt: HostRuntime) -> Result<(), Fail> {
-    assert_eq!(rt; first_wrong(&rt, rt.alloc(), &DEALT)?, None);
-    Ok(())
-}
-
-/// A record of one draw and one pass by the plan of the wheel whose hub has capacity 2.
-const RECORD: &str = "quorum-record 1\ndraw 0 0 0\npass 0 0\nregister 1\n";
-
-const REPLAYED: [Row; 1] = [(
-    "replay",
-    &[FAST_HUB, FAST_HUB_PLAN, RECORD],
-    "drawn 1\nvoter v0 1\nvoter v1 1\nvoter v2 0\nvoter v3 0\nbusiest 1\nregister 1\n",
-)];
-
-#[test]
-fn records_are_replayed(rt: HostRuntime) -> Result<(), Fail> {
-    assert_eq!(rt; first_wrong(&rt, rt.alloc(), &REPLAYED)?, None);
-    Ok(())
+fn commands_take_plans_with_capacities(rt: HostRuntime) {
+    assert!(rt; first_wrong(&rt, rt.alloc(), &SERVED) == Ok(None));
 }

@@ -2,7 +2,6 @@
 use coterie_file::{read_coterie, write_coterie};
 use std::alloc::{AllocError, Global};
 use std::sync::Wait;
-use std::test::Fail;
 use std::thread::Threads;
 use std::time::Clock;
 use test_runs::{
@@ -22,9 +21,8 @@ const MADE: [Row; 8] = [
 ];
 
 #[test]
-fn shapes_are_made(rt: HostRuntime) -> Result<(), Fail> {
-    assert_eq!(rt; first_wrong(&rt, rt.alloc(), &MADE)?, None);
-    Ok(())
+fn shapes_are_made(rt: HostRuntime) {
+    assert!(rt; first_wrong(&rt, rt.alloc(), &MADE) == Ok(None));
 }
 
 /// Shapes, and how many lines their texts have.
@@ -57,11 +55,10 @@ fn reads_back<T: Threads + Wait + Clock + Sync>(
 }
 
 #[test]
-fn shapes_read_back(rt: HostRuntime) -> Result<(), Fail> {
+fn shapes_read_back(rt: HostRuntime) {
     for (line, lines) in &LINES {
-        assert!(rt; reads_back(&rt, rt.alloc(), line, *lines)?, "{line}");
+        assert!(rt; reads_back(&rt, rt.alloc(), line, *lines) == Ok(true));
     }
-    Ok(())
 }
 
 /// Shapes, plans of them, and what `check` writes.
@@ -93,26 +90,21 @@ const CERTIFICATES: [(&str, &str, &str); 3] = [
     ),
 ];
 
-/// Returns what `check` writes for the coterie of a shape and this plan.
-fn checked<T: Threads + Wait + Clock + Sync>(
+/// Returns whether `check` writes this for the coterie of a shape and a plan.
+fn is_checked<T: Threads + Wait + Clock + Sync>(
     rt: &T,
     alloc: Global,
-    shape: &str,
-    plan: &str,
-) -> Result<String, AllocError> {
-    let coterie = answer(rt, alloc, shape, b"")?;
-    answer_planned(rt, alloc, "check", coterie.as_str(), plan)
+    row: &(&str, &str, &str),
+) -> Result<bool, AllocError> {
+    let coterie = answer(rt, alloc, row.0, b"")?;
+    Ok(answer_planned(rt, alloc, "check", coterie.as_str(), row.1)?.as_str() == row.2)
 }
 
 #[test]
-fn certificates_of_shapes(rt: HostRuntime) -> Result<(), Fail> {
-    for (shape, plan, wanted) in &CERTIFICATES {
-        assert!(rt;
-            checked(&rt, rt.alloc(), shape, plan)?.as_str() == *wanted,
-            "{shape}"
-        );
+fn certificates_of_shapes(rt: HostRuntime) {
+    for row in &CERTIFICATES {
+        assert!(rt; is_checked(&rt, rt.alloc(), row) == Ok(true));
     }
-    Ok(())
 }
 
 /// Voters and quorums of letters, and how they are refused.
@@ -125,26 +117,22 @@ const LETTERS: [(&str, &str, &str); 6] = [
     ("a", "aa", "F6 RepeatedMember 0"),
 ];
 
-/// Returns what `deal` writes for a coterie of letters.
-fn dealt<T: Threads + Wait + Clock + Sync>(
+/// Returns whether `deal` refuses a coterie of letters like this.
+fn is_refused<T: Threads + Wait + Clock + Sync>(
     rt: &T,
     alloc: Global,
-    voters: &str,
-    quorums: &str,
-) -> Result<String, AllocError> {
-    let coterie = coterie_of_letters(alloc, voters, quorums)?;
-    answer_planned(rt, alloc, "deal 5", coterie.as_str(), WHEEL_PLAN)
+    row: &(&str, &str, &str),
+) -> Result<bool, AllocError> {
+    let coterie = coterie_of_letters(alloc, row.0, row.1)?;
+    let text = answer_planned(rt, alloc, "deal 5", coterie.as_str(), WHEEL_PLAN)?;
+    Ok(text.as_str() == row.2)
 }
 
 #[test]
-fn coteries_are_refused(rt: HostRuntime) -> Result<(), Fail> {
-    for (voters, quorums, wanted) in &LETTERS {
-        assert!(rt;
-            dealt(&rt, rt.alloc(), voters, quorums)?.as_str() == *wanted,
-            "{quorums}"
-        );
+fn coteries_are_refused(rt: HostRuntime) {
+    for row in &LETTERS {
+        assert!(rt; is_refused(&rt, rt.alloc(), row) == Ok(true));
     }
-    Ok(())
 }
 
 /// Texts that are no coteries.
@@ -168,10 +156,29 @@ const TEXTS: [Row; 5] = [
 ];
 
 #[test]
-fn texts_are_refused(rt: HostRuntime) -> Result<(), Fail> {
-    assert_eq!(rt; first_wrong(&rt, rt.alloc(), &TEXTS)?, None);
-    let unended = answer(&rt, rt.alloc(), "check", b"\xff%%\n")?;
-    let no_text = answer(&rt, rt.alloc(), "check", b"\xff\n%%\n")?;
-    assert!(rt; (unended.as_str() == "I1 MissingPart 2") & (no_text.as_str() == "F1 NotToml"));
-    Ok(())
+fn texts_are_refused(rt: HostRuntime) {
+    assert!(rt; first_wrong(&rt, rt.alloc(), &TEXTS) == Ok(None));
+}
+
+/// Bytes that are no text, and how `check` refuses them.
+const BYTES: [(&[u8], &str); 2] = [
+    (b"\xff%%\n", "I1 MissingPart 2"),
+    (b"\xff\n%%\n", "F1 NotToml"),
+];
+
+/// Returns whether `check` writes this for an input of bytes.
+fn is_answer<T: Threads + Wait + Clock + Sync>(
+    rt: &T,
+    alloc: Global,
+    input: &[u8],
+    wanted: &str,
+) -> Result<bool, AllocError> {
+    Ok(answer(rt, alloc, "check", input)?.as_str() == wanted)
+}
+
+#[test]
+fn bytes_are_refused(rt: HostRuntime) {
+    for (input, wanted) in &BYTES {
+        assert!(rt; is_answer(&rt, rt.alloc(), input, wanted) == Ok(true));
+    }
 }

@@ -246,43 +246,58 @@ fn have_lines<F: Display>(alloc: Global, table: &[(F, &str)]) -> Result<bool, Al
     Ok(true)
 }
 
-#[test]
-fn faults_of_plans(rt: HostRuntime) -> Result<(), Fail> {
-    let alloc = rt.alloc();
-    assert!(rt; have_lines(alloc, &COTERIES)?);
-    assert!(rt; have_lines(alloc, &BRIDGES)?);
-    assert!(rt; have_lines(alloc, &COTERIE_TEXTS)?);
-    assert!(rt; have_lines(alloc, &SHAPES)?);
-    assert!(rt; have_lines(alloc, &FRACTIONS)?);
-    assert!(rt; have_lines(alloc, &SIMPLEX_METHODS)?);
-    assert!(rt; have_lines(alloc, &PLANS)?);
-    assert!(rt; have_lines(alloc, &PLANNERS)?);
-    assert!(rt; have_lines(alloc, &INPUTS)?);
-    Ok(())
+/// Returns whether each fault of coteries and plans has its line.
+fn plans_have_lines(alloc: Global) -> Result<bool, AllocError> {
+    Ok(
+        have_lines(alloc, &COTERIES)?
+            & have_lines(alloc, &BRIDGES)?
+            & have_lines(alloc, &COTERIE_TEXTS)?
+            & have_lines(alloc, &SHAPES)?
+            & have_lines(alloc, &FRACTIONS)?
+            & have_lines(alloc, &SIMPLEX_METHODS)?
+            & have_lines(alloc, &PLANS)?
+            & have_lines(alloc, &PLANNERS)?
+            & have_lines(alloc, &INPUTS)?,
+    )
 }
 
 #[test]
-fn faults_of_the_lock(rt: HostRuntime) -> Result<(), Fail> {
-    let alloc = rt.alloc();
-    assert!(rt; have_lines(alloc, &DRAWS)?);
-    assert!(rt; have_lines(alloc, &OFFICES)?);
-    assert!(rt; have_lines(alloc, &MESSAGES)?);
-    assert!(rt; have_lines(alloc, &VOTERS)?);
-    assert!(rt; have_lines(alloc, &CLIENTS)?);
-    assert!(rt; have_lines(alloc, &WORLDS)?);
-    assert!(rt; have_lines(alloc, &BOARDS)?);
-    assert!(rt; have_lines(alloc, &CLUSTERS)?);
-    Ok(())
+fn faults_of_plans(rt: HostRuntime) {
+    assert!(rt; plans_have_lines(rt.alloc()) == Ok(true));
+}
+
+/// Returns whether each fault of the lock has its line.
+fn the_lock_has_lines(alloc: Global) -> Result<bool, AllocError> {
+    Ok(
+        have_lines(alloc, &DRAWS)?
+            & have_lines(alloc, &OFFICES)?
+            & have_lines(alloc, &MESSAGES)?
+            & have_lines(alloc, &VOTERS)?
+            & have_lines(alloc, &CLIENTS)?
+            & have_lines(alloc, &WORLDS)?
+            & have_lines(alloc, &BOARDS)?
+            & have_lines(alloc, &CLUSTERS)?,
+    )
 }
 
 #[test]
-fn faults_of_the_program(rt: HostRuntime) -> Result<(), Fail> {
-    let alloc = rt.alloc();
-    assert!(rt; have_lines(alloc, &RECORDS_AND_SCRIPTS)?);
-    assert!(rt; have_lines(alloc, &RUNS)?);
-    assert!(rt; have_lines(alloc, &DEVICES)?);
-    assert!(rt; have_lines(alloc, &COMMANDS)?);
-    Ok(())
+fn faults_of_the_lock(rt: HostRuntime) {
+    assert!(rt; the_lock_has_lines(rt.alloc()) == Ok(true));
+}
+
+/// Returns whether each fault of the program has its line.
+fn the_program_has_lines(alloc: Global) -> Result<bool, AllocError> {
+    Ok(
+        have_lines(alloc, &RECORDS_AND_SCRIPTS)?
+            & have_lines(alloc, &RUNS)?
+            & have_lines(alloc, &DEVICES)?
+            & have_lines(alloc, &COMMANDS)?,
+    )
+}
+
+#[test]
+fn faults_of_the_program(rt: HostRuntime) {
+    assert!(rt; the_program_has_lines(rt.alloc()) == Ok(true));
 }
 
 /// Returns the fault of a cluster that is closed without its only member.

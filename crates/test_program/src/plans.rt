@@ -1,14 +1,13 @@
 //! Plans that are checked, and plans that are found.
 use std::alloc::{AllocError, Global};
 use std::sync::Wait;
-use std::test::Fail;
 use std::thread::Threads;
 use std::time::Clock;
 use test_runs::{
     MAJORITY, Row, WHEEL, answer, answer_planned, coterie_of_letters, first_wrong, plan,
 };
 
-const CHECKED: [Row; 13] = [
+const CHECKED: [Row; 14] = [
     (
         "check",
         &[WHEEL, plan!("3/5", "5", "1 1 1 2", "2 1 1 1")],
@@ -70,12 +69,17 @@ const CHECKED: [Row; 13] = [
         "P2 TooLarge",
     ),
     ("check", &[WHEEL, ""], "P5 BadText 1"),
+    // two voters are in no quorum
+    (
+        "plan",
+        &["voters = [\"a\", \"b\", \"c\"]\nquorums = [[\"a\"]]\n"],
+        plan!("1/1", "1", "1", "1 0 0"),
+    ),
 ];
 
 #[test]
-fn plans_are_checked(rt: HostRuntime) -> Result<(), Fail> {
-    assert_eq!(rt; first_wrong(&rt, rt.alloc(), &CHECKED)?, None);
-    Ok(())
+fn plans_are_checked(rt: HostRuntime) {
+    assert!(rt; first_wrong(&rt, rt.alloc(), &CHECKED) == Ok(None));
 }
 
 /// Shapes, and the plans that are found.
@@ -91,38 +95,22 @@ const FOUND: [(&str, &str); 6] = [
     ("make tree 0", plan!("1/1", "1", "1", "1")),
 ];
 
-/// Returns the plan that is found for the coterie of a shape.
-fn found<T: Threads + Wait + Clock + Sync>(
+/// Returns whether this plan is found for the coterie of a shape.
+fn is_found<T: Threads + Wait + Clock + Sync>(
     rt: &T,
     alloc: Global,
     shape: &str,
-) -> Result<String, AllocError> {
+    wanted: &str,
+) -> Result<bool, AllocError> {
     let coterie = answer(rt, alloc, shape, b"")?;
-    answer(rt, alloc, "plan", coterie.as_bytes())
+    Ok(answer(rt, alloc, "plan", coterie.as_bytes())?.as_str() == wanted)
 }
 
 #[test]
-fn plans_are_found(rt: HostRuntime) -> Result<(), Fail> {
+fn plans_are_found(rt: HostRuntime) {
     for (shape, wanted) in &FOUND {
-        assert!(rt;
-            found(&rt, rt.alloc(), shape)?.as_str() == *wanted,
-            "{shape}"
-        );
+        assert!(rt; is_found(&rt, rt.alloc(), shape, wanted) == Ok(true));
     }
-    Ok(())
-}
-
-/// A coterie with two voters in no quorum.
-const SINGLE: [Row; 1] = [(
-    "plan",
-    &["voters = [\"a\", \"b\", \"c\"]\nquorums = [[\"a\"]]\n"],
-    plan!("1/1", "1", "1", "1 0 0"),
-)];
-
-#[test]
-fn a_voter_may_be_in_no_quorum(rt: HostRuntime) -> Result<(), Fail> {
-    assert_eq!(rt; first_wrong(&rt, rt.alloc(), &SINGLE)?, None);
-    Ok(())
 }
 
 /// Shapes, and their loads.
@@ -143,24 +131,34 @@ const LOADS: [(&str, &str); 14] = [
     ("make wheel 31", "load 31/61 "),
 ];
 
-/// Returns what `check` writes for a coterie and the plan that `plan` finds.
-fn checked<T: Threads + Wait + Clock + Sync>(
+/// Returns whether `check` writes this load for a coterie and the plan that `plan` finds.
+fn has_load<T: Threads + Wait + Clock + Sync>(
     rt: &T,
     alloc: Global,
     coterie: &str,
-) -> Result<String, AllocError> {
+    wanted: &str,
+) -> Result<bool, AllocError> {
     let plan = answer(rt, alloc, "plan", coterie.as_bytes())?;
-    answer_planned(rt, alloc, "check", coterie, plan.as_str())
+    let text = answer_planned(rt, alloc, "check", coterie, plan.as_str())?;
+    Ok(text.as_str().starts_with(wanted))
+}
+
+/// Returns the same of the coterie of a shape.
+fn shape_has_load<T: Threads + Wait + Clock + Sync>(
+    rt: &T,
+    alloc: Global,
+    shape: &str,
+    wanted: &str,
+) -> Result<bool, AllocError> {
+    let coterie = answer(rt, alloc, shape, b"")?;
+    has_load(rt, alloc, coterie.as_str(), wanted)
 }
 
 #[test]
-fn plans_have_the_known_loads(rt: HostRuntime) -> Result<(), Fail> {
+fn plans_have_the_known_loads(rt: HostRuntime) {
     for (shape, wanted) in &LOADS {
-        let coterie = answer(&rt, rt.alloc(), shape, b"")?;
-        let text = checked(&rt, rt.alloc(), coterie.as_str())?;
-        assert!(rt; text.as_str().starts_with(*wanted), "{shape}");
+        assert!(rt; shape_has_load(&rt, rt.alloc(), shape, wanted) == Ok(true));
     }
-    Ok(())
 }
 
 /// A wall of rows of 1, 2 and 3; two weighted majorities; a nucleus system; majorities of
@@ -193,12 +191,19 @@ const OTHERS: [(&str, &str, &str); 5] = [
     ),
 ];
 
+/// Returns the same of a coterie of letters.
+fn letters_have_load<T: Threads + Wait + Clock + Sync>(
+    rt: &T,
+    alloc: Global,
+    row: &(&str, &str, &str),
+) -> Result<bool, AllocError> {
+    let coterie = coterie_of_letters(alloc, row.0, row.1)?;
+    has_load(rt, alloc, coterie.as_str(), row.2)
+}
+
 #[test]
-fn other_families_have_the_known_loads(rt: HostRuntime) -> Result<(), Fail> {
-    for (voters, quorums, wanted) in &OTHERS {
-        let coterie = coterie_of_letters(rt.alloc(), voters, quorums)?;
-        let text = checked(&rt, rt.alloc(), coterie.as_str())?;
-        assert!(rt; text.as_str().starts_with(*wanted), "{voters}");
+fn other_families_have_the_known_loads(rt: HostRuntime) {
+    for row in &OTHERS {
+        assert!(rt; letters_have_load(&rt, rt.alloc(), row) == Ok(true));
     }
-    Ok(())
 }

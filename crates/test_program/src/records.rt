@@ -1,5 +1,4 @@
 //! Records that are replayed.
-use std::test::Fail;
 use test_runs::{MAJORITY, MAJORITY_PLAN, RECORD_ACCOUNT, Row, first_wrong};
 
 /// The text of a record of three draws and two passes: its second draw, its second pass and its
@@ -18,7 +17,7 @@ macro_rules! record {
     };
 }
 
-const REPLAYED: [Row; 8] = [
+const REPLAYED: [Row; 12] = [
     (
         "replay",
         &[MAJORITY, MAJORITY_PLAN, record!("0 1 1", "1 1", "2")],
@@ -59,15 +58,7 @@ const REPLAYED: [Row; 8] = [
         &[MAJORITY, MAJORITY_PLAN, record!("0 1 1", "1", "2")],
         "A7 BadLine 6",
     ),
-];
-
-#[test]
-fn records_are_replayed(rt: HostRuntime) -> Result<(), Fail> {
-    assert_eq!(rt; first_wrong(&rt, rt.alloc(), &REPLAYED)?, None);
-    Ok(())
-}
-
-const PARTS: [Row; 4] = [
+    // the record is the third part
     (
         "replay",
         &[MAJORITY, MAJORITY_PLAN, "quorum-record 1\nregister 0\n"],
@@ -91,7 +82,6 @@ const PARTS: [Row; 4] = [
 ];
 
 #[test]
-fn records_are_looked_for_in_the_third_part(rt: HostRuntime) -> Result<(), Fail> {
-    assert_eq!(rt; first_wrong(&rt, rt.alloc(), &PARTS)?, None);
-    Ok(())
+fn records_are_replayed(rt: HostRuntime) {
+    assert!(rt; first_wrong(&rt, rt.alloc(), &REPLAYED) == Ok(None));
 }

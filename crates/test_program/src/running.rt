@@ -1,11 +1,10 @@
 //! Runs in threads, and the replays of their records.
 use std::alloc::{AllocError, Global};
 use std::sync::Wait;
-use std::test::Fail;
 use std::thread::Threads;
 use std::time::Clock;
 use test_runs::{
-    GRID, GRID_PLAN, MAJORITY, MAJORITY_PLAN, Row, answer, answer_planned, first_wrong,
+    GRID, GRID_PLAN, MAJORITY, MAJORITY_PLAN, Row, answer, answer_planned, first_wrong, joined,
 };
 
 const RUNS: [Row; 7] = [
@@ -31,9 +30,8 @@ const RUNS: [Row; 7] = [
 ];
 
 #[test]
-fn runs_write_their_records(rt: HostRuntime) -> Result<(), Fail> {
-    assert_eq!(rt; first_wrong(&rt, rt.alloc(), &RUNS)?, None);
-    Ok(())
+fn runs_write_their_records(rt: HostRuntime) {
+    assert!(rt; first_wrong(&rt, rt.alloc(), &RUNS) == Ok(None));
 }
 
 /// Runs whose records differ from time to time, and what `replay` writes for them.
@@ -52,24 +50,21 @@ const REPLAYS: [(&str, &str, &str, &str); 2] = [
     ),
 ];
 
-/// Returns what `replay` writes for the record of a run.
-fn replayed<T: Threads + Wait + Clock + Sync>(
+/// Returns whether `replay` writes this text for the record of a run.
+fn is_replayed<T: Threads + Wait + Clock + Sync>(
     rt: &T,
     alloc: Global,
-    line: &str,
-    coterie: &str,
-    plan: &str,
-) -> Result<String, AllocError> {
+    row: &(&str, &str, &str, &str),
+) -> Result<bool, AllocError> {
+    let (line, coterie, plan, wanted) = *row;
     let record = answer_planned(rt, alloc, line, coterie, plan)?;
-    let input = format!(in alloc; "{coterie}%%\n{plan}%%\n{record}")?;
-    answer(rt, alloc, "replay", input.as_bytes())
+    let input = joined(alloc, &[coterie, plan, &record])?;
+    Ok(answer(rt, alloc, "replay", input.as_bytes())?.as_str() == wanted)
 }
 
 #[test]
-fn records_of_runs_are_replayed(rt: HostRuntime) -> Result<(), Fail> {
-    for (line, coterie, plan, wanted) in &REPLAYS {
-        let text = replayed(&rt, rt.alloc(), line, coterie, plan)?;
-        assert!(rt; text.as_str() == *wanted, "{line}");
+fn records_of_runs_are_replayed(rt: HostRuntime) {
+    for row in &REPLAYS {
+        assert!(rt; is_replayed(&rt, rt.alloc(), row) == Ok(true));
     }
-    Ok(())
 }
