@@ -175,7 +175,7 @@ shown deal-fast-majority fast-majority-planned.txt deal 1
 shown deal-wheel-3-fast-hub wheel-3-fast-hub-planned.txt deal 7
 shown deal-even-wheel-3 wheel-3-planned.txt deal --even 5
 shown deal-even-wheel-3-fast-hub wheel-3-fast-hub-planned.txt deal --even 7
-for world in race late-message withdrawal refusals lost-release; do
+for world in race late-message withdrawal refusals lost-release crash exchange; do
     shown "world-$world" "world-$world.txt" world
 done
 shown explain-disjoint /dev/null explain E7
@@ -209,6 +209,12 @@ shown without-centre three-centres.toml without a1 a2 a3 a4 a5
 shown without-most-of-two-centres three-centres.toml without a1 a2 a3 c1 c2
 program=$show
 example show-unknown-voter three-racks.toml 1 without a1 a9
+# an exchange for a coterie of c alone, which a quorum of the first does not have, and for one of other voters
+awk 'parts == 2 { sub(/^  \["a", "b"\]/, "  [\"c\"]") } parts == 3 { sub(/^voter 1 0 0/, "voter 0 0 1") } /^%%$/ { parts++ } 1' \
+    world-exchange.txt > "$work/input"
+example show-not-bridged "$work/input" 1 world
+awk 'parts == 2 { gsub(/"b"/, "\"d\"") } /^%%$/ { parts++ } 1' world-exchange.txt > "$work/input"
+example show-other-voters "$work/input" 1 world
 program=$qlock
 for coterie in three-racks wheel-3 cyclic-7 three-centres; do
     shown "resilience-$coterie" "$coterie.toml" resilience

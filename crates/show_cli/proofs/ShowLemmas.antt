@@ -5,27 +5,15 @@ use Rattle.std.specs.Io.KnownBytes.{Appends}
 use Rattle.whole_io.specs.Devices.{AppendsBeginning}
 use Rattle.whole_io.specs.declared.fault.DeviceFault.TheVariants as device
 use Rattle.whole_io.specs.declared.fault.DeviceFault.TheVariants.{ReadFault, TooLong, WriteFault}
-use Rattle.replay.specs.Scripts.{IsBadText}
-use Rattle.replay.specs.declared.fault.ReplayFault.{ReplayFault}
-use Rattle.replay.specs.declared.fault.ReplayFault.TheVariants as replay
-use Rattle.plan_inputs.specs.Inputs.{PlannedSystem}
 use Rattle.plan_inputs.specs.declared.fault.InputFault.TheVariants as inputs
-use Rattle.commands.specs.Commands.{IsRefusedBy, Refuses, coterie_part, staged_in}
+use Rattle.commands.specs.Commands.{Refuses, coterie_part}
 use Rattle.commands.specs.Devices.{IsOfReading, IsOwn}
-use Rattle.commands.specs.Faults.{IsOfFile, replay_refusal}
+use Rattle.commands.specs.Faults.{IsOfFile}
 use Rattle.commands.specs.declared.fault.Fault.{Fault}
-use Rattle.commands.specs.declared.fault.Fault.TheVariants.{MissingPart, UnknownVoter, Device, Construct, Input, Replay, Cluster, OutOfMemory}
-use Rattle.command_line.specs.declared.command.Command.TheVariants as commands
+use Rattle.commands.specs.declared.fault.Fault.TheVariants.{MissingPart, UnknownVoter, NotBridged, Device, Construct, Input, Replay, Cluster, OutOfMemory}
 use Rattle.show_cli.specs.Failures.{RefusesWithout}
 use Rattle.show_cli.specs.Pages.{BeginsShowing, ComesOfShowing, IsPage, OfRead, RefusesPage, Shows, reads_page_input}
 use Rattle.show_cli.specs.declared.command.ShowCommand.{ShowCommand}
-
--- a refusal of the script is one of the command `world`
-pub script_refused : (input script : List ℕ) (planned : PlannedSystem) (fault : ReplayFault) → staged_in input ≡ Ok (planned, script) → IsBadText script fault
-    → IsRefusedBy commands.World input (replay_refusal fault)
-script_refused input script planned replay.OutOfMemory e h = tt
-script_refused input script planned (replay.BadLine line) e h = record { planned = planned; script = script; parts = e; bad = h }
-script_refused input script planned fault e h = absurd h
 
 -- what holds of what was read, holds of what the command reads of the known bytes
 of_seen : (P : List ℕ → Type 0) (reads : Bool) (bytes : Option (List ℕ)) (input : List ℕ) → (reads ≡ true → IfSome bytes (λ known. input ≡ known)) → (reads ≡ false → input ≡ []) → P input
@@ -61,6 +49,7 @@ own_of_seen command seen (Device fault) own h = absurd own
 own_of_seen command seen OutOfMemory own h = tt
 own_of_seen command seen (MissingPart k) own h = h
 own_of_seen command seen (UnknownVoter k) own h = h
+own_of_seen command seen (NotBridged j k) own h = h
 own_of_seen command seen (Construct fault) own h = h
 own_of_seen command seen (Input fault) own h = h
 own_of_seen command seen (Replay fault) own h = h
@@ -83,6 +72,7 @@ reading_of_seen command known true (Device WriteFault) reads e h = absurd h
 reading_of_seen command known true (Device device.OutOfMemory) reads e h = absurd h
 reading_of_seen command known true (MissingPart k) reads e h = absurd h
 reading_of_seen command known true (UnknownVoter k) reads e h = absurd h
+reading_of_seen command known true (NotBridged j k) reads e h = absurd h
 reading_of_seen command known true (Construct fault) reads e h = absurd h
 reading_of_seen command known true (Input fault) reads e h = absurd h
 reading_of_seen command known true (Replay fault) reads e h = absurd h

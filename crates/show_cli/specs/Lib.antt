@@ -1,4 +1,5 @@
 pub mod Commands
 pub mod Failures
 pub mod Pages
+pub mod Stories
 pub mod Words

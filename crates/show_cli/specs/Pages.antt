@@ -3,7 +3,6 @@ use Rattle.std.specs.Prelude.{◌≡◌, ℕ, ◌<◌, ◌≤◌, Bool, true, fa
 use Rattle.std.specs.Io.KnownBytes.{Appends, IsAtEnd, Keeps}
 use Rattle.show_faults.specs.Pages.{IsFaultsList, IsFaultsPage}
 use Rattle.show_faults.specs.Texts.{text_of}
-use Rattle.replay.specs.Scripts.{IsScript, Script, script_text}
 use Rattle.show_report.specs.Reports.{IsReport}
 use Rattle.show_tickets.specs.EvenOrder.{IsEvenPage}
 use Rattle.show_tickets.specs.Rounds.{deal_page_text}
@@ -11,14 +10,14 @@ use Rattle.show_words.specs.Plans.{IsPlanPage}
 use Rattle.show_words.specs.Worlds.{IsWorldPage}
 use Rattle.show_svg.specs.Pictures.{IsEnded}
 use Rattle.plan_inputs.specs.Inputs.{PlannedSystem}
-use Rattle.commands.specs.Commands.{IsRefusedBy, Refuses, coterie_part, planned_in, reads_input, staged_in}
+use Rattle.commands.specs.Commands.{Refuses, coterie_part, planned_in, reads_input}
 use Rattle.commands.specs.declared.fault.Fault.{Fault}
 use Rattle.commands.specs.declared.fault.Fault.TheVariants.{Device, OutOfMemory}
-use Rattle.command_line.specs.declared.command.Command.TheVariants as qlock
 use Rattle.whole_io.specs.Devices.{AppendsBeginning}
 use Rattle.whole_io.specs.declared.fault.DeviceFault.TheVariants.{ReadFault, TooLong, WriteFault}
 use Rattle.show_refusals.specs.Pages.{IsFaultPage}
 use Rattle.show_cli.specs.Failures.{IsBridgeOf, IsResilienceOf, IsWithoutOf, RefusesWithout, pair_in}
+use Rattle.show_cli.specs.Stories.{IsStory, RefusesStory}
 use Rattle.show_cli.specs.declared.command.Picture.TheVariants as pictures
 use Rattle.show_cli.specs.declared.command.ShowCommand.{ShowCommand}
 use Rattle.show_cli.specs.declared.command.ShowCommand.TheVariants as show
@@ -55,21 +54,13 @@ pub record IsPlanPicture (input page : List ℕ) : Type 0 where
   pub parts : planned_in input ≡ Ok planned
   pub ended : IsEnded page
 
--- the input is a coterie, a plan of it and a script, and the page is one of a script's run
-pub record IsScriptWords (input page : List ℕ) : Type 0 where
-  pub planned : PlannedSystem
-  pub script : Script
-  pub is_script : IsScript script
-  pub parts : staged_in input ≡ Ok (planned, script_text script)
-  pub words : IsWorldPage page
+-- the input is one of a story, and the page is one of its words
+abbrev pub IsStoryWords : List ℕ → List ℕ → Type 0
+IsStoryWords input page = IsStory input × IsWorldPage page
 
--- the input is a coterie, a plan of it and a script, and the page ends as a picture does
-pub record IsScriptPicture (input page : List ℕ) : Type 0 where
-  pub planned : PlannedSystem
-  pub script : Script
-  pub is_script : IsScript script
-  pub parts : staged_in input ≡ Ok (planned, script_text script)
-  pub ended : IsEnded page
+-- the input is one of a story, and the page ends as a picture does
+abbrev pub IsStoryPicture : List ℕ → List ℕ → Type 0
+IsStoryPicture input page = IsStory input × IsEnded page
 
 -- the page is one of the command for the input
 abbrev pub IsPage : ShowCommand → List ℕ → List ℕ → Type 0
@@ -80,17 +71,17 @@ IsPage (show.DealEven n) input page = IsEvenDealPage n input page
 IsPage (show.Without words) input page = IsWithoutOf (map string_bytes words.items) input page
 IsPage show.Resilience input page = IsResilienceOf input page
 IsPage show.Bridge input page = IsBridgeOf input page
-IsPage show.World input page = IsScriptWords input page
+IsPage show.World input page = IsStoryWords input page
 IsPage (show.Explain explanation) input page = page ≡ text_of explanation.now
 IsPage show.ExplainAll input page = IsFaultsPage page
 IsPage show.ListFaults input page = IsFaultsList page
 IsPage (show.Fault command) input page = IsFaultPage command input page
 IsPage (show.Picture pictures.Load) input page = IsPlanPicture input page
 IsPage (show.Picture pictures.Cycle) input page = IsPlanPicture input page
-IsPage (show.Picture pictures.World) input page = IsScriptPicture input page
+IsPage (show.Picture pictures.World) input page = IsStoryPicture input page
 
 -- the fault is out of memory, or the command fails with it for the input: a part is missing or has a
--- fault, a word is no voter's name, or the third part is no script
+-- fault, a word is no voter's name, or the last part is no script
 abbrev pub RefusesPage : ShowCommand → List ℕ → Fault → Type 0
 RefusesPage show.Plan input fault = Refuses fault (planned_in input)
 RefusesPage show.Report input fault = Refuses fault (planned_in input)
@@ -99,14 +90,14 @@ RefusesPage (show.DealEven n) input fault = Refuses fault (planned_in input)
 RefusesPage (show.Without words) input fault = RefusesWithout (map string_bytes words.items) input fault
 RefusesPage show.Resilience input fault = Refuses fault (coterie_part input)
 RefusesPage show.Bridge input fault = Refuses fault (pair_in input)
-RefusesPage show.World input fault = IsRefusedBy qlock.World input fault
+RefusesPage show.World input fault = RefusesStory input fault
 RefusesPage (show.Explain explanation) input fault = fault ≡ OutOfMemory
 RefusesPage show.ExplainAll input fault = fault ≡ OutOfMemory
 RefusesPage show.ListFaults input fault = fault ≡ OutOfMemory
 RefusesPage (show.Fault command) input fault = fault ≡ OutOfMemory
 RefusesPage (show.Picture pictures.Load) input fault = Refuses fault (planned_in input)
 RefusesPage (show.Picture pictures.Cycle) input fault = Refuses fault (planned_in input)
-RefusesPage (show.Picture pictures.World) input fault = IsRefusedBy qlock.World input fault
+RefusesPage (show.Picture pictures.World) input fault = RefusesStory input fault
 
 -- the result is a page of the command for the input, or its fault for the input, or out of memory
 abbrev pub IsShownBy : {X : Type 0} → (X → List ℕ) → ShowCommand → List ℕ → Result X Fault → Type 0

@@ -20,8 +20,8 @@
 //!   the input; the paragraphs behind them are only tested;
 //! - a `fault` page ends with the code of a fault with which `qlock` refuses the input, or it says that
 //!   there is none, and then the command takes the input;
-//! - for `world` and the pictures the input has the parts that it has to have; a page of `world` ends
-//!   with the clients, and a picture as a picture does.
+//! - for `world` and the pictures the input has the parts that it has to have, and of two coteries there
+//!   is a bridge; a page of `world` ends with the clients, and a picture as a picture does.
 //!
 //! What else these pages say is only tested. A fault comes only for an input with this fault, and
 //! then nothing is written. A failed write may leave a beginning of such a page.
@@ -37,6 +37,7 @@
 mod command;
 mod losses;
 mod pages;
+mod scenes;
 mod serving;
 mod words;
 

@@ -1,10 +1,8 @@
 //! What each command writes for its input.
-ghost use Rattle.std.specs.Prelude.{◌≡◌, ◌≤◌, IfErr, IfOk, Ok, string_bytes};
+ghost use Rattle.std.specs.Prelude.{◌≡◌, ◌≤◌, IfErr, IfOk, string_bytes};
 ghost use Rattle.show_faults.specs.Pages.{IsFaultsList, IsFaultsPage};
 ghost use Rattle.show_faults.specs.Texts.{text_of};
-ghost use Rattle.replay.specs.Scripts.{IsScript, script_text};
-ghost use Rattle.plan_inputs.specs.Inputs.{parts_of};
-ghost use Rattle.commands.specs.Commands.{IsInRange, IsRefusedBy, staged_in};
+ghost use Rattle.commands.specs.Commands.{IsInRange};
 ghost use Rattle.commands.specs.Devices.{IsOwn};
 ghost use Rattle.show_cli.specs.Commands.{IsShown};
 ghost use Rattle.show_refusals.specs.Pages.{IsFaultPage};
@@ -12,8 +10,8 @@ ghost use Rattle.show_cli.specs.Pages.{IsShownBy};
 
 use crate::command::{Picture, ShowCommand};
 use crate::losses::{borne_page, left_page, pair_page};
-use commands::{Command, Fault, Planned, planned_of, staged_of};
-use replay::{Script, read_script};
+use crate::scenes::{Scene, scene_of};
+use commands::{Command, Fault, planned_of};
 use show_faults::{Explanation, explanation_text, faults_list, faults_page};
 use show_plans::{cycle_picture, load_picture};
 use show_refusals::fault_page;
@@ -114,50 +112,39 @@ fn cycle_page(alloc: Global, input: &[u8]) -> Result<String, Fault>
     }
 }
 
-/// Returns a script, its coterie and its plan.
-fn script_of(alloc: Global, input: &[u8]) -> Result<(Planned, Script), Fault>
-    ensures parts { IfOk result (λ read. staged_in input.now ≡ Ok (parts_of read.0, script_text read.1)) }
-    ensures script { IfOk result (λ read. IsScript read.1) }
-    ensures refused { IfErr result (IsRefusedBy Command.World input.now) }
-    ensures own { IfErr result IsOwn }
-{
-    let (planned, text) = match staged_of(alloc, input) {
-        Ok(staged) => staged,
-        Err(fault) => return Err(fault),
-    };
-    match read_script(alloc, text) {
-        Ok(script) => Ok((planned, script)),
-        Err(fault) => Err(Fault::from(fault)),
-    }
-}
-
-/// Returns the page of a script in words.
+/// Returns the page of a story in words.
 fn world_page(alloc: Global, input: &[u8]) -> Result<String, Fault>
     ensures shown { IsShownBy string_bytes ShowCommand.World input.now result }
     ensures own { IfErr result IsOwn }
 {
-    let (planned, script) = match script_of(alloc, input) {
-        Ok(read) => read,
+    let Scene {
+        named,
+        plans,
+        script,
+    } = match scene_of(alloc, input) {
+        Ok(scene) => scene,
         Err(fault) => return Err(fault),
     };
-    let Planned { named, plan } = planned;
-    match world_words(alloc, &named, plan, &script) {
+    match world_words(alloc, &named, plans, &script) {
         Ok(page) => Ok(page),
         Err(_) => Err(Fault::OutOfMemory),
     }
 }
 
-/// Returns the picture of a script.
-fn script_picture(alloc: Global, input: &[u8]) -> Result<String, Fault>
+/// Returns the picture of a story.
+fn story_picture(alloc: Global, input: &[u8]) -> Result<String, Fault>
     ensures shown { IsShownBy string_bytes (ShowCommand.Picture Picture.World) input.now result }
     ensures own { IfErr result IsOwn }
 {
-    let (planned, script) = match script_of(alloc, input) {
-        Ok(read) => read,
+    let Scene {
+        named,
+        plans,
+        script,
+    } = match scene_of(alloc, input) {
+        Ok(scene) => scene,
         Err(fault) => return Err(fault),
     };
-    let Planned { named, plan } = planned;
-    match world_picture(alloc, &named, plan, &script) {
+    match world_picture(alloc, &named, plans, &script) {
         Ok(page) => Ok(page),
         Err(_) => Err(Fault::OutOfMemory),
     }
@@ -225,7 +212,7 @@ pub(crate) fn page_of(alloc: Global, command: &ShowCommand, input: &[u8]) -> Res
         ShowCommand::Resilience => borne_page(alloc, input),
         ShowCommand::Bridge => pair_page(alloc, input),
         ShowCommand::World => world_page(alloc, input),
-        ShowCommand::Picture(Picture::World) => script_picture(alloc, input),
+        ShowCommand::Picture(Picture::World) => story_picture(alloc, input),
         ShowCommand::Explain(explanation) => explain_page(alloc, explanation),
         ShowCommand::ExplainAll => explain_all_page(alloc),
         ShowCommand::ListFaults => list_page(alloc),

@@ -128,7 +128,7 @@ fn pages_command<'a>(alloc: Global) -> Result<clap::Command<'a>, AllocError>
     .subcommand(bare_command(
         alloc,
         "world",
-        "Tell a script in words: a coterie, a line %%, a plan, a line %%, and a script",
+        "Tell a script in words: a coterie, a line %%, a plan, a line %%, and a script, or for an exchange two coteries with their plans and a script",
     ))
 }
 
