@@ -1,0 +1,110 @@
+//! Stories: which texts are read, and what a crash undoes.
+use certificate::Plan;
+use dealer::Plans;
+use replay::ReplayFault;
+use std::alloc::{AllocError, Global};
+use std::test::Fail;
+use stories::{Happening, Moment, read_story, story_of};
+use test_plans::majority_plan;
+
+/// Texts with the number of their turns, and the number of the first bad line or 0.
+const TEXTS: [(&str, usize, usize); 9] = [
+    ("world 1 9\n", 0, 0),
+    ("# a note\n\nworld 64 9\n\nask 0\n#\nexchange\n", 2, 0),
+    ("world 1 9\ncrash-client 255\ncrash-voter 0\n", 2, 0),
+    ("", 0, 1),
+    ("# a note\n\nask 0\n", 0, 3),
+    ("world 1 9\n# a note\nexchange 1\n", 0, 3),
+    ("world 1 9\ncrash-client 256\n", 0, 2),
+    ("world 1 9\n\n# no newline", 0, 3),
+    ("world 1 9\n # no note\n", 0, 2),
+];
+
+/// Returns whether a text is read with this number of turns, or refused for this line.
+fn reads(alloc: Global, text: &str, turns: usize, bad: usize) -> bool {
+    match read_story(alloc, text.as_bytes()) {
+        Ok(script) => (bad == 0) & (script.turns().len() == turns),
+        Err(ReplayFault::BadLine(line)) => line == bad,
+        Err(_) => false,
+    }
+}
+
+#[test]
+fn notes_are_left_out(rt: HostRuntime) {
+    for (text, turns, bad) in TEXTS {
+        let reads = reads(rt.alloc(), text, turns, bad);
+        assert!(rt; reads);
+    }
+}
+
+/// Client 0 asks voters 0 and 1, and has the vote of voter 0.
+const ONE_VOTE: &str = "world 2 100\nask 0\ndeliver 0\ndeliver 1\ndeliver 2\n";
+
+/// What happens then, with how many messages are sent in all, how many are forgotten in crashes, and
+/// how often a client enters or leaves. Any two of three voters are a quorum.
+const STORIES: [(&str, [usize; 3]); 9] = [
+    ("deliver 3\n", [4, 0, 1]),
+    ("crash-client 0\ndeliver 3\n", [4, 1, 0]),
+    ("crash-client 0\ndeliver 3\ndeliver 2\n", [4, 1, 1]),
+    // What is refused is not saved.
+    ("ask 0\nleave 0\ncrash-client 0\ndeliver 3\n", [4, 1, 0]),
+    // A reminder that is sent is.
+    ("remind-client 0\ncrash-client 0\ndeliver 3\n", [5, 0, 1]),
+    // A client that was inside still is.
+    (
+        "deliver 3\ncrash-client 0\nleave 0\ndeliver 4\nask 1\ndeliver 6\ndeliver 7\ndeliver 8\ndeliver 9\n",
+        [10, 0, 3],
+    ),
+    // A voter forgets a RELEASE, so client 1 does not get its vote.
+    (
+        "deliver 3\nleave 0\ndeliver 4\ncrash-voter 0\nask 1\ndeliver 6\ndeliver 7\ndeliver 8\ndeliver 9\n",
+        [10, 1, 2],
+    ),
+    // Its reminder mends that.
+    (
+        "deliver 3\nleave 0\ndeliver 4\ncrash-voter 0\nask 1\ndeliver 6\ndeliver 7\ndeliver 8\ndeliver 9\n\
+        remind-voter 0\ndeliver 10\ndeliver 11\ndeliver 12\n",
+        [13, 1, 3],
+    ),
+    ("crash-client 2\ncrash-voter 3\nexchange\n", [4, 0, 0]),
+];
+
+/// Returns how many messages are forgotten in a turn.
+fn forgotten(moment: &Moment) -> usize {
+    match moment.happening {
+        Happening::Crashed(messages) => messages,
+        _ => 0,
+    }
+}
+
+/// Returns how many messages are sent in a story, how many are forgotten, and how often a client
+/// enters or leaves; `None` if the text is no script.
+fn counts(alloc: Global, plan: Plan, text: &str) -> Result<Option<[usize; 3]>, AllocError> {
+    let Ok(script) = read_story(alloc, text.as_bytes()) else {
+        return Ok(None);
+    };
+    let story = story_of(alloc, Plans::single(plan), &script)?;
+    let mut lost: usize = 0;
+    for moment in story.moments.as_slice() {
+        lost = lost.saturating_add(forgotten(moment));
+    }
+    Ok(Some([story.world.sent(), lost, story.world.visible().len()]))
+}
+
+/// Returns whether a story that goes on like this has these counts.
+fn goes(alloc: Global, rest: &str, want: [usize; 3]) -> Result<bool, AllocError> {
+    let Some(plan) = majority_plan(alloc) else {
+        return Ok(false);
+    };
+    let text = format!(in alloc; "{ONE_VOTE}{rest}")?;
+    Ok(counts(alloc, plan, text.as_str())? == Some(want))
+}
+
+#[test]
+fn crashes_undo_what_was_not_saved(rt: HostRuntime) -> Result<(), Fail> {
+    for (rest, want) in STORIES {
+        let goes = goes(rt.alloc(), rest, want)?;
+        assert!(rt; goes);
+    }
+    Ok(())
+}
