@@ -222,9 +222,10 @@ const INPUTS: [(InputFault, &str); 4] = [
     (InputFault::OutOfMemory, "O1 OutOfMemory"),
 ];
 
-const COMMANDS: [(Fault, &str); 8] = [
+const COMMANDS: [(Fault, &str); 9] = [
     (Fault::MissingPart(3), "I1 MissingPart 3"),
     (Fault::UnknownVoter(63), "I6 UnknownVoter 63"),
+    (Fault::NotBridged(2, 0), "J1 NotBridged 2 0"),
     (Fault::Device(DeviceFault::TooLong), "I2 TooLong"),
     (Fault::Construct(ConstructFault::BadSize), "G1 BadSize"),
     (Fault::Input(InputFault::File(FileFault::Keys)), "F2 Keys"),
