@@ -12,5 +12,6 @@ returns-in-Err-account_of_record-clause-exact c =
     let entries = entries_of c.in-Ok-read_record.run' in
     let text = c.in-Ok-read_record.ensures.written in
     rw c.from-in-Err-account_of_record.ensures (
-    unsound_refused c.args.input.now c.in-Ok.staged.1.now (parts_of c.in-Ok.staged.0) entries c.in-Err-account_of_record.fault c.in-Ok.ensures.exact text.0 text.1 c.in-Err-account_of_record.ensures.fault
+    unsound_refused c.args.input.now c.in-Ok.staged.1.now (parts_of c.in-Ok.staged.0) entries c.in-Err-account_of_record.fault
+    c.in-Ok.ensures.exact text.0 text.1 c.in-Err-account_of_record.ensures.fault
     )
