@@ -1,7 +1,7 @@
 use Rattle.std.proofs.Common.{◌≡◌, ◌∙◌, ◌++◌, ◌∷◌, [], ℕ, List, Vec, String, Global, ap, ap₂, sym, arith, map, take, get_or, string_bytes}
 use Rattle.std.proofs.lemmas.List.{take_more}
 use Rattle.coterie_file.specs.Reading.{quorum_of}
-use Rattle.coterie_file.proofs.ListLemmas.{map-push}
+use Rattle.numbers.proofs.Lists.{map-push}
 use Rattle.coterie_file.proofs.reading.sets_of.Goals as goal
 
 pub loop-members-preserved : goal.loop-members-preserved
