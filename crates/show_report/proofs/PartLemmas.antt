@@ -1,11 +1,6 @@
 -- Lemmas on texts that are written part by part.
 use Rattle.std.proofs.Common.{◌≡◌, ℕ, List, [], ◌++◌, ap, ◌∙◌}
-use Rattle.std.proofs.lemmas.List.{append_assoc}
 use Rattle.numbers.proofs.Lists.{four_parts, three_parts}
-
--- two parts that were written one after the other, behind what there was
-pub two_parts : (before a b one all : List ℕ) → one ≡ before ++ a → all ≡ one ++ b → all ≡ before ++ (a ++ b)
-two_parts before a b one all first second = second ∙ ap (λ t. t ++ b) first ∙ append_assoc before a b
 
 -- six parts
 pub six_parts : (before a b c d e f one two three four five all : List ℕ) → one ≡ before ++ a → two ≡ one ++ b → three ≡ two ++ c → four ≡ three ++ d

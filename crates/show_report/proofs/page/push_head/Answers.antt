@@ -1,6 +1,6 @@
 use Rattle.std.proofs.lemmas.Result.{on_ok_weaker}
-use Rattle.show_report.proofs.PartLemmas.{two_parts}
 use Rattle.show_report.proofs.page.push_head.Goals as goal
+use Rattle.numbers.proofs.Lists.{two_parts}
 
 pub returns : goal.returns
 returns c =
