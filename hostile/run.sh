@@ -135,6 +135,7 @@ done
 cp "$root/examples/wheel-3-fast-hub.toml" "$work/capacities.toml"
 planned "$work/capacities.toml" "$work/capacities"
 { cat "$work/majority"; printf '%%%%\nquorum-record 1\ndraw 0 0 0\ndraw 1 2 2\ndraw 0 1 1\npass 0 0\npass 1 1\nregister 2\n'; } > "$work/record"
+{ cat "$work/majority"; echo '%%'; cat "$work/majority"; printf '%%%%\n# a note\nworld 1 9\nask 0\nexchange\ndeliver 0\ndeliver 2\ncrash-client 0\ncrash-voter 0\ndeliver 2\n'; } > "$work/story"
 { cat "$work/majority"; printf '%%%%\nworld 2 1000\nask 0\nask 1\ndeliver 2\ndeliver 0\ndeliver 3\ndeliver 4\ndeliver 6\ndeliver 5\nleave 1\ndeliver 7\n'; } > "$work/script"
 { cat "$work/grid"; echo %%; "$program" run 2 2 100000 < "$work/grid"; } > "$work/run"
 
@@ -168,6 +169,7 @@ try 'show plan majority' '' "$work/majority" plan
 try 'show deal 3 majority' '' "$work/majority" deal 3
 try 'show deal --even 3 majority' '' "$work/majority" deal --even 3
 try 'show world majority' '' "$work/script" world
+try 'show story' '' "$work/story" world
 try 'show picture load majority' '' "$work/majority" picture load
 try 'show report majority' '' "$work/majority" report
 try 'show without' '' "$work/majority.toml" without v0
