@@ -35,7 +35,7 @@ def is_library(crate):
 
 
 class Copy:
-    """A copy of some crates and all crates below them, without their wrong bodies, in which one command works."""
+    """A copy of some crates and all crates below them, without their wrong bodies."""
 
     def __init__(self, folder, log, wanted):
         self.folder, self.log, self.wanted, self.crates = folder, log, wanted, below(wanted)
@@ -66,7 +66,3 @@ class Copy:
         """Starts a command in the copy, and returns it. What it prints goes to this log."""
         with open(log, "w", encoding="utf-8") as to:
             return subprocess.Popen(words, cwd=os.path.join(self.folder, inside), stdin=subprocess.DEVNULL, stdout=to, stderr=to)
-
-    def start(self, words, inside="."):
-        """Starts the command of the copy. What it prints goes to the log."""
-        self.run = self.command(words, self.log, inside)
