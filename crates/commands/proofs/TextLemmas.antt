@@ -9,7 +9,7 @@ use Rattle.dealer.specs.declared.receipt.Receipt.{Receipt}
 use Rattle.dealer.specs.Offices.{receipt_of}
 use Rattle.numbers.proofs.CountLemmas.{flat_map-range_more}
 use Rattle.plan_inputs.specs.Inputs.{PlannedSystem}
-use Rattle.commands.specs.Commands.{account_text, deal_text, ratio_part, receipt_line, ticket_line, ticket_lines}
+use Rattle.commands.specs.Commands.{account_text, deal_text, ratio_part, receipt_line, ticket_line}
 
 -- what was written for the numbers below n, and then the line of n
 pub flat_map-more_lines : (line : ℕ → List ℕ) (n : ℕ) (before now after : List ℕ) → now ≡ before ++ flat_map line (range_with_len 0 n) → after ≡ now ++ line n → after ≡ before
@@ -25,12 +25,10 @@ receipt_lines w [] = refl
 receipt_lines w (t ∷ ts) = ap (λ rest. ticket_line w t ++ rest) (receipt_lines w ts)
 
 -- the lines of the receipts, behind them those of the account, and its ratio
-pub deal_text-joined : (p : PlannedSystem) (n : ℕ) (receipts : List Receipt) (account : Account) (start tickets counted all : List ℕ) → receipts ≡ map (receipt_of p.plan) (range_with_len 0 n)
-    → account ≡ account_of p.plan (range_with_len 0 n) → start ≡ []
-    → tickets ≡ start ++ flat_map receipt_line receipts → counted ≡ tickets ++ account_text p.named.names account → all ≡ counted ++ ratio_part p.named.capacities account → all ≡ deal_text p n
+pub deal_text-joined : (p : PlannedSystem) (n : ℕ) (receipts : List Receipt) (account : Account) → receipts ≡ map (receipt_of p.plan) (range_with_len 0 n)
+    → account ≡ account_of p.plan (range_with_len 0 n)
+    → flat_map receipt_line receipts ++ (account_text p.named.names account ++ ratio_part p.named.capacities account) ≡ deal_text p n
 unfolding deal_text
-deal_text-joined p n receipts account start tickets counted all drawn counts empty dealt closed ended =
-    let lines : tickets ≡ ticket_lines p.plan n = dealt ∙ ap (λ t. t ++ flat_map receipt_line receipts) empty ∙ ap (flat_map receipt_line) drawn ∙ receipt_lines p.plan (range_with_len 0 n) in
-    ended ∙ ap (λ t. t ++ ratio_part p.named.capacities account) closed
-    ∙ append_assoc tickets (account_text p.named.names account) (ratio_part p.named.capacities account)
-    ∙ ap₂ (λ (t : List ℕ) (a : Account). t ++ (account_text p.named.names a ++ ratio_part p.named.capacities a)) lines counts
+deal_text-joined p n receipts account drawn counts =
+    ap₂ (λ (t : List ℕ) (a : Account). t ++ (account_text p.named.names a ++ ratio_part p.named.capacities a))
+        (ap (flat_map receipt_line) drawn ∙ receipt_lines p.plan (range_with_len 0 n)) counts

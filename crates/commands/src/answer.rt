@@ -12,7 +12,7 @@ ghost use Rattle.commands.specs.Faults.{IsBeforeScript, IsOfFile};
 
 use crate::dealing::dealt;
 use crate::fault::Fault;
-use crate::lines::{load_line_of, push_account, push_ratio, push_receipts, record_lines_of};
+use crate::lines::{deal_lines_of, load_line_of, record_lines_of};
 use crate::parts::split_part;
 use certificate::Plan;
 use command_line::{Command, Shape};
@@ -102,11 +102,7 @@ fn deal_text_of(alloc: Global, planned: Planned, count: u64) -> Result<String, A
     let Planned { named, plan } = planned;
     let (account, receipts) = dealt(alloc, plan, count)?;
     let _ = named.coterie();
-    let mut text = String::new(alloc);
-    push_receipts(&mut text, &receipts)?;
-    push_account(&mut text, &named, &account)?;
-    push_ratio(&mut text, named.capacities(), &account)?;
-    Ok(text)
+    deal_lines_of(alloc, &named, &receipts, &account)
 }
 
 /// Returns the coterie of a shape and its sizes.

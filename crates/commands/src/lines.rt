@@ -55,7 +55,7 @@ pub fn load_line_of(alloc: Global, load: (u64, u64), cycle_len: u64) -> Result<S
 }
 
 /// Adds a line for each receipt to the text.
-pub fn push_receipts(text: &mut String, receipts: &[Receipt]) -> Result<(), AllocError>
+fn push_receipts(text: &mut String, receipts: &[Receipt]) -> Result<(), AllocError>
     ensures { OnOk result (string_bytes text.new
         ≡ string_bytes text.old ++ flat_map receipt_line receipts.now) }
 {
@@ -100,6 +100,25 @@ pub fn push_ratio(
     }
     let (count, capacity) = account.ratio;
     write!(text, "ratio {count}/{capacity}\n")
+}
+
+/// Returns the lines of a deal: those of its receipts, of its account, and of its ratio.
+pub fn deal_lines_of(
+    alloc: Global,
+    named: &Named,
+    receipts: &[Receipt],
+    account: &Account,
+) -> Result<String, AllocError>
+    requires named { IsNamed named.now }
+    requires one_each { length account.now.voters ≡ named.now.system.voters }
+    ensures { IfOk result (λ text. string_bytes text ≡ flat_map receipt_line receipts.now
+        ++ (account_text named.now.names account.now ++ ratio_part named.now.capacities account.now)) }
+{
+    let mut text = String::new(alloc);
+    push_receipts(&mut text, receipts)?;
+    push_account(&mut text, named, account)?;
+    push_ratio(&mut text, named.capacities(), account)?;
+    Ok(text)
 }
 
 /// Returns the lines of a record: how many tickets were drawn, their account, and the register.
