@@ -216,17 +216,20 @@ RefusesToRunWorld input (faults.Replay (BadLine line)) = IsBadScript input line
 RefusesToRunWorld input (faults.Replay fault) = ⊥
 RefusesToRunWorld input fault = staged_in input ≡ Err fault
 
--- the third part is the text of a sound record by the plan that the parts before it describe, and
--- the output is what the record says
+-- the text is that of a sound record by the plan, and the output is what the record says
+pub record IsReplayedText (p : PlannedSystem) (text output : List ℕ) : Type 0 where
+  pub entries : Entries
+  pub has_text : HasText entries
+  pub written : text ≡ record_text entries
+  pub sound : IsSoundRecord p.plan entries
+  pub output_is : output ≡ replay_text p entries
+
+-- so is the third part, by the plan that the parts before it describe
 pub record IsReplayed (input output : List ℕ) : Type 0 where
   pub planned : PlannedSystem
   pub text : List ℕ
   pub parts : staged_in input ≡ Ok (planned, text)
-  pub entries : Entries
-  pub has_text : HasText entries
-  pub written : text ≡ record_text entries
-  pub sound : IsSoundRecord planned.plan entries
-  pub output_is : output ≡ replay_text planned entries
+  pub replayed : IsReplayedText planned text output
 
 -- the text is that of a record, and this is the record's first fault by the plan
 abbrev pub IsUnsoundText : Weighted → List ℕ → ReplayFault → Type 0

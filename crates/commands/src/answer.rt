@@ -1,12 +1,12 @@
 //! What each command writes for its input.
-ghost use Rattle.std.specs.Prelude.{◌≡◌, ◌≤◌, ◌<◌, length, IfErr, IfOk, string_bytes};
+ghost use Rattle.std.specs.Prelude.{◌≡◌, ◌≤◌, ◌<◌, ◌⊎◌, length, IfErr, IfOk, string_bytes};
 ghost use Rattle.numbers.specs.Bounds.{max_tickets};
 ghost use Rattle.construct.specs.Answers as construct_answers;
 ghost use Rattle.certificate.specs.Certificates.{cycle_len};
 ghost use Rattle.dealer.specs.Accounts.{account_of};
 ghost use Rattle.replay.specs.Records.{IsFirstFault, IsSoundRecord, entries_of, tickets_of};
 ghost use Rattle.plan_inputs.specs.Inputs.{parts_of};
-ghost use Rattle.commands.specs.Commands.{Gives, IsAnswered, IsServed, check_answer_of, check_text, coterie_part, deal_answer_of, deal_text, make_answer_of, numbered_text, planned_in, planned_parts, shape_at, staged_in};
+ghost use Rattle.commands.specs.Commands.{Gives, IsAnswered, IsBadRecordText, IsReplayedText, IsServed, check_answer_of, check_text, coterie_part, deal_answer_of, deal_text, make_answer_of, numbered_text, planned_in, planned_parts, shape_at, staged_in};
 ghost use Rattle.commands.specs.Devices.{IsOwn};
 ghost use Rattle.commands.specs.Faults.{IsBeforeScript, IsOfFile};
 
@@ -209,6 +209,21 @@ fn account_of_record(alloc: Global, plan: &Plan, run: &RunRecord) -> Result<Acco
     check_record(alloc, plan, Side::First, run)
 }
 
+/// Returns what the text of a record says by a plan.
+fn replayed(alloc: Global, planned: &Planned, text: &[u8]) -> Result<String, ReplayFault>
+    ensures said { IfOk result (λ page. IsReplayedText (parts_of planned.now) text.now (string_bytes page)) }
+    ensures bad { IfErr result (λ fault. (fault ≡ ReplayFault.OutOfMemory)
+        ⊎ IsBadRecordText planned.now.plan text.now fault) }
+{
+    let run = read_record(alloc, text)?;
+    let account = account_of_record(alloc, &planned.plan, &run)?;
+    let _ = planned.named.coterie();
+    match record_lines_of(alloc, &planned.named, &account, run.register) {
+        Ok(page) => Ok(page),
+        Err(error) => Err(ReplayFault::from(error)),
+    }
+}
+
 /// Returns what `replay` writes for an input: what the record in its third part says.
 fn replay_answer(alloc: Global, input: &[u8]) -> Result<String, Fault>
     ensures exact { IsAnswered string_bytes Command.Replay input.now result }
@@ -218,18 +233,9 @@ fn replay_answer(alloc: Global, input: &[u8]) -> Result<String, Fault>
         Ok(staged) => staged,
         Err(fault) => return Err(fault),
     };
-    let run = match read_record(alloc, text) {
-        Ok(run) => run,
-        Err(fault) => return Err(Fault::from(fault)),
-    };
-    let account = match account_of_record(alloc, &planned.plan, &run) {
-        Ok(account) => account,
-        Err(fault) => return Err(Fault::from(fault)),
-    };
-    let _ = planned.named.coterie();
-    match record_lines_of(alloc, &planned.named, &account, run.register) {
-        Ok(text) => Ok(text),
-        Err(_) => Err(Fault::OutOfMemory),
+    match replayed(alloc, &planned, text) {
+        Ok(page) => Ok(page),
+        Err(fault) => Err(Fault::from(fault)),
     }
 }
 
