@@ -13,7 +13,7 @@ use Rattle.numbers.proofs.SetLemmas.{has-tail, Ascends-all_below}
 use Rattle.numbers.proofs.SumsBelow.{sum_below-add, sum_below-cross, sum_below-members, sum_below-same, sum_below-times, sum_by-one}
 use Rattle.quorum_set.specs.Coteries.{QuorumSystem, IsCoterie}
 use Rattle.quorum_set.specs.Counts.{count_of}
-use Rattle.quorum_set.specs.Meetings.{AllMeet}
+use Rattle.quorum_set.proofs.Meetings.{AllMeet-coterie}
 use Rattle.certificate.specs.Loads.{weight_on}
 
 -- The quorums have N uses in all: whatever the voters weigh, if each quorum weighs at least the amount `light`, then the
@@ -57,7 +57,7 @@ weight_step : (h : Bool) (b x less : ℕ) → b * (cond h x 0 + less) ≡ x * co
 weight_step true b x less = omega arith
 weight_step false b x less = omega arith
 
-pub Bears-weights : (n : ℕ) (quorums : List (List ℕ)) (weights : List ℕ) → length weights ≡ length quorums
+Bears-weights : (n : ℕ) (quorums : List (List ℕ)) (weights : List ℕ) → length weights ≡ length quorums
     → ((j : ℕ) → j < length quorums → Ascends 0 n (get_or quorums j []))
     → Bears n quorums (sum weights) (λ i. weight_on i quorums weights)
 Bears-weights n [] [] long up weight light each = omega arith
@@ -107,13 +107,12 @@ module _ (s : QuorumSystem) (uses p q : ℕ) (count capacity : ℕ → ℕ) (bea
       omega (arith, scaled, high, same)
 
   -- the members of one quorum weigh 1, and the others nothing
-  pub one_quorum : IsCoterie s → AllMeet s.voters s.quorums → (k : ℕ) → k < length s.quorums
-      → uses * q ≤ p * sum_by capacity (get_or s.quorums k [])
-  one_quorum is meets k below =
+  pub one_quorum : IsCoterie s → (k : ℕ) → k < length s.quorums → uses * q ≤ p * sum_by capacity (get_or s.quorums k [])
+  one_quorum is k below =
       let t = get_or s.quorums k [] in
       let weight : ℕ → ℕ = λ i. cond (has t i) 1 0 in
       let low : uses * 1 ≤ sum_below (λ i. weight i * count i) s.voters = bears weight 1 (λ j lt.
-      let common = meets j k lt below in
+      let common = AllMeet-coterie s is j k lt below in
       let here : weight common.0 ≡ 1 = ap (λ b. cond {A = ℕ} b 1 0) common.3 in
       omega (arith, here, sum_by-has weight (get_or s.quorums j []) common.0 common.2)) in
       let scaled : uses * 1 * q ≤ sum_below (λ i. weight i * count i) s.voters * q = mul-le-mul_right q low in
