@@ -14,7 +14,8 @@ use Rattle.certificate.specs.Certificates.{Weighted, busiest_count, cycle_count,
 use Rattle.certificate.specs.Loads.{weight_within}
 use Rattle.certificate.proofs.RatioLemmas.{greatest_ratio-bound}
 use Rattle.known_loads.specs.SmallestQuorums.{smallest_size, smallest_capacity}
-use Rattle.known_loads.proofs.Duality.{Bears, Bears-cycle, average, one_quorum}
+use Rattle.certificate.proofs.Duality.{Bears}
+use Rattle.known_loads.proofs.Duality.{Bears-cycle, average, one_quorum}
 
 -- Counts without capacities
 

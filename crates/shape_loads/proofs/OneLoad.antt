@@ -1,31 +1,19 @@
 -- Two plans of one coterie for the same capacities have the same load.
 use Rattle.std.proofs.Common.{◌≡◌, ℕ, ◌*◌, ◌<◌, ◌≤◌, get_or, sym, ap, ap₂, subst, ◌∙◌, arith}
-use Rattle.std.proofs.Math.Nat.{mul-le-mul_left, mul-le-mul_right, le_of_mul-le-mul_right, eq_of_mul-eq-mul_left}
+use Rattle.std.proofs.Math.Nat.{mul-le-mul_right, le_of_mul-le-mul_right, eq_of_mul-eq-mul_left}
 use Rattle.divisor.specs.Gcd.{lowest_terms}
 use Rattle.divisor.proofs.GcdLemmas.{lowest_terms-same}
 use Rattle.numbers.specs.Counts.{least_of}
 use Rattle.numbers.specs.Sums.{sum_below}
-use Rattle.numbers.proofs.SumsBelow.{sum_below-le, sum_below-list}
 use Rattle.quorum_set.specs.Coteries.{QuorumSystem, IsCoterie}
 use Rattle.certificate.specs.Certificates.{Weighted, IsCertificate, IsUnitCertificate, busiest_count, capacity_total, cycle_count, cycle_len, cycle_ratio, lightest_quorum, load_of}
 use Rattle.certificate.specs.Certificates.{unit_load, voter_total}
 use Rattle.certificate.specs.Loads.{weight_within}
-use Rattle.certificate.proofs.RatioLemmas.{capacity-some, greatest_ratio-bound, load_of-some}
+use Rattle.certificate.proofs.Optimal.{capacity_total-some}
+use Rattle.certificate.proofs.RatioLemmas.{greatest_ratio-bound, load_of-some}
 use Rattle.certificate.proofs.UnitCapacities.{IsUnitCertificate-IsCertificate, are_unit-unit_capacities, cycle_ratio-are_unit, load_of-are_unit}
 use Rattle.shape_loads.specs.ShapeLoads.{HasLoad, IsUnitPlan}
 use Rattle.shape_loads.proofs.Duality.{weak_duality}
-
--- some voter has a weight, and each capacity is at least 1
-capacity_total-some : (w : Weighted) → IsCertificate w → 0 < capacity_total w
-capacity_total-some w h =
-    let all : sum_below (λ i. get_or w.voter_weights i 0) w.system.voters ≡ voter_total w =
-    subst (λ n. sum_below (λ i. get_or w.voter_weights i 0) n ≡ voter_total w) h.voters (sum_below-list (λ x. x) w.voter_weights) in
-    let more = sum_below-le w.system.voters (λ i. get_or w.voter_weights i 0) (λ i. get_or w.voter_weights i 0 * get_or w.capacities i 0)
-    (λ i lt. at_least (get_or w.voter_weights i 0) (get_or w.capacities i 0) (capacity-some w.capacities w.system.voters h.capacities i lt)) in
-    omega (arith, all, more, h.some_voter)
-  where
-    at_least : (b c : ℕ) → 0 < c → b ≤ b * c
-    at_least b c some = let scaled : b * 1 ≤ b * c = mul-le-mul_left b some in omega (arith, scaled)
 
 -- what the voters' weights of one plan say about the cycle of the other
 across : (v w : Weighted) → IsCertificate w → v.system ≡ w.system → v.capacities ≡ w.capacities

@@ -2,7 +2,7 @@ use Rattle.std.proofs.Common.{length}
 use Rattle.quorum_set.specs.Counts.{count_of}
 use Rattle.certificate.specs.Ratios.{ratio_of}
 use Rattle.certificate.proofs.RatioLemmas.{greatest_ratio-bound}
-use Rattle.known_loads.proofs.Duality.{Bears-list}
+use Rattle.certificate.proofs.Duality.{Bears-list}
 use Rattle.known_loads.proofs.Bounds.{unit_average, average_voter, capacity_average}
 use Rattle.known_loads.proofs.laws.some_voter_bears_the_average.Goals as goal
 
