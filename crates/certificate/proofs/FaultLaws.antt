@@ -6,7 +6,7 @@ use Rattle.quorum_set.specs.Coteries.{IsCoterie}
 use Rattle.certificate.specs.Certificates.{Weighted, IsCertificate, weights_fault, cycle_len, voter_total}
 
 -- a chain of tests answers nothing only where each test fails
-cond_Some-None : {F : Type 0} (b : Bool) (e : F) (rest : Option F) → cond b (Some e) rest ≡ None → (b ≡ false) × (rest ≡ None)
+pub cond_Some-None : {F : Type 0} (b : Bool) (e : F) (rest : Option F) → cond b (Some e) rest ≡ None → (b ≡ false) × (rest ≡ None)
 cond_Some-None true e rest h = cc
 cond_Some-None false e rest h = (refl, h)
 

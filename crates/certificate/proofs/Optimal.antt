@@ -1,46 +1,22 @@
 -- Weights whose loads meet are optimal.
-use Rattle.std.proofs.Common.{◌≡◌, ℕ, ◌+◌, ◌*◌, ◌<◌, ◌≤◌, Bool, true, false, cond, List, [], ◌∷◌, length, get_or, ap, subst, ◌∙◌, arith}
+use Rattle.std.proofs.Common.{◌≡◌, ℕ, ◌*◌, ◌<◌, ◌≤◌, List, [], length, get_or, ap, subst, arith}
 use Rattle.std.specs.List.{All}
-use Rattle.std.proofs.lemmas.List.Sums.{sum_by-cons}
-use Rattle.std.proofs.lemmas.List.Elements.{All-head, All-tail}
-use Rattle.numbers.specs.Sets.{has}
 use Rattle.numbers.specs.Sums.{sum_below}
-use Rattle.quorum_set.specs.Coteries.{QuorumSystem, IsCoterie}
-use Rattle.numbers.proofs.SetLemmas.{Ascends-all_below}
+use Rattle.quorum_set.specs.Coteries.{QuorumSystem}
 use Rattle.std.proofs.Math.Nat.{mul-le-mul_left, mul-le-mul_right, le_of_mul-le-mul_right}
 use Rattle.numbers.proofs.CountLemmas.{least_of-le}
-use Rattle.numbers.proofs.SumsBelow.{sum_below-add, sum_below-cross, sum_below-le, sum_below-list, sum_below-members, sum_below-same}
+use Rattle.numbers.proofs.SumsBelow.{sum_below-cross, sum_below-le, sum_below-list}
 use Rattle.quorum_set.specs.Capacities.{AreCapacities}
 use Rattle.quorum_set.specs.Counts.{count_of}
 use Rattle.certificate.specs.Loads.{weight_within}
-use Rattle.numbers.specs.Counts.{least_of}
 use Rattle.certificate.specs.Certificates.{Weighted, IsCertificate, IsOptimal, cycle_len, cycle_ratio, capacity_total, voter_total, lightest_quorum}
 use Rattle.certificate.specs.Ratios.{ratio_of}
+use Rattle.certificate.proofs.Duality.{Bears-list}
 use Rattle.certificate.proofs.RatioLemmas.{capacity-some, greatest_ratio-bound, greatest_ratio-reached, greatest_ratio-some}
 
 -- each voter's weight as often as the list names the voter
 abbrev weighed : QuorumSystem → List ℕ → List ℕ → ℕ
 weighed s b list = sum_below (λ i. get_or b i 0 * count_of s i list) s.voters
-
-weighed-cons : (s : QuorumSystem) (b : List ℕ) (j : ℕ) (list : List ℕ) → IsCoterie s → j < length s.quorums → weighed s b (j ∷ list) ≡ weight_within b (get_or s.quorums j []) + weighed s b list
-weighed-cons s b j list h lt =
-    let q = get_or s.quorums j [] in
-    let up = Ascends-all_below 0 64 s.voters q (h.sets j [] lt) (h.in_range j [] lt) in
-    let split = sum_below-same s.voters (λ i. get_or b i 0 * count_of s i (j ∷ list)) (λ i. cond (has q i) (get_or b i 0) 0 + get_or b i 0 * count_of s i list)
-    (λ i lt. count_step (has q i) (get_or b i 0) (count_of s i (j ∷ list)) (count_of s i list) (sum_by-cons (λ k. cond (has (get_or s.quorums k []) i) 1 0) j list)) in
-    split ∙ sum_below-add s.voters (λ i. cond (has q i) (get_or b i 0) 0) (λ i. get_or b i 0 * count_of s i list)
-    ∙ ap (λ t. t + weighed s b list) (sum_below-members 0 s.voters (λ i. get_or b i 0) q up)
-  where
-    count_step : (h : Bool) (w more less : ℕ) → more ≡ cond h 1 0 + less → w * more ≡ cond h w 0 + w * less
-    count_step true w more less e = rw e (omega arith)
-    count_step false w more less e = rw e (omega arith)
-
--- each quorum of a list has at least the least weight
-least-weighed : (s : QuorumSystem) (b : List ℕ) (list : List ℕ) → IsCoterie s → All (λ j. j < length s.quorums) list → length list * least_of (weight_within b) s.quorums ≤ weighed s b list
-least-weighed s b [] h small = omega arith
-least-weighed s b (j ∷ list) h small =
-    let lt : j < length s.quorums = All-head (λ j. j < length s.quorums) j list small in
-    omega (arith, weighed-cons s b j list h lt, least_of-le (weight_within b) s.quorums j [] lt, least-weighed s b list h (All-tail (λ j. j < length s.quorums) j list small))
 
 weighed-ratio : (s : QuorumSystem) (capacities b list : List ℕ) → AreCapacities capacities s.voters
     → weighed s b list * (ratio_of s capacities list).1 ≤ (ratio_of s capacities list).0 * sum_below (λ i. get_or b i 0 * get_or capacities i 0) s.voters
@@ -50,7 +26,7 @@ weighed-ratio s capacities b list are =
     (greatest_ratio-bound s.voters capacities (λ i. count_of s i list) are)
 
 -- some voter has a weight, and each capacity is at least 1
-capacity_total-some : (w : Weighted) → IsCertificate w → 0 < capacity_total w
+pub capacity_total-some : (w : Weighted) → IsCertificate w → 0 < capacity_total w
 capacity_total-some w h =
     let all : sum_below (λ i. get_or w.voter_weights i 0) w.system.voters ≡ voter_total w =
     subst (λ n. sum_below (λ i. get_or w.voter_weights i 0) n ≡ voter_total w) h.voters (sum_below-list (λ x. x) w.voter_weights) in
@@ -82,7 +58,7 @@ IsOptimal-certificate w h list small =
     let s = w.system in
     let r = ratio_of s w.capacities list in
     let cycle = cycle_ratio w in
-    let low = least-weighed s w.voter_weights list h.coterie small in
+    let low = Bears-list s list h.coterie small (λ i. get_or w.voter_weights i 0) (lightest_quorum w) (λ j lt. least_of-le (weight_within w.voter_weights) s.quorums j [] lt) in
     let high = weighed-ratio s w.capacities w.voter_weights list h.capacities in
     let met : length list * cycle.0 * r.1 ≤ r.0 * cycle.1 * cycle_len w =
     mul-le_balanced (length list) (lightest_quorum w) (weighed s w.voter_weights list) cycle.0 cycle.1 (capacity_total w) (cycle_len w) r.0 r.1 (capacity_total-some w h) low high h.balanced in

@@ -20,7 +20,7 @@ use Rattle.texts.specs.Lines.{text_of_lines}
 use Rattle.certificate.specs.PlanTexts.{HasDigits, IsShort, PlanContents, contents_of, written_capacities, version_of, load_digits, title_line, load_line, cycle_line, weights_line}
 use Rattle.certificate.specs.PlanTexts.{capacity_lines, lines_of, plan_text, read_title, read_load, read_cycle, read_capacities, read_weights, line_at, capacities_at, ◌>>=◌}
 use Rattle.certificate.specs.PlanTexts.{contents_at, contents_fault, are_given, capacities_fault, unless_fault, judged, weighted_by, plan_at, UnlessOutOfMemory}
-use Rattle.certificate.proofs.FaultLaws.{weights_fault-IsCertificate}
+use Rattle.certificate.proofs.FaultLaws.{cond_Some-None, weights_fault-IsCertificate}
 use Rattle.certificate.proofs.Numbers.{HasDigits-small}
 use Rattle.certificate.proofs.RatioLemmas.{cycle_ratio-small}
 use Rattle.certificate.proofs.UnitCapacities.{cycle_ratio-are_unit}
@@ -264,10 +264,6 @@ unless_Ok (Some d) w p e = cc
 or_None : (o p : Option PlanFault) → option_or o p ≡ None → (o ≡ None) × (p ≡ None)
 or_None None p e = (refl, e)
 or_None (Some d) p e = cc
-
-cond_Some-None : (b : Bool) (e : PlanFault) (rest : Option PlanFault) → cond b (Some e) rest ≡ None → (b ≡ false) × (rest ≡ None)
-cond_Some-None true e rest h = cc
-cond_Some-None false e rest h = (refl, h)
 
 same_lines : (w : Weighted) (t : PlanContents) → contents_fault w t ≡ None → (load_line t.load ≡ load_line (load_of w)) × (cycle_line t.cycle ≡ cycle_line (cycle_len w))
 same_lines w t none =

@@ -4,7 +4,7 @@ use Rattle.std.proofs.Common.{inl, inr, arith, Option, None, Some}
 use Rattle.std.specs.List.{All, list_any, list_all, position}
 use Rattle.std.specs.Option.{option_or, option_map}
 use Rattle.std.specs.Result.{IfErr}
-use Rattle.std.proofs.lemmas.Bool.{true≢false, eqb-true, eq-eqb, ne_eqb, eqb-false, le-ltb, lt-leb, or_cases, or_parts, cases_eq}
+use Rattle.std.proofs.lemmas.Bool.{true≢false, eqb-true, eq-eqb, ne_eqb, eqb-false, le-ltb, lt-leb, or_cases, or_parts}
 use Rattle.std.proofs.lemmas.Nat.{mod_below}
 use Rattle.std.proofs.lemmas.List.{take-append-drop}
 use Rattle.std.proofs.lemmas.List.Elements.{All-head, All-tail}
@@ -16,6 +16,7 @@ use Rattle.quorum_set.specs.declared.fault.CoterieFault.TheVariants.{NoVoters, T
 use Rattle.numbers.proofs.SetLemmas.{has-append}
 use Rattle.construct.specs.Cyclic.{shifted, cyclic_quorums, has_repeat, is_bad_base, as_construct, IsCyclicFault}
 use Rattle.construct.proofs.Quorums.{IsQuorum, IsQuorum-where, All-range}
+use Rattle.construct.proofs.SetLemmas.{eqb_turned}
 
 -- a place on the ring is below n
 moved_below : (n s : ℕ) (base : List ℕ) (v : ℕ) → 0 < n → list_any (λ x. eqb ((x + s) % n) v) base ≡ true → v < n
@@ -97,17 +98,11 @@ or_mixed false true true d = refl
 or_mixed false true false d = refl
 or_mixed false false c d = refl
 
-eqb_turn : (i j : ℕ) → eqb i j ≡ eqb j i
-eqb_turn i j = elim (cases_eq i j) as (λ _. eqb i j ≡ eqb j i) [
-  | inl at ↦ eq-eqb i j at ∙ sym (eq-eqb j i (sym at))
-  | inr off ↦ ne_eqb i j off ∙ sym (ne_eqb j i (λ e. off (sym e)))
-]
-
 pub has_repeat-push : (xs : List ℕ) (y : ℕ) → has_repeat (xs ++ y ∷ []) ≡ (has_repeat xs || has xs y)
 has_repeat-push [] y = refl
 has_repeat-push (x ∷ xs) y =
     ap₂ (λ a b. a || b) (has-append xs (y ∷ []) x) (has_repeat-push xs y)
-    ∙ ap (λ b. (has xs x || (b || false)) || (has_repeat xs || has xs y)) (eqb_turn y x)
+    ∙ ap (λ b. (has xs x || (b || false)) || (has_repeat xs || has xs y)) (eqb_turned y x)
     ∙ or_mixed (has xs x) (eqb x y) (has_repeat xs) (has xs y)
 
 has_repeat-longer : (xs ys : List ℕ) → has_repeat xs ≡ true → has_repeat (xs ++ ys) ≡ true

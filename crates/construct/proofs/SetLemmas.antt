@@ -83,10 +83,6 @@ passed_below-other p i fails =
 pub passed_below-all : (p : ℕ → Bool) → passed_below p 64 ≡ set_where p
 passed_below-all p = set_where-same (λ v. ltb v 64 && p v) p (λ i lt. ap (λ b. b && p i) (lt-ltb i 64 lt))
 
--- the set of a list's numbers below 64, number by number
-pub set_where-nil : [] ≡ set_where (has [])
-set_where-nil = is_set_where [] (has []) tt (λ i lt. refl)
-
 has-more : (xs : List ℕ) (k j : ℕ) → k < length xs → has (take (k + 1) xs) j ≡ (has (take k xs) j || (eqb (get_or xs k 0) j || false))
 has-more xs k j lt = ap (λ t. has t j) (take_more xs k 0 lt) ∙ has-append (take k xs) (get_or xs k 0 ∷ []) j
 
@@ -98,7 +94,7 @@ or_turned false true false e = e
 or_turned false false true e = e
 or_turned false false false e = refl
 
-eqb_turned : (i j : ℕ) → eqb i j ≡ eqb j i
+pub eqb_turned : (i j : ℕ) → eqb i j ≡ eqb j i
 eqb_turned i j = elim (cases_eq i j) as (λ _. eqb i j ≡ eqb j i) [
   | inl at ↦ eq-eqb i j at ∙ sym (eq-eqb j i (sym at))
   | inr off ↦ ne_eqb i j off ∙ sym (ne_eqb j i (λ e. off (sym e)))

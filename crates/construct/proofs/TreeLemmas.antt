@@ -18,7 +18,7 @@ use Rattle.numbers.proofs.Lists.{All-flat_map}
 use Rattle.construct.proofs.Quorums.{IsQuorum, IsCrossing, IsCoterie-from, IsCrossing-from, not_empty-from, AllPairs-append}
 
 -- the nodes below both children have room where those below the node have
-room-of_children : (k i m : ℕ) → (i + 2) * 2 ^ suc k ≤ m → ((2 * i + 1 + 2) * 2 ^ k ≤ m) × ((2 * i + 2 + 2) * 2 ^ k ≤ m) × (2 * i + 4 ≤ m)
+pub room-of_children : (k i m : ℕ) → (i + 2) * 2 ^ suc k ≤ m → ((2 * i + 1 + 2) * 2 ^ k ≤ m) × ((2 * i + 2 + 2) * 2 ^ k ≤ m) × (2 * i + 4 ≤ m)
 room-of_children k i m room =
     let twice : 2 ^ suc k ≡ 2 ^ k * 2 = pow-suc 2 k in
     let whole : (i + 2) * (2 ^ k * 2) ≤ m = rw twice at room in
@@ -41,12 +41,12 @@ quorums_under-step (suc k) i some =
     ap (λ n. node_quorums i (quorums_under n (2 * i + 1)) (quorums_under n (2 * i + 2))) less
 
 -- how many there are
-length-pairs : (L R : List (List ℕ)) → length (flat_map (λ p. map (union p) R) L) ≡ length L * length R
-length-pairs [] R = omega arith
-length-pairs (p ∷ L) R =
-    omega (arith, length-append (map (union p) R) (flat_map (λ q. map (union q) R) L), length-map R (union p), length-pairs L R)
+pub length-pairs : {X Y Z : Type 0} (f : X → Y → Z) (xs : List X) (ys : List Y) → length (flat_map (λ x. map (f x) ys) xs) ≡ length xs * length ys
+length-pairs f [] ys = omega arith
+length-pairs f (x ∷ xs) ys =
+    omega (arith, length-append (map (f x) ys) (flat_map (λ z. map (f z) ys) xs), length-map ys (f x), length-pairs f xs ys)
 
-length-node : (i : ℕ) (L R : List (List ℕ)) → length (node_quorums i L R) + 1 ≡ (length L + 1) * (length R + 1)
+pub length-node : (i : ℕ) (L R : List (List ℕ)) → length (node_quorums i L R) + 1 ≡ (length L + 1) * (length R + 1)
 length-node i L R =
     omega (
       arith,
@@ -54,7 +54,7 @@ length-node i L R =
       length-append (map (with_node i) L) (map (with_node i) R),
       length-map L (with_node i),
       length-map R (with_node i),
-      length-pairs L R,
+      length-pairs union L R,
     )
 
 pub length-quorums_under : (h i : ℕ) → length (quorums_under h i) + 1 ≡ 2 ^ (2 ^ h)
@@ -67,11 +67,11 @@ length-quorums_under (suc h) i =
     ∙ sym (pow-add 2 (2 ^ h) (2 ^ h)) ∙ ap (λ n. 2 ^ n) (sym twice)
 
 -- v is a node of the tree of height h under i: from some depth of it, the way up comes to i
-record IsUnder (h i v : ℕ) : Type 0 where
-  room : v + 2 ≤ (i + 2) * 2 ^ h
-  from : i ≤ v
-  depth : ℕ
-  up : (v + 1) / 2 ^ depth ≡ i + 1
+pub record IsUnder (h i v : ℕ) : Type 0 where
+  pub room : v + 2 ≤ (i + 2) * 2 ^ h
+  pub from : i ≤ v
+  pub depth : ℕ
+  pub up : (v + 1) / 2 ^ depth ≡ i + 1
 
 IsUnder-here : (h i : ℕ) → IsUnder h i i
 IsUnder-here h i = record {
@@ -95,7 +95,7 @@ IsUnder-child h i c v which below =
     }
 
 -- no node is under both children
-IsUnder-not_both : (h k i v : ℕ) → IsUnder h (2 * i + 1) v → IsUnder k (2 * i + 2) v → ⊥
+pub IsUnder-not_both : (h k i v : ℕ) → IsUnder h (2 * i + 1) v → IsUnder k (2 * i + 2) v → ⊥
 IsUnder-not_both h k i v left right =
     let d = left.depth in
     let e = right.depth in
@@ -117,16 +117,16 @@ IsUnder-not_both h k i v left right =
     ]
 
 -- a set of nodes of the tree under i, with a member
-record IsPart (h i : ℕ) (q : List ℕ) : Type 0 where
-  set : IsSet q
-  some : (v : ℕ) × (has q v ≡ true)
-  under : (v : ℕ) → has q v ≡ true → IsUnder h i v
+pub record IsPart (h i : ℕ) (q : List ℕ) : Type 0 where
+  pub set : IsSet q
+  pub some : (v : ℕ) × (has q v ≡ true)
+  pub under : (v : ℕ) → has q v ≡ true → IsUnder h i v
 
 -- the sets have a common member, and each has a member that the other has not
-record Crosses (q r : List ℕ) : Type 0 where
-  common : (v : ℕ) × (has q v ≡ true) × (has r v ≡ true)
-  left : (v : ℕ) × (has q v ≡ true) × (has r v ≡ false)
-  right : (v : ℕ) × (has r v ≡ true) × (has q v ≡ false)
+pub record Crosses (q r : List ℕ) : Type 0 where
+  pub common : (v : ℕ) × (has q v ≡ true) × (has r v ≡ true)
+  pub left : (v : ℕ) × (has q v ≡ true) × (has r v ≡ false)
+  pub right : (v : ℕ) × (has r v ≡ true) × (has q v ≡ false)
 
 record Meets (q r : List ℕ) : Type 0 where
   common : (v : ℕ) × (has q v ≡ true) × (has r v ≡ true)
@@ -302,15 +302,21 @@ meets_any h i L parts pairs a d la b e lb =
           ]
     ])
 
+-- what holds of the three kinds of a node's quorums holds of all
+pub All-node : (P : List ℕ → Type 0) (i : ℕ) (L R : List (List ℕ)) → All (λ s. P (with_node i s)) L → All (λ s. P (with_node i s)) R
+    → All (λ p. All (λ q. P (union p q)) R) L → All P (node_quorums i L R)
+All-node P i L R left right pairs =
+    All-append P (map (with_node i) L ++ map (with_node i) R) (flat_map (λ p. map (union p) R) L)
+    (All-append P (map (with_node i) L) (map (with_node i) R) (All-map P (with_node i) L left) (All-map P (with_node i) R right))
+    (All-flat_map P (λ p. map (union p) R) L (λ k d lt. All-map P (union (get_or L k d)) R (pairs k d lt)))
+
 -- the quorums of a node, from those of its children
 node_parts : (h i : ℕ) (L R : List (List ℕ)) → i < 64 → All (IsPart h (2 * i + 1)) L → All (IsPart h (2 * i + 2)) R → All (IsPart (suc h) i) (node_quorums i L R)
 node_parts h i L R lt left right =
-    All-append (IsPart (suc h) i) (map (with_node i) L ++ map (with_node i) R) (flat_map (λ p. map (union p) R) L)
-    (All-append (IsPart (suc h) i) (map (with_node i) L) (map (with_node i) R)
-    (All-map (IsPart (suc h) i) (with_node i) L (λ k d lk. IsPart-with h i (2 * i + 1) (get_or L k d) lt (inl refl) (left k d lk)))
-    (All-map (IsPart (suc h) i) (with_node i) R (λ k d lk. IsPart-with h i (2 * i + 2) (get_or R k d) lt (inr refl) (right k d lk))))
-    (All-flat_map (IsPart (suc h) i) (λ p. map (union p) R) L (λ k d lk.
-    All-map (IsPart (suc h) i) (union (get_or L k d)) R (λ j e lj. IsPart-union h i (get_or L k d) (get_or R j e) (left k d lk) (right j e lj))))
+    All-node (IsPart (suc h) i) i L R
+    (λ k d lk. IsPart-with h i (2 * i + 1) (get_or L k d) lt (inl refl) (left k d lk))
+    (λ k d lk. IsPart-with h i (2 * i + 2) (get_or R k d) lt (inr refl) (right k d lk))
+    (λ k d lk j e lj. IsPart-union h i (get_or L k d) (get_or R j e) (left k d lk) (right j e lj))
 
 module _ (h i : ℕ) (L R : List (List ℕ)) (lt : i < 64) (left : All (IsPart h (2 * i + 1)) L) (right : All (IsPart h (2 * i + 2)) R) (lefts : AllPairs Crosses L) (rights : AllPairs Crosses R) where
   unions : List (List ℕ)
@@ -352,9 +358,9 @@ module _ (h i : ℕ) (L R : List (List ℕ)) (lt : i < 64) (left : All (IsPart h
   node_pairs = AllPairs-append Crosses (map (with_node i) L ++ map (with_node i) R) (flat_map (λ p. map (union p) R) L) pairs_with pairs_union across
 
 -- the quorums under a node
-record IsTreeList (h i : ℕ) (qs : List (List ℕ)) : Type 0 where
-  parts : All (IsPart h i) qs
-  pairs : AllPairs Crosses qs
+pub record IsTreeList (h i : ℕ) (qs : List (List ℕ)) : Type 0 where
+  pub parts : All (IsPart h i) qs
+  pub pairs : AllPairs Crosses qs
 
 leaf_part : (i : ℕ) → i < 64 → IsPart 0 i (set_where (λ v. eqb v i))
 leaf_part i lt = record {
@@ -363,7 +369,7 @@ leaf_part i lt = record {
   under = λ v there. rw (eqb-true v i (has-passed (λ w. eqb w i) v there).1) (IsUnder-here 0 i);
 }
 
-IsTreeList-under : (h i : ℕ) → (i + 2) * 2 ^ h ≤ 65 → IsTreeList h i (quorums_under h i)
+pub IsTreeList-under : (h i : ℕ) → (i + 2) * 2 ^ h ≤ 65 → IsTreeList h i (quorums_under h i)
 unfolding quorums_under
 IsTreeList-under zero i room = record {
   parts = All-cons (IsPart 0 i) (set_where (λ v. eqb v i)) [] (leaf_part i (omega arith)) (All-nil (IsPart 0 i));

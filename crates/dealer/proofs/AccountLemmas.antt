@@ -11,9 +11,11 @@ use Rattle.quorum_set.specs.Counts.{count_of, busiest_of}
 use Rattle.numbers.specs.Counts.{greatest_below, times}
 use Rattle.certificate.specs.Certificates.{Weighted, IsCertificate, IsUnitOptimal, cycle_len, busiest_count}
 use Rattle.certificate.specs.Loads.{weight_on}
+use Rattle.certificate.specs.Ratios.{ratio_of}
+use Rattle.certificate.proofs.EvenCycles.{count_of-even, busiest_of-even, ratio_of-even}
 use Rattle.dealer.specs.declared.account.Account.{Account}
 use Rattle.dealer.specs.Cycles.{cycle_of, quorum_of_ticket}
-use Rattle.dealer.specs.Accounts.{values_below, quorums_named, account_of, IsWholeCycles}
+use Rattle.dealer.specs.Accounts.{values_below, quorums_named, account_of, ratio_of_cycles, IsWholeCycles}
 use Rattle.numbers.specs.Sums.{sum_below}
 use Rattle.numbers.proofs.SumsBelow.{sum_below-same, sum_below-list, sum_below-periods, length-sum_below, sum_by-each_once}
 use Rattle.dealer.proofs.CycleLemmas.{length-cycle_of, times-cycle_of, cycle_of-lt}
@@ -53,7 +55,7 @@ times-past w (x ∷ xs) j is past =
     omega (arith, times-cons j (quorum_of_ticket w x) (quorums_named w xs), off, times-past w xs j is past)
 
 -- the counts of the quorums, at each number
-pub times-counts : (w : Weighted) (tickets : List ℕ) → IsCertificate w → (j : ℕ)
+times-counts : (w : Weighted) (tickets : List ℕ) → IsCertificate w → (j : ℕ)
     → times j (quorums_named w tickets) ≡ 1 * get_or (values_below (length w.system.quorums) (λ k. times k (quorums_named w tickets))) j 0
 times-counts w tickets is j =
     let n = length w.system.quorums in
@@ -64,6 +66,14 @@ times-counts w tickets is j =
           let past = get_or_past counts j 0 (omega (arith, length-values_below n (λ k. times k (quorums_named w tickets)))) in
           omega (arith, times-past w tickets j is outside, past)
     ]
+
+-- a voter's count, by the counts of the quorums taken as weights
+pub count_of-by_quorum : (w : Weighted) (tickets : List ℕ) → IsCertificate w → (i : ℕ)
+    → count_of w.system i (quorums_named w tickets) ≡ weight_on i w.system.quorums (account_of w tickets).quorums
+count_of-by_quorum w tickets is i =
+    let counted : Weighted = record w { quorum_weights = (account_of w tickets).quorums } in
+    let long = length-values_below (length w.system.quorums) (λ j. times j (quorums_named w tickets)) in
+    omega (arith, count_of-even counted 1 (quorums_named w tickets) long (times-counts w tickets is) i)
 
 sum_by-map : (h f : ℕ → ℕ) (xs : List ℕ) → sum_by h (map f xs) ≡ sum_by (λ x. h (f x)) xs
 sum_by-map h f [] = refl
@@ -81,6 +91,13 @@ times-whole w k tickets whole j =
     ∙ sum_by-each_once (k * cycle_len w) tickets whole.in_all whole.each_once (λ x. at_place (x % cycle_len w))
     ∙ sum_below-periods k (cycle_len w) (k * cycle_len w) at_place refl
     ∙ ap (λ t. k * t) (ap (λ n. sum_below at_place n) (sym long) ∙ sum_below-list is_j cycle ∙ times-cycle_of w.quorum_weights j)
+
+-- they use the busiest voter k times as often as one does, and their ratio is k times as great
+pub busiest_of-whole : (w : Weighted) (k : ℕ) (tickets : List ℕ) → IsCertificate w → IsWholeCycles w k tickets → busiest_of w.system (quorums_named w tickets) ≡ k * busiest_count w
+busiest_of-whole w k tickets is whole = busiest_of-even w k (quorums_named w tickets) is.quorums (times-whole w k tickets whole)
+
+pub ratio_of-whole : (w : Weighted) (k : ℕ) (tickets : List ℕ) → IsCertificate w → IsWholeCycles w k tickets → ratio_of w.system w.capacities (quorums_named w tickets) ≡ ratio_of_cycles w k
+ratio_of-whole w k tickets is whole = ratio_of-even w k (quorums_named w tickets) is (times-whole w k tickets whole)
 
 -- the account of k cycles has k times the weights
 pub quorums-whole : (w : Weighted) (k : ℕ) (tickets : List ℕ) → IsCertificate w → IsWholeCycles w k tickets
@@ -106,14 +123,13 @@ values_below-same n f g same =
     fill_by_all g (values_below n f) n 0 (length-values_below n f) (λ i lt. get_or-values_below n f i lt ∙ same i)
 
 -- the voters' counts, summed from those of the quorums
-pub voters-from_quorums : (w : Weighted) (tickets : List ℕ) (s : QuorumSystem) (counts voters : List ℕ)
-    → ((i : ℕ) → count_of w.system i (quorums_named w tickets) ≡ weight_on i w.system.quorums (account_of w tickets).quorums)
+pub voters-from_quorums : (w : Weighted) (tickets : List ℕ) (s : QuorumSystem) (counts voters : List ℕ) → IsCertificate w
     → s ≡ w.system → counts ≡ (account_of w tickets).quorums → voters ≡ values_below s.voters (λ i. weight_on i s.quorums counts)
     → voters ≡ (account_of w tickets).voters
-voters-from_quorums w tickets s counts voters by_quorum same counted summed =
+voters-from_quorums w tickets s counts voters is same counted summed =
     summed
     ∙ ap₂ (λ (t : QuorumSystem) (list : List ℕ). values_below t.voters (λ i. weight_on i t.quorums list)) same counted
-    ∙ sym (values_below-same w.system.voters (λ i. count_of w.system i (quorums_named w tickets)) (λ i. weight_on i w.system.quorums (account_of w tickets).quorums) by_quorum)
+    ∙ sym (values_below-same w.system.voters (λ i. count_of w.system i (quorums_named w tickets)) (λ i. weight_on i w.system.quorums (account_of w tickets).quorums) (count_of-by_quorum w tickets is))
 
 -- an account by its parts
 pub account_of-parts : (w : Weighted) (tickets quorums voters : List ℕ) (busiest : ℕ) (ratio : ℕ × ℕ)

@@ -1,12 +1,12 @@
 -- The quorums of a cycle, and how often each is in it.
-use Rattle.std.proofs.Common.{◌≡◌, ℕ, ◌+◌, ◌-◌, ◌<◌, ◌≤◌, cond, leb, List, ◌++◌, length, get_or, zero, suc, min, sum, filter, sym, refl, ap, ◌∙◌, inl, inr, arith}
+use Rattle.std.proofs.Common.{◌≡◌, ℕ, ◌+◌, ◌-◌, ◌<◌, ◌≤◌, cond, leb, List, ◌++◌, length, get_or, zero, suc, min, sum, sym, refl, ap, ◌∙◌, inl, inr, arith}
 use Rattle.std.specs.List.{flat_map, range_with_len}
-use Rattle.std.proofs.lemmas.Bool.{cases_lt, le-leb, lt-leb, leb-true}
+use Rattle.std.proofs.lemmas.Bool.{cases_lt, le-leb, lt-leb}
 use Rattle.std.proofs.lemmas.List.{get_or_past}
 use Rattle.numbers.specs.Counts.{times}
 use Rattle.dealer.specs.Cycles.{round_of, greatest_weight, cycle_of}
 use Rattle.numbers.proofs.SumsBelow.{sum_below-same, sum_below-list, length-sum_below}
-use Rattle.numbers.proofs.CountLemmas.{sum_by-none_above, filter-all, filter-filter, flat_map-range_more, greatest_below-le, times-append, times-get_or, times-filter, times-filter_above}
+use Rattle.numbers.proofs.CountLemmas.{sum_by-none_above, flat_map-range_more, greatest_below-le, times-append, times-get_or, times-filter, times-filter_above}
 
 -- a round names each quorum once whose weight is at least the round's number, and no other
 pub times-round_of : (weights : List ℕ) (r j : ℕ) → 0 < r → times j (round_of weights r) ≡ cond (leb r (get_or weights j 0)) 1 0
@@ -64,17 +64,6 @@ cycle_of-lt weights i lt =
       | inl inside ↦ inside
       | inr outside ↦ absurd (omega (arith, some, times-cycle_of weights j, get_or_past weights j 0 outside))
     ]
-
--- round 0 would name each quorum
-pub round_of-zero : (weights : List ℕ) → round_of weights 0 ≡ range_with_len 0 (length weights)
-round_of-zero weights =
-    filter-all (λ j. leb 0 (get_or weights j 0)) (range_with_len 0 (length weights)) (λ j. le-leb 0 (get_or weights j 0) (omega arith))
-
--- a round is made of quorums of the round before
-pub round_of-more : (weights : List ℕ) (r : ℕ) → filter (λ j. leb (r + 1) (get_or weights j 0)) (round_of weights r) ≡ round_of weights (r + 1)
-round_of-more weights r =
-    filter-filter (λ j. leb r (get_or weights j 0)) (λ j. leb (r + 1) (get_or weights j 0)) (range_with_len 0 (length weights))
-    (λ j passes. le-leb r (get_or weights j 0) (omega (arith, leb-true (r + 1) (get_or weights j 0) passes)))
 
 -- one round more
 pub flat_map-rounds_more : (weights : List ℕ) (r more : ℕ) → more ≡ r + 1 → flat_map (round_of weights) (range_with_len 1 more) ≡ flat_map (round_of weights) (range_with_len 1 r)

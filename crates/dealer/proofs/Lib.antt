@@ -1,6 +1,6 @@
 pub mod CycleLemmas
 pub mod AccountLemmas
-mod RatioLemmas
+pub mod RatioLemmas
 pub mod TurnLemmas
 mod BlockLemmas
 mod MadeBlocks

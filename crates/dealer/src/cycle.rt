@@ -9,11 +9,8 @@ ghost use Rattle.dealer.specs.Accounts.{account_of, quorums_named, ratio_of_cycl
 
 use crate::account::{Account, counts_of_voters, greatest_of};
 use crate::counts::Counts;
-use crate::laws::{voters_are_counted_by_quorum, whole_cycles_follow_weights};
 use crate::rounds::{Block, Listed, blocks_of, listed_of, lists_of, place_in, quorum_in};
-use certificate::{
-    Plan, greatest_ratio, no_list_has_a_smaller_ratio, unit_capacities_change_nothing,
-};
+use certificate::{Plan, greatest_ratio};
 use std::alloc::{AllocError, Global};
 use std::marker::Model;
 
@@ -154,10 +151,6 @@ impl Cycle {
         ensures least { (k : ℕ) → are_unit self.now.capacities ≡ true → IsWholeCycles self.now k tickets.now →
             IfOk result (λ account. IsLeastBusiest self.now account.drawn account.busiest) }
     {
-        voters_are_counted_by_quorum();
-        whole_cycles_follow_weights();
-        no_list_has_a_smaller_ratio();
-        unit_capacities_change_nothing();
         let quorums = self.counts_of_quorums(alloc, tickets)?;
         let voters = counts_of_voters(alloc, self.plan.coterie(), &quorums)?;
         let busiest = greatest_of(&voters);

@@ -9,8 +9,6 @@ ghost use Rattle.certificate.specs.Ratios.{ratio_of};
 ghost use Rattle.dealer.specs.Cycles.{cycle_of, quorum_of_ticket, GoesByTurns};
 ghost use Rattle.dealer.specs.Accounts.{account_of, quorums_named, ratio_of_cycles, IsWholeCycles};
 
-use certificate::whole_cycles_are_even;
-
 /// A cycle is as long as the weights add up to, and contains each quorum as often as its weight
 /// says. It goes by turns. First comes each quorum once, in the order of their numbers. Then each
 /// quorum with a weight of 2 or more comes a second time, and so on.
@@ -36,9 +34,7 @@ pub fn voters_are_counted_by_quorum()
     ensures { (w : Weighted) (tickets : List ℕ) → IsCertificate w → (i : ℕ) →
         count_of w.system i (quorums_named w tickets)
         ≡ weight_on i w.system.quorums (account_of w tickets).quorums }
-{
-    whole_cycles_are_even();
-}
+{}
 
 /// The tickets of k whole cycles use each quorum k times its weight, and their busiest voter k
 /// times the busiest count. Their ratio is k times the ratio of the cycle.
@@ -51,6 +47,4 @@ pub fn whole_cycles_follow_weights()
     ensures ratio { (w : Weighted) (k : ℕ) (tickets : List ℕ) →
         IsCertificate w → IsWholeCycles w k tickets →
         ratio_of w.system w.capacities (quorums_named w tickets) ≡ ratio_of_cycles w k }
-{
-    whole_cycles_are_even();
-}
+{}

@@ -1,6 +1,5 @@
 -- The excess of an order: voter by voter, by their greatest leads.
-use Rattle.std.proofs.Common.{◌≡◌, ℕ, ◌+◌, ◌*◌, ◌/◌, ◌%◌, ◌<◌, ◌≤◌, true, false, cond, min, ltb, List, [], ◌∷◌, ◌++◌, length, get_or, sum, zero, suc, refl, sym, ap, ap₂, ◌∙◌, subst, inl, inr, arith}
-use Rattle.std.specs.Int.{IsGcd, ◌∣◌}
+use Rattle.std.proofs.Common.{◌≡◌, ℕ, ◌+◌, ◌*◌, ◌/◌, ◌%◌, ◌<◌, ◌≤◌, cond, min, List, [], ◌∷◌, ◌++◌, length, get_or, suc, refl, sym, ap, ap₂, ◌∙◌, subst, inl, inr, arith}
 use Rattle.std.specs.List.Sorted.{IsPermutation}
 use Rattle.std.proofs.lemmas.Bool.{cases_eq, cases_lt}
 use Rattle.std.proofs.lemmas.Grind.{div_ceil_times}
@@ -8,23 +7,15 @@ use Rattle.std.proofs.lemmas.List.{length-append, get_or_append_left, get_or_pus
 use Rattle.std.proofs.lemmas.List.Elements.{All-nil, All-push}
 use Rattle.std.proofs.lemmas.List.FromFn.{length-map-range_with_len}
 use Rattle.std.proofs.lemmas.List.Sorted.{sum_by-IsPermutation, length_permutation}
-use Rattle.std.proofs.lemmas.List.Sums.{sum_by-cons, sum_by-append}
+use Rattle.std.proofs.lemmas.List.Sums.{sum_by-append}
 use Rattle.std.proofs.lemmas.Nat.{mul-le}
-use Rattle.std.proofs.lemmas.Nat.Gcd.{IsGcd-swap, le_of_dvd}
-use Rattle.std.proofs.Math.Nat.{dvd-mul_left, dvd-mul_right, le_of_mul-le-mul_right, mul_comm}
-use Rattle.numbers.specs.Bounds.{max_cycle, max_capacity}
 use Rattle.numbers.specs.Sets.{has}
 use Rattle.quorum_set.specs.Counts.{count_of}
-use Rattle.divisor.specs.Gcd.{lowest_terms}
-use Rattle.divisor.proofs.GcdLemmas.{lowest_terms-exact, lowest_terms-some}
-use Rattle.certificate.specs.Certificates.{Weighted, IsCertificate, cycle_count, cycle_len, cycle_ratio}
-use Rattle.certificate.specs.Loads.{weight_on}
-use Rattle.certificate.specs.Ratios.{greatest_fraction, greatest_ratio}
+use Rattle.certificate.specs.Certificates.{Weighted, cycle_len, cycle_ratio}
 use Rattle.even.specs.EvenCycles.{EvenOrder, Row, even_quorum, window, quorums_of_rows}
 use Rattle.even.specs.Leads.{IsGreatestLead}
 use Rattle.even.specs.Slacks.{slack_unit, IsWithin, IsExcess}
 use Rattle.even.specs.Strides.{with_stride, IsBestOf, IsFirstBest, IsMoreEven}
-use Rattle.even.proofs.StrideLemmas.{dvd_from_coprime}
 use Rattle.even.proofs.WindowLemmas.{repeated-window}
 
 -- the bound for the voters below n
@@ -90,71 +81,10 @@ IsExcessBelow-more o order i excess lead up after some is cap before greatest ro
           (least_step (unit * count_of o.plan.system i (window o first n)) n p capacity lead up f (sym (turned first n) ∙ reached) (within i first n (omega arith)) high);
     }
 
-pub IsExcessBelow-none : (o : EvenOrder) → IsExcessBelow o 0 0
-IsExcessBelow-none o = record {
-  bound = λ i first n lt. absurd (omega arith);
-  least = λ f within. omega arith;
-}
-
 pub IsExcess-all : (o : EvenOrder) (n excess : ℕ) → n ≡ o.plan.system.voters → IsExcessBelow o n excess → IsExcess o excess
 IsExcess-all o n excess all is =
     let whole = subst (λ v. IsExcessBelow o v excess) all is in
     record { bound = whole.bound; least = whole.least }
-
--- How large a ratio is
-
-weight_on-le : (i : ℕ) (qs : List (List ℕ)) (ws : List ℕ) → weight_on i qs ws ≤ sum ws
-weight_on-le i [] ws = omega arith
-weight_on-le i (q ∷ qs) [] = omega arith
-weight_on-le i (q ∷ qs) (x ∷ ws) =
-    elim (has q i) as (λ b. cond b x 0 + weight_on i qs ws ≤ sum (x ∷ ws)) [
-      | true ↦ omega (arith, weight_on-le i qs ws, sum_by-cons (λ y. y) x ws)
-      | false ↦ omega (arith, weight_on-le i qs ws, sum_by-cons (λ y. y) x ws)
-    ]
-
-fraction_small : (p q count cap : ℕ) → IsGcd p q 1 → count * q ≡ p * cap → 0 < cap → (p ≤ count) × (q ≤ cap)
-fraction_small p q count cap lowest same some =
-    let to_cap = dvd_from_coprime p q cap lowest (subst (λ x. q ∣ x) (same ∙ mul_comm p cap) (dvd-mul_left q count)) in
-    let to_count = dvd_from_coprime q p count (IsGcd-swap p q 1 lowest) (subst (λ x. p ∣ x) (sym same) (dvd-mul_right p cap)) in (
-      elim (cases_lt 0 count) [
-        | inl pos ↦ le_of_dvd pos to_count
-        | inr none ↦
-            let zeroed : count ≡ 0 = omega arith in
-            let scaled : p * 1 ≤ p * cap = mul-le p 1 p cap (omega arith) (omega arith) in
-            omega (arith, scaled, same, ap (λ c. c * q) zeroed)
-      ],
-      le_of_dvd some to_cap,
-    )
-
--- the ratio of a cycle has small numbers
-pub ratio_small : (w : Weighted) → IsCertificate w → IsGcd (cycle_ratio w).0 (cycle_ratio w).1 1
-    → ((i : ℕ) × (i < w.system.voters) × (cycle_count w i * (cycle_ratio w).1 ≡ (cycle_ratio w).0 * get_or w.capacities i 0))
-    → ((cycle_ratio w).0 ≤ max_cycle) × ((cycle_ratio w).1 ≤ max_capacity)
-ratio_small w is lowest (i, lt, same) =
-    let capacity = is.capacities.in_range i 0 (omega (arith, is.capacities.one_each)) in
-    let small = fraction_small (cycle_ratio w).0 (cycle_ratio w).1 (cycle_count w i) (get_or w.capacities i 0) lowest same (omega (arith, capacity.0)) in
-    (omega (arith, small.0, weight_on-le i w.system.quorums w.quorum_weights, is.few_quorums), omega (arith, small.1, capacity.1))
-
--- the counts of a cycle, each over the voter's capacity
-abbrev fractions : Weighted → ℕ → ℕ × ℕ
-fractions w i = (cycle_count w i, get_or w.capacities i 0)
-
--- and its second number is not 0
-pub cycle_ratio-some : (w : Weighted) → IsCertificate w → 0 < (cycle_ratio w).1
-unfolding greatest_ratio
-cycle_ratio-some w is =
-    lowest_terms-some (greatest_fraction w.system.voters (fractions w)).0 (greatest_fraction w.system.voters (fractions w)).1
-    (greatest_fraction-some w.system.voters (fractions w) (λ i lt. let capacity = is.capacities.in_range i 0 (omega (arith, is.capacities.one_each)) in omega (arith, capacity.0)))
-  where
-    greatest_fraction-some : (n : ℕ) (f : ℕ → ℕ × ℕ) → ((i : ℕ) → i < n → 0 < (f i).1) → 0 < (greatest_fraction n f).1
-    greatest_fraction-some zero f some = omega arith
-    greatest_fraction-some (suc n) f some =
-        let before = greatest_fraction-some n f (λ i lt. some i (omega arith)) in
-        let last = some n (omega arith) in
-        elim (ltb ((greatest_fraction n f).0 * (f n).1) ((f n).0 * (greatest_fraction n f).1)) as (λ b. 0 < (cond b (f n) (greatest_fraction n f)).1) [
-          | true ↦ last
-          | false ↦ before
-        ]
 
 -- a whole cycle costs each voter at least what it gains
 pub whole_costs : (d p q count cap : ℕ) → count * q ≤ p * cap → (d * q) * count ≤ d * (p * cap)
@@ -277,18 +207,3 @@ count_of-permuted_rows o excess rows list within permuted i lt =
     subst (λ c. slack_unit o.plan * c ≤ get_or o.plan.capacities i 0 * (length list * (cycle_ratio o.plan).0 + length rows * excess)) (sym counts)
     (subst (λ n. slack_unit o.plan * count_of o.plan.system i all ≤ get_or o.plan.capacities i 0 * (n * (cycle_ratio o.plan).0 + length rows * excess)) (sym long)
     (count_of-rows o excess i rows within lt))
-
--- No list as long has a smaller ratio
-
-pub least_ratio : (d k n : ℕ) (ratio r s : ℕ × ℕ) → 0 < d → 0 < ratio.1 → n ≡ k * d → r ≡ lowest_terms (k * ratio.0) ratio.1
-    → n * ratio.0 * s.1 ≤ s.0 * (ratio.1 * d) → r.0 * s.1 ≤ s.0 * r.1
-least_ratio d k n ratio r s some pos long is le =
-    let exact = lowest_terms-exact (k * ratio.0) ratio.1 in
-    let same : r.0 * ratio.1 ≡ k * ratio.0 * r.1 = subst (λ (x : ℕ × ℕ). x.0 * ratio.1 ≡ k * ratio.0 * x.1) (sym is) exact in
-    cross d k n ratio.0 ratio.1 r.0 r.1 s.0 s.1 some pos long same le
-  where
-    cross : (d k n p q x y a b : ℕ) → 0 < d → 0 < q → n ≡ k * d → x * q ≡ k * p * y → n * p * b ≤ a * (q * d) → x * b ≤ a * y
-    cross d k n p q x y a b some pos long same le =
-        let cut : k * p * b ≤ a * q = le_of_mul-le-mul_right {k = d} (omega (arith, ap (λ t. t * p * b) long, le)) some in
-        let scaled : (k * p * b) * y ≤ (a * q) * y = mul-le (k * p * b) y (a * q) y cut (omega arith) in
-        le_of_mul-le-mul_right {k = q} (omega (arith, ap (λ t. t * b) same, scaled)) pos

@@ -14,7 +14,7 @@ use Rattle.numbers.proofs.SumsBelow.{length-sum_below, sum_below-same, sum_below
 use Rattle.divisor.proofs.GcdLemmas.{IsGcd-times}
 
 -- what divides a times s, and has no divisor in common with s, divides a
-pub dvd_from_coprime : (s d a : ℕ) → IsGcd s d 1 → d ∣ a * s → d ∣ a
+dvd_from_coprime : (s d a : ℕ) → IsGcd s d 1 → d ∣ a * s → d ∣ a
 dvd_from_coprime s d zero is h = dvd-zero d
 dvd_from_coprime s d (suc a) is h =
     let scaled = IsGcd-times (suc a) s d 1 (omega arith) is in

@@ -1,9 +1,9 @@
 -- Rows of tickets: what they gain, and how often they use each quorum.
-use Rattle.std.proofs.Common.{◌≡◌, ℕ, ◌+◌, ◌*◌, ◌%◌, ◌<◌, ◌≤◌, Bool, true, false, cond, eqb, List, [], ◌∷◌, ◌++◌, length, get_or, map, zero, suc, sum_by, sym, refl, ap, ap₂, ◌∙◌, arith}
+use Rattle.std.proofs.Common.{◌≡◌, ℕ, ◌+◌, ◌*◌, ◌%◌, ◌<◌, ◌≤◌, Bool, true, false, cond, eqb, List, [], ◌∷◌, ◌++◌, length, get_or, map, zero, suc, sum_by, sym, refl, ap, ap₂, ◌∙◌, arith, add-one}
 use Rattle.std.specs.List.{All, range_with_len}
 use Rattle.std.specs.List.Sorted.{IsPermutation}
 use Rattle.std.proofs.lemmas.List.{length-append}
-use Rattle.std.proofs.lemmas.List.FromFn.{length-map-range_with_len, get_or-map-range_with_len, map-range_with_len_more}
+use Rattle.std.proofs.lemmas.List.FromFn.{length-map-range_with_len, get_or-map-range_with_len, map-range_with_len_more, sum_by-map-range_with_len_more}
 use Rattle.std.proofs.lemmas.List.Elements.{All-from_get_or}
 use Rattle.std.proofs.lemmas.List.Sorted.{sum_by-IsPermutation, length_permutation}
 use Rattle.std.proofs.lemmas.List.Sums.{sum_by-cons}
@@ -13,7 +13,7 @@ use Rattle.numbers.specs.Counts.{greatest_below, times}
 use Rattle.numbers.specs.Sets.{has}
 use Rattle.numbers.specs.Sums.{sum_below}
 use Rattle.numbers.proofs.CountLemmas.{times-append}
-use Rattle.numbers.proofs.SumsBelow.{sum_below-head, sum_below-list, sum_below-periods, sum_below-same}
+use Rattle.numbers.proofs.SumsBelow.{sum_below-list, sum_below-periods, sum_below-same}
 use Rattle.quorum_set.specs.Coteries.{QuorumSystem}
 use Rattle.quorum_set.specs.Counts.{count_of}
 use Rattle.certificate.specs.Certificates.{IsCertificate, cycle_len}
@@ -27,17 +27,8 @@ use Rattle.even.proofs.LeadLemmas.{gained, greatest_lead-is}
 sum_by-map_range : (h q : ℕ → ℕ) (a n : ℕ) → sum_by h (map q (range_with_len a n)) ≡ sum_below (λ t. h (q (a + t))) n
 sum_by-map_range h q a zero = refl
 sum_by-map_range h q a (suc n) =
-    let f : ℕ → ℕ = λ t. h (q (a + t)) in
-    let rest = sum_below-same n (λ t. f (suc t)) (λ t. h (q ((a + 1) + t))) (λ t lt. let e : a + suc t ≡ (a + 1) + t = omega arith in ap (λ x. h (q x)) e) in
-    let first : a + 0 ≡ a = omega arith in
-    omega (
-      arith,
-      sum_by-cons h (q a) (map q (range_with_len (a + 1) n)),
-      sum_by-map_range h q (a + 1) n,
-      sum_below-head n f,
-      rest,
-      ap (λ x. h (q x)) first,
-    )
+    ap (λ m. sum_by h (map q (range_with_len a m))) (sym (add-one n)) ∙ sum_by-map-range_with_len_more h q a n (a + n) refl
+    ∙ ap (λ t. t + h (q (a + n))) (sum_by-map_range h q a n)
 
 map-same : (f g : ℕ → ℕ) (xs : List ℕ) → ((x : ℕ) → f x ≡ g x) → map f xs ≡ map g xs
 map-same f g [] same = refl

@@ -9,8 +9,6 @@ ghost use Rattle.even.specs.EvenCycles.{EvenOrder, Row, window, quorums_of_rows,
 ghost use Rattle.even.specs.Slacks.{IsWithin, slack_unit};
 ghost use Rattle.even.specs.Strides.{IsFirstBest};
 
-use certificate::{no_list_has_a_smaller_ratio, whole_cycles_are_even};
-
 /// Any tickets in a row that are k cycles long use each quorum k times its weight, whichever the
 /// first is.
 ///
@@ -34,10 +32,7 @@ pub fn whole_cycles_begin_anywhere()
         → IsCertificate o.plan → IsOptimal o.plan → IsFair o
         → IsPermutation (quorums_of_rows o (whole_rows o cycles)) list
         → IsLeastRatio o.plan (length list) (ratio_of o.plan.system o.plan.capacities list) }
-{
-    whole_cycles_are_even();
-    no_list_has_a_smaller_ratio();
-}
+{}
 
 /// Several processes use rows of tickets, each from a first ticket of its own, in whatever order.
 /// Together they are within the excess times the number of processes.

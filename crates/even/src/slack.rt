@@ -3,7 +3,7 @@ ghost use Rattle.std.specs.Prelude.{◌≡◌, ◌*◌, ◌<◌, ◌≤◌, slic
 ghost use Rattle.certificate.specs.Certificates.{cycle_ratio};
 ghost use Rattle.even.specs.Slacks.{slack_unit};
 
-use certificate::{Plan, ratios_are_greatest};
+use certificate::Plan;
 
 /// How far tickets in a row are from the plan's load: a fraction, `excess / unit`.
 ///
@@ -22,7 +22,6 @@ pub(crate) fn unit_of(plan: &Plan) -> u64
     ensures value { result ≡ slack_unit plan.now }
     ensures small { result ≤ 1000000000 }
 {
-    ratios_are_greatest();
     plan.cycle_len() * plan.ratio().1
 }
 
@@ -32,6 +31,5 @@ pub(crate) fn share_of(plan: &Plan, voter: u8) -> u64
     requires { voter < plan.now.system.voters }
     ensures { result ≡ (cycle_ratio plan.now).0 * slice_index plan.now.capacities voter }
 {
-    ratios_are_greatest();
     plan.ratio().0 * plan.capacity(voter)
 }

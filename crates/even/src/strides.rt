@@ -13,7 +13,7 @@ ghost use Rattle.even.specs.Strides.{ends_of, stride_at, strides_of, strides_tri
 use crate::leads::greatest_lead;
 use crate::places::quorum_of_place;
 use crate::slack::{share_of, unit_of};
-use certificate::{Plan, ratios_are_greatest, whole_cycles_are_even};
+use certificate::Plan;
 use divisor::gcd;
 use std::alloc::{AllocError, Global};
 
@@ -91,8 +91,6 @@ fn lead_of(plan: &Plan, stride: u64, order: &[usize], voter: u8) -> u64
     ensures { IsGreatestLead plan.now.system voter (slack_unit plan.now)
         ((cycle_ratio plan.now).0 * slice_index plan.now.capacities voter) order.now result }
 {
-    ratios_are_greatest();
-    whole_cycles_are_even();
     greatest_lead(
         plan.coterie(),
         order,

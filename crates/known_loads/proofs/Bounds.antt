@@ -10,11 +10,12 @@ use Rattle.numbers.proofs.CountLemmas.{greatest_below-le, greatest_below-reached
 use Rattle.numbers.proofs.SumsBelow.{sum_below-list, sum_below-one, sum_by-one}
 use Rattle.quorum_set.specs.Capacities.{AreCapacities}
 use Rattle.quorum_set.specs.Coteries.{QuorumSystem, IsCoterie}
-use Rattle.quorum_set.specs.Meetings.{AllMeet}
 use Rattle.certificate.specs.Certificates.{Weighted, busiest_count, cycle_count, cycle_len, cycle_ratio, load_of, unit_load}
 use Rattle.certificate.specs.Loads.{weight_within}
+use Rattle.certificate.proofs.RatioLemmas.{greatest_ratio-bound}
 use Rattle.known_loads.specs.SmallestQuorums.{smallest_size, smallest_capacity}
-use Rattle.known_loads.proofs.Duality.{Bears, Bears-cycle, average, one_quorum}
+use Rattle.certificate.proofs.Duality.{Bears}
+use Rattle.known_loads.proofs.Duality.{Bears-cycle, average, one_quorum}
 
 -- Counts without capacities
 
@@ -28,13 +29,13 @@ module _ (s : QuorumSystem) (is : IsCoterie s) (uses : ℕ) (count : ℕ → ℕ
       let all : m * sum_below (λ i. 1) s.voters ≡ m * s.voters = ap (λ t. m * t) (sum_below-one s.voters) in
       omega (arith, average s uses m 1 count (λ i. 1) bears unit_bound, all)
 
-  pub unit_smallest : AllMeet s.voters s.quorums → uses ≤ smallest_size s * greatest_below s.voters count
-  unit_smallest meets =
+  pub unit_smallest : uses ≤ smallest_size s * greatest_below s.voters count
+  unit_smallest =
       let m = greatest_below s.voters count in
       let found = least_of-reached length s.quorums is.some_quorum in
       let size : m * sum_by (λ i. 1) (get_or s.quorums found.0 []) ≡ m * smallest_size s =
       ap (λ t. m * t) (sum_by-one (get_or s.quorums found.0 []) ∙ sym found.2) in
-      omega (arith, one_quorum s uses m 1 count (λ i. 1) bears unit_bound is meets found.0 found.1, size)
+      omega (arith, one_quorum s uses m 1 count (λ i. 1) bears unit_bound is found.0 found.1, size)
 
   -- the voter of the greatest count
   pub average_voter : (i : ℕ) × (i < s.voters) × (uses * smallest_size s ≤ s.voters * count i)
@@ -43,11 +44,11 @@ module _ (s : QuorumSystem) (is : IsCoterie s) (uses : ℕ) (count : ℕ → ℕ
       let top : s.voters * greatest_below s.voters count ≡ s.voters * count found.0 = ap (λ t. s.voters * t) found.2 in
       (found.0, found.1, omega (arith, unit_average, top))
 
-  pub smallest_voter : AllMeet s.voters s.quorums → (i : ℕ) × (i < s.voters) × (uses ≤ smallest_size s * count i)
-  smallest_voter meets =
+  pub smallest_voter : (i : ℕ) × (i < s.voters) × (uses ≤ smallest_size s * count i)
+  smallest_voter =
       let found = greatest_below-reached s.voters count is.some_voter in
       let top : smallest_size s * greatest_below s.voters count ≡ smallest_size s * count found.0 = ap (λ t. smallest_size s * t) found.2 in
-      (found.0, found.1, omega (arith, unit_smallest meets, top))
+      (found.0, found.1, omega (arith, unit_smallest, top))
 
 -- Counts with capacities
 
@@ -59,12 +60,12 @@ module _ (s : QuorumSystem) (is : IsCoterie s) (capacities : List ℕ) (are : Ar
       ap (λ t. r.0 * t) (subst (λ n. sum_below (λ i. get_or capacities i 0) n ≡ sum capacities) are.one_each (sum_below-list (λ x. x) capacities)) in
       omega (arith, average s uses r.0 r.1 count (λ i. get_or capacities i 0) bears bound, all)
 
-  pub capacity_smallest : AllMeet s.voters s.quorums → uses * r.1 ≤ smallest_capacity s capacities * r.0
-  capacity_smallest meets =
+  pub capacity_smallest : uses * r.1 ≤ smallest_capacity s capacities * r.0
+  capacity_smallest =
       let found = least_of-reached (weight_within capacities) s.quorums is.some_quorum in
       let least : r.0 * sum_by (λ i. get_or capacities i 0) (get_or s.quorums found.0 []) ≡ r.0 * smallest_capacity s capacities =
       ap (λ t. r.0 * t) (sym found.2) in
-      omega (arith, one_quorum s uses r.0 r.1 count (λ i. get_or capacities i 0) bears bound is meets found.0 found.1, least)
+      omega (arith, one_quorum s uses r.0 r.1 count (λ i. get_or capacities i 0) bears bound is found.0 found.1, least)
 
 -- Loads
 
@@ -85,7 +86,7 @@ lowest_terms-bound p d c n le =
     ]
 
 -- both bounds together
-pub square_bound : (a b c n : ℕ) → c * b ≤ n * a → b ≤ c * a → b * b ≤ n * (a * a)
+square_bound : (a b c n : ℕ) → c * b ≤ n * a → b ≤ c * a → b * b ≤ n * (a * a)
 square_bound a b c n low high =
     let one : b * b ≤ b * (c * a) = mul-le-mul_left b high in
     let two : c * b * a ≤ n * a * a = mul-le-mul_right a low in
@@ -95,26 +96,31 @@ module _ (w : Weighted) (is : IsCoterie w.system) (long : length w.quorum_weight
   pub cycle-average : cycle_len w * smallest_size w.system ≤ w.system.voters * busiest_count w
   cycle-average = unit_average w.system is (cycle_len w) (cycle_count w) (Bears-cycle w.system w.quorum_weights is long)
 
-  pub cycle-smallest : AllMeet w.system.voters w.system.quorums → cycle_len w ≤ smallest_size w.system * busiest_count w
-  cycle-smallest meets = unit_smallest w.system is (cycle_len w) (cycle_count w) (Bears-cycle w.system w.quorum_weights is long) meets
+  pub cycle-smallest : cycle_len w ≤ smallest_size w.system * busiest_count w
+  cycle-smallest = unit_smallest w.system is (cycle_len w) (cycle_count w) (Bears-cycle w.system w.quorum_weights is long)
 
   pub load-average : smallest_size w.system * (unit_load w).1 ≤ w.system.voters * (unit_load w).0
   load-average = lowest_terms-bound (busiest_count w) (cycle_len w) (smallest_size w.system) w.system.voters (omega (arith, cycle-average))
 
-  pub load-smallest : AllMeet w.system.voters w.system.quorums → (unit_load w).1 ≤ smallest_size w.system * (unit_load w).0
-  load-smallest meets =
-      let bound = lowest_terms-bound (busiest_count w) (cycle_len w) 1 (smallest_size w.system) (omega (arith, cycle-smallest meets)) in
+  pub load-smallest : (unit_load w).1 ≤ smallest_size w.system * (unit_load w).0
+  load-smallest =
+      let bound = lowest_terms-bound (busiest_count w) (cycle_len w) 1 (smallest_size w.system) (omega (arith, cycle-smallest)) in
       omega (arith, bound)
 
-module _ (w : Weighted) (is : IsCoterie w.system) (are : AreCapacities w.capacities w.system.voters) (long : length w.quorum_weights ≡ length w.system.quorums)
-    (bound : (i : ℕ) → i < w.system.voters → cycle_count w i * (cycle_ratio w).1 ≤ (cycle_ratio w).0 * get_or w.capacities i 0) where
+  pub load-square : (unit_load w).1 * (unit_load w).1 ≤ w.system.voters * ((unit_load w).0 * (unit_load w).0)
+  load-square = square_bound (unit_load w).0 (unit_load w).1 (smallest_size w.system) w.system.voters load-average load-smallest
+
+module _ (w : Weighted) (is : IsCoterie w.system) (are : AreCapacities w.capacities w.system.voters) (long : length w.quorum_weights ≡ length w.system.quorums) where
+  bound : (i : ℕ) → i < w.system.voters → cycle_count w i * (cycle_ratio w).1 ≤ (cycle_ratio w).0 * get_or w.capacities i 0
+  bound = greatest_ratio-bound w.system.voters w.capacities (cycle_count w) are
+
   pub capacity_load-average : smallest_size w.system * (load_of w).1 ≤ sum w.capacities * (load_of w).0
   capacity_load-average =
       lowest_terms-bound (cycle_ratio w).0 ((cycle_ratio w).1 * cycle_len w) (smallest_size w.system) (sum w.capacities)
       (omega (arith, capacity_average w.system is w.capacities are (cycle_len w) (cycle_count w) (Bears-cycle w.system w.quorum_weights is long) (cycle_ratio w) bound))
 
-  pub capacity_load-smallest : AllMeet w.system.voters w.system.quorums → (load_of w).1 ≤ smallest_capacity w.system w.capacities * (load_of w).0
-  capacity_load-smallest meets =
+  pub capacity_load-smallest : (load_of w).1 ≤ smallest_capacity w.system w.capacities * (load_of w).0
+  capacity_load-smallest =
       let low = lowest_terms-bound (cycle_ratio w).0 ((cycle_ratio w).1 * cycle_len w) 1 (smallest_capacity w.system w.capacities)
-      (omega (arith, capacity_smallest w.system is w.capacities are (cycle_len w) (cycle_count w) (Bears-cycle w.system w.quorum_weights is long) (cycle_ratio w) bound meets)) in
+      (omega (arith, capacity_smallest w.system is w.capacities are (cycle_len w) (cycle_count w) (Bears-cycle w.system w.quorum_weights is long) (cycle_ratio w) bound)) in
       omega (arith, low)

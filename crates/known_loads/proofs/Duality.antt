@@ -1,55 +1,18 @@
 -- Weights of voters bound the counts of voters: the weak duality of linear programs, in whole numbers.
 use Rattle.std.proofs.Common.{◌≡◌, ℕ, ◌+◌, ◌*◌, ◌<◌, ◌≤◌, Bool, true, false, cond, List, [], ◌∷◌, length, get_or, suc, sum, sum_by, sym, ap, ◌∙◌, inl, inr, arith}
-use Rattle.std.specs.List.{All}
 use Rattle.std.proofs.lemmas.Bool.{cases_eq}
 use Rattle.std.proofs.lemmas.List.Sums.{sum_by-cons}
-use Rattle.std.proofs.lemmas.List.Elements.{All-head, All-tail}
 use Rattle.std.proofs.Math.Nat.{mul-le-mul_left, mul-le-mul_right}
 use Rattle.numbers.specs.Counts.{least_of}
 use Rattle.numbers.specs.Sets.{has, Ascends}
 use Rattle.numbers.specs.Sums.{sum_below}
 use Rattle.numbers.proofs.CountLemmas.{least_of-le}
-use Rattle.numbers.proofs.SetLemmas.{has-tail, Ascends-all_below}
+use Rattle.numbers.proofs.SetLemmas.{has-tail}
 use Rattle.numbers.proofs.SumsBelow.{sum_below-add, sum_below-cross, sum_below-members, sum_below-same, sum_below-times, sum_by-one}
 use Rattle.quorum_set.specs.Coteries.{QuorumSystem, IsCoterie}
-use Rattle.quorum_set.specs.Counts.{count_of}
-use Rattle.quorum_set.specs.Meetings.{AllMeet}
+use Rattle.quorum_set.proofs.Meetings.{AllMeet-coterie}
 use Rattle.certificate.specs.Loads.{weight_on}
-
--- The quorums have N uses in all: whatever the voters weigh, if each quorum weighs at least the amount `light`, then the
--- voters' counts, each times the voter's weight, add up to at least N times that.
-abbrev pub Bears : ℕ → List (List ℕ) → ℕ → (ℕ → ℕ) → Type 0
-Bears n quorums uses count =
-    (weight : ℕ → ℕ) (light : ℕ) → ((j : ℕ) → j < length quorums → light ≤ sum_by weight (get_or quorums j []))
-    → uses * light ≤ sum_below (λ i. weight i * count i) n
-
--- a quorum as a set of numbers below the number of voters
-quorum-Ascends : (s : QuorumSystem) (j : ℕ) → IsCoterie s → j < length s.quorums → Ascends 0 s.voters (get_or s.quorums j [])
-quorum-Ascends s j is lt = Ascends-all_below 0 64 s.voters (get_or s.quorums j []) (is.sets j [] lt) (is.in_range j [] lt)
-
--- Lists
-
-count_step : (h : Bool) (w more less : ℕ) → more ≡ cond h 1 0 + less → w * more ≡ cond h w 0 + w * less
-count_step true w more less e = rw e (omega arith)
-count_step false w more less e = rw e (omega arith)
-
--- one entry more
-weighed-cons : (s : QuorumSystem) (weight : ℕ → ℕ) (j : ℕ) (list : List ℕ) → IsCoterie s → j < length s.quorums
-    → sum_below (λ i. weight i * count_of s i (j ∷ list)) s.voters
-    ≡ sum_by weight (get_or s.quorums j []) + sum_below (λ i. weight i * count_of s i list) s.voters
-weighed-cons s weight j list is lt =
-    let q = get_or s.quorums j [] in
-    let split = sum_below-same s.voters (λ i. weight i * count_of s i (j ∷ list)) (λ i. cond (has q i) (weight i) 0 + weight i * count_of s i list)
-    (λ i below. count_step (has q i) (weight i) (count_of s i (j ∷ list)) (count_of s i list) (sum_by-cons (λ k. cond (has (get_or s.quorums k []) i) 1 0) j list)) in
-    split ∙ sum_below-add s.voters (λ i. cond (has q i) (weight i) 0) (λ i. weight i * count_of s i list)
-    ∙ ap (λ t. t + sum_below (λ i. weight i * count_of s i list) s.voters) (sum_below-members 0 s.voters weight q (quorum-Ascends s j is lt))
-
-pub Bears-list : (s : QuorumSystem) (list : List ℕ) → IsCoterie s → All (λ j. j < length s.quorums) list
-    → Bears s.voters s.quorums (length list) (λ i. count_of s i list)
-Bears-list s [] is small weight light each = omega arith
-Bears-list s (j ∷ list) is small weight light each =
-    let lt : j < length s.quorums = All-head (λ j. j < length s.quorums) j list small in
-    omega (arith, weighed-cons s weight j list is lt, each j lt, Bears-list s list is (All-tail (λ j. j < length s.quorums) j list small) weight light each)
+use Rattle.certificate.proofs.Duality.{Bears, quorum-Ascends}
 
 -- Weights of quorums
 
@@ -57,7 +20,7 @@ weight_step : (h : Bool) (b x less : ℕ) → b * (cond h x 0 + less) ≡ x * co
 weight_step true b x less = omega arith
 weight_step false b x less = omega arith
 
-pub Bears-weights : (n : ℕ) (quorums : List (List ℕ)) (weights : List ℕ) → length weights ≡ length quorums
+Bears-weights : (n : ℕ) (quorums : List (List ℕ)) (weights : List ℕ) → length weights ≡ length quorums
     → ((j : ℕ) → j < length quorums → Ascends 0 n (get_or quorums j []))
     → Bears n quorums (sum weights) (λ i. weight_on i quorums weights)
 Bears-weights n [] [] long up weight light each = omega arith
@@ -107,13 +70,12 @@ module _ (s : QuorumSystem) (uses p q : ℕ) (count capacity : ℕ → ℕ) (bea
       omega (arith, scaled, high, same)
 
   -- the members of one quorum weigh 1, and the others nothing
-  pub one_quorum : IsCoterie s → AllMeet s.voters s.quorums → (k : ℕ) → k < length s.quorums
-      → uses * q ≤ p * sum_by capacity (get_or s.quorums k [])
-  one_quorum is meets k below =
+  pub one_quorum : IsCoterie s → (k : ℕ) → k < length s.quorums → uses * q ≤ p * sum_by capacity (get_or s.quorums k [])
+  one_quorum is k below =
       let t = get_or s.quorums k [] in
       let weight : ℕ → ℕ = λ i. cond (has t i) 1 0 in
       let low : uses * 1 ≤ sum_below (λ i. weight i * count i) s.voters = bears weight 1 (λ j lt.
-      let common = meets j k lt below in
+      let common = AllMeet-coterie s is j k lt below in
       let here : weight common.0 ≡ 1 = ap (λ b. cond {A = ℕ} b 1 0) common.3 in
       omega (arith, here, sum_by-has weight (get_or s.quorums j []) common.0 common.2)) in
       let scaled : uses * 1 * q ≤ sum_below (λ i. weight i * count i) s.voters * q = mul-le-mul_right q low in

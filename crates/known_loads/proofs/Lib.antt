@@ -1,2 +1,2 @@
-mod Duality
+pub mod Duality
 mod Bounds

@@ -1,4 +1,4 @@
-//! Laws about loads. Each is the contract of a function that only calls laws of other crates.
+//! Laws about loads. Each is the contract of a function with an empty body.
 ghost use Rattle.std.specs.Prelude.{◌≡◌, ◌*◌, ◌<◌, ◌≤◌, ℕ, List, length, sum};
 ghost use Rattle.std.specs.List.{All};
 ghost use Rattle.quorum_set.specs.Capacities.{AreCapacities};
@@ -7,9 +7,6 @@ ghost use Rattle.quorum_set.specs.Counts.{count_of, busiest_of};
 ghost use Rattle.certificate.specs.Certificates.{Weighted, busiest_count, cycle_len, load_of, unit_load};
 ghost use Rattle.certificate.specs.Ratios.{ratio_of};
 ghost use Rattle.known_loads.specs.SmallestQuorums.{smallest_size, smallest_capacity};
-
-use certificate::ratios_are_greatest;
-use quorum_set::coteries_meet;
 
 /// In a list of quorum numbers of a coterie of n voters, some voter's count is at least the list's
 /// length times the size of the smallest quorum, divided by n.
@@ -26,9 +23,7 @@ pub fn some_voter_bears_the_average()
         → IsCoterie s → AreCapacities capacities s.voters → All (λ j. j < length s.quorums) list
         → length list * smallest_size s * (ratio_of s capacities list).1
         ≤ sum capacities * (ratio_of s capacities list).0 }
-{
-    ratios_are_greatest();
-}
+{}
 
 /// In a list of quorum numbers of a coterie, some voter's count is at least the list's length,
 /// divided by the size of the smallest quorum.
@@ -46,10 +41,7 @@ pub fn smallest_quorum_bears_every_entry()
         → IsCoterie s → AreCapacities capacities s.voters → All (λ j. j < length s.quorums) list
         → length list * (ratio_of s capacities list).1
         ≤ smallest_capacity s capacities * (ratio_of s capacities list).0 }
-{
-    coteries_meet();
-    ratios_are_greatest();
-}
+{}
 
 /// A coterie has n voters, and its smallest quorum has c members. Whatever the weights of its quorums
 /// are, the load is at least c / n and at least 1 / c. So its square is at least 1 / n.
@@ -78,7 +70,4 @@ pub fn loads_have_bounds()
     ensures capacity_smallest { (w : Weighted) → IsCoterie w.system → AreCapacities w.capacities w.system.voters
         → length w.quorum_weights ≡ length w.system.quorums
         → (load_of w).1 ≤ smallest_capacity w.system w.capacities * (load_of w).0 }
-{
-    coteries_meet();
-    ratios_are_greatest();
-}
+{}

@@ -53,10 +53,6 @@ module _ {A : Type 0} (f g : A → ℕ) where
       let b : sum_by g xs ≡ g v = omega (arith, sum_by-cons g x xs) in
       omega (arith, less 0 x refl a, sum_by-alone_at xs (λ j u d. less (suc j) u d) i v e b, sum_by-cons f x xs)
 
--- the same where f is nothing at every value at which g is
-pub sum_by-zero_from : {A : Type 0} (f g : A → ℕ) → ((u : A) → g u ≡ 0 → f u ≡ 0) → (l : List A) → sum_by g l ≡ 0 → sum_by f l ≡ 0
-sum_by-zero_from f g less l e = sum_by-zero_from_at f g l (λ i u d. less u) e
-
 pub sum_by-alone : {A : Type 0} (f g : A → ℕ) → ((u : A) → g u ≡ 0 → f u ≡ 0) → (l : List A) (i : ℕ) (v : A) → get_elem? l i ≡ some v → sum_by g l ≡ g v → sum_by f l ≡ f v
 sum_by-alone f g less l i v e h = sum_by-alone_at f g l (λ j u d. less u) i v e h
 
@@ -95,10 +91,6 @@ All-from_weight_past n list none = λ k d lt. lt-from_weight_past n (get_or list
 -- the sum of a list of all numbers below n, for every weighting
 pub sum_by-AreAllBelow : (list : List ℕ) (n : ℕ) → AreAllBelow list n → (h : ℕ → ℕ) → sum_by h list ≡ sum_below h n
 sum_by-AreAllBelow list n all h = sum_by-each_once n list all.in_all all.each_once h
-
--- its numbers are below n
-pub All-from_AreAllBelow : (list : List ℕ) (n : ℕ) → AreAllBelow list n → All (λ i. i < n) list
-All-from_AreAllBelow list n all = All-from_weight_past n list (sum_by-AreAllBelow list n all (weight_past n) ∙ sum_below-weight_past n n (omega arith))
 
 -- a list that has the sum of the numbers below n, for every weighting, is a list of all of them
 pub AreAllBelow-from_sums : (list : List ℕ) (n : ℕ) → ((h : ℕ → ℕ) → sum_by h list ≡ sum_below h n) → AreAllBelow list n

@@ -9,9 +9,6 @@ use Rattle.numbers.proofs.Options.{option_map-None, option_or-None, position-Non
 use Rattle.quorum_set.specs.declared.fault.CoterieFault.TheVariants.{NoVoters, TooManyVoters, NoQuorums, TooManyQuorums, EmptyQuorum, VoterOutOfRange, Disjoint, Contained}
 use Rattle.quorum_set.specs.Coteries.{IsCoterie, first_from, first_outside, first_pair, are_disjoint, is_one_within, fault_if, first_fault}
 
-pub none_some_of : {A : Type 0} {o : Option A} {x : A} → o ≡ Some x → o ≡ None → ⊥
-none_some_of h e = cc
-
 first_from-None : (n : ℕ) (s : List ℕ) → first_from n s ≡ None → All (λ i. i < n) s
 first_from-None n [] e = All-nil (λ i. i < n)
 first_from-None n (i ∷ s) e =

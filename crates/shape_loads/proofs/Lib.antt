@@ -7,7 +7,6 @@ mod Shown
 mod Sums
 mod TreeCounts
 mod TreeLights
-mod TreeSets
 mod Trees
 mod Uniform
 mod Weights

@@ -4,9 +4,10 @@ use Rattle.std.specs.List.{All}
 use Rattle.std.proofs.lemmas.Bool.{cases_eq}
 use Rattle.std.proofs.lemmas.List.Elements.{All-head, All-tail}
 use Rattle.std.proofs.lemmas.List.Sums.{sum_by-cons, sum_by-append}
-use Rattle.numbers.specs.Sets.{has, Ascends}
+use Rattle.numbers.specs.Sets.{has}
 use Rattle.numbers.proofs.SetLemmas.{has-below, has-head, has-tail}
 use Rattle.construct.specs.Majority.{sets_from, choose, majority_system}
+use Rattle.construct.proofs.MajorityLemmas.{IsChoice-sets_from, length-sets_from}
 use Rattle.shape_loads.proofs.Uniform.{IsUniformOf}
 
 -- sets with one more member
@@ -41,33 +42,28 @@ count-none v (q ∷ qs) none =
       count-none v qs (All-tail (λ r. has r v ≡ false) q qs none),
     )
 
--- what the laws of `construct` say of the sets of k of the n numbers from low on
-pub record AreCombinations : Type 0 where
-  pub listed : (low n k : ℕ) → All (λ s. Ascends low (low + n) s × (length s ≡ k)) (sets_from low n k)
-  pub number : (low n k : ℕ) → length (sets_from low n k) ≡ choose n k
-
 -- how many of the sets have their least number
-degree-low : AreCombinations → (low n k : ℕ) → count_by (λ q. has q low) (sets_from low (suc n) (suc k)) ≡ choose n k
+degree-low : (low n k : ℕ) → count_by (λ q. has q low) (sets_from low (suc n) (suc k)) ≡ choose n k
 unfolding sets_from
-degree-low are low n k =
+degree-low low n k =
     let first = map (λ s. low ∷ s) (sets_from (low + 1) n k) in
     let second = sets_from (low + 1) n (suc k) in
     omega (
       arith,
       sum_by-append (λ q. cond {A = ℕ} (has q low) 1 0) first second,
       count-with low (sets_from (low + 1) n k),
-      are.number (low + 1) n k,
-      count-none low second (λ j d lt. has-below (low + 1) (low + 1 + n) _ low (are.listed (low + 1) n (suc k) j d lt).0 (omega arith)),
+      length-sets_from (low + 1) n k,
+      count-none low second (λ j d lt. has-below (low + 1) (low + 1 + n) _ low (IsChoice-sets_from (low + 1) n (suc k) j d lt).ascends (omega arith)),
     )
 
 -- how many of them have a number
-degree-sets_from : AreCombinations → (low n k v : ℕ) → low ≤ v → v ≤ low + n → count_by (λ q. has q v) (sets_from low (suc n) (suc k)) ≡ choose n k
+degree-sets_from : (low n k v : ℕ) → low ≤ v → v ≤ low + n → count_by (λ q. has q v) (sets_from low (suc n) (suc k)) ≡ choose n k
 unfolding sets_from choose
-degree-sets_from are low zero k v from to =
-    let at : low ≡ v = omega arith in subst (λ x. count_by (λ q. has q x) (sets_from low 1 (suc k)) ≡ choose 0 k) at (degree-low are low 0 k)
-degree-sets_from are low (suc n) zero v from to =
+degree-sets_from low zero k v from to =
+    let at : low ≡ v = omega arith in subst (λ x. count_by (λ q. has q x) (sets_from low 1 (suc k)) ≡ choose 0 k) at (degree-low low 0 k)
+degree-sets_from low (suc n) zero v from to =
     elim (cases_eq low v) [
-      | inl at ↦ subst (λ x. count_by (λ q. has q x) (sets_from low (suc (suc n)) 1) ≡ 1) at (degree-low are low (suc n) 0)
+      | inl at ↦ subst (λ x. count_by (λ q. has q x) (sets_from low (suc (suc n)) 1) ≡ 1) at (degree-low low (suc n) 0)
       | inr off ↦
           let first = map (λ s. low ∷ s) (sets_from (low + 1) (suc n) 0) in
           let second = sets_from (low + 1) (suc n) 1 in
@@ -75,12 +71,12 @@ degree-sets_from are low (suc n) zero v from to =
             arith,
             sum_by-append (λ q. cond {A = ℕ} (has q v) 1 0) first second,
             count-with_other low v (sets_from (low + 1) (suc n) 0) off,
-            degree-sets_from are (low + 1) n 0 v (omega arith) (omega arith),
+            degree-sets_from (low + 1) n 0 v (omega arith) (omega arith),
           )
     ]
-degree-sets_from are low (suc n) (suc k) v from to =
+degree-sets_from low (suc n) (suc k) v from to =
     elim (cases_eq low v) [
-      | inl at ↦ subst (λ x. count_by (λ q. has q x) (sets_from low (suc (suc n)) (suc (suc k))) ≡ choose (suc n) (suc k)) at (degree-low are low (suc n) (suc k))
+      | inl at ↦ subst (λ x. count_by (λ q. has q x) (sets_from low (suc (suc n)) (suc (suc k))) ≡ choose (suc n) (suc k)) at (degree-low low (suc n) (suc k))
       | inr off ↦
           let first = map (λ s. low ∷ s) (sets_from (low + 1) (suc n) (suc k)) in
           let second = sets_from (low + 1) (suc n) (suc (suc k)) in
@@ -88,25 +84,25 @@ degree-sets_from are low (suc n) (suc k) v from to =
             arith,
             sum_by-append (λ q. cond {A = ℕ} (has q v) 1 0) first second,
             count-with_other low v (sets_from (low + 1) (suc n) (suc k)) off,
-            degree-sets_from are (low + 1) n k v (omega arith) (omega arith),
-            degree-sets_from are (low + 1) n (suc k) v (omega arith) (omega arith),
+            degree-sets_from (low + 1) n k v (omega arith) (omega arith),
+            degree-sets_from (low + 1) n (suc k) v (omega arith) (omega arith),
           )
     ]
 
-degree-majority : AreCombinations → (n h v : ℕ) → v < n → count_by (λ q. has q v) (sets_from 0 n (h + 1)) ≡ choose (n - 1) h
-degree-majority are zero h v lt = absurd (omega arith)
-degree-majority are (suc n) h v lt =
+degree-majority : (n h v : ℕ) → v < n → count_by (λ q. has q v) (sets_from 0 n (h + 1)) ≡ choose (n - 1) h
+degree-majority zero h v lt = absurd (omega arith)
+degree-majority (suc n) h v lt =
     let less : n ≡ suc n - 1 = omega arith in
-    ap (λ k. count_by (λ q. has q v) (sets_from 0 (suc n) k)) (add-one h) ∙ degree-sets_from are 0 n h v (omega arith) (omega arith)
+    ap (λ k. count_by (λ q. has q v) (sets_from 0 (suc n) k)) (add-one h) ∙ degree-sets_from 0 n h v (omega arith) (omega arith)
     ∙ ap (λ m. choose m h) less
 
-pub IsUniform-majority : AreCombinations → (n : ℕ) → IsUniformOf (n / 2 + 1) (majority_system n)
-IsUniform-majority are n = (
+pub IsUniform-majority : (n : ℕ) → IsUniformOf (n / 2 + 1) (majority_system n)
+IsUniform-majority n = (
   record {
     size = n / 2 + 1;
     degree = choose (n - 1) (n / 2);
-    quorums = λ j d lt. (are.listed 0 n (n / 2 + 1) j d lt).1;
-    voters = λ v lt. degree-majority are n (n / 2) v lt;
+    quorums = λ j d lt. (IsChoice-sets_from 0 n (n / 2 + 1) j d lt).long;
+    voters = λ v lt. degree-majority n (n / 2) v lt;
   },
   refl,
 )

@@ -1,16 +1,19 @@
 -- Weights that show a load p / q: no count is above it, and no quorum weighs less.
-use Rattle.std.proofs.Common.{◌≡◌, ℕ, ◌*◌, ◌<◌, ◌≤◌, [], length, get_or, ap, subst, ◌∙◌, arith}
+use Rattle.std.proofs.Common.{◌≡◌, ℕ, ◌*◌, ◌<◌, ◌≤◌, [], length, get_or, refl, ap, subst, ◌∙◌, arith}
 use Rattle.std.specs.List.{All}
 use Rattle.std.proofs.Math.Nat.{mul-le-mul_right, le_of_mul-le-mul_right}
 use Rattle.numbers.specs.Bounds.{max_cycle}
 use Rattle.numbers.specs.Sums.{sum_below}
-use Rattle.numbers.proofs.CountLemmas.{greatest_below-le, greatest_below-reached, least_of-le, least_of-reached}
-use Rattle.numbers.proofs.SetLemmas.{Ascends-all_below}
-use Rattle.numbers.proofs.SumsBelow.{sum_below-cross, sum_below-list, sum_below-same}
+use Rattle.numbers.proofs.CountLemmas.{greatest_below-le, greatest_below-reached, least_of-reached}
+use Rattle.numbers.proofs.SumsBelow.{sum_below-list, sum_below-same}
+use Rattle.quorum_set.specs.Capacities.{unit_capacities}
 use Rattle.quorum_set.specs.Coteries.{IsCoterie}
 use Rattle.certificate.specs.Certificates.{Weighted, IsUnitCertificate, busiest_count, cycle_count, cycle_len, lightest_quorum, voter_total}
 use Rattle.certificate.specs.Loads.{weight_within}
-use Rattle.shape_loads.proofs.Duality.{weighed}
+use Rattle.certificate.proofs.UnitCapacities.{IsCertificate-IsUnitCertificate, are_unit-unit_capacities, length-unit_capacities}
+use Rattle.shape_loads.specs.ShapeLoads.{HasLoad, IsUnitPlan}
+use Rattle.shape_loads.proofs.Duality.{weak_duality}
+use Rattle.shape_loads.proofs.OneLoad.{HasLoad-shown}
 
 -- the weights are those of a plan except for the balance, and show that the load is p / q
 pub record Shows (p q : ℕ) (w : Weighted) : Type 0 where
@@ -41,15 +44,12 @@ module _ (p q : ℕ) (w : Weighted) (h : Shows p q w) where
   weak =
       let s = w.system in
       let b : ℕ → ℕ = λ i. get_or w.voter_weights i 0 in
-      let low = weighed s.voters b (lightest_quorum w) s.quorums w.quorum_weights h.quorums
-      (λ j d lt. Ascends-all_below 0 64 s.voters _ (h.coterie.sets j d lt) (h.coterie.in_range j d lt))
-      (λ j lt. least_of-le (weight_within w.voter_weights) s.quorums j [] lt) in
-      let high = sum_below-cross s.voters (busiest_count w) 1 b (cycle_count w) (λ i. 1)
+      let low = weak_duality s w.quorum_weights w.voter_weights (λ i. 1) (busiest_count w) 1 h.coterie h.quorums
       (λ i lt. omega (arith, greatest_below-le s.voters (cycle_count w) i lt)) in
       let all : sum_below b s.voters ≡ voter_total w = subst (λ n. sum_below b n ≡ voter_total w) h.voters (sum_below-list (λ x. x) w.voter_weights) in
       let once : busiest_count w * sum_below (λ i. b i * 1) s.voters ≡ busiest_count w * voter_total w =
       ap (λ t. busiest_count w * t) (sum_below-same s.voters (λ i. b i * 1) b (λ i lt. omega arith) ∙ all) in
-      omega (arith, low, high, once)
+      omega (arith, low, once)
 
   busy : busiest_count w * q ≤ p * cycle_len w
   busy =
@@ -66,7 +66,7 @@ module _ (p q : ℕ) (w : Weighted) (h : Shows p q w) where
   both : (busiest_count w * voter_total w ≡ lightest_quorum w * cycle_len w) × (p * voter_total w ≡ q * lightest_quorum w)
   both = squeezed (lightest_quorum w) (cycle_len w) (busiest_count w) (voter_total w) p q h.some_quorum h.some weak busy light
 
-  pub IsUnitCertificate-shows : IsUnitCertificate w
+  IsUnitCertificate-shows : IsUnitCertificate w
   IsUnitCertificate-shows = record {
     coterie = h.coterie;
     quorums = h.quorums;
@@ -78,5 +78,13 @@ module _ (p q : ℕ) (w : Weighted) (h : Shows p q w) where
     balanced = both.0;
   }
 
-  pub shown : p * voter_total w ≡ q * lightest_quorum w
-  shown = both.1
+  pub IsUnitPlan-shows : w.capacities ≡ unit_capacities w.system.voters → IsUnitPlan w.system w
+  IsUnitPlan-shows e = record {
+    certificate = IsCertificate-IsUnitCertificate w (length-unit_capacities w.capacities w.system.voters e) (are_unit-unit_capacities w.capacities w.system.voters e) IsUnitCertificate-shows;
+    system = refl;
+    capacities = e;
+  }
+
+  -- so it is the load of each plan of the coterie
+  pub HasLoad-shows : w.capacities ≡ unit_capacities w.system.voters → (own : Weighted) → IsUnitPlan w.system own → HasLoad p q own
+  HasLoad-shows e own plan = HasLoad-shown w.system w own p q (IsUnitPlan-shows e) plan h.some both.1

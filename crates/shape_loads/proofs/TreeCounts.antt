@@ -1,37 +1,22 @@
 -- By `tree_quorum_weights` no voter of a tree is asked more often than its load says.
-use Rattle.std.proofs.Common.{◌≡◌, ◌⊎◌, ℕ, ◌+◌, ◌*◌, ◌<◌, ◌≤◌, Bool, true, false, cond, ◌||◌, eqb, List, [], ◌∷◌, ◌++◌, length, get_or, map, zero, suc, sum, refl, ap, ap₂, subst}
-use Rattle.std.proofs.Common.{◌∙◌, inl, inr, arith, length-append}
+use Rattle.std.proofs.Common.{◌≡◌, ◌⊎◌, ℕ, ◌+◌, ◌*◌, ◌^◌, ◌<◌, ◌≤◌, Bool, true, false, cond, ◌||◌, eqb, List, [], ◌∷◌, ◌++◌, length, get_or, map, zero, suc, sum, refl, ap, ap₂}
+use Rattle.std.proofs.Common.{inl, inr, arith, length-append}
 use Rattle.std.specs.List.{All, flat_map}
-use Rattle.std.proofs.lemmas.Bool.{cases_Bool, cases_eq, cases_lt, false_from_ne_true, ne_eqb}
+use Rattle.std.proofs.lemmas.Bool.{cases_Bool, cases_eq, false_from_ne_true, ne_eqb}
 use Rattle.std.proofs.lemmas.List.{length-map}
 use Rattle.std.proofs.lemmas.List.Elements.{All-head, All-tail}
 use Rattle.std.proofs.lemmas.List.Sums.{sum_by-cons, sum_by-append}
 use Rattle.std.proofs.Math.Nat.{mul-le-mul_left, mul-le-mul_right}
 use Rattle.numbers.specs.Sets.{has, set_where, union}
-use Rattle.numbers.proofs.SetLemmas.{IsSet-set_where, has-set_where, has-above}
 use Rattle.certificate.specs.Loads.{weight_on}
+use Rattle.certificate.proofs.LoadLemmas.{weight_on-le}
 use Rattle.construct.specs.Tree.{with_node, node_quorums, quorums_under}
+use Rattle.construct.proofs.SetLemmas.{has-failed}
+use Rattle.construct.proofs.TreeLemmas.{IsTreeList-under, IsUnder, IsUnder-not_both, length-node, length-pairs, room-of_children}
 use Rattle.shape_loads.specs.ShapeLoads.{node_weights, tree_quorum_weights}
-use Rattle.shape_loads.proofs.TreeSets.{IsPart-under, IsUnder, IsUnder-not_up, IsUnder-not_both}
 use Rattle.shape_loads.proofs.Weights.{weight_on-append}
 
 -- Lengths and sums of the weights
-
-length-pairs : {X Y Z : Type 0} (f : X → Y → Z) (xs : List X) (ys : List Y) → length (flat_map (λ x. map (f x) ys) xs) ≡ length xs * length ys
-length-pairs f [] ys = omega arith
-length-pairs f (x ∷ xs) ys =
-    omega (arith, length-append (map (f x) ys) (flat_map (λ z. map (f z) ys) xs), length-map ys (f x), length-pairs f xs ys)
-
-length-node_quorums : (i : ℕ) (L R : List (List ℕ)) → length (node_quorums i L R) ≡ length L + length R + length L * length R
-length-node_quorums i L R =
-    omega (
-      arith,
-      length-append (map (with_node i) L ++ map (with_node i) R) (flat_map (λ p. map (union p) R) L),
-      length-append (map (with_node i) L) (map (with_node i) R),
-      length-map L (with_node i),
-      length-map R (with_node i),
-      length-pairs union L R,
-    )
 
 length-node_weights : (k : ℕ) (a : List ℕ) → length (node_weights k a) ≡ length a + length a + length a * length a
 length-node_weights k a =
@@ -54,7 +39,7 @@ length-tree (suc h) i =
     let left = length-tree h (2 * i + 1) in
     let right = length-tree h (2 * i + 2) in
     let pairs : length a * length a ≡ length L * length R = ap₂ (λ x y. x * y) left right in
-    omega (arith, length-node_weights (suc h) a, length-node_quorums i L R, left, right, pairs)
+    omega (arith, length-node_weights (suc h) a, length-node i L R, left, right, pairs)
 
 sum-times : (t : ℕ) (xs : List ℕ) → sum (map (λ x. t * x) xs) ≡ t * sum xs
 sum-times t [] = omega arith
@@ -80,15 +65,6 @@ sum-node_weights k a =
 
 -- Weights on a voter
 
-pub weight_on-le : (v : ℕ) (qs : List (List ℕ)) (a : List ℕ) → weight_on v qs a ≤ sum a
-weight_on-le v [] a = omega arith
-weight_on-le v (q ∷ qs) [] = omega arith
-weight_on-le v (q ∷ qs) (x ∷ a) =
-    elim (has q v) as (λ b. cond b x 0 + weight_on v qs a ≤ sum (x ∷ a)) [
-      | true ↦ omega (arith, weight_on-le v qs a, sum_by-cons (λ y. y) x a)
-      | false ↦ omega (arith, weight_on-le v qs a, sum_by-cons (λ y. y) x a)
-    ]
-
 weight_on-none : (v : ℕ) (qs : List (List ℕ)) (a : List ℕ) → All (λ q. has q v ≡ false) qs → weight_on v qs a ≡ 0
 weight_on-none v [] a none = refl
 weight_on-none v (q ∷ qs) [] none = refl
@@ -107,20 +83,12 @@ weight_on-some v (q ∷ qs) (x ∷ a) some =
           (suc rest.0, omega (arith, rest.1), rest.2)
     ]
 
--- the members of sets by tests
-has-set_where_false : (p : ℕ → Bool) (v : ℕ) → p v ≡ false → has (set_where p) v ≡ false
-has-set_where_false p v e =
-    elim (cases_lt v 64) as (λ _. has (set_where p) v ≡ false) [
-      | inl lt ↦ has-set_where p v lt ∙ e
-      | inr ge ↦ has-above 0 64 (set_where p) v (IsSet-set_where p) ge
-    ]
-
 -- a weight counts for a set by a test only if its number passes
 cond-set_where : (p : ℕ → Bool) (v x : ℕ) → cond (has (set_where p) v) x 0 ≤ cond (p v) x 0
 cond-set_where p v x =
     elim (cases_Bool (p v)) as (λ _. cond (has (set_where p) v) x 0 ≤ cond (p v) x 0) [
       | inl passes ↦ omega (arith, ap (λ b. cond b x 0) passes, at_most (has (set_where p) v) x)
-      | inr fails ↦ omega (arith, ap (λ b. cond b x 0) (has-set_where_false p v fails))
+      | inr fails ↦ omega (arith, ap (λ b. cond b x 0) (has-failed p v fails))
     ]
   where
     at_most : (b : Bool) (x : ℕ) → cond b x 0 ≤ x
@@ -178,24 +146,22 @@ weight_on-pairs v k (p ∷ L) R (x ∷ a) b long other =
 
 -- The count of a voter
 
--- a number that is in no quorum
-has-not : (q : List ℕ) (v : ℕ) → (has q v ≡ true → ⊥) → has q v ≡ false
-has-not q v absent = false_from_ne_true (has q v) absent
-
-weight_on-outside : (c v h : ℕ) → (IsUnder c v → ⊥) → weight_on v (quorums_under h c) (tree_quorum_weights h) ≡ 0
-weight_on-outside c v h off =
+-- a voter that is not below a node is in none of its quorums
+weight_on-outside : (c v h : ℕ) → (c + 2) * 2 ^ h ≤ 65 → (IsUnder h c v → ⊥) → weight_on v (quorums_under h c) (tree_quorum_weights h) ≡ 0
+weight_on-outside c v h room off =
     weight_on-none v (quorums_under h c) (tree_quorum_weights h)
-    (λ j d lt. has-not (get_or (quorums_under h c) j d) v (λ there. off ((IsPart-under h c j d lt).under v there)))
+    (λ j d lt. false_from_ne_true (has (get_or (quorums_under h c) j d) v) (λ there. off (((IsTreeList-under h c room).parts j d lt).under v there)))
 
 -- a voter has weight below one child at most
-one_side : (h i v : ℕ) → (weight_on v (quorums_under h (2 * i + 1)) (tree_quorum_weights h) ≡ 0) ⊎ (weight_on v (quorums_under h (2 * i + 2)) (tree_quorum_weights h) ≡ 0)
-one_side h i v =
+one_side : (h i v : ℕ) → (2 * i + 1 + 2) * 2 ^ h ≤ 65 → (2 * i + 2 + 2) * 2 ^ h ≤ 65
+    → (weight_on v (quorums_under h (2 * i + 1)) (tree_quorum_weights h) ≡ 0) ⊎ (weight_on v (quorums_under h (2 * i + 2)) (tree_quorum_weights h) ≡ 0)
+one_side h i v left_room right_room =
     elim (cases_eq (weight_on v (quorums_under h (2 * i + 1)) (tree_quorum_weights h)) 0) [
       | inl none ↦ inl none
       | inr some ↦
           let found = weight_on-some v (quorums_under h (2 * i + 1)) (tree_quorum_weights h) some in
-          let left = (IsPart-under h (2 * i + 1) found.0 [] found.1).under v found.2 in
-          inr (weight_on-outside (2 * i + 2) v h (λ right. IsUnder-not_both i v left right))
+          let left = ((IsTreeList-under h (2 * i + 1) left_room).parts found.0 [] found.1).under v found.2 in
+          inr (weight_on-outside (2 * i + 2) v h right_room (λ right. IsUnder-not_both h h i v left right))
     ]
 
 -- a node's count, from those of its children's quorums
@@ -212,10 +178,11 @@ node_count i v k L R a left right =
     omega (arith, outer, inner, weight_on-pairs v k L R a a left right)
 
 -- the count of a voter is at most the load's share of a cycle
-pub count-le : (h i v : ℕ) → weight_on v (quorums_under h i) (tree_quorum_weights h) * (h + 2) ≤ 2 * sum (tree_quorum_weights h)
+pub count-le : (h i v : ℕ) → (i + 2) * 2 ^ h ≤ 65 → weight_on v (quorums_under h i) (tree_quorum_weights h) * (h + 2) ≤ 2 * sum (tree_quorum_weights h)
 unfolding quorums_under tree_quorum_weights
-count-le zero i v = omega (arith, weight_on-le v (set_where (λ w. eqb w i) ∷ []) (1 ∷ []))
-count-le (suc h) i v =
+count-le zero i v room = omega (arith, weight_on-le v (set_where (λ w. eqb w i) ∷ []) (1 ∷ []))
+count-le (suc h) i v room =
+    let (left_room, right_room, least) = room-of_children h i 65 room in
     let L = quorums_under h (2 * i + 1) in
     let R = quorums_under h (2 * i + 2) in
     let a = tree_quorum_weights h in
@@ -223,15 +190,15 @@ count-le (suc h) i v =
     let all = sum-node_weights (suc h) a in
     elim (cases_eq v i) as (λ _. weight_on v (node_quorums i L R) (node_weights (suc h) a) * (suc h + 2) ≤ 2 * sum (node_weights (suc h) a)) [
       | inl at ↦
-          let left = weight_on-outside (2 * i + 1) v h (λ below. IsUnder-not_up i (2 * i + 1) (inl refl) (subst (IsUnder (2 * i + 1)) at below)) in
-          let right = weight_on-outside (2 * i + 2) v h (λ below. IsUnder-not_up i (2 * i + 2) (inr refl) (subst (IsUnder (2 * i + 2)) at below)) in
+          let left = weight_on-outside (2 * i + 1) v h left_room (λ below. let low = below.from in omega (arith, low, at)) in
+          let right = weight_on-outside (2 * i + 2) v h right_room (λ below. let low = below.from in omega (arith, low, at)) in
           let first = weight_on-le v (map (with_node i) L) (map (λ x. sum a * x) a) in
           let second = weight_on-le v (map (with_node i) R) (map (λ x. sum a * x) a) in
           at_node h (sum a) _ _ _ _ _ _ whole left right (omega (arith, first, sum-times (sum a) a)) (omega (arith, second, sum-times (sum a) a)) all
       | inr off ↦
           let first = weight_on-with i v (sum a) L a off in
           let second = weight_on-with i v (sum a) R a off in
-          below_node h (sum a) _ _ _ _ _ _ whole first second (one_side h i v) (count-le h (2 * i + 1) v) (count-le h (2 * i + 2) v) all
+          below_node h (sum a) _ _ _ _ _ _ whole first second (one_side h i v left_room right_room) (count-le h (2 * i + 1) v left_room) (count-le h (2 * i + 2) v right_room) all
     ]
   where
     at_node : (h s c l r left right total : ℕ) → c ≤ left + right + suc h * (l * s + s * r) → l ≡ 0 → r ≡ 0 → left ≤ s * s → right ≤ s * s

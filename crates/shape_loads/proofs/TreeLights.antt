@@ -1,17 +1,16 @@
 -- Each quorum of a tree of height h weighs 2 ^ h, by the weights of `tree_voter_weights`.
-use Rattle.std.proofs.Common.{◌≡◌, ℕ, ◌+◌, ◌*◌, ◌^◌, ◌<◌, ◌≤◌, Bool, true, false, cond, ◌||◌, eqb, List, [], ◌∷◌, zero, suc, sum_by, sym, refl, ap, subst, ◌∙◌, inl, inr, arith}
+use Rattle.std.proofs.Common.{◌≡◌, ℕ, ◌+◌, ◌*◌, ◌^◌, ◌<◌, ◌≤◌, Bool, true, false, cond, ◌||◌, eqb, List, [], ◌∷◌, zero, suc, sum_by, sym, refl, ap, subst, ◌∙◌, arith}
 use Rattle.std.specs.List.{All}
 use Rattle.std.proofs.Math.Nat.{pow-suc}
 use Rattle.std.proofs.lemmas.Bool.{eqb-true}
 use Rattle.std.proofs.lemmas.List.Elements.{All-nil, All-cons}
 use Rattle.std.proofs.lemmas.List.Sums.{sum_by-cons}
-use Rattle.std.proofs.lemmas.Nat.{pow_pos, mul-le}
 use Rattle.numbers.specs.Sets.{has, IsSet, set_where, union}
 use Rattle.numbers.proofs.SetLemmas.{IsSet-set_where, has-set_where, is_set_where}
 use Rattle.numbers.proofs.SumsBelow.{sum_below-add, sum_below-members, sum_below-same}
 use Rattle.construct.specs.Tree.{with_node, quorums_under}
+use Rattle.construct.proofs.TreeLemmas.{All-node, IsTreeList-under, IsUnder-not_both, room-of_children}
 use Rattle.shape_loads.proofs.Sums.{eqb_turned}
-use Rattle.shape_loads.proofs.TreeSets.{All-node, IsPart-under, IsUnder-not_up, IsUnder-not_both}
 
 -- the weight of a set that is made of two sets without a common member
 sum_by-joined : (f : ℕ → ℕ) (p q r : List ℕ) → IsSet p → IsSet q → IsSet r → ((v : ℕ) → v < 64 → has r v ≡ (has p v || has q v))
@@ -63,25 +62,17 @@ abbrev pub AreWeights : (ℕ → ℕ) → ℕ → ℕ → Type 0
 AreWeights f zero i = f i ≡ 1
 AreWeights f (suc h) i = (f i ≡ 2 ^ h) × (AreWeights f h (2 * i + 1) × AreWeights f h (2 * i + 2))
 
--- the nodes below both children are below 64 if those below the node are
-room-of_children : (h i : ℕ) → (i + 2) * 2 ^ suc h ≤ 65 → ((2 * i + 1 + 2) * 2 ^ h ≤ 65) × ((2 * i + 2 + 2) * 2 ^ h ≤ 65) × (i < 64)
-room-of_children h i room =
-    let twice : 2 ^ suc h ≡ 2 ^ h * 2 = pow-suc 2 h in
-    let whole : (i + 2) * (2 ^ h * 2) ≤ 65 = rw twice at room in
-    let some = pow_pos h in
-    let least = mul-le (2 * i + 4) 1 (2 * i + 4) (2 ^ h) (omega arith) (omega (arith, some)) in
-    (omega (arith, whole), omega (arith, whole), omega (arith, whole, least))
-
 pub lights-under : (f : ℕ → ℕ) (h i : ℕ) → (i + 2) * 2 ^ h ≤ 65 → AreWeights f h i → All (λ q. sum_by f q ≡ 2 ^ h) (quorums_under h i)
 unfolding quorums_under
 lights-under f zero i room weights =
     All-cons (λ q. sum_by f q ≡ 1) (set_where (λ v. eqb v i)) [] (sum_by-leaf f i (omega arith) ∙ weights) (All-nil (λ q. sum_by f q ≡ 1))
 lights-under f (suc h) i room weights =
-    let rooms = room-of_children h i room in
+    let rooms = room-of_children h i 65 room in
+    let few : i < 64 = omega (arith, rooms.2) in
     let left = lights-under f h (2 * i + 1) rooms.0 weights.1.0 in
     let right = lights-under f h (2 * i + 2) rooms.1 weights.1.1 in
-    let left_part = IsPart-under h (2 * i + 1) in
-    let right_part = IsPart-under h (2 * i + 2) in
+    let left_part = (IsTreeList-under h (2 * i + 1) rooms.0).parts in
+    let right_part = (IsTreeList-under h (2 * i + 2) rooms.1).parts in
     let twice : 2 ^ suc h ≡ 2 ^ h * 2 = pow-suc 2 h in
     All-node (λ q. sum_by f q ≡ 2 ^ suc h) i (quorums_under h (2 * i + 1)) (quorums_under h (2 * i + 2))
     (λ k d lt. omega (
@@ -89,14 +80,14 @@ lights-under f (suc h) i room weights =
       twice,
       weights.0,
       left k d lt,
-      sum_by-with f i _ rooms.2 (left_part k d lt).set (λ there. IsUnder-not_up i (2 * i + 1) (inl refl) ((left_part k d lt).under i there)),
+      sum_by-with f i _ few (left_part k d lt).set (λ there. let low = ((left_part k d lt).under i there).from in omega (arith, low)),
     ))
     (λ k d lt. omega (
       arith,
       twice,
       weights.0,
       right k d lt,
-      sum_by-with f i _ rooms.2 (right_part k d lt).set (λ there. IsUnder-not_up i (2 * i + 2) (inr refl) ((right_part k d lt).under i there)),
+      sum_by-with f i _ few (right_part k d lt).set (λ there. let low = ((right_part k d lt).under i there).from in omega (arith, low)),
     ))
     (λ k d lt j e lj. omega (
       arith,
@@ -104,5 +95,5 @@ lights-under f (suc h) i room weights =
       left k d lt,
       right j e lj,
       sum_by-union f _ _ (left_part k d lt).set (right_part j e lj).set (λ v here there.
-          IsUnder-not_both i v ((left_part k d lt).under v here) ((right_part j e lj).under v there)),
+          IsUnder-not_both h h i v ((left_part k d lt).under v here) ((right_part j e lj).under v there)),
     ))

@@ -129,6 +129,6 @@ Shows-tree h number is =
       some_voter = omega (arith, total, least);
       few_voters = omega (arith, total, most);
       some = omega arith;
-      counts = λ v lt. count-le h 0 v;
+      counts = λ v lt. count-le h 0 v (omega (arith, height));
       lights = λ j d lt. let at = ap (λ x. (h + 2) * x) (lights j d lt) in omega (arith, at, total);
     }

@@ -1,11 +1,8 @@
 -- The load of a uniform coterie.
-use Rattle.std.proofs.Common.{◌≡◌, ℕ, ◌+◌, ◌*◌, ◌<◌, Bool, cond, List, [], ◌∷◌, length, get_or, map, refl, ap, ◌∙◌, arith}
-use Rattle.std.specs.List.{All, range_with_len}
-use Rattle.std.proofs.lemmas.List.{get_or-replicate}
-use Rattle.std.proofs.lemmas.List.Elements.{All-head, All-tail}
+use Rattle.std.proofs.Common.{◌≡◌, ℕ, ◌+◌, ◌*◌, ◌<◌, Bool, cond, List, get_or, map, refl, ap, subst, ◌∙◌, arith}
+use Rattle.std.specs.List.{range_with_len}
 use Rattle.std.proofs.lemmas.List.Folds.{sum_by-replicate}
 use Rattle.std.proofs.lemmas.List.FromFn.{get_or-map-range_with_len, length-map-range_with_len}
-use Rattle.std.proofs.lemmas.List.Sums.{sum_by-cons}
 use Rattle.numbers.specs.Sets.{has}
 use Rattle.numbers.specs.Sums.{sum_below}
 use Rattle.numbers.proofs.SetLemmas.{Ascends-all_below}
@@ -13,31 +10,23 @@ use Rattle.numbers.proofs.SumsBelow.{sum_below-same}
 use Rattle.numbers.proofs.CountLemmas.{least_of-level}
 use Rattle.quorum_set.specs.Capacities.{unit_capacities}
 use Rattle.quorum_set.specs.Coteries.{QuorumSystem, IsCoterie}
-use Rattle.certificate.specs.Certificates.{lightest_quorum, voter_total}
+use Rattle.certificate.specs.Certificates.{Weighted, lightest_quorum, voter_total}
 use Rattle.certificate.specs.Loads.{weight_within}
+use Rattle.certificate.proofs.UnitCapacities.{AreCapacities-unit_capacities}
 use Rattle.planner.specs.Uniform.{AreEqual, IsUniform, ones}
-use Rattle.shape_loads.specs.ShapeLoads.{ones_plan}
+use Rattle.planner.proofs.Ones.{IsCertificate-uniform, weight_within-ones}
+use Rattle.shape_loads.specs.ShapeLoads.{HasLoad, IsUnitPlan, ones_plan}
+use Rattle.shape_loads.proofs.OneLoad.{HasLoad-shown, IsCoterie-plan}
 use Rattle.shape_loads.proofs.Sums.{length-members, sum_by-made}
 
-pub AreEqual-unit_capacities : (n : ℕ) → AreEqual (unit_capacities n)
+AreEqual-unit_capacities : (n : ℕ) → AreEqual (unit_capacities n)
 AreEqual-unit_capacities n = (
   1,
   λ i d lt. get_or-map-range_with_len (λ _. 1) 0 n i i d (omega (arith, lt, length-map-range_with_len {X = ℕ} (λ _. 1) 0 n)) (omega arith),
 )
 
--- the weight of a quorum's members is its size
-weight_within-ones : (n : ℕ) (q : List ℕ) → All (λ i. i < n) q → weight_within (ones n) q ≡ length q
-weight_within-ones n [] h = refl
-weight_within-ones n (x ∷ xs) h =
-    omega (
-      arith,
-      sum_by-cons (λ i. get_or (ones n) i 0) x xs,
-      get_or-replicate {A = ℕ} n x 1 0 (All-head (λ i. i < n) x xs h),
-      weight_within-ones n xs (All-tail (λ i. i < n) x xs h),
-    )
-
 -- all weights 1 show the size of a quorum, divided by the number of voters
-pub ones-shown : (s : QuorumSystem) (u : IsUniform s) → IsCoterie s
+ones-shown : (s : QuorumSystem) (u : IsUniform s) → IsCoterie s
     → u.size * voter_total (ones_plan s) ≡ s.voters * lightest_quorum (ones_plan s)
 ones-shown s u is =
     let total : voter_total (ones_plan s) ≡ s.voters * 1 = sum_by-replicate (λ x. x) s.voters 1 in
@@ -49,6 +38,18 @@ ones-shown s u is =
 -- the coterie is uniform, and its quorums have this size
 abbrev pub IsUniformOf : ℕ → QuorumSystem → Type 0
 IsUniformOf size s = (u : IsUniform s) × (u.size ≡ size)
+
+pub IsUnitPlan-uniform : (s : QuorumSystem) → IsCoterie s → IsUniform s → IsUnitPlan s (ones_plan s)
+IsUnitPlan-uniform s is u = record {
+  certificate = IsCertificate-uniform s (unit_capacities s.voters) is (AreCapacities-unit_capacities s.voters) (AreEqual-unit_capacities s.voters) u;
+  system = refl;
+  capacities = refl;
+}
+
+pub HasLoad-uniform : (s : QuorumSystem) (w : Weighted) (size : ℕ) → IsUniformOf size s → IsUnitPlan s w → HasLoad size s.voters w
+HasLoad-uniform s w size (u, same) own =
+    let is = IsCoterie-plan s w own in
+    subst (λ p. HasLoad p s.voters w) same (HasLoad-shown s (ones_plan s) w u.size s.voters (IsUnitPlan-uniform s is u) own is.some_voter (ones-shown s u is))
 
 -- a coterie of m quorums, made by a function of the place, is uniform if the members' tests are
 pub IsUniform-made : (n m size degree : ℕ) (f : ℕ → List ℕ) (p : ℕ → ℕ → Bool)

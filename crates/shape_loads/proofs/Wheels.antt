@@ -17,10 +17,11 @@ use Rattle.certificate.specs.Certificates.{cycle_count, cycle_len, voter_total}
 use Rattle.certificate.specs.Loads.{weight_on, weight_within}
 use Rattle.construct.specs.Wheel.{spoke, rim, wheel_quorums, wheel_system}
 use Rattle.planner.specs.Uniform.{ones}
+use Rattle.planner.proofs.Ones.{weight_on-ones}
 use Rattle.shape_loads.specs.ShapeLoads.{wheel_plan}
 use Rattle.shape_loads.proofs.Shown.{Shows}
 use Rattle.shape_loads.proofs.Sums.{eqb_turned, sum_below-choice, sum_by-made}
-use Rattle.shape_loads.proofs.Weights.{weight_on-append, weight_on-ones}
+use Rattle.shape_loads.proofs.Weights.{weight_on-append}
 
 -- members
 has-hub : (i : ℕ) → has (spoke i) 0 ≡ true

@@ -1,4 +1,4 @@
-//! Laws about the loads of shapes. Each is the contract of a function that only calls other laws.
+//! Laws about the loads of shapes. Each is the contract of a function with an empty body.
 ghost use Rattle.std.specs.Prelude.{◌≡◌, ◌+◌, ◌-◌, ◌*◌, ◌/◌, ◌<◌, ◌≤◌, ℕ, List, Ok, length};
 ghost use Rattle.numbers.specs.Bounds.{max_voters};
 ghost use Rattle.quorum_set.specs.Coteries.{QuorumSystem, IsCoterie};
@@ -10,15 +10,6 @@ ghost use Rattle.construct.specs.Tree.{tree_system};
 ghost use Rattle.construct.specs.Wheel.{wheel_system};
 ghost use Rattle.planner.specs.Uniform.{IsUniform};
 ghost use Rattle.shape_loads.specs.ShapeLoads.{HasLoad, IsUnitPlan, ones_plan, tree_plan, wheel_plan};
-
-use certificate::{ratios_are_greatest, unit_capacities_change_nothing};
-use construct::{
-    grids_are_coteries, majorities_are_all_sets_of_their_size, majorities_are_combinations,
-    majorities_are_coteries, trees_are_coteries, trees_double_their_exponent, wheels_are_coteries,
-    wheels_have_a_quorum_for_each_spoke,
-};
-use planner::ones_certify_uniform_coteries;
-use quorum_set::coteries_have_no_fault;
 
 /// Two plans of one coterie for the same capacities have the same load: each is optimal.
 ///
@@ -35,21 +26,14 @@ pub fn plans_have_one_load()
         → busiest_count v * cycle_len w ≡ busiest_count w * cycle_len v }
     ensures shown { (s : QuorumSystem) (v w : Weighted) (p q : ℕ) → IsUnitPlan s v → IsUnitPlan s w
         → 0 < q → p * voter_total v ≡ q * lightest_quorum v → HasLoad p q w }
-{
-    ratios_are_greatest();
-    unit_capacities_change_nothing();
-}
+{}
 
 /// If a coterie of n voters is uniform and its quorums have c members, every plan has the load
 /// c / n. All weights 1 are such a plan.
 pub fn uniform_coteries_have_one_load()
     ensures load { (s : QuorumSystem) (u : IsUniform s) (w : Weighted) → IsUnitPlan s w → HasLoad u.size s.voters w }
     ensures plan { (s : QuorumSystem) → IsCoterie s → IsUniform s → IsUnitPlan s (ones_plan s) }
-{
-    ones_certify_uniform_coteries();
-    unit_capacities_change_nothing();
-    plans_have_one_load();
-}
+{}
 
 /// Every plan of a grid of r rows of c voters has the load (r + c - 1) / (r * c). All weights 1 are
 /// such a plan.
@@ -57,46 +41,28 @@ pub fn grids_have_one_load()
     ensures load { (r c : ℕ) (w : Weighted) → IsUnitPlan (grid_system r c) w → HasLoad (r + c - 1) (r * c) w }
     ensures plan { (r c : ℕ) → 2 ≤ r → 2 ≤ c → r * c ≤ max_voters
         → IsUnitPlan (grid_system r c) (ones_plan (grid_system r c)) }
-{
-    grids_are_coteries();
-    uniform_coteries_have_one_load();
-}
+{}
 
 /// Every plan of the majorities of n voters has the load h / n, where h = n / 2 + 1, rounded down.
 /// All weights 1 are such a plan.
 pub fn majorities_have_one_load()
     ensures load { (n : ℕ) (w : Weighted) → IsUnitPlan (majority_system n) w → HasLoad (n / 2 + 1) n w }
     ensures plan { (n : ℕ) → 0 < n → n ≤ 14 → IsUnitPlan (majority_system n) (ones_plan (majority_system n)) }
-{
-    majorities_are_coteries();
-    majorities_are_all_sets_of_their_size();
-    majorities_are_combinations();
-    uniform_coteries_have_one_load();
-}
+{}
 
 /// Every plan of a tree of height h has the load 2 / (h + 2). The weights of `tree_plan` are such a
 /// plan.
 pub fn trees_have_one_load()
     ensures load { (h : ℕ) (w : Weighted) → IsUnitPlan (tree_system h) w → HasLoad 2 (h + 2) w }
     ensures plan { (h : ℕ) → h ≤ 3 → IsUnitPlan (tree_system h) (tree_plan h) }
-{
-    trees_are_coteries();
-    trees_double_their_exponent();
-    unit_capacities_change_nothing();
-    plans_have_one_load();
-}
+{}
 
 /// Every plan of a wheel with k voters on its rim has the load k / (2 * k - 1). The weights of
 /// `wheel_plan` are such a plan.
 pub fn wheels_have_one_load()
     ensures load { (k : ℕ) (w : Weighted) → IsUnitPlan (wheel_system k) w → HasLoad k (2 * k - 1) w }
     ensures plan { (k : ℕ) → 2 ≤ k → k ≤ 63 → IsUnitPlan (wheel_system k) (wheel_plan k) }
-{
-    wheels_are_coteries();
-    wheels_have_a_quorum_for_each_spoke();
-    unit_capacities_change_nothing();
-    plans_have_one_load();
-}
+{}
 
 /// Every plan of a cyclic coterie over a base of c places on a ring of n has the load c / n. All
 /// weights 1 are such a plan.
@@ -104,7 +70,4 @@ pub fn cyclic_coteries_have_one_load()
     ensures load { (n : ℕ) (base : List ℕ) (s : QuorumSystem) (w : Weighted) → cyclic_at n base ≡ Ok s
         → IsUnitPlan s w → HasLoad (length base) n w }
     ensures plan { (n : ℕ) (base : List ℕ) (s : QuorumSystem) → cyclic_at n base ≡ Ok s → IsUnitPlan s (ones_plan s) }
-{
-    coteries_have_no_fault();
-    uniform_coteries_have_one_load();
-}
+{}

@@ -25,7 +25,8 @@
 //!
 //! There is no code, only laws over the definitions of `certificate`, `construct` and `planner`.
 //!
-//! Depends on `planner`, `certificate`, `construct`, `quorum_set`, `divisor` and `numbers`.
+//! Depends on `planner`, `known_loads`, `certificate`, `construct`, `quorum_set`, `divisor` and
+//! `numbers`.
 #![tactic(auto)]
 
 mod laws;

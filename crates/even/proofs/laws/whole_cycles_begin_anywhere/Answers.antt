@@ -1,5 +1,5 @@
-use Rattle.std.proofs.Common.{◌∙◌}
-use Rattle.even.proofs.SlackLemmas.{cycle_ratio-some, least_ratio}
+use Rattle.certificate.proofs.EvenCycles.{busiest_of-even, ratio_of-even}
+use Rattle.dealer.proofs.RatioLemmas.{IsLeastRatio-cycles}
 use Rattle.even.proofs.WindowLemmas.{length-permuted_rows, times-permuted_rows, times-window}
 use Rattle.even.specs.EvenCycles.{total_of}
 use Rattle.even.proofs.laws.whole_cycles_begin_anywhere.Goals as goal
@@ -12,14 +12,13 @@ returns-clause-shares c = λ o cycles list is fair permuted. times-permuted_rows
 
 pub returns-clause-busiest : goal.returns-clause-busiest
 returns-clause-busiest c = λ o cycles list is fair permuted.
-    c.whole_cycles_are_even.ensures.busiest o.plan (total_of cycles) list is.quorums (times-permuted_rows o cycles list is.some_quorum fair permuted)
+    busiest_of-even o.plan (total_of cycles) list is.quorums (times-permuted_rows o cycles list is.some_quorum fair permuted)
 
 pub returns-clause-ratio : goal.returns-clause-ratio
 returns-clause-ratio c = λ o cycles list is fair permuted.
-    c.whole_cycles_are_even.ensures.ratio o.plan (total_of cycles) list is (times-permuted_rows o cycles list is.some_quorum fair permuted)
+    ratio_of-even o.plan (total_of cycles) list is (times-permuted_rows o cycles list is.some_quorum fair permuted)
 
 pub returns-clause-least : goal.returns-clause-least
-returns-clause-least c = λ o cycles list is optimal fair permuted other long within.
-    let ratio = c.whole_cycles_are_even.ensures.ratio o.plan (total_of cycles) list is (times-permuted_rows o cycles list is.some_quorum fair permuted) in
-    least_ratio _ (total_of cycles) _ _ _ _ is.some_quorum (cycle_ratio-some o.plan is)
-    (long ∙ length-permuted_rows o cycles list permuted) ratio (c.no_list_has_a_smaller_ratio.ensures o.plan is.capacities optimal other within)
+returns-clause-least c = λ o cycles list is optimal fair permuted.
+    IsLeastRatio-cycles o.plan (total_of cycles) _ _ is optimal (length-permuted_rows o cycles list permuted)
+    (ratio_of-even o.plan (total_of cycles) list is (times-permuted_rows o cycles list is.some_quorum fair permuted))

@@ -1,17 +1,13 @@
 use Rattle.std.proofs.Common.{ℕ, ◌*◌, ◌≤◌, ap, ap₂, arith}
 use Rattle.std.proofs.lemmas.Nat.{mul-le}
-use Rattle.certificate.specs.Certificates.{cycle_count}
-use Rattle.even.proofs.SlackLemmas.{ratio_small}
+use Rattle.certificate.proofs.RatioLemmas.{cycle_ratio-small}
 use Rattle.even.proofs.slack.unit_of.Goals.{After-ratio}
 use Rattle.even.proofs.slack.unit_of.Goals as goal
 
 unit_small : (c : After-ratio) → c.cycle_len.result * c.ratio.result.1 ≤ 1000000000
 unit_small c =
-    let w = c.args.plan.now in
     let is = c.ratio.ensures.certificate in
-    let ratios = c.ratios_are_greatest.ensures in
-    let small = ratio_small w is (ratios.lowest w.system.voters w.capacities (cycle_count w) is.capacities)
-    (ratios.reached w.system.voters w.capacities (cycle_count w) is.capacities is.coterie.some_voter) in
+    let small = cycle_ratio-small c.args.plan.now is in
     mul-le c.cycle_len.result c.ratio.result.1 1000000 1000 (omega (arith, c.cycle_len.ensures.value, is.few_quorums)) (omega (arith, ap (λ r. r.1) c.ratio.ensures.value, small.1))
 
 pub overflow_mul-result : goal.overflow_mul-result

@@ -4,6 +4,8 @@ use Rattle.std.proofs.lemmas.List.FromFn.{length-map-range_with_len}
 use Rattle.quorum_set.specs.Counts.{count_of}
 use Rattle.numbers.specs.Counts.{times}
 use Rattle.certificate.specs.Certificates.{cycle_count, cycle_len, cycle_ratio}
+use Rattle.certificate.proofs.EvenCycles.{count_of-even}
+use Rattle.certificate.proofs.RatioLemmas.{greatest_ratio-bound}
 use Rattle.even.specs.EvenCycles.{even_quorum}
 use Rattle.even.specs.Leads.{IsGreatestLead}
 use Rattle.even.specs.Slacks.{slack_unit}
@@ -38,8 +40,8 @@ greatest_lead-requires-clause-whole c =
     let long = ap length c.requires.order ∙ length-map-range_with_len (even_quorum o) 0 (cycle_len w) in
     let names : (j : ℕ) → times j order ≡ 1 * get_or w.quorum_weights j 0 = λ j.
     ap (times j) c.requires.order ∙ times-round o j is.some_quorum c.requires.fair in
-    let counts = c.whole_cycles_are_even.ensures.counts w 1 order is.quorums names i in
-    let share = c.ratios_are_greatest.ensures.bound w.system.voters w.capacities (cycle_count w) is.capacities i c.requires.voter in
+    let counts = count_of-even w 1 order is.quorums names i in
+    let share = greatest_ratio-bound w.system.voters w.capacities (cycle_count w) is.capacities i c.requires.voter in
     let costs = whole_costs (cycle_len w) (cycle_ratio w).0 (cycle_ratio w).1 (cycle_count w i) (get_or w.capacities i 0) share in
     let system = ap (λ s. count_of s i order) c.coterie.ensures.value in
     let same : count_of c.coterie.result.now i order ≡ cycle_count w i = omega (arith, system, counts) in

@@ -1,7 +1,8 @@
 use Rattle.std.proofs.Common.{length}
 use Rattle.quorum_set.specs.Counts.{count_of}
 use Rattle.certificate.specs.Ratios.{ratio_of}
-use Rattle.known_loads.proofs.Duality.{Bears-list}
+use Rattle.certificate.proofs.RatioLemmas.{greatest_ratio-bound}
+use Rattle.certificate.proofs.Duality.{Bears-list}
 use Rattle.known_loads.proofs.Bounds.{unit_average, average_voter, capacity_average}
 use Rattle.known_loads.proofs.laws.some_voter_bears_the_average.Goals as goal
 
@@ -16,4 +17,4 @@ returns-clause-voter c = λ s list is small.
 pub returns-clause-ratio : goal.returns-clause-ratio
 returns-clause-ratio c = λ s capacities list is are small.
     capacity_average s is capacities are (length list) (λ i. count_of s i list) (Bears-list s list is small)
-    (ratio_of s capacities list) (c.ratios_are_greatest.ensures.bound s.voters capacities (λ i. count_of s i list) are)
+    (ratio_of s capacities list) (greatest_ratio-bound s.voters capacities (λ i. count_of s i list) are)

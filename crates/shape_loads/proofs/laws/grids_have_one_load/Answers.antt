@@ -1,16 +1,15 @@
-use Rattle.std.proofs.Common.{◌*◌, subst}
-use Rattle.quorum_set.specs.Coteries.{IsCoterie}
+use Rattle.std.proofs.Common.{◌+◌, ◌-◌}
 use Rattle.construct.specs.Grid.{grid_system}
-use Rattle.shape_loads.specs.ShapeLoads.{HasLoad}
+use Rattle.construct.proofs.GridLemmas.{IsCoterie-grid}
 use Rattle.shape_loads.proofs.Grids.{IsUniform-grid}
+use Rattle.shape_loads.proofs.OneLoad.{IsCoterie-plan}
+use Rattle.shape_loads.proofs.Uniform.{HasLoad-uniform, IsUnitPlan-uniform}
 use Rattle.shape_loads.proofs.laws.grids_have_one_load.Goals as goal
 
 pub returns-clause-load : goal.returns-clause-load
-returns-clause-load c = λ r k w own.
-    let u = IsUniform-grid r k (subst IsCoterie own.system own.certificate.coterie) in
-    subst (λ p. HasLoad p (r * k) w) u.1 (c.uniform_coteries_have_one_load.ensures.load (grid_system r k) u.0 w own)
+returns-clause-load c = λ r k w own. HasLoad-uniform (grid_system r k) w (r + k - 1) (IsUniform-grid r k (IsCoterie-plan (grid_system r k) w own)) own
 
 pub returns-clause-plan : goal.returns-clause-plan
 returns-clause-plan c = λ r k rows columns few.
-    let is = c.grids_are_coteries.ensures r k rows columns few in
-    c.uniform_coteries_have_one_load.ensures.plan (grid_system r k) is (IsUniform-grid r k is).0
+    let is = IsCoterie-grid r k rows columns few in
+    IsUnitPlan-uniform (grid_system r k) is (IsUniform-grid r k is).0

@@ -1,13 +1,15 @@
-use Rattle.std.proofs.Common.{◌≡◌, ℕ, List, ◌*◌, ◌≤◌, ◌∙◌, ap, sym, subst, ap₂, get_or, length, sum, arith}
+use Rattle.std.proofs.Common.{◌≡◌, ℕ, List, ◌∙◌, ap, sym, subst, ap₂, get_or, length, sum, arith}
 use Rattle.std.proofs.lemmas.List.{length-map}
+use Rattle.quorum_set.specs.Capacities.{AreCapacities}
 use Rattle.quorum_set.specs.Counts.{count_of}
 use Rattle.numbers.specs.Counts.{greatest_below, times}
 use Rattle.certificate.specs.Certificates.{Weighted, IsCertificate, IsOptimal}
-use Rattle.certificate.specs.Ratios.{greatest_ratio, ratio_of}
+use Rattle.certificate.specs.Ratios.{greatest_ratio}
+use Rattle.certificate.proofs.UnitCapacities.{IsUnitOptimal-IsOptimal}
 use Rattle.dealer.specs.Cycles.{quorum_of_ticket}
 use Rattle.dealer.specs.Accounts.{account_of, quorums_named}
-use Rattle.dealer.proofs.AccountLemmas.{length-values_below, sum-times-le, voters-from_quorums, greatest_below-values, account_of-parts, quorums-whole, busiest_of-least}
-use Rattle.dealer.proofs.RatioLemmas.{greatest_ratio-values, ratio_of_cycles-le}
+use Rattle.dealer.proofs.AccountLemmas.{length-values_below, sum-times-le, voters-from_quorums, greatest_below-values, account_of-parts, quorums-whole, busiest_of-whole, ratio_of-whole, busiest_of-least}
+use Rattle.dealer.proofs.RatioLemmas.{greatest_ratio-values, IsLeastRatio-cycles}
 use Rattle.dealer.proofs.cycle.Cycle.account.Goals as goal
 
 pub counts_of_voters-requires-clause-lengths : goal.counts_of_voters-requires-clause-lengths
@@ -32,6 +34,20 @@ counts_of_voters-requires-clause-fits c =
       length-map tickets (quorum_of_ticket w),
     )
 
+pub greatest_ratio-ratio-requires : goal.greatest_ratio-ratio-requires
+greatest_ratio-ratio-requires c =
+    let is = subst IsCertificate c.self.view_is c.self.invariant.certificate in
+    let given = c.capacities.ensures.value ∙ ap (λ (v : Weighted). v.capacities) c.self.view_is in
+    let voters = ap (λ s. s.voters) c.coterie.ensures.value ∙ ap (λ (v : Weighted). v.system.voters) c.self.view_is in
+    let long = ap length (c.deref-3.ensures.value ∙ c.in_ok-voters.ensures) ∙ length-values_below _ _ ∙ voters in
+    record { capacities = subst (λ n. AreCapacities c.capacities.result.now n) (sym long) (subst (λ cs. AreCapacities cs c.args.self.now.system.voters) (sym given) is.capacities) }
+
+certified : (c : goal.After-from-2) → IsCertificate c.args.self.now
+certified c = subst IsCertificate c.self.view_is c.self.invariant.certificate
+
+optimal : (c : goal.After-from-2) → IsOptimal c.args.self.now
+optimal c = subst IsOptimal c.self.view_is c.self.invariant.optimal
+
 -- the counts of the answer are those of the account
 quorums_counted : (c : goal.After-from-2) → c.from.result ≡ (account_of c.args.self.now c.args.tickets.now).quorums
 quorums_counted c = c.from.ensures ∙ c.in_ok-quorums.ensures
@@ -41,7 +57,7 @@ voters_counted c =
     let w = c.args.self.now in
     let tickets = c.args.tickets.now in
     voters-from_quorums w tickets c.coterie.result.now c.deref.result.now c.in_ok-voters.voters.items
-    (c.voters_are_counted_by_quorum.ensures w tickets (subst IsCertificate c.self.view_is c.self.invariant.certificate))
+    (certified c)
     (c.coterie.ensures.value ∙ ap (λ (v : Weighted). v.system) c.self.view_is)
     (c.deref.ensures.value ∙ c.in_ok-quorums.ensures)
     c.in_ok-voters.ensures
@@ -67,35 +83,23 @@ returns-clause-value c =
     (quorums_counted c) (c.from-2.ensures ∙ voters_counted c) (busiest_counted c) (ratio_counted c)
 
 pub returns-clause-shares : goal.returns-clause-shares
-returns-clause-shares c = λ k whole.
-    quorums_counted c
-    ∙ quorums-whole c.args.self.now k c.args.tickets.now (subst IsCertificate c.self.view_is c.self.invariant.certificate) whole
+returns-clause-shares c = λ k whole. quorums_counted c ∙ quorums-whole c.args.self.now k c.args.tickets.now (certified c) whole
 
 pub returns-clause-even : goal.returns-clause-even
-returns-clause-even c = λ k whole.
-    busiest_counted c
-    ∙ c.whole_cycles_follow_weights.ensures.even c.args.self.now k c.args.tickets.now (subst IsCertificate c.self.view_is c.self.invariant.certificate) whole
+returns-clause-even c = λ k whole. busiest_counted c ∙ busiest_of-whole c.args.self.now k c.args.tickets.now (certified c) whole
 
 pub returns-clause-ratio : goal.returns-clause-ratio
-returns-clause-ratio c = λ k whole.
-    ratio_counted c
-    ∙ c.whole_cycles_follow_weights.ensures.ratio c.args.self.now k c.args.tickets.now (subst IsCertificate c.self.view_is c.self.invariant.certificate) whole
+returns-clause-ratio c = λ k whole. ratio_counted c ∙ ratio_of-whole c.args.self.now k c.args.tickets.now (certified c) whole
 
 pub returns-clause-least_ratio : goal.returns-clause-least_ratio
-returns-clause-least_ratio c = λ k whole list long within.
+returns-clause-least_ratio c = λ k whole.
     let w = c.args.self.now in
-    let is = subst IsCertificate c.self.view_is c.self.invariant.certificate in
-    let optimal = subst IsOptimal c.self.view_is c.self.invariant.optimal in
-    let ratio = ratio_counted c ∙ c.whole_cycles_follow_weights.ensures.ratio w k c.args.tickets.now is whole in
-    subst (λ (r : ℕ × ℕ). r.0 * (ratio_of w.system w.capacities list).1 ≤ (ratio_of w.system w.capacities list).0 * r.1) (sym ratio)
-    (ratio_of_cycles-le w k (length list) (ratio_of w.system w.capacities list) is.some_quorum (long ∙ whole.in_all)
-    (c.no_list_has_a_smaller_ratio.ensures w is.capacities optimal list within))
+    let tickets = c.args.tickets.now in
+    IsLeastRatio-cycles w k (length tickets) c.greatest_ratio-ratio.result (certified c) (optimal c) whole.in_all (ratio_counted c ∙ ratio_of-whole w k tickets (certified c) whole)
 
 pub returns-clause-least : goal.returns-clause-least
 returns-clause-least c = λ k units whole list long within.
-    let is = subst IsCertificate c.self.view_is c.self.invariant.certificate in
-    let by_units = c.unit_capacities_change_nothing.ensures in
-    let given = (by_units.units c.args.self.now.capacities c.args.self.now.system.voters is.capacities.one_each).0 units in
-    let optimal = (by_units.optimal c.args.self.now is.coterie given).0 (subst IsOptimal c.self.view_is c.self.invariant.optimal) in
-    let even = c.whole_cycles_follow_weights.ensures.even c.args.self.now k c.args.tickets.now is whole in
-    omega (arith, busiest_counted c, even, busiest_of-least c.args.self.now k list is optimal (long ∙ whole.in_all) within)
+    let w = c.args.self.now in
+    let even = busiest_of-whole w k c.args.tickets.now (certified c) whole in
+    let by_units = IsUnitOptimal-IsOptimal w (certified c).capacities.one_each units (optimal c) in
+    omega (arith, busiest_counted c, even, busiest_of-least w k list (certified c) by_units (long ∙ whole.in_all) within)
