@@ -50,10 +50,7 @@ fn open_office(alloc: Global, plan: Plan, quota: u64) -> Result<(Office, Clerk),
     ensures quota { IfOk result (λ made. made.0.quota ≡ quota) }
     ensures clerk { IfOk result (λ made. made.1 ≡ fresh_clerk made.0.name quota) }
 {
-    let cycle = match Cycle::of(alloc, plan) {
-        Ok(cycle) => cycle,
-        Err((_, error)) => return Err(error),
-    };
+    let cycle = Cycle::from_plan(alloc, plan)?;
     match Office::new(alloc, cycle, quota) {
         Ok(made) => Ok(made),
         Err((_, error)) => Err(error),

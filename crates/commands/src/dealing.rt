@@ -10,16 +10,6 @@ use certificate::Plan;
 use dealer::{Account, Clerk, Cycle, Office, Receipt};
 use std::alloc::{AllocError, Global};
 
-/// Returns the cycle of a plan.
-fn cycle_of_plan(alloc: Global, plan: Plan) -> Result<Cycle, AllocError>
-    ensures { IfOk result (λ cycle. cycle ≡ plan) }
-{
-    match Cycle::of(alloc, plan) {
-        Ok(cycle) => Ok(cycle),
-        Err((_, error)) => Err(error),
-    }
-}
-
 /// Returns an office of a cycle with this quota, and the clerk that may draw all of it.
 fn office_of(alloc: Global, cycle: Cycle, quota: u64) -> Result<(Office, Clerk), AllocError>
     requires { quota ≤ max_tickets }
@@ -92,7 +82,7 @@ pub fn dealt(alloc: Global, plan: Plan, count: u64) -> Result<(Account, Vec<Rece
     ensures receipts { IfOk result (λ dealt. dealt.1.items ≡ map (receipt_of plan) (range_with_len 0 count)) }
     ensures one_each { IfOk result (λ dealt. length dealt.0.voters ≡ plan.system.voters) }
 {
-    let cycle = cycle_of_plan(alloc, plan)?;
+    let cycle = Cycle::from_plan(alloc, plan)?;
     let (office, clerk) = office_of(alloc, cycle, count)?;
     let clerk = draw_all(&office, clerk, count)?;
     closed(alloc, office, clerk)

@@ -82,6 +82,18 @@ impl Cycle {
         }
     }
 
+    /// Returns the cycle of a plan, as [`Cycle::of`] does, but drops the plan if it runs out of
+    /// memory.
+    pub fn from_plan(alloc: Global, plan: Plan) -> Result<Cycle, AllocError>
+        ensures ok { IfOk result (λ cycle. cycle ≡ plan) }
+        ensures certificate { IfOk result IsCertificate }
+    {
+        match Cycle::of(alloc, plan) {
+            Ok(cycle) => Ok(cycle),
+            Err((_, error)) => Err(error),
+        }
+    }
+
     /// Returns the plan.
     pub fn plan(&self) -> &Plan
         ensures value { result.now ≡ self.now }

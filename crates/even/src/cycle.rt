@@ -1,5 +1,5 @@
 //! The even cycle of a plan.
-ghost use Rattle.std.specs.Prelude.{◌≡◌, ◌<◌, ◌≤◌, length, IfOk, IfErr};
+ghost use Rattle.std.specs.Prelude.{◌≡◌, ◌<◌, ◌≤◌, length, IfOk};
 ghost use Rattle.numbers.specs.Bounds.{max_cycle};
 ghost use Rattle.certificate.specs.Certificates.{IsCertificate, IsOptimal, cycle_len};
 ghost use Rattle.even.specs.EvenCycles.{even_quorum, IsFair};
@@ -57,27 +57,24 @@ impl EvenCycle {
     /// longer. For each it goes twice along one cycle with each voter, and keeps the first stride
     /// of smallest slack. So a plan has one even cycle ([`even_orders_are_one`](crate::even_orders_are_one)).
     ///
-    /// Fails only if it runs out of memory, and then returns the plan. While it runs, it needs memory
-    /// for one number for each place of the cycle.
-    pub fn of(alloc: Global, plan: Plan) -> Result<EvenCycle, (Plan, AllocError)>
+    /// Fails only if it runs out of memory. While it runs, it needs memory for one number for each
+    /// place of the cycle.
+    pub fn of(alloc: Global, plan: Plan) -> Result<EvenCycle, AllocError>
         ensures plan { IfOk result (λ cycle. cycle.plan ≡ plan) }
         // Of the strides that are tried, none has a smaller slack, and those before it have a greater one.
         ensures first { IfOk result (IsFirstBest (strides_of (cycle_len plan))) }
         ensures fair { IfOk result IsFair }
         ensures certificate { IfOk result (λ cycle. IsCertificate cycle.plan) }
-        ensures err { IfErr result (λ refusal. refusal.0 ≡ plan) }
     {
         // Called for its contract alone, which says what is proved of every plan.
         let _ = plan.ratio();
-        match chosen(alloc, &plan) {
-            Ok((ends, choice)) => Ok(EvenCycle {
-                plan,
-                ends,
-                stride: choice.stride,
-                excess: choice.excess,
-            }),
-            Err(error) => Err((plan, error)),
-        }
+        let (ends, choice) = chosen(alloc, &plan)?;
+        Ok(EvenCycle {
+            plan,
+            ends,
+            stride: choice.stride,
+            excess: choice.excess,
+        })
     }
 
     /// Returns the plan.

@@ -6,7 +6,7 @@ ghost use Rattle.qlock_plan_c.specs.Orders.{IsEvenOrder, IsOrder};
 ghost use Rattle.qlock_plan_c.specs.Outputs.{output};
 ghost use Rattle.qlock_plan_c.specs.Texts.{GivesFrom};
 
-use crate::order::{Order, even_of};
+use crate::order::Order;
 use crate::outcome::Outcome;
 use crate::output::put_fault;
 use even::EvenCycle;
@@ -46,7 +46,7 @@ fn even_in(alloc: Global, coterie: &[u8], plan: &[u8]) -> Result<EvenCycle, Inpu
         Ok(planned) => planned,
         Err(fault) => return Err(fault),
     };
-    match even_of(alloc, planned.plan) {
+    match EvenCycle::of(alloc, planned.plan) {
         Ok(cycle) => Ok(cycle),
         Err(_) => Err(InputFault::OutOfMemory),
     }

@@ -17,16 +17,6 @@ pub enum Order {
     Even(EvenCycle),
 }
 
-/// Returns the even cycle of a plan.
-pub fn even_of(alloc: Global, plan: Plan) -> Result<EvenCycle, AllocError>
-    ensures { IfOk result (IsEvenOrder plan) }
-{
-    match EvenCycle::of(alloc, plan) {
-        Ok(cycle) => Ok(cycle),
-        Err((_, error)) => Err(error),
-    }
-}
-
 impl Order {
     /// Returns the order with this number: 0 by rounds, 1 even.
     pub fn of(alloc: Global, number: u32, plan: Plan) -> Result<Order, AllocError>
@@ -34,12 +24,9 @@ impl Order {
         ensures { IfOk result (IsOrder plan number) }
     {
         if number == 1 {
-            return Ok(Order::Even(even_of(alloc, plan)?));
+            return Ok(Order::Even(EvenCycle::of(alloc, plan)?));
         }
-        match Cycle::of(alloc, plan) {
-            Ok(cycle) => Ok(Order::Rounds(cycle)),
-            Err((_, error)) => Err(error),
-        }
+        Ok(Order::Rounds(Cycle::from_plan(alloc, plan)?))
     }
 
     /// Returns the mask of a ticket's quorum: bit i is 1 if voter i is a member.

@@ -153,9 +153,9 @@ fn cycle_of(alloc: Global, plan: &Plan) -> Result<Cycle, ReplayFault>
     ensures memory { IfErr result (λ fault. fault ≡ OutOfMemory) }
 {
     let plan = plan.copy(alloc)?;
-    match Cycle::of(alloc, plan) {
+    match Cycle::from_plan(alloc, plan) {
         Ok(cycle) => Ok(cycle),
-        Err(_) => Err(ReplayFault::OutOfMemory),
+        Err(error) => Err(ReplayFault::from(error)),
     }
 }
 

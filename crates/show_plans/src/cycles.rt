@@ -23,22 +23,6 @@ const POINTS: u64 = 360;
 /// How wide a picture is at least, for its heading.
 const LEAST_WIDTH: u64 = 680;
 
-/// Returns the cycle of a plan, of which it makes a copy.
-fn cycle_of(alloc: Global, plan: &Plan) -> Result<Cycle, AllocError> {
-    match Cycle::of(alloc, plan.copy(alloc)?) {
-        Ok(cycle) => Ok(cycle),
-        Err((_, error)) => Err(error),
-    }
-}
-
-/// Returns the even cycle of a plan, of which it makes a copy.
-fn even_of(alloc: Global, plan: &Plan) -> Result<EvenCycle, AllocError> {
-    match EvenCycle::of(alloc, plan.copy(alloc)?) {
-        Ok(cycle) => Ok(cycle),
-        Err((_, error)) => Err(error),
-    }
-}
-
 /// Appends how the count of the busiest voter grows, in both orders, below the strip.
 fn push_growth(
     alloc: Global,
@@ -47,7 +31,7 @@ fn push_growth(
     plan: &Plan,
     cycle: &Cycle,
 ) -> Result<(), AllocError> {
-    let even = even_of(alloc, plan)?;
+    let even = EvenCycle::of(alloc, plan.copy(alloc)?)?;
     let rounds = samples_of(alloc, plan, Order::Rounds(cycle), POINTS)?;
     let evenly = samples_of(alloc, plan, Order::Even(&even), POINTS)?;
     growth.push_legend(out, plan, even.slack())?;
@@ -110,7 +94,7 @@ pub fn cycle_picture(alloc: Global, named: &Named, plan: &Plan) -> Result<String
     ensures { IfOk result (λ page. IsEnded (string_bytes page)) }
 {
     let voters = voter_figures(alloc, plan)?;
-    let cycle = cycle_of(alloc, plan)?;
+    let cycle = Cycle::from_plan(alloc, plan.copy(alloc)?)?;
     let mut out = String::new(alloc);
     push_cycle(alloc, &mut out, named, plan, &voters, &cycle)?;
     close_picture(&mut out)?;

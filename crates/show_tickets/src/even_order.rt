@@ -16,17 +16,6 @@ use even::{EvenCycle, Slack};
 use quorum_set::are_unit;
 use std::alloc::{AllocError, Global};
 
-/// Returns the even cycle of a plan.
-fn even_cycle(alloc: Global, plan: Plan) -> Result<EvenCycle, AllocError>
-    ensures plan { IfOk result (λ cycle. cycle.plan ≡ plan) }
-    ensures first { IfOk result (IsFirstBest (strides_of (cycle_len plan))) }
-{
-    match EvenCycle::of(alloc, plan) {
-        Ok(cycle) => Ok(cycle),
-        Err((_, error)) => Err(error),
-    }
-}
-
 /// Returns the quorums of the tickets below `count`.
 fn quorums_of(alloc: Global, cycle: &EvenCycle, count: u64) -> Result<Vec<usize>, AllocError>
     ensures quorums { IfOk result (λ v. v.items ≡ window cycle.now 0 count) }
@@ -146,7 +135,7 @@ pub fn even_page(alloc: Global, planned: Planned, count: u64) -> Result<String, 
     ensures { IfOk result (λ page. IsEvenPage (parts_of planned) count (string_bytes page)) }
 {
     let Planned { named, plan } = planned;
-    let cycle = even_cycle(alloc, plan)?;
+    let cycle = EvenCycle::of(alloc, plan)?;
     let account = account_below(alloc, &cycle, count)?;
     let mut text = String::new(alloc);
     push_page(&mut text, &named, &cycle, &account, cycle.slack(), count)?;

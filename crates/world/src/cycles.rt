@@ -4,7 +4,6 @@ ghost use Rattle.dealer.specs.Plans.{ArePlans};
 ghost use Rattle.world.specs.States.{plans_of};
 ghost use Rattle.world.specs.Steps.{dealing_of, quorum_by, quorum_dealt};
 
-use certificate::Plan;
 use dealer::{Cycle, Plans};
 use quorum_set::{QSet, Side};
 use std::alloc::{AllocError, Global};
@@ -16,16 +15,6 @@ pub struct Cycles {
     pub first: Cycle,
     /// The cycle of the plan that it may be exchanged for.
     pub second: Option<Cycle>,
-}
-
-/// Returns the cycle of a plan. Fails only if it runs out of memory.
-fn cycle_of(alloc: Global, plan: Plan) -> Result<Cycle, AllocError>
-    ensures { IfOk result (λ cycle. cycle ≡ plan) }
-{
-    match Cycle::of(alloc, plan) {
-        Ok(cycle) => Ok(cycle),
-        Err((_, error)) => Err(error),
-    }
 }
 
 /// Returns the quorum that a ticket of this cycle stands for.
@@ -44,12 +33,12 @@ impl Cycles {
     {
         match plans.into_parts() {
             (first, None) => Ok(Cycles {
-                first: cycle_of(alloc, first)?,
+                first: Cycle::from_plan(alloc, first)?,
                 second: None,
             }),
             (first, Some((second, _))) => Ok(Cycles {
-                first: cycle_of(alloc, first)?,
-                second: Some(cycle_of(alloc, second)?),
+                first: Cycle::from_plan(alloc, first)?,
+                second: Some(Cycle::from_plan(alloc, second)?),
             }),
         }
     }
