@@ -156,18 +156,12 @@ all_ready c passes missing before after e served idle some out =
 ends_by : (client clients tickets passed passes : ℕ) (fault : ClusterFault) → client < clients → passed < passes → passes ≤ tickets → EndsWork client tickets passed fault
     → EndsRun clients (run_refusal fault)
 ends_by id clients tickets passed passes (ends.Client client.StampsSpent) less fewer quota h = tt
-ends_by id clients tickets passed passes (ends.Client client.Busy) less fewer quota h = absurd h
-ends_by id clients tickets passed passes (ends.Client client.NotInside) less fewer quota h = absurd h
-ends_by id clients tickets passed passes (ends.Client client.NotAsking) less fewer quota h = absurd h
 ends_by id clients tickets passed passes (ends.Deal deal.QuotaSpent) less fewer quota h = omega (arith, fewer, quota, h)
 ends_by id clients tickets passed passes (ends.Deal deal.OutOfMemory) less fewer quota h = tt
 ends_by id clients tickets passed passes (ends.Board board.RegisterFull) less fewer quota h = tt
 ends_by id clients tickets passed passes (ends.Board board.OutOfMemory) less fewer quota h = tt
-ends_by id clients tickets passed passes (ends.Board (board.SeatsOut k)) less fewer quota h = absurd h
-ends_by id clients tickets passed passes (ends.Board (board.VoteOut v)) less fewer quota h = absurd h
-ends_by id clients tickets passed passes ends.NotInside less fewer quota h = absurd h
 ends_by id clients tickets passed passes (ends.TurnsSpent c) less fewer quota h = omega (arith, less, h.0)
-ends_by id clients tickets passed passes ends.NoSecondPlan less fewer quota h = absurd h
+ends_by id clients tickets passed passes fault less fewer quota h = absurd h
 
 abbrev EndsWell : ℕ → MemberState → Type 0
 EndsWell clients m = (fault : ClusterFault) → m.fault ≡ Some fault → EndsRun clients (run_refusal fault)
