@@ -1,5 +1,5 @@
 -- What is read of a text, line by line, and that a text is that of one script.
-use Rattle.std.proofs.Common.{◌≡◌, ◌≢◌, ℕ, ◌+◌, Option, None, Some, true, false, List, [], ◌∷◌, ◌++◌, length, map, filter, length-append, refl, sym, ap, ap₂, subst, ◌∙◌, inl, inr, ◌⊎◌, arith}
+use Rattle.std.proofs.Common.{◌≡◌, ◌≢◌, ℕ, ◌+◌, Some, true, false, List, [], ◌∷◌, ◌++◌, map, filter, length-append, refl, sym, ap, ap₂, subst, ◌∙◌, inl, inr, ◌⊎◌, arith}
 use Rattle.std.proofs.lemmas.List.{append-nil, map-append}
 use Rattle.std.proofs.lemmas.List.Elements.{filter-append}
 use Rattle.texts.specs.Cuts.{cut_at}
@@ -13,16 +13,13 @@ use Rattle.replay.specs.declared.fault.ReplayFault.TheVariants.{TicketTwice, Tic
 use Rattle.stories.specs.declared.turn.Turn.{Turn}
 use Rattle.stories.specs.declared.turn.Turn.TheVariants.{CrashClient, CrashVoter, Step as Makes}
 use Rattle.stories.specs.Turns.{HasTurnLine, turn_form, turns_have_form}
-use Rattle.stories.specs.Scripts.{BeginsWith, EndsBadly, IsBadRest, IsBadText, IsFirstBad, IsScript, IsTextOf, Reads, Script, StopsAt, is_plain, script_lines, sizes_line}
+use Rattle.stories.specs.Scripts.{BeginsWith, IsBadRest, IsBadText, IsFirstBad, IsScript, IsTextOf, Reads, Script, StopsAt, is_plain, script_lines, sizes_line}
 
 -- Reading on
 
 BeginsWith-append : (text mid rest : List ℕ) (xs ys : List (List ℕ)) → BeginsWith text xs mid → BeginsWith mid ys rest → BeginsWith text (xs ++ ys) rest
 BeginsWith-append text mid rest [] ys e k = subst (λ (t : List ℕ). BeginsWith t ys rest) (sym e) k
 BeginsWith-append text mid rest (x ∷ xs) ys h k = (h.0, h.1, BeginsWith-append h.0 mid rest xs ys h.2 k)
-
-pub Reads-none : (text : List ℕ) → Reads text [] 0 text
-Reads-none text = record { lines = []; begins = refl; plain_are = refl; count_is = refl }
 
 -- some lines, and then others
 pub Reads-append : (text mid rest : List ℕ) (p q : List (List ℕ)) (m n : ℕ) → Reads text p m mid → Reads mid q n rest → Reads text (p ++ q) (m + n) rest
