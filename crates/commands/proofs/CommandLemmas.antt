@@ -51,11 +51,6 @@ record_refused input text planned fault e (inr h) = record { planned = planned; 
 
 -- the words of a command line name a command with numbers in range
 pub named_in_range : (used : _) (command : Command) → IsNamedBy used command → IsInRange command
-named_in_range used (commands.Make shape) named = tt
-named_in_range used commands.Plan named = tt
-named_in_range used commands.Check named = tt
-named_in_range used (commands.Deal n) named = tt
-named_in_range used commands.World named = tt
-named_in_range used commands.Replay named = tt
 named_in_range None (commands.Run clients passes turns) named = absurd named
 named_in_range (Some rows) (commands.Run clients passes turns) named = (named.1.1, named.1.2, named.2.2)
+named_in_range used command named = tt

@@ -39,8 +39,3 @@ pub account_of-dealt : (office : OfficeName) (plan : Weighted) (n : ℕ) (clerk 
     → account ≡ account_of office.cycle (tickets_of clerk.receipts) → account ≡ account_of plan (range_with_len 0 n)
 account_of-dealt office plan n clerk account same drawn is =
     is ∙ ap₂ (λ (w : Weighted) (ts : List ℕ). account_of w ts) same (ap (λ (k : ClerkState). tickets_of k.receipts) drawn ∙ tickets_of_receipts office.cycle (range_with_len 0 n))
-
-pub receipts-dealt : (office : OfficeName) (plan : Weighted) (n : ℕ) (clerk : ClerkState) (receipts : List Receipt) → office.cycle ≡ plan → clerk ≡ after_draws office n n
-    → receipts ≡ clerk.receipts → receipts ≡ map (receipt_of plan) (range_with_len 0 n)
-receipts-dealt office plan n clerk receipts same drawn is =
-    is ∙ ap (λ (k : ClerkState). k.receipts) drawn ∙ ap (λ (w : Weighted). map (receipt_of w) (range_with_len 0 n)) same

@@ -4,12 +4,12 @@ use Rattle.std.specs.Prelude.{IfSome}
 use Rattle.commands.specs.Commands.{ComesOf, IsRefusedBy, IsShortFor, reads_input}
 use Rattle.commands.specs.Devices.{IsOfReading, IsOwn}
 use Rattle.whole_io.specs.declared.fault.DeviceFault.TheVariants as device
-use Rattle.whole_io.specs.declared.fault.DeviceFault.TheVariants.{ReadFault, TooLong, WriteFault}
+use Rattle.whole_io.specs.declared.fault.DeviceFault.TheVariants.{ReadFault, TooLong}
 use Rattle.commands.specs.declared.fault.Fault.{Fault}
-use Rattle.commands.specs.declared.fault.Fault.TheVariants.{MissingPart, UnknownVoter, NotBridged, Device, Construct, Input, Replay, Cluster, OutOfMemory}
+use Rattle.commands.specs.declared.fault.Fault.TheVariants.{Device, OutOfMemory}
 use Rattle.command_line.specs.declared.command.Command.{Command}
 use Rattle.command_line.specs.declared.command.Command.TheVariants as commands
-use Rattle.command_line.specs.declared.command.Command.TheVariants.{Check, Deal, Make, Plan, Run, World}
+use Rattle.command_line.specs.declared.command.Command.TheVariants.{Make}
 use Rattle.command_line.specs.declared.command.Shape.{Shape}
 
 -- a fault of reading comes of what was read
@@ -18,27 +18,13 @@ reading_comes command None fault reads h = tt
 reading_comes command (Some input) (Device TooLong) reads h = (reads, h)
 reading_comes command (Some input) (Device ReadFault) reads h = reads
 reading_comes command (Some input) OutOfMemory reads h = tt
-reading_comes command (Some input) (Device WriteFault) reads h = absurd h
-reading_comes command (Some input) (Device device.OutOfMemory) reads h = absurd h
-reading_comes command (Some input) (MissingPart k) reads h = absurd h
-reading_comes command (Some input) (UnknownVoter k) reads h = absurd h
-reading_comes command (Some input) (NotBridged j k) reads h = absurd h
-reading_comes command (Some input) (Construct fault) reads h = absurd h
-reading_comes command (Some input) (Input fault) reads h = absurd h
-reading_comes command (Some input) (Replay fault) reads h = absurd h
-reading_comes command (Some input) (Cluster fault) reads h = absurd h
+reading_comes command (Some input) fault reads h = absurd h
 
 -- a fault of the command's own comes of the input
 own_comes : (command : Command) (input : List ℕ) (fault : Fault) → IsOwn fault → IsShortFor command input → IsRefusedBy command input fault → ComesOf command input fault
 own_comes command input (Device fault) own short h = absurd own
 own_comes command input OutOfMemory own short h = tt
-own_comes command input (MissingPart k) own short h = (short, h)
-own_comes command input (UnknownVoter k) own short h = (short, h)
-own_comes command input (NotBridged j k) own short h = (short, h)
-own_comes command input (Construct fault) own short h = (short, h)
-own_comes command input (Input fault) own short h = (short, h)
-own_comes command input (Replay fault) own short h = (short, h)
-own_comes command input (Cluster fault) own short h = (short, h)
+own_comes command input fault own short h = (short, h)
 
 -- what holds of the input that was read holds of the known bytes
 of_known : (P : List ℕ → Type 0) (bytes : Option (List ℕ)) (input : List ℕ) → IfSome bytes (λ known. input ≡ known) → P input → IfSome bytes P
@@ -51,23 +37,12 @@ for_known : (P : Command → List ℕ → Type 0) (command : Command) (bytes : O
     → (reads_input command ≡ true → IfSome bytes (λ known. input ≡ known)) → P command input → IfSome bytes (P command)
 for_known P command None input idle same h = tt
 for_known P (Make shape) (Some known) input idle same h = idle shape input known h
-for_known P Plan (Some known) input idle same h = of_known (P Plan) (Some known) input (same refl) h
-for_known P Check (Some known) input idle same h = of_known (P Check) (Some known) input (same refl) h
-for_known P (Deal n) (Some known) input idle same h = of_known (P (Deal n)) (Some known) input (same refl) h
-for_known P World (Some known) input idle same h = of_known (P World) (Some known) input (same refl) h
-for_known P (Run clients passes turns) (Some known) input idle same h = of_known (P (Run clients passes turns)) (Some known) input (same refl) h
-for_known P commands.Replay (Some known) input idle same h = of_known (P commands.Replay) (Some known) input (same refl) h
+for_known P command (Some known) input idle same h = of_known (P command) (Some known) input (same refl) h
 
 idle_fault : (fault : Fault) (shape : Shape) (a b : List ℕ) → IsOwn fault → ComesOf (Make shape) a fault → ComesOf (Make shape) b fault
 idle_fault (Device fault) shape a b own h = absurd own
 idle_fault OutOfMemory shape a b own h = tt
-idle_fault (MissingPart k) shape a b own h = (λ reads. cc, h.1)
-idle_fault (UnknownVoter k) shape a b own h = (λ reads. cc, h.1)
-idle_fault (NotBridged j k) shape a b own h = (λ reads. cc, h.1)
-idle_fault (Construct fault) shape a b own h = (λ reads. cc, h.1)
-idle_fault (Input fault) shape a b own h = (λ reads. cc, h.1)
-idle_fault (Replay fault) shape a b own h = (λ reads. cc, h.1)
-idle_fault (Cluster fault) shape a b own h = (λ reads. cc, h.1)
+idle_fault fault shape a b own h = (λ reads. cc, h.1)
 
 -- a fault of the command's own comes of the known bytes
 pub own_comes_of_known : (command : Command) (bytes : Option (List ℕ)) (input : List ℕ) (fault : Fault) → (reads_input command ≡ true → IfSome bytes (λ known. input ≡ known))

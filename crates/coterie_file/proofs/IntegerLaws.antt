@@ -2,19 +2,14 @@
 use Rattle.std.proofs.Common.{◌≡◌, ℕ, ℤ, pos, negsuc, suc, ◌≤◌, List, [], ◌∷◌, sym, refl, ap, ap₂, ◌∙◌, arith, Some, subst}
 use Rattle.std.specs.List.{All}
 use Rattle.std.specs.Option.{option_map}
-use Rattle.toml.specs.Data.{Data, Items, no_items, item, string, integer, float, boolean, datetime, array, table, as_integer}
+use Rattle.toml.specs.Data.{Data, Items, no_items, item, string, integer, as_integer}
 use Rattle.quorum_set.specs.Capacities.{IsCapacity}
 use Rattle.coterie_file.specs.Lists.{or_zero, numbers_of, integers}
 use Rattle.numbers.proofs.Options.{and_then-Some, option_map-Some}
 
 as_integer-integer : (d : Data) (z : ℤ) → as_integer d ≡ Some z → d ≡ integer z
 as_integer-integer (string s) z e = cc
-as_integer-integer (integer y) z e = cc
-as_integer-integer (float x) z e = cc
-as_integer-integer (boolean b) z e = cc
-as_integer-integer (datetime t) z e = cc
-as_integer-integer (array ds) z e = cc
-as_integer-integer (table ms) z e = cc
+as_integer-integer d z e = cc
 
 or_zero-pos : (z : ℤ) → 1 ≤ or_zero z → z ≡ pos (or_zero z)
 or_zero-pos (pos n) some = refl

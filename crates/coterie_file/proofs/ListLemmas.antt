@@ -1,7 +1,11 @@
--- Lemmas on lists that are made from others.
-use Rattle.std.proofs.Common.{◌≡◌, ℕ, ◌+◌, Bool, cond, not, ◌||◌, ltb, List, [], ◌∷◌, length, map, refl, ap, ◌∙◌, Option, None, Some}
-use Rattle.std.proofs.lemmas.List.{length-map}
+-- Lemmas on lists that are made from others, and on what a list has.
+use Rattle.std.proofs.Common.{◌≡◌, ℕ, ◌+◌, Bool, true, cond, not, ◌||◌, ltb, List, [], ◌∷◌, length, map, get_or, refl, sym, ap, ◌∙◌, Option, None, Some, Contains}
+use Rattle.std.proofs.lemmas.List.{get_or_default, length-map}
+use Rattle.std.proofs.lemmas.List.Folds.{Any-from_list_any, list_any_at}
+use Rattle.std.proofs.lemmas.Slice.Eq.{bytes_eq-Decides}
 use Rattle.std.specs.List.{list_any, position, prefix_len, position_or_len}
+use Rattle.std.specs.Str.{bytes_eq}
+use Rattle.coterie_file.specs.Names.{has_name}
 
 prefix_len-map : {A B : Type 0} (p : B → Bool) (f : A → B) (xs : List A) → prefix_len p (map f xs) ≡ prefix_len (λ x. p (f x)) xs
 prefix_len-map p f [] = refl
@@ -14,10 +18,21 @@ position-map {A} {B} p f xs =
     let P : ℕ → ℕ → Option ℕ = λ n m. cond (ltb n m) (Some n) None in
     ap (λ n. P n (length (map f xs))) place ∙ ap (λ m. P (position_or_len (λ x. p (f x)) xs) m) (length-map xs f)
 
-pub list_any-map : {A B : Type 0} (p : B → Bool) (f : A → B) (xs : List A) → list_any p (map f xs) ≡ list_any (λ x. p (f x)) xs
-list_any-map p f [] = refl
-list_any-map p f (x ∷ xs) = ap (λ b. p (f x) || b) (list_any-map p f xs)
+pub list_any_map : {A B : Type 0} (p : B → Bool) (f : A → B) (xs : List A) → list_any p (map f xs) ≡ list_any (λ x. p (f x)) xs
+list_any_map p f [] = refl
+list_any_map p f (x ∷ xs) = ap (λ b. p (f x) || b) (list_any_map p f xs)
 
 pub map-map : {A B C : Type 0} (g : B → C) (f : A → B) (xs : List A) → map g (map f xs) ≡ map (λ x. g (f x)) xs
 map-map g f [] = refl
 map-map g f (x ∷ xs) = ap (λ ys. g (f x) ∷ ys) (map-map g f xs)
+
+-- a name that is found is there
+pub Contains-has_name : (names : List (List ℕ)) (name : List ℕ) → has_name names name ≡ true → Contains names name
+Contains-has_name names name e =
+    let found = Any-from_list_any (bytes_eq name) names e in
+    let same : name ≡ found.1 = (bytes_eq-Decides name found.1).0 found.4 in
+    (found.0, found.2, get_or_default names found.0 name found.1 found.2 ∙ found.3 ∙ sym same)
+
+-- a name that is there is found
+pub has_name-Contains : (names : List (List ℕ)) (name : List ℕ) → Contains names name → has_name names name ≡ true
+has_name-Contains names name h = list_any_at (bytes_eq name) names h.0 name h.1 ((bytes_eq-Decides name (get_or names h.0 name)).1 (sym h.2))

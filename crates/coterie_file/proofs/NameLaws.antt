@@ -3,44 +3,35 @@ use Rattle.std.proofs.Common.{◌≡◌, ◌≢◌, ℕ, ◌+◌, ◌<◌, ◌�
 use Rattle.std.proofs.Common.{None, Some, MatchOption, codes, decimal, subst, append_assoc, append-nil}
 use Rattle.std.specs.List.{All, position}
 use Rattle.std.specs.Option.{option_map}
-use Rattle.std.specs.Str.{bytes_eq}
 use Rattle.std.proofs.lemmas.Bool.{ltb-true, lt-ltb, leb-true, le-leb, not-false, not_from_true, false≢true}
 use Rattle.std.proofs.lemmas.Fmt.{decimal_is_IsNumeral, decimal_injective, length-decimal-le}
 use Rattle.std.proofs.lemmas.List.{length-append, get_or_default, take_more, take_all}
 use Rattle.std.proofs.Math.ListN.{get_or-append}
 use Rattle.std.proofs.Math.Seq.{get_or-append_seam}
-use Rattle.std.proofs.lemmas.List.Folds.{Any-from_list_any, list_any_at}
 use Rattle.std.proofs.lemmas.List.Elements.{All-cons}
 use Rattle.std.proofs.lemmas.List.FromFn.{length-map-range_with_len, get_or-map-range_with_len, take-map-range_with_len}
 use Rattle.std.proofs.lemmas.List.Quantifiers.{all_pairs_push, position-Some}
 use Rattle.std.proofs.lemmas.List.Sums.{AllPass-from_list_all, list_all-from_AllPass}
-use Rattle.std.proofs.lemmas.Slice.Eq.{bytes_eq-Decides}
 use Rattle.std.proofs.lemmas.Str.Parse.{digit_at}
 use Rattle.coterie_file.specs.Names.{is_name_byte, IsName, is_name, has_name, name_at, AllDiffer, AreNames, IsLeastRepeat, first_repeat, names_fault}
 use Rattle.coterie_file.specs.Named.{numbered_names}
 use Rattle.coterie_file.specs.declared.fault.FileFault.TheVariants.{BadName, RepeatedName}
+use Rattle.coterie_file.proofs.ListLemmas.{Contains-has_name, has_name-Contains}
 use Rattle.numbers.proofs.Options.{and-true, option_map-None, option_or-None, position-None}
 
 -- a name that has_name does not find is none of the list
 pub has_name-false : (names : List (List ℕ)) (name : List ℕ) → has_name names name ≡ false → (k : ℕ) (d : List ℕ) → k < length names → get_or names k d ≢ name
 has_name-false names name e k d lt same =
-    let found : has_name names name ≡ true = list_any_at (λ n. bytes_eq name n) names k d lt ((bytes_eq-Decides name (get_or names k d)).1 (sym same)) in
-    false≢true (sym e ∙ found)
-
--- one that it finds stands at a place
-pub has_name-true : (names : List (List ℕ)) (name : List ℕ) → has_name names name ≡ true → (k : ℕ) × (k < length names) × (get_or names k [] ≡ name)
-has_name-true names name e =
-    let found = Any-from_list_any (λ n. bytes_eq name n) names e in
-    (found.0, found.2, get_or_default names found.0 [] found.1 found.2 ∙ found.3 ∙ sym ((bytes_eq-Decides name found.1).0 found.4))
+    false≢true (sym e ∙ has_name-Contains names name (k, lt, get_or_default names k name d lt ∙ same))
 
 least_here : (before : List (List ℕ)) (name : List ℕ) (names : List (List ℕ)) → AllDiffer before → has_name before name ≡ true → IsLeastRepeat (before ++ name ∷ names) (length before)
 least_here before name names differ found =
     let all = before ++ name ∷ names in
-    let at = has_name-true before name found in
+    let at = Contains-has_name before name found in
     let early : (k : ℕ) → k < length before → name_at all k ≡ name_at before k = λ k lt. get_or-append before (name ∷ names) [] k lt in
     record {
       within = omega (arith, length-append before (name ∷ names));
-      repeated = (at.0, at.1, early at.0 at.1 ∙ at.2 ∙ sym (get_or-append_seam before name names []));
+      repeated = (at.0, at.1, early at.0 at.1 ∙ get_or_default before at.0 [] name at.1 ∙ at.2 ∙ sym (get_or-append_seam before name names []));
       least = λ k lt h. differ h.0 k [] h.1 lt (sym (early h.0 (omega (arith, h.1))) ∙ h.2 ∙ early k lt);
     }
 

@@ -4,7 +4,7 @@ use Rattle.std.proofs.lemmas.List.{drop_more, take_more, map-append, length-take
 use Rattle.std.specs.List.{list_any}
 use Rattle.std.specs.Str.{bytes_eq}
 use Rattle.coterie_file.specs.Names.{has_name, first_repeat}
-use Rattle.coterie_file.proofs.ListLemmas.{list_any-map}
+use Rattle.coterie_file.proofs.ListLemmas.{list_any_map}
 
 -- the texts before a place, and from it on
 abbrev pub texts_before : List (String Global) → ℕ → List (List ℕ)
@@ -16,7 +16,7 @@ texts_from names i = map string_bytes (drop i names)
 -- a look-up among the names that were seen
 pub seen_at : (names : List (String Global)) (i : ℕ) (text : List ℕ) (keys : List (Bor (List ℕ))) → map (λ k. k.now) keys ≡ texts_before names i
     → list_any (λ k. bytes_eq text k.now) keys ≡ has_name (texts_before names i) text
-seen_at names i text keys e = sym (list_any-map (λ n. bytes_eq text n) (λ k. k.now) keys) ∙ ap (list_any (λ n. bytes_eq text n)) e
+seen_at names i text keys e = sym (list_any_map (λ n. bytes_eq text n) (λ k. k.now) keys) ∙ ap (list_any (λ n. bytes_eq text n)) e
 
 -- the texts so far and the next
 pub texts_before-push : (names : List (String Global)) (i : ℕ) (name : String Global) (text : List ℕ) → i < length names → name ≡ get_or names i name → text ≡ string_bytes name

@@ -21,7 +21,8 @@ use Rattle.coterie_file.specs.Names.{has_name, number_of, name_at, AllDiffer, fi
 use Rattle.coterie_file.specs.Reading.{is_number, quorum_of, system_of, lists_fault, named_of, coterie_in, coterie_at, ListsCoterie, Describes}
 use Rattle.coterie_file.specs.declared.fault.FileFault.TheVariants.{UnknownName, RepeatedMember, Coterie}
 use Rattle.coterie_file.proofs.CapacityLemmas.{AreCapacities-from_no_fault, capacities_fault-none}
-use Rattle.coterie_file.proofs.NameLaws.{has_name-true, position-none, AllDiffer-from_no_repeat, first_repeat-none}
+use Rattle.coterie_file.proofs.ListLemmas.{Contains-has_name, has_name-Contains}
+use Rattle.coterie_file.proofs.NameLaws.{position-none, AllDiffer-from_no_repeat, first_repeat-none}
 use Rattle.coterie_file.proofs.NameLaws.{AreNames-from_no_fault, names_fault-none}
 use Rattle.coterie_file.proofs.ReadingLemmas.{unless-Ok}
 
@@ -101,23 +102,18 @@ lists_fault-means law lists e =
     record {
       names = AreNames-from_no_fault lists.names a.0;
       known = λ k d lt j x l.
-          let there = has_name-true lists.names (get_or (get_or lists.quorums k d) j x) (AllPass-from_list_all (has_name lists.names) (get_or lists.quorums k d) (not-false _ (known k d lt)) j x l) in
-          (there.0, there.1, get_or_default lists.names there.0 _ [] there.1 ∙ there.2);
+          Contains-has_name lists.names (get_or (get_or lists.quorums k d) j x) (AllPass-from_list_all (has_name lists.names) (get_or lists.quorums k d) (not-false _ (known k d lt)) j x l);
       once = λ k d lt. AllDiffer-from_no_repeat (get_or lists.quorums k d) (is_some-none (first_repeat [] (get_or lists.quorums k d)) (once k d lt));
       capacities = AreCapacities-from_no_fault (length lists.names) lists.capacities d.0;
       coterie = (law (length lists.names) (system_of lists).quorums (all_sets lists)).0 (option_map-None Coterie _ d.1);
     }
-
--- a listed name is found
-has_name-there : (names : List (List ℕ)) (name : List ℕ) → Contains names name → has_name names name ≡ true
-has_name-there names name h = list_any_at (λ n. bytes_eq name n) names h.0 name h.1 ((bytes_eq-Decides name (get_or names h.0 name)).1 (sym h.2))
 
 pub lists_fault-none : CoterieLaw → (lists : NameLists) → ListsCoterie lists → lists_fault lists ≡ None
 lists_fault-none law lists h =
     let unknown = λ (members : List (List ℕ)). not (list_all (has_name lists.names) members) in
     let repeated = λ (members : List (List ℕ)). is_some (first_repeat [] members) in
     let known : position unknown lists.quorums ≡ None = position-none unknown lists.quorums [] (λ k d lt.
-    not_from_true _ (list_all-from_AllPass (has_name lists.names) (get_or lists.quorums k d) (λ j x l. has_name-there lists.names _ (h.known k d lt j x l)))) in
+    not_from_true _ (list_all-from_AllPass (has_name lists.names) (get_or lists.quorums k d) (λ j x l. has_name-Contains lists.names _ (h.known k d lt j x l)))) in
     let once : position repeated lists.quorums ≡ None = position-none repeated lists.quorums [] (λ k d lt. ap is_some (first_repeat-none (get_or lists.quorums k d) (h.once k d lt))) in
     let sets : first_fault (system_of lists).voters (system_of lists).quorums ≡ None = (law (length lists.names) (system_of lists).quorums (all_sets lists)).1 h.coterie in
     rw (names_fault-none lists.names h.names, known, once, capacities_fault-none (length lists.names) lists.capacities h.capacities) (ap (option_map Coterie) sets)

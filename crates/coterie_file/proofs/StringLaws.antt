@@ -1,7 +1,7 @@
 -- What it means that the items of an array are strings.
 use Rattle.std.proofs.Common.{◌≡◌, ℕ, List, [], ◌∷◌, map, refl, ap, ap₂, ◌∙◌, Some}
 use Rattle.std.specs.Option.{option_map, option_and_then}
-use Rattle.toml.specs.Data.{Data, Items, no_items, item, string, integer, float, boolean, datetime, array, table, as_str, as_array}
+use Rattle.toml.specs.Data.{Data, Items, no_items, item, string, array, as_str, as_array}
 use Rattle.toml.specs.View.{items_of}
 use Rattle.coterie_file.specs.Lists.{texts_of, text_lists_of, strings}
 use Rattle.numbers.proofs.Options.{and_then-Some, option_map-Some}
@@ -9,21 +9,11 @@ use Rattle.numbers.proofs.Options.{and_then-Some, option_map-Some}
 -- the arrays of strings
 as_str-string : (d : Data) (text : List ℕ) → as_str d ≡ Some text → d ≡ string text
 as_str-string (string s) text e = cc
-as_str-string (integer z) text e = cc
-as_str-string (float x) text e = cc
-as_str-string (boolean b) text e = cc
-as_str-string (datetime t) text e = cc
-as_str-string (array ds) text e = cc
-as_str-string (table ms) text e = cc
+as_str-string d text e = cc
 
 as_array-array : (d : Data) (items : Items) → as_array d ≡ Some items → d ≡ array items
 as_array-array (string s) items e = cc
-as_array-array (integer z) items e = cc
-as_array-array (float x) items e = cc
-as_array-array (boolean b) items e = cc
-as_array-array (datetime t) items e = cc
-as_array-array (array ds) items e = cc
-as_array-array (table ms) items e = cc
+as_array-array d items e = cc
 
 pub texts_of-strings : (items : Items) (texts : List (List ℕ)) → texts_of items ≡ Some texts → items ≡ strings texts
 texts_of-strings no_items texts e = let none : texts ≡ [] = cc in rw none refl

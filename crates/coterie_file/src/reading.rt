@@ -21,6 +21,7 @@ use quorum_set::{Coterie, CoterieFault, QSet};
 use std::alloc::{AllocError, Global};
 
 /// Returns whether a voter has the name.
+#[tactic(auto, using(crate::proofs::ListLemmas::list_any_map))]
 fn knows(voters: &IndexSet<&str>, name: &str) -> bool
     ensures { result ≡ has_name (map (λ k. k.now) voters.now.keys) name.now }
 {

@@ -5,7 +5,7 @@ use Rattle.text_lines.specs.Forms.{AreFirst, BeginsWithNone, IsNext, line_of}
 use Rattle.text_lines.proofs.LineLemmas.{Lacks-line, all_lines, same_lines, same_next}
 use Rattle.world.specs.declared.step.Step.{Step}
 use Rattle.replay.specs.declared.fault.ReplayFault.{ReplayFault}
-use Rattle.replay.specs.declared.fault.ReplayFault.TheVariants.{TicketTwice, TicketMissing, WrongQuorum, PassTwice, PassMissing, WrongRegister, BadLine, OutOfMemory}
+use Rattle.replay.specs.declared.fault.ReplayFault.TheVariants.{BadLine, OutOfMemory}
 use Rattle.replay.specs.Scripts.{BeginsWith, IsBadRest, IsBadText, IsFirstBad, IsLine, IsScript, IsWorldLine, Script, script_text, step_form, steps_have_form, steps_text, world_form}
 use Rattle.replay.specs.Scripts.{worlds_have_form}
 
@@ -62,20 +62,10 @@ never_both text line s (inr a) h = λ e.
 pub bad_text : (text body : List ℕ) (sizes : ℕ × ℕ) (fault : ReplayFault) → IsNext world_form text sizes body → IsBadRest body fault → IsBadText text fault
 bad_text text body sizes (BadLine line) next h = inr (record { sizes = sizes; body = body; world = next; steps = h.0; ends = h.1; line_is = h.2 })
 bad_text text body sizes OutOfMemory next h = tt
-bad_text text body sizes (TicketTwice x) next h = absurd h
-bad_text text body sizes (TicketMissing x) next h = absurd h
-bad_text text body sizes (WrongQuorum x) next h = absurd h
-bad_text text body sizes (PassTwice x) next h = absurd h
-bad_text text body sizes (PassMissing x) next h = absurd h
-bad_text text body sizes (WrongRegister x) next h = absurd h
+bad_text text body sizes fault next h = absurd h
 
 -- a text that is refused, unless memory ran out, is no script's
 pub never_refused : (text : List ℕ) (fault : ReplayFault) (s : Script) → IsBadText text fault → IsScript s → text ≡ script_text s → fault ≡ OutOfMemory
 never_refused text (BadLine line) s bad h e = absurd (never_both text line s bad h e)
 never_refused text OutOfMemory s bad h e = refl
-never_refused text (TicketTwice x) s bad h e = absurd bad
-never_refused text (TicketMissing x) s bad h e = absurd bad
-never_refused text (WrongQuorum x) s bad h e = absurd bad
-never_refused text (PassTwice x) s bad h e = absurd bad
-never_refused text (PassMissing x) s bad h e = absurd bad
-never_refused text (WrongRegister x) s bad h e = absurd bad
+never_refused text fault s bad h e = absurd bad

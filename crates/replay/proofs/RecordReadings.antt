@@ -6,7 +6,7 @@ use Rattle.text_lines.specs.Forms.{AreFirst, BeginsWithNone, HaveLines, line_of}
 use Rattle.text_lines.proofs.LineLemmas.{no_other, same_lines, same_next, text_of-cons}
 use Rattle.run_outcome.specs.declared.record.RunRecord.{RunRecord}
 use Rattle.replay.specs.declared.fault.ReplayFault.{ReplayFault}
-use Rattle.replay.specs.declared.fault.ReplayFault.TheVariants.{TicketTwice, TicketMissing, WrongQuorum, PassTwice, PassMissing, WrongRegister, BadLine, OutOfMemory}
+use Rattle.replay.specs.declared.fault.ReplayFault.TheVariants.{BadLine, OutOfMemory}
 use Rattle.run_outcome.specs.Entries.{Draw, Pass}
 use Rattle.replay.specs.Records.{Entries, entries_of}
 use Rattle.replay.specs.RecordTexts.{HasText, IsBadBody, IsBadEnd, IsBadRest, IsCut, IsFirstBad, body_text, draw_form, draws_have_form, draws_text, pass_form, passes_have_form, passes_text}
@@ -113,9 +113,4 @@ read_back text body (Ok run) title written bad e h is = (same_body body (entries
     (same_behind body (body_text e) (sym title ∙ is) ∙ sym (append-nil (body_text e)))).0
 read_back text body (Err (BadLine line)) title written bad e h is = absurd (never_bad_body body line e bad h (same_behind body (body_text e) (sym title ∙ is)))
 read_back text body (Err OutOfMemory) title written bad e h is = refl
-read_back text body (Err (TicketTwice x)) title written bad e h is = absurd bad
-read_back text body (Err (TicketMissing x)) title written bad e h is = absurd bad
-read_back text body (Err (WrongQuorum x)) title written bad e h is = absurd bad
-read_back text body (Err (PassTwice x)) title written bad e h is = absurd bad
-read_back text body (Err (PassMissing x)) title written bad e h is = absurd bad
-read_back text body (Err (WrongRegister x)) title written bad e h is = absurd bad
+read_back text body (Err fault) title written bad e h is = absurd bad

@@ -17,32 +17,22 @@ pub IsFound-tickets : (w : Weighted) (e : Entries) (fault : ReplayFault) → IsT
 IsFound-tickets w e OutOfMemory h = h
 IsFound-tickets w e (TicketTwice t) h = h
 IsFound-tickets w e (TicketMissing t) h = h
-IsFound-tickets w e (WrongQuorum t) h = absurd h
-IsFound-tickets w e (PassTwice p) h = absurd h
-IsFound-tickets w e (PassMissing p) h = absurd h
-IsFound-tickets w e (WrongRegister q) h = absurd h
 IsFound-tickets w e (BadLine line) h = h
+IsFound-tickets w e fault h = absurd h
 
 pub IsFound-numbers : (w : Weighted) (e : Entries) (fault : ReplayFault) → EachOnce (tickets_of e.draws) → All (IsRight w) e.draws → IsNumberFault (numbers_of e.passes) fault → IsFound w e fault
 IsFound-numbers w e OutOfMemory counts right h = h
 IsFound-numbers w e (PassTwice p) counts right h = ((counts, right), h)
 IsFound-numbers w e (PassMissing p) counts right h = ((counts, right), h.0, h.1)
-IsFound-numbers w e (TicketTwice t) counts right h = absurd h
-IsFound-numbers w e (TicketMissing t) counts right h = absurd h
-IsFound-numbers w e (WrongQuorum t) counts right h = absurd h
-IsFound-numbers w e (WrongRegister q) counts right h = absurd h
 IsFound-numbers w e (BadLine line) counts right h = h
+IsFound-numbers w e fault counts right h = absurd h
 
 pub IsFound-register : (w : Weighted) (e : Entries) (fault : ReplayFault) → EachOnce (tickets_of e.draws) → All (IsRight w) e.draws → EachOnce (numbers_of e.passes)
     → IsRegisterFault e fault → IsFound w e fault
 IsFound-register w e (WrongRegister q) counts right up h = ((counts, right), up, h.0, h.1)
-IsFound-register w e (PassTwice p) counts right up h = absurd h
-IsFound-register w e (PassMissing p) counts right up h = absurd h
-IsFound-register w e (TicketTwice t) counts right up h = absurd h
-IsFound-register w e (TicketMissing t) counts right up h = absurd h
-IsFound-register w e (WrongQuorum t) counts right up h = absurd h
 IsFound-register w e (BadLine line) counts right up h = h
 IsFound-register w e OutOfMemory counts right up h = h
+IsFound-register w e fault counts right up h = absurd h
 
 -- a sound record has no fault, except out of memory
 pub IsSoundRecord-no_fault : (w : Weighted) (e : Entries) (fault : ReplayFault) → IsSoundRecord w e → IsFirstFault w e fault → fault ≡ OutOfMemory
@@ -66,13 +56,7 @@ IsWholeCycles-tickets v w draws tickets k same are counts long =
 -- a fault that was found is the first one
 pub IsFirstFault-IsFound : (w : Weighted) (e : Entries) (fault : ReplayFault) → IsFound w e fault → IsFirstFault w e fault
 IsFirstFault-IsFound w e OutOfMemory h = tt
-IsFirstFault-IsFound w e (TicketTwice t) h = h
-IsFirstFault-IsFound w e (TicketMissing t) h = h
-IsFirstFault-IsFound w e (WrongQuorum t) h = h
-IsFirstFault-IsFound w e (PassTwice p) h = h
-IsFirstFault-IsFound w e (PassMissing p) h = h
-IsFirstFault-IsFound w e (WrongRegister q) h = h
-IsFirstFault-IsFound w e (BadLine line) h = h
+IsFirstFault-IsFound w e fault h = h
 
 -- the register is looked at last
 pub register_at_end : (w : Weighted) (e : Entries) (found : Option ReplayFault) → EachOnce (tickets_of e.draws) → All (IsRight w) e.draws → EachOnce (numbers_of e.passes)

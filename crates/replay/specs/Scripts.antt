@@ -160,31 +160,17 @@ step_by word n =
 
 step_by-word : (s : Step) → HasStepLine s → step_by (step_word s) (step_number s) ≡ Some s
 unfolding step_by
-step_by-word (Ask c) h = refl
-step_by-word (Deliver k) h = refl
-step_by-word (Leave c) h = refl
-step_by-word (GiveUp c) h = refl
-step_by-word (RemindClient c) h = refl
-step_by-word (RemindVoter v) h = refl
 step_by-word Exchange h = absurd h
+step_by-word s h = refl
 
 step_words : (s : Step) → HasStepLine s → IsWord (step_word s)
-step_words (Ask c) h = search rules
-step_words (Deliver k) h = search rules
-step_words (Leave c) h = search rules
-step_words (GiveUp c) h = search rules
-step_words (RemindClient c) h = search rules
-step_words (RemindVoter v) h = search rules
 step_words Exchange h = absurd h
+step_words s h = search rules
 
 step_fits : (s : Step) → HasStepLine s → step_number s < 2 ^ 64
-step_fits (Ask c) h = omega arith
 step_fits (Deliver k) h = h
-step_fits (Leave c) h = omega arith
-step_fits (GiveUp c) h = omega arith
-step_fits (RemindClient c) h = omega arith
-step_fits (RemindVoter v) h = omega arith
 step_fits Exchange h = absurd h
+step_fits s h = omega arith
 
 pub steps_have_form : IsForm step_form
 steps_have_form = record {

@@ -13,7 +13,7 @@ use crate::fault::ReplayFault;
 use certificate::Plan;
 use dealer::{Account, Cycle};
 use quorum_set::Side;
-use run_outcome::RunRecord;
+use run_outcome::{Draw, Pass, RunRecord};
 use std::alloc::{AllocError, Global};
 
 /// The reason why n numbers are not 0 to n - 1, each once.
@@ -110,7 +110,7 @@ fn lesser(found: Option<u64>, ticket: u64) -> u64
 }
 
 /// Returns the smallest ticket of a draw with another quorum than the cycle's.
-fn least_wrong(cycle: &Cycle, draws: &[(u8, u64, usize)]) -> Option<u64>
+fn least_wrong(cycle: &Cycle, draws: &[Draw]) -> Option<u64>
     ensures { MatchOption result (All (IsRight cycle.now) draws.now) (IsLeast (IsWrong cycle.now draws.now)) }
 {
     let mut least = None;
@@ -123,7 +123,7 @@ fn least_wrong(cycle: &Cycle, draws: &[(u8, u64, usize)]) -> Option<u64>
 }
 
 /// Returns the draws of one plan.
-fn draws_on(side: Side, run: &RunRecord) -> &[(u8, u64, usize)]
+fn draws_on(side: Side, run: &RunRecord) -> &[Draw]
     ensures { result.now ≡ draws_on side run.now }
 {
     match side {
@@ -133,14 +133,14 @@ fn draws_on(side: Side, run: &RunRecord) -> &[(u8, u64, usize)]
 }
 
 /// Returns the tickets of draws, in their order.
-fn tickets_of(alloc: Global, draws: &[(u8, u64, usize)]) -> Result<Vec<u64>, AllocError>
+fn tickets_of(alloc: Global, draws: &[Draw]) -> Result<Vec<u64>, AllocError>
     ensures { IfOk result (λ v. v.items ≡ tickets_of draws.now) }
 {
     draws.iter().map(|draw| draw.1).collect(alloc)
 }
 
 /// Returns the numbers of passes, in their order.
-fn numbers_of(alloc: Global, passes: &[(u8, u64)]) -> Result<Vec<u64>, AllocError>
+fn numbers_of(alloc: Global, passes: &[Pass]) -> Result<Vec<u64>, AllocError>
     ensures { IfOk result (λ v. v.items ≡ numbers_of passes.now) }
 {
     passes.iter().map(|pass| pass.1).collect(alloc)

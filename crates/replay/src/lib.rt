@@ -88,7 +88,7 @@ pub use check::check_record;
 pub use fault::ReplayFault;
 pub use laws::{lines_end, records_are_read_in_one_way, texts_are_read_in_one_way};
 pub use output::run_script;
-pub use reading::read_script;
+pub use reading::{WorldLine, read_script};
 pub use record_reading::read_record;
 pub use record_writing::write_record;
 pub use script::Script;

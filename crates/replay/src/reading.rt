@@ -54,8 +54,8 @@ fn step_of(word: &[u8], number: u64) -> Option<Step>
     }
 }
 
-/// The line of a world: how many clients, and the highest stamp.
-struct WorldLine;
+/// The line of a world, with its sizes: how many clients, and the highest stamp.
+pub struct WorldLine;
 
 impl Line for WorldLine {
     type Value = (u8, u64);

@@ -6,7 +6,7 @@ ghost use Rattle.replay.specs.declared.fault.ReplayFault.TheVariants.{BadLine, O
 
 use crate::fault::ReplayFault;
 use numbers::{MAX_CLIENTS, MAX_QUORUMS};
-use run_outcome::RunRecord;
+use run_outcome::{Draw, Pass, RunRecord};
 use std::alloc::Global;
 use text_lines::{Line, first_lines, next_line};
 use texts::cut_at;
@@ -24,11 +24,11 @@ const HIGHEST_QUORUM: u64 = MAX_QUORUMS as u64 - 1;
 struct DrawLine;
 
 impl Line for DrawLine {
-    type Value = (u8, u64, usize);
+    type Value = Draw;
 
     ghost form = { draw_form };
 
-    fn value_of(word: &[u8], numbers: &[u64]) -> Option<(u8, u64, usize)> {
+    fn value_of(word: &[u8], numbers: &[u64]) -> Option<Draw> {
         match numbers {
             [client, ticket, quorum]
                 if word == b"draw".as_slice()
@@ -47,11 +47,11 @@ impl Line for DrawLine {
 struct PassLine;
 
 impl Line for PassLine {
-    type Value = (u8, u64);
+    type Value = Pass;
 
     ghost form = { pass_form };
 
-    fn value_of(word: &[u8], numbers: &[u64]) -> Option<(u8, u64)> {
+    fn value_of(word: &[u8], numbers: &[u64]) -> Option<Pass> {
         match numbers {
             [client, number] if word == b"pass".as_slice() && *client <= HIGHEST_CLIENT => {
                 Some((*client as u8, *number))

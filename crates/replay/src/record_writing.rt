@@ -5,17 +5,17 @@ ghost use Rattle.replay.specs.Records.{entries_of};
 ghost use Rattle.text_lines.specs.Forms.{line_of};
 ghost use Rattle.replay.specs.RecordTexts.{draw_form, draws_text, pass_form, passes_text, record_text, register_text};
 
-use run_outcome::RunRecord;
+use run_outcome::{Draw, Pass, RunRecord};
 use std::alloc::{AllocError, Global};
 
-fn push_draw(text: &mut String, draw: &(u8, u64, usize)) -> Result<(), AllocError>
+fn push_draw(text: &mut String, draw: &Draw) -> Result<(), AllocError>
     ensures { OnOk result (string_bytes text.new ≡ string_bytes text.old ++ (line_of draw_form draw.now ++ 10 ∷ [])) }
 {
     let (client, ticket, quorum) = *draw;
     write!(text, "draw {client} {ticket} {quorum}\n")
 }
 
-fn push_draws(text: &mut String, draws: &[(u8, u64, usize)]) -> Result<(), AllocError>
+fn push_draws(text: &mut String, draws: &[Draw]) -> Result<(), AllocError>
     ensures { OnOk result (string_bytes text.new ≡ string_bytes text.old ++ draws_text draws.now) }
 {
     for draw in draws {
@@ -24,14 +24,14 @@ fn push_draws(text: &mut String, draws: &[(u8, u64, usize)]) -> Result<(), Alloc
     Ok(())
 }
 
-fn push_pass(text: &mut String, pass: &(u8, u64)) -> Result<(), AllocError>
+fn push_pass(text: &mut String, pass: &Pass) -> Result<(), AllocError>
     ensures { OnOk result (string_bytes text.new ≡ string_bytes text.old ++ (line_of pass_form pass.now ++ 10 ∷ [])) }
 {
     let (client, number) = *pass;
     write!(text, "pass {client} {number}\n")
 }
 
-fn push_passes(text: &mut String, passes: &[(u8, u64)]) -> Result<(), AllocError>
+fn push_passes(text: &mut String, passes: &[Pass]) -> Result<(), AllocError>
     ensures { OnOk result (string_bytes text.new ≡ string_bytes text.old ++ passes_text passes.now) }
 {
     for pass in passes {

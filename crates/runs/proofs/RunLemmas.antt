@@ -1,15 +1,15 @@
 -- What a run of driven members comes to.
 use Rattle.std.proofs.Common.{◌≡◌, ℕ, zero, suc, ◌+◌, ◌*◌, ◌/◌, ◌<◌, Option, None, ◌≤◌, ◌++◌, ◌==◌, List, [], ◌∷◌, Bool, true, Some, IsPermutation, map, flat_map, length, sum_by}
-use Rattle.std.proofs.Common.{count_by, get_or, refl, sym, ap, ◌∙◌, subst, cond, inl, inr, arith}
+use Rattle.std.proofs.Common.{count_by, get_or, refl, sym, ap, ◌∙◌, subst, cond, arith}
 use Rattle.std.specs.List.{All, AllZip, range_with_len}
 use Rattle.std.proofs.lemmas.List.{length-map}
 use Rattle.std.proofs.lemmas.List.FromFn.{get_or-map-range_with_len, get_or-range_with_len, length-range_with_len}
 use Rattle.std.proofs.lemmas.Slice.Zip.{AllZip-long}
 use Rattle.std.proofs.lemmas.List.Elements.{All-map, AllZip-get_or}
-use Rattle.std.proofs.lemmas.Bool.{cases_eq, eq-eqb, ne_eqb}
 use Rattle.std.proofs.lemmas.List.Sorted.{sum_by-IsPermutation}
 use Rattle.std.proofs.lemmas.List.Sums.{sum_by-append, sum_by-cons}
 use native.Mathlib.Nat.{add-mul, zero-mul}
+use Rattle.numbers.proofs.CountLemmas.{times-range}
 use Rattle.requester.specs.Words.{is_idle}
 use Rattle.quorum_set.specs.declared.bridge.Side.{Side}
 use Rattle.quorum_set.specs.declared.bridge.Side.TheVariants.{First, Second}
@@ -64,18 +64,10 @@ sum_by_number number f v (x ∷ xs) all =
     let rest = sum_by_number number f v xs (λ k d lt. all (suc k) d (omega (arith, lt))) in
     omega (arith, all 0 x (omega arith), rest, sum_by-cons f x xs, sum_by-cons v (number x) (map number xs))
 
--- in a range each number stands once, and none below its first
-none_below : (v : ℕ → ℕ) (c a n : ℕ) → ((k : ℕ) → (k ≡ c → ⊥) → v k ≡ 0) → c < a → sum_by v (range_with_len a n) ≡ 0
-none_below v c a zero other lt = refl
-none_below v c a (suc n) other lt =
-    omega (arith, sum_by-cons v a (range_with_len (a + 1) n), other a (λ e. omega (arith, e, lt)), none_below v c (a + 1) n other (omega (arith, lt)))
-
-once_within : (v : ℕ → ℕ) (c a n : ℕ) → ((k : ℕ) → (k ≡ c → ⊥) → v k ≡ 0) → a ≤ c → c < a + n → sum_by v (range_with_len a n) ≡ v c
-once_within v c a zero other le lt = absurd (omega (arith, le, lt))
-once_within v c a (suc n) other le lt = elim (cases_eq a c) [
-  | inl here ↦ omega (arith, sum_by-cons v a (range_with_len (a + 1) n), ap v here, none_below v c (a + 1) n other (omega (arith, here)))
-  | inr later ↦ omega (arith, sum_by-cons v a (range_with_len (a + 1) n), other a later, once_within v c (a + 1) n other (omega (arith, le, later)) (omega (arith, lt)))
-]
+-- the sum of multiples
+sum_by_times : (k : ℕ) (f : ℕ → ℕ) (xs : List ℕ) → sum_by (λ x. k * f x) xs ≡ k * sum_by f xs
+sum_by_times k f [] = omega arith
+sum_by_times k f (x ∷ xs) = rw (sum_by-cons (λ y. k * f y) x xs, sum_by-cons f x xs) (omega (arith, sum_by_times k f xs))
 
 -- Fresh members that were driven
 
@@ -156,18 +148,12 @@ all_ready c passes missing before after e served idle some out =
 ends_by : (client clients tickets passed passes : ℕ) (fault : ClusterFault) → client < clients → passed < passes → passes ≤ tickets → EndsWork client tickets passed fault
     → EndsRun clients (run_refusal fault)
 ends_by id clients tickets passed passes (ends.Client client.StampsSpent) less fewer quota h = tt
-ends_by id clients tickets passed passes (ends.Client client.Busy) less fewer quota h = absurd h
-ends_by id clients tickets passed passes (ends.Client client.NotInside) less fewer quota h = absurd h
-ends_by id clients tickets passed passes (ends.Client client.NotAsking) less fewer quota h = absurd h
 ends_by id clients tickets passed passes (ends.Deal deal.QuotaSpent) less fewer quota h = omega (arith, fewer, quota, h)
 ends_by id clients tickets passed passes (ends.Deal deal.OutOfMemory) less fewer quota h = tt
 ends_by id clients tickets passed passes (ends.Board board.RegisterFull) less fewer quota h = tt
 ends_by id clients tickets passed passes (ends.Board board.OutOfMemory) less fewer quota h = tt
-ends_by id clients tickets passed passes (ends.Board (board.SeatsOut k)) less fewer quota h = absurd h
-ends_by id clients tickets passed passes (ends.Board (board.VoteOut v)) less fewer quota h = absurd h
-ends_by id clients tickets passed passes ends.NotInside less fewer quota h = absurd h
 ends_by id clients tickets passed passes (ends.TurnsSpent c) less fewer quota h = omega (arith, less, h.0)
-ends_by id clients tickets passed passes ends.NoSecondPlan less fewer quota h = absurd h
+ends_by id clients tickets passed passes fault less fewer quota h = absurd h
 
 abbrev EndsWell : ℕ → MemberState → Type 0
 EndsWell clients m = (fault : ClusterFault) → m.fault ≡ Some fault → EndsRun clients (run_refusal fault)
@@ -207,16 +193,10 @@ times_of_each {Y} who did clients times members ys same numbers long named c les
     ∙ sum_by-flat_map (λ y. one_of c (who y)) did members
     ∙ sum_by_number (λ m. m.requester.id) (λ m. sum_by (λ y. one_of c (who y)) (did m)) (λ k. times * one_of c k) members part
     ∙ ap (sum_by (λ k. times * one_of c k)) numbers
-    ∙ once_within (λ k. times * one_of c k) c 0 clients none_else (omega arith) (omega (arith, less))
-    ∙ ap (λ n. times * n) here
+    ∙ sum_by_times times (one_of c) (range_with_len 0 clients)
+    ∙ ap (λ n. times * n) (times-range clients c less)
     ∙ omega arith
   where
-    here : one_of c c ≡ 1
-    here = ap (λ b. cond {A = ℕ} b 1 0) (eq-eqb c c refl)
-
-    none_else : (k : ℕ) → (k ≡ c → ⊥) → times * one_of c k ≡ 0
-    none_else k other = ap (λ b. times * cond {A = ℕ} b 1 0) (ne_eqb k c other) ∙ omega arith
-
     part : All (λ m. sum_by (λ y. one_of c (who y)) (did m) ≡ times * one_of c m.requester.id) members
     part k m lt =
         let one = get_or members k m in

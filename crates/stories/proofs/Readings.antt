@@ -1,28 +1,25 @@
 -- What is read of a text, line by line, and that a text is that of one script.
-use Rattle.std.proofs.Common.{◌≡◌, ◌≢◌, ℕ, ◌+◌, Option, None, Some, true, false, List, [], ◌∷◌, ◌++◌, length, map, filter, length-append, refl, sym, ap, ap₂, subst, ◌∙◌, inl, inr, ◌⊎◌, arith}
+use Rattle.std.proofs.Common.{◌≡◌, ◌≢◌, ℕ, ◌+◌, Some, true, false, List, [], ◌∷◌, ◌++◌, map, filter, length-append, refl, sym, ap, ap₂, subst, ◌∙◌, inl, inr, ◌⊎◌, arith}
 use Rattle.std.proofs.lemmas.List.{append-nil, map-append}
 use Rattle.std.proofs.lemmas.List.Elements.{filter-append}
 use Rattle.texts.specs.Cuts.{cut_at}
 use Rattle.texts.proofs.CutLemmas.{cut_at-Some}
 use Rattle.text_lines.specs.Forms.{Form, HaveLines, IsNext, line_of}
 use Rattle.text_lines.proofs.LineLemmas.{Lacks-line, cut_line, same_pair, same_value}
-use Rattle.world.specs.declared.step.Step.TheVariants.{Ask, Deliver, Leave, GiveUp, RemindClient, RemindVoter, Exchange}
+use Rattle.world.specs.declared.step.Step.TheVariants.{Ask}
 use Rattle.replay.specs.Scripts.{world_form, worlds_have_form}
 use Rattle.replay.specs.declared.fault.ReplayFault.{ReplayFault}
-use Rattle.replay.specs.declared.fault.ReplayFault.TheVariants.{TicketTwice, TicketMissing, WrongQuorum, PassTwice, PassMissing, WrongRegister, BadLine, OutOfMemory}
+use Rattle.replay.specs.declared.fault.ReplayFault.TheVariants.{BadLine, OutOfMemory}
 use Rattle.stories.specs.declared.turn.Turn.{Turn}
-use Rattle.stories.specs.declared.turn.Turn.TheVariants.{CrashClient, CrashVoter, Step as Makes}
+use Rattle.stories.specs.declared.turn.Turn.TheVariants.{Step as Makes}
 use Rattle.stories.specs.Turns.{HasTurnLine, turn_form, turns_have_form}
-use Rattle.stories.specs.Scripts.{BeginsWith, EndsBadly, IsBadRest, IsBadText, IsFirstBad, IsScript, IsTextOf, Reads, Script, StopsAt, is_plain, script_lines, sizes_line}
+use Rattle.stories.specs.Scripts.{BeginsWith, IsBadRest, IsBadText, IsFirstBad, IsScript, IsTextOf, Reads, Script, StopsAt, is_plain, script_lines, sizes_line}
 
 -- Reading on
 
 BeginsWith-append : (text mid rest : List ℕ) (xs ys : List (List ℕ)) → BeginsWith text xs mid → BeginsWith mid ys rest → BeginsWith text (xs ++ ys) rest
 BeginsWith-append text mid rest [] ys e k = subst (λ (t : List ℕ). BeginsWith t ys rest) (sym e) k
 BeginsWith-append text mid rest (x ∷ xs) ys h k = (h.0, h.1, BeginsWith-append h.0 mid rest xs ys h.2 k)
-
-pub Reads-none : (text : List ℕ) → Reads text [] 0 text
-Reads-none text = record { lines = []; begins = refl; plain_are = refl; count_is = refl }
 
 -- some lines, and then others
 pub Reads-append : (text mid rest : List ℕ) (p q : List (List ℕ)) (m n : ℕ) → Reads text p m mid → Reads mid q n rest → Reads text (p ++ q) (m + n) rest
@@ -45,14 +42,7 @@ Reads-notes text mid rest count a b = Reads-append text mid rest [] [] count 1 a
 
 plain_turn : (t : Turn) → HasTurnLine t → is_plain (line_of turn_form t) ≡ true
 plain_turn (Makes (Ask c)) h = refl
-plain_turn (Makes (Deliver k)) h = refl
-plain_turn (Makes (Leave c)) h = refl
-plain_turn (Makes (GiveUp c)) h = refl
-plain_turn (Makes (RemindClient c)) h = refl
-plain_turn (Makes (RemindVoter v)) h = refl
-plain_turn (Makes Exchange) h = refl
-plain_turn (CrashClient c) h = refl
-plain_turn (CrashVoter v) h = refl
+plain_turn t h = refl
 
 -- a turn's line
 Reads-turn : (text : List ℕ) (t : Turn) (rest : List ℕ) → IsNext turn_form text t rest → Reads text (line_of turn_form t ∷ []) 1 rest
@@ -105,12 +95,7 @@ bad_text text sizes rest body notes (BadLine line) a b h = inr (record {
   some = h.some;
 })
 bad_text text sizes rest body notes OutOfMemory a b h = tt
-bad_text text sizes rest body notes (TicketTwice x) a b h = absurd h
-bad_text text sizes rest body notes (TicketMissing x) a b h = absurd h
-bad_text text sizes rest body notes (WrongQuorum x) a b h = absurd h
-bad_text text sizes rest body notes (PassTwice x) a b h = absurd h
-bad_text text sizes rest body notes (PassMissing x) a b h = absurd h
-bad_text text sizes rest body notes (WrongRegister x) a b h = absurd h
+bad_text text sizes rest body notes fault a b h = absurd h
 
 -- A text is that of one script
 
@@ -206,9 +191,4 @@ never_both text line s (inr a) h t = by (stopped turn_form text (script_lines a.
 pub never_refused : (text : List ℕ) (fault : ReplayFault) (s : Script) → IsBadText text fault → IsScript s → IsTextOf text s → fault ≡ OutOfMemory
 never_refused text (BadLine line) s bad h t = absurd (never_both text line s bad h t)
 never_refused text OutOfMemory s bad h t = refl
-never_refused text (TicketTwice x) s bad h t = absurd bad
-never_refused text (TicketMissing x) s bad h t = absurd bad
-never_refused text (WrongQuorum x) s bad h t = absurd bad
-never_refused text (PassTwice x) s bad h t = absurd bad
-never_refused text (PassMissing x) s bad h t = absurd bad
-never_refused text (WrongRegister x) s bad h t = absurd bad
+never_refused text fault s bad h t = absurd bad

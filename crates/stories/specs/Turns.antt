@@ -7,12 +7,11 @@
 -- All other lines are those of a script. C and V are at most 255.
 use Rattle.std.specs.Prelude.{ℕ, ◌≡◌, ◌≤◌, List, [], ◌∷◌, codes, Option, Some, None, ⊤, if◌then◌else◌}
 use Rattle.std.specs.Str.{bytes_eq}
-use Rattle.std.proofs.Common.{ap, ap₂, sym, ◌∙◌, refl, get_or, length, ◌+◌, ◌<◌, ◌^◌, arith, rules}
+use Rattle.std.proofs.Common.{ap, ap₂, sym, ◌∙◌, refl, get_or, length, arith, rules}
 use Rattle.texts.specs.Fields.{AllFit}
 use Rattle.text_lines.specs.Forms.{Form, IsForm, IsWord}
-use Rattle.world.specs.declared.step.Step.{Step}
 use Rattle.world.specs.declared.step.Step.TheVariants.{Ask, Deliver, Leave, GiveUp, RemindClient, RemindVoter, Exchange}
-use Rattle.replay.specs.Scripts.{HasStepLine, step_form, step_number, step_word, steps_have_form}
+use Rattle.replay.specs.Scripts.{HasStepLine, step_number, step_word}
 use Rattle.stories.specs.declared.turn.Turn.{Turn}
 use Rattle.stories.specs.declared.turn.Turn.TheVariants.{CrashClient, CrashVoter, Step as Makes}
 
@@ -65,47 +64,20 @@ turn_by word n =
 turn_by-word : (t : Turn) → HasTurnLine t → turn_by (turn_word t) (get_or (turn_numbers t) 0 0) ≡ Some t
 unfolding turn_by
 turn_by-word (Makes (Ask c)) h = refl
-turn_by-word (Makes (Deliver k)) h = refl
-turn_by-word (Makes (Leave c)) h = refl
-turn_by-word (Makes (GiveUp c)) h = refl
-turn_by-word (Makes (RemindClient c)) h = refl
-turn_by-word (Makes (RemindVoter v)) h = refl
-turn_by-word (Makes Exchange) h = refl
-turn_by-word (CrashClient c) h = refl
-turn_by-word (CrashVoter v) h = refl
+turn_by-word t h = refl
 
 turn_words : (t : Turn) → HasTurnLine t → IsWord (turn_word t)
 turn_words (Makes (Ask c)) h = search rules
-turn_words (Makes (Deliver k)) h = search rules
-turn_words (Makes (Leave c)) h = search rules
-turn_words (Makes (GiveUp c)) h = search rules
-turn_words (Makes (RemindClient c)) h = search rules
-turn_words (Makes (RemindVoter v)) h = search rules
-turn_words (Makes Exchange) h = search rules
-turn_words (CrashClient c) h = search rules
-turn_words (CrashVoter v) h = search rules
+turn_words t h = search rules
 
 turns_fit : (t : Turn) → HasTurnLine t → AllFit (turn_numbers t)
-turns_fit (Makes (Ask c)) h = (omega arith, tt)
 turns_fit (Makes (Deliver k)) h = (h, tt)
-turns_fit (Makes (Leave c)) h = (omega arith, tt)
-turns_fit (Makes (GiveUp c)) h = (omega arith, tt)
-turns_fit (Makes (RemindClient c)) h = (omega arith, tt)
-turns_fit (Makes (RemindVoter v)) h = (omega arith, tt)
 turns_fit (Makes Exchange) h = tt
-turns_fit (CrashClient c) h = (omega arith, tt)
-turns_fit (CrashVoter v) h = (omega arith, tt)
+turns_fit t h = (omega arith, tt)
 
 turns_few : (t : Turn) → length (turn_numbers t) ≤ 1
 turns_few (Makes (Ask c)) = omega arith
-turns_few (Makes (Deliver k)) = omega arith
-turns_few (Makes (Leave c)) = omega arith
-turns_few (Makes (GiveUp c)) = omega arith
-turns_few (Makes (RemindClient c)) = omega arith
-turns_few (Makes (RemindVoter v)) = omega arith
-turns_few (Makes Exchange) = omega arith
-turns_few (CrashClient c) = omega arith
-turns_few (CrashVoter v) = omega arith
+turns_few t = omega arith
 
 pub turns_have_form : IsForm turn_form
 turns_have_form = record {

@@ -1,7 +1,6 @@
 //! Reading a script of a story.
 ghost use Rattle.std.specs.Prelude.{◌≡◌, ◌+◌, ◌<◌, ◌≤◌, ◌^◌, ◌∷◌, [], IfErr, IfOk, IfSome, MatchOption, MatchResult, length};
 ghost use Rattle.text_lines.specs.Forms.{HaveLines, IsLineOf};
-ghost use Rattle.replay.specs.Scripts.{world_form, worlds_have_form};
 ghost use Rattle.replay.specs.declared.fault.ReplayFault.TheVariants.{OutOfMemory};
 ghost use Rattle.stories.specs.Scripts.{BeginsWithNoNote, IsBadRest, IsBadText, IsBody, IsScript, IsTextOf, Reads, Script, is_plain};
 ghost use Rattle.stories.specs.Turns.{turn_form, turns_have_form};
@@ -9,36 +8,11 @@ ghost use Rattle.stories.specs.declared.turn.Turn.{Turn};
 
 use crate::script::StoryScript;
 use crate::turn::Turn;
-use numbers::{MAX_CLIENTS, MAX_STAMP};
-use replay::ReplayFault;
+use replay::{ReplayFault, WorldLine};
 use std::alloc::Global;
 use text_lines::{Line, next_line};
 use texts::cut_at;
 use world::Step;
-
-/// The most clients of a world.
-const MOST_CLIENTS: u64 = MAX_CLIENTS as u64;
-
-/// The line of the sizes: how many clients, and the highest stamp.
-struct SizesLine;
-
-impl Line for SizesLine {
-    type Value = (u8, u64);
-
-    ghost form = { world_form };
-
-    fn value_of(word: &[u8], numbers: &[u64]) -> Option<(u8, u64)> {
-        match numbers {
-            [clients, limit]
-                if word == b"world".as_slice()
-                    && (1..=MOST_CLIENTS).contains(clients)
-                    && (1..=MAX_STAMP).contains(limit) => { Some((*clients as u8, *limit)) }
-            _ => None,
-        }
-    }
-
-    ghost is_form = { worlds_have_form };
-}
 
 /// The line of a turn.
 struct TurnLine;
@@ -159,7 +133,7 @@ pub fn read_story(alloc: Global, text: &[u8]) -> Result<StoryScript, ReplayFault
     ensures bad { IfErr result (IsBadText text.now) }
 {
     let (notes, rest) = skip_notes(text);
-    let Some((sizes, body)) = next_line::<SizesLine>(rest) else {
+    let Some((sizes, body)) = next_line::<WorldLine>(rest) else {
         return Err(ReplayFault::BadLine(notes + 1));
     };
     let (clients, limit) = sizes;

@@ -3,7 +3,7 @@ use Rattle.members.specs.Clusters.{ClusterState, IsCluster}
 use Rattle.certificate.specs.Certificates.{IsCertificate}
 use Rattle.members.specs.Closes.{RefusesClose}
 use Rattle.runs.specs.Runs.{AreLet, EndsRun, IsRun}
-use Rattle.runs.proofs.RunLemmas.{all_ready, EndsRun-driven, AreLet-served, All-passed, run_of, turns-served}
+use Rattle.runs.proofs.RunLemmas.{all_ready, EndsRun-driven, AreLet-served, turns-served}
 use Rattle.runs.proofs.run.run_blank.Goals as goal
 
 pub returns-in-Err-clause-ended : goal.returns-in-Err-clause-ended
@@ -18,18 +18,12 @@ returns-in-Err-clause-ended g c =
 pub returns-in-Ok-close-clause-run : goal.returns-in-Ok-close-clause-run
 returns-in-Ok-close-clause-run g c =
     let cluster = g.N.ClusterName.cluster in
-    let after = c.in-Ok-drive.members.items in
     let run = c.in-Ok-close.run' in
-    let is = c.in-Ok-close.ensures.record in
-    let served = c.in-Ok-drive.ensures.served in
     let alone = ap (λ (x : ClusterState). x.second) (sym c.requires.name) ∙ c.requires.alone in
     let whole : IsCluster cluster = subst IsCluster c.requires.name c.requires.cluster in
     let plan : IsCertificate cluster.office.cycle = subst (λ (x : ClusterState). IsCertificate x.office.cycle) c.requires.name c.requires.plan in
-    let made = run_of cluster c.args.passes c.in-Ok.members.items after run alone c.in-Ok.ensures.members served whole.firsts is
-    (c.records_of_runs_are_sound.ensures.first cluster after run is)
-    (c.records_count_passes.ensures.draws cluster after run is)
-    (c.records_count_passes.ensures.evenly cluster after run c.args.passes is (All-passed cluster c.args.passes c.in-Ok.members.items after alone c.in-Ok.ensures.members served))
-    (c.records_are_in_range.ensures.quorums cluster after run whole plan is) in
+    let made = c.records_are_of_runs.ensures cluster c.in-Ok.members.items c.in-Ok-drive.members.items c.args.passes run whole plan alone c.in-Ok.ensures.members
+    c.in-Ok-drive.ensures.served c.in-Ok-close.ensures.record in
     subst (λ (x : ClusterState). IsRun x.office.cycle x.board.clients c.args.passes run) (sym c.requires.name) made
 
 pub returns-in-Ok-close-clause-let_pass : goal.returns-in-Ok-close-clause-let_pass
