@@ -8,11 +8,11 @@ use Rattle.message.specs.declared.message.VoterBody.{VoterBody}
 use Rattle.message.specs.declared.message.VoterBody.TheVariants as asks
 use Rattle.voter.specs.declared.state.Grant.{Grant}
 use Rattle.voter.specs.declared.state.VoterState.{VoterState}
-use Rattle.voter.specs.Replies.{CarrySeen}
-use Rattle.voter.specs.Steps.{Outcome, IsSound, start, step, effect_of, effect_by, is_ended}
+use Rattle.voter.specs.Steps.{Outcome, start, step, effect_of, effect_by, is_ended}
 use Rattle.voter.specs.VoteMoves.{VoteMoves}
-use Rattle.voter.specs.VoterContract.{MeetsContract, IsEntry, Brings}
+use Rattle.voter.specs.VoterContract.{IsEntry, Brings}
 use Rattle.board.specs.Seats.{BoardState, VoterSeatState as SeatState}
+use Rattle.node.specs.PartLaws.{StepsSoundly}
 use Rattle.node.specs.Nodes.{IsNode, IsFor, run, next, seat_grant, settled, offered, offered_by}
 
 run-push : (v : Option VoterState) (log : List ToVoter) (m : ToVoter) → run v (log ++ m ∷ []) ≡ next (run v log) m
@@ -68,10 +68,7 @@ pub record Took (board : BoardState) (v : VoterState) (log : List ToVoter) (seat
   pub node : IsNode board v log seat
   pub meant : IsFor board seat.voter m
   pub took : step v m ≡ Some o
-  pub moves : VoteMoves (effect_of v m).frees v o.state
-  pub meets : MeetsContract v m o
-  pub carry : CarrySeen v m o
-  pub sound : IsSound o.state
+  pub laws : StepsSoundly v m o
 
 Brings-client_below : (clients client : ℕ) (b : VoterBody) (c t : ℕ) → client < clients → Brings client b c t → c < clients
 Brings-client_below clients client (asks.Request s) c t lt p = subst (λ x. x < clients) (sym p.0) lt
@@ -121,18 +118,18 @@ Agrees-offered_by v w seat cur last b moves None is (Some g) holds =
 
 module _ (board : BoardState) (v : VoterState) (log : List ToVoter) (seat : SeatState) (m : ToVoter) (o : Outcome) (t : Took board v log seat m o) where
   entries : (c s : ℕ) → IsEntry o.state c s → c < board.clients
-  entries c s e = ⊎_elim (t.node.clients c s) (Brings-client_below board.clients m.client m.body c s t.meant.client) (t.meets.entries c s e)
+  entries c s e = ⊎_elim (t.node.clients c s) (Brings-client_below board.clients m.client m.body c s t.meant.client) (t.laws.meets.entries c s e)
 
   -- what the seat may be asked to offer
   pub may_offer : (held : Option Grant) → o.state.held ≡ held → (settled (effect_of v m).frees seat).current ≡ None
       → IfSome held (λ g. (g.client < board.clients) × ((settled (effect_of v m).frees seat).last < g.grant) × (g.grant ≤ 2 ^ 40))
   may_offer None holds free = tt
   may_offer (Some g) holds free =
-      let n = new_number v o.state seat t.node.current (effect_of v m).frees t.moves free g holds in
+      let n = new_number v o.state seat t.node.current (effect_of v m).frees t.laws.moves free g holds in
       let last = kept_last (effect_of v m).frees seat ∙ t.node.last in
-      let few = t.sound.numbered g holds in
-      let spent = t.sound.granted in
-      let limit = t.sound.limit in (
+      let few = t.laws.sound.numbered g holds in
+      let spent = t.laws.sound.granted in
+      let limit = t.laws.sound.limit in (
         entries g.client g.stamp (inl (g, holds, refl, refl)),
         omega (arith, n.0, last),
         omega (arith, few, spent, limit),
@@ -147,16 +144,16 @@ module _ (board : BoardState) (v : VoterState) (log : List ToVoter) (seat : Seat
   pub IsNode-offered : IsNode board o.state (log ++ m ∷ []) (offered o.state.held (settled (effect_of v m).frees seat))
   IsNode-offered =
       let b = (effect_of v m).frees in
-      let a = Agrees-offered_by v o.state seat t.node.current t.node.last b t.moves (settled b seat).current refl o.state.held refl in record {
+      let a = Agrees-offered_by v o.state seat t.node.current t.node.last b t.laws.moves (settled b seat).current refl o.state.held refl in record {
         follows = subst (λ (n : ℕ). run (Some (start n (2 ^ 40))) (log ++ m ∷ []) ≡ Some o.state) (sym a.voter) follows;
         known = subst (λ (n : ℕ). All (IsFor board n) (log ++ m ∷ [])) (sym a.voter) known;
         table = a.table ∙ t.node.table;
         inside = subst (λ (n : ℕ). n < board.voters) (sym a.voter) t.node.inside;
         current = a.current;
         last = a.last;
-        id = t.carry.id ∙ t.node.id ∙ sym a.voter;
-        limit = t.carry.limit ∙ t.node.limit;
+        id = t.laws.carry.id ∙ t.node.id ∙ sym a.voter;
+        limit = t.laws.carry.limit ∙ t.node.limit;
         clients = entries;
         few = t.node.few;
-        sound = t.sound;
+        sound = t.laws.sound;
       }

@@ -2,3 +2,4 @@ pub mod Names
 pub mod Nodes
 pub mod Mail
 pub mod Votes
+pub mod PartLaws

@@ -34,6 +34,7 @@
 //! This crate depends on `board`, `dealer`, `voter`, `requester`, `message` and `numbers`.
 #![tactic(auto)]
 
+mod laws;
 mod mailbox;
 mod name;
 mod node;

@@ -5,16 +5,14 @@ ghost use Rattle.voter.specs.Steps.{effect_of, remind, start, step};
 ghost use Rattle.node.specs.Names.{ClusterState};
 ghost use Rattle.node.specs.Nodes.{NodeState, IsFor, offered, seat_grant, settled};
 
+use crate::laws::voters_keep_their_laws;
 use crate::name::ClusterName;
 use board::{Board, VoterSeat};
 use message::ToVoter;
 use numbers::MAX_STAMP;
 use std::alloc::{AllocError, Global};
 use std::marker::{Model, PhantomData};
-use voter::{
-    Grant, Replies, Voter, grants_are_numbered, replies_carry_what_was_seen,
-    voters_meet_the_contract, voters_stay_sound,
-};
+use voter::{Grant, Replies, Voter};
 
 /// A voter of a cluster, the messages that it took, and its seat on the board. Whenever no call
 /// runs, the voter is what its definition makes of the log, and the seat has the voter's current
@@ -78,7 +76,7 @@ impl<N: ClusterName> Node<N> {
         requires clients { N.cluster.board.clients ≤ max_clients }
         ensures { result ≡ record { voter = start seat.voter max_stamp; log = []; number = seat.voter } }
     {
-        voters_stay_sound();
+        voters_keep_their_laws();
         Node {
             voter: Voter::new(seat.voter(), MAX_STAMP),
             log: Vec::new(alloc),
@@ -139,10 +137,7 @@ impl<N: ClusterName> Node<N> {
         ensures refused { IfErr result (λ _. (self.new ≡ self.old) × (replies.new.items ≡ [])) }
         ensures number { self.new.number ≡ self.old.number }
     {
-        grants_are_numbered();
-        voters_meet_the_contract();
-        voters_stay_sound();
-        replies_carry_what_was_seen();
+        voters_keep_their_laws();
         replies.clear();
         self.log.reserve(1)?;
         let effect = self.voter.effect(message);

@@ -7,9 +7,10 @@ ghost use Rattle.requester.specs.Words.{members};
 ghost use Rattle.node.specs.Mail.{IsMail, has_grant};
 ghost use Rattle.node.specs.Votes.{HoldsWithin, HoldsLocked, HoldsFewer, HoldsOnly};
 
+use crate::laws::clients_keep_their_laws;
 use board::{Board, ClientSeat};
 use message::{ClientBody, ToClient};
-use requester::{Requester, messages_move_votes, phases_show_votes};
+use requester::Requester;
 
 /// Gives a vote back if the seat holds it.
 #[tactic(auto, using(crate::proofs::VoteLemmas::dropped_is_0))]
@@ -116,8 +117,7 @@ pub fn accept(
     ensures else_same { would_hold requester.now message.now ≡ false → seat.new ≡ seat.old }
     ensures lost { result ≡ false → (seat.new ≡ seat.old) × (would_hold requester.now message.now ≡ true) }
 {
-    messages_move_votes();
-    phases_show_votes();
+    clients_keep_their_laws();
     if !requester.would_hold(message) {
         return true;
     }

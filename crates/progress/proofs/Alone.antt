@@ -1,10 +1,10 @@
 -- the steps by which a client that asks alone gets in
-use Rattle.std.proofs.Common.{◌≡◌, ◌≢◌, ℕ, ◌+◌, ◌<◌, ◌≤◌, Bool, true, false, List, [], ◌∷◌, length, refl, sym, ap, subst, ◌∙◌, ◌⊎◌, inl, inr, arith}
-use Rattle.std.specs.Prelude.{◌&&◌}
+use Rattle.std.proofs.Common.{◌≡◌, ◌≢◌, ℕ, ◌+◌, ◌<◌, ◌≤◌, true, false, List, [], ◌∷◌, length, refl, sym, ap, subst, ◌∙◌, ◌⊎◌, inl, inr, arith}
 use Rattle.std.specs.List.{list_all, range_with_len}
-use Rattle.std.proofs.lemmas.Bool.{cases_eq, cases_lt, false≢true}
+use Rattle.std.proofs.lemmas.Bool.{cases_eq, cases_lt, false≢true, and_from, false_from_ne_true}
 use Rattle.std.proofs.lemmas.Bool.Decides.{nat_tests}
 use Rattle.std.proofs.lemmas.Option.{same_Some}
+use Rattle.std.proofs.lemmas.List.FromFn.{length-range_with_len}
 use Rattle.numbers.specs.Sets.{has}
 use Rattle.voter.specs.declared.state.Grant.{Grant}
 use Rattle.voter.specs.declared.state.VoterState.{VoterState}
@@ -15,44 +15,36 @@ use Rattle.world.specs.declared.step.Step.{Step}
 use Rattle.world.specs.Runs.{IsReached}
 use Rattle.world.specs.Steps.{Dealing, Planned, WorldState, client_at, dealing_of, voter_at}
 use Rattle.progress.specs.WayIn.{AsksAlone, HasGrants, IsWayIn}
-use Rattle.progress.proofs.Fitting.{Fits-reached, not_true}
-use Rattle.progress.specs.Rules.{AloneLaws}
+use Rattle.progress.proofs.Fitting.{Fits-reached}
+use Rattle.progress.specs.Rules.{Laws}
 use Rattle.progress.proofs.Moves.{with_state}
 use Rattle.progress.proofs.Ways.{Enters, Enters-after, Got, Here, Here-went, Leads, IsKnown, Went, Went-self, asks_again, enters_by, frees_up, gave_back, got_or, has_range}
-use Rattle.progress.proofs.Ways.{held_some, length_range, not_current, own_stamp}
+use Rattle.progress.proofs.Ways.{held_some, not_current, own_stamp}
+use Rattle.requester.proofs.SoundSteps.{is_asking-outside}
+use Rattle.requester.proofs.ContractLemmas.{is_idle-outside}
 
 abbrev OthersIdle : ℕ → WorldState → Type 0
 OthersIdle c u = (d : ℕ) → d ≢ c → is_idle (client_at u.clients d).phase ≡ true
-
-idle_outside : (q : Phase) → is_idle q ≡ true → is_inside q ≡ false
-idle_outside Idle idle = refl
-idle_outside Asking idle = absurd (false≢true idle)
-idle_outside Inside idle = absurd (false≢true idle)
 
 idle_asks : (q : Phase) → is_idle q ≡ true → is_asking q ≡ true → ⊥
 idle_asks Idle idle asks = false≢true asks
 idle_asks Asking idle asks = false≢true idle
 idle_asks Inside idle asks = false≢true idle
 
-asks_outside : (q : Phase) → is_asking q ≡ true → is_inside q ≡ false
-asks_outside Idle asks = absurd (false≢true asks)
-asks_outside Asking asks = refl
-asks_outside Inside asks = absurd (false≢true asks)
-
 Leads-alone : (u : WorldState) (c : ℕ) → is_asking (client_at u.clients c).phase ≡ true → OthersIdle c u → Leads u c
 Leads-alone u c asks others = record {
   outside = λ d. elim (cases_eq d c) [
-    | inl same ↦ ap (λ i. is_inside (client_at u.clients i).phase) same ∙ asks_outside (client_at u.clients c).phase asks
-    | inr other ↦ idle_outside (client_at u.clients d).phase (others d other)
+    | inl same ↦ ap (λ i. is_inside (client_at u.clients i).phase) same ∙ is_asking-outside (client_at u.clients c).phase asks
+    | inr other ↦ is_idle-outside (client_at u.clients d).phase (others d other)
   ];
   first = λ d other too. absurd (idle_asks (client_at u.clients d).phase (others d other) too);
 }
 
 -- ---- the request waits at the voter
 
-known_gets : (laws : AloneLaws) (p : Planned) (c v top : ℕ) (alive : List ℕ) (u : WorldState) → IsKnown p c v top alive u → OthersIdle c u → Got p c v top u
+known_gets : (laws : Laws) (p : Planned) (c v top : ℕ) (alive : List ℕ) (u : WorldState) → IsKnown p c v top alive u → OthersIdle c u → Got p c v top u
 known_gets laws p c v top alive u k others =
-    let ok = laws.fitting.coherent (with_state p u) k.spot.reached in
+    let ok = laws.coherent (with_state p u) k.spot.reached in
     let x = client_at u.clients c in
     let y = voter_at u.voters v in
     let g = held_some y c x.stamp (ok.voters v) k.entry y.held refl in
@@ -71,7 +63,7 @@ known_gets laws p c v top alive u k others =
 
 -- ---- a vote that the client lacks
 
-asks_for : (laws : AloneLaws) (p : Planned) (c v : ℕ) (u : WorldState) → Here p c v u → OthersIdle c u → holds (client_at u.clients c) v ≡ false
+asks_for : (laws : Laws) (p : Planned) (c v : ℕ) (u : WorldState) → Here p c v u → OthersIdle c u → holds (client_at u.clients c) v ≡ false
     → (voter_at u.voters v).granted + (length u.clients + 2) ≤ (voter_at u.voters v).limit → Got p c v (voter_at u.voters v).limit u
 asks_for laws p c v u h others free left =
     let top = (voter_at u.voters v).limit in
@@ -79,9 +71,9 @@ asks_for laws p c v u h others free left =
     let z = heard.world in
     let few = heard.few in
     let spot = Here-went p c v v u z heard.went h in
-    let now = laws.fitting.coherent (with_state p z) spot.reached in
+    let now = laws.coherent (with_state p z) spot.reached in
     let alive = range_with_len 0 (length u.clients) in
-    let count = length_range 0 (length u.clients) in
+    let count = length-range_with_len 0 (length u.clients) in
     let idle : OthersIdle c z = λ d other. ap is_idle (heard.went.gains d).phase ∙ others d other in
     let same = heard.went.clients in
     let limit = heard.went.limit in
@@ -119,7 +111,7 @@ Left-went deal c v w u x a has h = record {
 }
   where
     lacked : (q : ℕ) → holds (client_at x.clients c) q ≡ false → holds (client_at u.clients c) q ≡ false
-    lacked q free = not_true (holds (client_at u.clients c) q) (λ was. false≢true (sym free ∙ (a.gains c).held q was))
+    lacked q free = false_from_ne_true (holds (client_at u.clients c) q) (λ was. false≢true (sym free ∙ (a.gains c).held q was))
 
 -- a world with the votes of these members, which the steps so far lead to
 record Reaches (p : Planned) (c : ℕ) (u : WorldState) (vs : List ℕ) : Type 0 where
@@ -130,15 +122,12 @@ record Reaches (p : Planned) (c : ℕ) (u : WorldState) (vs : List ℕ) : Type 0
   all : (q : ℕ) → holds (client_at u.clients c) q ≡ true → holds (client_at world.clients c) q ≡ true
   held : list_all (holds (client_at world.clients c)) vs ≡ true
 
-both_hold : (a b : Bool) → a ≡ true → b ≡ true → (a && b) ≡ true
-both_hold a b e f = grind (arith, nat_tests)
-
-collects : (laws : AloneLaws) (p : Planned) (c : ℕ) (w : WorldState) (vs : List ℕ) (u : WorldState) → IsReached (with_state p u) → AsksAlone u c → Left c w u
+collects : (laws : Laws) (p : Planned) (c : ℕ) (w : WorldState) (vs : List ℕ) (u : WorldState) → IsReached (with_state p u) → AsksAlone u c → Left c w u
     → ((v : ℕ) → has vs v ≡ true → is_member (client_at u.clients c) v ≡ true)
     → Enters (dealing_of p.plans) c u ⊎ Reaches p c u vs
 collects laws p c w [] u r alone left members = inr (record { world = u; reached = r; alone = alone; quorum = refl; all = λ q h. h; held = refl })
 collects laws p c w (v ∷ vs) u r alone left members =
-    let ok = laws.fitting.coherent (with_state p u) r in
+    let ok = laws.coherent (with_state p u) r in
     let member = members v (grind (arith, nat_tests)) in
     let spot : Here p c v u = record { reached = r; client = alone.client; asks = alone.asks; asked = member } in
     let got : Got p c v (voter_at u.voters v).limit u = elim (holds (client_at u.clients c) v) as (λ b. holds (client_at u.clients c) v ≡ b → Got p c v (voter_at u.voters v).limit u) [
@@ -161,12 +150,12 @@ collects laws p c w (v ∷ vs) u r alone left members =
               alone = all.alone;
               quorum = all.quorum ∙ (went.gains c).quorum;
               all = λ q was. all.all q ((went.gains c).held q was);
-              held = both_hold _ _ (all.all v on.2) all.held;
+              held = and_from _ _ (all.all v on.2) all.held;
             })
           ]
     ]
 
-pub gets_in_alone : AloneLaws → (w : Planned) (c : ℕ) → IsReached w → AsksAlone w.state c → HasGrants (length w.state.clients + 2) w.state → (steps : List Step)
+pub gets_in_alone : Laws → (w : Planned) (c : ℕ) → IsReached w → AsksAlone w.state c → HasGrants (length w.state.clients + 2) w.state → (steps : List Step)
     × IsWayIn (dealing_of w.plans) w.state c steps
 gets_in_alone laws w c r alone grants =
     let u = w.state in
@@ -174,6 +163,6 @@ gets_in_alone laws w c r alone grants =
     elim (collects laws w c u (members (client_at u.clients c)) u r alone left (λ v is. is)) [
       | inl e ↦ (e.steps, e.way)
       | inr all ↦
-          let lacks = (Fits-reached laws.fitting (with_state w all.world) all.reached).lacks c all.alone.asks in
+          let lacks = (Fits-reached laws (with_state w all.world) all.reached).lacks c all.alone.asks in
           absurd (false≢true (sym lacks ∙ ap (λ q. list_all (holds (client_at all.world.clients c)) q) all.quorum ∙ all.held))
     ]

@@ -3,7 +3,7 @@ use Rattle.std.proofs.Common.{◌≡◌, ℕ, ◌≤◌, Bool, true, false, List
 use Rattle.std.specs.FinMap as fin
 use Rattle.std.specs.List.{AllByRecursion, range_with_len}
 use Rattle.std.specs.Ordering.{nat_cmp}
-use Rattle.std.proofs.lemmas.Bool.{cases_eq, cases_lt}
+use Rattle.std.proofs.lemmas.Bool.{cases_lt}
 use Rattle.std.proofs.lemmas.Bool.Decides.{nat_tests}
 use Rattle.std.proofs.lemmas.List.{get_or_past}
 use Rattle.std.proofs.lemmas.List.FromFn.{get_or-map-range_with_len, length-map-range_with_len}
@@ -21,13 +21,12 @@ use Rattle.voter.specs.Replies.{AllCarry, seen_after}
 use Rattle.voter.specs.Steps as voter
 use Rattle.voter.specs.VoteMoves.{VoteMoves}
 use Rattle.voter.specs.VoterContract.{AllReport, Brings, IsEntry, ReportsVote}
-use Rattle.world.specs.declared.step.Step.{Step}
 use Rattle.world.specs.Coherence.{IsCoherent}
 use Rattle.world.specs.Ranges.{IsAddressed}
-use Rattle.world.specs.Runs.{IsReached, after, run_of, start, start_by}
-use Rattle.world.specs.Steps.{Planned, WorldState, dealing_of, step, voter_at}
+use Rattle.world.specs.Runs.{IsReached, start}
+use Rattle.world.specs.Steps.{Planned, WorldState, step, voter_at}
 use Rattle.progress.specs.Rules.{Laws, VoterLaws}
-use Rattle.progress.proofs.Moves.{ClientMoved, IsReached-after, IsReminder, Moved, Moved-step, OnlySent, VoterMoved, with_state}
+use Rattle.progress.proofs.Moves.{ClientMoved, IsReminder, Moved, OnlySent, VoterMoved, all_sent, each_voter, kept-reached}
 use Rattle.numbers.proofs.Lists.{AllByRecursion-append, AllByRecursion-get, AllByRecursion-weaker}
 
 -- each voter has seen the stamp of each request that it knows
@@ -51,10 +50,6 @@ pub record Always (w : WorldState) : Type 0 where
 
 -- ---- lists of messages
 
-asks_given : (vs : List VoterState) (out : List ToVoter) → AllByRecursion (WasGiven vs) (map kinds.ToVoter out)
-asks_given vs [] = tt
-asks_given vs (m ∷ ms) = (tt, asks_given vs ms)
-
 up_to : (y : VoterState) → voter.IsSound y → (c : ℕ) (body : ClientBody) → ReportsVote y.held c body → IsUpTo y.granted body
 up_to y ok c (to_client.Locked s g) heard = ok.numbered (record { client = c; stamp = s; grant = g }) heard
 up_to y ok c (to_client.Fail s) heard = tt
@@ -77,12 +72,8 @@ granted_rises false y z (inl stays) = let same = stays.granted in omega arith
 granted_rises false y z (inr new) = let more = new.1.granted in omega arith
 
 pub granted_later : (laws : VoterLaws) (w u : WorldState) → IsCoherent w → (k : VoterMoved w u) → (v : ℕ) → (voter_at w.voters v).granted ≤ (voter_at u.voters v).granted
-granted_later laws w u ok k v = elim (cases_eq v k.message.voter) [
-  | inl same ↦
-      let rises = granted_rises _ _ k.outcome.state (laws.numbers (voter_at w.voters k.message.voter) k.message k.outcome (ok.voters k.message.voter) k.step) in
-      subst (λ n. (voter_at w.voters n).granted ≤ (voter_at u.voters n).granted) (sym same) (subst (λ (y : VoterState). (voter_at w.voters k.message.voter).granted ≤ y.granted) (sym k.here) rises)
-  | inr other ↦ let same = ap (λ (y : VoterState). y.granted) (k.others v other) in omega arith
-]
+granted_later laws w u ok k = each_voter (λ v y. (voter_at w.voters v).granted ≤ y.granted) w u k
+    (granted_rises _ _ k.outcome.state (laws.numbers (voter_at w.voters k.message.voter) k.message k.outcome (ok.voters k.message.voter) k.step)) (λ v. omega arith)
 
 still_given : (vs us : List VoterState) → ((v : ℕ) → (voter_at vs v).granted ≤ (voter_at us v).granted) → (m : Message) → WasGiven vs m → WasGiven us m
 still_given vs us later (kinds.ToVoter m) given = tt
@@ -112,11 +103,7 @@ seen_by laws y m o step was c s entry =
     ])
 
 HasSeen-voter : (laws : VoterLaws) (w u : WorldState) → VoterMoved w u → HasSeen w.voters → HasSeen u.voters
-HasSeen-voter laws w u k seen v = elim (cases_eq v k.message.voter) as (λ _. (c s : ℕ) → IsEntry (voter_at u.voters v) c s → s ≤ (voter_at u.voters v).seen) [
-  | inl same ↦ subst (λ n. (c s : ℕ) → IsEntry (voter_at u.voters n) c s → s ≤ (voter_at u.voters n).seen) (sym same)
-      (subst (λ (y : VoterState). (c s : ℕ) → IsEntry y c s → s ≤ y.seen) (sym k.here) (seen_by laws _ k.message k.outcome k.step (seen k.message.voter)))
-  | inr other ↦ subst (λ (y : VoterState). (c s : ℕ) → IsEntry y c s → s ≤ y.seen) (sym (k.others v other)) (seen v)
-]
+HasSeen-voter laws w u k seen = each_voter (λ v y. (c s : ℕ) → IsEntry y c s → s ≤ y.seen) w u k (seen_by laws _ k.message k.outcome k.step (seen k.message.voter)) seen
 
 -- the voter that took the message is the one that it names
 pub is_named : (w u : WorldState) → IsCoherent w → (k : VoterMoved w u) → (voter_at w.voters k.message.voter).id ≡ k.message.voter
@@ -140,12 +127,12 @@ Always-client : (w u : WorldState) → ClientMoved w u → Always w → Always u
 Always-client w u k a = record {
   seen = subst (λ (vs : List VoterState). HasSeen vs) (sym k.voters) a.seen;
   given = subst (λ ms. AllByRecursion (WasGiven u.voters) ms) (sym k.sent) (subst (λ (vs : List VoterState). AllByRecursion (WasGiven vs) (w.sent ++ map kinds.ToVoter k.outcome.out)) (sym k.voters)
-      (AllByRecursion-append (WasGiven w.voters) w.sent _ a.given (asks_given w.voters k.outcome.out)));
+      (AllByRecursion-append (WasGiven w.voters) w.sent _ a.given (all_sent (WasGiven w.voters) kinds.ToVoter (λ m. tt) k.outcome.out)));
 }
 
 reminder_given : (laws : VoterLaws) (w : WorldState) → IsCoherent w → (more : List Message) → IsReminder w more → AllByRecursion (WasGiven w.voters) more
 reminder_given laws w ok more said = elim said [
-  | inl out ↦ subst (λ ms. AllByRecursion (WasGiven w.voters) ms) (sym out.1) (asks_given w.voters out.0)
+  | inl out ↦ subst (λ ms. AllByRecursion (WasGiven w.voters) ms) (sym out.1) (all_sent (WasGiven w.voters) kinds.ToVoter (λ m. tt) out.0)
   | inr v ↦
       let y = voter_at w.voters v.0 in
       subst (λ ms. AllByRecursion (WasGiven w.voters) ms) (sym v.2) (replies_given w.voters v.0 y.seen y refl (ok.voters v.0) (voter.remind y) (laws.repeats y)
@@ -167,14 +154,6 @@ Always-moved laws w u ok now moved a = elim moved [
 ]
 
 -- ---- every run
-
-Always-run : (laws : Laws) (w : Planned) (steps : List Step) (u : WorldState) → IsReached (with_state w u) → Always u → Always (run_of (dealing_of w.plans) steps u)
-Always-run laws w [] u r a = a
-Always-run laws w (s ∷ steps) u r a =
-    let next = IsReached-after (with_state w u) r s in
-    let ok = laws.coherent (with_state w u) r in
-    let x = after u (step (dealing_of w.plans) u s) in
-    Always-run laws w steps x next (Always-moved laws.voter u x ok (laws.coherent (with_state w x) next) (Moved-step (dealing_of w.plans) u ok.numbered s) a)
 
 unfoldable pub new_voters : ℕ → ℕ → List VoterState
 new_voters n limit = map (λ v. voter.start v limit) (range_with_len 0 n)
@@ -201,7 +180,4 @@ Always-start voters clients limit = record {
 }
 
 pub Always-reached : (laws : Laws) (w : Planned) → IsReached w → Always w.state
-Always-reached laws w r =
-    let begin = start_by w.plans r.clients r.limit in
-    let first : IsReached (with_state w begin) = record { plans = r.plans; clients = r.clients; limit = r.limit; limits = r.limits; steps = []; state = refl } in
-    subst (λ (u : WorldState). Always u) (sym r.state) (Always-run laws w r.steps begin first (Always-start w.plans.first.system.voters r.clients r.limit))
+Always-reached laws = kept-reached Always laws.coherent Always-start (Always-moved laws.voter)

@@ -1,7 +1,7 @@
 -- what holds while a request runs that every voter of its quorum knows
 use Rattle.std.proofs.Common.{◌≡◌, ◌≢◌, ℕ, ◌+◌, ◌<◌, ◌≤◌, Bool, true, false, List, [], ◌∷◌, map, length, Some, Ok, Err, refl, sym, ap, subst, ◌∙◌, ◌⊎◌, inl, inr, arith}
 use Rattle.std.specs.List.{AllByRecursion}
-use Rattle.std.specs.Result.{is_err, result_ok}
+use Rattle.std.specs.Result.{is_err}
 use Rattle.std.proofs.lemmas.Bool.{cases_eq, false≢true}
 use Rattle.std.proofs.lemmas.Bool.Decides.{nat_tests}
 use Rattle.std.proofs.lemmas.Option.{none-some, same_Some}
@@ -26,33 +26,24 @@ use Rattle.voter.specs.VoterContract.{IsEntry}
 use Rattle.voter.specs.Waiting.{precedes}
 use Rattle.requester.specs.declared.fault.ClientFault.TheVariants.{Busy}
 use Rattle.requester.specs.declared.state.ClientState.{ClientState}
-use Rattle.requester.specs.declared.state.Phase.{Phase}
-use Rattle.requester.specs.declared.state.Phase.TheVariants.{Idle, Asking, Inside}
+use Rattle.requester.proofs.SoundSteps.{ask-Ok as ask_ok}
 use Rattle.requester.specs.Clocks.{Hears}
 use Rattle.requester.specs.RequesterContract.{Accepts, IsLater, IsLocked, KeepsQuorum, Locks, MeetsContract}
 use Rattle.requester.specs.Steps as requester
-use Rattle.requester.specs.Words.{holds_under, is_idle, is_member, is_spent, members}
+use Rattle.requester.specs.Words.{holds_under, is_idle, is_member, members}
 use Rattle.world.specs.Coherence.{AskOk, IsCoherent, MessageOk}
 use Rattle.world.specs.Steps.{WorldState, client_at, voter_at}
 use Rattle.progress.specs.Overtaking.{IsKnownEverywhere, StillRuns}
 use Rattle.progress.proofs.Always.{Always, IsUpTo, WasGiven, granted_rises, is_named}
 use Rattle.progress.specs.Rules.{ClientLaws, Laws, VoterLaws}
-use Rattle.progress.proofs.Moves.{Came, ClientMoved, IsReminder, Moved, OnlySent, VoterMoved}
+use Rattle.progress.proofs.Moves.{Came, ClientMoved, IsReminder, Moved, OnlySent, VoterMoved, all_sent, each_client, each_voter}
+use Rattle.world.proofs.Claims.{IsLater-self}
 
 -- ---- a client's step
 
-ask_unless-Ok : (b : Bool) (x : ClientState) (q : List ℕ) (o : requester.Outcome) → requester.ask_unless b x q ≡ Ok o → requester.asked x q ≡ o
-ask_unless-Ok true x q o e = absurd (false≢true (sym (ap is_err e)))
-ask_unless-Ok false x q o e = same_Some _ o (ap result_ok e)
-
-ask_in-Ok : (p : Phase) (x : ClientState) (q : List ℕ) (o : requester.Outcome) → requester.ask_in p x q ≡ Ok o → requester.asked x q ≡ o
-ask_in-Ok Idle x q o e = ask_unless-Ok (is_spent x) x q o e
-ask_in-Ok Asking x q o e = absurd (false≢true (sym (ap is_err e)))
-ask_in-Ok Inside x q o e = absurd (false≢true (sym (ap is_err e)))
-
 pub ask-Ok : (x : ClientState) (q : List ℕ) (o : requester.Outcome) → requester.step x (requester.Asks q) ≡ Ok o → requester.asked x q ≡ o
-unfolding requester.step requester.ask
-ask-Ok x q o e = ask_in-Ok x.phase x q o e
+unfolding requester.step
+ask-Ok x q o e = (ask_ok x q o e).2
 
 ask-busy : (x : ClientState) (q : List ℕ) (o : requester.Outcome) → requester.ask x q ≡ Err Busy → requester.step x (requester.Asks q) ≡ Ok o → ⊥
 unfolding requester.step
@@ -83,9 +74,6 @@ meets laws w u ok now k = laws.meets (client_at w.clients k.who) k.cause k.outco
 
 -- ---- clients go on
 
-IsLater-self : (x : ClientState) → IsLater x x
-IsLater-self x = record { stamp = omega arith; last = λ v. omega arith; idle = λ _ idle. idle }
-
 pub IsLater-then : (x y z : ClientState) → IsLater x y → IsLater y z → IsLater x z
 IsLater-then x y z a b =
     let s = a.stamp in
@@ -97,11 +85,8 @@ IsLater-then x y z a b =
     }
 
 later_client : (laws : ClientLaws) (w u : WorldState) → IsCoherent w → IsCoherent u → ClientMoved w u → (c : ℕ) → IsLater (client_at w.clients c) (client_at u.clients c)
-later_client laws w u ok now k c = elim (cases_eq c k.who) [
-  | inl same ↦ subst (λ n. IsLater (client_at w.clients n) (client_at u.clients n)) (sym same)
-      (subst (λ (y : ClientState). IsLater (client_at w.clients k.who) y) (sym k.here) (meets laws w u ok now k).later)
-  | inr other ↦ subst (λ (y : ClientState). IsLater (client_at w.clients c) y) (sym (k.others c other)) (IsLater-self (client_at w.clients c))
-]
+later_client laws w u ok now k = each_client (λ c y. IsLater (client_at w.clients c) y) w u k
+    (subst (λ (y : ClientState). IsLater (client_at w.clients k.who) y) (sym k.here) (meets laws w u ok now k).later) (λ c. IsLater-self (client_at w.clients c))
 
 same_clients : (w u : WorldState) → u.clients ≡ w.clients → (c : ℕ) → IsLater (client_at w.clients c) (client_at u.clients c)
 same_clients w u same c = subst (λ (cs : List ClientState). IsLater (client_at w.clients c) (client_at cs c)) (sym same) (IsLater-self (client_at w.clients c))
@@ -130,19 +115,25 @@ IsAsked w c v = is_member (client_at w.clients c) v ≡ true
 abbrev pub given_at : WorldState → ℕ → ℕ
 given_at w v = (voter_at w.voters v).granted
 
--- The voters since the world w: the request is known, and a vote that was granted since then goes to
--- it or to one that precedes it.
-pub record Voters (w : WorldState) (c : ℕ) (vs : List VoterState) : Type 0 where
-  pub known : (v : ℕ) → IsAsked w c v → IsEntry (voter_at vs v) c (stamp_of w c)
-  pub given : (v : ℕ) → given_at w v ≤ (voter_at vs v).granted
-  pub order : (v : ℕ) (g : Grant) → IsAsked w c v → (voter_at vs v).held ≡ Some g → given_at w v < g.grant → (g.client ≡ c) ⊎ (precedes (request_of g) (the_request w c) ≡ true)
-  pub old : (v : ℕ) (g : Grant) → (voter_at vs v).held ≡ Some g → g.grant ≤ given_at w v → g.stamp ≤ stamp_of w g.client
+-- The voter v since the world w: the request is known, and a vote that was granted since then goes to it
+-- or to one that precedes it.
+pub record OneVoter (w : WorldState) (c v : ℕ) (y : VoterState) : Type 0 where
+  pub known : IsAsked w c v → IsEntry y c (stamp_of w c)
+  pub given : given_at w v ≤ y.granted
+  pub order : (g : Grant) → IsAsked w c v → y.held ≡ Some g → given_at w v < g.grant → (g.client ≡ c) ⊎ (precedes (request_of g) (the_request w c) ≡ true)
+  pub old : (g : Grant) → y.held ≡ Some g → g.grant ≤ given_at w v → g.stamp ≤ stamp_of w g.client
 
--- The clients since then: the request has its quorum, and who holds a vote that was granted since then
--- has a clock that is not behind the request.
+abbrev pub Voters : WorldState → ℕ → List VoterState → Type 0
+Voters w c vs = (v : ℕ) → OneVoter w c v (voter_at vs v)
+
+-- who holds a vote that was granted since then has a clock that is not behind the request
+abbrev pub HasHeard : WorldState → ℕ → ClientState → Type 0
+HasHeard w c x = (v n : ℕ) → IsAsked w c v → holds_under x v n ≡ true → given_at w v < n → stamp_of w c ≤ x.clock
+
+-- the clients since then: the request has its quorum
 pub record Clients (w : WorldState) (c : ℕ) (cs : List ClientState) : Type 0 where
   pub quorum : members (client_at cs c) ≡ members (client_at w.clients c)
-  pub heard : (e v n : ℕ) → IsAsked w c v → holds_under (client_at cs e) v n ≡ true → given_at w v < n → stamp_of w c ≤ (client_at cs e).clock
+  pub heard : (e : ℕ) → HasHeard w c (client_at cs e)
   pub later : (e : ℕ) → stamp_of w e ≤ (client_at cs e).stamp
 
 -- a LOCKED of a grant that was given since then carries a stamp that is not behind the request
@@ -161,10 +152,6 @@ pub record Behind (w : WorldState) (c : ℕ) (u : WorldState) : Type 0 where
   pub late : AllByRecursion (IsLate w c) u.sent
 
 -- ---- messages
-
-asks_late : (w : WorldState) (c : ℕ) (out : List ToVoter) → AllByRecursion (IsLate w c) (map kinds.ToVoter out)
-asks_late w c [] = tt
-asks_late w c (m ∷ ms) = (tt, asks_late w c ms)
 
 carries : (w : WorldState) (c v seen : ℕ) (body : ClientBody) → (IsAsked w c v → stamp_of w c ≤ seen) → Carries w c v seen body
 carries w c v seen (to_client.Locked s g) high = λ asked new. high asked
@@ -198,7 +185,7 @@ cause_late w u c e v s n y requester.Leaves late came heard locked asked new = a
 cause_late w u c e v s n y requester.GivesUp late came heard locked asked new = absurd locked
 
 heard_by : (laws : ClientLaws) (w u x : WorldState) (c : ℕ) → IsCoherent u → IsCoherent x → AllByRecursion (IsLate w c) u.sent → Clients w c u.clients → (k : ClientMoved u x)
-    → (v n : ℕ) → IsAsked w c v → holds_under k.outcome.state v n ≡ true → given_at w v < n → stamp_of w c ≤ k.outcome.state.clock
+    → HasHeard w c k.outcome.state
 heard_by laws w u x c ok now late was k v n asked holds new =
     let time = laws.clock (client_at u.clients k.who) k.cause k.outcome (ok.clients k.who) k.step in
     let rises = time.clock in
@@ -216,23 +203,16 @@ quorum_by laws x y requester.GivesUp o busy step keeps = keeps.0
 
 quorum_kept : (laws : ClientLaws) (u x : WorldState) (c : ℕ) → IsCoherent u → IsCoherent x → is_idle (client_at u.clients c).phase ≡ false → ClientMoved u x
     → members (client_at x.clients c) ≡ members (client_at u.clients c)
-quorum_kept laws u x c ok now busy k = elim (cases_eq c k.who) [
-  | inl same ↦
-      let here = quorum_by laws (client_at u.clients k.who) k.outcome.state k.cause k.outcome (subst (λ n. is_idle (client_at u.clients n).phase ≡ false) same busy) k.step
-      (meets laws u x ok now k).quorum in
-      subst (λ n. members (client_at x.clients n) ≡ members (client_at u.clients n)) (sym same) (ap (λ (y : ClientState). members y) k.here ∙ here)
-  | inr other ↦ ap (λ (y : ClientState). members y) (k.others c other)
-]
+quorum_kept laws u x c ok now busy k =
+    each_client (λ q y. is_idle (client_at u.clients q).phase ≡ false → members y ≡ members (client_at u.clients q)) u x k
+    (subst (λ (y : ClientState). is_idle (client_at u.clients k.who).phase ≡ false → members y ≡ members (client_at u.clients k.who)) (sym k.here)
+    (λ runs. quorum_by laws (client_at u.clients k.who) k.outcome.state k.cause k.outcome runs k.step (meets laws u x ok now k).quorum)) (λ q _. refl) c busy
 
 Clients-client : (laws : ClientLaws) (w u x : WorldState) (c : ℕ) → IsCoherent u → IsCoherent x → AllByRecursion (IsLate w c) u.sent → is_idle (client_at u.clients c).phase ≡ false
     → Clients w c u.clients → ClientMoved u x → Clients w c x.clients
 Clients-client laws w u x c ok now late busy was k = record {
   quorum = quorum_kept laws u x c ok now busy k ∙ was.quorum;
-  heard = λ e v n. elim (cases_eq e k.who) as (λ _. IsAsked w c v → holds_under (client_at x.clients e) v n ≡ true → given_at w v < n → stamp_of w c ≤ (client_at x.clients e).clock) [
-    | inl same ↦ subst (λ i. IsAsked w c v → holds_under (client_at x.clients i) v n ≡ true → given_at w v < n → stamp_of w c ≤ (client_at x.clients i).clock) (sym same)
-        (subst (λ (y : ClientState). IsAsked w c v → holds_under y v n ≡ true → given_at w v < n → stamp_of w c ≤ y.clock) (sym k.here) (heard_by laws w u x c ok now late was k v n))
-    | inr other ↦ subst (λ (y : ClientState). IsAsked w c v → holds_under y v n ≡ true → given_at w v < n → stamp_of w c ≤ y.clock) (sym (k.others e other)) (was.heard e v n)
-  ];
+  heard = each_client (λ _ y. HasHeard w c y) u x k (subst (HasHeard w c) (sym k.here) (heard_by laws w u x c ok now late was k)) was.heard;
   later = λ e. (let before = was.later e in let rises = (later_client laws u x ok now k e).stamp in omega arith);
 }
 
@@ -240,7 +220,7 @@ Behind-client : (laws : ClientLaws) (w u x : WorldState) (c : ℕ) → IsCoheren
 Behind-client laws w u x c ok now busy k h = record {
   voters = subst (λ (vs : List VoterState). Voters w c vs) (sym k.voters) h.voters;
   clients = Clients-client laws w u x c ok now h.late busy h.clients k;
-  late = subst (λ ms. AllByRecursion (IsLate w c) ms) (sym k.sent) (AllByRecursion-append (IsLate w c) u.sent _ h.late (asks_late w c k.outcome.out));
+  late = subst (λ ms. AllByRecursion (IsLate w c) ms) (sym k.sent) (AllByRecursion-append (IsLate w c) u.sent _ h.late (all_sent (IsLate w c) kinds.ToVoter (λ m. tt) k.outcome.out));
 }
 
 -- ---- a voter moves
@@ -277,19 +257,6 @@ pub grant_moved : (laws : VoterLaws) (u x : WorldState) → IsCoherent u → (k 
 grant_moved laws u x ok k g held = grant_moves _ (voter_at u.voters k.message.voter) k.outcome.state g
     (laws.numbers (voter_at u.voters k.message.voter) k.message k.outcome (ok.voters k.message.voter) k.step) held
 
--- what holds of the voter with this number
-pub record OneVoter (w : WorldState) (c v : ℕ) (y : VoterState) : Type 0 where
-  pub known : IsAsked w c v → IsEntry y c (stamp_of w c)
-  pub given : given_at w v ≤ y.granted
-  pub order : (g : Grant) → IsAsked w c v → y.held ≡ Some g → given_at w v < g.grant → (g.client ≡ c) ⊎ (precedes (request_of g) (the_request w c) ≡ true)
-  pub old : (g : Grant) → y.held ≡ Some g → g.grant ≤ given_at w v → g.stamp ≤ stamp_of w g.client
-
-one_voter : (w : WorldState) (c : ℕ) (vs : List VoterState) → Voters w c vs → (v : ℕ) → OneVoter w c v (voter_at vs v)
-one_voter w c vs h v = record { known = h.known v; given = h.given v; order = h.order v; old = h.old v }
-
-all_voters : (w : WorldState) (c : ℕ) (vs : List VoterState) → ((v : ℕ) → OneVoter w c v (voter_at vs v)) → Voters w c vs
-all_voters w c vs h = record { known = λ v. (h v).known; given = λ v. (h v).given; order = λ v. (h v).order; old = λ v. (h v).old }
-
 OneVoter-moved : (laws : VoterLaws) (w u x : WorldState) (c : ℕ) → IsCoherent u → StillRuns w u c → (k : VoterMoved u x)
     → OneVoter w c k.message.voter (voter_at u.voters k.message.voter) → OneVoter w c k.message.voter k.outcome.state
 OneVoter-moved laws w u x c ok runs k h =
@@ -317,11 +284,7 @@ OneVoter-moved laws w u x c ok runs k h =
     }
 
 Voters-moved : (laws : VoterLaws) (w u x : WorldState) (c : ℕ) → IsCoherent u → StillRuns w u c → VoterMoved u x → Voters w c u.voters → Voters w c x.voters
-Voters-moved laws w u x c ok runs k h = all_voters w c x.voters (λ v. elim (cases_eq v k.message.voter) [
-  | inl same ↦ subst (λ n. OneVoter w c n (voter_at x.voters n)) (sym same)
-      (subst (λ (y : VoterState). OneVoter w c k.message.voter y) (sym k.here) (OneVoter-moved laws w u x c ok runs k (one_voter w c u.voters h k.message.voter)))
-  | inr other ↦ subst (λ (y : VoterState). OneVoter w c v y) (sym (k.others v other)) (one_voter w c u.voters h v)
-])
+Voters-moved laws w u x c ok runs k h = each_voter (OneVoter w c) u x k (OneVoter-moved laws w u x c ok runs k (h k.message.voter)) h
 
 Behind-voter : (laws : VoterLaws) (w u x : WorldState) (c : ℕ) → IsCoherent u → Always x → StillRuns w u c → VoterMoved u x → Behind w c u → Behind w c x
 Behind-voter laws w u x c ok always runs k h =
@@ -329,7 +292,7 @@ Behind-voter laws w u x c ok always runs k h =
     let voters = Voters-moved laws w u x c ok runs k h.voters in
     let carry = laws.carries y k.message k.outcome k.step in
     let high : IsAsked w c k.message.voter → stamp_of w c ≤ seen_after y.seen k.message.body = λ is.
-    subst (λ n. stamp_of w c ≤ n) (ap (λ (z : VoterState). z.seen) k.here ∙ carry.seen) (always.seen k.message.voter c (stamp_of w c) (voters.known k.message.voter is)) in
+    subst (λ n. stamp_of w c ≤ n) (ap (λ (z : VoterState). z.seen) k.here ∙ carry.seen) (always.seen k.message.voter c (stamp_of w c) ((voters k.message.voter).known is)) in
     record {
       voters = voters;
       clients = subst (λ (cs : List ClientState). Clients w c cs) (sym k.clients) h.clients;
@@ -342,10 +305,10 @@ Behind-voter laws w u x c ok always runs k h =
 
 reminder_late : (laws : VoterLaws) (w u : WorldState) (c : ℕ) → IsCoherent u → Always u → Voters w c u.voters → (more : List Message) → IsReminder u more → AllByRecursion (IsLate w c) more
 reminder_late laws w u c ok always voters more said = elim said [
-  | inl out ↦ subst (λ ms. AllByRecursion (IsLate w c) ms) (sym out.1) (asks_late w c out.0)
+  | inl out ↦ subst (λ ms. AllByRecursion (IsLate w c) ms) (sym out.1) (all_sent (IsLate w c) kinds.ToVoter (λ m. tt) out.0)
   | inr v ↦
       let y = voter_at u.voters v.0 in
-      subst (λ ms. AllByRecursion (IsLate w c) ms) (sym v.2) (replies_late w c v.0 y.seen (λ is. always.seen v.0 c (stamp_of w c) (voters.known v.0 is)) (voter.remind y)
+      subst (λ ms. AllByRecursion (IsLate w c) ms) (sym v.2) (replies_late w c v.0 y.seen (λ is. always.seen v.0 c (stamp_of w c) ((voters v.0).known is)) (voter.remind y)
       (subst (λ i. AllCarry i y.seen (voter.remind y)) (ok.numbered.voters v.0 v.1) (laws.remembers y)))
 ]
 
@@ -376,11 +339,11 @@ first_late w c (kinds.ToClient m) given = first_carries w c m.voter m.seen m.bod
 
 pub Behind-first : (w : WorldState) (c : ℕ) → IsCoherent w → Always w → IsKnownEverywhere w c → Behind w c w
 Behind-first w c ok always known = record {
-  voters = record {
-    known = known.known;
-    given = λ v. omega arith;
-    order = λ v g asked held new. (let few = (ok.voters v).numbered g held in absurd (omega arith));
-    old = λ v g held few. (ok.made v g.client g.stamp (inl (g, held, refl, refl))).reached;
+  voters = λ v. record {
+    known = known.known v;
+    given = omega arith;
+    order = λ g asked held new. (let few = (ok.voters v).numbered g held in absurd (omega arith));
+    old = λ g held few. (ok.made v g.client g.stamp (inl (g, held, refl, refl))).reached;
   };
   clients = record {
     quorum = refl;

@@ -17,7 +17,7 @@ use Rattle.requester.specs.declared.state.Seen.TheVariants.{Nothing, Entered, Le
 use Rattle.requester.specs.Clocks.{KeepsTime}
 use Rattle.requester.specs.RequesterContract.{IsLater, KeepsQuorum, Sees}
 use Rattle.requester.specs.Steps as requester
-use Rattle.requester.specs.Words.{held_of, holds, holds_under, is_asking, is_idle, is_inside, is_member}
+use Rattle.requester.specs.Words.{held_of, holds, is_asking, is_idle, is_inside, is_member}
 use Rattle.numbers.specs.Sets.{has}
 use Rattle.numbers.proofs.Options.{false-by}
 use Rattle.world.specs.declared.step.Event.{Event}
@@ -29,7 +29,10 @@ use Rattle.progress.specs.Overtaking.{IsKnownEverywhere, StillRuns, entered_by}
 use Rattle.progress.proofs.Always.{Always, Always-reached}
 use Rattle.progress.proofs.Behind.{Behind, Behind-first, Behind-moved, IsLater-moved, IsLater-then, ask-Ok, meets, stamp_of, the_request}
 use Rattle.progress.specs.Rules.{ClientLaws, Laws}
-use Rattle.progress.proofs.Moves.{ClientMoved, IsReached-after, Moved, Moved-step, with_state}
+use Rattle.progress.proofs.Moves.{ClientMoved, IsReached-after, Moved, Moved-step, kept-run, with_state}
+use Rattle.world.proofs.Claims.{IsLater-self}
+use Rattle.progress.proofs.Fitting.{held_under}
+use Rattle.requester.proofs.RangeLemmas.{is_inside-busy}
 
 -- What the number of entries since the world w says of the client d: after one, it asks under a greater
 -- stamp than it had then; after two, also under a greater stamp than the request of c.
@@ -90,15 +93,10 @@ Counted-enters w c d n x y asks not_asks later by h =
 
 -- ---- who enters
 
-outside_asks : (p : Phase) → is_idle p ≡ false → is_inside p ≡ false → is_asking p ≡ true
+pub outside_asks : (p : Phase) → is_idle p ≡ false → is_inside p ≡ false → is_asking p ≡ true
 outside_asks Idle idle inside = absurd (false≢true (sym idle))
 outside_asks Asking idle inside = refl
 outside_asks Inside idle inside = absurd (false≢true (sym inside))
-
-inside_busy : (p : Phase) → is_inside p ≡ true → is_idle p ≡ false
-inside_busy Idle inside = absurd (false≢true inside)
-inside_busy Asking inside = refl
-inside_busy Inside inside = refl
 
 inside_not_asks : (p : Phase) → is_inside p ≡ true → is_asking p ≡ false
 inside_not_asks Idle inside = refl
@@ -109,12 +107,9 @@ asked_before : (x : ClientState) (cause : requester.Cause) (o : requester.Outcom
     → is_inside o.state.phase ≡ true → is_asking x.phase ≡ true
 asked_before x (requester.Asks q) o step keeps out now =
     absurd (false≢true (subst (λ (p : requester.Outcome). is_inside p.state.phase ≡ true) (sym (ask-Ok x q o step)) now))
-asked_before x (requester.Takes m) o step keeps out now = outside_asks x.phase (sym keeps.1 ∙ inside_busy o.state.phase now) out
-asked_before x requester.Leaves o step keeps out now = absurd (false≢true (sym (inside_busy o.state.phase now) ∙ keeps.1))
-asked_before x requester.GivesUp o step keeps out now = absurd (false≢true (sym (inside_busy o.state.phase now) ∙ keeps.1))
-
-held_under : (x : ClientState) (v : ℕ) → holds x v ≡ true → holds_under x v (held_of x v) ≡ true
-held_under x v is = grind (arith, nat_tests)
+asked_before x (requester.Takes m) o step keeps out now = outside_asks x.phase (sym keeps.1 ∙ is_inside-busy o.state.phase now) out
+asked_before x requester.Leaves o step keeps out now = absurd (false≢true (sym (is_inside-busy o.state.phase now) ∙ keeps.1))
+asked_before x requester.GivesUp o step keeps out now = absurd (false≢true (sym (is_inside-busy o.state.phase now) ∙ keeps.1))
 
 before_most : (g : Grant) (r : Request) → precedes (request_of g) r ≡ true → g.stamp ≤ r.stamp
 before_most g r before = grind (arith, nat_tests)
@@ -124,7 +119,7 @@ enters_by : (laws : ClientLaws) (w u : WorldState) (c d : ℕ) → IsCoherent u 
     → EntersBy w c d (client_at u.clients d)
 enters_by laws w u c d ok h busy other inside =
     let y = client_at u.clients d in
-    let common = ok.common d c (inside_busy y.phase inside) busy in
+    let common = ok.common d c (is_inside-busy y.phase inside) busy in
     let v = common.voter in
     let asked : is_member (client_at w.clients c) v ≡ true = ap (λ q. has q v) (sym h.clients.quorum) ∙ common.second in
     let holds = held_under y v (laws.inside y v (ok.clients d) inside common.first) in
@@ -132,11 +127,11 @@ enters_by laws w u c d ok h busy other inside =
     let names = ok.held d v n holds in
     let grant : Grant = record { client = d; stamp = y.stamp; grant = n } in
     elim (cases_lt (voter_at w.voters v).granted n) [
-      | inl new ↦ elim (h.voters.order v grant asked names new) [
+      | inl new ↦ elim ((h.voters v).order grant asked names new) [
         | inl same ↦ absurd (other same)
         | inr before ↦ inr (before_most grant (the_request w c) before, h.clients.heard d v n asked holds new)
       ]
-      | inr old ↦ inl (h.voters.old v grant names old)
+      | inr old ↦ inl ((h.voters v).old grant names old)
     ]
 
 -- ---- what is counted
@@ -231,13 +226,9 @@ Entries-moved laws w u x c d ok now before h busy other moved e = elim moved [
 
 IsLater-run : (laws : Laws) (w : Planned) (steps : List Step) (u : WorldState) → IsReached (with_state w u) → (c : ℕ)
     → IsLater (client_at u.clients c) (client_at (run_of (dealing_of w.plans) steps u).clients c)
-IsLater-run laws w [] u r c = record { stamp = omega arith; last = λ v. omega arith; idle = λ _ idle. idle }
-IsLater-run laws w (s ∷ steps) u r c =
-    let ok = laws.coherent (with_state w u) r in
-    let next = IsReached-after (with_state w u) r s in
-    let x = after u (step (dealing_of w.plans) u s) in
-    let now = laws.coherent (with_state w x) next in
-    IsLater-then _ (client_at x.clients c) _ (IsLater-moved laws.client u x ok now (Moved-step (dealing_of w.plans) u ok.numbered s) c) (IsLater-run laws w steps x next c)
+IsLater-run laws w steps u r c = kept-run (λ x. IsLater (client_at u.clients c) (client_at x.clients c)) laws.coherent
+    (λ x y ok now moved h. IsLater-then (client_at u.clients c) (client_at x.clients c) (client_at y.clients c) h (IsLater-moved laws.client x y ok now moved c))
+    w steps u r (IsLater-self (client_at u.clients c))
 
 -- a request that still runs later runs before
 still_before : (w u z : WorldState) (c : ℕ) → stamp_of w c ≤ stamp_of u c → IsLater (client_at u.clients c) (client_at z.clients c) → StillRuns w z c → StillRuns w u c

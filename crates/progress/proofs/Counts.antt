@@ -1,10 +1,9 @@
 -- how many grants each voter gives, and can still give
 use Rattle.std.proofs.Common.{◌≡◌, ◌≢◌, ℕ, zero, suc, ◌+◌, ◌<◌, ◌≤◌, true, cond, eqb, List, [], ◌∷◌, length, refl, ap, inl, inr, arith}
 use Rattle.std.specs.List.{range_with_len}
-use Rattle.std.proofs.lemmas.Bool.{cases_eq}
+use Rattle.std.proofs.lemmas.Bool.{cases_eq, false_from_ne_true}
 use Rattle.std.proofs.lemmas.Bool.Decides.{nat_tests}
 use Rattle.world.specs.Steps.{WorldState, voter_at}
-use Rattle.progress.proofs.Fitting.{not_true}
 
 -- n at this voter, and none at the others
 unfoldable pub only : ℕ → ℕ → ℕ → ℕ
@@ -16,7 +15,7 @@ only_here v n q same = ap (λ b. cond b n 0) (let e : eqb q v ≡ true = grind (
 
 pub only_else : (v n q : ℕ) → q ≢ v → only v n q ≡ 0
 unfolding only
-only_else v n q other = ap (λ b. cond b n 0) (not_true (eqb q v) (λ is. other (grind (arith, nat_tests))))
+only_else v n q other = ap (λ b. cond b n 0) (false_from_ne_true (eqb q v) (λ is. other (grind (arith, nat_tests))))
 
 pub only_sum : (v n m q : ℕ) → only v n q + only v m q ≡ only v (n + m) q
 only_sum v n m q = elim (cases_eq q v) [

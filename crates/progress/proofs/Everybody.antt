@@ -1,7 +1,7 @@
 -- whoever asks can still get in: those that are inside leave, and one client after the other gets in
 use Rattle.std.proofs.Common.{◌≡◌, ◌≢◌, ℕ, zero, suc, ◌+◌, ◌*◌, ◌<◌, ◌≤◌, true, false, List, [], ◌∷◌, ◌++◌, map, length, refl, sym, ap, subst, ◌∙◌, ◌⊎◌, inl, inr, arith, length-append}
 use Rattle.std.specs.List.{AllByRecursion}
-use Rattle.std.proofs.lemmas.Bool.{cases_eq, cases_lt, false≢true}
+use Rattle.std.proofs.lemmas.Bool.{cases_eq, cases_lt, false≢true, lt-ltb}
 use Rattle.std.proofs.lemmas.List.{append_assoc, get_or_past, length-set}
 use Rattle.message.specs.declared.message.Message.TheVariants as kinds
 use Rattle.requester.specs.declared.state.ClientState.{ClientState}
@@ -18,35 +18,24 @@ use Rattle.world.specs.Steps.{Dealing, Planned, WorldState, after_client, client
 use Rattle.progress.specs.Overtaking.{entered_by}
 use Rattle.progress.specs.WayIn.{Asks, GetsIn, HasGrants, Helps, IsFree, Serves}
 use Rattle.progress.proofs.Counting.{entered_by-append, one_entered}
-use Rattle.progress.proofs.Exchanges.{below}
 use Rattle.progress.proofs.Led.{EntersBy}
-use Rattle.progress.specs.Rules.{LeavingLaws}
+use Rattle.progress.specs.Rules.{Laws}
 use Rattle.progress.proofs.Moves.{client_here, client_others, with_state}
 use Rattle.progress.proofs.Together.{asks_within, lets_in, one_entry}
 use Rattle.progress.proofs.Ways.{IsReached-run, run_then}
+use Rattle.std.proofs.Math.Nat.{mul-le-mul_right}
+use Rattle.numbers.specs.Sums.{sum_below}
 use Rattle.numbers.proofs.Lists.{AllByRecursion-append, AllByRecursion-weaker}
+use Rattle.numbers.proofs.SumsBelow.{sum_below-le, sum_below-one, sum_below-same}
 
 -- ---- sums
 
-sum_to : ℕ → (ℕ → ℕ) → ℕ
-sum_to zero f = 0
-sum_to (suc n) f = f n + sum_to n f
-
-sum_same : (n : ℕ) (f g : ℕ → ℕ) → ((d : ℕ) → d < n → f d ≡ g d) → sum_to n f ≡ sum_to n g
-unfolding sum_to
-sum_same zero f g same = refl
-sum_same (suc n) f g same =
-    let here = same n (omega arith) in
-    let rest = sum_same n f g (λ d less. same d (omega arith)) in
-    omega arith
-
-sum_less : (n e : ℕ) (f g : ℕ → ℕ) → e < n → f e + 1 ≤ g e → ((d : ℕ) → d ≢ e → f d ≡ g d) → sum_to n f + 1 ≤ sum_to n g
-unfolding sum_to
+sum_less : (n e : ℕ) (f g : ℕ → ℕ) → e < n → f e + 1 ≤ g e → ((d : ℕ) → d ≢ e → f d ≡ g d) → sum_below f n + 1 ≤ sum_below g n
 sum_less zero e f g within less same = absurd (omega arith)
 sum_less (suc n) e f g within less same = elim (cases_eq e n) [
   | inl last ↦
       let here : f n + 1 ≤ g n = subst (λ d. f d + 1 ≤ g d) last less in
-      let rest = sum_same n f g (λ d before. same d (λ is. (let x : ⊥ = omega arith in x))) in
+      let rest = sum_below-same n f g (λ d before. same d (λ is. (let x : ⊥ = omega arith in x))) in
       omega arith
   | inr other ↦
       let here = same n (λ is. other (sym is)) in
@@ -54,26 +43,15 @@ sum_less (suc n) e f g within less same = elim (cases_eq e n) [
       omega arith
 ]
 
-sum_most : (n : ℕ) (f : ℕ → ℕ) → ((d : ℕ) → f d ≤ 1) → sum_to n f ≤ n
-unfolding sum_to
-sum_most zero f most = omega arith
-sum_most (suc n) f most =
-    let here = most n in
-    let rest = sum_most n f most in
-    omega arith
+sum_most : (n : ℕ) (f : ℕ → ℕ) → ((d : ℕ) → f d ≤ 1) → sum_below f n ≤ n
+sum_most n f most = omega (arith, sum_below-le n f (λ _. 1) (λ d _. most d), sum_below-one n)
 
-sum_some : (n e : ℕ) (f : ℕ → ℕ) → e < n → f e ≤ sum_to n f
-unfolding sum_to
+sum_some : (n e : ℕ) (f : ℕ → ℕ) → e < n → f e ≤ sum_below f n
 sum_some zero e f within = absurd (omega arith)
 sum_some (suc n) e f within = elim (cases_eq e n) [
   | inl last ↦ (let here : f e ≡ f n = ap f last in omega arith)
   | inr other ↦ (let rest = sum_some n e f (omega arith) in omega arith)
 ]
-
-times_most : (a b k : ℕ) → a ≤ b → a * k ≤ b * k
-times_most zero b k most = omega arith
-times_most (suc a) zero k most = absurd (omega arith)
-times_most (suc a) (suc b) k most = let rest = times_most a b k (omega arith) in omega arith
 
 -- ---- how much is left to do
 
@@ -89,7 +67,7 @@ asking_one Asking = 1
 asking_one Inside = 0
 
 total : (Phase → ℕ) → WorldState → ℕ
-total f u = sum_to (length u.clients) (λ d. f (client_at u.clients d).phase)
+total f u = sum_below (λ d. f (client_at u.clients d).phase) (length u.clients)
 
 asking_is : (q : Phase) → is_asking q ≡ true → q ≡ Asking
 asking_is Idle asks = absurd (false≢true asks)
@@ -113,7 +91,7 @@ total_less : (f : Phase → ℕ) (u x : WorldState) (e : ℕ) → length x.clien
 unfolding total
 total_less f u x e same within less others =
     let n = length u.clients in
-    subst (λ k. sum_to k (λ d. f (client_at x.clients d).phase) + 1 ≤ total f u) (sym same)
+    subst (λ k. sum_below (λ d. f (client_at x.clients d).phase) k + 1 ≤ total f u) (sym same)
     (sum_less n e (λ d. f (client_at x.clients d).phase) (λ d. f (client_at u.clients d).phase) within less (λ d other. ap f (others d other)))
 
 total_same : (f : Phase → ℕ) (u x : WorldState) (e : ℕ) → length x.clients ≡ length u.clients → f (client_at x.clients e).phase ≡ f (client_at u.clients e).phase
@@ -121,8 +99,8 @@ total_same : (f : Phase → ℕ) (u x : WorldState) (e : ℕ) → length x.clien
 unfolding total
 total_same f u x e same here others =
     let n = length u.clients in
-    subst (λ k. sum_to k (λ d. f (client_at x.clients d).phase) ≡ total f u) (sym same)
-    (sum_same n (λ d. f (client_at x.clients d).phase) (λ d. f (client_at u.clients d).phase) (λ d within. elim (cases_eq d e) [
+    subst (λ k. sum_below (λ d. f (client_at x.clients d).phase) k ≡ total f u) (sym same)
+    (sum_below-same n (λ d. f (client_at x.clients d).phase) (λ d. f (client_at u.clients d).phase) (λ d within. elim (cases_eq d e) [
       | inl one ↦ subst (λ i. f (client_at x.clients i).phase ≡ f (client_at u.clients i).phase) (sym one) here
       | inr other ↦ ap f (others d other)
     ]))
@@ -184,11 +162,11 @@ Served-enters deal e n u a =
 unfoldable left_by : WorldState → ℕ → WorldState
 left_by u d = (client_did u d (requester.released (client_at u.clients d) Left)).state
 
-after-leave : (laws : LeavingLaws) (deal : Dealing) (u : WorldState) (d : ℕ) → d < length u.clients → is_inside (client_at u.clients d).phase ≡ true → after u (step deal u (Leave d)) ≡ left_by u d
+after-leave : (laws : Laws) (deal : Dealing) (u : WorldState) (d : ℕ) → d < length u.clients → is_inside (client_at u.clients d).phase ≡ true → after u (step deal u (Leave d)) ≡ left_by u d
 unfolding step requester.step left_by
 after-leave laws deal u d within inside =
-    ap (λ b. after u (if_client b d (after_client u d (requester.leave (client_at u.clients d))))) (below d (length u.clients) within)
-    ∙ ap (λ r. after u (after_client u d r)) (laws.left (client_at u.clients d) inside)
+    ap (λ b. after u (if_client b d (after_client u d (requester.leave (client_at u.clients d))))) (lt-ltb d (length u.clients) within)
+    ∙ ap (λ r. after u (after_client u d r)) (laws.client.left (client_at u.clients d) inside)
 
 record Leaves (deal : Dealing) (d : ℕ) (u : WorldState) : Type 0 where
   world : WorldState
@@ -198,7 +176,7 @@ record Leaves (deal : Dealing) (d : ℕ) (u : WorldState) : Type 0 where
   idle : (client_at world.clients d).phase ≡ Idle
   others : (e : ℕ) → e ≢ d → (client_at world.clients e).phase ≡ (client_at u.clients e).phase
 
-leaves : (laws : LeavingLaws) (deal : Dealing) (d : ℕ) (u : WorldState) → d < length u.clients → is_inside (client_at u.clients d).phase ≡ true → Leaves deal d u
+leaves : (laws : Laws) (deal : Dealing) (d : ℕ) (u : WorldState) → d < length u.clients → is_inside (client_at u.clients d).phase ≡ true → Leaves deal d u
 unfolding left_by
 leaves laws deal d u within inside =
     let o = requester.released (client_at u.clients d) Left in
@@ -246,7 +224,7 @@ Reached-served p u x a r = subst (λ (z : WorldState). IsReached (with_state p z
 same_entry : (u x : WorldState) → length x.voters ≡ length u.voters → length x.clients ≡ length u.clients → one_entry x ≡ one_entry u
 same_entry u x voters clients i = voters i + clients i + 3
 
-serves_all : (laws : LeavingLaws) (p : Planned) (c k t : ℕ) (u : WorldState) → one_entry u ≡ k → total weight u ≤ t → IsReached (with_state p u) → Asks u c
+serves_all : (laws : Laws) (p : Planned) (c k t : ℕ) (u : WorldState) → one_entry u ≡ k → total weight u ≤ t → IsReached (with_state p u) → Asks u c
     → HasGrants (total asking_one u * k) u → (steps : List Step) × GetsIn (dealing_of p.plans) u c steps
 unfolding total weight asking_one
 serves_all laws p c k zero u is most r asks left =
@@ -273,8 +251,8 @@ serves_all laws p c k (suc t) u is most r asks left = elim (inside_below u (leng
       let free : IsFree u = λ d. elim (cases_lt d (length u.clients)) [ inl within ↦ none d within | inr beyond ↦ outside_beyond u d beyond ] in
       let some = sum_some (length u.clients) c (λ d. asking_one (client_at u.clients d).phase) asks.client in
       let mine : asking_one (client_at u.clients c).phase ≡ 1 = ap asking_one (asking_is (client_at u.clients c).phase asks.asks) in
-      let enough : 1 * k ≤ total asking_one u * k = times_most 1 (total asking_one u) k (omega arith) in
-      let one = lets_in laws.together (with_state p u) c r asks free (λ v within. (let count = left v within in omega arith)) in
+      let enough : 1 * k ≤ total asking_one u * k = mul-le-mul_right k (omega arith) in
+      let one = lets_in laws (with_state p u) c r asks free (λ v within. (let count = left v within in omega arith)) in
       let e = one.who in
       let way = one.enters in
       let x = way.world in
@@ -298,7 +276,7 @@ serves_all laws p c k (suc t) u is most r asks left = elim (inside_below u (leng
             let before_one : asking_one (client_at u.clients e).phase ≡ 1 = ap asking_one was in
             let less = total_less weight u x e way.clients within (omega arith) way.phases in
             let fewer = total_less asking_one u x e way.clients within (omega arith) way.phases in
-            let product = times_most (total asking_one x + 1) (total asking_one u) k fewer in
+            let product : (total asking_one x + 1) * k ≤ total asking_one u * k = mul-le-mul_right k fewer in
             let rest = serves_all laws p c k t x (same_entry u x way.voters way.clients ∙ is) (omega arith) (Reached-served p u x served r)
             (record { client = subst (λ n. c < n) (sym way.clients) asks.client; asks = ap is_asking (way.phases c (λ same. apart (sym same))) ∙ asks.asks })
             (λ v there. (let count = left v (subst (λ n. v < n) way.voters there) in let few = way.few v in let limit = way.limit v in omega arith)) in
@@ -306,11 +284,11 @@ serves_all laws p c k (suc t) u is most r asks left = elim (inside_below u (leng
       ]
 ]
 
-pub everybody_gets_in : LeavingLaws → (w : Planned) (c : ℕ) → IsReached w → Asks w.state c → HasGrants (length w.state.clients * (length w.state.voters + length w.state.clients + 3)) w.state
+pub everybody_gets_in : Laws → (w : Planned) (c : ℕ) → IsReached w → Asks w.state c → HasGrants (length w.state.clients * (length w.state.voters + length w.state.clients + 3)) w.state
     → (steps : List Step) × GetsIn (dealing_of w.plans) w.state c steps
 unfolding total
 everybody_gets_in laws w c r asks left =
     let u = w.state in
     let few : total asking_one u ≤ length u.clients = sum_most (length u.clients) (λ d. asking_one (client_at u.clients d).phase) (λ d. asking_most (client_at u.clients d).phase) in
-    let enough = times_most (total asking_one u) (length u.clients) (one_entry u) few in
+    let enough : total asking_one u * one_entry u ≤ length u.clients * one_entry u = mul-le-mul_right (one_entry u) few in
     serves_all laws w c (one_entry u) (total weight u) u refl (omega arith) r asks (λ v within. (let count = left v within in omega arith))

@@ -1,9 +1,10 @@
 -- what reminders and deliveries make of a world
-use Rattle.std.proofs.Common.{Bool, false, Option, ◌≤◌, ◌+◌, ◌≡◌, ℕ, ◌<◌, true, List, [], ◌∷◌, ◌++◌, map, length, set, Some, Ok, refl, sym, ap, subst, ◌∙◌, inl, inr, arith, length-append}
-use Rattle.std.specs.Prelude.{zero, suc, nat_lt, slice_get, slice_index_or}
+use Rattle.std.proofs.Common.{false, Option, ◌≤◌, ◌+◌, ◌≡◌, ℕ, ◌<◌, true, List, [], ◌∷◌, ◌++◌, map, length, set, Some, Ok, refl, sym, ap, subst, ◌∙◌, inl, inr, arith, length-append}
+use Rattle.std.specs.Prelude.{zero, suc, slice_get, slice_index_or}
 use Rattle.std.specs.List.{Contains}
 use Rattle.std.proofs.lemmas.Bool.Decides.{nat_tests}
 use Rattle.std.proofs.lemmas.Option.{same_Some}
+use Rattle.std.proofs.lemmas.Bool.{false_from_ne_true, lt-ltb}
 use Rattle.message.specs.declared.message.Message.{Message}
 use Rattle.message.specs.declared.message.Message.TheVariants as kinds
 use Rattle.message.specs.declared.message.ToClient.{ToClient}
@@ -26,13 +27,10 @@ use Rattle.world.specs.Steps.{Dealing, Planned, WorldState, after_voter, client_
 use Rattle.progress.specs.LostVotes.{ComesBack, GoesOn, HasLostVote, HasReturnedVote, reminder_and_one, reminder_and_two}
 use Rattle.world.specs.Coherence.{Names}
 use Rattle.progress.proofs.Fitting.{Fits-reached}
-use Rattle.progress.specs.Rules.{BackLaws, ReturnLaws}
+use Rattle.progress.specs.Rules.{Laws}
 use Rattle.progress.proofs.Moves.{voter_here}
 
 -- ---- one step
-
-pub below : (a b : ℕ) → a < b → nat_lt a b ≡ true
-below a b less = grind (arith, nat_tests)
 
 -- a voter's reminder
 unfoldable pub reminded : WorldState → ℕ → WorldState
@@ -40,7 +38,7 @@ reminded w v = record w { sent = w.sent ++ map kinds.ToClient (voter.remind (vot
 
 pub after-remind_voter : (deal : Dealing) (w : WorldState) (v : ℕ) → v < length w.voters → after w (step deal w (RemindVoter v)) ≡ reminded w v
 unfolding step reminded
-after-remind_voter deal w v within = ap (λ b. after w (if_voter b v (Ok (say w (map kinds.ToClient (voter.remind (voter_at w.voters v))))))) (below v (length w.voters) within)
+after-remind_voter deal w v within = ap (λ b. after w (if_voter b v (Ok (say w (map kinds.ToClient (voter.remind (voter_at w.voters v))))))) (lt-ltb v (length w.voters) within)
 
 -- a client takes a message
 pub after-deliver_client : (deal : Dealing) (w : WorldState) (k : ℕ) (m : ToClient) → slice_get w.sent k ≡ Some (kinds.ToClient m)
@@ -72,22 +70,22 @@ answer w v g = requester.tell (client_at w.clients g.client) (voter_at w.voters 
 abbrev pub answered : WorldState → ℕ → Grant → WorldState
 answered w v g = (client_did (reminded w v) g.client (record { out = answer w v g ∷ []; seen = Nothing; state = requester.see (client_at w.clients g.client) (voter_at w.voters v).seen })).state
 
-pub after-answer : (laws : ReturnLaws) (deal : Dealing) (w : WorldState) (v : ℕ) (g : Grant) → HasLostVote w v g
+pub after-answer : (laws : Laws) (deal : Dealing) (w : WorldState) (v : ℕ) (g : Grant) → HasLostVote w v g
     → after (reminded w v) (step deal (reminded w v) (Deliver (length w.sent))) ≡ answered w v g
 unfolding reminded
 after-answer laws deal w v g lost =
-    let more = laws.repeats (voter_at w.voters v) g lost.held in
+    let more = laws.voter.reminds (voter_at w.voters v) g lost.held in
     let next : slice_get (w.sent ++ map kinds.ToClient (voter.remind (voter_at w.voters v))) (length w.sent) ≡ Some (kinds.ToClient (again w v g)) =
     ap (λ rs. slice_get (w.sent ++ map kinds.ToClient rs) (length w.sent)) more ∙ get_next w.sent (kinds.ToClient (again w v g)) _ in
     after-deliver_client deal (reminded w v) (length w.sent) (again w v g) next
-    ∙ ap (λ o. (client_did (reminded w v) g.client o).state) (laws.released (client_at w.clients g.client) (again w v g) g.stamp g.grant refl lost.over)
+    ∙ ap (λ o. (client_did (reminded w v) g.client o).state) (laws.client.released (client_at w.clients g.client) (again w v g) g.stamp g.grant refl lost.over)
 
-pub after-release : (laws : ReturnLaws) (deal : Dealing) (w : WorldState) (v : ℕ) (g : Grant) (o : voter.Outcome) → voter.step (voter_at w.voters (voter_at w.voters v).id) (answer w v g) ≡ Some o
+pub after-release : (laws : Laws) (deal : Dealing) (w : WorldState) (v : ℕ) (g : Grant) (o : voter.Outcome) → voter.step (voter_at w.voters (voter_at w.voters v).id) (answer w v g) ≡ Some o
     → after (answered w v g) (step deal (answered w v g) (Deliver (length (reminded w v).sent))) ≡ (voter_did (answered w v g) (voter_at w.voters v).id o).state
 unfolding reminded
 after-release laws deal w v g o takes = after-deliver_voter deal (answered w v g) (length (reminded w v).sent) (answer w v g) o (get_next (reminded w v).sent (kinds.ToVoter (answer w v g)) []) takes
 
-pub comes_back : ReturnLaws → (w : Planned) (v : ℕ) (g : Grant) → IsReached w → HasLostVote w.state v g → ComesBack (dealing_of w.plans) w.state v g
+pub comes_back : Laws → (w : Planned) (v : ℕ) (g : Grant) → IsReached w → HasLostVote w.state v g → ComesBack (dealing_of w.plans) w.state v g
 unfolding reminded
 comes_back laws plan v g r lost =
     let w = plan.state in
@@ -97,7 +95,7 @@ comes_back laws plan v g r lost =
     let id : y.id ≡ v = ok.numbered.voters v lost.voter in
     let client = (ok.made v g.client g.stamp (inl (g, lost.held, refl, refl))).client in
     let m = answer w v g in
-    let taken = laws.takes y m (ok.voters v) lost.left in
+    let taken = laws.voter.takes y m (ok.voters v) lost.left in
     let o = taken.0 in
     let takes : voter.step (voter_at w.voters y.id) m ≡ Some o = subst (λ n. voter.step (voter_at w.voters n) m ≡ Some o) (sym id) taken.1 in
     let second = length (reminded w v).sent in
@@ -114,8 +112,8 @@ comes_back laws plan v g r lost =
       second = second;
       first_is_new = omega arith;
       second_is_new = omega (arith, length-append w.sent (map kinds.ToClient (voter.remind y)));
-      gone = subst (λ (z : VoterState). (s : ℕ) → IsEntry z g.client s → ⊥) (sym here) (laws.ends y m o g g.stamp (ok.voters v) lost.held own refl (omega arith) taken.1);
-      others = λ c s other entry. subst (λ (z : VoterState). IsEntry z c s) (sym here) (elim (laws.stays y m o c s (ok.voters v) taken.1 entry) [
+      gone = subst (λ (z : VoterState). (s : ℕ) → IsEntry z g.client s → ⊥) (sym here) (laws.voter.ends y m o g g.stamp (ok.voters v) lost.held own refl (omega arith) taken.1);
+      others = λ c s other entry. subst (λ (z : VoterState). IsEntry z c s) (sym here) (elim (laws.voter.stays y m o c s (ok.voters v) taken.1 entry) [
         | inl stays ↦ stays
         | inr finishes ↦ absurd (other (finishes.0 ∙ own))
       ]);
@@ -128,7 +126,7 @@ spoken w c = record w { sent = w.sent ++ map kinds.ToVoter (requester.remind (cl
 
 pub after-remind_client : (deal : Dealing) (w : WorldState) (c : ℕ) → c < length w.clients → after w (step deal w (RemindClient c)) ≡ spoken w c
 unfolding step spoken
-after-remind_client deal w c within = ap (λ b. after w (if_client b c (Ok (say w (map kinds.ToVoter (requester.remind (client_at w.clients c))))))) (below c (length w.clients) within)
+after-remind_client deal w c within = ap (λ b. after w (if_client b c (Ok (say w (map kinds.ToVoter (requester.remind (client_at w.clients c))))))) (lt-ltb c (length w.clients) within)
 
 place_of : (out : List ToVoter) (k : ℕ) (m : ToVoter) → k < length out → slice_index_or out k m ≡ m → slice_get (map kinds.ToVoter out) k ≡ Some (kinds.ToVoter m)
 place_of [] k m within is = absurd (omega arith)
@@ -155,18 +153,14 @@ after-said deal w c m o within there takes =
 
 pub not_held : (x : ClientState) (v n : ℕ) (held : Option Grant) (g : Grant) (c : ℕ) → IsSound x → held ≡ Some g → g.grant ≤ last_of x v
     → ((k : ℕ) → holds_under x v k ≡ true → Names held c x.stamp k) → holds x v ≡ false
-not_held x v n held g c sound is few names = not_true (holds x v) (λ has.
+not_held x v n held g c sound is few names = false_from_ne_true (holds x v) (λ has.
     let number = held_of x v in
     let under : holds_under x v number ≡ true = grind (arith, nat_tests) in
     let same : g.grant ≡ number = ap (λ (h : Grant). h.grant) (same_Some g _ (sym is ∙ names number under)) in
     let fresh = (sound.held v has).fresh in
     (let x : ⊥ = omega arith in x))
-  where
-    not_true : (b : Bool) → (b ≡ true → ⊥) → b ≡ false
-    not_true true never = absurd (never refl)
-    not_true false never = refl
 
-pub goes_on : BackLaws → (plan : Planned) (v : ℕ) (g : Grant) → IsReached plan → HasReturnedVote plan.state v g → GoesOn (dealing_of plan.plans) plan.state v g
+pub goes_on : Laws → (plan : Planned) (v : ℕ) (g : Grant) → IsReached plan → HasReturnedVote plan.state v g → GoesOn (dealing_of plan.plans) plan.state v g
 unfolding spoken
 goes_on laws plan v g r back =
     let w = plan.state in
@@ -175,25 +169,25 @@ goes_on laws plan v g r back =
     let x = client_at w.clients c in
     let y = voter_at w.voters v in
     let ok = laws.coherent plan r in
-    let fits = Fits-reached laws.fitting plan r in
+    let fits = Fits-reached laws plan r in
     let within = (ok.made v c g.stamp (inl (g, back.held, refl, refl))).client in
     let v_within = ok.members c v back.asked in
     let few = ok.numbered.few_voters in
     let given = (fits.pairs c v).given (omega arith) g back.held refl back.asks back.current back.returned in
     let free = not_held x v 0 y.held g c (ok.clients c) back.held back.returned (λ k has. ok.held c v k has) in
     let m = requester.tell x v (asks.Relinquish (last_of x v)) in
-    let there = laws.gives x v back.asks back.asked free given.1 in
+    let there = laws.client.returns x v back.asks back.asked free given.1 in
     let own : m.client ≡ c = ok.numbered.clients c within in
     let body : m.body ≡ asks.Relinquish g.grant = ap (λ n. asks.Relinquish n) given.0 in
-    let taken = laws.takes y m (ok.voters v) back.left in
+    let taken = laws.voter.takes y m (ok.voters v) back.left in
     let o = taken.0 in
     let run = after-said deal w c m o within there taken.1 in
     let here : voter_at (run_of deal (reminder_and_one c (length w.sent + there.0)) w).voters v ≡ o.state = ap (λ (u : WorldState). voter_at u.voters v) run ∙ voter_here w.voters v o.state v_within in
     record {
       message = length w.sent + there.0;
       is_new = omega arith;
-      granted = subst (λ (z : VoterState). GrantIsNew y z) (sym here) (laws.goes_on y m o g (ok.voters v) back.held own body taken.1);
-      known = λ d s entry. subst (λ (z : VoterState). IsEntry z d s) (sym here) (elim (laws.stays y m o d s (ok.voters v) taken.1 entry) [
+      granted = subst (λ (z : VoterState). GrantIsNew y z) (sym here) (laws.voter.goes_on y m o g (ok.voters v) back.held own body taken.1);
+      known = λ d s entry. subst (λ (z : VoterState). IsEntry z d s) (sym here) (elim (laws.voter.stays y m o d s (ok.voters v) taken.1 entry) [
         | inl stays ↦ stays
         | inr finishes ↦ absurd finishes
       ]);

@@ -3,7 +3,7 @@ use Rattle.std.proofs.Common.{◌≡◌, ℕ, ◌+◌, ◌<◌, ◌≤◌, Bool,
 use Rattle.std.specs.Prelude.{slice_index}
 use Rattle.std.specs.List.{filter, list_all, range_with_len}
 use Rattle.std.specs.Result.{result_ok}
-use Rattle.std.proofs.lemmas.Bool.{cases_eq, cases_lt, false≢true}
+use Rattle.std.proofs.lemmas.Bool.{cases_lt, false≢true, false_from_ne_true}
 use Rattle.std.proofs.lemmas.Bool.Decides.{nat_tests}
 use Rattle.std.proofs.lemmas.List.{get_or_past}
 use Rattle.std.proofs.lemmas.List.FromFn.{get_or-map-range_with_len, length-map-range_with_len}
@@ -22,22 +22,21 @@ use Rattle.voter.specs.declared.state.VoterState.{VoterState}
 use Rattle.voter.specs.Entries.{Finishes, FinishesBy}
 use Rattle.voter.specs.Steps as voter
 use Rattle.requester.specs.declared.state.ClientState.{ClientState}
-use Rattle.requester.specs.declared.state.Phase.{Phase}
-use Rattle.requester.specs.declared.state.Phase.TheVariants.{Idle, Asking, Inside}
+use Rattle.requester.specs.declared.state.Seen.TheVariants.{Nothing}
 use Rattle.requester.specs.Clocks.{KeepsTime}
 use Rattle.requester.specs.Held.{KeepsMark}
 use Rattle.requester.specs.RequesterContract.{IsLater, Locks, MeetsContract}
 use Rattle.requester.specs.Soundness.{IsSound}
 use Rattle.requester.specs.Steps as requester
 use Rattle.requester.specs.Words.{held_of, holds, holds_under, is_asking, is_covered, is_current, is_idle, is_relinquished, last_of, members, is_inquired}
-use Rattle.world.specs.declared.step.Step.{Step}
 use Rattle.world.specs.Coherence.{AskOk, IsCoherent, MessageOk, Names}
-use Rattle.world.specs.Runs.{IsReached, after, run_of, start, start_by}
-use Rattle.world.specs.Steps.{Planned, WorldState, client_at, dealing_of, step, voter_at}
+use Rattle.world.specs.Runs.{IsReached, start}
+use Rattle.world.specs.Steps.{Planned, WorldState, client_at, step, voter_at}
 use Rattle.progress.proofs.Always.{granted_later, new_voter, new_voters}
 use Rattle.progress.proofs.Behind.{ask-Ok, grant_moved, meets}
-use Rattle.progress.specs.Rules.{FittingLaws}
-use Rattle.progress.proofs.Moves.{ClientMoved, IsReached-after, Moved, Moved-step, VoterMoved, with_state}
+use Rattle.progress.specs.Rules.{Laws}
+use Rattle.progress.proofs.Moves.{ClientMoved, Moved, VoterMoved, each_client, each_voter, kept-reached}
+use Rattle.requester.proofs.SoundSteps.{is_asking-busy, holds_under-holds}
 
 -- the voter finished no request of the client that runs
 pub record Unfinished (x : ClientState) (c : ℕ) (y : VoterState) : Type 0 where
@@ -66,11 +65,6 @@ pub record Fits (cs : List ClientState) (vs : List VoterState) : Type 0 where
 
 -- ---- words
 
-pub asking_busy : (p : Phase) → is_asking p ≡ true → is_idle p ≡ false
-asking_busy Idle asks = absurd (false≢true asks)
-asking_busy Asking asks = refl
-asking_busy Inside asks = refl
-
 pub current_busy : (x : ClientState) (s : ℕ) → is_current x s ≡ true → is_idle x.phase ≡ false
 current_busy x s is = grind (arith, nat_tests)
 
@@ -79,9 +73,6 @@ current_stamp x s is = grind (arith, nat_tests)
 
 pub held_under : (x : ClientState) (v : ℕ) → holds x v ≡ true → holds_under x v (held_of x v) ≡ true
 held_under x v is = grind (arith, nat_tests)
-
-pub under_holds : (x : ClientState) (v g : ℕ) → holds_under x v g ≡ true → holds x v ≡ true
-under_holds x v g is = grind (arith, nat_tests)
 
 pub take-Ok : (x : ClientState) (m : ToClient) (o : requester.Outcome) → requester.step x (requester.Takes m) ≡ Ok o → requester.take x m ≡ o
 unfolding requester.step
@@ -132,7 +123,7 @@ given_by c v x z y st marks stamp asked was g held own asks same few = elim mark
       (given.1 ∙ sym n, given.2)
 ]
 
-GivenBack-client : (laws : FittingLaws) (c v : ℕ) (x z : ClientState) (y : VoterState) (cause : requester.Cause) (o : requester.Outcome) → IsSound x → v < max_voters
+GivenBack-client : (laws : Laws) (c v : ℕ) (x z : ClientState) (y : VoterState) (cause : requester.Cause) (o : requester.Outcome) → IsSound x → v < max_voters
     → Vote c v x z y → o.state ≡ z → requester.step x cause ≡ Ok o
     → MeetsContract x cause o → KeepsTime x cause z → GivenBack x c v y → GivenBack z c v y
 GivenBack-client laws c v x z y (requester.Asks q) o sound below st is step contract time was g held own asks same few =
@@ -141,15 +132,15 @@ GivenBack-client laws c v x z y (requester.Asks q) o sound below st is step cont
     let behind = st.clock in
     absurd (omega arith)
 GivenBack-client laws c v x z y (requester.Takes m) o sound below st is step contract time was g held own asks same few =
-    let marks : KeepsMark x z v = subst (λ (w : ClientState). KeepsMark x w v) (ap (λ (p : requester.Outcome). p.state) (take-Ok x m o step) ∙ is) (laws.marks x m v sound below) in
+    let marks : KeepsMark x z v = subst (λ (w : ClientState). KeepsMark x w v) (ap (λ (p : requester.Outcome). p.state) (take-Ok x m o step) ∙ is) (laws.client.marks x m v sound below) in
     elim (time.asking asks) [
       | inl before ↦ given_by c v x z y st marks before.1 before.0 was g held own asks same few
       | inr new ↦ let made = st.made g held own in let behind = st.clock in absurd (omega arith)
     ]
 GivenBack-client laws c v x z y requester.Leaves o sound below st is step contract time was g held own asks same few =
-    absurd (false≢true (sym (asking_busy z.phase asks) ∙ ap (λ (w : ClientState). is_idle w.phase) (sym is) ∙ contract.quorum.1))
+    absurd (false≢true (sym (is_asking-busy z.phase asks) ∙ ap (λ (w : ClientState). is_idle w.phase) (sym is) ∙ contract.quorum.1))
 GivenBack-client laws c v x z y requester.GivesUp o sound below st is step contract time was g held own asks same few =
-    absurd (false≢true (sym (asking_busy z.phase asks) ∙ ap (λ (w : ClientState). is_idle w.phase) (sym is) ∙ contract.quorum.1))
+    absurd (false≢true (sym (is_asking-busy z.phase asks) ∙ ap (λ (w : ClientState). is_idle w.phase) (sym is) ∙ contract.quorum.1))
 
 last_by : (x z : ClientState) (v c : ℕ) (y : VoterState) → (last_of z v ≡ last_of x v) ⊎ (holds_under x v (last_of z v) ≡ true)
     → ((n : ℕ) → holds_under x v n ≡ true → Names y.held c x.stamp n) → voter.IsSound y → last_of x v ≤ y.granted → last_of z v ≤ y.granted
@@ -158,7 +149,7 @@ last_by x z v c y last held sound ok = elim last [
   | inr was ↦ sound.numbered (record { client = c; stamp = x.stamp; grant = last_of z v }) (held (last_of z v) was)
 ]
 
-Pair-client : (laws : FittingLaws) (u x : WorldState) → IsCoherent u → IsCoherent x → (k : ClientMoved u x) → (v : ℕ) → Pair k.who v (client_at u.clients k.who) (voter_at u.voters v)
+Pair-client : (laws : Laws) (u x : WorldState) → IsCoherent u → IsCoherent x → (k : ClientMoved u x) → (v : ℕ) → Pair k.who v (client_at u.clients k.who) (voter_at u.voters v)
     → Pair k.who v (client_at x.clients k.who) (voter_at u.voters v)
 Pair-client laws u x ok now k v h =
     let old = client_at u.clients k.who in
@@ -190,12 +181,8 @@ all_before x z (v ∷ vs) before all =
     let rest = all_before x z vs before (grind (arith, nat_tests)) in
     grind (arith, nat_tests)
 
-pub not_true : (b : Bool) → (b ≡ true → ⊥) → b ≡ false
-not_true true never = absurd (never refl)
-not_true false never = refl
-
 lacks_before : (x z : ClientState) → members z ≡ members x → ((v : ℕ) → holds z v ≡ true → holds x v ≡ true) → is_covered x ≡ false → is_covered z ≡ false
-lacks_before x z same before lacks = not_true (is_covered z) (λ covered. false≢true (sym lacks ∙ all_before x z (members x) before (ap (λ q. list_all (holds z) q) (sym same) ∙ covered)))
+lacks_before x z same before lacks = false_from_ne_true (is_covered z) (λ covered. false≢true (sym lacks ∙ all_before x z (members x) before (ap (λ q. list_all (holds z) q) (sym same) ∙ covered)))
 
 Lacks-enter : (b : Bool) (x : ClientState) → is_covered x ≡ b → Lacks (requester.enter_if b x).state
 Lacks-enter true x e asks = absurd (false≢true asks)
@@ -210,36 +197,51 @@ Lacks-locked : (x : ClientState) (v t g : ℕ) → Lacks x → Lacks (requester.
 unfolding requester.locked
 Lacks-locked x v t g h = Lacks-locked_by _ _ x v t g h
 
--- FAIL and INQUIRE leave the phase
+-- FAIL and INQUIRE leave the request
 
-phase-relinquish_if : (b : Bool) (x : ClientState) (v : ℕ) → (requester.relinquish_if b x v).state.phase ≡ x.phase
-phase-relinquish_if false x v = refl
-phase-relinquish_if true x v = refl
+pub record Stays (x : ClientState) (o : requester.Outcome) : Type 0 where
+  pub phase : o.state.phase ≡ x.phase
+  pub stamp : o.state.stamp ≡ x.stamp
+  pub quorum : members o.state ≡ members x
+  pub seen : o.seen ≡ Nothing
 
-phase-relinquish : (x : ClientState) (v : ℕ) → (requester.relinquish x v).state.phase ≡ x.phase
+Stays-relinquish_if : (b : Bool) (x : ClientState) (v : ℕ) → Stays x (requester.relinquish_if b x v)
+Stays-relinquish_if false x v = record { phase = refl; stamp = refl; quorum = refl; seen = refl }
+Stays-relinquish_if true x v = record { phase = refl; stamp = refl; quorum = refl; seen = refl }
+
+Stays-relinquish : (x : ClientState) (v : ℕ) → Stays x (requester.relinquish x v)
 unfolding requester.relinquish
-phase-relinquish x v = phase-relinquish_if (holds x v) x v
+Stays-relinquish x v = Stays-relinquish_if (holds x v) x v
 
-phase-relinquish_each : (x : ClientState) (vs : List ℕ) → (requester.relinquish_each x vs).state.phase ≡ x.phase
-phase-relinquish_each x [] = refl
-phase-relinquish_each x (v ∷ vs) = phase-relinquish_each (requester.relinquish x v).state vs ∙ phase-relinquish x v
+Stays-relinquish_each : (x : ClientState) (vs : List ℕ) → Stays x (requester.relinquish_each x vs)
+Stays-relinquish_each x [] = record { phase = refl; stamp = refl; quorum = refl; seen = refl }
+Stays-relinquish_each x (v ∷ vs) =
+    let a = Stays-relinquish x v in
+    let b = Stays-relinquish_each (requester.relinquish x v).state vs in
+    record { phase = b.phase ∙ a.phase; stamp = b.stamp ∙ a.stamp; quorum = b.quorum ∙ a.quorum; seen = refl }
 
-phase-failed_by : (b : Bool) (x : ClientState) (v : ℕ) → (requester.failed_by b x v).state.phase ≡ x.phase
-phase-failed_by false x v = refl
-phase-failed_by true x v = phase-relinquish_each (requester.fail x v) (filter (is_inquired (requester.fail x v)) (members x))
+Stays-failed_by : (b : Bool) (x : ClientState) (v : ℕ) → Stays x (requester.failed_by b x v)
+Stays-failed_by false x v = record { phase = refl; stamp = refl; quorum = refl; seen = refl }
+Stays-failed_by true x v =
+    let h = Stays-relinquish_each (requester.fail x v) (filter (is_inquired (requester.fail x v)) (members x)) in
+    record { phase = h.phase; stamp = h.stamp; quorum = h.quorum; seen = h.seen }
 
-phase-inquired_by : (b hindered : Bool) (x : ClientState) (v : ℕ) → (requester.inquired_by b hindered x v).state.phase ≡ x.phase
-phase-inquired_by false hindered x v = refl
-phase-inquired_by true false x v = refl
-phase-inquired_by true true x v = phase-relinquish x v
+Stays-inquired_by : (b hindered : Bool) (x : ClientState) (v : ℕ) → Stays x (requester.inquired_by b hindered x v)
+Stays-inquired_by false hindered x v = record { phase = refl; stamp = refl; quorum = refl; seen = refl }
+Stays-inquired_by true false x v = record { phase = refl; stamp = refl; quorum = refl; seen = refl }
+Stays-inquired_by true true x v = Stays-relinquish x v
 
-phase-failed : (x : ClientState) (v t : ℕ) → (requester.failed x v t).state.phase ≡ x.phase
-unfolding requester.failed
-phase-failed x v t = phase-failed_by _ x v
+pub Stays-fail : (x : ClientState) (m : ToClient) (t : ℕ) → m.body ≡ to_client.Fail t → Stays x (requester.take x m)
+unfolding requester.take requester.failed
+Stays-fail x m t is = subst (λ b. Stays x (requester.take_body (requester.see x m.seen) m.voter b)) (sym is) (
+    let h = Stays-failed_by _ (requester.see x m.seen) m.voter in
+    record { phase = h.phase; stamp = h.stamp; quorum = h.quorum; seen = h.seen })
 
-phase-inquired : (x : ClientState) (v g : ℕ) → (requester.inquired x v g).state.phase ≡ x.phase
-unfolding requester.inquired
-phase-inquired x v g = phase-inquired_by _ _ x v
+pub Stays-inquire : (x : ClientState) (m : ToClient) (g : ℕ) → m.body ≡ to_client.Inquire g → Stays x (requester.take x m)
+unfolding requester.take requester.inquired
+Stays-inquire x m g is = subst (λ b. Stays x (requester.take_body (requester.see x m.seen) m.voter b)) (sym is) (
+    let h = Stays-inquired_by _ _ (requester.see x m.seen) m.voter in
+    record { phase = h.phase; stamp = h.stamp; quorum = h.quorum; seen = h.seen })
 
 abbrev NotLocked : ClientBody → Type 0
 NotLocked (to_client.Locked s g) = ⊥
@@ -255,7 +257,7 @@ not_locked sender v s g (to_client.Inquire h) other locks = locks
 Lacks-other : (x : ClientState) (m : ToClient) (o : requester.Outcome) → MeetsContract x (requester.Takes m) o → o.state.phase ≡ x.phase → NotLocked m.body → Lacks x → Lacks o.state
 Lacks-other x m o contract phase other h asks =
     lacks_before x o.state contract.quorum.0 (λ v has. elim (contract.held v (held_of o.state v) (held_under o.state v has)) [
-      | inl before ↦ under_holds x v _ before.0
+      | inl before ↦ holds_under-holds x v _ before.0
       | inr got ↦ absurd (not_locked m.voter v _ _ m.body other got.0)
     ]) (h (ap is_asking (sym phase) ∙ asks))
 
@@ -263,11 +265,9 @@ Lacks-take : (x : ClientState) (m : ToClient) → MeetsContract x (requester.Tak
 unfolding requester.take
 Lacks-take x m contract h (to_client.Locked t g) is = subst (λ c. Lacks (requester.take_body (requester.see x m.seen) m.voter c).state) (sym is) (Lacks-locked (requester.see x m.seen) m.voter t g h)
 Lacks-take x m contract h (to_client.Fail t) is =
-    Lacks-other x m (requester.take x m) contract (ap (λ c. (requester.take_body (requester.see x m.seen) m.voter c).state.phase) is ∙ phase-failed (requester.see x m.seen) m.voter t)
-    (subst NotLocked (sym is) tt) h
+    Lacks-other x m (requester.take x m) contract (Stays-fail x m t is).phase (subst NotLocked (sym is) tt) h
 Lacks-take x m contract h (to_client.Inquire g) is =
-    Lacks-other x m (requester.take x m) contract (ap (λ c. (requester.take_body (requester.see x m.seen) m.voter c).state.phase) is ∙ phase-inquired (requester.see x m.seen) m.voter g)
-    (subst NotLocked (sym is) tt) h
+    Lacks-other x m (requester.take x m) contract (Stays-inquire x m g is).phase (subst NotLocked (sym is) tt) h
 
 none_held : (x : ClientState) (v : ℕ) → held_of x v ≡ 0 → holds x v ≡ false
 none_held x v none = grind (arith, nat_tests)
@@ -285,20 +285,14 @@ Lacks-client x z (requester.Takes m) o sound is taken contract h asks =
     let same = take-Ok x m o taken in
     subst (λ (w : ClientState). Lacks w) (ap (λ (p : requester.Outcome). p.state) same ∙ is)
     (Lacks-take x m (subst (λ (p : requester.Outcome). MeetsContract x (requester.Takes m) p) (sym same) contract) h m.body refl) asks
-Lacks-client x z requester.Leaves o sound is taken contract h asks = absurd (false≢true (sym (asking_busy z.phase asks) ∙ ap (λ (w : ClientState). is_idle w.phase) (sym is) ∙ contract.quorum.1))
-Lacks-client x z requester.GivesUp o sound is taken contract h asks = absurd (false≢true (sym (asking_busy z.phase asks) ∙ ap (λ (w : ClientState). is_idle w.phase) (sym is) ∙ contract.quorum.1))
+Lacks-client x z requester.Leaves o sound is taken contract h asks = absurd (false≢true (sym (is_asking-busy z.phase asks) ∙ ap (λ (w : ClientState). is_idle w.phase) (sym is) ∙ contract.quorum.1))
+Lacks-client x z requester.GivesUp o sound is taken contract h asks = absurd (false≢true (sym (is_asking-busy z.phase asks) ∙ ap (λ (w : ClientState). is_idle w.phase) (sym is) ∙ contract.quorum.1))
 
-Fits-client : (laws : FittingLaws) (u x : WorldState) → IsCoherent u → IsCoherent x → ClientMoved u x → Fits u.clients u.voters → Fits x.clients x.voters
+Fits-client : (laws : Laws) (u x : WorldState) → IsCoherent u → IsCoherent x → ClientMoved u x → Fits u.clients u.voters → Fits x.clients x.voters
 Fits-client laws u x ok now k h = subst (λ (vs : List VoterState). Fits x.clients vs) (sym k.voters) (record {
-  pairs = λ c v. elim (cases_eq c k.who) [
-    | inl same ↦ subst (λ i. Pair i v (client_at x.clients i) (voter_at u.voters v)) (sym same) (Pair-client laws u x ok now k v (h.pairs k.who v))
-    | inr other ↦ subst (λ (z : ClientState). Pair c v z (voter_at u.voters v)) (sym (k.others c other)) (h.pairs c v)
-  ];
-  lacks = λ c. elim (cases_eq c k.who) as (λ _. Lacks (client_at x.clients c)) [
-    | inl same ↦ subst (λ i. Lacks (client_at x.clients i)) (sym same) (Lacks-client (client_at u.clients k.who) (client_at x.clients k.who) k.cause k.outcome (now.clients k.who)
-        (sym k.here) k.step (meets laws.client u x ok now k) (h.lacks k.who))
-    | inr other ↦ subst (λ (z : ClientState). Lacks z) (sym (k.others c other)) (h.lacks c)
-  ];
+  pairs = λ c v. each_client (λ c z. Pair c v z (voter_at u.voters v)) u x k (Pair-client laws u x ok now k v (h.pairs k.who v)) (λ c. h.pairs c v) c;
+  lacks = each_client (λ _ z. Lacks z) u x k
+      (Lacks-client (client_at u.clients k.who) (client_at x.clients k.who) k.cause k.outcome (now.clients k.who) (sym k.here) k.step (meets laws.client u x ok now k) (h.lacks k.who)) h.lacks;
 })
 
 -- ---- a voter moves
@@ -318,7 +312,7 @@ Unfinished-voter x v c client b y z asked by ok = elim (by c) [
   | inr may ↦ let k = finished_ok x v c client (slice_index z.finished c) b asked may in record { most = k.0; busy = k.1 }
 ]
 
-Pair-voter : (laws : FittingLaws) (u x : WorldState) → IsCoherent u → (k : VoterMoved u x) → (c : ℕ) → Pair c k.message.voter (client_at u.clients c) (voter_at u.voters k.message.voter)
+Pair-voter : (laws : Laws) (u x : WorldState) → IsCoherent u → (k : VoterMoved u x) → (c : ℕ) → Pair c k.message.voter (client_at u.clients c) (voter_at u.voters k.message.voter)
     → Pair c k.message.voter (client_at u.clients c) k.outcome.state
 Pair-voter laws u x ok k c h =
     let y = voter_at u.voters k.message.voter in
@@ -327,7 +321,7 @@ Pair-voter laws u x ok k c h =
     let rises = subst (λ (z : VoterState). y.granted ≤ z.granted) k.here (granted_later laws.voter u x ok k k.message.voter) in
     let last = h.last in
     record {
-      unfinished = Unfinished-voter (client_at u.clients c) k.message.voter c k.message.client k.message.body y k.outcome.state asked (laws.finishes y k.message k.outcome k.step) h.unfinished;
+      unfinished = Unfinished-voter (client_at u.clients c) k.message.voter c k.message.client k.message.body y k.outcome.state asked (laws.voter.finishes y k.message k.outcome k.step) h.unfinished;
       last = omega arith;
       given = λ below g held own asks same few. elim (grant_moved laws.voter u x ok k g held) [
         | inl was ↦ h.given below g was own asks same few
@@ -335,17 +329,13 @@ Pair-voter laws u x ok k c h =
       ];
     }
 
-Fits-voter : (laws : FittingLaws) (u x : WorldState) → IsCoherent u → VoterMoved u x → Fits u.clients u.voters → Fits x.clients x.voters
+Fits-voter : (laws : Laws) (u x : WorldState) → IsCoherent u → VoterMoved u x → Fits u.clients u.voters → Fits x.clients x.voters
 Fits-voter laws u x ok k h = subst (λ (cs : List ClientState). Fits cs x.voters) (sym k.clients) (record {
-  pairs = λ c v. elim (cases_eq v k.message.voter) [
-    | inl same ↦ subst (λ i. Pair c i (client_at u.clients c) (voter_at x.voters i)) (sym same)
-        (subst (λ (y : VoterState). Pair c k.message.voter (client_at u.clients c) y) (sym k.here) (Pair-voter laws u x ok k c (h.pairs c k.message.voter)))
-    | inr other ↦ subst (λ (y : VoterState). Pair c v (client_at u.clients c) y) (sym (k.others v other)) (h.pairs c v)
-  ];
+  pairs = λ c. each_voter (λ v y. Pair c v (client_at u.clients c) y) u x k (Pair-voter laws u x ok k c (h.pairs c k.message.voter)) (h.pairs c);
   lacks = h.lacks;
 })
 
-Fits-moved : (laws : FittingLaws) (u x : WorldState) → IsCoherent u → IsCoherent x → Moved u x → Fits u.clients u.voters → Fits x.clients x.voters
+Fits-moved : (laws : Laws) (u x : WorldState) → IsCoherent u → IsCoherent x → Moved u x → Fits u.clients u.voters → Fits x.clients x.voters
 Fits-moved laws u x ok now moved h = elim moved [
   | inl client ↦ Fits-client laws u x ok now client h
   | inr (inl voter) ↦ Fits-voter laws u x ok voter h
@@ -353,15 +343,6 @@ Fits-moved laws u x ok now moved h = elim moved [
 ]
 
 -- ---- every run
-
-Fits-run : (laws : FittingLaws) (w : Planned) (steps : List Step) (u : WorldState) → IsReached (with_state w u) → Fits u.clients u.voters
-    → Fits (run_of (dealing_of w.plans) steps u).clients (run_of (dealing_of w.plans) steps u).voters
-Fits-run laws w [] u r h = h
-Fits-run laws w (s ∷ steps) u r h =
-    let next = IsReached-after (with_state w u) r s in
-    let ok = laws.coherent (with_state w u) r in
-    let x = after u (step (dealing_of w.plans) u s) in
-    Fits-run laws w steps x next (Fits-moved laws u x ok (laws.coherent (with_state w x) next) (Moved-step (dealing_of w.plans) u ok.numbered s) h)
 
 pub new_clients : ℕ → ℕ → List ClientState
 new_clients n limit = map (λ c. requester.start c limit) (range_with_len 0 n)
@@ -391,8 +372,5 @@ Fits-start voters clients limit = record {
   lacks = λ c. (let x = new_client clients limit c in subst (λ (z : ClientState). Lacks z) (sym x.2) (λ asks. absurd (false≢true asks)));
 }
 
-pub Fits-reached : (laws : FittingLaws) (w : Planned) → IsReached w → Fits w.state.clients w.state.voters
-Fits-reached laws w r =
-    let begin = start_by w.plans r.clients r.limit in
-    let first : IsReached (with_state w begin) = record { plans = r.plans; clients = r.clients; limit = r.limit; limits = r.limits; steps = []; state = refl } in
-    subst (λ (u : WorldState). Fits u.clients u.voters) (sym r.state) (Fits-run laws w r.steps begin first (Fits-start w.plans.first.system.voters r.clients r.limit))
+pub Fits-reached : (laws : Laws) (w : Planned) → IsReached w → Fits w.state.clients w.state.voters
+Fits-reached laws = kept-reached (λ w. Fits w.clients w.voters) laws.coherent Fits-start (Fits-moved laws)

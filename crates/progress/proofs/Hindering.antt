@@ -1,10 +1,10 @@
 -- how a client that has a vote, and does not precede another one, comes to give the vote back
-use Rattle.std.proofs.Common.{◌≡◌, ◌≢◌, ℕ, zero, suc, ◌+◌, ◌<◌, ◌≤◌, Bool, true, false, List, [], ◌∷◌, ◌++◌, map, length, set, Option, Some, None, refl, sym, ap, subst, ◌∙◌, ◌⊎◌}
+use Rattle.std.proofs.Common.{◌≡◌, ◌≢◌, ℕ, zero, suc, ◌+◌, ◌<◌, ◌≤◌, Bool, true, false, List, [], ◌∷◌, ◌++◌, map, length, Option, Some, None, refl, sym, ap, subst, ◌∙◌, ◌⊎◌}
 use Rattle.std.proofs.Common.{inl, inr, arith, length-append}
 use Rattle.std.specs.Prelude.{◌||◌, nat_le, nat_lt, ◌==◌, if◌then◌else◌, max, slice_get, slice_index, slice_index_or}
 use Rattle.std.specs.FinMap.{get}
-use Rattle.std.specs.List.{filter, list_all, list_any, range_with_len}
-use Rattle.std.proofs.lemmas.Bool.{cases_eq, cases_lt, false≢true}
+use Rattle.std.specs.List.{list_all, list_any, range_with_len}
+use Rattle.std.proofs.lemmas.Bool.{cases_eq, cases_lt, false≢true, false_from_ne_true, lt-leb}
 use Rattle.std.proofs.lemmas.Bool.Decides.{nat_tests}
 use Rattle.std.proofs.lemmas.List.{append-nil, length-set}
 use Rattle.std.proofs.lemmas.Option.{none-some, same_Some}
@@ -21,69 +21,24 @@ use Rattle.voter.specs.Steps as voter
 use Rattle.voter.specs.VoterContract.{IsEntry}
 use Rattle.voter.specs.Waiting.{precedes}
 use Rattle.requester.specs.declared.state.ClientState.{ClientState}
-use Rattle.requester.specs.declared.state.Seen.TheVariants.{Nothing}
 use Rattle.requester.specs.Held.{IsGivenBack}
 use Rattle.requester.specs.RequesterContract.{AllSay, MeetsContract, Says}
 use Rattle.requester.specs.Soundness.{IsSound}
 use Rattle.requester.specs.Steps as requester
-use Rattle.requester.specs.Words.{held_of, holds, is_failed, is_hindered, is_inquired, is_member, is_relinquished, last_of, members}
+use Rattle.requester.specs.Words.{held_of, holds, is_failed, is_hindered, is_member, is_relinquished, last_of, members}
 use Rattle.world.specs.declared.step.Step.TheVariants.{Deliver, RemindVoter}
 use Rattle.world.specs.Runs.{IsReached, run_of}
 use Rattle.world.specs.Steps.{Dealing, Planned, WorldState, client_at, client_did, dealing_of, events, step, voter_at}
 use Rattle.progress.proofs.Exchanges.{after-deliver_client, after-remind_voter, get_next, reminded, spoken}
-use Rattle.progress.proofs.Fitting.{Fits-reached, asking_busy, grant_is, held_under, not_true}
-use Rattle.progress.specs.Rules.{AloneLaws, TogetherLaws}
-use Rattle.progress.proofs.Moves.{client_here, client_others, with_state}
+use Rattle.progress.proofs.Fitting.{Fits-reached, Stays, Stays-fail, Stays-inquire, grant_is, held_under}
+use Rattle.progress.specs.Rules.{Laws}
+use Rattle.progress.proofs.Moves.{client_here, client_others, each_set, with_state}
 use Rattle.progress.proofs.Placed.{Placed-reached}
-use Rattle.progress.proofs.Ways.{Here, Here-went, Leads, asks_again, entry_waits, gets, has_range, hears, held_some, help_then, own_stamp, request_at, run_then}
+use Rattle.progress.proofs.Ways.{Here, Here-went, Leads, asks_again, entry_waits, gets, has_range, hears, held_some, help_then, own_stamp, run_then}
 use Rattle.progress.proofs.Counts.{CanGive, none, one_each, only, only_here, only_zero, times_in, times_more, times_once}
 use Rattle.progress.proofs.Led.{CanGive-led, Here-led, Led, Led-more, Led-self, Led-then, Led-went, SameRequest, Somebody, Somebody-led, Somebody-more, somebody_at}
-
--- ---- FAIL and INQUIRE leave the request
-
-record Stays (x : ClientState) (o : requester.Outcome) : Type 0 where
-  phase : o.state.phase ≡ x.phase
-  stamp : o.state.stamp ≡ x.stamp
-  quorum : members o.state ≡ members x
-  seen : o.seen ≡ Nothing
-
-Stays-relinquish_if : (b : Bool) (x : ClientState) (v : ℕ) → Stays x (requester.relinquish_if b x v)
-Stays-relinquish_if false x v = record { phase = refl; stamp = refl; quorum = refl; seen = refl }
-Stays-relinquish_if true x v = record { phase = refl; stamp = refl; quorum = refl; seen = refl }
-
-Stays-relinquish : (x : ClientState) (v : ℕ) → Stays x (requester.relinquish x v)
-unfolding requester.relinquish
-Stays-relinquish x v = Stays-relinquish_if (holds x v) x v
-
-Stays-relinquish_each : (x : ClientState) (vs : List ℕ) → Stays x (requester.relinquish_each x vs)
-Stays-relinquish_each x [] = record { phase = refl; stamp = refl; quorum = refl; seen = refl }
-Stays-relinquish_each x (v ∷ vs) =
-    let a = Stays-relinquish x v in
-    let b = Stays-relinquish_each (requester.relinquish x v).state vs in
-    record { phase = b.phase ∙ a.phase; stamp = b.stamp ∙ a.stamp; quorum = b.quorum ∙ a.quorum; seen = refl }
-
-Stays-failed_by : (b : Bool) (x : ClientState) (v : ℕ) → Stays x (requester.failed_by b x v)
-Stays-failed_by false x v = record { phase = refl; stamp = refl; quorum = refl; seen = refl }
-Stays-failed_by true x v =
-    let h = Stays-relinquish_each (requester.fail x v) (filter (is_inquired (requester.fail x v)) (members x)) in
-    record { phase = h.phase; stamp = h.stamp; quorum = h.quorum; seen = h.seen }
-
-Stays-inquired_by : (b hindered : Bool) (x : ClientState) (v : ℕ) → Stays x (requester.inquired_by b hindered x v)
-Stays-inquired_by false hindered x v = record { phase = refl; stamp = refl; quorum = refl; seen = refl }
-Stays-inquired_by true false x v = record { phase = refl; stamp = refl; quorum = refl; seen = refl }
-Stays-inquired_by true true x v = Stays-relinquish x v
-
-Stays-fail : (x : ClientState) (m : ToClient) (t : ℕ) → m.body ≡ to_client.Fail t → Stays x (requester.take x m)
-unfolding requester.take requester.failed
-Stays-fail x m t is = subst (λ b. Stays x (requester.take_body (requester.see x m.seen) m.voter b)) (sym is) (
-    let h = Stays-failed_by _ (requester.see x m.seen) m.voter in
-    record { phase = h.phase; stamp = h.stamp; quorum = h.quorum; seen = h.seen })
-
-Stays-inquire : (x : ClientState) (m : ToClient) (g : ℕ) → m.body ≡ to_client.Inquire g → Stays x (requester.take x m)
-unfolding requester.take requester.inquired
-Stays-inquire x m g is = subst (λ b. Stays x (requester.take_body (requester.see x m.seen) m.voter b)) (sym is) (
-    let h = Stays-inquired_by _ _ (requester.see x m.seen) m.voter in
-    record { phase = h.phase; stamp = h.stamp; quorum = h.quorum; seen = h.seen })
+use Rattle.progress.proofs.Behind.{the_request}
+use Rattle.requester.proofs.SoundSteps.{is_asking-busy}
 
 -- ---- another client takes a message
 
@@ -101,12 +56,8 @@ Led-takes deal c n k u x m a new is within other st =
       visible = ap (λ e. x.visible ++ events d e) st.seen ∙ append-nil x.visible ∙ a.visible;
       clients = length-set x.clients d o.state ∙ a.clients;
       voters = a.voters;
-      same = λ e. elim (cases_eq e d) [
-        | inl one ↦ subst (λ i. SameRequest (client_at u.clients i) (client_at (set x.clients d o.state) i)) (sym one)
-            (subst (λ (z : ClientState). SameRequest (client_at u.clients d) z) (sym (client_here x.clients d o.state within))
-            (record { phase = st.phase ∙ (a.same d).phase; stamp = st.stamp ∙ (a.same d).stamp; quorum = st.quorum ∙ (a.same d).quorum }))
-        | inr unlike ↦ subst (λ (z : ClientState). SameRequest (client_at u.clients e) z) (sym (client_others x.clients d o.state e unlike)) (a.same e)
-      ];
+      same = each_set (λ e z. SameRequest (client_at u.clients e) z) x.clients d o.state within
+          (record { phase = st.phase ∙ (a.same d).phase; stamp = st.stamp ∙ (a.same d).stamp; quorum = st.quorum ∙ (a.same d).quorum }) a.same;
       held = λ q has. ap (λ (z : ClientState). holds z q) (client_others x.clients d o.state c (λ same. other (sym same))) ∙ a.held q has;
       few = a.few;
       limit = a.limit;
@@ -126,13 +77,13 @@ given_last x cause o v contract given =
     let there = given.2 in
     sym (says_at x cause o.state o.out there.0 (requester.tell x v (asks.Relinquish (held_of x v))) contract.out there.1 there.2).0
 
-takes_meets : (laws : AloneLaws) (x : ClientState) (m : ToClient) → (p : Planned) (u : WorldState) (d : ℕ) → IsReached (with_state p u) → client_at u.clients d ≡ x
+takes_meets : (laws : Laws) (x : ClientState) (m : ToClient) → (p : Planned) (u : WorldState) (d : ℕ) → IsReached (with_state p u) → client_at u.clients d ≡ x
     → d < length u.clients → m.client ≡ d → m.voter < length u.voters → MeetsContract x (requester.Takes m) (requester.take x m)
 unfolding requester.step
 takes_meets laws x m p u d r is within own voter =
-    let ok = laws.fitting.coherent (with_state p u) r in
+    let ok = laws.coherent (with_state p u) r in
     let few = ok.numbered.few_voters in
-    laws.fitting.client.meets x (requester.Takes m) (requester.take x m) (subst (λ (z : ClientState). IsSound z) is (ok.clients d))
+    laws.client.meets x (requester.Takes m) (requester.take x m) (subst (λ (z : ClientState). IsSound z) is (ok.clients d))
     (own ∙ sym (ap (λ (z : ClientState). z.id) (sym is) ∙ ok.numbered.clients d within), omega arith) refl
 
 -- ---- a request that waits is answered by FAIL again
@@ -163,11 +114,8 @@ requested_not : (b : Bool) (v : VoterState) (client s : ℕ) → b ≡ false →
 requested_not true v client s e = absurd (false≢true (sym e))
 requested_not false v client s e = refl
 
-le_false : (a b : ℕ) → b < a → nat_le a b ≡ false
-le_false a b less = grind (arith, nat_tests)
-
 eq_false : (a b : ℕ) → a ≢ b → (a == b) ≡ false
-eq_false a b other = not_true (a == b) (λ is. other (grind (arith, nat_tests)))
+eq_false a b other = false_from_ne_true (a == b) (λ is. other (grind (arith, nat_tests)))
 
 fails_again : (y : VoterState) (m : ToVoter) (s : ℕ) (g : Grant) (o : voter.Outcome) → m.body ≡ asks.Request s → slice_index y.finished m.client < s → y.held ≡ Some g
     → g.client ≢ m.client → get y.waiting m.client ≡ Some s → voter.step y m ≡ Some o
@@ -180,7 +128,7 @@ fails_again y m s g o is unfinished held other waits step =
     ap (λ h. voter.first_some (voter.held_stamp h c) (get y.waiting c)) held ∙ ap (λ h. voter.first_some h (get y.waiting c)) (not_held_by (g.client == c) g.stamp (eq_false g.client c other))
     ∙ waits in
     let out : voter.outcome_of y c m.body ≡ record { replies = voter.reply v c (to_client.Fail s) ∷ []; state = v } =
-    ap (voter.outcome_of y c) is ∙ requested_not (nat_le s (slice_index y.finished c)) v c s (le_false s (slice_index y.finished c) unfinished) ∙ beside_same v c s (voter.standing v c) present
+    ap (voter.outcome_of y c) is ∙ requested_not (nat_le s (slice_index y.finished c)) v c s (lt-leb s (slice_index y.finished c) unfinished) ∙ beside_same v c s (voter.standing v c) present
     ∙ ap (λ rs. record { replies = rs; state = v }) (ap (λ h. voter.again v h c s) held ∙ again_fails (g.client == c) v g c s (eq_false g.client c other)) in
     sym (unless-Some _ (voter.outcome_of y c m.body) o step) ∙ out
 
@@ -192,24 +140,24 @@ record Failed (p : Planned) (c d q : ℕ) (u : WorldState) : Type 0 where
   votes : (v : ℕ) → (held_of (client_at world.clients d) v ≡ held_of (client_at u.clients d) v) ⊎ (last_of (client_at world.clients d) v ≡ held_of (client_at u.clients d) v)
   others : (v : ℕ) → v ≢ q → voter_at world.voters v ≡ voter_at u.voters v
 
-fails : (laws : TogetherLaws) (p : Planned) (c d q : ℕ) (u : WorldState) → Here p d q u → d ≢ c → holds (client_at u.clients d) q ≡ false → (g : Grant)
+fails : (laws : Laws) (p : Planned) (c d q : ℕ) (u : WorldState) → Here p d q u → d ≢ c → holds (client_at u.clients d) q ≡ false → (g : Grant)
     → (voter_at u.voters q).held ≡ Some g → g.client ≢ d
     → IsEntry (voter_at u.voters q) d (client_at u.clients d).stamp → (voter_at u.voters q).granted < (voter_at u.voters q).limit → Failed p c d q u
 unfolding spoken requester.would_hold
 fails laws p c d q u h apart free g held other entry left =
     let deal = dealing_of p.plans in
-    let ok = laws.alone.fitting.coherent (with_state p u) h.reached in
+    let ok = laws.coherent (with_state p u) h.reached in
     let old = client_at u.clients d in
     let y = voter_at u.voters q in
     let s = old.stamp in
     let ask = requester.tell old q (asks.Request s) in
-    let there = laws.alone.requests old q h.asks h.asked free in
-    let heard = hears laws.alone p d q u h (asks.Request s) there left in
+    let there = laws.client.requests old q h.asks h.asked free in
+    let heard = hears laws p d q u h (asks.Request s) there left in
     let w = heard.world in
     let id : old.id ≡ d = ok.numbered.clients d h.client in
     let voter_id : y.id ≡ q = ok.numbered.voters q (ok.members d q h.asked) in
-    let pair = (Fits-reached laws.alone.fitting (with_state p u) h.reached).pairs d q in
-    let busy = asking_busy old.phase h.asks in
+    let pair = (Fits-reached laws (with_state p u) h.reached).pairs d q in
+    let busy = is_asking-busy old.phase h.asks in
     let unfinished = subst (λ i. slice_index y.finished i < s) (sym id) (pair.unfinished.busy busy) in
     let waits = subst (λ i. get y.waiting i ≡ Some s) (sym id) (entry_waits y d s g entry held other) in
     let outcome = fails_again y ask s g heard.outcome refl unfinished held (λ own. other (own ∙ id)) waits heard.step in
@@ -220,20 +168,20 @@ fails laws p c d q u h apart free g held other entry left =
     ap (λ ms. slice_get ms (length before)) (heard.sent ∙ ap (λ (o : voter.Outcome). before ++ map kinds.ToClient o.replies) outcome)
     ∙ get_next before (kinds.ToClient (voter.reply (voter.see y s) old.id (to_client.Fail s))) [] ∙ ap (λ (n : ToClient). Some (kinds.ToClient n)) is in
     let here = Here-went p d q q u w heard.went h in
-    let now = laws.alone.fitting.coherent (with_state p w) here.reached in
+    let now = laws.coherent (with_state p w) here.reached in
     let x = client_at w.clients d in
     let same : x ≡ old = ap (λ cs. client_at cs d) heard.same in
     let lacks = ap (λ (z : ClientState). holds z q) same ∙ free in
     let o = requester.take x m in
     let few : (voter_at w.voters q).granted ≤ y.granted + 0 = subst (λ (z : VoterState). z.granted ≤ y.granted + 0) (sym (heard.here ∙ ap (λ (k : voter.Outcome). k.state) outcome)) (omega arith) in
     let at = client_here w.clients d o.state here.client in
-    let contract = takes_meets laws.alone x m p w d here.reached refl here.client refl (now.members d q here.asked) in
+    let contract = takes_meets laws x m p w d here.reached refl here.client refl (now.members d q here.asked) in
     record {
       world = (client_did w d o).state;
       led = Led-takes deal c (only q 0) (length before) u w m (Led-went deal c q 0 u w heard.went few)
           (omega (arith, length-append u.sent (map kinds.ToVoter (requester.remind old)))) sent here.client apart (Stays-fail x m s refl);
-      hindered = ap is_hindered at ∙ laws.hinders x m (now.clients d) here.asks here.asked lacks (ap (λ n. to_client.Fail n) (sym (ap (λ (z : ClientState). z.stamp) same)));
-      votes = λ v. subst (λ (z : ClientState). (held_of z v ≡ held_of old v) ⊎ (last_of z v ≡ held_of old v)) (sym at) (elim (laws.kept x m (now.clients d) refl v) [
+      hindered = ap is_hindered at ∙ laws.client.hinders x m (now.clients d) here.asks here.asked lacks (ap (λ n. to_client.Fail n) (sym (ap (λ (z : ClientState). z.stamp) same)));
+      votes = λ v. subst (λ (z : ClientState). (held_of z v ≡ held_of old v) ⊎ (last_of z v ≡ held_of old v)) (sym at) (elim (laws.client.kept x m (now.clients d) refl v) [
         | inl kept ↦ inl (kept ∙ ap (λ (z : ClientState). held_of z v) same)
         | inr given ↦ inr (given_last x (requester.Takes m) o v contract given ∙ ap (λ (z : ClientState). held_of z v) same)
       ]);
@@ -269,20 +217,20 @@ Led-reminded deal c v u within = record {
 }
 
 -- the grant by which a client holds a vote is the one that has it
-held_grant : (laws : AloneLaws) (p : Planned) (d v : ℕ) (u : WorldState) → IsReached (with_state p u) → (g : Grant) → (voter_at u.voters v).held ≡ Some g
+held_grant : (laws : Laws) (p : Planned) (d v : ℕ) (u : WorldState) → IsReached (with_state p u) → (g : Grant) → (voter_at u.voters v).held ≡ Some g
     → holds (client_at u.clients d) v ≡ true → g.grant ≡ held_of (client_at u.clients d) v
 held_grant laws p d v u r g held has =
-    let ok = laws.fitting.coherent (with_state p u) r in
+    let ok = laws.coherent (with_state p u) r in
     let x = client_at u.clients d in
     grant_is (voter_at u.voters v).held g d x.stamp (held_of x v) held (ok.held d v (held_of x v) (held_under x v has))
 
-gives_back : (laws : TogetherLaws) (p : Planned) (c d v : ℕ) (u : WorldState) → Here p d v u → d ≢ c → holds (client_at u.clients d) v ≡ true → is_hindered (client_at u.clients d) ≡ true
+gives_back : (laws : Laws) (p : Planned) (c d v : ℕ) (u : WorldState) → Here p d v u → d ≢ c → holds (client_at u.clients d) v ≡ true → is_hindered (client_at u.clients d) ≡ true
     → (g : Grant) → (voter_at u.voters v).held ≡ Some g → g.client ≡ d
     → (voter_at u.voters v).inquiring ≡ true → Returns p c d v none g u
 unfolding reminded
 gives_back laws p c d v u h apart has hindered g held own inquiring =
     let deal = dealing_of p.plans in
-    let ok = laws.alone.fitting.coherent (with_state p u) h.reached in
+    let ok = laws.coherent (with_state p u) h.reached in
     let x = client_at u.clients d in
     let y = voter_at u.voters v in
     let within = ok.members d v h.asked in
@@ -291,13 +239,13 @@ gives_back laws p c d v u h apart has hindered g held own inquiring =
     let first = voter.reply y g.client (to_client.Locked g.stamp g.grant) in
     let m : ToClient = record { voter = v; client = d; seen = y.seen; body = to_client.Inquire g.grant } in
     let is : voter.reply y g.client (to_client.Inquire g.grant) ≡ m = λ i. record { voter = id i; client = own i; seen = y.seen; body = to_client.Inquire g.grant } in
-    let more : voter.remind y ≡ first ∷ m ∷ [] = laws.alone.returns.repeats y g held ∙ ap (λ b. first ∷ voter.inquiry_again b y g) inquiring ∙ ap (λ (n : ToClient). first ∷ n ∷ []) is in
+    let more : voter.remind y ≡ first ∷ m ∷ [] = laws.voter.reminds y g held ∙ ap (λ b. first ∷ voter.inquiry_again b y g) inquiring ∙ ap (λ (n : ToClient). first ∷ n ∷ []) is in
     let sent : slice_get (reminded u v).sent (suc (length u.sent)) ≡ Some (kinds.ToClient m) =
     ap (λ rs. slice_get (u.sent ++ map kinds.ToClient rs) (suc (length u.sent))) more ∙ second_next u.sent (kinds.ToClient first) (kinds.ToClient m) [] in
     let o = requester.take x m in
-    let number = held_grant laws.alone p d v u h.reached g held has in
-    let given = laws.gives x m (ok.clients d) h.asks has hindered (omega arith) (ap (λ n. to_client.Inquire n) number) in
-    let contract = takes_meets laws.alone x m p u d h.reached refl h.client refl within in
+    let number = held_grant laws p d v u h.reached g held has in
+    let given = laws.client.gives x m (ok.clients d) h.asks has hindered (omega arith) (ap (λ n. to_client.Inquire n) number) in
+    let contract = takes_meets laws x m p u d h.reached refl h.client refl within in
     record {
       world = (client_did (reminded u v) d o).state;
       led = Led-takes deal c none (suc (length u.sent)) u (reminded u v) m (Led-reminded deal c v u within) (omega arith) sent h.client apart (Stays-inquire x m g.grant refl);
@@ -364,7 +312,7 @@ loose_from p c d v q g u w led other same has number f = record {
   loose = loose_by (client_at w.clients d) (client_at f.world.clients d) v g f.hindered has number (f.votes v);
 }
 
-tries : (laws : TogetherLaws) (p : Planned) (c d v q : ℕ) (g : Grant) (u : WorldState) → Here p d v u → d ≢ c → (voter_at u.voters v).held ≡ Some g → holds (client_at u.clients d) v ≡ true
+tries : (laws : Laws) (p : Planned) (c d v q : ℕ) (g : Grant) (u : WorldState) → Here p d v u → d ≢ c → (voter_at u.voters v).held ≡ Some g → holds (client_at u.clients d) v ≡ true
     → is_member (client_at u.clients d) q ≡ true
     → (voter_at u.voters q).granted + 2 ≤ (voter_at u.voters q).limit → Tried p c d v q g u
 tries laws p c d v q g u h apart held has member left = elim (holds (client_at u.clients d) q) as (λ b. holds (client_at u.clients d) q ≡ b → Tried p c d v q g u) [
@@ -373,13 +321,13 @@ tries laws p c d v q g u h apart held has member left = elim (holds (client_at u
       let deal = dealing_of p.plans in
       let spot : Here p d q u = record { reached = h.reached; client = h.client; asks = h.asks; asked = member } in
       let other : v ≢ q = λ same. false≢true (sym free ∙ ap (λ i. holds (client_at u.clients d) i) (sym same) ∙ has) in
-      let asked_again = asks_again laws.alone p d q u spot free (omega arith) in
+      let asked_again = asks_again laws p d q u spot free (omega arith) in
       let w = asked_again.world in
       let x = client_at w.clients d in
       let y = voter_at w.voters q in
       let same : x ≡ client_at u.clients d = ap (λ cs. client_at cs d) asked_again.same in
       let here = Here-went p d q q u w asked_again.went spot in
-      let ok = laws.alone.fitting.coherent (with_state p w) here.reached in
+      let ok = laws.coherent (with_state p w) here.reached in
       let led = Led-went deal c q 1 u w asked_again.went asked_again.few in
       let one_only : (r : ℕ) → only q 1 r + only q 0 r ≤ only q 1 r = λ r. (let nothing = only_zero q r in omega arith) in
       let lacks = ap (λ (z : ClientState). holds z q) same ∙ free in
@@ -394,7 +342,7 @@ tries laws p c d v q g u h apart held has member left = elim (holds (client_at u
         | inl mine ↦
             let stamp = own_stamp y d x.stamp k.0 (ok.voters q) asked_again.entry k.1 mine in
             elim (cases_lt (last_of x q) k.0.grant) [
-              | inl less ↦ elim (gets laws.alone p d q w here lacks k.0 k.1 mine stamp less) [
+              | inl less ↦ elim (gets laws p d q w here lacks k.0 k.1 mine stamp less) [
                 | inl e ↦ inl (Somebody-led p c (only q 1) (only q 0) (only q 1) u w one_only led (somebody_at p d q (voter_at w.voters q).granted 0 w here.asks (omega arith) e))
                 | inr on ↦
                     let more = Led-went deal c q 0 w on.0 on.1 (let count = ap (λ vs. (voter_at vs q).granted) on.3 in omega arith) in
@@ -409,13 +357,13 @@ tries laws p c d v q g u h apart held has member left = elim (holds (client_at u
                     ))
               ]
               | inr most ↦
-                  let pair = (Fits-reached laws.alone.fitting (with_state p w) here.reached).pairs d q in
+                  let pair = (Fits-reached laws (with_state p w) here.reached).pairs d q in
                   let back = pair.given (omega arith) k.0 k.1 mine here.asks stamp most in
                   inr (inl (record { world = w; led = led; voter = kept; loose = inl (hindered_by x q here.asked back.1, has_it) }))
             ]
         | inr unlike ↦
             let f = fails laws p c d q w here apart lacks k.0 k.1 unlike asked_again.entry (omega arith) in
-            let number = held_grant laws.alone p d v w here.reached g (ap (λ (z : VoterState). z.held) kept ∙ held) has_it in
+            let number = held_grant laws p d v w here.reached g (ap (λ (z : VoterState). z.held) kept ∙ held) has_it in
             inr (inl (loose_from p c d v q g u w led other kept has_it number f))
       ]
 ] refl
@@ -432,14 +380,14 @@ record AllTried (p : Planned) (c d v : ℕ) (n : ℕ → ℕ) (qs : List ℕ) (u
 pub has_rest : (q r : ℕ) (qs : List ℕ) → r ≢ q → has (q ∷ qs) r ≡ true → has qs r ≡ true
 has_rest q r qs other there = grind (arith, nat_tests)
 
-tries_all : (laws : TogetherLaws) (p : Planned) (c d v : ℕ) (g : Grant) (qs : List ℕ) (u : WorldState) → Here p d v u → d ≢ c → (voter_at u.voters v).held ≡ Some g
+tries_all : (laws : Laws) (p : Planned) (c d v : ℕ) (g : Grant) (qs : List ℕ) (u : WorldState) → Here p d v u → d ≢ c → (voter_at u.voters v).held ≡ Some g
     → holds (client_at u.clients d) v ≡ true → CanGive (and_one qs) u
     → Somebody p (times_in qs) u ⊎ Loose p c d v (times_in qs) g u ⊎ AllTried p c d v (times_in qs) qs u
 tries_all laws p c d v g [] u h apart held has_v left =
     inr (inr (record { more = record { world = u; led = Led-self (dealing_of p.plans) c (times_in []) u; voter = refl; held = λ r was. was }; all = λ r there. absurd (false≢true there) }))
 tries_all laws p c d v g (q ∷ qs) u h apart held has_v left =
     let deal = dealing_of p.plans in
-    let ok = laws.alone.fitting.coherent (with_state p u) h.reached in
+    let ok = laws.coherent (with_state p u) h.reached in
     let sum : (r : ℕ) → only q 1 r + times_in qs r ≤ times_in (q ∷ qs) r = λ r. (let more = times_more q r qs in omega arith) in
     let first : (r : ℕ) → only q 1 r ≤ times_in (q ∷ qs) r = λ r. (let more = times_more q r qs in omega arith) in
     let one : Tried p c d v q g u = elim (is_member (client_at u.clients d) q) as (λ b. is_member (client_at u.clients d) q ≡ b → Tried p c d v q g u) [
@@ -480,7 +428,7 @@ all_hold f (x ∷ xs) all =
     let rest = all_hold f xs (λ q there. all q (grind (arith, nat_tests))) in
     grind (arith, nat_tests)
 
-loosens : (laws : TogetherLaws) (p : Planned) (c d v : ℕ) (g : Grant) (u : WorldState) → Here p d v u → d ≢ c → (voter_at u.voters v).held ≡ Some g → holds (client_at u.clients d) v ≡ true
+loosens : (laws : Laws) (p : Planned) (c d v : ℕ) (g : Grant) (u : WorldState) → Here p d v u → d ≢ c → (voter_at u.voters v).held ≡ Some g → holds (client_at u.clients d) v ≡ true
     → CanGive (λ r. 2) u
     → Somebody p one_each u ⊎ Loose p c d v one_each g u
 loosens laws p c d v g u h apart held has_v left =
@@ -494,8 +442,8 @@ loosens laws p c d v g u h apart held has_v left =
           let x = all.more.world in
           let led = all.more.led in
           let here = Here-led p c (times_in qs) d v u x led h in
-          let ok = laws.alone.fitting.coherent (with_state p u) h.reached in
-          let lacks = (Fits-reached laws.alone.fitting (with_state p x) here.reached).lacks d here.asks in
+          let ok = laws.coherent (with_state p u) h.reached in
+          let lacks = (Fits-reached laws (with_state p x) here.reached).lacks d here.asks in
           absurd (false≢true (sym lacks ∙ all_hold (holds (client_at x.clients d)) (members (client_at x.clients d)) (λ q there.
           let member : is_member (client_at u.clients d) q ≡ true = ap (λ l. has l q) (sym (led.same d).quorum) ∙ there in
           let within = ok.members d q member in
@@ -504,7 +452,7 @@ loosens laws p c d v g u h apart held has_v left =
 
 -- ---- the vote goes back
 
-pub returns : (laws : TogetherLaws) (p : Planned) (c d v : ℕ) (g : Grant) (u : WorldState) → Leads u c → Here p d v u → d ≢ c → IsEntry (voter_at u.voters v) c (client_at u.clients c).stamp
+pub returns : (laws : Laws) (p : Planned) (c d v : ℕ) (g : Grant) (u : WorldState) → Leads u c → Here p d v u → d ≢ c → IsEntry (voter_at u.voters v) c (client_at u.clients c).stamp
     → (voter_at u.voters v).held ≡ Some g → g.client ≡ d
     → g.stamp ≡ (client_at u.clients d).stamp → holds (client_at u.clients d) v ≡ true → CanGive (λ r. 2) u → Somebody p one_each u ⊎ Returns p c d v one_each g u
 returns laws p c d v g u leads h apart entry held own stamp has_v left =
@@ -519,7 +467,7 @@ returns laws p c d v g u leads h apart entry held own stamp has_v left =
             | inl stuck ↦
                 let here = Here-led p c one_each d v u x led h in
                 let waits = entry_waits (voter_at u.voters v) c (client_at u.clients c).stamp g entry held (λ same. apart (sym own ∙ same)) in
-                let ahead = subst (λ (r : Request). precedes (request_at u c) r ≡ true) (sym (λ i. record { stamp = stamp i; client = own i })) (leads.first d apart h.asks) in
+                let ahead = subst (λ (r : Request). precedes (the_request u c) r ≡ true) (sym (λ i. record { stamp = stamp i; client = own i })) (leads.first d apart h.asks) in
                 let inquiring = (Placed-reached laws (with_state p u) h.reached).back v g c (client_at u.clients c).stamp held waits ahead in
                 let back = gives_back laws p c d v x here apart stuck.1 stuck.0 g (ap (λ (z : VoterState). z.held) loose.voter ∙ held) own
                 (ap (λ (z : VoterState). z.inquiring) loose.voter ∙ inquiring) in

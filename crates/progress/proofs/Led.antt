@@ -1,9 +1,7 @@
 -- helping steps, and what they leave
-use Rattle.std.proofs.Common.{◌≡◌, ◌≢◌, ℕ, ◌+◌, ◌<◌, ◌≤◌, true, List, [], ◌++◌, length, refl, sym, ap, subst, ◌∙◌, inl, inr, arith}
+use Rattle.std.proofs.Common.{◌≡◌, ◌≢◌, ℕ, ◌+◌, ◌<◌, ◌≤◌, true, List, [], ◌++◌, length, refl, sym, ap, subst, ◌∙◌, arith}
 use Rattle.std.specs.List.{AllByRecursion}
-use Rattle.std.proofs.lemmas.Bool.{cases_eq}
 use Rattle.numbers.specs.Sets.{has}
-use Rattle.voter.specs.declared.state.VoterState.{VoterState}
 use Rattle.requester.specs.declared.state.ClientState.{ClientState}
 use Rattle.requester.specs.declared.state.Seen.TheVariants.{Entered}
 use Rattle.requester.specs.declared.state.Phase.TheVariants.{Inside}
@@ -12,7 +10,7 @@ use Rattle.world.specs.declared.step.Step.{Step}
 use Rattle.world.specs.Runs.{IsReached, run_of}
 use Rattle.world.specs.Steps.{Dealing, Planned, WorldState, client_at, dealing_of, events, voter_at}
 use Rattle.progress.specs.WayIn.{Helps}
-use Rattle.progress.proofs.Moves.{with_state}
+use Rattle.progress.proofs.Moves.{each_but, with_state}
 use Rattle.progress.proofs.Ways.{EntersAt, Here, IsReached-run, Leads, Leads-same, Went, help_then, run_then}
 use Rattle.progress.proofs.Counts.{CanGive, none, only, only_here}
 
@@ -92,15 +90,9 @@ Led-went deal c v n u x a few = record {
   voters = a.voters;
   same = λ d. record { phase = (a.gains d).phase; stamp = (a.gains d).stamp; quorum = (a.gains d).quorum };
   held = (a.gains c).held;
-  few = λ q. elim (cases_eq q v) [
-    | inl one ↦ (let here : (voter_at x.voters q).granted ≤ (voter_at u.voters q).granted + n = subst (λ i. (voter_at x.voters i).granted ≤ (voter_at u.voters i).granted + n)
-        (sym one) few in let count = only_here v n q one in omega arith)
-    | inr other ↦ (let same = ap (λ (y : VoterState). y.granted) (a.others q other) in omega arith)
-  ];
-  limit = λ q. elim (cases_eq q v) [
-    | inl one ↦ subst (λ i. (voter_at x.voters i).limit ≡ (voter_at u.voters i).limit) (sym one) a.limit
-    | inr other ↦ ap (λ (y : VoterState). y.limit) (a.others q other)
-  ];
+  few = each_but (λ q y. y.granted ≤ (voter_at u.voters q).granted + only v n q) (voter_at u.voters) (voter_at x.voters) v a.others
+      (let count = only_here v n v refl in omega arith) (λ q. omega arith);
+  limit = each_but (λ q y. y.limit ≡ (voter_at u.voters q).limit) (voter_at u.voters) (voter_at x.voters) v a.others a.limit (λ q. refl);
 }
 
 pub Here-led : (p : Planned) (c : ℕ) (n : ℕ → ℕ) (d v : ℕ) (u x : WorldState) → Led (dealing_of p.plans) c n u x → Here p d v u → Here p d v x
@@ -177,15 +169,9 @@ somebody_at p e v top n u asks most a = record {
     voters = a.voters;
     inside = a.inside;
     phases = a.phases;
-    few = λ q. elim (cases_eq q v) [
-      | inl one ↦ (let here : (voter_at a.world.voters q).granted ≤ (voter_at u.voters q).granted + n = subst (λ i. (voter_at a.world.voters i).granted ≤ (voter_at u.voters i).granted + n)
-          (sym one) (let few = a.few in omega arith) in let count = only_here v n q one in omega arith)
-      | inr other ↦ (let same = ap (λ (y : VoterState). y.granted) (a.others q other) in omega arith)
-    ];
-    limit = λ q. elim (cases_eq q v) [
-      | inl one ↦ subst (λ i. (voter_at a.world.voters i).limit ≡ (voter_at u.voters i).limit) (sym one) a.limit
-      | inr other ↦ ap (λ (y : VoterState). y.limit) (a.others q other)
-    ];
+    few = each_but (λ q y. y.granted ≤ (voter_at u.voters q).granted + only v n q) (voter_at u.voters) (voter_at a.world.voters) v a.others
+        (let few = a.few in let count = only_here v n v refl in omega arith) (λ q. omega arith);
+    limit = each_but (λ q y. y.limit ≡ (voter_at u.voters q).limit) (voter_at u.voters) (voter_at a.world.voters) v a.others a.limit (λ q. refl);
   };
 }
 

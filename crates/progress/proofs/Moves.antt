@@ -1,8 +1,9 @@
 -- what one step of a world changes
-use Rattle.std.proofs.Common.{◌≡◌, ◌≢◌, ℕ, ◌<◌, Bool, true, false, List, [], ◌∷◌, ◌++◌, map, length, set, Option, Some, None, Result, Ok, Err, refl, sym, ap, ◌∙◌, ◌⊎◌, inl, inr, arith}
+use Rattle.std.proofs.Common.{◌≡◌, ◌≢◌, ℕ, ◌<◌, Bool, true, false, List, [], ◌∷◌, ◌++◌, map, length, set, Option, Some, None, Result, Ok, Err, refl, sym, ap, subst, ◌∙◌, ◌⊎◌, inl, inr}
 use Rattle.std.specs.Prelude.{nat_lt, slice_get}
-use Rattle.std.proofs.lemmas.Bool.Decides.{nat_tests}
+use Rattle.std.specs.List.{AllByRecursion}
 use Rattle.std.proofs.lemmas.List.{append-nil, get_or-set_same, get_or-set_other}
+use Rattle.std.proofs.lemmas.Bool.{cases_eq, ltb-true}
 use Rattle.message.specs.declared.message.Message.{Message}
 use Rattle.message.specs.declared.message.Message.TheVariants as kinds
 use Rattle.message.specs.declared.message.ToVoter.{ToVoter}
@@ -16,11 +17,13 @@ use Rattle.quorum_set.specs.declared.bridge.Side.TheVariants.{First, Second}
 use Rattle.world.specs.declared.fault.WorldFault.{WorldFault}
 use Rattle.world.specs.declared.step.Step.{Step}
 use Rattle.world.specs.declared.step.Step.TheVariants.{Ask, Deliver, Leave, GiveUp, RemindClient, RemindVoter, Exchange}
+use Rattle.world.specs.Coherence.{IsCoherent}
 use Rattle.world.specs.Ranges.{IsAddressed, IsNumbered}
-use Rattle.world.specs.Runs.{IsReached, after, run_of, start_by}
+use Rattle.world.specs.Runs.{IsReached, after, run_of, start, start_by}
 use Rattle.world.specs.Steps.{Dealing, Outcome, Planned, WorldState, after_client, after_voter, client_at, come, dealing_of, draw_of, events, exchange, if_client, if_voter}
 use Rattle.world.specs.Steps.{next_ticket, quorum_dealt, say, step, voter_at}
 use Rattle.numbers.proofs.Lists.{AllByRecursion-get}
+use Rattle.world.proofs.Plans.{IsReached-after as reached_after}
 
 -- what came is a message that was sent to this client
 abbrev pub Came : WorldState → ℕ → requester.Cause → Type 0
@@ -150,9 +153,6 @@ Moved-come w ok k (Some (kinds.ToClient m)) is =
     let a = AllByRecursion-get (IsAddressed w) w.sent k (kinds.ToClient m) ok.messages is in
     Moved-after_client w m.client (requester.Takes m) a.0 (refl, k, is) _ refl
 
-less_than : (a b : ℕ) → nat_lt a b ≡ true → a < b
-less_than a b h = grind (arith, nat_tests)
-
 if_one : (w : WorldState) (t : Bool) (c : ℕ) (next : Result Outcome WorldFault) → (t ≡ true → Moved w (after w next)) → Moved w (after w (if_client t c next))
 if_one w true c next then = then refl
 if_one w false c next then = Moved-self w w refl refl refl refl
@@ -168,13 +168,13 @@ Moved-exchange w false side = Moved-self w w refl refl refl refl
 
 pub Moved-step : (deal : Dealing) (w : WorldState) → IsNumbered w → (s : Step) → Moved w (after w (step deal w s))
 unfolding step
-Moved-step deal w ok (Ask c) = if_one w _ c _ (λ t. Moved-after_draw w.side w c (requester.Asks (quorum_dealt deal w.side (next_ticket w))) (less_than _ _ t) tt _ refl)
+Moved-step deal w ok (Ask c) = if_one w _ c _ (λ t. Moved-after_draw w.side w c (requester.Asks (quorum_dealt deal w.side (next_ticket w))) (ltb-true _ _ t) tt _ refl)
 Moved-step deal w ok (Deliver k) = Moved-come w ok k (slice_get w.sent k) refl
-Moved-step deal w ok (Leave c) = if_one w _ c _ (λ t. Moved-after_client w c requester.Leaves (less_than _ _ t) tt _ refl)
-Moved-step deal w ok (GiveUp c) = if_one w _ c _ (λ t. Moved-after_client w c requester.GivesUp (less_than _ _ t) tt _ refl)
+Moved-step deal w ok (Leave c) = if_one w _ c _ (λ t. Moved-after_client w c requester.Leaves (ltb-true _ _ t) tt _ refl)
+Moved-step deal w ok (GiveUp c) = if_one w _ c _ (λ t. Moved-after_client w c requester.GivesUp (ltb-true _ _ t) tt _ refl)
 Moved-step deal w ok (RemindClient c) = if_one w (nat_lt c (length w.clients)) c (Ok (say w (map kinds.ToVoter (requester.remind (client_at w.clients c))))) (λ t. inr (inr (record {
   more = map kinds.ToVoter (requester.remind (client_at w.clients c));
-  reminder = inl (requester.remind (client_at w.clients c), refl, inr (c, less_than _ _ t, refl));
+  reminder = inl (requester.remind (client_at w.clients c), refl, inr (c, ltb-true _ _ t, refl));
   clients = refl;
   voters = refl;
   sent = refl;
@@ -182,7 +182,7 @@ Moved-step deal w ok (RemindClient c) = if_one w (nat_lt c (length w.clients)) c
 })))
 Moved-step deal w ok (RemindVoter v) = if_voter_one w (nat_lt v (length w.voters)) v (Ok (say w (map kinds.ToClient (voter.remind (voter_at w.voters v))))) (λ t. inr (inr (record {
   more = map kinds.ToClient (voter.remind (voter_at w.voters v));
-  reminder = inr (v, less_than _ _ t, refl);
+  reminder = inr (v, ltb-true _ _ t, refl);
   clients = refl;
   voters = refl;
   sent = refl;
@@ -190,22 +190,54 @@ Moved-step deal w ok (RemindVoter v) = if_voter_one w (nat_lt v (length w.voters
 })))
 Moved-step deal w ok Exchange = Moved-exchange w _ w.side
 
--- ---- more steps of a world that is reached
+-- what holds here, and of the others as they were, holds of each
+pub each_but : {A : Type 0} (P : ℕ → A → Type 0) (X Y : ℕ → A) (v : ℕ) → ((q : ℕ) → q ≢ v → Y q ≡ X q) → P v (Y v) → ((q : ℕ) → P q (X q)) → (q : ℕ) → P q (Y q)
+each_but P X Y v others here before q = elim (cases_eq q v) as (λ _. P q (Y q)) [
+  | inl same ↦ subst (λ n. P n (Y n)) (sym same) here
+  | inr other ↦ subst (P q) (sym (others q other)) (before q)
+]
 
-run_more : (deal : Dealing) (steps : List Step) (s : Step) (w : WorldState) → run_of deal (steps ++ s ∷ []) w ≡ after (run_of deal steps w) (step deal (run_of deal steps w) s)
-run_more deal [] s w = refl
-run_more deal (t ∷ steps) s w = run_more deal steps s (after w (step deal w t))
+pub each_set : (P : ℕ → ClientState → Type 0) (cs : List ClientState) (c : ℕ) (x : ClientState) → c < length cs → P c x → ((q : ℕ) → P q (client_at cs q))
+    → (q : ℕ) → P q (client_at (set cs c x) q)
+each_set P cs c x within here = each_but P (client_at cs) (client_at (set cs c x)) c (client_others cs c x) (subst (P c) (sym (client_here cs c x within)) here)
+
+pub each_client : (P : ℕ → ClientState → Type 0) (w u : WorldState) (k : ClientMoved w u) → P k.who (client_at u.clients k.who) → ((c : ℕ) → P c (client_at w.clients c))
+    → (c : ℕ) → P c (client_at u.clients c)
+each_client P w u k = each_but P (client_at w.clients) (client_at u.clients) k.who k.others
+
+pub each_voter : (P : ℕ → VoterState → Type 0) (w u : WorldState) (k : VoterMoved w u) → P k.message.voter k.outcome.state → ((v : ℕ) → P v (voter_at w.voters v))
+    → (v : ℕ) → P v (voter_at u.voters v)
+each_voter P w u k here = each_but P (voter_at w.voters) (voter_at u.voters) k.message.voter k.others (subst (P k.message.voter) (sym k.here) here)
+
+-- what holds of each message holds of all that are sent
+pub all_sent : {A : Type 0} (P : Message → Type 0) (f : A → Message) → ((m : A) → P (f m)) → (ms : List A) → AllByRecursion P (map f ms)
+all_sent P f each [] = tt
+all_sent P f each (m ∷ ms) = (each m, all_sent P f each ms)
+
+-- ---- more steps of a world that is reached
 
 -- the same plans, with this world
 abbrev pub with_state : Planned → WorldState → Planned
 with_state w u = record { plans = w.plans; state = u }
 
 pub IsReached-after : (w : Planned) → IsReached w → (s : Step) → IsReached (with_state w (after w.state (step (dealing_of w.plans) w.state s)))
-IsReached-after w r s = record {
-  plans = r.plans;
-  clients = r.clients;
-  limit = r.limit;
-  limits = r.limits;
-  steps = r.steps ++ s ∷ [];
-  state = ap (λ (v : WorldState). after v (step (dealing_of w.plans) v s)) r.state ∙ sym (run_more (dealing_of w.plans) r.steps s (start_by w.plans r.clients r.limit));
-}
+IsReached-after w r s = reached_after w r s _ refl
+
+-- what each step keeps holds after any steps
+pub kept-run : (P : WorldState → Type 0) → ((w : Planned) → IsReached w → IsCoherent w.state)
+    → ((u x : WorldState) → IsCoherent u → IsCoherent x → Moved u x → P u → P x)
+    → (w : Planned) (steps : List Step) (u : WorldState) → IsReached (with_state w u) → P u → P (run_of (dealing_of w.plans) steps u)
+kept-run P coherent keep w [] u r h = h
+kept-run P coherent keep w (s ∷ steps) u r h =
+    let next = IsReached-after (with_state w u) r s in
+    let ok = coherent (with_state w u) r in
+    let x = after u (step (dealing_of w.plans) u s) in
+    kept-run P coherent keep w steps x next (keep u x ok (coherent (with_state w x) next) (Moved-step (dealing_of w.plans) u ok.numbered s) h)
+
+-- what holds of a new world, and is kept by each step, holds of every world that is reached
+pub kept-reached : (P : WorldState → Type 0) → ((w : Planned) → IsReached w → IsCoherent w.state) → ((voters clients limit : ℕ) → P (start voters clients limit))
+    → ((u x : WorldState) → IsCoherent u → IsCoherent x → Moved u x → P u → P x) → (w : Planned) → IsReached w → P w.state
+kept-reached P coherent first keep w r =
+    let begin = start_by w.plans r.clients r.limit in
+    let reached : IsReached (with_state w begin) = record { plans = r.plans; clients = r.clients; limit = r.limit; limits = r.limits; steps = []; state = refl } in
+    subst P (sym r.state) (kept-run P coherent keep w r.steps begin reached (first w.plans.first.system.voters r.clients r.limit))

@@ -1,5 +1,5 @@
 -- requests are known only at members of their quorums, and votes are asked back, after every run
-use Rattle.std.proofs.Common.{◌≡◌, ◌≢◌, ℕ, ◌+◌, ◌≤◌, Bool, true, false, List, [], ◌∷◌, ◌++◌, map, Ok, refl, sym, ap, subst, ◌∙◌, inl, inr, arith}
+use Rattle.std.proofs.Common.{◌≡◌, ◌≢◌, ℕ, ◌+◌, ◌≤◌, Bool, true, false, List, [], ◌∷◌, map, Ok, refl, sym, ap, subst, ◌∙◌, inl, inr, arith}
 use Rattle.std.specs.List.{AllByRecursion, filter}
 use Rattle.std.proofs.lemmas.Bool.{cases_eq, false≢true}
 use Rattle.std.proofs.lemmas.Bool.Decides.{nat_tests}
@@ -23,15 +23,14 @@ use Rattle.requester.specs.RequesterContract.{AllSay, AllRepeat, IsLater, KeepsQ
 use Rattle.requester.specs.Soundness.{IsSound}
 use Rattle.requester.specs.Steps as requester
 use Rattle.requester.specs.Words.{is_current, is_idle, is_inquired, is_member, members}
-use Rattle.world.specs.declared.step.Step.{Step}
 use Rattle.world.specs.Coherence.{AskOk, IsCoherent, MessageOk}
-use Rattle.world.specs.Runs.{IsReached, after, run_of, start, start_by}
-use Rattle.world.specs.Steps.{Planned, WorldState, client_at, dealing_of, step, voter_at}
+use Rattle.world.specs.Runs.{IsReached, start}
+use Rattle.world.specs.Steps.{Planned, WorldState, client_at, step, voter_at}
 use Rattle.progress.proofs.Always.{none_entry, new_voter, new_voters}
 use Rattle.progress.proofs.Behind.{ask-Ok, meets}
 use Rattle.progress.proofs.Fitting.{current_busy, current_stamp, take-Ok}
-use Rattle.progress.specs.Rules.{TogetherLaws}
-use Rattle.progress.proofs.Moves.{ClientMoved, IsReached-after, IsReminder, Moved, Moved-step, OnlySent, VoterMoved, with_state}
+use Rattle.progress.specs.Rules.{Laws}
+use Rattle.progress.proofs.Moves.{ClientMoved, IsReminder, Moved, OnlySent, VoterMoved, all_sent, each_client, each_voter, kept-reached}
 
 -- a REQUEST for the request that runs went to a member of its quorum
 abbrev pub AskedBy : ClientState → ℕ → VoterBody → Type 0
@@ -94,10 +93,6 @@ NoAsk (asks.Release s) = Unit {0}
 abbrev NoAsks : List ToVoter → Type 0
 NoAsks out = AllByRecursion (λ m. NoAsk m.body) out
 
-NoAsks-append : (a b : List ToVoter) → NoAsks a → NoAsks b → NoAsks (a ++ b)
-NoAsks-append [] b h k = k
-NoAsks-append (m ∷ a) b h k = (h.0, NoAsks-append a b h.1 k)
-
 no-relinquish_if : (b : Bool) (x : ClientState) (v : ℕ) → NoAsks (requester.relinquish_if b x v).out
 no-relinquish_if false x v = tt
 no-relinquish_if true x v = (tt, tt)
@@ -108,7 +103,7 @@ no-relinquish x v = no-relinquish_if _ x v
 
 no-relinquish_each : (x : ClientState) (vs : List ℕ) → NoAsks (requester.relinquish_each x vs).out
 no-relinquish_each x [] = tt
-no-relinquish_each x (v ∷ vs) = NoAsks-append _ _ (no-relinquish x v) (no-relinquish_each (requester.relinquish x v).state vs)
+no-relinquish_each x (v ∷ vs) = AllByRecursion-append (λ (m : ToVoter). NoAsk m.body) (requester.relinquish x v).out (requester.relinquish_each (requester.relinquish x v).state vs).out (no-relinquish x v) (no-relinquish_each (requester.relinquish x v).state vs)
 
 no-failed_by : (b : Bool) (x : ClientState) (v : ℕ) → NoAsks (requester.failed_by b x v).out
 no-failed_by false x v = tt
@@ -204,11 +199,11 @@ all_still : (who : ℕ) (cs ds : List ClientState) (Y : ℕ → VoterState) → 
 all_still who cs ds Y k [] ok h = tt
 all_still who cs ds Y k (m ∷ ms) ok h = (asked_still who cs ds Y k m ok.0 h.0, all_still who cs ds Y k ms ok.1 h.1)
 
-Placed-client : (laws : TogetherLaws) (u x : WorldState) → IsCoherent u → IsCoherent x → ClientMoved u x → Placed u.clients u.voters u.sent → Placed x.clients x.voters x.sent
+Placed-client : (laws : Laws) (u x : WorldState) → IsCoherent u → IsCoherent x → ClientMoved u x → Placed u.clients u.voters u.sent → Placed x.clients x.voters x.sent
 Placed-client laws u x ok now k h =
     let old = client_at u.clients k.who in
     let new = client_at x.clients k.who in
-    let contract = meets laws.alone.fitting.client u x ok now k in
+    let contract = meets laws.client u x ok now k in
     let quorum = subst (λ (z : ClientState). KeepsQuorum old k.cause z) (sym k.here) contract.quorum in
     let later = subst (λ (z : ClientState). IsLater old z) (sym k.here) contract.later in
     let moved : Later k.who u.clients x.clients = record {
@@ -222,20 +217,13 @@ Placed-client laws u x ok now k h =
           (sent_asked x.clients old new k.cause k.who k.outcome.state k.outcome.out refl (ok.numbered.clients k.who k.within) contract.out
           (asked_out old new k.cause k.outcome k.step (sym k.here) quorum)));
       places = subst (λ (vs : List VoterState). (v c : ℕ) → IsPlaced c (client_at x.clients c) v (voter_at vs v)) (sym k.voters)
-          (λ v c. elim (cases_eq c k.who) as (λ _. IsPlaced c (client_at x.clients c) v (voter_at u.voters v)) [
-            | inl same ↦ subst (λ i. IsPlaced i (client_at x.clients i) v (voter_at u.voters v)) (sym same) (λ s entry is.
-                let before = ran_before old new s later (ok.made v k.who s entry).reached is in
-                ap (λ l. has l v) (moved.same before.0) ∙ h.places v k.who s entry before.1)
-            | inr other ↦ subst (λ (z : ClientState). IsPlaced c z v (voter_at u.voters v)) (sym (k.others c other)) (h.places v c)
-          ]);
+          (λ v. each_client (λ c z. IsPlaced c z v (voter_at u.voters v)) u x k (λ s entry is.
+          let before = ran_before old new s later (ok.made v k.who s entry).reached is in
+          ap (λ l. has l v) (moved.same before.0) ∙ h.places v k.who s entry before.1) (h.places v));
       back = subst (λ (vs : List VoterState). (v : ℕ) → AsksBack (voter_at vs v)) (sym k.voters) h.back;
     }
 
 -- ---- a voter moves
-
-reported_none : (cs : List ClientState) (rs : List ToClient) → AllByRecursion (AskedAt cs) (map kinds.ToClient rs)
-reported_none cs [] = tt
-reported_none cs (r ∷ rs) = (tt, reported_none cs rs)
 
 brought : (cs : List ClientState) (v client c s : ℕ) (b : VoterBody) → AskedBy (client_at cs client) v b → Brings client b c s → is_current (client_at cs c) s ≡ true
     → is_member (client_at cs c) v ≡ true
@@ -244,24 +232,16 @@ brought cs v client c s (asks.Request t) asked brings is =
 brought cs v client c s (asks.Relinquish g) asked brings is = absurd brings
 brought cs v client c s (asks.Release t) asked brings is = absurd brings
 
-Placed-voter : (laws : TogetherLaws) (u x : WorldState) → VoterMoved u x → Placed u.clients u.voters u.sent → Placed x.clients x.voters x.sent
+Placed-voter : (laws : Laws) (u x : WorldState) → VoterMoved u x → Placed u.clients u.voters u.sent → Placed x.clients x.voters x.sent
 Placed-voter laws u x k h = subst (λ (cs : List ClientState). Placed cs x.voters x.sent) (sym k.clients) (record {
-  asked = subst (λ ms. AllByRecursion (AskedAt u.clients) ms) (sym k.sent) (AllByRecursion-append (AskedAt u.clients) u.sent _ h.asked (reported_none u.clients k.outcome.replies));
-  places = λ v c. elim (cases_eq v k.message.voter) as (λ _. IsPlaced c (client_at u.clients c) v (voter_at x.voters v)) [
-    | inl same ↦ subst (λ i. IsPlaced c (client_at u.clients c) i (voter_at x.voters i)) (sym same)
-        (subst (λ (y : VoterState). IsPlaced c (client_at u.clients c) k.message.voter y) (sym k.here) (λ s entry is.
-        elim ((laws.alone.fitting.voter.meets (voter_at u.voters k.message.voter) k.message k.outcome k.step).entries c s entry) [
-          | inl before ↦ h.places k.message.voter c s before is
-          | inr brings ↦ brought u.clients k.message.voter k.message.client c s k.message.body
-              (AllByRecursion-get (AskedAt u.clients) u.sent k.place (kinds.ToVoter k.message) h.asked k.came) brings is
-        ]))
-    | inr other ↦ subst (λ (y : VoterState). IsPlaced c (client_at u.clients c) v y) (sym (k.others v other)) (h.places v c)
-  ];
-  back = λ v. elim (cases_eq v k.message.voter) as (λ _. AsksBack (voter_at x.voters v)) [
-    | inl same ↦ subst (λ i. AsksBack (voter_at x.voters i)) (sym same)
-        (subst (λ (y : VoterState). AsksBack y) (sym k.here) (laws.back (voter_at u.voters k.message.voter) k.message k.outcome (h.back k.message.voter) k.step))
-    | inr other ↦ subst (λ (y : VoterState). AsksBack y) (sym (k.others v other)) (h.back v)
-  ];
+  asked = subst (λ ms. AllByRecursion (AskedAt u.clients) ms) (sym k.sent) (AllByRecursion-append (AskedAt u.clients) u.sent _ h.asked (all_sent (AskedAt u.clients) kinds.ToClient (λ m. tt) k.outcome.replies));
+  places = λ v c. each_voter (λ v y. IsPlaced c (client_at u.clients c) v y) u x k (λ s entry is.
+      elim ((laws.voter.meets (voter_at u.voters k.message.voter) k.message k.outcome k.step).entries c s entry) [
+        | inl before ↦ h.places k.message.voter c s before is
+        | inr brings ↦ brought u.clients k.message.voter k.message.client c s k.message.body
+            (AllByRecursion-get (AskedAt u.clients) u.sent k.place (kinds.ToVoter k.message) h.asked k.came) brings is
+      ]) (λ v. h.places v c) v;
+  back = each_voter (λ _ y. AsksBack y) u x k (laws.voter.asks_back (voter_at u.voters k.message.voter) k.message k.outcome (h.back k.message.voter) k.step) h.back;
 })
 
 -- ---- reminders
@@ -276,26 +256,26 @@ repeats_asked cs x who [] is id says all = tt
 repeats_asked cs x who (m ∷ out) is id says all =
     (subst (λ (w : ClientState). AskedBy w m.voter m.body) (sym (ap (client_at cs) (says.0.0 ∙ id) ∙ is)) all.0, repeats_asked cs x who out is id says.1 all.1)
 
-reminder_asked : (laws : TogetherLaws) (u : WorldState) → IsCoherent u → (more : List Message) → IsReminder u more → AllByRecursion (AskedAt u.clients) more
+reminder_asked : (laws : Laws) (u : WorldState) → IsCoherent u → (more : List Message) → IsReminder u more → AllByRecursion (AskedAt u.clients) more
 reminder_asked laws u ok more said = elim said [
   | inl out ↦ subst (λ ms. AllByRecursion (AskedAt u.clients) ms) (sym out.1) (elim out.2 [
     | inl none ↦ subst (λ l. AllByRecursion (AskedAt u.clients) (map kinds.ToVoter l)) (sym none) tt
     | inr own ↦
         let x = client_at u.clients own.0 in
         subst (λ l. AllByRecursion (AskedAt u.clients) (map kinds.ToVoter l)) (sym own.2)
-        (repeats_asked u.clients x own.0 (requester.remind x) refl (ok.numbered.clients own.0 own.1) (laws.repeats x) (members_said x (requester.remind x) (laws.in_range x (ok.clients own.0))))
+        (repeats_asked u.clients x own.0 (requester.remind x) refl (ok.numbered.clients own.0 own.1) (laws.client.repeats x) (members_said x (requester.remind x) (laws.client.in_range x (ok.clients own.0))))
   ])
-  | inr v ↦ subst (λ ms. AllByRecursion (AskedAt u.clients) ms) (sym v.2) (reported_none u.clients (voter.remind (voter_at u.voters v.0)))
+  | inr v ↦ subst (λ ms. AllByRecursion (AskedAt u.clients) ms) (sym v.2) (all_sent (AskedAt u.clients) kinds.ToClient (λ m. tt) (voter.remind (voter_at u.voters v.0)))
 ]
 
-Placed-sent : (laws : TogetherLaws) (u x : WorldState) → IsCoherent u → OnlySent u x → Placed u.clients u.voters u.sent → Placed x.clients x.voters x.sent
+Placed-sent : (laws : Laws) (u x : WorldState) → IsCoherent u → OnlySent u x → Placed u.clients u.voters u.sent → Placed x.clients x.voters x.sent
 Placed-sent laws u x ok k h = subst (λ (cs : List ClientState). Placed cs x.voters x.sent) (sym k.clients) (subst (λ (vs : List VoterState). Placed u.clients vs x.sent) (sym k.voters) (record {
   asked = subst (λ ms. AllByRecursion (AskedAt u.clients) ms) (sym k.sent) (AllByRecursion-append (AskedAt u.clients) u.sent k.more h.asked (reminder_asked laws u ok k.more k.reminder));
   places = h.places;
   back = h.back;
 }))
 
-Placed-moved : (laws : TogetherLaws) (u x : WorldState) → IsCoherent u → IsCoherent x → Moved u x → Placed u.clients u.voters u.sent → Placed x.clients x.voters x.sent
+Placed-moved : (laws : Laws) (u x : WorldState) → IsCoherent u → IsCoherent x → Moved u x → Placed u.clients u.voters u.sent → Placed x.clients x.voters x.sent
 Placed-moved laws u x ok now moved h = elim moved [
   | inl client ↦ Placed-client laws u x ok now client h
   | inr (inl voter) ↦ Placed-voter laws u x voter h
@@ -307,24 +287,13 @@ Placed-moved laws u x ok now moved h = elim moved [
 abbrev IsPlacedWorld : WorldState → Type 0
 IsPlacedWorld u = Placed u.clients u.voters u.sent
 
-Placed-run : (laws : TogetherLaws) (w : Planned) (steps : List Step) (u : WorldState) → IsReached (with_state w u) → IsPlacedWorld u → IsPlacedWorld (run_of (dealing_of w.plans) steps u)
-Placed-run laws w [] u r h = h
-Placed-run laws w (s ∷ steps) u r h =
-    let next = IsReached-after (with_state w u) r s in
-    let ok = laws.alone.fitting.coherent (with_state w u) r in
-    let x = after u (step (dealing_of w.plans) u s) in
-    Placed-run laws w steps x next (Placed-moved laws u x ok (laws.alone.fitting.coherent (with_state w x) next) (Moved-step (dealing_of w.plans) u ok.numbered s) h)
-
-Placed-start : (laws : TogetherLaws) (voters clients limit : ℕ) → IsPlacedWorld (start voters clients limit)
+Placed-start : (laws : Laws) (voters clients limit : ℕ) → IsPlacedWorld (start voters clients limit)
 unfolding new_voters
 Placed-start laws voters clients limit = record {
   asked = tt;
   places = λ v c s entry is. let new = new_voter voters limit v in absurd (none_entry new.0 new.1 c s (subst (λ (y : VoterState). IsEntry y c s) new.2 entry));
-  back = λ v. let new = new_voter voters limit v in subst (λ (y : VoterState). AsksBack y) (sym new.2) (laws.back_first new.0 new.1);
+  back = λ v. let new = new_voter voters limit v in subst (λ (y : VoterState). AsksBack y) (sym new.2) (laws.voter.asks_first new.0 new.1);
 }
 
-pub Placed-reached : (laws : TogetherLaws) (w : Planned) → IsReached w → Placed w.state.clients w.state.voters w.state.sent
-Placed-reached laws w r =
-    let begin = start_by w.plans r.clients r.limit in
-    let first : IsReached (with_state w begin) = record { plans = r.plans; clients = r.clients; limit = r.limit; limits = r.limits; steps = []; state = refl } in
-    subst (λ (u : WorldState). IsPlacedWorld u) (sym r.state) (Placed-run laws w r.steps begin first (Placed-start laws w.plans.first.system.voters r.clients r.limit))
+pub Placed-reached : (laws : Laws) (w : Planned) → IsReached w → Placed w.state.clients w.state.voters w.state.sent
+Placed-reached laws = kept-reached IsPlacedWorld laws.coherent (Placed-start laws) (Placed-moved laws)

@@ -5,6 +5,7 @@ use Rattle.std.proofs.lemmas.Bool.{cases_eq, cases_lt, false≢true}
 use Rattle.std.proofs.lemmas.Bool.Decides.{nat_tests}
 use Rattle.std.proofs.lemmas.List.{get_or_past}
 use Rattle.std.proofs.lemmas.Option.{same_Some}
+use Rattle.std.proofs.lemmas.List.FromFn.{length-range_with_len}
 use Rattle.numbers.specs.Sets.{has}
 use Rattle.message.specs.declared.request.Request.{Request}
 use Rattle.voter.specs.declared.state.Grant.{Grant}
@@ -22,10 +23,11 @@ use Rattle.progress.proofs.Fitting.{Fits-reached, current_stamp}
 use Rattle.progress.proofs.Counts.{CanGive, none, one_each, only, only_else, only_here, only_sum, only_zero}
 use Rattle.progress.proofs.Hindering.{all_hold, has_rest, returns}
 use Rattle.progress.proofs.Led.{CanGive-led, Here-led, Leads-led, Led, Led-more, Led-self, Led-then, Led-went, Somebody, Somebody-led, Somebody-more, somebody_at}
-use Rattle.progress.specs.Rules.{AloneLaws, TogetherLaws}
+use Rattle.progress.specs.Rules.{Laws}
 use Rattle.progress.proofs.Moves.{with_state}
 use Rattle.progress.proofs.Placed.{Placed-reached}
-use Rattle.progress.proofs.Ways.{Got, Here, Leads, Settled, IsKnown, asks_again, current_asks, IsReached-run, frees_up, gave_back, gets, has_range, held_some, length_range, request_at}
+use Rattle.progress.proofs.Ways.{Got, Here, Leads, Settled, IsKnown, asks_again, current_asks, IsReached-run, frees_up, gave_back, gets, has_range, held_some}
+use Rattle.progress.proofs.Behind.{the_request}
 
 -- ---- one vote
 
@@ -68,11 +70,11 @@ Waits-led p c v n u x a same h = record {
   entry = subst (λ s. IsEntry (voter_at x.voters v) c s) (sym (a.same c).stamp) (subst (λ (y : VoterState). IsEntry y c (client_at u.clients c).stamp) (sym same) h.entry);
 }
 
-present : (laws : AloneLaws) (p : Planned) (c v : ℕ) (u : WorldState) → Waits p c v u → holds (client_at u.clients c) v ≡ false → (voter_at u.voters v).granted + turns u ≤ (voter_at u.voters v).limit
+present : (laws : Laws) (p : Planned) (c v : ℕ) (u : WorldState) → Waits p c v u → holds (client_at u.clients c) v ≡ false → (voter_at u.voters v).granted + turns u ≤ (voter_at u.voters v).limit
     → IsKnown p c v ((voter_at u.voters v).granted + turns u) (range_with_len 0 (length u.clients)) u
 present laws p c v u h free left =
-    let ok = laws.fitting.coherent (with_state p u) h.spot.reached in
-    let count = length_range 0 (length u.clients) in
+    let ok = laws.coherent (with_state p u) h.spot.reached in
+    let count = length-range_with_len 0 (length u.clients) in
     record {
       spot = h.spot;
       leads = h.leads;
@@ -84,7 +86,7 @@ present laws p c v u h free left =
     }
 
 -- a grant that its client gave back
-wins_back : (laws : AloneLaws) (p : Planned) (c v d : ℕ) (g : Grant) (u : WorldState) → Waits p c v u → Here p d v u → (voter_at u.voters v).held ≡ Some g → g.client ≡ d
+wins_back : (laws : Laws) (p : Planned) (c v d : ℕ) (g : Grant) (u : WorldState) → Waits p c v u → Here p d v u → (voter_at u.voters v).held ≡ Some g → g.client ≡ d
     → g.stamp ≡ (client_at u.clients d).stamp → g.grant ≤ last_of (client_at u.clients d) v
     → (voter_at u.voters v).granted + turns u ≤ (voter_at u.voters v).limit → Wins p c v (only v (turns u)) u
 wins_back laws p c v d g u h there held own stamp few left = elim (holds (client_at u.clients c) v) as (λ b. holds (client_at u.clients c) v ≡ b → Wins p c v (only v (turns u)) u) [
@@ -94,7 +96,7 @@ wins_back laws p c v d g u h there held own stamp few left = elim (holds (client
 ] refl
 
 -- the voter gave no grant to another request that runs
-wins_settled : (laws : AloneLaws) (p : Planned) (c v : ℕ) (u : WorldState) → Waits p c v u → Settled c v u → (voter_at u.voters v).granted + turns u ≤ (voter_at u.voters v).limit
+wins_settled : (laws : Laws) (p : Planned) (c v : ℕ) (u : WorldState) → Waits p c v u → Settled c v u → (voter_at u.voters v).granted + turns u ≤ (voter_at u.voters v).limit
     → Wins p c v (only v (turns u)) u
 wins_settled laws p c v u h settled left = elim (holds (client_at u.clients c) v) as (λ b. holds (client_at u.clients c) v ≡ b → Wins p c v (only v (turns u)) u) [
   | true ↦ λ has. inr (record { world = u; led = Led-self (dealing_of p.plans) c (only v (turns u)) u; has = has })
@@ -111,7 +113,7 @@ abbrev pub kept_for : ℕ → ℕ → ℕ → ℕ
 kept_for v n r = 2 + only v n r
 
 -- another client has the vote
-wins_from : (laws : TogetherLaws) (p : Planned) (c v d : ℕ) (g : Grant) (u : WorldState) → Waits p c v u → Here p d v u → d ≢ c → (voter_at u.voters v).held ≡ Some g
+wins_from : (laws : Laws) (p : Planned) (c v d : ℕ) (g : Grant) (u : WorldState) → Waits p c v u → Here p d v u → d ≢ c → (voter_at u.voters v).held ≡ Some g
     → g.client ≡ d → g.stamp ≡ (client_at u.clients d).stamp → holds (client_at u.clients d) v ≡ true
     → CanGive (kept_for v (turns u)) u → Wins p c v (one_vote v (turns u)) u
 wins_from laws p c v d g u h there apart held own stamp has left =
@@ -125,22 +127,22 @@ wins_from laws p c v d g u h there apart held own stamp has left =
           let clients = led.clients in
           let number : turns x ≡ turns u = omega arith in
           let waits = Waits-led p c v one_each u x led same h in
-          let ok = laws.alone.fitting.coherent (with_state p x) waits.spot.reached in
+          let ok = laws.coherent (with_state p x) waits.spot.reached in
           let last = back.last in
           let grants = CanGive-led deal c one_each (one_vote v (turns u)) (kept_for v (turns u)) u x (λ r. omega arith) led left in
           let count = grants v (ok.members c v waits.spot.asked) in
           let here = only_here v (turns u) v refl in
           Wins-then p c v one_each (only v (turns x)) (one_vote v (turns u)) u x (λ r. (let only_same = ap (λ n. only v n r) number in omega arith)) led
-          (wins_back laws.alone p c v d g x waits (Here-led p c one_each d v u x led there) (ap (λ (y : VoterState). y.held) same ∙ held) own (stamp ∙ sym (led.same d).stamp)
+          (wins_back laws p c v d g x waits (Here-led p c one_each d v u x led there) (ap (λ (y : VoterState). y.held) same ∙ held) own (stamp ∙ sym (led.same d).stamp)
           (omega arith) (omega arith))
     ]
 
 -- the request is known
-wins_known : (laws : TogetherLaws) (p : Planned) (c v : ℕ) (u : WorldState) → Waits p c v u → CanGive (kept_for v (turns u)) u → Wins p c v (one_vote v (turns u)) u
+wins_known : (laws : Laws) (p : Planned) (c v : ℕ) (u : WorldState) → Waits p c v u → CanGive (kept_for v (turns u)) u → Wins p c v (one_vote v (turns u)) u
 wins_known laws p c v u h left =
     let deal = dealing_of p.plans in
     let here = only_here v (turns u) v refl in
-    let ok = laws.alone.fitting.coherent (with_state p u) h.spot.reached in
+    let ok = laws.coherent (with_state p u) h.spot.reached in
     let x = client_at u.clients c in
     let y = voter_at u.voters v in
     let k = held_some y c x.stamp (ok.voters v) h.entry y.held refl in
@@ -151,7 +153,7 @@ wins_known laws p c v u h left =
     let more : Wins p c v (only v (turns u)) u → Wins p c v (one_vote v (turns u)) u = λ w. Wins-then p c v none (only v (turns u)) (one_vote v (turns u)) u u (λ r. omega arith)
     (Led-self deal c none u) w in
     elim (is_current z g.stamp) as (λ b. is_current z g.stamp ≡ b → Wins p c v (one_vote v (turns u)) u) [
-      | false ↦ λ over. more (wins_settled laws.alone p c v u h (λ l held runs.
+      | false ↦ λ over. more (wins_settled laws p c v u h (λ l held runs.
           absurd (false≢true (sym over ∙ subst (λ (m : Grant). is_current (client_at u.clients m.client) m.stamp ≡ true) (same_Some l g (sym held ∙ k.1)) runs))) (omega arith))
       | true ↦ λ runs.
           let asks = current_asks u c d g.stamp h.leads runs in
@@ -159,14 +161,14 @@ wins_known laws p c v u h left =
           let member = (Placed-reached laws (with_state p u) h.spot.reached).places v d g.stamp (inl (g, k.1, refl, refl)) runs in
           let there : Here p d v u = record { reached = h.spot.reached; client = (ok.made v d g.stamp (inl (g, k.1, refl, refl))).client; asks = asks; asked = member } in
           elim (cases_lt (last_of z v) g.grant) [
-            | inr most ↦ more (wins_back laws.alone p c v d g u h there k.1 refl stamp most (omega arith))
+            | inr most ↦ more (wins_back laws p c v d g u h there k.1 refl stamp most (omega arith))
             | inl less ↦ elim (cases_eq d c) [
-              | inl own ↦ more (wins_settled laws.alone p c v u h (λ l held _.
+              | inl own ↦ more (wins_settled laws p c v u h (λ l held _.
                   let same = same_Some g l (sym k.1 ∙ held) in
                   subst (λ (m : Grant). (m.client ≡ c) × (last_of (client_at u.clients c) v < m.grant)) same (own, subst (λ i. last_of (client_at u.clients i) v < g.grant) own less)) (omega arith))
               | inr apart ↦ elim (holds z v) as (λ b. holds z v ≡ b → Wins p c v (one_vote v (turns u)) u) [
                 | true ↦ λ has. wins_from laws p c v d g u h there apart k.1 refl stamp has left
-                | false ↦ λ free. elim (gets laws.alone p d v u there free g k.1 refl stamp less) [
+                | false ↦ λ free. elim (gets laws p d v u there free g k.1 refl stamp less) [
                   | inl e ↦ inl (Somebody-more p (only v 0) (one_vote v (turns u)) u (λ r. (let nothing = only_zero v r in omega arith)) (somebody_at p d v y.granted 0 u asks (omega arith) e))
                   | inr on ↦
                       let w = on.0 in
@@ -190,13 +192,13 @@ wins_known laws p c v u h left =
 abbrev pub own_turns : WorldState → ℕ
 own_turns u = 2 + length u.clients
 
-wins : (laws : TogetherLaws) (p : Planned) (c v : ℕ) (u : WorldState) → Here p c v u → Leads u c → holds (client_at u.clients c) v ≡ false → CanGive (kept_for v (own_turns u)) u
+wins : (laws : Laws) (p : Planned) (c v : ℕ) (u : WorldState) → Here p c v u → Leads u c → holds (client_at u.clients c) v ≡ false → CanGive (kept_for v (own_turns u)) u
     → Wins p c v (one_vote v (own_turns u)) u
 wins laws p c v u h leads free left =
     let deal = dealing_of p.plans in
-    let ok = laws.alone.fitting.coherent (with_state p u) h.reached in
+    let ok = laws.coherent (with_state p u) h.reached in
     let count = left v (ok.members c v h.asked) in
-    let heard = asks_again laws.alone p c v u h free (omega arith) in
+    let heard = asks_again laws p c v u h free (omega arith) in
     let w = heard.world in
     let led = Led-went deal c v 1 u w heard.went heard.few in
     let clients = led.clients in
@@ -243,7 +245,7 @@ record Collects (p : Planned) (c : ℕ) (n : ℕ → ℕ) (vs : List ℕ) (u : W
   led : Led (dealing_of p.plans) c n u world
   all : (v : ℕ) → has vs v ≡ true → is_member (client_at u.clients c) v ≡ true → holds (client_at world.clients c) v ≡ true
 
-collects : (laws : TogetherLaws) (p : Planned) (c k : ℕ) (vs : List ℕ) (u : WorldState) → own_turns u ≡ k → IsReached (with_state p u) → Asks u c → Leads u c
+collects : (laws : Laws) (p : Planned) (c k : ℕ) (vs : List ℕ) (u : WorldState) → own_turns u ≡ k → IsReached (with_state p u) → Asks u c → Leads u c
     → CanGive (and_one k vs) u → Somebody p (budget k vs) u ⊎ Collects p c (budget k vs) vs u
 collects laws p c k [] u is r asks leads left = inr (record { world = u; led = Led-self (dealing_of p.plans) c (budget k []) u; all = λ v there. absurd (false≢true there) })
 collects laws p c k (v ∷ vs) u is r asks leads left =
@@ -293,7 +295,7 @@ abbrev pub one_entry : WorldState → ℕ
 one_entry u = length u.voters + length u.clients + 3
 
 -- the client that precedes the others that ask gets in, or another one does
-leader_gets_in : (laws : TogetherLaws) (p : Planned) (c : ℕ) (u : WorldState) → IsReached (with_state p u) → Asks u c → Leads u c → HasGrants (one_entry u) u → Somebody p (λ r. one_entry u) u
+leader_gets_in : (laws : Laws) (p : Planned) (c : ℕ) (u : WorldState) → IsReached (with_state p u) → Asks u c → Leads u c → HasGrants (one_entry u) u → Somebody p (λ r. one_entry u) u
 leader_gets_in laws p c u r asks leads left =
     let deal = dealing_of p.plans in
     let n = length u.voters in
@@ -304,8 +306,8 @@ leader_gets_in laws p c u r asks leads left =
           let x = all.world in
           let led = all.led in
           let reached = subst (λ (z : WorldState). IsReached (with_state p z)) led.run (IsReached-run p led.steps u r) in
-          let ok = laws.alone.fitting.coherent (with_state p u) r in
-          let lacks = (Fits-reached laws.alone.fitting (with_state p x) reached).lacks c (ap is_asking (led.same c).phase ∙ asks.asks) in
+          let ok = laws.coherent (with_state p u) r in
+          let lacks = (Fits-reached laws (with_state p x) reached).lacks c (ap is_asking (led.same c).phase ∙ asks.asks) in
           absurd (false≢true (sym lacks ∙ all_hold (holds (client_at x.clients c)) (members (client_at x.clients c)) (λ q there.
           let member : is_member (client_at u.clients c) q ≡ true = ap (λ l. has l q) (sym (led.same c).quorum) ∙ there in
           let within = ok.members c q member in
@@ -322,7 +324,7 @@ precedes-trans a b c h k = grind (arith, nat_tests)
 
 -- the client precedes those below n that ask
 abbrev Precedes : WorldState → ℕ → ℕ → Type 0
-Precedes u c n = (d : ℕ) → d < n → d ≢ c → is_asking (client_at u.clients d).phase ≡ true → precedes (request_at u c) (request_at u d) ≡ true
+Precedes u c n = (d : ℕ) → d < n → d ≢ c → is_asking (client_at u.clients d).phase ≡ true → precedes (the_request u c) (the_request u d) ≡ true
 
 first_below : (u : WorldState) (n : ℕ) → ((d : ℕ) → d < n → is_asking (client_at u.clients d).phase ≡ false) ⊎ ((c : ℕ) × (is_asking (client_at u.clients c).phase ≡ true) × Precedes u c n)
 first_below u zero = inl (λ d below. absurd (omega arith))
@@ -346,22 +348,22 @@ first_below u (suc n) = elim (is_asking (client_at u.clients n).phase) as (λ b.
         | inl none ↦ inr (n, loud, λ d below other asks. absurd (false≢true (sym (none d (omega arith)) ∙ asks)))
         | inr best ↦ elim (cases_eq n best.0) [
           | inl same ↦ inr (best.0, best.1, λ d below other asks. best.2 d (omega arith) other asks)
-          | inr apart ↦ elim (precedes (request_at u best.0) (request_at u n)) as (λ b. precedes (request_at u best.0) (request_at u n) ≡ b
+          | inr apart ↦ elim (precedes (the_request u best.0) (the_request u n)) as (λ b. precedes (the_request u best.0) (the_request u n) ≡ b
               → ((d : ℕ) → d < suc n → is_asking (client_at u.clients d).phase ≡ false) ⊎ ((c : ℕ) × (is_asking (client_at u.clients c).phase ≡ true) × Precedes u c (suc n))) [
                 | true ↦ λ first. inr (
                   best.0,
                   best.1,
                   λ d below other asks. elim (cases_eq d n) [
-                    | inl same ↦ subst (λ i. precedes (request_at u best.0) (request_at u i) ≡ true) (sym same) first
+                    | inl same ↦ subst (λ i. precedes (the_request u best.0) (the_request u i) ≡ true) (sym same) first
                     | inr unlike ↦ best.2 d (omega arith) other asks
                   ],
                 )
-                | false ↦ λ later. (let ahead = precedes-one (request_at u best.0) (request_at u n) (λ same. apart (sym same)) later in inr (
+                | false ↦ λ later. (let ahead = precedes-one (the_request u best.0) (the_request u n) (λ same. apart (sym same)) later in inr (
                   n,
                   loud,
                   λ d below other asks. elim (cases_eq d best.0) [
-                    | inl same ↦ subst (λ i. precedes (request_at u n) (request_at u i) ≡ true) (sym same) ahead
-                    | inr unlike ↦ precedes-trans (request_at u n) (request_at u best.0) (request_at u d) ahead (best.2 d (omega arith) unlike asks)
+                    | inl same ↦ subst (λ i. precedes (the_request u n) (the_request u i) ≡ true) (sym same) ahead
+                    | inr unlike ↦ precedes-trans (the_request u n) (the_request u best.0) (the_request u d) ahead (best.2 d (omega arith) unlike asks)
                   ],
                 ))
               ] refl
@@ -376,7 +378,7 @@ asks_within u d asks = elim (cases_lt d (length u.clients)) [
   | inr beyond ↦ absurd (false≢true (ap (λ (x : ClientState). is_asking x.phase) (sym (get_or_past u.clients d (requester.start 0 1) beyond)) ∙ asks))
 ]
 
-pub lets_in : TogetherLaws → (w : Planned) (c : ℕ) → IsReached w → Asks w.state c → IsFree w.state → HasGrants (one_entry w.state) w.state → Somebody w (λ r. one_entry w.state) w.state
+pub lets_in : Laws → (w : Planned) (c : ℕ) → IsReached w → Asks w.state c → IsFree w.state → HasGrants (one_entry w.state) w.state → Somebody w (λ r. one_entry w.state) w.state
 lets_in laws w c r asks free left =
     let u = w.state in
     elim (first_below u (length u.clients)) [
@@ -386,7 +388,7 @@ lets_in laws w c r asks free left =
           leader_gets_in laws w best.0 u r (record { client = asks_within u best.0 best.1; asks = best.1 }) leads left
     ]
 
-pub gets_in : TogetherLaws → (w : Planned) (c : ℕ) → IsReached w → Asks w.state c → IsFree w.state → HasGrants (length w.state.voters + length w.state.clients + 3) w.state
+pub gets_in : Laws → (w : Planned) (c : ℕ) → IsReached w → Asks w.state c → IsFree w.state → HasGrants (length w.state.voters + length w.state.clients + 3) w.state
     → (steps : List Step) × (d : ℕ) × IsWayIn (dealing_of w.plans) w.state d steps
 gets_in laws w c r asks free left =
     let one = lets_in laws w c r asks free left in

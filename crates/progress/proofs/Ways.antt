@@ -36,10 +36,12 @@ use Rattle.world.specs.Steps.{Dealing, Planned, WorldState, client_at, client_di
 use Rattle.progress.specs.LostVotes.{HasLostVote, reminder_and_two}
 use Rattle.progress.specs.WayIn.{Helps, IsWayIn}
 use Rattle.progress.proofs.Exchanges.{after-answer, after-deliver_client, after-release, after-remind_voter, after-said, answer, answered, get_next, reminded, not_held, spoken}
-use Rattle.progress.proofs.Behind.{grant_moves}
-use Rattle.progress.proofs.Fitting.{Fits-reached, asking_busy, current_busy, current_stamp}
-use Rattle.progress.specs.Rules.{AloneLaws}
-use Rattle.progress.proofs.Moves.{IsReached-after, client_here, client_others, voter_here, voter_others, with_state}
+use Rattle.progress.proofs.Behind.{grant_moves, the_request}
+use Rattle.progress.proofs.Fitting.{Fits-reached, current_busy, current_stamp}
+use Rattle.progress.specs.Rules.{Laws}
+use Rattle.progress.proofs.Moves.{IsReached-after, client_here, client_others, each_set, voter_here, voter_others, with_state}
+use Rattle.progress.proofs.Counting.{outside_asks}
+use Rattle.requester.proofs.SoundSteps.{is_asking-busy}
 
 -- ---- steps, one after the other
 
@@ -189,22 +191,18 @@ Here-went p c v q u x a h = record {
   asked = ap (λ l. has l v) (a.gains c).quorum ∙ h.asked;
 }
 
--- the request that the client makes, or made last
-abbrev pub request_at : WorldState → ℕ → Request
-request_at u c = record { stamp = (client_at u.clients c).stamp; client = c }
-
 -- nobody is inside, and the client precedes the others that ask
 pub record Leads (u : WorldState) (c : ℕ) : Type 0 where
   pub outside : (d : ℕ) → is_inside (client_at u.clients d).phase ≡ false
-  pub first : (d : ℕ) → d ≢ c → is_asking (client_at u.clients d).phase ≡ true → precedes (request_at u c) (request_at u d) ≡ true
+  pub first : (d : ℕ) → d ≢ c → is_asking (client_at u.clients d).phase ≡ true → precedes (the_request u c) (the_request u d) ≡ true
 
 pub Leads-same : (u x : WorldState) (c : ℕ) → ((d : ℕ) → (client_at x.clients d).phase ≡ (client_at u.clients d).phase) → ((d : ℕ) → (client_at x.clients d).stamp ≡ (client_at u.clients d).stamp)
     → Leads u c → Leads x c
 Leads-same u x c phase stamp h = record {
   outside = λ d. ap is_inside (phase d) ∙ h.outside d;
   first = λ d other asks.
-      subst (λ s. precedes (record { stamp = s; client = c }) (request_at x d) ≡ true) (sym (stamp c))
-      (subst (λ s. precedes (request_at u c) (record { stamp = s; client = d }) ≡ true) (sym (stamp d)) (h.first d other (ap is_asking (sym (phase d)) ∙ asks)));
+      subst (λ s. precedes (record { stamp = s; client = c }) (the_request x d) ≡ true) (sym (stamp c))
+      (subst (λ s. precedes (the_request u c) (record { stamp = s; client = d }) ≡ true) (sym (stamp d)) (h.first d other (ap is_asking (sym (phase d)) ∙ asks)));
 }
 
 pub Leads-went : (deal : Dealing) (c q : ℕ) (u x : WorldState) → Went deal q u x → Leads u c → Leads x c
@@ -227,14 +225,14 @@ brings_own client d s (asks.Request t) brings = brings.0
 brings_own client d s (asks.Relinquish g) brings = absurd brings
 brings_own client d s (asks.Release t) brings = absurd brings
 
-pub Less-step : (laws : AloneLaws) (c : ℕ) (y : VoterState) (m : ToVoter) (o : voter.Outcome) → voter.IsSound y → m.client ≡ c → voter.step y m ≡ Some o → Less c y o.state
+pub Less-step : (laws : Laws) (c : ℕ) (y : VoterState) (m : ToVoter) (o : voter.Outcome) → voter.IsSound y → m.client ≡ c → voter.step y m ≡ Some o → Less c y o.state
 Less-step laws c y m o ok own step = record {
-  known = λ d s other entry. elim ((laws.fitting.voter.meets y m o step).entries d s entry) [
+  known = λ d s other entry. elim ((laws.voter.meets y m o step).entries d s entry) [
     | inl before ↦ before
     | inr brings ↦ absurd (other (brings_own m.client d s m.body brings ∙ own))
   ];
-  few = few_by _ y o.state (laws.fitting.voter.numbers y m o ok step);
-  limit = (laws.fitting.voter.carries y m o step).limit;
+  few = few_by _ y o.state (laws.voter.numbers y m o ok step);
+  limit = (laws.voter.carries y m o step).limit;
 }
 
 -- a message of the client's reminder arrives at the voter
@@ -247,16 +245,16 @@ pub record Heard (p : Planned) (c v : ℕ) (u : WorldState) (m : ToVoter) : Type
   pub here : voter_at world.voters v ≡ outcome.state
   pub sent : world.sent ≡ (spoken u c).sent ++ map kinds.ToClient outcome.replies
 
-pub hears : (laws : AloneLaws) (p : Planned) (c v : ℕ) (u : WorldState) → Here p c v u → (body : VoterBody)
+pub hears : (laws : Laws) (p : Planned) (c v : ℕ) (u : WorldState) → Here p c v u → (body : VoterBody)
     → Contains (requester.remind (client_at u.clients c)) (requester.tell (client_at u.clients c) v body)
     → (voter_at u.voters v).granted < (voter_at u.voters v).limit → Heard p c v u (requester.tell (client_at u.clients c) v body)
 unfolding spoken
 hears laws p c v u h body there left =
     let deal = dealing_of p.plans in
-    let ok = laws.fitting.coherent (with_state p u) h.reached in
+    let ok = laws.coherent (with_state p u) h.reached in
     let m = requester.tell (client_at u.clients c) v body in
     let within = ok.members c v h.asked in
-    let taken = laws.back.takes (voter_at u.voters v) m (ok.voters v) left in
+    let taken = laws.voter.takes (voter_at u.voters v) m (ok.voters v) left in
     let o = taken.0 in
     record {
       world = (voter_did (spoken u c) v o).state;
@@ -272,7 +270,7 @@ hears laws p c v u h body there left =
         voters = length-set u.voters v o.state;
         gains = λ d. Gains-self (client_at u.clients d);
         others = voter_others u.voters v o.state;
-        limit = ap (λ (z : VoterState). z.limit) (voter_here u.voters v o.state within) ∙ (laws.fitting.voter.carries (voter_at u.voters v) m o taken.1).limit;
+        limit = ap (λ (z : VoterState). z.limit) (voter_here u.voters v o.state within) ∙ (laws.voter.carries (voter_at u.voters v) m o taken.1).limit;
       };
       same = refl;
       here = voter_here u.voters v o.state within;
@@ -322,20 +320,20 @@ current_is x s asks same = by_phase x.phase (let e : (s == x.stamp) ≡ true = g
 pub fresh_is : (x : ClientState) (v g : ℕ) → is_member x v ≡ true → holds x v ≡ false → last_of x v < g → requester.is_fresh x v g ≡ true
 fresh_is x v g member free newer = grind (arith, nat_tests)
 
-pub gets : (laws : AloneLaws) (p : Planned) (c v : ℕ) (u : WorldState) → Here p c v u → holds (client_at u.clients c) v ≡ false → (g : Grant) → (voter_at u.voters v).held ≡ Some g
+pub gets : (laws : Laws) (p : Planned) (c v : ℕ) (u : WorldState) → Here p c v u → holds (client_at u.clients c) v ≡ false → (g : Grant) → (voter_at u.voters v).held ≡ Some g
     → g.client ≡ c → g.stamp ≡ (client_at u.clients c).stamp
     → last_of (client_at u.clients c) v < g.grant → Gets p c v u
 unfolding reminded
 gets laws p c v u h free g held own same newer =
     let deal = dealing_of p.plans in
-    let ok = laws.fitting.coherent (with_state p u) h.reached in
+    let ok = laws.coherent (with_state p u) h.reached in
     let x = client_at u.clients c in
     let y = voter_at u.voters v in
     let within = ok.members c v h.asked in
     let id : y.id ≡ v = ok.numbered.voters v within in
     let m : ToClient = record { voter = v; client = c; seen = y.seen; body = to_client.Locked g.stamp g.grant } in
     let is : voter.reply y g.client (to_client.Locked g.stamp g.grant) ≡ m = λ i. record { voter = id i; client = own i; seen = y.seen; body = to_client.Locked g.stamp g.grant } in
-    let more = laws.returns.repeats y g held in
+    let more = laws.voter.reminds y g held in
     let next : slice_get (reminded u v).sent (length u.sent) ≡ Some (kinds.ToClient m) =
     ap (λ rs. slice_get (u.sent ++ map kinds.ToClient rs) (length u.sent)) more ∙ get_next u.sent (kinds.ToClient (voter.reply y g.client (to_client.Locked g.stamp g.grant))) _
     ∙ ap (λ (n : ToClient). Some (kinds.ToClient n)) is in
@@ -374,10 +372,7 @@ gets laws p c v u h free g held own same newer =
           visible = append-nil u.visible;
           clients = length-set u.clients c k;
           voters = refl;
-          gains = λ d. elim (cases_eq d c) [
-            | inl one ↦ subst (λ i. Gains (client_at u.clients i) (client_at (set u.clients c k) i)) (sym one) (subst (λ (z : ClientState). Gains x z) (sym (client_here u.clients c k h.client)) gain)
-            | inr other ↦ subst (λ (z : ClientState). Gains (client_at u.clients d) z) (sym (client_others u.clients c k d other)) (Gains-self (client_at u.clients d))
-          ];
+          gains = each_set (λ d z. Gains (client_at u.clients d) z) u.clients c k h.client gain (λ d. Gains-self (client_at u.clients d));
           others = λ q other. refl;
           limit = refl;
         },
@@ -396,16 +391,16 @@ pub record Returned (p : Planned) (v : ℕ) (u : WorldState) (g : Grant) : Type 
   pub went : Went (dealing_of p.plans) v u world
   pub here : voter_at world.voters v ≡ outcome.state
 
-pub comes : (laws : AloneLaws) (p : Planned) (c v : ℕ) (u : WorldState) → Here p c v u → (g : Grant) → HasLostVote u v g → Returned p v u g
+pub comes : (laws : Laws) (p : Planned) (c v : ℕ) (u : WorldState) → Here p c v u → (g : Grant) → HasLostVote u v g → Returned p v u g
 unfolding reminded
 comes laws p c v u h g lost =
     let deal = dealing_of p.plans in
-    let ok = laws.fitting.coherent (with_state p u) h.reached in
+    let ok = laws.coherent (with_state p u) h.reached in
     let y = voter_at u.voters v in
     let id : y.id ≡ v = ok.numbered.voters v lost.voter in
     let client = (ok.made v g.client g.stamp (inl (g, lost.held, refl, refl))).client in
     let m = answer u v g in
-    let taken = laws.returns.takes y m (ok.voters v) lost.left in
+    let taken = laws.voter.takes y m (ok.voters v) lost.left in
     let o = taken.0 in
     let takes : voter.step (voter_at u.voters y.id) m ≡ Some o = subst (λ n. voter.step (voter_at u.voters n) m ≡ Some o) (sym id) taken.1 in
     let second = length (reminded u v).sent in
@@ -420,8 +415,8 @@ comes laws p c v u h g lost =
         helps = (tt, (omega arith, (omega (arith, length-append u.sent (map kinds.ToClient (voter.remind y))), tt)));
         run = ap (λ (z : WorldState). after (after z (step deal z (Deliver (length u.sent)))) (step deal (after z (step deal z (Deliver (length u.sent)))) (Deliver second)))
             (after-remind_voter deal u v lost.voter)
-            ∙ ap (λ (z : WorldState). after z (step deal z (Deliver second))) (after-answer laws.returns deal u v g lost)
-            ∙ after-release laws.returns deal u v g o takes;
+            ∙ ap (λ (z : WorldState). after z (step deal z (Deliver second))) (after-answer laws deal u v g lost)
+            ∙ after-release laws deal u v g o takes;
         sent = omega (
           arith,
           length-append u.sent (map kinds.ToClient (voter.remind y)),
@@ -431,13 +426,9 @@ comes laws p c v u h g lost =
         visible = append-nil u.visible;
         clients = length-set u.clients g.client seen;
         voters = length-set u.voters y.id o.state;
-        gains = λ d. elim (cases_eq d g.client) [
-          | inl one ↦ subst (λ i. Gains (client_at u.clients i) (client_at (set u.clients g.client seen) i)) (sym one)
-              (subst (λ (z : ClientState). Gains (client_at u.clients g.client) z) (sym (client_here u.clients g.client seen client)) (Gains-see (client_at u.clients g.client) y.seen))
-          | inr other ↦ subst (λ (z : ClientState). Gains (client_at u.clients d) z) (sym (client_others u.clients g.client seen d other)) (Gains-self (client_at u.clients d))
-        ];
+        gains = each_set (λ d z. Gains (client_at u.clients d) z) u.clients g.client seen client (Gains-see (client_at u.clients g.client) y.seen) (λ d. Gains-self (client_at u.clients d));
         others = λ q other. voter_others u.voters y.id o.state q (λ e. other (e ∙ id));
-        limit = ap (λ (z : VoterState). z.limit) (ap (λ n. voter_at (set u.voters n o.state) v) id ∙ voter_here u.voters v o.state lost.voter) ∙ (laws.fitting.voter.carries y m o taken.1).limit;
+        limit = ap (λ (z : VoterState). z.limit) (ap (λ n. voter_at (set u.voters n o.state) v) id ∙ voter_here u.voters v o.state lost.voter) ∙ (laws.voter.carries y m o taken.1).limit;
       };
       here = ap (λ n. voter_at (set u.voters n o.state) v) id ∙ voter_here u.voters v o.state lost.voter;
     }
@@ -479,10 +470,6 @@ has_range low (suc n) d least less = elim (cases_eq low d) [
   | inl same ↦ (let e : eqb low d ≡ true = grind (arith, nat_tests) in ap (λ b. b || has (range_with_len (low + 1) n) d) e)
   | inr other ↦ (let e : eqb low d ≡ false = grind (arith, nat_tests) in ap (λ b. b || has (range_with_len (low + 1) n) d) e ∙ has_range (low + 1) n d (omega arith) (omega arith))
 ]
-
-pub length_range : (low n : ℕ) → length (range_with_len low n) ≡ n
-length_range low zero = refl
-length_range low (suc n) = ap (λ k. suc k) (length_range (low + 1) n)
 
 -- ---- one vote
 
@@ -552,16 +539,11 @@ not_current x s idle = grind (arith, nat_tests)
 pub current_same : (x z : ClientState) (s : ℕ) → z.phase ≡ x.phase → z.stamp ≡ x.stamp → is_current z s ≡ is_current x s
 current_same x z s phase stamp i = not (is_idle (phase i)) && (s == stamp i)
 
-pub asks_by : (q : Phase) → is_idle q ≡ false → is_inside q ≡ false → is_asking q ≡ true
-asks_by Idle busy outside = absurd (false≢true (sym busy))
-asks_by Asking busy outside = refl
-asks_by Inside busy outside = absurd (false≢true (sym outside))
-
 pub current_asks : (u : WorldState) (c d s : ℕ) → Leads u c → is_current (client_at u.clients d) s ≡ true → is_asking (client_at u.clients d).phase ≡ true
-current_asks u c d s leads is = asks_by (client_at u.clients d).phase (current_busy (client_at u.clients d) s is) (leads.outside d)
+current_asks u c d s leads is = outside_asks (client_at u.clients d).phase (current_busy (client_at u.clients d) s is) (leads.outside d)
 
 -- A grant that is new goes to the client, if its request is known and the grant is for a request that runs.
-pub new_is_own : (laws : AloneLaws) (c : ℕ) (y : VoterState) (m : ToVoter) (o : voter.Outcome) (x : WorldState) (k : Grant) → voter.IsSound y → voter.step y m ≡ Some o → Leads x c
+pub new_is_own : (laws : Laws) (c : ℕ) (y : VoterState) (m : ToVoter) (o : voter.Outcome) (x : WorldState) (k : Grant) → voter.IsSound y → voter.step y m ≡ Some o → Leads x c
     → IsEntry y c (client_at x.clients c).stamp → IsEntry o.state c (client_at x.clients c).stamp → o.state.held ≡ Some k → y.granted < k.grant
     → is_current (client_at x.clients k.client) k.stamp ≡ true → k.client ≡ c
 new_is_own laws c y m o x k ok step leads before after held newer runs = elim (cases_eq k.client c) [
@@ -569,9 +551,9 @@ new_is_own laws c y m o x k ok step leads before after held newer runs = elim (c
   | inr other ↦
       let s = (client_at x.clients c).stamp in
       let waits = entry_waits o.state c s k after held other in
-      let behind = laws.fitting.voter.first y m o k c s ok step held newer before waits in
+      let behind = laws.voter.first y m o k c s ok step held newer before waits in
       let asks = current_asks x c k.client k.stamp leads runs in
-      let ahead = subst (λ t. precedes (request_at x c) (record { stamp = t; client = k.client }) ≡ true) (sym (current_stamp (client_at x.clients k.client) k.stamp runs))
+      let ahead = subst (λ t. precedes (the_request x c) (record { stamp = t; client = k.client }) ≡ true) (sym (current_stamp (client_at x.clients k.client) k.stamp runs))
       (leads.first k.client other asks) in
       absurd (false≢true (sym behind ∙ ahead))
 ]
@@ -601,7 +583,7 @@ pub record Ready (p : Planned) (c v top : ℕ) (alive : List ℕ) (u : WorldStat
   pub left : (voter_at u.voters v).granted + length alive ≤ top
   pub room : top ≤ (voter_at u.voters v).limit
 
-pub Ready-back : (laws : AloneLaws) (p : Planned) (c v top : ℕ) (alive : List ℕ) (u : WorldState) → Ready p c v top alive u → (g : Grant) → (voter_at u.voters v).held ≡ Some g
+pub Ready-back : (laws : Laws) (p : Planned) (c v top : ℕ) (alive : List ℕ) (u : WorldState) → Ready p c v top alive u → (g : Grant) → (voter_at u.voters v).held ≡ Some g
     → is_current (client_at u.clients g.client) g.stamp ≡ false → has alive g.client ≡ true
     → (back : Returned p v u g) → holds (client_at back.world.clients c) v ≡ false → Ready p c v top (remove_from g.client alive) back.world
 Ready-back laws p c v top alive u r g held over there back free =
@@ -610,16 +592,16 @@ Ready-back laws p c v top alive u r g held over there back free =
     let o = back.outcome in
     let m = answer u v g in
     let own_stamp_of = (client_at u.clients c).stamp in
-    let ok = laws.fitting.coherent (with_state p u) r.spot.reached in
+    let ok = laws.coherent (with_state p u) r.spot.reached in
     let less = Less-step laws g.client y m o (ok.voters v) back.own back.step in
     let gains = back.went.gains c in
     let short = shorter g.client alive there in
     let left = r.left in
     let leads = Leads-went (dealing_of p.plans) c v u x back.went r.leads in
-    let ends : (s : ℕ) → IsEntry o.state g.client s → ⊥ = laws.returns.ends y m o g g.stamp (ok.voters v) held back.own refl (omega arith) back.step in
+    let ends : (s : ℕ) → IsEntry o.state g.client s → ⊥ = laws.voter.ends y m o g g.stamp (ok.voters v) held back.own refl (omega arith) back.step in
     let other : g.client ≢ c = λ own. false≢true (sym (ap (λ d. is_current (client_at u.clients d) g.stamp) (sym own) ∙ over)
     ∙ current_is (client_at u.clients c) g.stamp r.spot.asks (own_stamp y c own_stamp_of g (ok.voters v) r.entry held own)) in
-    let entry : IsEntry o.state c own_stamp_of = elim (laws.returns.stays y m o c own_stamp_of (ok.voters v) back.step r.entry) [
+    let entry : IsEntry o.state c own_stamp_of = elim (laws.voter.stays y m o c own_stamp_of (ok.voters v) back.step r.entry) [
       | inl stays ↦ stays
       | inr finishes ↦ absurd (other (sym (finishes.0 ∙ back.own)))
     ] in
@@ -637,9 +619,9 @@ Ready-back laws p c v top alive u r g held over there back free =
           ]);
       settled = subst (λ (z : VoterState). (k : Grant) → z.held ≡ Some k → is_current (client_at x.clients k.client) k.stamp ≡ true → (k.client ≡ c)
           × (last_of (client_at x.clients c) v < k.grant)) (sym back.here) (λ k has now.
-          let last = ((Fits-reached laws.fitting (with_state p u) r.spot.reached).pairs c v).last in
+          let last = ((Fits-reached laws (with_state p u) r.spot.reached).pairs c v).last in
           let same = gains.last v in
-          elim (grant_moves _ y o.state k (laws.fitting.voter.numbers y m o (ok.voters v) back.step) has) [
+          elim (grant_moves _ y o.state k (laws.voter.numbers y m o (ok.voters v) back.step) has) [
             | inl was ↦ absurd (ends k.stamp (inl (k, has, ap (λ (n : Grant). n.client) (same_Some k g (sym was ∙ held)), refl)))
             | inr next ↦ (
               new_is_own laws c y m o x k (ok.voters v) back.step leads (subst (λ s. IsEntry y c s) (sym gains.stamp) r.entry)
@@ -651,11 +633,11 @@ Ready-back laws p c v top alive u r g held over there back free =
       room = subst (λ n. top ≤ n) (sym back.went.limit) r.room;
     }
 
-pub look : (laws : AloneLaws) (p : Planned) (c v top : ℕ) (alive : List ℕ) (u : WorldState) → Ready p c v top alive u
+pub look : (laws : Laws) (p : Planned) (c v top : ℕ) (alive : List ℕ) (u : WorldState) → Ready p c v top alive u
     → ((rest : List ℕ) (x : WorldState) → length rest < length alive → Ready p c v top rest x → Got p c v top x) → Got p c v top u
 look laws p c v top alive u r again =
     let y = voter_at u.voters v in
-    let ok = laws.fitting.coherent (with_state p u) r.spot.reached in
+    let ok = laws.coherent (with_state p u) r.spot.reached in
     let g = held_some y c (client_at u.clients c).stamp (ok.voters v) r.entry y.held refl in
     let left = r.left in
     elim (is_current (client_at u.clients g.0.client) g.0.stamp) as (λ b. is_current (client_at u.clients g.0.client) g.0.stamp ≡ b → Got p c v top u) [
@@ -674,11 +656,11 @@ look laws p c v top alive u r again =
           (λ free. again (remove_from g.0.client alive) back.world short (Ready-back laws p c v top alive u r g.0 g.1 over there back free))
     ] refl
 
-pub frees : (laws : AloneLaws) (p : Planned) (c v top fuel : ℕ) (alive : List ℕ) (u : WorldState) → length alive ≤ fuel → Ready p c v top alive u → Got p c v top u
+pub frees : (laws : Laws) (p : Planned) (c v top fuel : ℕ) (alive : List ℕ) (u : WorldState) → length alive ≤ fuel → Ready p c v top alive u → Got p c v top u
 frees laws p c v top zero alive u most r = look laws p c v top alive u r (λ rest x less ready. absurd (omega arith))
 frees laws p c v top (suc n) alive u most r = look laws p c v top alive u r (λ rest x less ready. frees laws p c v top n rest x (omega arith) ready)
 
-pub frees_up : (laws : AloneLaws) (p : Planned) (c v top : ℕ) (alive : List ℕ) (u : WorldState) → IsKnown p c v top alive u → Settled c v u → Got p c v top u
+pub frees_up : (laws : Laws) (p : Planned) (c v top : ℕ) (alive : List ℕ) (u : WorldState) → IsKnown p c v top alive u → Settled c v u → Got p c v top u
 frees_up laws p c v top alive u k settled =
     frees laws p c v top (length alive) alive u (omega arith) (record {
       spot = k.spot;
@@ -692,17 +674,17 @@ frees_up laws p c v top alive u k settled =
     })
 
 -- a grant that its client, which asks, gave back
-pub gave_back : (laws : AloneLaws) (p : Planned) (c v top d : ℕ) (alive : List ℕ) (u : WorldState) → IsKnown p c v top alive u → Here p d v u → (g : Grant)
+pub gave_back : (laws : Laws) (p : Planned) (c v top d : ℕ) (alive : List ℕ) (u : WorldState) → IsKnown p c v top alive u → Here p d v u → (g : Grant)
     → (voter_at u.voters v).held ≡ Some g → g.client ≡ d → g.stamp ≡ (client_at u.clients d).stamp
     → g.grant ≤ last_of (client_at u.clients d) v → Got p c v top u
 gave_back laws p c v top d alive u k there g held own stamp few =
-    let ok = laws.fitting.coherent (with_state p u) there.reached in
+    let ok = laws.coherent (with_state p u) there.reached in
     let x = client_at u.clients d in
     let y = voter_at u.voters v in
     let s = (client_at u.clients c).stamp in
     let within = ok.members d v there.asked in
     let voters = ok.numbered.few_voters in
-    let fits = (Fits-reached laws.fitting (with_state p u) there.reached) in
+    let fits = (Fits-reached laws (with_state p u) there.reached) in
     let pair = fits.pairs d v in
     let left = k.left in
     let room = k.room in
@@ -710,20 +692,20 @@ gave_back laws p c v top d alive u k there g held own stamp few =
     let free = not_held x v 0 y.held g d (ok.clients d) held few (λ n has. ok.held d v n has) in
     let body = asks.Relinquish (last_of x v) in
     let m = requester.tell x v body in
-    let says = laws.back.gives x v there.asks there.asked free back.1 in
+    let says = laws.client.returns x v there.asks there.asked free back.1 in
     let heard = hears laws p d v u there body says (omega arith) in
     let o = heard.outcome in
     let id : m.client ≡ d = ok.numbered.clients d there.client in
-    let new = laws.back.goes_on y m o g (ok.voters v) held (id ∙ sym own) (ap (λ n. asks.Relinquish n) back.0) heard.step in
+    let new = laws.voter.goes_on y m o g (ok.voters v) held (id ∙ sym own) (ap (λ n. asks.Relinquish n) back.0) heard.step in
     let less = Less-step laws d y m o (ok.voters v) id heard.step in
     let z = heard.world in
     let gains = heard.went.gains c in
     let leads = Leads-went (dealing_of p.plans) c v u z heard.went k.leads in
-    let entry : IsEntry o.state c s = elim (laws.back.stays y m o c s (ok.voters v) heard.step k.entry) [
+    let entry : IsEntry o.state c s = elim (laws.voter.stays y m o c s (ok.voters v) heard.step k.entry) [
       | inl stays ↦ stays
       | inr finishes ↦ absurd finishes
     ] in
-    let known : (e t : ℕ) → IsEntry o.state e t → IsEntry y e t = λ e t is. elim ((laws.fitting.voter.meets y m o heard.step).entries e t is) [
+    let known : (e t : ℕ) → IsEntry o.state e t → IsEntry y e t = λ e t is. elim ((laws.voter.meets y m o heard.step).entries e t is) [
       | inl before ↦ before
       | inr brings ↦ absurd brings
     ] in
@@ -758,23 +740,23 @@ pub record Requested (p : Planned) (c v : ℕ) (u : WorldState) : Type 0 where
   pub entry : IsEntry (voter_at world.voters v) c (client_at world.clients c).stamp
   pub few : (voter_at world.voters v).granted ≤ (voter_at u.voters v).granted + 1
 
-pub asks_again : (laws : AloneLaws) (p : Planned) (c v : ℕ) (u : WorldState) → Here p c v u → holds (client_at u.clients c) v ≡ false → (voter_at u.voters v).granted < (voter_at u.voters v).limit
+pub asks_again : (laws : Laws) (p : Planned) (c v : ℕ) (u : WorldState) → Here p c v u → holds (client_at u.clients c) v ≡ false → (voter_at u.voters v).granted < (voter_at u.voters v).limit
     → Requested p c v u
 asks_again laws p c v u h free left =
-    let ok = laws.fitting.coherent (with_state p u) h.reached in
+    let ok = laws.coherent (with_state p u) h.reached in
     let x = client_at u.clients c in
     let y = voter_at u.voters v in
     let body = asks.Request x.stamp in
     let m = requester.tell x v body in
-    let there = laws.requests x v h.asks h.asked free in
+    let there = laws.client.requests x v h.asks h.asked free in
     let heard = hears laws p c v u h body there left in
     let o = heard.outcome in
     let id : m.client ≡ c = ok.numbered.clients c h.client in
-    let pair = (Fits-reached laws.fitting (with_state p u) h.reached).pairs c v in
-    let busy = asking_busy x.phase h.asks in
+    let pair = (Fits-reached laws (with_state p u) h.reached).pairs c v in
+    let busy = is_asking-busy x.phase h.asks in
     let unfinished = subst (λ i. slice_index y.finished i < x.stamp) (sym id) (pair.unfinished.busy busy) in
     let most = subst (λ i. (s : ℕ) → IsEntry y i s → s ≤ x.stamp) (sym id) (λ s entry. (ok.made v c s entry).reached) in
-    let entry = subst (λ i. IsEntry o.state i x.stamp) id (laws.taken_up y m o x.stamp (ok.voters v) refl unfinished most heard.step) in
+    let entry = subst (λ i. IsEntry o.state i x.stamp) id (laws.voter.taken_up y m o x.stamp (ok.voters v) refl unfinished most heard.step) in
     let less = Less-step laws c y m o (ok.voters v) id heard.step in
     record {
       world = heard.world;

@@ -2,7 +2,7 @@
 ghost use Rattle.std.specs.Prelude.{◌≡◌, ◌≢◌, ◌≤◌, ◌+◌, ◌*◌, ◌++◌, ℕ, List, length};
 ghost use Rattle.progress.specs.LostVotes.{ComesBack, GoesOn, HasLostVote, HasReturnedVote};
 ghost use Rattle.progress.specs.Overtaking.{IsKnownEverywhere, StillRuns, entered_by};
-ghost use Rattle.progress.specs.Rules.{LeavingLaws};
+ghost use Rattle.progress.specs.Rules.{Laws};
 ghost use Rattle.progress.specs.WayIn.{Asks, AsksAlone, GetsIn, HasGrants, IsFree, IsWayIn};
 ghost use Rattle.voter.specs.declared.state.Grant.{Grant};
 ghost use Rattle.world.specs.declared.step.Event.{Event};
@@ -25,7 +25,7 @@ use world::worlds_stay_coherent;
 
 /// The rules that clients, voters and worlds keep, as the laws below state them.
 fn parts_keep_their_rules()
-    ensures { LeavingLaws }
+    ensures { Laws }
 {
     requesters_meet_the_contract();
     clocks_never_fall();

@@ -1,7 +1,7 @@
 -- The contract of a client.
 use Rattle.std.proofs.Common.{◌≡◌, ◌≢◌, ℕ, ◌+◌, ◌≤◌, Bool, true, false, ◌&&◌, not, ltb, eqb, List, refl, sym, ap, subst, ◌∙◌, ◌⊎◌, inl, inr, arith, Ok}
 use Rattle.std.specs.Prelude.{◌==◌}
-use Rattle.std.proofs.lemmas.Bool.{cases_eq}
+use Rattle.std.proofs.lemmas.Bool.{cases_eq, and_parts}
 use Rattle.std.proofs.lemmas.Bool.Decides.{nat_tests}
 use Rattle.message.specs.declared.message.ToVoter.{ToVoter}
 use Rattle.message.specs.declared.message.ToClient.{ToClient}
@@ -19,16 +19,16 @@ use Rattle.requester.specs.Soundness.{IsSound}
 use Rattle.requester.specs.RequesterContract.{Accepts, IsLive, IsLocked, Locks, Sees, KeepsQuorum, Says, MeetsContract, Repeats, AllRepeat}
 use Rattle.requester.specs.Steps.{Outcome, silent, cleared, begun, asked, tell, is_fresh, hold, enter_if, locked, locked_by, failed, failed_by, inquired, inquired_by, see}
 use Rattle.requester.specs.Steps.{take_body, take, released, Cause, Asks, Takes, Leaves, GivesUp, step, remind, remind_in, remind_by, remind_member}
-use Rattle.requester.proofs.Members.{absurd-true_false, both_true-from_and, AllByRecursion-map_members, AllByRecursion-flat_map_members, get_or-zeros}
+use Rattle.requester.proofs.Members.{absurd-true_false, AllByRecursion-map_members, AllByRecursion-flat_map_members}
 use Rattle.requester.proofs.Giving.{GivesBack, IsGiving, Given, GivesBack-silent, GivesBack-relinquish}
 use Rattle.requester.proofs.SoundSteps.{Counts, Counts-is_fresh, is_current-busy, HoldsMore-hold, is_inside-from_Counts, GivesBack-failed_by, is_asking-outside, IsSound-see}
 use Rattle.requester.proofs.SoundSteps.{Ok-same, ask-Ok, leave-Ok, give_up-Ok}
-use Rattle.numbers.proofs.Lists.{AllByRecursion-weaker}
+use Rattle.numbers.proofs.Lists.{AllByRecursion-weaker, slice_index-replicate_zero}
 
 -- Steps that give votes back
 
 holds_under-parts : (x : ClientState) (v g : ℕ) → holds_under x v g ≡ true → (holds x v ≡ true) × (held_of x v ≡ g)
-holds_under-parts x v g e = let p = both_true-from_and (holds x v) (held_of x v == g) e in (p.0, grind (arith, nat_tests))
+holds_under-parts x v g e = let p = and_parts (holds x v) (held_of x v == g) e in (p.0, grind (arith, nat_tests))
 
 holds_under-from_parts : (x : ClientState) (v g : ℕ) → holds x v ≡ true → held_of x v ≡ g → holds_under x v g ≡ true
 holds_under-from_parts x v g h e = grind (arith, nat_tests)
@@ -196,9 +196,9 @@ MeetsContract-take x m s =
 -- Calls
 
 cleared-holds_under_nothing : {A : Type 0} (x : ClientState) (v g : ℕ) → holds_under (cleared x) v g ≡ true → A
-cleared-holds_under_nothing x v g h = absurd-true_false (holds (cleared x) v) (holds_under-parts (cleared x) v g h).0 (ap (ltb 0) (get_or-zeros 64 v))
+cleared-holds_under_nothing x v g h = absurd-true_false (holds (cleared x) v) (holds_under-parts (cleared x) v g h).0 (ap (ltb 0) (slice_index-replicate_zero 64 v))
 
-is_idle-outside : (p : Phase) → is_idle p ≡ true → is_inside p ≡ false
+pub is_idle-outside : (p : Phase) → is_idle p ≡ true → is_inside p ≡ false
 is_idle-outside Idle e = refl
 is_idle-outside Asking e = refl
 is_idle-outside Inside e = sym e

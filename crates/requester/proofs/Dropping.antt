@@ -1,15 +1,14 @@
 -- Dropping the held votes, one member at a time.
-use Rattle.std.proofs.Common.{◌≡◌, ℕ, ◌<◌, ◌≤◌, ◌∷◌, Bool, false, true, refl, ap, List, length, drop, replicate, set, sym, ◌∙◌, inl, inr, arith}
+use Rattle.std.proofs.Common.{◌≡◌, ℕ, ◌≤◌, Bool, false, true, refl, List, length, drop, replicate, sym, ◌∙◌}
 use Rattle.std.specs.Prelude.{slice_index}
-use Rattle.std.proofs.lemmas.Bool.{cases_eq}
 use Rattle.std.proofs.lemmas.Grind.{same_number_lists}
-use Rattle.std.proofs.lemmas.List.{at_drop_all, get_or-set_other, get_or-set_same, length-set}
+use Rattle.std.proofs.lemmas.List.{at_drop_all}
+use Rattle.numbers.proofs.Lists.{slice_index-replicate_zero}
 use Rattle.numbers.specs.Sets.{has}
-use Rattle.numbers.proofs.SetLemmas.{has-tail}
 use Rattle.requester.specs.declared.state.ClientState.{ClientState}
 use Rattle.requester.specs.Words.{holds, is_idle, is_member}
 use Rattle.requester.specs.Soundness.{HoldsOfMembers, IsSound}
-use Rattle.requester.proofs.Members.{absurd-true_false, get_or-zeros}
+use Rattle.requester.proofs.Members.{absurd-true_false}
 use Rattle.requester.proofs.VoteLemmas.{HoldsNothing-idle, held_of-not_held}
 
 -- of the 64 votes none is held but those of the voters that are left
@@ -17,20 +16,9 @@ pub record Dropped (rest held : List ℕ) : Type 0 where
   pub wide : length held ≡ 64
   pub none : (v : ℕ) → has rest v ≡ false → slice_index held v ≡ 0
 
-pub Dropped-more : (v : ℕ) (rest held : List ℕ) → v < 64 → Dropped (v ∷ rest) held → Dropped rest (set held v 0)
-Dropped-more v rest held lt d =
-    let wide = d.wide in
-    record {
-      wide = length-set held v 0 ∙ d.wide;
-      none = λ u out. elim (cases_eq v u) [
-        | inl same ↦ ap (λ (n : ℕ). slice_index (set held v 0) n) (sym same) ∙ get_or-set_same held v 0 0 (omega arith)
-        | inr other ↦ get_or-set_other held v u 0 0 (λ e. other (sym e)) ∙ d.none u (has-tail v rest u other ∙ out)
-      ];
-    }
-
 -- a list of 64 numbers that are 0
 is_zeros : (held : List ℕ) → length held ≡ 64 → ((v : ℕ) → slice_index held v ≡ 0) → held ≡ replicate 64 0
-is_zeros held wide none = same_number_lists held (replicate 64 0) wide (λ k lt. none k ∙ sym (get_or-zeros 64 k))
+is_zeros held wide none = same_number_lists held (replicate 64 0) wide (λ k lt. none k ∙ sym (slice_index-replicate_zero 64 k))
 
 pub held-dropped : (voters held : List ℕ) (n : ℕ) → length voters ≤ n → Dropped (drop n voters) held → held ≡ replicate 64 0
 held-dropped voters held n past d = is_zeros held d.wide (λ v. d.none v (at_drop_all (λ vs. has vs v) voters n past))

@@ -11,8 +11,8 @@ use Rattle.requester.specs.declared.state.Seen.TheVariants.{Nothing}
 use Rattle.requester.specs.Words.{held_of, holds, last_of, is_relinquished, is_inquired}
 use Rattle.requester.specs.Soundness.{HasPlaces}
 use Rattle.requester.specs.Steps.{Outcome, silent, tell, relinquish, relinquish_if, relinquish_each}
-use Rattle.requester.proofs.Members.{AllByRecursion-append, absurd-true_false, has-with_voter, has-without_voter, get_or-some_below}
-use Rattle.numbers.proofs.Lists.{AllByRecursion-weaker}
+use Rattle.requester.proofs.Members.{absurd-true_false, has-with_voter, has-without_voter, get_or-some_below}
+use Rattle.numbers.proofs.Lists.{AllByRecursion-weaker, AllByRecursion-append}
 
 -- the vote and its last grant are as before, and no mark is new
 pub record Kept (x y : ClientState) (v : ℕ) : Type 0 where

@@ -2,7 +2,7 @@
 use Rattle.std.proofs.Common.{◌≡◌, ◌≢◌, ℕ, ◌<◌, Bool, true, false, ◌&&◌, ◌||◌, not, eqb, ltb, List, [], ◌∷◌, filter, refl, sym, ap, subst, ◌∙◌, ◌⊎◌, inl, inr, arith}
 use Rattle.std.specs.Prelude.{◌==◌}
 use Rattle.std.specs.List.{list_any, Contains}
-use Rattle.std.proofs.lemmas.Bool.{false≢true, cases_eq, eq-eqb}
+use Rattle.std.proofs.lemmas.Bool.{false≢true, cases_eq, eq-eqb, or_left, or_right, and_from}
 use Rattle.std.proofs.lemmas.Bool.Decides.{nat_tests}
 use Rattle.numbers.specs.Sets.{has}
 use Rattle.numbers.proofs.SetLemmas.{has-IsSet_below, has-set_where}
@@ -19,14 +19,6 @@ use Rattle.requester.proofs.Members.{absurd-true_false, get_or-some_below, has-w
 use Rattle.std.proofs.lemmas.List.{get_or-set_same, get_or-set_other}
 use Rattle.requester.proofs.Giving.{Given, giving, GivesBack-relinquish}
 use Rattle.requester.proofs.SoundSteps.{Counts, Counts-is_fresh, GivesBack-failed_by, IsSound-see}
-
-or_left : (a b : Bool) → a ≡ true → a || b ≡ true
-or_left true b e = refl
-or_left false b e = absurd (false≢true e)
-
-or_right : (a b : Bool) → b ≡ true → a || b ≡ true
-or_right true b e = refl
-or_right false b e = e
 
 list_any-member : (p : ℕ → Bool) (v : ℕ) (vs : List ℕ) → has vs v ≡ true → p v ≡ true → list_any p vs ≡ true
 list_any-member p v [] is passes = absurd (false≢true is)
@@ -118,9 +110,6 @@ returned-relinquish x v held below places = elim ((GivesBack-relinquish x v plac
   | inr given ↦ record { given = given.0; sent = given.1; mark = now-relinquish x v held below }
 ]
 
-both_true : (a b : Bool) → a ≡ true → b ≡ true → (a && b) ≡ true
-both_true a b e f = grind (arith, nat_tests)
-
 returned-inquired_by : (b hindered : Bool) (x : ClientState) (v : ℕ) → b ≡ true → hindered ≡ true → holds x v ≡ true → v < 64 → HasPlaces x → IsReturned x (inquired_by b hindered x v) v
 returned-inquired_by false hindered x v b h held below places = absurd (false≢true b)
 returned-inquired_by true false x v b h held below places = absurd (false≢true h)
@@ -129,8 +118,8 @@ returned-inquired_by true true x v b h held below places = returned-relinquish x
 pub returned-inquire : (x : ClientState) (v : ℕ) → is_asking x.phase ≡ true → holds x v ≡ true → is_hindered x ≡ true → v < 64 → HasPlaces x → IsReturned x (inquired x v (held_of x v)) v
 unfolding inquired
 returned-inquire x v asking held hindered below places =
-    let under : holds_under x v (held_of x v) ≡ true = both_true (holds x v) (held_of x v == held_of x v) held (eq-eqb (held_of x v) (held_of x v) refl) in
-    returned-inquired_by _ _ x v (both_true (is_asking x.phase) (holds_under x v (held_of x v)) asking under) hindered held below places
+    let under : holds_under x v (held_of x v) ≡ true = and_from (holds x v) (held_of x v == held_of x v) held (eq-eqb (held_of x v) (held_of x v) refl) in
+    returned-inquired_by _ _ x v (and_from (is_asking x.phase) (holds_under x v (held_of x v)) asking under) hindered held below places
 
 -- ---- any message
 

@@ -1,11 +1,12 @@
 -- Facts on the members of a quorum, on sets of voters, and on lists with a place for each voter.
-use Rattle.std.proofs.Common.{◌≡◌, ◌≢◌, ℕ, zero, suc, ◌+◌, ◌<◌, ◌≤◌, Bool, true, false, ◌&&◌, ◌||◌, not, map, eqb, ltb, List, [], ◌∷◌, ◌++◌, length, get_or, replicate, refl, sym}
+use Rattle.std.proofs.Common.{◌≡◌, ◌≢◌, ℕ, ◌+◌, ◌<◌, ◌≤◌, Bool, true, false, ◌&&◌, ◌||◌, not, map, eqb, ltb, List, [], ◌∷◌, length, get_or, refl, sym}
 use Rattle.std.proofs.Common.{ap, subst, ◌∙◌, ◌⊎◌, inl, inr, arith}
 use Rattle.std.specs.List.{AllByRecursion, IsDistinct, list_all, flat_map}
-use Rattle.std.proofs.lemmas.Bool.{false≢true, cases_lt, cases_eq, eq-eqb, ne_eqb}
+use Rattle.std.proofs.lemmas.Bool.{false≢true, cases_lt, cases_eq, eq-eqb, ne_eqb, and_parts, not-true}
 use Rattle.std.proofs.lemmas.Bool.Decides.{nat_tests}
 use Rattle.std.proofs.lemmas.Map.Keys.{IsDistinct-cons}
 use Rattle.std.proofs.lemmas.List.{get_or_past}
+use Rattle.numbers.proofs.Lists.{AllByRecursion-append}
 use Rattle.numbers.specs.Sets.{has, Ascends, IsSet, set_where}
 use Rattle.numbers.proofs.SetLemmas.{IsSet-set_where, has-IsSet_below, has-set_where, length-Ascends}
 use Rattle.requester.specs.Soundness.{AreMembers}
@@ -13,12 +14,6 @@ use Rattle.requester.specs.Words.{with_voter, without_voter}
 
 pub absurd-true_false : {A : Type 0} → (b : Bool) → b ≡ true → b ≡ false → A
 absurd-true_false b t f = absurd (false≢true (sym f ∙ t))
-
-pub both_true-from_and : (a b : Bool) → a && b ≡ true → (a ≡ true) × (b ≡ true)
-both_true-from_and a b h = (grind (arith, nat_tests), grind (arith, nat_tests))
-
-pub false-from_not : (a : Bool) → not a ≡ true → a ≡ false
-false-from_not a h = grind (arith, nat_tests)
 
 -- Sets
 
@@ -46,7 +41,7 @@ AreMembers-set s is = record { few = length-IsSet s is; voters = all_below-from_
 pub list_all-member : (p : ℕ → Bool) (v : ℕ) (vs : List ℕ) → list_all p vs ≡ true → has vs v ≡ true → p v ≡ true
 list_all-member p v [] a b = absurd (false≢true b)
 list_all-member p v (u ∷ us) a b =
-    let parts = both_true-from_and (p u) (list_all p us) a in
+    let parts = and_parts (p u) (list_all p us) a in
     elim (eqb u v) as (λ t. eqb u v ≡ t → (t || has us v) ≡ true → p v ≡ true) [
       | true ↦ λ e _. let same : u ≡ v = grind (arith, nat_tests) in subst (λ n. p n ≡ true) same parts.0
       | false ↦ λ _ rest. list_all-member p v us parts.1 rest
@@ -68,8 +63,8 @@ pub has-without_voter : (s : List ℕ) (v u : ℕ) → has (without_voter s v) u
 has-without_voter s v u h =
     let p : ℕ → Bool = λ i. not (eqb i v) && has s i in
     let below = has-IsSet_below (set_where p) u (IsSet-set_where p) h in
-    let passes = both_true-from_and (not (eqb u v)) (has s u) (sym (has-set_where p u below) ∙ h) in
-    (λ same. absurd-true_false (eqb u v) (eq-eqb u v same) (false-from_not (eqb u v) passes.0), passes.1)
+    let passes = and_parts (not (eqb u v)) (has s u) (sym (has-set_where p u below) ∙ h) in
+    (λ same. absurd-true_false (eqb u v) (eq-eqb u v same) (not-true (eqb u v) passes.0), passes.1)
 
 -- a set without a voter has the others as before
 pub has-without_voter-other : (s : List ℕ) (v u : ℕ) → u < 64 → u ≢ v → has (without_voter s v) u ≡ has s u
@@ -77,10 +72,6 @@ has-without_voter-other s v u below other =
     has-set_where (λ i. not (eqb i v) && has s i) u below ∙ ap (λ b. not b && has s u) (ne_eqb u v other)
 
 -- Lists of messages
-
-pub AllByRecursion-append : {A : Type 0} (P : A → Type 0) (xs ys : List A) → AllByRecursion P xs → AllByRecursion P ys → AllByRecursion P (xs ++ ys)
-AllByRecursion-append P [] ys h k = k
-AllByRecursion-append P (x ∷ xs) ys h k = (h.0, AllByRecursion-append P xs ys h.1 k)
 
 -- what is said of each member
 pub AllByRecursion-map_members : {A : Type 0} (P : A → Type 0) (f : ℕ → A) (vs : List ℕ) → ((v : ℕ) → has vs v ≡ true → P (f v)) → AllByRecursion P (map f vs)
@@ -93,11 +84,6 @@ AllByRecursion-flat_map_members P f (v ∷ vs) h = AllByRecursion-append P (f v)
     (AllByRecursion-flat_map_members P f vs (λ u member. h u (grind (arith, nat_tests))))
 
 -- Places
-
-pub get_or-zeros : (n v : ℕ) → get_or {A = ℕ} (replicate n 0) v 0 ≡ 0
-get_or-zeros zero v = refl
-get_or-zeros (suc n) zero = refl
-get_or-zeros (suc n) (suc v) = get_or-zeros n v
 
 pub get_or-some_below : (xs : List ℕ) (v : ℕ) → ltb 0 (get_or xs v 0) ≡ true → v < length xs
 get_or-some_below xs v h = elim (cases_lt v (length xs)) [

@@ -87,7 +87,7 @@ AllInRange-released x seen cause s busy =
     AllByRecursion-map_members (InRange cause (released x seen).state) (λ v. tell x v (asks.Release x.stamp)) (members x)
     (λ v member. (inl member, has-IsSet_below (members x) v s.quorum member, (s.stamped busy, s.stamp)))
 
-is_inside-busy : (p : Phase) → is_inside p ≡ true → is_idle p ≡ false
+pub is_inside-busy : (p : Phase) → is_inside p ≡ true → is_idle p ≡ false
 is_inside-busy Idle e = sym e
 is_inside-busy Asking e = refl
 is_inside-busy Inside e = refl

@@ -37,13 +37,14 @@ use Rattle.std.proofs.Common.{
   take-append-drop,
   length-append,
 }
-use Rattle.std.specs.Prelude.{IfSome, nat_le, nat_lt, replicate, slice_index}
+use Rattle.std.specs.Prelude.{IfSome, nat_lt, replicate, slice_index}
 use Rattle.std.specs.Int.{bit_at}
 use Rattle.std.specs.List.{AllByRecursion}
-use Rattle.std.proofs.lemmas.Bool.{false≢true}
+use Rattle.std.proofs.lemmas.Bool.{false≢true, leb-true, ltb-true}
 use Rattle.std.proofs.lemmas.Bool.Decides.{nat_tests}
 use Rattle.std.proofs.lemmas.List.{drop_all, drop_more, take_at, drop_at, length-replicate}
 use Rattle.std.proofs.lemmas.List.Sums.{sum_by-append}
+use Rattle.numbers.proofs.Lists.{slice_index-replicate_zero}
 use Rattle.numbers.specs.Sets.{has, numbers_from, set_where, members_of, IsSet}
 use Rattle.numbers.proofs.SetLemmas.{Ascends-unique, IsSet-set_where, has-IsSet_below, has-above, has-set_where, is_set_where}
 use Rattle.quorum_set.specs.Words.{word_of, word_of-members_of, numbers_from-more}
@@ -51,7 +52,7 @@ use Rattle.requester.specs.declared.state.ClientState.{ClientState}
 use Rattle.requester.specs.Saved.{HasSets, IsKept, has_sound_numbers, head_words, header, phase_word, is_vote_sound, least_client, words_of}
 use Rattle.requester.specs.Soundness.{HasPlaces, IsHeldWell, IsSound}
 use Rattle.requester.specs.Words.{held_of, holds, is_covered, is_idle, is_inquired, is_inside, is_member, is_relinquished, last_of, members}
-use Rattle.requester.proofs.Members.{all_below-from_Ascends, get_or-some_below, get_or-zeros}
+use Rattle.requester.proofs.Members.{all_below-from_Ascends, get_or-some_below}
 
 -- ---- a set from its bits
 
@@ -141,9 +142,6 @@ Gathered-one items rest set v g = record {
   each = λ u lt. one_more u v (has set u) (has rest u) _ _ (has-set_where (λ j. (eqb j v) || has set j) u lt) (g.each u lt);
 }
 
-pub small_next : (items set : List ℕ) (i : ℕ) → i < length items → Gathered items (drop i items) set → get_or items i 0 < 64
-small_next items set i lt g = (subst (AllByRecursion (λ v. v < 64)) (drop_more items i 0 lt) g.small).0
-
 pub Gathered-more : (items set after : List ℕ) (i : ℕ) → i < length items → Gathered items (drop i items) set
     → after ≡ set_where (λ j. (eqb j (get_or items i 0)) || has set j) → Gathered items (drop (i + 1) items) after
 Gathered-more items set after i lt g is = subst (λ (s : List ℕ). Gathered items (drop (i + 1) items) s) (sym is)
@@ -199,33 +197,27 @@ four true true false d e h = absurd (false≢true h)
 four true false c d e h = absurd (false≢true h)
 four false b c d e h = absurd (false≢true h)
 
-le_from : (a b : ℕ) → nat_le a b ≡ true → a ≤ b
-le_from a b e = grind (arith, nat_tests)
-
 numbers_from_test : (x : ClientState) → has_sound_numbers x ≡ true → Numbers x
 numbers_from_test x e =
     let parts = four _ _ _ _ _ e in
     record {
-      some = le_from _ _ parts.0;
-      limit = le_from _ _ parts.1;
-      stamp = le_from _ _ parts.2;
-      clock = le_from _ _ parts.3;
+      some = leb-true _ _ parts.0;
+      limit = leb-true _ _ parts.1;
+      stamp = leb-true _ _ parts.2;
+      clock = leb-true _ _ parts.3;
       busy = busy_numbers (is_idle x.phase) x.stamp (length (members x)) parts.4;
     }
-
-less_from : (a b : ℕ) → nat_lt a b ≡ true → a < b
-less_from a b e = grind (arith, nat_tests)
 
 held_well : (x : ClientState) (v : ℕ) → is_vote_sound x v ≡ true → holds x v ≡ true → IsHeldWell x v
 held_well x v e is =
     let parts = has_held (holds x v) (is_idle x.phase) (is_member x v) (nat_lt (last_of x v) (held_of x v)) (is_inquired x v) (is_relinquished x v) (nat_lt 0 (last_of x v)) e is in
-    record { busy = parts.0; member = parts.1; fresh = less_from (last_of x v) (held_of x v) parts.2 }
+    record { busy = parts.0; member = parts.1; fresh = ltb-true (last_of x v) (held_of x v) parts.2 }
 
 asked_held : (x : ClientState) (v : ℕ) → is_vote_sound x v ≡ true → is_inquired x v ≡ true → holds x v ≡ true
 asked_held x v e is = has_asked (holds x v) (is_idle x.phase) (is_member x v) (nat_lt (last_of x v) (held_of x v)) (is_inquired x v) (is_relinquished x v) (nat_lt 0 (last_of x v)) e is
 
 given_last : (x : ClientState) (v : ℕ) → is_vote_sound x v ≡ true → is_relinquished x v ≡ true → 1 ≤ last_of x v
-given_last x v e is = less_from 0 (last_of x v)
+given_last x v e is = ltb-true 0 (last_of x v)
     (has_given (holds x v) (is_idle x.phase) (is_member x v) (nat_lt (last_of x v) (held_of x v)) (is_inquired x v) (is_relinquished x v) (nat_lt 0 (last_of x v)) e is)
 
 pub IsSound-from : (x : ClientState) → x.id < 64 → HasPlaces x → IsSet (members x) → HasSets x → has_sound_numbers x ≡ true
@@ -247,33 +239,6 @@ IsSound-from x id places quorum sets numbers covered votes =
       inquired = λ v is. asked_held x v (votes v (has-IsSet_below x.inquired v sets.inquired is)) is;
       relinquished = λ v is. given_last x v (votes v (has-IsSet_below x.relinquished v sets.relinquished is)) is;
     }
-
--- ---- and back
-
-le_true : (a b : ℕ) → a ≤ b → nat_le a b ≡ true
-le_true a b h = grind (arith, nat_tests)
-
-lt_true : (a b : ℕ) → a < b → nat_lt a b ≡ true
-lt_true a b h = grind (arith, nat_tests)
-
-all_four : (a b c d e : Bool) → a ≡ true → b ≡ true → c ≡ true → d ≡ true → e ≡ true → (a && (b && (c && (d && e)))) ≡ true
-all_four a b c d e p q r s t = rw (p, q, r, s, t) refl
-
-busy_test : (idle : Bool) (s n : ℕ) → (idle ≡ false → 1 ≤ s) → (idle ≡ false → 1 ≤ n) → (idle || (nat_lt 0 s && nat_lt 0 n)) ≡ true
-busy_test true s n h k = refl
-busy_test false s n h k = let a = h refl in let b = k refl in grind (arith, nat_tests)
-
-pub numbers_test : (x : ClientState) → IsSound x → has_sound_numbers x ≡ true
-numbers_test x s = all_four _ _ _ _ _ (le_true 1 x.limit s.some) (le_true x.limit (2 ^ 40) s.limit) (le_true x.stamp x.limit s.stamp) (le_true x.stamp x.clock s.clock)
-    (busy_test (is_idle x.phase) x.stamp (length (members x)) s.stamped s.asked)
-
-vote_test : (h idle m f i r l : Bool) → (h ≡ true → (idle ≡ false) × (m ≡ true) × (f ≡ true)) → (i ≡ true → h ≡ true) → (r ≡ true → l ≡ true)
-    → ((not h || (not idle && (m && f))) && ((not i || h) && (not r || l))) ≡ true
-vote_test h idle m f i r l p q s = grind (arith, nat_tests)
-
-pub votes_test : (x : ClientState) → IsSound x → (v : ℕ) → is_vote_sound x v ≡ true
-votes_test x s v = vote_test (holds x v) (is_idle x.phase) (is_member x v) (nat_lt (last_of x v) (held_of x v)) (is_inquired x v) (is_relinquished x v) (nat_lt 0 (last_of x v))
-    (λ is. ((s.held v is).busy, (s.held v is).member, lt_true _ _ (s.held v is).fresh)) (s.inquired v) (λ is. lt_true _ _ (s.relinquished v is))
 
 -- ---- all numbers
 
@@ -340,7 +305,7 @@ covered_if false covered e t = absurd (false≢true t)
 -- ---- the least of a client
 
 nothing_held : (v : ℕ) → nat_lt 0 (slice_index (replicate 64 0) v) ≡ true → ⊥
-nothing_held v is = let none = get_or-zeros 64 v in grind (arith, nat_tests)
+nothing_held v is = let none = slice_index-replicate_zero 64 v in grind (arith, nat_tests)
 
 pub least_is_sound : (x : ClientState) → IsSound x → IsSound (least_client x)
 least_is_sound x sound = record {

@@ -2,13 +2,13 @@
 use Rattle.std.proofs.Common.{◌≡◌, ◌≢◌, ℕ, ◌<◌, ◌≤◌, ◌^◌, Bool, true, false, ◌&&◌, not, ltb, nat_lt, List, length, filter, set, refl, sym, ap, subst, ◌∙◌, inl, inr, arith, Result, Ok, Err}
 use Rattle.std.specs.Prelude.{◌==◌}
 use Rattle.std.specs.Result.{is_err, result_ok}
-use Rattle.std.proofs.lemmas.Bool.{cases_eq}
+use Rattle.std.proofs.lemmas.Bool.{cases_eq, and_parts, not-true}
 use Rattle.std.proofs.lemmas.Option.{same_Some}
 use Rattle.std.proofs.lemmas.Bool.Decides.{nat_tests}
 use Rattle.std.proofs.lemmas.List.{get_or-set_other, get_or-set_same, length-set}
 use Rattle.numbers.specs.Sets.{has, IsSet}
 use Rattle.numbers.proofs.SetLemmas.{has-IsSet_below}
-use Rattle.numbers.proofs.Lists.{AllByRecursion-weaker}
+use Rattle.numbers.proofs.Lists.{AllByRecursion-weaker, slice_index-replicate_zero}
 use Rattle.message.specs.declared.message.ToClient.{ToClient}
 use Rattle.message.specs.declared.message.ClientBody.{ClientBody}
 use Rattle.message.specs.declared.message.ClientBody.TheVariants as to_client
@@ -22,7 +22,7 @@ use Rattle.requester.specs.Soundness.{IsHeldWell, HasPlaces, IsSound}
 use Rattle.requester.specs.RequesterContract.{Accepts}
 use Rattle.requester.specs.Steps.{Outcome, cleared, begun, asked, ask, ask_in, ask_unless, is_fresh, hold, enter_if, locked, locked_by, fail, failed, failed_by, inquire, inquired}
 use Rattle.requester.specs.Steps.{inquired_by, see, take_body, take, released, leave, leave_in, give_up, give_up_in, Cause, Asks, Takes, Leaves, GivesUp, step, start}
-use Rattle.requester.proofs.Members.{absurd-true_false, both_true-from_and, false-from_not, list_all-member, has-with_voter, has-without_voter, get_or-zeros}
+use Rattle.requester.proofs.Members.{absurd-true_false, list_all-member, has-with_voter, has-without_voter}
 use Rattle.requester.proofs.Giving.{GivesBack, IsGiving, Kept, Given, GivesBack-relinquish, GivesBack-relinquish_each}
 
 -- Asking is neither idle nor inside.
@@ -101,19 +101,19 @@ pub record Counts (x : ClientState) (v g : ℕ) : Type 0 where
 
 pub Counts-is_fresh : (x : ClientState) (v g : ℕ) → IsSound x → is_fresh x v g ≡ true → Counts x v g
 Counts-is_fresh x v g s e =
-    let p = both_true-from_and (is_member x v && not (holds x v)) (nat_lt (last_of x v) g) e in
-    let q = both_true-from_and (is_member x v) (not (holds x v)) p.0 in
+    let p = and_parts (is_member x v && not (holds x v)) (nat_lt (last_of x v) g) e in
+    let q = and_parts (is_member x v) (not (holds x v)) p.0 in
     record {
       member = q.0;
-      free = false-from_not (holds x v) q.1;
+      free = not-true (holds x v) q.1;
       newer = grind (arith, nat_tests);
       place = has-IsSet_below (members x) v s.quorum q.0;
     }
 
 pub is_current-busy : (x : ClientState) (s : ℕ) → is_current x s ≡ true → (is_idle x.phase ≡ false) × (s ≡ x.stamp)
 is_current-busy x s e =
-    let p = both_true-from_and (not (is_idle x.phase)) (s == x.stamp) e in
-    (false-from_not (is_idle x.phase) p.0, grind (arith, nat_tests))
+    let p = and_parts (not (is_idle x.phase)) (s == x.stamp) e in
+    (not-true (is_idle x.phase) p.0, grind (arith, nat_tests))
 
 -- what is held besides
 pub record HoldsMore (x y : ClientState) (v g : ℕ) : Type 0 where
@@ -219,8 +219,8 @@ IsSound-failed_by true x v s asking = IsSound-GivesBack x (failed_by true x v) s
 pub is_asking-from_failed : (x : ClientState) (v t : ℕ) → (is_asking x.phase && t == x.stamp && is_member x v && not (holds x v)) ≡ true → is_asking x.phase ≡ true
 is_asking-from_failed x v t e = grind (arith, nat_tests)
 
-holds_under-holds : (x : ClientState) (v g : ℕ) → holds_under x v g ≡ true → holds x v ≡ true
-holds_under-holds x v g e = (both_true-from_and (holds x v) (held_of x v == g) e).0
+pub holds_under-holds : (x : ClientState) (v g : ℕ) → holds_under x v g ≡ true → holds x v ≡ true
+holds_under-holds x v g e = (and_parts (holds x v) (held_of x v == g) e).0
 
 -- the clock is raised, and votes are marked as asked for, all of which are held
 IsSound-raised : (x : ClientState) (now : ℕ) (marked : List ℕ) → IsSound x → x.clock ≤ now → ((v : ℕ) → has marked v ≡ true → holds x v ≡ true)
@@ -253,8 +253,8 @@ IsSound-inquire x v s h =
 
 IsSound-inquired_by : (b hindered : Bool) (x : ClientState) (v g : ℕ) → IsSound x → (is_asking x.phase && holds_under x v g) ≡ b → IsSound (inquired_by b hindered x v).state
 IsSound-inquired_by false hindered x v g s e = s
-IsSound-inquired_by true false x v g s e = IsSound-inquire x v s (holds_under-holds x v g (both_true-from_and (is_asking x.phase) (holds_under x v g) e).1)
-IsSound-inquired_by true true x v g s e = IsSound-GivesBack x (inquired_by true true x v) s (is_asking-outside x.phase (both_true-from_and (is_asking x.phase) (holds_under x v g) e).0)
+IsSound-inquired_by true false x v g s e = IsSound-inquire x v s (holds_under-holds x v g (and_parts (is_asking x.phase) (holds_under x v g) e).1)
+IsSound-inquired_by true true x v g s e = IsSound-GivesBack x (inquired_by true true x v) s (is_asking-outside x.phase (and_parts (is_asking x.phase) (holds_under x v g) e).0)
     (GivesBack-relinquish x v s.places)
 
 -- Any message
@@ -278,7 +278,7 @@ pub HasPlaces-cleared : (x : ClientState) → HasPlaces x → HasPlaces (cleared
 HasPlaces-cleared x p = record { held = refl; last = p.last }
 
 cleared-holds_nothing : {A : Type 0} (x : ClientState) (v : ℕ) → holds (cleared x) v ≡ true → A
-cleared-holds_nothing x v h = absurd-true_false (holds (cleared x) v) h (ap (ltb 0) (get_or-zeros 64 v))
+cleared-holds_nothing x v h = absurd-true_false (holds (cleared x) v) h (ap (ltb 0) (slice_index-replicate_zero 64 v))
 
 IsSound-asked : (x : ClientState) (q : List ℕ) → IsSound x → IsSet q → 1 ≤ length q → x.clock < x.limit → IsSound (begun x q)
 IsSound-asked x q s set some room =
@@ -389,7 +389,7 @@ IsSound-start id limit small some most =
       stamped = λ busy. absurd-true_false true refl busy;
       quorum = tt;
       asked = λ busy. absurd-true_false true refl busy;
-      held = λ v h. absurd-true_false (holds x v) h (ap (ltb 0) (get_or-zeros 64 v));
+      held = λ v h. absurd-true_false (holds x v) h (ap (ltb 0) (slice_index-replicate_zero 64 v));
       inside = λ inside. absurd-true_false false inside refl;
       inquired = λ v h. absurd-true_false false h refl;
       relinquished = λ v h. absurd-true_false false h refl;

@@ -1,6 +1,7 @@
 -- Which votes a step takes and gives back.
 use Rattle.std.proofs.Common.{◌≡◌, ℕ, Bool, true, false, ◌&&◌, List, set, refl, subst, ◌∙◌, inl, inr, arith, Ok}
 use Rattle.std.proofs.lemmas.Bool.Decides.{nat_tests}
+use Rattle.numbers.proofs.Lists.{slice_index-replicate_zero}
 use Rattle.message.specs.declared.message.ToClient.{ToClient}
 use Rattle.message.specs.declared.message.ClientBody.{ClientBody}
 use Rattle.message.specs.declared.message.ClientBody.TheVariants as to_client
@@ -9,7 +10,7 @@ use Rattle.requester.specs.Words.{is_idle, is_inside, is_member, members, held_o
 use Rattle.requester.specs.Soundness.{IsSound}
 use Rattle.requester.specs.Held.{HoldsBesides, HoldsNothing, IsKeptOrGiven}
 use Rattle.requester.specs.Steps.{Outcome, ask, hold, enter_if, locked, locked_by, failed, failed_by, inquired, inquired_by, see, take, take_body, would_hold, would_hold_body, leave, give_up}
-use Rattle.requester.proofs.Members.{absurd-true_false, list_all-member, get_or-zeros}
+use Rattle.requester.proofs.Members.{absurd-true_false, list_all-member}
 use Rattle.requester.proofs.Giving.{GivesBack, GivesBack-relinquish}
 use Rattle.requester.proofs.SoundSteps.{GivesBack-failed_by, IsSound-see, ask-Ok, leave-Ok, give_up-Ok}
 
@@ -87,10 +88,10 @@ pub holds-inside : (x : ClientState) (v : ℕ) → IsSound x → is_inside x.pha
 holds-inside x v s inside member = list_all-member (holds x) v (members x) (s.inside inside) member
 
 pub HoldsNothing-ask : (x : ClientState) (q : List ℕ) (o : Outcome) → ask x q ≡ Ok o → HoldsNothing o.state
-HoldsNothing-ask x q o e = subst (λ (p : Outcome). HoldsNothing p.state) (ask-Ok x q o e).2 (λ v. get_or-zeros 64 v)
+HoldsNothing-ask x q o e = subst (λ (p : Outcome). HoldsNothing p.state) (ask-Ok x q o e).2 (λ v. slice_index-replicate_zero 64 v)
 
 pub HoldsNothing-leave : (x : ClientState) (o : Outcome) → leave x ≡ Ok o → HoldsNothing o.state
-HoldsNothing-leave x o e = subst (λ (p : Outcome). HoldsNothing p.state) (leave-Ok x o e).1 (λ v. get_or-zeros 64 v)
+HoldsNothing-leave x o e = subst (λ (p : Outcome). HoldsNothing p.state) (leave-Ok x o e).1 (λ v. slice_index-replicate_zero 64 v)
 
 pub HoldsNothing-give_up : (x : ClientState) (o : Outcome) → give_up x ≡ Ok o → HoldsNothing o.state
-HoldsNothing-give_up x o e = subst (λ (p : Outcome). HoldsNothing p.state) (give_up-Ok x o e).1 (λ v. get_or-zeros 64 v)
+HoldsNothing-give_up x o e = subst (λ (p : Outcome). HoldsNothing p.state) (give_up-Ok x o e).1 (λ v. slice_index-replicate_zero 64 v)

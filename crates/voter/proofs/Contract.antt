@@ -4,6 +4,7 @@ use Rattle.std.specs.Prelude.{is_some, ◌&&◌, ◌==◌}
 use Rattle.std.specs.FinMap.{get, insert, remove}
 use Rattle.std.proofs.lemmas.Bool.Decides.{nat_tests}
 use Rattle.std.proofs.lemmas.Option.{none-some, same_Some}
+use Rattle.numbers.proofs.Lists.{AllByRecursion-append}
 use Rattle.message.specs.declared.request.Request.{Request}
 use Rattle.message.specs.declared.message.ToVoter.{ToVoter}
 use Rattle.message.specs.declared.message.ToClient.{ToClient}
@@ -229,10 +230,6 @@ heard-admitted : (v : VoterState) (c s : ℕ) → AllReport (admitted v c s).sta
 unfolding admitted
 heard-admitted v c s = heard-admitted_by v.held v c s
 
-all_append : (held : Option Grant) (xs ys : List ToClient) → AllReport held xs → AllReport held ys → AllReport held (xs ++ ys)
-all_append held [] ys h k = k
-all_append held (x ∷ xs) ys h k = (h.0, all_append held xs ys h.1 k)
-
 -- a reply that reports the vote before a step that ends no grant reports it afterwards
 still_one : (v w : VoterState) → VoteMoves false v w → (client : ℕ) (body : ClientBody) → ReportsVote v.held client body → ReportsVote w.held client body
 still_one v w (inl k) client (to_client.Locked stamp grant) t = k.held ∙ t
@@ -269,7 +266,7 @@ heard-compared_by false true v c s t e present = let same : t ≡ s = grind (ari
 heard-compared_by false false v c s t e present =
     let w = (released v c t).state in
     let a = admitted w c s in
-    all_append a.state.held (released v c t).replies a.replies (still_all w a.state (VoteMoves-admitted w c s) (released v c t).replies (heard-released v c t)) (heard-admitted w c s)
+    AllByRecursion-append _ (released v c t).replies a.replies (still_all w a.state (VoteMoves-admitted w c s) (released v c t).replies (heard-released v c t)) (heard-admitted w c s)
 
 heard-beside : (v : VoterState) (c s : ℕ) (o : Option ℕ) → standing v c ≡ o → AllReport (requested_beside v c s o).state.held (requested_beside v c s o).replies
 unfolding requested_beside

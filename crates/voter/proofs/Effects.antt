@@ -9,8 +9,8 @@ use Rattle.voter.specs.declared.state.Grant.{Grant}
 use Rattle.voter.specs.declared.state.Effect.{Effect}
 use Rattle.voter.specs.declared.state.VoterState.{VoterState}
 use Rattle.voter.specs.VoteMoves.{VoteMoves}
-use Rattle.voter.specs.Steps.{Outcome, IsSound, step, unless_spent, outcome_of, is_refused, ends_grant, effect_of, effect_by, is_ended, held_stamp, is_older, is_up_to, is_grant}
-use Rattle.voter.proofs.Grants.{granted-outcome_of}
+use Rattle.voter.specs.Steps.{Outcome, IsSound, step, unless_spent, outcome_of, is_refused, ends_grant, effect_of, effect_by, is_ended, held_stamp, is_older, is_up_to}
+use Rattle.voter.proofs.Grants.{granted-outcome_of, some_grant}
 use Rattle.voter.proofs.Moves.{VoteMoves-outcome_of}
 use Rattle.voter.proofs.Soundness.{IsSound-outcome_of}
 use Rattle.std.proofs.lemmas.Option.{none-some, same_Some}
@@ -56,10 +56,6 @@ some_older (Some g) c s b e = refl
 some_up_to : (o : Option Grant) (c s : ℕ) → is_up_to (held_stamp o c) s ≡ true → is_some o ≡ true
 some_up_to None c s e = e
 some_up_to (Some g) c s e = refl
-
-some_grant : (o : Option Grant) (c n : ℕ) → is_grant o c n ≡ true → is_some o ≡ true
-some_grant None c n e = e
-some_grant (Some g) c n e = refl
 
 pub held-from_ends_grant : (v : VoterState) (c : ℕ) (b : VoterBody) → ends_grant v c b ≡ true → is_some v.held ≡ true
 unfolding ends_grant

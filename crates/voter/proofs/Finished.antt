@@ -1,8 +1,9 @@
 -- how finished stamps change
-use Rattle.std.proofs.Common.{◌≡◌, ◌≢◌, ℕ, ◌<◌, ◌≤◌, Bool, true, false, List, Option, Some, None, refl, sym, ap, subst, ◌∙◌, ◌⊎◌, inl, inr, arith, eqb, ltb, length}
+use Rattle.std.proofs.Common.{◌≡◌, ℕ, ◌<◌, Bool, true, false, List, Option, Some, None, refl, sym, ap, subst, ◌∙◌, ◌⊎◌, inl, inr, arith, length}
 use Rattle.std.specs.Prelude.{slice_index, slice_set, max, nat_lt, ◌==◌}
 use Rattle.std.proofs.lemmas.Bool.Decides.{nat_tests}
 use Rattle.std.proofs.lemmas.List.{get_or-set_same, get_or-set_other, set_past}
+use Rattle.std.proofs.lemmas.Bool.{cases_lt, cases_eq}
 use Rattle.message.specs.declared.request.Request.{Request}
 use Rattle.message.specs.declared.message.ToVoter.{ToVoter}
 use Rattle.message.specs.declared.message.VoterBody.{VoterBody}
@@ -50,27 +51,15 @@ finished-released : (v : VoterState) (c s : ℕ) → (released v c s).state.fini
 unfolding released
 finished-released v c s = finished-released_by _ _ v c s
 
-below_or : (a b : ℕ) → (a < b) ⊎ (b ≤ a)
-below_or a b = elim (ltb a b) as (λ t. ltb a b ≡ t → (a < b) ⊎ (b ≤ a)) [
-  | true ↦ λ t. inl (grind (arith, nat_tests))
-  | false ↦ λ t. inr (grind (arith, nat_tests))
-] refl
-
 max_cases : (a b : ℕ) → (max a b ≡ a) ⊎ (max a b ≡ b)
-max_cases a b = elim (below_or a b) [ inl less ↦ inr (grind (arith, nat_tests)) | inr least ↦ inl (grind (arith, nat_tests)) ]
-
-pub same_or_other : (a b : ℕ) → (a ≡ b) ⊎ (a ≢ b)
-same_or_other a b = elim (eqb a b) as (λ t. eqb a b ≡ t → (a ≡ b) ⊎ (a ≢ b)) [
-  | true ↦ λ t. inl (grind (arith, nat_tests))
-  | false ↦ λ t. inr (grind (arith, nat_tests))
-] refl
+max_cases a b = elim (cases_lt a b) [ inl less ↦ inr (grind (arith, nat_tests)) | inr least ↦ inl (grind (arith, nat_tests)) ]
 
 finish_cases : (xs : List ℕ) (c s d : ℕ) → (slice_index (slice_set xs c (max (slice_index xs c) s)) d ≡ slice_index xs d) ⊎ ((d ≡ c) × (slice_index (slice_set xs c (max (slice_index xs c) s)) d ≡ s))
 finish_cases xs c s d =
     let top = max (slice_index xs c) s in
-    elim (same_or_other d c) [
+    elim (cases_eq d c) [
       | inr other ↦ inl (get_or-set_other xs c d top 0 other)
-      | inl same ↦ elim (below_or c (length xs)) [
+      | inl same ↦ elim (cases_lt c (length xs)) [
         | inr past ↦ inl (ap (λ (l : List ℕ). slice_index l d) (set_past xs c top past))
         | inl within ↦
             let here : slice_index (slice_set xs c top) d ≡ top = ap (λ n. slice_index (slice_set xs c top) n) same ∙ get_or-set_same xs c top 0 within in

@@ -2,7 +2,7 @@
 use Rattle.std.proofs.Common.{◌≡◌, ◌≢◌, ℕ, ◌+◌, ◌≤◌, Bool, true, false, Option, Some, None, refl, sym, ap, subst, ◌∙◌, inl, inr, arith}
 use Rattle.std.specs.FinMap.{get, insert}
 use Rattle.std.proofs.lemmas.Bool.Decides.{nat_tests}
-use Rattle.std.proofs.lemmas.Bool.{false≢true}
+use Rattle.std.proofs.lemmas.Bool.{false≢true, cases_eq}
 use Rattle.std.proofs.lemmas.Option.{none-some, same_Some}
 use Rattle.message.specs.declared.request.Request.{Request}
 use Rattle.message.specs.declared.message.VoterBody.TheVariants as asks
@@ -16,7 +16,6 @@ use Rattle.voter.proofs.Front.{front-found}
 use Rattle.voter.proofs.Soundness.{IsOrderly, IsOrderly-see}
 use Rattle.voter.proofs.AskedBack.{front-first, still_removed}
 use Rattle.voter.proofs.Standing.{entry-grant_front, kept_inserted, here_inserted}
-use Rattle.voter.proofs.Finished.{same_or_other}
 
 -- no request that waits precedes the one that holds the vote
 abbrev pub HolderFirst : VoterState → Type 0
@@ -77,7 +76,7 @@ entry-put_back v g is ok d t entry = entry-grant_front (queue (freed v) g.client
       let client : g.client ≡ d = ap (λ (k : Grant). k.client) same ∙ held.2 in
       let stamp : g.stamp ≡ t = ap (λ (k : Grant). k.stamp) same ∙ held.3 in
       ap (get (insert v.waiting g.client g.stamp)) (sym client) ∙ here_inserted v.waiting g.client g.stamp ∙ ap (λ n. Some n) stamp
-  | inr waits ↦ elim (same_or_other d g.client) [
+  | inr waits ↦ elim (cases_eq d g.client) [
     | inl same ↦ absurd (none-some t (sym (ok.apart g is) ∙ ap (get v.waiting) (sym same) ∙ waits))
     | inr other ↦ kept_inserted v.waiting g.client g.stamp d t other waits
   ]

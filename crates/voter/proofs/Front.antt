@@ -70,7 +70,7 @@ IsLeastOf es (Some r) = IsLeast es r
 found_after : (c s : ℕ) (e : ℕ × ℕ) (es : List (ℕ × ℕ)) → find nat_cmp e.0 es ≡ None → find nat_cmp c es ≡ Some s → find nat_cmp c (e ∷ es) ≡ Some s
 found_after c s e es none is = let head = find-head c e es in grind (arith, nat_tests)
 
-cond_eqb-Some : (c k s t : ℕ) (o : Option ℕ) → cond (eqb c k) (Some t) o ≡ Some s → ((c ≡ k) × (s ≡ t)) ⊎ (o ≡ Some s)
+pub cond_eqb-Some : (c k s t : ℕ) (o : Option ℕ) → cond (eqb c k) (Some t) o ≡ Some s → ((c ≡ k) × (s ≡ t)) ⊎ (o ≡ Some s)
 cond_eqb-Some c k s t o is = grind (arith, nat_tests)
 
 found_cases : (c s : ℕ) (e : ℕ × ℕ) (es : List (ℕ × ℕ)) → find nat_cmp c (e ∷ es) ≡ Some s → ((c ≡ e.0) × (s ≡ e.1)) ⊎ (find nat_cmp c es ≡ Some s)

@@ -114,12 +114,12 @@ granted-put_back : (o : Option Grant) (v : VoterState) → (put_back o v).state.
 granted-put_back None v = refl
 granted-put_back (Some g) v = granted-grant_front (queue (freed v) g.client g.stamp) ∙ ap (λ b. more b v.granted) (front-insert v.waiting g.client g.stamp)
 
-some_granted : (o : Option Grant) (c n : ℕ) → is_grant o c n ≡ true → is_some o ≡ true
-some_granted None c n e = e
-some_granted (Some g) c n e = refl
+pub some_grant : (o : Option Grant) (c n : ℕ) → is_grant o c n ≡ true → is_some o ≡ true
+some_grant None c n e = e
+some_grant (Some g) c n e = refl
 
 granted-relinquished_by : (b : Bool) (v : VoterState) (c n : ℕ) → is_grant v.held c n ≡ b → (relinquished_by b v).state.granted ≡ more b v.granted
-granted-relinquished_by true v c n e = granted-put_back v.held v ∙ ap (λ b. more b v.granted) (some_granted v.held c n e)
+granted-relinquished_by true v c n e = granted-put_back v.held v ∙ ap (λ b. more b v.granted) (some_grant v.held c n e)
 granted-relinquished_by false v c n e = refl
 
 pub granted-outcome_of : (v : VoterState) (c : ℕ) (b : VoterBody) → (outcome_of v c b).state.granted ≡ more (needs_grant v c b) v.granted

@@ -1,5 +1,5 @@
 -- requests kept in order, as a map
-use Rattle.std.proofs.Common.{◌≡◌, ◌≢◌, ℕ, ◌+◌, suc, ◌<◌, Bool, true, false, cond, List, [], ◌∷◌, length, map, Option, Some, None, refl, sym, ap, ◌⊎◌, inl, inr, ◌∙◌, arith, eqb}
+use Rattle.std.proofs.Common.{◌≡◌, ◌≢◌, ℕ, ◌+◌, suc, ◌<◌, Bool, true, false, cond, List, [], ◌∷◌, length, map, Option, Some, None, refl, sym, ap, inl, inr, ◌∙◌, arith, eqb}
 use Rattle.std.specs.Ordering.{nat_cmp, eq_by_cmp}
 use Rattle.std.specs.Prelude.{not, ◌||◌, slice_get, is_some}
 use Rattle.std.specs.List.{AllByRecursion, insert, position_or_len, IsDistinct, list_any}
@@ -15,7 +15,7 @@ use Rattle.std.proofs.lemmas.Bool.Decides.{nat_tests}
 use Rattle.std.proofs.lemmas.Option.{none-some}
 use Rattle.message.specs.declared.request.Request.{Request}
 use Rattle.voter.specs.Waiting.{Waiting, precedes, front, entry, waiting_of, Follows, IsQueue, without}
-use Rattle.voter.proofs.Front.{eq_by_cmp-nat, find-head, front-is, front-none, front-some, precedes-once, precedes-not_self, precedes-trans}
+use Rattle.voter.proofs.Front.{eq_by_cmp-nat, find-head, front-is, front-none, front-some, precedes-once, precedes-not_self, precedes-trans, cond_eqb-Some}
 
 -- the stamp of the first request of a client
 abbrev pub stamp_in : ℕ → List Request → Option ℕ
@@ -34,9 +34,6 @@ pub Waiting-same : (w u : Waiting) → ((c : ℕ) → get w c ≡ get u c) → w
 Waiting-same w u h = same_map nat_cmp_total nat_cmp-IsAntisymmetric w u h
 
 -- ---- the front
-
-cond_eqb-Some : (c k s t : ℕ) (o : Option ℕ) → cond (eqb c k) (Some t) o ≡ Some s → ((c ≡ k) × (s ≡ t)) ⊎ (o ≡ Some s)
-cond_eqb-Some c k s t o is = grind (arith, nat_tests)
 
 later_ones : (r : Request) (c s : ℕ) (rs : List Request) → AllByRecursion (Follows r) rs → stamp_in c rs ≡ Some s → precedes (record { stamp = s; client = c }) r ≡ false
 later_ones r c s [] h is = absurd (none-some s is)

@@ -6,6 +6,7 @@ use Rattle.std.proofs.lemmas.Bool.Decides.{nat_tests}
 use Rattle.std.proofs.lemmas.Bool.{false≢true}
 use Rattle.std.proofs.lemmas.List.{length-append}
 use Rattle.std.proofs.lemmas.Option.{none-some, same_Some}
+use Rattle.numbers.proofs.Lists.{AllByRecursion-append}
 use Rattle.message.specs.declared.request.Request.{Request}
 use Rattle.message.specs.declared.message.ToVoter.{ToVoter}
 use Rattle.message.specs.declared.message.ToClient.{ToClient}
@@ -24,6 +25,7 @@ use Rattle.voter.proofs.Front.{front-found}
 use Rattle.voter.proofs.Grants.{granted-compared_by, granted-admitted, KeepsBut-outcome_of, Keeps-released, up_to_own, more}
 use Rattle.voter.proofs.Soundness.{IsOrderly, get-inserted, get-removed_none, get-removed_self, held_stamp-holder, IsOrderly-see}
 use Rattle.voter.proofs.Effects.{step-Some}
+use Rattle.voter.proofs.Standing.{here_inserted}
 
 -- FAIL goes to a client that waits, INQUIRE to the holder.
 
@@ -44,9 +46,6 @@ place-released_by w false false v c s = tt
 place-released : (w v : VoterState) (c s : ℕ) → AllReportPlace w (released v c s).replies
 unfolding released
 place-released w v c s = place-released_by w _ _ v c s
-
-inserted_self : (w : Waiting) (c s : ℕ) → get (insert w c s) c ≡ Some s
-inserted_self w c s = get-inserted w c s c ∙ grind (arith, nat_tests)
 
 -- who waited still does, when another comes
 still_waits : (w : Waiting) (c s d t : ℕ) → get w c ≡ None → get w d ≡ Some t → get (insert w c s) d ≡ Some t
@@ -72,8 +71,8 @@ front_waits v c s none q is = still_waits v.waiting c s q.client q.stamp none (f
 
 place-queued_by : (waits granted : Bool) (v : VoterState) (g : Grant) (c s : ℕ) → v.held ≡ Some g → get v.waiting c ≡ None
     → AllReportPlace (queued_by waits granted v g c s).state (queued_by waits granted v g c s).replies
-place-queued_by true granted v g c s is none = (inserted_self v.waiting c s, tt)
-place-queued_by false true v g c s is none = (inserted_self v.waiting c s, place_former v (queue v c s) (front v.waiting) (front_waits v c s none))
+place-queued_by true granted v g c s is none = (here_inserted v.waiting c s, tt)
+place-queued_by false true v g c s is none = (here_inserted v.waiting c s, place_former v (queue v c s) (front v.waiting) (front_waits v c s none))
 place-queued_by false false v g c s is none = place_inquiry v.inquiring v (record (queue v c s) { inquiring = true }) g (front v.waiting) is (front_waits v c s none)
 
 place-admitted_by : (o : Option Grant) (v : VoterState) (c s : ℕ) → v.held ≡ o → get v.waiting c ≡ None → AllReportPlace (admitted_by o v c s).state (admitted_by o v c s).replies
@@ -100,10 +99,6 @@ place_again_by false v g c s e is present = (waits_beside v.held (get v.waiting 
 place_again : (o : Option Grant) (v : VoterState) (c s : ℕ) → v.held ≡ o → standing v c ≡ Some s → AllReportPlace v (again v o c s)
 place_again None v c s is present = (waits_free v.held (get v.waiting c) c s is present, tt)
 place_again (Some g) v c s is present = place_again_by _ v g c s refl is present
-
-all_append : (w : VoterState) (xs ys : List ToClient) → AllReportPlace w xs → AllReportPlace w ys → AllReportPlace w (xs ++ ys)
-all_append w [] ys h k = k
-all_append w (x ∷ xs) ys h k = (h.0, all_append w xs ys h.1 k)
 
 -- after its release a client does not wait
 
@@ -138,7 +133,7 @@ place-compared_by false true v c s t e present h = let same : t ≡ s = grind (a
 place-compared_by false false v c s t e present h =
     let w = (released v c t).state in
     let a = admitted w c s in
-    all_append a.state (released v c t).replies a.replies (place-released a.state v c t) (place-admitted w c s (gone-released v c t present h))
+    AllByRecursion-append _ (released v c t).replies a.replies (place-released a.state v c t) (place-admitted w c s (gone-released v c t present h))
 
 none_waits : (o w : Option ℕ) → first_some o w ≡ None → w ≡ None
 none_waits None w e = e
@@ -338,10 +333,6 @@ carry_again : (o : Option Grant) (v : VoterState) (c s : ℕ) → AllCarry v.id 
 carry_again None v c s = ((refl, refl), tt)
 carry_again (Some g) v c s = carry_again_by _ v g c s
 
-carry_append : (id seen : ℕ) (xs ys : List ToClient) → AllCarry id seen xs → AllCarry id seen ys → AllCarry id seen (xs ++ ys)
-carry_append id seen [] ys h k = k
-carry_append id seen (x ∷ xs) ys h k = (h.0, carry_append id seen xs ys h.1 k)
-
 carry-compared_by : (less same : Bool) (v : VoterState) (c s t : ℕ) → AllCarry v.id v.seen (compared_by less same v c s t).replies
 carry-compared_by true same v c s t = tt
 carry-compared_by false true v c s t = carry_again v.held v c s
@@ -349,7 +340,7 @@ carry-compared_by false false v c s t =
     let w = (released v c t).state in
     let k = Keeps-released v c t in
     let a = (admitted w c s).replies in
-    carry_append v.id v.seen (released v c t).replies a (carry-released v c t) (subst (λ i. AllCarry i v.seen a) k.id (subst (λ n. AllCarry w.id n a) k.seen (carry-admitted w c s)))
+    AllByRecursion-append _ (released v c t).replies a (carry-released v c t) (subst (λ i. AllCarry i v.seen a) k.id (subst (λ n. AllCarry w.id n a) k.seen (carry-admitted w c s)))
 
 carry-beside : (v : VoterState) (c s : ℕ) (o : Option ℕ) → AllCarry v.id v.seen (requested_beside v c s o).replies
 unfolding requested_beside

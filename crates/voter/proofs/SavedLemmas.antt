@@ -15,7 +15,6 @@ use Rattle.std.proofs.Common.{
   ◌∷◌,
   ◌++◌,
   length,
-  map,
   take,
   drop,
   Option,
@@ -33,15 +32,16 @@ use Rattle.std.proofs.Common.{
   length-append,
 }
 use Rattle.std.specs.Prelude.{replicate, slice_index, slice_index_or, slice_set, unwrap_or, zero, suc, not, is_some, IsTrue, IfSome}
-use Rattle.std.specs.List.{AllByRecursion, range_with_len}
+use Rattle.std.specs.List.{AllByRecursion}
 use Rattle.std.specs.Ordering.{nat_cmp}
 use Rattle.std.specs.FinMap.{get, insert, empty, get-empty}
 use Rattle.std.proofs.lemmas.Bool.Decides.{nat_tests}
-use Rattle.std.proofs.lemmas.List.{get_or_past, append_assoc, take_at, drop_at, drop_more, at_drop_all, get_or-set_other, length-set, length-replicate}
+use Rattle.std.proofs.lemmas.List.{get_or_past, take_at, drop_at, drop_more, at_drop_all, get_or-set_other, length-set, length-replicate}
 use Rattle.std.proofs.lemmas.Grind.{get_or-set_at}
-use Rattle.std.proofs.lemmas.List.FromFn.{fill_by_all, map-range_with_len_more, get_or-map-range_with_len, length-map-range_with_len}
+use Rattle.std.proofs.lemmas.List.FromFn.{fill_by_all, get_or-map-range_with_len, length-map-range_with_len}
 use Rattle.std.proofs.lemmas.Bool.{false≢true}
 use Rattle.std.proofs.lemmas.Option.{none-some, same_Some}
+use Rattle.numbers.proofs.Lists.{slice_index-replicate_zero}
 use Rattle.message.specs.declared.request.Request.{Request}
 use Rattle.voter.specs.declared.state.Grant.{Grant}
 use Rattle.voter.specs.declared.state.VoterState.{VoterState}
@@ -92,12 +92,6 @@ Fills-none w words n s h is none = Fills-skip w (λ c. stamp_of_word (slice_inde
 pub Fills-start : (f : ℕ → Option ℕ) → Fills empty f 0
 Fills-start f c = get-empty nat_cmp c ∙ (let t : ltb c 0 ≡ false = grind (arith, nat_tests) in rw t refl)
 
-pub Fills-end : (w : Waiting) (words : List ℕ) → length words ≡ 64 → Fills w (λ c. stamp_of_word (slice_index words c)) 64 → (c : ℕ) → get w c ≡ stamp_of_word (slice_index words c)
-Fills-end w words len h c = h c ∙ elim (ltb c 64) as (λ b. ltb c 64 ≡ b → cond b (stamp_of_word (slice_index words c)) None ≡ stamp_of_word (slice_index words c)) [
-  | true ↦ λ _. refl
-  | false ↦ λ e. let past : length words ≤ c = grind (arith, nat_tests) in sym (ap stamp_of_word (get_or_past words c 0 past))
-] refl
-
 pub Fills-step : (w u : Waiting) (words : List ℕ) (n s : ℕ) → Fills w (λ c. stamp_of_word (slice_index words c)) n → s ≡ slice_index words n
     → (0 < s → u ≡ insert w n s) → (s ≡ 0 → u ≡ w) → Fills u (λ c. stamp_of_word (slice_index words c)) (n + 1)
 Fills-step w u words n zero h is some none = subst (λ (v : Waiting). Fills v (λ c. stamp_of_word (slice_index words c)) (n + 1)) (sym (none refl)) (Fills-none w words n zero h is refl)
@@ -112,13 +106,6 @@ pub nobody_waits : (w : Waiting) (o p : Option Request) (b : Bool) → o ≡ fro
 nobody_waits w o p b is same e t c = get-no_front w (sym is ∙ sym same ∙ none_of p b e t) c
 
 -- ---- the numbers from the queue
-
-pub waiting_words-more : (w : Waiting) (before items after : List ℕ) (n word : ℕ) → items ≡ before ++ map (λ c. unwrap_or (get w c) 0) (range_with_len 0 n) → word ≡ unwrap_or
-    (get w n) 0 → after ≡ items ++ word ∷ []
-    → after ≡ before ++ map (λ c. unwrap_or (get w c) 0) (range_with_len 0 (n + 1))
-waiting_words-more w before items after n word h is e =
-    let f : ℕ → ℕ = λ c. unwrap_or (get w c) 0 in
-    e ∙ (λ i. h i ++ is i ∷ []) ∙ append_assoc before (map f (range_with_len 0 n)) (f n ∷ []) ∙ ap (λ l. before ++ l) (sym (map-range_with_len_more f 0 n n (omega arith)))
 
 word_of_stamp : (n : ℕ) → n ≡ unwrap_or (stamp_of_word n) 0
 word_of_stamp zero = refl
@@ -244,16 +231,11 @@ pub record Stamps (rs : List Request) (i : ℕ) (stamps : List ℕ) : Type 0 whe
   pub places : length stamps ≡ 64
   pub each : (c : ℕ) → unwrap_or (stamp_in c (drop i rs)) (slice_index stamps c) ≡ unwrap_or (stamp_in c rs) 0
 
-no_stamp : (n c : ℕ) → slice_index (replicate n 0) c ≡ 0
-no_stamp zero c = refl
-no_stamp (suc n) zero = refl
-no_stamp (suc n) (suc c) = no_stamp n c
-
 pub Stamps-start : (rs : List Request) → IsQueue rs → Stamps rs 0 (replicate 64 0)
 Stamps-start rs h = record {
   queue = h;
   places = length-replicate {A = ℕ} 64 0;
-  each = λ c. ap (λ n. unwrap_or (stamp_in c rs) n) (no_stamp 64 c);
+  each = λ c. ap (λ n. unwrap_or (stamp_in c rs) n) (slice_index-replicate_zero 64 c);
 }
 
 pub Stamps-more : (rs : List Request) (i place : ℕ) (d : Request) (stamps : List ℕ) → Stamps rs i stamps → i < length rs → place ≡ (slice_index_or rs i d).client

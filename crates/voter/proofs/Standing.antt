@@ -3,7 +3,7 @@ use Rattle.std.proofs.Common.{◌≡◌, ◌≢◌, ℕ, ◌+◌, ◌<◌, ◌�
 use Rattle.std.specs.Prelude.{slice_index, nat_lt, ◌==◌}
 use Rattle.std.specs.FinMap.{get, insert, remove}
 use Rattle.std.proofs.lemmas.Bool.Decides.{nat_tests}
-use Rattle.std.proofs.lemmas.Bool.{false≢true}
+use Rattle.std.proofs.lemmas.Bool.{false≢true, cases_eq}
 use Rattle.std.proofs.lemmas.Option.{none-some, same_Some}
 use Rattle.message.specs.declared.request.Request.{Request}
 use Rattle.message.specs.declared.message.VoterBody.TheVariants as asks
@@ -16,7 +16,6 @@ use Rattle.voter.specs.Steps.{first_some, requested, requested_by, requested_bes
 use Rattle.voter.specs.Entries.{KnowsUpTo}
 use Rattle.voter.proofs.Front.{front-found}
 use Rattle.voter.proofs.Soundness.{IsOrderly, IsOrderly-see, get-removed, get-inserted, orderly-released}
-use Rattle.voter.proofs.Finished.{same_or_other}
 
 -- the requests of the other clients still have the vote or wait
 abbrev pub OthersStay : VoterState → ℕ → VoterState → Type 0
@@ -33,7 +32,7 @@ kept_removed w c d t other is = get-removed w c d ∙ grind (arith, nat_tests)
 -- granting keeps every entry, where the vote is free
 entry-grant_to : (v : VoterState) (o : Option Request) → front v.waiting ≡ o → v.held ≡ None → (d t : ℕ) → get v.waiting d ≡ Some t → IsEntry (grant_to v o).state d t
 entry-grant_to v None is free d t waits = inr waits
-entry-grant_to v (Some r) is free d t waits = elim (same_or_other d r.client) [
+entry-grant_to v (Some r) is free d t waits = elim (cases_eq d r.client) [
   | inl same ↦
       let stamp : r.stamp ≡ t = same_Some r.stamp t (sym (front-found v.waiting r is) ∙ ap (get v.waiting) (sym same) ∙ waits) in
       inl (record { client = r.client; stamp = r.stamp; grant = v.granted + 1 }, refl, sym same, stamp)
@@ -94,7 +93,7 @@ present-admitted v c s ok = present-admitted_by v.held v c s refl ok
 
 pub entry_by : (v : VoterState) (c t : ℕ) (o : Option Grant) → v.held ≡ o → first_some (held_stamp o c) (get v.waiting c) ≡ Some t → IsEntry v c t
 entry_by v c t None is e = inr e
-entry_by v c t (Some g) is e = elim (same_or_other g.client c) [
+entry_by v c t (Some g) is e = elim (cases_eq g.client c) [
   | inl same ↦ inl (g, is, same, grind (arith, nat_tests))
   | inr other ↦ inr (grind (arith, nat_tests))
 ]

@@ -1,9 +1,10 @@
 -- which requests stay, and which of them gets the vote
-use Rattle.std.proofs.Common.{◌≡◌, ◌∷◌, ℕ, ◌<◌, ◌≤◌, Bool, true, false, Option, Some, None, refl, sym, ap, subst, ◌∙◌, ◌⊎◌, inl, inr, arith, ltb}
+use Rattle.std.proofs.Common.{◌≡◌, ◌∷◌, ℕ, ◌<◌, ◌≤◌, Bool, true, false, Option, Some, None, refl, sym, ap, subst, ◌∙◌, ◌⊎◌, inl, inr, arith}
 use Rattle.std.specs.Prelude.{slice_index, nat_lt, ◌==◌}
 use Rattle.std.specs.FinMap.{get, insert}
 use Rattle.std.proofs.lemmas.Bool.Decides.{nat_tests}
 use Rattle.std.proofs.lemmas.Option.{none-some, same_Some}
+use Rattle.std.proofs.lemmas.Bool.{cases_lt, cases_eq}
 use Rattle.message.specs.declared.request.Request.{Request}
 use Rattle.message.specs.declared.message.ToVoter.{ToVoter}
 use Rattle.message.specs.declared.message.ClientBody.TheVariants as to_client
@@ -21,19 +22,12 @@ use Rattle.voter.proofs.AskedBack.{inserted_cases}
 use Rattle.voter.specs.VoteMoves.{GrantIsNew, VoteMoves}
 use Rattle.voter.proofs.Effects.{IsSound-step, step-Some, step-taken}
 use Rattle.voter.proofs.Moves.{VoteMoves-outcome_of}
-use Rattle.voter.proofs.Finished.{same_or_other}
 use Rattle.voter.proofs.Freeing.{HolderFirst-grant_front, own_grant, requeues-relinquish, requeues_by, frees-release}
 use Rattle.voter.proofs.Soundness.{IsOrderly, IsOrderly-see, orderly-released}
 use Rattle.voter.proofs.Standing.{OthersStay, OthersStay-released, entry-grant_front, kept_removed, present-admitted, present-requested}
 
 orderly : (v : VoterState) → IsSound v → IsOrderly v
 orderly v ok = record { numbered = ok.numbered; apart = ok.apart; free = ok.free }
-
-below_or : (a b : ℕ) → (a < b) ⊎ (b ≤ a)
-below_or a b = elim (ltb a b) as (λ t. ltb a b ≡ t → (a < b) ⊎ (b ≤ a)) [
-  | true ↦ λ t. inl (grind (arith, nat_tests))
-  | false ↦ λ t. inr (grind (arith, nat_tests))
-] refl
 
 -- ---- a RELEASE
 
@@ -57,7 +51,7 @@ stay-released_by true waits v c t holds waiting d s entry = elim entry [
 ]
 stay-released_by false true v c t holds waiting d s entry = elim entry [
   | inl held ↦ inl (inl held)
-  | inr waits ↦ elim (same_or_other d c) [
+  | inr waits ↦ elim (cases_eq d c) [
     | inl same ↦ inr (same, waits_up_to (get v.waiting c) s t (ap (get v.waiting) (sym same) ∙ waits) waiting)
     | inr other ↦ inl (inr (kept_removed v.waiting c d s other waits))
   ]
@@ -97,7 +91,7 @@ standing_by v c u (Some g) is ok entry = elim entry [
       let client : g.client ≡ c = ap (λ (k : Grant). k.client) same ∙ held.2 in
       let stamp : g.stamp ≡ u = ap (λ (k : Grant). k.stamp) same ∙ held.3 in
       grind (arith, nat_tests)
-  | inr waits ↦ elim (same_or_other g.client c) [
+  | inr waits ↦ elim (cases_eq g.client c) [
     | inl same ↦ absurd (none-some u (sym (ok.apart g is) ∙ ap (get v.waiting) same ∙ waits))
     | inr other ↦ grind (arith, nat_tests)
   ]
@@ -122,8 +116,8 @@ own-requested_by true v c s u ok most entry = entry
 own-requested_by false v c s u ok most entry = own-beside v c s u (standing v c) (standing-entry v c u ok entry) most entry
 
 stay-requested : (done : Bool) (v : VoterState) (c s d u : ℕ) → IsOrderly v → IsEntry v d u → IsEntry (requested_by done v c s).state d u ⊎ ((d ≡ c) × (u < s))
-stay-requested done v c s d u ok entry = elim (same_or_other d c) [
-  | inl same ↦ elim (below_or u s) [
+stay-requested done v c s d u ok entry = elim (cases_eq d c) [
+  | inl same ↦ elim (cases_lt u s) [
     | inl less ↦ inr (same, less)
     | inr most ↦ inl (subst (λ n. IsEntry (requested_by done v c s).state n u) (sym same) (own-requested_by done v c s u ok most (subst (λ n. IsEntry v n u) same entry)))
   ]

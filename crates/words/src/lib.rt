@@ -48,7 +48,6 @@ pub fn read_words<const N: usize>(bytes: &[u8], words: &mut ArrayVec<u64, N>)
     // The bytes of these numbers are read as these numbers.
     ensures read { (numbers : List ℕ) → FitIn64Bits numbers → bytes.now ≡ bytes_of numbers → words.new.items ≡ numbers }
 {
-    bytes_have_one_reading();
     words.clear();
     for i in 0..N {
         words.push(word_at(bytes, i));

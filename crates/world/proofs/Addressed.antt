@@ -1,12 +1,12 @@
 -- whom a message of a world names
 use Rattle.std.proofs.Common.{◌≡◌, ℕ, ◌<◌, length, Some, arith}
 use Rattle.std.specs.Prelude.{slice_get}
+use Rattle.numbers.proofs.Lists.{AllByRecursion-get}
 use Rattle.message.specs.declared.message.ToVoter.{ToVoter}
 use Rattle.message.specs.declared.message.ToClient.{ToClient}
 use Rattle.message.specs.declared.message.Message.TheVariants as kinds
 use Rattle.world.specs.Ranges.{IsAddressed, IsNumbered}
 use Rattle.world.specs.Steps.{WorldState, client_at, voter_at}
-use Rattle.world.proofs.Claims.{AllByRecursion-get}
 
 pub record ForVoter (w : WorldState) (m : ToVoter) : Type 0 where
   pub voter : m.voter < length w.voters

@@ -1,10 +1,9 @@
 -- what is so of every message that was ever sent, of every vote that is held, and of every client and voter
-use Rattle.std.proofs.Common.{◌≡◌, ℕ, ◌<◌, ◌≤◌, Bool, true, false, cond, List, [], ◌∷◌, ◌++◌, Option, Some, refl, sym, ap, subst, ◌∙◌, ◌⊎◌, inl, inr, arith, eqb, ltb}
-use Rattle.std.specs.Prelude.{zero, suc, slice_get}
+use Rattle.std.proofs.Common.{◌≡◌, ℕ, ◌<◌, ◌≤◌, true, false, cond, List, [], Option, Some, refl, sym, ap, subst, ◌∙◌, ◌⊎◌, inl, inr, arith, eqb, ltb}
 use Rattle.std.specs.List.{AllByRecursion}
-use Rattle.std.proofs.lemmas.Bool.{false≢true}
 use Rattle.std.proofs.lemmas.Bool.Decides.{nat_tests}
-use Rattle.std.proofs.lemmas.Option.{none-some, same_Some}
+use Rattle.numbers.proofs.Lists.{AllByRecursion-weaker}
+use Rattle.numbers.proofs.Options.{false-by}
 use Rattle.message.specs.declared.message.Message.{Message}
 use Rattle.message.specs.declared.message.Message.TheVariants as kinds
 use Rattle.message.specs.declared.message.VoterBody.{VoterBody}
@@ -64,12 +63,8 @@ pub record WorldOk (b : Bounds) (X : ℕ → ClientState) (Y : ℕ → VoterStat
 
 -- ---- a client goes on
 
-busy_by : (a b : Bool) → (a ≡ true → b ≡ true) → b ≡ false → a ≡ false
-busy_by true b goes is = absurd (false≢true (sym is ∙ goes refl))
-busy_by false b goes is = refl
-
 pub is_idle-before : (x y : ClientState) → IsLater x y → x.stamp ≡ y.stamp → is_idle y.phase ≡ false → is_idle x.phase ≡ false
-is_idle-before x y later same busy = busy_by (is_idle x.phase) (is_idle y.phase) (later.idle same) busy
+is_idle-before x y later same busy = false-by (is_idle x.phase) (is_idle y.phase) (later.idle same) busy
 
 pub IsLive-before : (x y : ClientState) (v s g : ℕ) → IsLater x y → s ≤ x.stamp → IsLive y v s g → IsLive x v s g
 IsLive-before x y v s g later known live =
@@ -168,25 +163,12 @@ message_keeps X Y Z Killed keep spares (kinds.ToClient m) ok = report_keeps X Y 
 
 -- ---- lists of messages
 
-pub AllByRecursion-map : (P Q : Message → Type 0) → ((m : Message) → P m → Q m) → (ms : List Message) → AllByRecursion P ms → AllByRecursion Q ms
-AllByRecursion-map P Q f [] h = tt
-AllByRecursion-map P Q f (m ∷ ms) h = (f m h.0, AllByRecursion-map P Q f ms h.1)
-
-pub AllByRecursion-append : (P : Message → Type 0) (ms ns : List Message) → AllByRecursion P ms → AllByRecursion P ns → AllByRecursion P (ms ++ ns)
-AllByRecursion-append P [] ns h k = k
-AllByRecursion-append P (m ∷ ms) ns h k = (h.0, AllByRecursion-append P ms ns h.1 k)
-
-pub AllByRecursion-get : (P : Message → Type 0) (ms : List Message) (k : ℕ) (m : Message) → AllByRecursion P ms → slice_get ms k ≡ Some m → P m
-AllByRecursion-get P [] k m h is = absurd (none-some m is)
-AllByRecursion-get P (n ∷ ns) zero m h is = subst P (same_Some n m is) h.0
-AllByRecursion-get P (n ∷ ns) (suc k) m h is = AllByRecursion-get P ns k m h.1 is
-
 pub MessageOk-keep : (X : ℕ → ClientState) (Y Z : ℕ → VoterState) (Killed : ℕ → Grant → Type 0) → VotesKeep Y Z Killed → SparesLive X Killed
     → (ms : List Message) → AllByRecursion (MessageOk X Y) ms → AllByRecursion (MessageOk X Z) ms
-MessageOk-keep X Y Z Killed keep spares ms h = AllByRecursion-map (MessageOk X Y) (MessageOk X Z) (message_keeps X Y Z Killed keep spares) ms h
+MessageOk-keep X Y Z Killed keep spares ms h = AllByRecursion-weaker (MessageOk X Y) (MessageOk X Z) (message_keeps X Y Z Killed keep spares) ms h
 
 pub MessageOk-later : (X W : ℕ → ClientState) (Y : ℕ → VoterState) → ((c : ℕ) → IsLater (X c) (W c)) → (ms : List Message) → AllByRecursion (MessageOk X Y) ms → AllByRecursion (MessageOk W Y) ms
-MessageOk-later X W Y later ms h = AllByRecursion-map (MessageOk X Y) (MessageOk W Y) (message_later X W Y later) ms h
+MessageOk-later X W Y later ms h = AllByRecursion-weaker (MessageOk X Y) (MessageOk W Y) (message_later X W Y later) ms h
 
 -- ---- one client, one voter changes
 

@@ -5,6 +5,7 @@ use Rattle.std.proofs.lemmas.List.Elements.{recursion_from_All}
 use Rattle.std.specs.List.{All, AllByRecursion}
 use Rattle.std.proofs.lemmas.Bool.{false≢true}
 use Rattle.std.proofs.lemmas.Bool.Decides.{nat_tests}
+use Rattle.numbers.proofs.Lists.{AllByRecursion-append}
 use Rattle.numbers.specs.Sets.{has}
 use Rattle.message.specs.declared.message.ToVoter.{ToVoter}
 use Rattle.message.specs.declared.message.Message.{Message}
@@ -20,7 +21,7 @@ use Rattle.requester.specs.Words.{is_member, members, holds_under, last_of}
 use Rattle.world.specs.Ranges.{AreInRange, IsInRange, IsWithin}
 use Rattle.world.specs.Visible.{DoMeet, IsAmong}
 use Rattle.world.specs.Rules.{ClientLaws}
-use Rattle.world.proofs.Claims.{Bounds, Names, AskOk, MessageOk, ClientOk, IsClient, VoterOk, WorldOk, IsLive-before, IsLater-self, VoterOk-later, AllByRecursion-append}
+use Rattle.world.proofs.Claims.{Bounds, Names, AskOk, MessageOk, ClientOk, IsClient, VoterOk, WorldOk, IsLive-before, IsLater-self, VoterOk-later}
 use Rattle.world.proofs.Claims.{MessageOk-later, put, put-each, put-same}
 
 -- what came: each LOCKED names voters and stamps that are in range, and is so

@@ -5,6 +5,7 @@ use Rattle.std.specs.List.{list_all}
 use Rattle.std.proofs.lemmas.Bool.{false≢true}
 use Rattle.std.proofs.lemmas.Bool.Decides.{nat_tests}
 use Rattle.std.proofs.lemmas.Option.{same_Some}
+use Rattle.std.proofs.lemmas.List.{append-nil}
 use Rattle.numbers.specs.Sets.{has}
 use Rattle.message.specs.declared.message.Message.{Message}
 use Rattle.voter.specs.declared.state.Grant.{Grant}
@@ -96,10 +97,6 @@ inside_after-push (Some c) [] e = refl
 inside_after-push None (x ∷ es) e = inside_after-push (Some x.client) es e
 inside_after-push (Some c) (x ∷ es) e = inside_after-push None es e
 
-append_nothing : (es : List Event) → es ++ [] ≡ es
-append_nothing [] = refl
-append_nothing (e ∷ es) = ap (λ (t : List Event). e ∷ t) (append_nothing es)
-
 abbrev pub is_inside_by : Option ℕ → ℕ → Bool
 is_inside_by None c = false
 is_inside_by (Some d) c = eqb c d
@@ -131,7 +128,7 @@ pub Walked-step : (es : List Event) (X : ℕ → ClientState) (c : ℕ) (x : Cli
     → ((d : ℕ) → is_inside (put X c x c).phase ≡ true → is_inside (put X c x d).phase ≡ true → c ≡ d)
     → Walked (es ++ events c seen) (put X c x)
 Walked-step es X c x Nothing h sees alone =
-    subst (λ (l : List Event). Walked l (put X c x)) (sym (append_nothing es))
+    subst (λ (l : List Event). Walked l (put X c x)) (sym (append-nil es))
     (record { list = h.list; inside = put-each (λ q y. is_inside y.phase ≡ is_inside_by (inside_after None es) q) X c x (sym sees ∙ h.inside c) h.inside })
 Walked-step es X c x Entered h sees alone =
     let e : Event = record { client = c; entered = true } in

@@ -4,6 +4,7 @@ use Rattle.std.specs.Prelude.{IfSome, option_map}
 use Rattle.std.specs.List.{All, AllByRecursion}
 use Rattle.std.proofs.lemmas.List.{get_or_append_left, get_or-append-add, length-append}
 use Rattle.std.proofs.lemmas.List.Elements.{All-append}
+use Rattle.numbers.proofs.Lists.{AllByRecursion-weaker}
 use Rattle.numbers.specs.Sets.{IsSet}
 use Rattle.quorum_set.specs.declared.bridge.Side.TheVariants.{First, Second}
 use Rattle.quorum_set.specs.Bridges.{Bridged, IsBridge}
@@ -23,9 +24,8 @@ use Rattle.world.specs.Ranges.{IsInRange, IsSound, IsWithin, ReportsWithin}
 use Rattle.world.specs.Runs.{AreLimits, IsReached, after, run_of, start, start_by}
 use Rattle.world.specs.declared.fault.WorldFault.{WorldFault}
 use Rattle.world.specs.declared.step.Stepped.{Stepped}
-use Rattle.world.specs.Steps.{Dealing, Does, Outcome, Planned, WorldState, dealing_of, outcome_of, quorum_by, step, step_of}
+use Rattle.world.specs.Steps.{Dealing, Does, Planned, WorldState, dealing_of, outcome_of, quorum_by, step, step_of}
 use Rattle.world.specs.Visible.{DealsFrom, DoMeet, IsAmong}
-use Rattle.world.proofs.Claims.{AllByRecursion-map}
 
 abbrev pub AllCoteriesMeet : Type 0
 AllCoteriesMeet = (s : QuorumSystem) → IsCoterie s → AllMeet s.voters s.quorums
@@ -141,7 +141,7 @@ IsCoherent-reached coherent meet bridges name w r =
 pub HasLine-reached : WorldLaws → (w : Planned) → IsReached w → AllByRecursion HasLine w.state.sent
 HasLine-reached laws w r =
     let voters = w.plans.first.system.voters in
-    AllByRecursion-map (IsInRange voters r.clients r.limit) HasLine (HasLine-in_range voters r.clients r.limit r.limits) w.state.sent (IsSound-reached laws w r).in_range
+    AllByRecursion-weaker (IsInRange voters r.clients r.limit) HasLine (HasLine-in_range voters r.clients r.limit r.limits) w.state.sent (IsSound-reached laws w r).in_range
 
 run_more : (deal : Dealing) (steps : List Step) (s : Step) (w : WorldState) → run_of deal (steps ++ s ∷ []) w ≡ after (run_of deal steps w) (step deal (run_of deal steps w) s)
 run_more deal [] s w = refl

@@ -1,15 +1,16 @@
 -- every run
 use Rattle.std.proofs.Common.{◌≡◌, ℕ, zero, suc, ◌+◌, ◌<◌, ◌≤◌, ◌^◌, Bool, true, false, List, [], ◌∷◌, ◌++◌, map, length, Option, Some, None, Result, Ok, Err, refl, sym, ap, subst}
-use Rattle.std.proofs.Common.{◌∙◌, ◌⊎◌, inl, inr, arith, ltb, length-append}
-use Rattle.std.specs.Prelude.{nat_lt, slice_get, slice_index, slice_set, replicate}
+use Rattle.std.proofs.Common.{◌∙◌, inl, inr, arith, length-append}
+use Rattle.std.specs.Prelude.{slice_get, slice_set}
 use Rattle.std.specs.List.{range_with_len}
 use Rattle.std.specs.FinMap as fin
 use Rattle.std.specs.Ordering.{nat_cmp}
-use Rattle.std.proofs.lemmas.Bool.{false≢true}
+use Rattle.std.proofs.lemmas.Bool.{false≢true, cases_lt, ltb-true}
 use Rattle.std.proofs.lemmas.Bool.Decides.{nat_tests}
 use Rattle.std.proofs.lemmas.Option.{none-some}
 use Rattle.std.proofs.lemmas.List.{length-set, get_or_past, map-append}
 use Rattle.std.proofs.lemmas.List.FromFn.{get_or-map-range_with_len, length-map-range_with_len}
+use Rattle.numbers.proofs.Lists.{AllByRecursion-weaker, AllByRecursion-get, slice_index-replicate_zero}
 use Rattle.numbers.specs.Sets.{has, IsSet}
 use Rattle.message.specs.declared.message.ToVoter.{ToVoter}
 use Rattle.message.specs.declared.message.Message.{Message}
@@ -36,7 +37,7 @@ use Rattle.world.specs.Steps.{quorum_dealt, step, voter_at}
 use Rattle.world.specs.Visible.{DealsFrom, DoMeet, IsAmong}
 use Rattle.world.specs.Rules.{ClientLaws, VoterLaws}
 use Rattle.world.specs.Coherence.{IsCoherent}
-use Rattle.world.proofs.Claims.{Bounds, Names, AskOk, ReportOk, MessageOk, ClientOk, IsClient, VoterOk, WorldOk, AllByRecursion-get, AllByRecursion-map, put}
+use Rattle.world.proofs.Claims.{Bounds, Names, AskOk, ReportOk, MessageOk, ClientOk, IsClient, VoterOk, WorldOk, put}
 use Rattle.world.proofs.ClientMoves.{Came, Draws, client_moves, client_reminds, member_below}
 use Rattle.world.proofs.VoterMoves.{voter_moves, voter_reminds}
 use Rattle.world.proofs.Exclusion.{Walked, one_inside, Walked-step}
@@ -130,9 +131,6 @@ RunOk-after_voter b given w ok m range asked (Some o) is =
 
 -- ---- the steps
 
-pub less_than : (a b : ℕ) → nat_lt a b ≡ true → a < b
-less_than a b h = grind (arith, nat_tests)
-
 if_one : (b : Bounds) (w : WorldState) → RunOk b w → (t : Bool) (c : ℕ) (next : Result Outcome WorldFault) → (t ≡ true → RunOk b (after w next)) → RunOk b (after w (if_client t c next))
 if_one b w ok true c next then = then refl
 if_one b w ok false c next then = ok
@@ -186,17 +184,17 @@ step_ok : (b : Bounds) → Given b → (deal : Dealing) → DealsFrom b.quorums 
 unfolding step
 step_ok b given deal deals w ok (Ask c) = if_one b w ok _ c _ (λ t.
     let among = deals w.side (next_ticket w) in
-    RunOk-after_draw b given w ok c (less_than _ _ t) (client.Asks (quorum_dealt deal w.side (next_ticket w))) (accepts_among b given.meet (quorum_dealt deal w.side (next_ticket w)) among)
+    RunOk-after_draw b given w ok c (ltb-true _ _ t) (client.Asks (quorum_dealt deal w.side (next_ticket w))) (accepts_among b given.meet (quorum_dealt deal w.side (next_ticket w)) among)
     (λ v s g never. absurd never) among w.side _ refl)
 step_ok b given deal deals w ok (Deliver k) = comes_ok b given w ok k (slice_get w.sent k)
     (λ m is. AllByRecursion-get (MessageOk (client_at w.clients) (voter_at w.voters)) w.sent k m ok.world.messages is)
     (λ m is. AllByRecursion-get (IsInRange b.voters b.clients b.limit) w.sent k m ok.world.ranges is)
-step_ok b given deal deals w ok (Leave c) = if_one b w ok _ c _ (λ t. RunOk-after_client b given w ok c (less_than _ _ t) client.Leaves tt (λ v s g never. absurd never) tt _ refl)
-step_ok b given deal deals w ok (GiveUp c) = if_one b w ok _ c _ (λ t. RunOk-after_client b given w ok c (less_than _ _ t) client.GivesUp tt (λ v s g never. absurd never) tt _ refl)
+step_ok b given deal deals w ok (Leave c) = if_one b w ok _ c _ (λ t. RunOk-after_client b given w ok c (ltb-true _ _ t) client.Leaves tt (λ v s g never. absurd never) tt _ refl)
+step_ok b given deal deals w ok (GiveUp c) = if_one b w ok _ c _ (λ t. RunOk-after_client b given w ok c (ltb-true _ _ t) client.GivesUp tt (λ v s g never. absurd never) tt _ refl)
 step_ok b given deal deals w ok (RemindClient c) = if_one b w ok _ c _ (λ t. record {
   clients = ok.clients;
   voters = ok.voters;
-  world = client_reminds given.client b given.meet (client_at w.clients) (voter_at w.voters) w.sent ok.world c (subst (λ n. c < n) ok.clients (less_than _ _ t));
+  world = client_reminds given.client b given.meet (client_at w.clients) (voter_at w.voters) w.sent ok.world c (subst (λ n. c < n) ok.clients (ltb-true _ _ t));
   walked = ok.walked;
   draws = ok.draws;
   draws2 = ok.draws2;
@@ -204,7 +202,7 @@ step_ok b given deal deals w ok (RemindClient c) = if_one b w ok _ c _ (λ t. re
 step_ok b given deal deals w ok (RemindVoter v) = if_voter_one b w ok _ v _ (λ t. record {
   clients = ok.clients;
   voters = ok.voters;
-  world = voter_reminds given.voter b (client_at w.clients) (voter_at w.voters) w.sent ok.world v (subst (λ n. v < n) ok.voters (less_than _ _ t));
+  world = voter_reminds given.voter b (client_at w.clients) (voter_at w.voters) w.sent ok.world v (subst (λ n. v < n) ok.voters (ltb-true _ _ t));
   walked = ok.walked;
   draws = ok.draws;
   draws2 = ok.draws2;
@@ -216,11 +214,6 @@ run_ok b given deal deals [] w ok = ok
 run_ok b given deal deals (s ∷ steps) w ok = run_ok b given deal deals steps (after w (step deal w s)) (step_ok b given deal deals w ok s)
 
 -- ---- the first world
-
-pub slice_index-replicate_zero : (n v : ℕ) → slice_index (replicate n 0) v ≡ 0
-slice_index-replicate_zero zero v = refl
-slice_index-replicate_zero (suc n) zero = refl
-slice_index-replicate_zero (suc n) (suc v) = slice_index-replicate_zero n v
 
 -- a client that did nothing
 record Fresh (b : Bounds) (x : ClientState) : Type 0 where
@@ -289,22 +282,16 @@ voter_past : (n limit v : ℕ) → n ≤ v → voter_at (new_voters n limit) v �
 unfolding voter_at new_voters
 voter_past n limit v beyond = get_or_past (new_voters n limit) v (voter.start 0 1) (let len = length-map-range_with_len (λ i. voter.start i limit) 0 n in omega arith)
 
-below_or : (a b : ℕ) → (a < b) ⊎ (b ≤ a)
-below_or a b = elim (ltb a b) as (λ t. ltb a b ≡ t → (a < b) ⊎ (b ≤ a)) [
-  | true ↦ λ t. inl (grind (arith, nat_tests))
-  | false ↦ λ t. inr (grind (arith, nat_tests))
-] refl
-
 fresh_at : (b : Bounds) → Given b → (c : ℕ) → Fresh b (client_at (new_clients b.clients b.limit) c)
 fresh_at b given c =
     let few = given.limits.few_clients in
-    elim (below_or c b.clients) [
+    elim (cases_lt c b.clients) [
       | inl within ↦ subst (λ (x : ClientState). Fresh b x) (sym (client_new b.clients b.limit c within)) (Fresh-start b given c b.limit (omega arith) given.limits.some_stamp given.limits.few_stamps)
       | inr beyond ↦ subst (λ (x : ClientState). Fresh b x) (sym (client_past b.clients b.limit c beyond)) (Fresh-start b given 0 1 (omega arith) (omega arith) (omega arith))
     ]
 
 unused_at : (b : Bounds) → Given b → (v : ℕ) → Unused b (voter_at (new_voters b.voters b.limit) v)
-unused_at b given v = elim (below_or v b.voters) [
+unused_at b given v = elim (cases_lt v b.voters) [
   | inl within ↦ subst (λ (y : VoterState). Unused b y) (sym (voter_new b.voters b.limit v within)) (Unused-start b given v b.limit given.limits.few_stamps (omega arith))
   | inr beyond ↦ subst (λ (y : VoterState). Unused b y) (sym (voter_past b.voters b.limit v beyond)) (Unused-start b given 0 1 (omega arith) given.limits.some_stamp)
 ]
@@ -356,7 +343,7 @@ sound_by b given w ok =
         voters = λ v within. ok.world.voter_ids v (subst (λ n. v < n) ok.voters within);
         few_clients = omega arith;
         few_voters = omega arith;
-        messages = AllByRecursion-map (IsInRange b.voters b.clients b.limit) (IsAddressed w) (IsAddressed-in_range b w ok.clients ok.voters) w.sent ok.world.ranges;
+        messages = AllByRecursion-weaker (IsInRange b.voters b.clients b.limit) (IsAddressed w) (IsAddressed-in_range b w ok.clients ok.voters) w.sent ok.world.ranges;
       };
     }
 

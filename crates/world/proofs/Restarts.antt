@@ -37,9 +37,10 @@ use Rattle.std.specs.Prelude.{◌==◌, ◌&&◌, nat_lt, replicate, slice_get, 
 use Rattle.std.specs.FinMap as fin
 use Rattle.std.specs.Ordering.{nat_cmp}
 use Rattle.std.proofs.lemmas.Option.{none-some}
-use Rattle.std.proofs.lemmas.Bool.{false≢true}
+use Rattle.std.proofs.lemmas.Bool.{false≢true, ltb-true, cases_eq}
 use Rattle.std.proofs.lemmas.Bool.Decides.{nat_tests}
 use Rattle.std.proofs.lemmas.List.{length-set, append-nil, set_past, length-replicate}
+use Rattle.numbers.proofs.Lists.{AllByRecursion-weaker, AllByRecursion-get, slice_index-replicate_zero}
 use Rattle.message.specs.declared.message.ToVoter.{ToVoter}
 use Rattle.message.specs.declared.message.Message.{Message}
 use Rattle.message.specs.declared.message.Message.TheVariants as kinds
@@ -69,13 +70,13 @@ use Rattle.world.specs.Steps.{Dealing, Outcome, after_client, after_voter, clien
 use Rattle.world.specs.Steps.{say, step, voter_at, voter_did}
 use Rattle.world.specs.Visible.{DealsFrom, DoMeet, IsExclusive}
 use Rattle.world.specs.Rules.{ClientLaws, VoterLaws}
-use Rattle.world.proofs.Claims.{Bounds, Names, AskOk, ReportOk, MessageOk, ClientOk, IsClient, VoterOk, WorldOk, IsLater-self, VoterOk-later, AllByRecursion-get}
-use Rattle.world.proofs.Claims.{AllByRecursion-map, MessageOk-later, put, put-each, put-same}
+use Rattle.world.proofs.Claims.{Bounds, Names, AskOk, ReportOk, MessageOk, ClientOk, IsClient, VoterOk, WorldOk, IsLater-self, VoterOk-later}
+use Rattle.world.proofs.Claims.{MessageOk-later, put, put-each, put-same}
 use Rattle.world.proofs.ClientMoves.{Came, Draws, client_moves, client_reminds}
 use Rattle.world.proofs.VoterMoves.{voter_moves, voter_reminds}
 use Rattle.world.proofs.Exclusion.{Walked, one_inside, Walked-step}
 use Rattle.world.proofs.Places.{client_at-set, voter_at-set}
-use Rattle.world.proofs.Reached.{Given, slice_index-replicate_zero, start_ok, came_by, accepts_among, less_than}
+use Rattle.world.proofs.Reached.{Given, start_ok, came_by, accepts_among}
 
 -- ---- mixes
 
@@ -117,14 +118,8 @@ MixBut-put_left L K X c x mix q other = elim (mix q) [ inl e ↦ inl (e ∙ put-
 MixBut-put_right : {A : Type 0} (L K X : ℕ → A) (c : ℕ) (x : A) → Mix L (put K c x) X → MixBut c L K X
 MixBut-put_right L K X c x mix q other = elim (mix q) [ inl e ↦ inl e | inr e ↦ inr (e ∙ put-other K c x q other) ]
 
-decide : (q c : ℕ) → (q ≡ c) ⊎ (q ≢ c)
-decide q c = elim (eqb q c) as (λ b. eqb q c ≡ b → (q ≡ c) ⊎ (q ≢ c)) [
-  | true ↦ λ e. inl (grind (arith, nat_tests))
-  | false ↦ λ e. inr (λ same. grind (arith, nat_tests))
-] refl
-
 Mix-with : {A : Type 0} (L K X : ℕ → A) (c : ℕ) → MixBut c L K X → (X c ≡ L c) ⊎ (X c ≡ K c) → Mix L K X
-Mix-with L K X c others at q = elim (decide q c) [
+Mix-with L K X c others at q = elim (cases_eq q c) [
   | inl same ↦ subst (λ n. (X n ≡ L n) ⊎ (X n ≡ K n)) (sym same) at
   | inr other ↦ others q other
 ]
@@ -474,7 +469,7 @@ there b s ok false u then = ok
 
 restart_ok : (b : Bounds) → Given b → (who : Node) (s : Saved) → SavedOk b s → SavedOk b (restart who s)
 restart_ok b given Nobody s ok = ok
-restart_ok b given (OneClient c) s ok = there b s ok _ _ (λ t. come_back_ok b given s ok c (less_than _ _ t))
+restart_ok b given (OneClient c) s ok = there b s ok _ _ (λ t. come_back_ok b given s ok c (ltb-true _ _ t))
 restart_ok b given (OneVoter v) s ok = elim (within_or s.live.voters v) [
   | inl within ↦
       let M = voter_at s.live.voters in
@@ -529,7 +524,7 @@ voter_less b X Y sent v ok =
     let Z = put Y v (least_voter (Y v)) in
     let same : (q : ℕ) → (Y q).held ≡ (Z q).held = λ q. by_number (λ z. (Y q).held ≡ z.held) Y v (least_voter (Y v)) q (λ is. ap (λ n. (Y n).held) is) (λ _. refl) in
     record {
-      messages = AllByRecursion-map (MessageOk X Y) (MessageOk X Z) (reported_same X Y Z same) sent ok.messages;
+      messages = AllByRecursion-weaker (MessageOk X Y) (MessageOk X Z) (reported_same X Y Z same) sent ok.messages;
       ranges = ok.ranges;
       held = λ c q g is. sym (same q) ∙ ok.held c q g is;
       clients = ok.clients;
@@ -735,17 +730,17 @@ pub happens_ok : (b : Bounds) → Given b → (deal : Dealing) → DealsFrom b.q
 unfolding step
 happens_ok b given deal deals s ok (Goes (Ask c)) = if_one b s ok (OneClient c) _ c _ (λ t.
     let among = deals s.live.side (next_ticket s.live) in
-    client_drew b given s ok c (less_than _ _ t) (client.Asks (quorum_dealt deal s.live.side (next_ticket s.live)))
+    client_drew b given s ok c (ltb-true _ _ t) (client.Asks (quorum_dealt deal s.live.side (next_ticket s.live)))
     (accepts_among b given.meet (quorum_dealt deal s.live.side (next_ticket s.live)) among) (λ X Y world v t g never. absurd never) among s.live.side _ refl)
 happens_ok b given deal deals s ok (Goes (Deliver k)) = comes_ok b given s ok k (slice_get s.live.sent k)
     (λ X Y world m is. AllByRecursion-get (MessageOk X Y) s.live.sent k m world.messages is)
     (λ m is. AllByRecursion-get (IsInRange b.voters b.clients b.limit) s.live.sent k m (live_ok b s ok).ranges is)
 happens_ok b given deal deals s ok (Goes (Leave c)) = if_one b s ok (OneClient c) _ c _
-    (λ t. client_tried b given s ok c (less_than _ _ t) client.Leaves tt (λ X Y world v t g never. absurd never) tt _ refl)
+    (λ t. client_tried b given s ok c (ltb-true _ _ t) client.Leaves tt (λ X Y world v t g never. absurd never) tt _ refl)
 happens_ok b given deal deals s ok (Goes (GiveUp c)) = if_one b s ok (OneClient c) _ c _
-    (λ t. client_tried b given s ok c (less_than _ _ t) client.GivesUp tt (λ X Y world v t g never. absurd never) tt _ refl)
-happens_ok b given deal deals s ok (Goes (RemindClient c)) = if_one b s ok (OneClient c) _ c _ (λ t. client_said b given s ok c (less_than _ _ t) _ refl)
-happens_ok b given deal deals s ok (Goes (RemindVoter v)) = if_voter_one b s ok (OneVoter v) _ v _ (λ t. voter_said b given s ok v (less_than _ _ t) _ refl)
+    (λ t. client_tried b given s ok c (ltb-true _ _ t) client.GivesUp tt (λ X Y world v t g never. absurd never) tt _ refl)
+happens_ok b given deal deals s ok (Goes (RemindClient c)) = if_one b s ok (OneClient c) _ c _ (λ t. client_said b given s ok c (ltb-true _ _ t) _ refl)
+happens_ok b given deal deals s ok (Goes (RemindVoter v)) = if_voter_one b s ok (OneVoter v) _ v _ (λ t. voter_said b given s ok v (ltb-true _ _ t) _ refl)
 happens_ok b given deal deals s ok (Goes Exchange) = exchange_ok b s ok _ s.live.side
 happens_ok b given deal deals s ok (Saves who) = save_ok b who s ok
 happens_ok b given deal deals s ok (Forgets who) = forget_ok b who s ok

@@ -1,12 +1,17 @@
 -- A world as the code keeps it, and the room that a step needs.
 use Rattle.std.specs.Prelude.{◌+◌, ◌≤◌, vec_capacity, vec_len}
+use Rattle.std.specs.List.{AllByRecursion}
 use Rattle.dealer.specs.Plans.{PlanPair}
+use Rattle.message.specs.Lines.{HasLine}
 use Rattle.requester.specs.Steps as client
 use Rattle.world.specs.declared.cycles.Cycles.{Cycles}
 use Rattle.world.specs.declared.moves.Ending.{Ending}
 use Rattle.world.specs.declared.moves.Ending.TheVariants as endings
 use Rattle.world.specs.declared.state.State.{State}
-use Rattle.world.specs.Steps.{WorldState}
+use Rattle.world.specs.Ranges.{IsNumbered}
+use Rattle.world.specs.Runs.{DrawsInOrder, IsReached}
+use Rattle.world.specs.Steps.{Planned, WorldState}
+use Rattle.world.specs.Visible.{IsExclusive}
 
 -- the contents of the lists that the code keeps
 abbrev pub shown : State → WorldState
@@ -19,6 +24,16 @@ shown s = record {
   side = s.side;
   visible = s.visible.items;
 }
+
+-- What a world keeps: some list of steps made it from a new one. So at most one client is inside, each
+-- message has a line, the tickets of each plan are drawn in order, and clients and voters are numbered.
+pub record IsWorld (w : Planned) : Type 0 where
+  pub reached : IsReached w
+  pub exclusive : IsExclusive w.state.visible
+  pub lines : AllByRecursion HasLine w.state.sent
+  pub tickets : DrawsInOrder w.state.draws
+  pub tickets2 : DrawsInOrder w.state.draws2
+  pub numbered : IsNumbered w.state
 
 -- Room for one step. A step sends at most 128 messages: those of a reminder to 64 voters.
 pub record HasRoom (s : State) : Type 0 where

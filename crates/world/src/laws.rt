@@ -1,13 +1,12 @@
 //! Laws: what is proved about the definitions.
 ghost use Rattle.std.specs.Prelude.{◌≡◌, ◌<◌, ◌⊎◌, ℕ, List, Ok};
-ghost use Rattle.std.specs.List.{AllByRecursion};
-ghost use Rattle.message.specs.Lines.{HasLine};
 ghost use Rattle.world.specs.declared.step.Step.{Step};
 ghost use Rattle.world.specs.Coherence.{IsCoherent};
-ghost use Rattle.world.specs.Ranges.{AreInRange, IsNumbered, IsSound};
+ghost use Rattle.world.specs.Ranges.{AreInRange, IsSound};
 ghost use Rattle.world.specs.Restarts.{Happening, HasVote, IsIn, IsNewer, IsSameRequest, all_happen, begin, pass_of, stamp_of};
 ghost use Rattle.world.specs.Rules.{ClientLaws, VoterLaws};
-ghost use Rattle.world.specs.Runs.{AreLimits, DrawsInOrder, IsReached, run_of, start};
+ghost use Rattle.world.specs.Runs.{AreLimits, IsReached, run_of, start};
+ghost use Rattle.world.specs.States.{IsWorld};
 ghost use Rattle.world.specs.Steps.{Adds, Dealing, Outcome, Planned, WorldState, step};
 ghost use Rattle.world.specs.Visible.{DealsFrom, DoMeet, IsExclusive};
 
@@ -137,11 +136,7 @@ pub fn steps_add()
 
 /// What holds of every world that a list of steps made from a new one.
 pub(crate) fn worlds_stay_sound()
-    ensures exclusive { (w : Planned) → IsReached w → IsExclusive w.state.visible }
-    ensures lines { (w : Planned) → IsReached w → AllByRecursion HasLine w.state.sent }
-    ensures draws { (w : Planned) → IsReached w → DrawsInOrder w.state.draws }
-    ensures draws2 { (w : Planned) → IsReached w → DrawsInOrder w.state.draws2 }
-    ensures numbered { (w : Planned) → IsReached w → IsNumbered w.state }
+    ensures { (w : Planned) → IsReached w → IsWorld w }
 {
     runs_are_sound();
     coteries_meet();

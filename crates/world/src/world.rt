@@ -35,8 +35,7 @@ pub struct World {
 }
 
 impl Model for World {
-    ghost use Rattle.world.specs.Runs.{IsReached};
-    ghost use Rattle.world.specs.States.{plans_of, shown};
+    ghost use Rattle.world.specs.States.{IsWorld, plans_of, shown};
     ghost use Rattle.std.specs.Coded.{codes};
     ghost use Rattle.voter.specs.contracts.state.VoterState as known;
     ghost use Rattle.world.specs.Steps.{Planned};
@@ -47,7 +46,7 @@ impl Model for World {
 
     ghost view = { λ a. record { plans = plans_of a.cycles; state = shown a.state } };
 
-    ghost invariant = { λ a. IsReached (record { plans = plans_of a.cycles; state = shown a.state }) };
+    ghost invariant = { λ a. IsWorld (record { plans = plans_of a.cycles; state = shown a.state }) };
 }
 
 impl World {
@@ -61,6 +60,7 @@ impl World {
         requires most { limit ≤ max_stamp }
         ensures { IfOk result (λ world. world ≡ record { plans = plans; state = start_by plans clients limit }) }
     {
+        worlds_stay_sound();
         let cycles = Cycles::of(alloc, plans)?;
         let voters = new_voters(alloc, cycles.voters(), limit)?;
         let clients = new_clients(alloc, clients, limit)?;
@@ -115,7 +115,6 @@ impl World {
         ensures value { slice_get self.now.state.sent number ≡ Some result }
         ensures line { HasLine result }
     {
-        worlds_stay_sound();
         self.state.sent[number]
     }
 
@@ -138,7 +137,6 @@ impl World {
         ensures value { result.now ≡ self.now.state.visible }
         ensures exclusive { IsExclusive result.now }
     {
-        worlds_stay_sound();
         &self.state.visible
     }
 
@@ -154,7 +152,6 @@ impl World {
         ensures tickets { DrawsInOrder result.draws.items }
         ensures tickets2 { DrawsInOrder result.draws2.items }
     {
-        worlds_stay_sound();
         let state = self.state;
         Trace {
             visible: state.visible,

@@ -2,4 +2,4 @@ use Rattle.progress.proofs.Exchanges.{comes_back}
 use Rattle.progress.proofs.laws.lost_votes_come_back.Goals as goal
 
 pub returns : goal.returns
-returns c = comes_back c.parts_keep_their_rules.ensures.together.alone.returns
+returns c = comes_back c.parts_keep_their_rules.ensures

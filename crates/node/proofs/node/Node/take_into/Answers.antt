@@ -26,15 +26,11 @@ took g c =
     let m = c.args.message.now in
     let o : Outcome = record { replies = c.take_into.new.replies.items; state = c.take_into.new.self } in
     let s = c.in-Ok.ensures.taken in
-    let sound = c.self.invariant.sound in
     record {
       node = c.self.invariant;
       meant = subst (λ (n : NodeState). IsFor g.N.ClusterName.cluster.board n.number m) (sym c.self.view_is) c.requires.message;
       took = s;
-      moves = c.grants_are_numbered.ensures v m o sound s;
-      meets = c.voters_meet_the_contract.ensures.steps v m o s;
-      carry = c.replies_carry_what_was_seen.ensures.steps v m o s;
-      sound = c.voters_stay_sound.ensures.steps v m o sound s;
+      laws = c.voters_keep_their_laws.ensures.steps v m o c.self.invariant.sound s;
     }
 
 seat_settled : (g : Over) (c : After-held g)

@@ -2,7 +2,6 @@ use Rattle.std.proofs.Common.{◌<◌, length, sym, subst, ap, arith}
 use Rattle.std.proofs.lemmas.List.Elements.{All-from_recursion}
 use Rattle.message.specs.declared.message.Message.{Message}
 use Rattle.message.specs.Lines.{HasLine}
-use Rattle.world.specs.States.{plans_of, shown}
 use Rattle.world.specs.Steps.{Planned}
 use Rattle.world.proofs.world.World.message.Goals as goal
 
@@ -11,5 +10,4 @@ returns-clause-line c =
     let sent = c.self.inside.state.sent.items in
     let long = ap (λ (w : Planned). length w.state.sent) c.self.view_is in
     let within : c.args.number < length sent = omega arith in
-    subst (λ (m : Message). HasLine m) (sym c.index.ensures) (All-from_recursion HasLine sent
-    (c.worlds_stay_sound.ensures.lines (record { plans = plans_of c.self.inside.cycles; state = shown c.self.inside.state }) c.self.invariant) c.args.number c.index.result.now within)
+    subst (λ (m : Message). HasLine m) (sym c.index.ensures) (All-from_recursion HasLine sent c.self.invariant.lines c.args.number c.index.result.now within)

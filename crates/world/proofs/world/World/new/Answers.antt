@@ -34,14 +34,14 @@ pub invariant_of-result : goal.invariant_of-result
 invariant_of-result c =
     let at = (goal.at.invariant_of-result c).After-new-6 in
     let are : ArePlans (plans_of c.in_ok-cycles.cycles) = subst (λ (p : PlanPair). ArePlans p) (sym c.in_ok-cycles.ensures.value) c.in_ok-cycles.ensures.plans in
-    record {
+    c.worlds_stay_sound.ensures _ (record {
       plans = are;
       clients = c.args.clients;
       limit = c.args.limit;
       limits = record { few_voters = are.first.coterie.few_voters; few_clients = c.requires.few; some_stamp = c.requires.least; few_stamps = c.requires.most };
       steps = [];
       state = begun at c.in_ok-cycles.cycles.first.system.voters c.voters.ensures;
-    }
+    })
 
 pub returns : goal.returns
 returns c =

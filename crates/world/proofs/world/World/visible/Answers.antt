@@ -1,9 +1,7 @@
 use Rattle.std.proofs.Common.{List, sym, subst}
 use Rattle.world.specs.declared.step.Event.{Event}
-use Rattle.world.specs.States.{plans_of, shown}
 use Rattle.world.specs.Visible.{IsExclusive}
 use Rattle.world.proofs.world.World.visible.Goals as goal
 
 pub returns-clause-exclusive : goal.returns-clause-exclusive
-returns-clause-exclusive c = subst (λ (l : List Event). IsExclusive l) (sym c.deref.ensures.value)
-    (c.worlds_stay_sound.ensures.exclusive (record { plans = plans_of c.self.inside.cycles; state = shown c.self.inside.state }) c.self.invariant)
+returns-clause-exclusive c = subst (λ (l : List Event). IsExclusive l) (sym c.deref.ensures.value) c.self.invariant.exclusive
