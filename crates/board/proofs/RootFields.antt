@@ -78,6 +78,3 @@ nat_lt-next i = grind (arith, nat_tests)
 
 pub nat_lt-other : (k i : ℕ) → k ≢ i → nat_lt k i ≡ nat_lt k (i + 1)
 nat_lt-other k i far = grind (arith, nat_tests)
-
-pub lt-from_nat_lt : (k n : ℕ) → nat_lt k n ≡ true → k < n
-lt-from_nat_lt k n e = grind (arith, nat_tests)

@@ -1,11 +1,11 @@
 //! The board, on which all seats make their steps.
-ghost use Rattle.std.specs.Prelude.{◌≡◌, ℕ, ◌+◌, ◌-◌, ◌*◌, ◌<◌, ◌≤◌, ◌++◌, [], true, false, IfOk, IfErr, map, nat_lt, length, replicate, slice_index_or};
+ghost use Rattle.std.specs.Prelude.{◌≡◌, ℕ, ◌+◌, ◌-◌, ◌*◌, ◌<◌, ◌≤◌, ◌++◌, true, false, IfOk, IfErr, map, nat_lt, length, replicate, slice_index_or};
 ghost use Rattle.std.specs.List.{sum_by};
 ghost use Rattle.numbers.specs.Bounds.{max_voters, max_quorums, max_clients, max_tickets};
 ghost use Rattle.numbers.specs.Sums.{AreAllBelow};
 ghost use Rattle.quorum_set.specs.Meetings.{AllMeet};
 ghost use Rattle.board.specs.Quorums.{place_of, HasQuorum};
-ghost use Rattle.board.specs.Roots.{weight};
+ghost use Rattle.board.specs.Roots.{IsNewBoard, weight};
 ghost use Rattle.board.specs.Seats.{BoardState};
 
 use crate::fault::BoardFault;
@@ -57,15 +57,8 @@ impl Board {
         requires few_clients { clients ≤ max_clients }
         requires some_number { 1 ≤ limit }
         requires limit { limit ≤ max_tickets }
-        ensures coterie { IfOk result (λ r. (r.0.voters ≡ coterie.now.voters) × (r.0.quorums ≡ coterie.now.quorums)) }
-        ensures firsts { IfOk result (λ r. r.0.firsts ≡ length coterie.now.quorums) }
-        ensures clients { IfOk result (λ r. r.0.clients ≡ clients) }
-        ensures limit { IfOk result (λ r. r.0.limit ≡ limit) }
-        ensures root { IfOk result (λ r.
-            (r.1.table ≡ r.0.table) × (r.1.seats ≡ coterie.now.voters + clients) × (r.1.passes ≡ [])) }
-        ensures voter_seats { IfOk result (λ r.
-            (v : ℕ) → slice_index_or r.1.voters v false ≡ nat_lt v coterie.now.voters) }
-        ensures client_seats { IfOk result (λ r. (c : ℕ) → slice_index_or r.1.clients c false ≡ nat_lt c clients) }
+        ensures { IfOk result
+            (IsNewBoard coterie.now.voters coterie.now.quorums (length coterie.now.quorums) clients limit) }
     {
         coteries_meet();
         let quorums = quorums_of(alloc, coterie)?;
@@ -86,17 +79,9 @@ impl Board {
         requires few_clients { clients ≤ max_clients }
         requires some_number { 1 ≤ limit }
         requires limit { limit ≤ max_tickets }
-        ensures voters { IfOk result (λ r. r.0.voters ≡ bridge.now.first.voters) }
-        ensures quorums { IfOk result (λ r.
-            r.0.quorums ≡ bridge.now.first.quorums ++ bridge.now.second.quorums) }
-        ensures firsts { IfOk result (λ r. r.0.firsts ≡ length bridge.now.first.quorums) }
-        ensures clients { IfOk result (λ r. r.0.clients ≡ clients) }
-        ensures limit { IfOk result (λ r. r.0.limit ≡ limit) }
-        ensures root { IfOk result (λ r. (r.1.table ≡ r.0.table)
-            × (r.1.seats ≡ bridge.now.first.voters + clients) × (r.1.passes ≡ [])) }
-        ensures voter_seats { IfOk result (λ r.
-            (v : ℕ) → slice_index_or r.1.voters v false ≡ nat_lt v bridge.now.first.voters) }
-        ensures client_seats { IfOk result (λ r. (c : ℕ) → slice_index_or r.1.clients c false ≡ nat_lt c clients) }
+        ensures { IfOk result
+            (IsNewBoard bridge.now.first.voters (bridge.now.first.quorums ++ bridge.now.second.quorums)
+            (length bridge.now.first.quorums) clients limit) }
     {
         bridges_meet();
         let quorums = joint_quorums(alloc, bridge)?;
@@ -123,14 +108,7 @@ impl Board {
         requires few_clients { clients ≤ max_clients }
         requires some_number { 1 ≤ limit }
         requires limit { limit ≤ max_tickets }
-        ensures quorums { IfOk result (λ r.
-            (r.0.voters ≡ voters) × (r.0.quorums ≡ quorums.items) × (r.0.firsts ≡ firsts)) }
-        ensures clients { IfOk result (λ r. r.0.clients ≡ clients) }
-        ensures limit { IfOk result (λ r. r.0.limit ≡ limit) }
-        ensures root { IfOk result (λ r.
-            (r.1.table ≡ r.0.table) × (r.1.seats ≡ voters + clients) × (r.1.passes ≡ [])) }
-        ensures voter_seats { IfOk result (λ r. (v : ℕ) → slice_index_or r.1.voters v false ≡ nat_lt v voters) }
-        ensures client_seats { IfOk result (λ r. (c : ℕ) → slice_index_or r.1.clients c false ≡ nat_lt c clients) }
+        ensures { IfOk result (IsNewBoard voters quorums.items firsts clients limit) }
     {
         let words = zeros(alloc, voters + 1)?;
         let sheet = Sheet {

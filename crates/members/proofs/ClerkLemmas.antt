@@ -1,13 +1,12 @@
 -- Clerks of one or two offices, and the quorums of their plans.
-use Rattle.std.proofs.Common.{◌≡◌, ℕ, ◌+◌, ◌-◌, ◌<◌, ◌≤◌, ◌++◌, true≢false, List, [], Option, None, Some, is_some, refl, sym, ap, ◌∙◌, subst, length, get_or, arith}
-use Rattle.std.specs.Prelude.{IfSome, option_map, slice_get}
-use Rattle.std.proofs.lemmas.List.{get_or_append_left, get_or-append-add, length-append, length_push}
-use Rattle.std.proofs.lemmas.Option.{get_or_from_slice_get}
+use Rattle.std.proofs.Common.{◌≡◌, ℕ, ◌+◌, ◌-◌, ◌<◌, ◌≤◌, ◌++◌, true≢false, [], Option, None, Some, is_some, refl, sym, ap, ◌∙◌, subst, length, arith}
+use Rattle.std.specs.Prelude.{IfSome, option_map}
+use Rattle.std.proofs.lemmas.List.{length-append, length_push}
 use Rattle.quorum_set.specs.declared.bridge.Side.{Side}
 use Rattle.quorum_set.specs.declared.bridge.Side.TheVariants.{First, Second}
 use Rattle.dealer.specs.declared.receipt.Receipt.{Receipt}
 use Rattle.dealer.specs.Offices.{ClerkState, OfficeName, share_of}
-use Rattle.board.specs.Quorums.{HasQuorum, place_of, quorum_at}
+use Rattle.board.specs.Quorums.{HasQuorum}
 use Rattle.members.specs.Clusters.{ClusterState, IsCluster, names_in}
 use Rattle.clerks.specs.Clerks.{ClerksState, OfficesState, AreWhole, HasShare, IsThere, IsWholeIn, drawn, drawn_by, fresh_clerk, fresh_clerks, joined_each, joined_second}
 use Rattle.clerks.specs.Clerks.{less_each, names_of, offices_with, quorums_of, receipts_in, receipts_of, rest_in, rest_of, with_less, with_receipt}
@@ -135,17 +134,6 @@ AreWhole-HasShare o k names n m is same share enough =
     second (Some o) (Some k) e s = omega (arith, s, enough)
 
 -- Quorums of the plans
-
--- the quorum with this number of a plan's coterie, in the board's list
-pub quorum_at-joint : (c : ClusterState) → IsCluster c → (side : Side) (j : ℕ) (q : List ℕ) → j < length (quorums_of (names_in c) side) → slice_get (quorums_of (names_in c) side) j ≡ Some q
-    → q ≡ quorum_at c.board.quorums (place_of c.board.firsts side j)
-quorum_at-joint c cluster First j q below is =
-    let firsts = quorums_of (names_in c) First in
-    sym (ap (λ (l : List (List ℕ)). get_or l j []) cluster.quorums ∙ get_or_append_left firsts _ [] j below ∙ get_or_from_slice_get firsts j q [] is)
-quorum_at-joint c cluster Second j q below is =
-    let firsts = quorums_of (names_in c) First in
-    let seconds = quorums_of (names_in c) Second in
-    sym ((λ i. get_or (cluster.quorums i) (cluster.firsts i + j) []) ∙ get_or-append-add firsts seconds j [] ∙ get_or_from_slice_get seconds j q [] is)
 
 pub HasQuorum-joint : (c : ClusterState) → IsCluster c → (side : Side) (j : ℕ) → j < length (quorums_of (names_in c) side) → HasQuorum c.board.firsts c.board.quorums side j
 HasQuorum-joint c cluster First j below = omega (arith, below, cluster.firsts)

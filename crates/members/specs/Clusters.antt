@@ -1,6 +1,7 @@
 -- Clusters, as contracts see them.
-use Rattle.std.specs.Prelude.{◌≡◌, ℕ, ◌+◌, ◌*◌, ◌≤◌, ◌++◌, [], false, Option, IfSome, length, nat_lt, slice_index_or}
+use Rattle.std.specs.Prelude.{◌≡◌, ℕ, ◌*◌, ◌≤◌, ◌++◌, Option, IfSome, length}
 use Rattle.numbers.specs.Bounds.{max_voters, max_clients, max_tickets}
+use Rattle.board.specs.Roots.{HasAllSeats}
 use Rattle.board.specs.Seats.{BoardState, RootState}
 use Rattle.dealer.specs.Offices.{OfficeName}
 use Rattle.clerks.specs.Clerks.{ClerksState, OfficesState, fresh_clerks, offices_with, quorums_in}
@@ -40,7 +41,5 @@ pub record IsBlank (c : ClusterState) (offices : OfficesState) (root : RootState
   pub offices_are : offices ≡ offices_with (names_in c) (c.board.clients * c.quota)
   pub voters_are : voters ≡ c.board.voters
   pub clients_are : clients ≡ c.board.clients
-  pub root_is : (root.table ≡ c.board.table) × (root.seats ≡ voters + clients) × (root.passes ≡ [])
-  pub voter_seats : (v : ℕ) → slice_index_or root.voters v false ≡ nat_lt v voters
-  pub client_seats : (k : ℕ) → slice_index_or root.clients k false ≡ nat_lt k clients
+  pub root_is : HasAllSeats c.board.table voters clients root
   pub clerks_are : clerks ≡ fresh_clerks (names_in c) (c.board.clients * c.quota)

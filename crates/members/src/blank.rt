@@ -2,6 +2,7 @@
 ghost use Rattle.std.specs.Prelude.{◌≡◌, ℕ, ◌+◌, ◌*◌, ◌<◌, ◌≤◌, ◌++◌, [], false, IfOk, IfSome, length, map, nat_lt, option_map, slice_index_or};
 ghost use Rattle.std.specs.List.{range_with_len};
 ghost use Rattle.numbers.specs.Bounds.{max_clients, max_tickets};
+ghost use Rattle.board.specs.Roots.{IsNewBoard};
 ghost use Rattle.dealer.specs.Plans.{coteries_of};
 ghost use Rattle.clerks.specs.Clerks.{fresh_clerks, office_names, plan_quorums};
 ghost use Rattle.members.specs.Clusters.{ClusterState, IsBlank, IsCluster, names_in};
@@ -216,17 +217,9 @@ fn board_of(
     requires some_client { 1 ≤ clients }
     requires few_clients { clients ≤ max_clients }
     requires bridge { IfSome second.now (λ s. s.1 ≡ coteries_of first.now s.0) }
-    ensures voters { IfOk result (λ r. r.0.voters ≡ first.now.system.voters) }
-    ensures quorums { IfOk result (λ r.
-        r.0.quorums ≡ first.now.system.quorums ++ plan_quorums (option_map (λ s. s.0) second.now)) }
-    ensures firsts { IfOk result (λ r. r.0.firsts ≡ length first.now.system.quorums) }
-    ensures clients { IfOk result (λ r. r.0.clients ≡ clients) }
-    ensures limit { IfOk result (λ r. r.0.limit ≡ max_tickets) }
-    ensures root { IfOk result (λ r. (r.1.table ≡ r.0.table)
-        × (r.1.seats ≡ first.now.system.voters + clients) × (r.1.passes ≡ [])) }
-    ensures voter_seats { IfOk result (λ r.
-        (v : ℕ) → slice_index_or r.1.voters v false ≡ nat_lt v first.now.system.voters) }
-    ensures client_seats { IfOk result (λ r. (c : ℕ) → slice_index_or r.1.clients c false ≡ nat_lt c clients) }
+    ensures { IfOk result (IsNewBoard first.now.system.voters
+        (first.now.system.quorums ++ plan_quorums (option_map (λ s. s.0) second.now))
+        (length first.now.system.quorums) clients max_tickets) }
 {
     match second {
         Some((_, bridge)) => Board::bridged(alloc, bridge, clients, MAX_TICKETS),

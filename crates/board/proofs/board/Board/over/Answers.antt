@@ -1,5 +1,6 @@
 use Rattle.std.proofs.Common.{◌≡◌, length, ◌+◌, ◌<◌, ℕ, true, false, get_or, List, [], ◌∷◌, sym, ap, ◌∙◌, subst, arith}
 use Rattle.std.proofs.lemmas.List.{length-replicate}
+use Rattle.std.proofs.lemmas.Bool.{ltb-true}
 use Rattle.atomic_table.specs.Table.{Me}
 use Rattle.atomic_table.specs.Seated.{TableId}
 use Rattle.board.specs.declared.table.View.{View}
@@ -8,7 +9,7 @@ use Rattle.board.specs.Rule.{IsKept}
 use Rattle.board.specs.Seats.{Setting}
 use Rattle.board.specs.Views.{root_view}
 use Rattle.board.proofs.Ends.{IsKept-start}
-use Rattle.board.proofs.RootFields.{IsRoot-fresh, lt-from_nat_lt}
+use Rattle.board.proofs.RootFields.{IsRoot-fresh}
 use Rattle.board.proofs.board.Board.over.Goals as goal
 
 pub of_words-requires : goal.of_words-requires
@@ -43,7 +44,7 @@ invariant_of-root c =
     let clients : c.from.result ≡ c.args.clients = c.from.ensures in
     let view = root_view c.args.voters c.args.clients in
     let long : length c.as_slice.result.now ≡ c.args.voters + 1 = ap length (c.as_slice.ensures.value ∙ c.in_ok-words.ensures) ∙ length-replicate (c.args.voters + 1) 0 in
-    let on_below : (v : ℕ) → get_or c.first.result v false ≡ true → v < c.args.voters = λ v on. lt-from_nat_lt v c.args.voters (sym (c.first.ensures.first v) ∙ on) in
+    let on_below : (v : ℕ) → get_or c.first.result v false ≡ true → v < c.args.voters = λ v on. ltb-true v c.args.voters (sym (c.first.ensures.first v) ∙ on) in
     record {
       no_slots = ap (λ (m : Me (Unit {0}) View). m.1) made.4;
       root = subst (λ (x : View × List (ℕ × ℕ)). IsRoot x.0 (c.args.voters + c.from.result) c.first.result c.first-2.result x.1)

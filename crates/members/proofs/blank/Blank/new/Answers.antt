@@ -1,6 +1,7 @@
-use Rattle.std.proofs.Common.{◌≡◌, ◌+◌, ◌*◌, ◌≤◌, ◌++◌, Option, length, nat_lt, sym, ap, ◌∙◌, subst}
+use Rattle.std.proofs.Common.{◌≡◌, ◌*◌, ◌≤◌, ◌++◌, Option, length, sym, ap, ◌∙◌, subst}
 use Rattle.std.specs.Prelude.{option_map}
 use Rattle.quorum_set.specs.Coteries.{QuorumSystem}
+use Rattle.board.specs.Roots.{HasAllSeats}
 use Rattle.certificate.specs.Certificates.{Weighted}
 use Rattle.dealer.specs.Offices.{OfficeName}
 use Rattle.clerks.specs.Clerks.{fresh_clerks, office_names, offices_with, plan_quorums}
@@ -39,8 +40,6 @@ invariant_of-result c =
       offices_are = opened.quota ∙ ap (offices_with names) quota;
       voters_are = same;
       clients_are = sym made.clients;
-      root_is = (made.root.0, made.root.1 ∙ ap (λ n. n + c.args.clients) (sym voters), made.root.2);
-      voter_seats = λ v. made.voter_seats v ∙ ap (nat_lt v) (sym voters);
-      client_seats = made.client_seats;
+      root_is = subst (λ n. HasAllSeats c.in_ok-board.board.table n c.args.clients c.in_ok-board.root) (sym voters) made.root;
       clerks_are = opened.clerks ∙ ap (fresh_clerks names) quota;
     }
