@@ -19,8 +19,8 @@ use Rattle.quorum_set.specs.declared.bridge.Side.TheVariants.{First, Second}
 use Rattle.clerks.specs.Clerks.{ClerksState, drawn, drawn_by, may_exchange, may_exchange_from, receipts_in, receipts_of, rest_in, rest_of, with_receipt}
 use Rattle.run_outcome.specs.declared.fault.ClusterFault.{ClusterFault}
 use Rattle.run_outcome.specs.declared.fault.ClusterFault.TheVariants as ends
-use Rattle.members.specs.Members.{AreIdle, MemberState, RefusesAsk, RefusesPass}
-use Rattle.cluster.specs.Drives.{EndsWork, HasMore, HasServed, HasServedOn, IsBack, IsBackBy, HasEndedOn, KeepsWork, LeavesTurns, Stops, TookTurns, WasLet, Worked, draws_by}
+use Rattle.members.specs.Members.{AreIdle, MemberState, RefusesPass}
+use Rattle.cluster.specs.Drives.{EndsWork, HasMore, HasServed, HasServedOn, IsBack, IsBackBy, HasEndedOn, KeepsWork, Stops, TookTurns, WasLet, Worked, draws_by}
 use Rattle.cluster.specs.Drives.{draws_if, next_plan, on, side_after, side_if, wasted}
 
 -- More of a list
@@ -71,55 +71,6 @@ Worked-draw a b c r some client clerks seat k =
       },
       ap (λ (x : ClerksState). x.side) is ∙ side-drawn_by side a.clerks r,
     )
-
--- nothing was drawn
-on-zero : (side plan : Side) → on side plan 0 ≡ 0
-on-zero First First = refl
-on-zero First Second = refl
-on-zero Second First = refl
-on-zero Second Second = refl
-
-Worked-none : (a : MemberState) (n : ℕ) → n ≡ 0 → Worked (λ plan. on a.clerks.side plan n) 0 a a
-Worked-none a n none = record {
-  client = refl;
-  receipts = λ plan. ([], sym (append-nil (receipts_of a.clerks plan)), sym (ap (on a.clerks.side plan) none ∙ on-zero a.clerks.side plan));
-  rest = λ plan. omega (arith, ap (on a.clerks.side plan) none ∙ on-zero a.clerks.side plan);
-  passes = ([], sym (append-nil a.seat.passes), refl);
-  second = refl;
-}
-
--- who may not ask stops for what ends its work
-pub Stops-refused_ask : (a b : MemberState) (fault : ClusterFault) → is_idle a.requester.phase ≡ true → b ≡ a → RefusesAsk a fault → Stops a b fault
-Stops-refused_ask a b fault idle same r = subst (λ (m : MemberState). Stops a m fault) (sym same) (stops fault r)
-  where
-    stops : (fault : ClusterFault) → RefusesAsk a fault → Stops a a fault
-    stops (ends.Client Busy) r = absurd (true≢false (sym idle ∙ r))
-    stops (ends.Client StampsSpent) r = (Worked-none a 0 refl, refl, tt)
-    stops (ends.Client Outside) r = absurd r
-    stops (ends.Client NotAsking) r = absurd r
-    stops (ends.Deal QuotaSpent) r = (Worked-none a 0 refl, refl, r.2)
-    stops (ends.Deal NoRoom) r = (Worked-none a 0 refl, refl, r.2)
-    stops (ends.Board e) r = absurd r
-    stops ends.NotInside r = absurd r
-    stops (ends.TurnsSpent c) r = absurd r
-    stops ends.NoSecondPlan r = absurd r
-
--- who may not ask, or not pass, has turns left or not
-pub LeavesTurns-refused_ask : (a : MemberState) (left : ℕ) (fault : ClusterFault) → RefusesAsk a fault → LeavesTurns left fault
-LeavesTurns-refused_ask a left (ends.Client e) r = tt
-LeavesTurns-refused_ask a left (ends.Deal e) r = tt
-LeavesTurns-refused_ask a left (ends.Board e) r = absurd r
-LeavesTurns-refused_ask a left ends.NotInside r = absurd r
-LeavesTurns-refused_ask a left (ends.TurnsSpent c) r = absurd r
-LeavesTurns-refused_ask a left ends.NoSecondPlan r = absurd r
-
-pub LeavesTurns-refused_pass : (a : MemberState) (left : ℕ) (fault : ClusterFault) → RefusesPass a fault → LeavesTurns left fault
-LeavesTurns-refused_pass a left (ends.Client e) r = absurd r
-LeavesTurns-refused_pass a left (ends.Deal e) r = absurd r
-LeavesTurns-refused_pass a left (ends.Board e) r = tt
-LeavesTurns-refused_pass a left ends.NotInside r = tt
-LeavesTurns-refused_pass a left (ends.TurnsSpent c) r = absurd r
-LeavesTurns-refused_pass a left ends.NoSecondPlan r = absurd r
 
 -- who drew and is inside is refused a pass only by what ends its work
 pub Stops-refused_pass : (a b c : MemberState) (fault : ClusterFault) → 0 < rest_of a.clerks a.clerks.side → Worked (λ plan. on a.clerks.side plan 1) 0 a c × (c.clerks.side ≡ a.clerks.side)
