@@ -55,7 +55,8 @@ more_numbers : (done : List ℕ) (n : ℕ) (o : Option (List ℕ)) → option_ma
 more_numbers done n None = refl
 more_numbers done n (Some ns) = ap Some (append_assoc done (n ∷ []) ns)
 
-pub numbers_of-more : (values : List Value) (i : ℕ) (v : Value) (z : ℤ) (done after : List ℕ) (n : ℕ) (whole : Option (List ℕ)) → i < length values → v ≡ get_or values i v → Some z ≡ as_integer (view v)
+pub numbers_of-more : (values : List Value) (i : ℕ) (v : Value) (z : ℤ) (done after : List ℕ) (n : ℕ) (whole : Option (List ℕ)) → i < length values → v ≡ get_or values i v
+    → Some z ≡ as_integer (view v)
     → after ≡ done ++ n ∷ [] → n ≡ or_zero z → option_map (λ rest. done ++ rest) (numbers_of (items_view (drop i values))) ≡ whole
     → option_map (λ rest. after ++ rest) (numbers_of (items_view (drop (i + 1) values))) ≡ whole
 numbers_of-more values i v z done after n whole lt at is grown number so_far =

@@ -280,7 +280,8 @@ lacks_all x (v ∷ vs) none some = (let here = none v in grind (arith, nat_tests
 Lacks-client : (x z : ClientState) (cause : requester.Cause) (o : requester.Outcome) → IsSound z → o.state ≡ z → requester.step x cause ≡ Ok o → MeetsContract x cause o → Lacks x → Lacks z
 Lacks-client x z (requester.Asks q) o sound is taken contract h asks =
     let state : requester.begun x q ≡ z = ap (λ (p : requester.Outcome). p.state) (ask-Ok x q o taken) ∙ is in
-    subst (λ (w : ClientState). IsSound w → is_covered w ≡ false) state (λ ok. lacks_all (requester.begun x q) q (λ v. none_held (requester.begun x q) v (slice_index-replicate_zero max_voters v)) (ok.asked refl)) sound
+    subst (λ (w : ClientState). IsSound w → is_covered w ≡ false) state
+      (λ ok. lacks_all (requester.begun x q) q (λ v. none_held (requester.begun x q) v (slice_index-replicate_zero max_voters v)) (ok.asked refl)) sound
 Lacks-client x z (requester.Takes m) o sound is taken contract h asks =
     let same = take-Ok x m o taken in
     subst (λ (w : ClientState). Lacks w) (ap (λ (p : requester.Outcome). p.state) same ∙ is)
