@@ -31,4 +31,4 @@ pub deal_text-joined : (p : PlannedSystem) (n : ℕ) (receipts : List Receipt) (
 unfolding deal_text
 deal_text-joined p n receipts account drawn counts =
     ap₂ (λ (t : List ℕ) (a : Account). t ++ (account_text p.named.names a ++ ratio_part p.named.capacities a))
-        (ap (flat_map receipt_line) drawn ∙ receipt_lines p.plan (range_with_len 0 n)) counts
+    (ap (flat_map receipt_line) drawn ∙ receipt_lines p.plan (range_with_len 0 n)) counts

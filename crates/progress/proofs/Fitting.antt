@@ -281,7 +281,7 @@ Lacks-client : (x z : ClientState) (cause : requester.Cause) (o : requester.Outc
 Lacks-client x z (requester.Asks q) o sound is taken contract h asks =
     let state : requester.begun x q ≡ z = ap (λ (p : requester.Outcome). p.state) (ask-Ok x q o taken) ∙ is in
     subst (λ (w : ClientState). IsSound w → is_covered w ≡ false) state
-      (λ ok. lacks_all (requester.begun x q) q (λ v. none_held (requester.begun x q) v (slice_index-replicate_zero max_voters v)) (ok.asked refl)) sound
+    (λ ok. lacks_all (requester.begun x q) q (λ v. none_held (requester.begun x q) v (slice_index-replicate_zero max_voters v)) (ok.asked refl)) sound
 Lacks-client x z (requester.Takes m) o sound is taken contract h asks =
     let same = take-Ok x m o taken in
     subst (λ (w : ClientState). Lacks w) (ap (λ (p : requester.Outcome). p.state) same ∙ is)

@@ -105,7 +105,7 @@ no-relinquish_each : (x : ClientState) (vs : List ℕ) → NoAsks (requester.rel
 no-relinquish_each x [] = tt
 no-relinquish_each x (v ∷ vs) =
     AllByRecursion-append (λ (m : ToVoter). NoAsk m.body) (requester.relinquish x v).out (requester.relinquish_each (requester.relinquish x v).state vs).out
-      (no-relinquish x v) (no-relinquish_each (requester.relinquish x v).state vs)
+    (no-relinquish x v) (no-relinquish_each (requester.relinquish x v).state vs)
 
 no-failed_by : (b : Bool) (x : ClientState) (v : ℕ) → NoAsks (requester.failed_by b x v).out
 no-failed_by false x v = tt
@@ -237,7 +237,7 @@ brought cs v client c s (asks.Release t) asked brings is = absurd brings
 Placed-voter : (laws : Laws) (u x : WorldState) → VoterMoved u x → Placed u.clients u.voters u.sent → Placed x.clients x.voters x.sent
 Placed-voter laws u x k h = subst (λ (cs : List ClientState). Placed cs x.voters x.sent) (sym k.clients) (record {
   asked = subst (λ ms. AllByRecursion (AskedAt u.clients) ms) (sym k.sent)
-    (AllByRecursion-append (AskedAt u.clients) u.sent _ h.asked (all_sent (AskedAt u.clients) kinds.ToClient (λ m. tt) k.outcome.replies));
+      (AllByRecursion-append (AskedAt u.clients) u.sent _ h.asked (all_sent (AskedAt u.clients) kinds.ToClient (λ m. tt) k.outcome.replies));
   places = λ v c. each_voter (λ v y. IsPlaced c (client_at u.clients c) v y) u x k (λ s entry is.
       elim ((laws.voter.meets (voter_at u.voters k.message.voter) k.message k.outcome k.step).entries c s entry) [
         | inl before ↦ h.places k.message.voter c s before is
@@ -267,7 +267,7 @@ reminder_asked laws u ok more said = elim said [
         let x = client_at u.clients own.0 in
         subst (λ l. AllByRecursion (AskedAt u.clients) (map kinds.ToVoter l)) (sym own.2)
         (repeats_asked u.clients x own.0 (requester.remind x) refl (ok.numbered.clients own.0 own.1)
-          (laws.client.repeats x) (members_said x (requester.remind x) (laws.client.in_range x (ok.clients own.0))))
+        (laws.client.repeats x) (members_said x (requester.remind x) (laws.client.in_range x (ok.clients own.0))))
   ])
   | inr v ↦ subst (λ ms. AllByRecursion (AskedAt u.clients) ms) (sym v.2) (all_sent (AskedAt u.clients) kinds.ToClient (λ m. tt) (voter.remind (voter_at u.voters v.0)))
 ]

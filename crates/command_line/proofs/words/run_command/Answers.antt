@@ -14,8 +14,7 @@ rules = number_rule (codes "CLIENTS") 1 max_clients ∷ number_rule (codes "PASS
 -- the arguments have them
 have : (c : After-args-2) → HaveRules c.in_ok-arguments.arguments.items rules
 have c = rw c.in_ok-arguments.ensures.items
-    (c.number_argument.ensures.rule, c.number_argument.ensures.local, (c.number_argument-2.ensures.rule, c.number_argument-2.ensures.local,
-      (c.number_argument-3.ensures.rule, c.number_argument-3.ensures.local, tt)))
+    (c.number_argument.ensures.rule, c.number_argument.ensures.local, (c.number_argument-2.ensures.rule, c.number_argument-2.ensures.local, (c.number_argument-3.ensures.rule, c.number_argument-3.ensures.local, tt)))
 
 pub returns-clause-app : goal.returns-clause-app
 returns-clause-app c =

@@ -29,7 +29,7 @@ returns-in-Some-capacities_fault-clause-exact c =
     let lists = listed_by names c.args.quorums.now c.args.capacities.now in
     let none = later_fault names c.args.quorums.now c.args.capacities.now c.requires (sym c.in_default.ensures) (sym c.in_ok-j.ensures ∙ c.in_default-2.is) in
     let found = ap (λ n. capacities_fault n c.args.capacities.now) (length-map c.args.voters.now.keys (λ k. k.now) ∙ sym c.len-count.ensures.len)
-        ∙ sym c.capacities_fault.ensures.fault ∙ c.in-Some-capacities_fault.is in
+    ∙ sym c.capacities_fault.ensures.fault ∙ c.in-Some-capacities_fault.is in
     Refuses-Err c.in-Some-capacities_fault.fault (unless (lists_fault lists) (system_of lists))
     (ap (λ o. unless o (system_of lists)) (none ∙ ap (λ o. option_or o (option_map Coterie (first_fault (length names) (system_of lists).quorums))) found))
 
@@ -46,7 +46,7 @@ returns-then-count-gt-MAX_VOTERS-clause-exact c =
 -- the answer for these lists, by the sets that were made
 answer : (c : After-of) → (s : QuorumSystem) → s ≡ record { voters = c.len-count.result; quorums = c.in_ok-sets.sets.items }
     → unless (lists_fault (listed_by (map (λ k. k.now) c.args.voters.now.keys) c.args.quorums.now c.args.capacities.now))
-      (system_of (listed_by (map (λ k. k.now) c.args.voters.now.keys) c.args.quorums.now c.args.capacities.now))
+    (system_of (listed_by (map (λ k. k.now) c.args.voters.now.keys) c.args.quorums.now c.args.capacities.now))
     ≡ unless (option_map Coterie (first_fault s.voters s.quorums)) s
 answer c s is =
     let names = map (λ k. k.now) c.args.voters.now.keys in

@@ -8,7 +8,7 @@ loop-place-preserved c =
     let alike : c.name.result.now ≡ c.name-in-loop-place.result.now = search rules in
     record {
       same = same_more c.args.first.now.names c.args.second.now.names c.loop-place.place c.name.result.now c.name-in-loop-place.result.now c.loop-place.invariant.same
-        c.name.ensures.value c.name-in-loop-place.ensures.value alike;
+          c.name.ensures.value c.name-in-loop-place.ensures.value alike;
       within = search rules;
     }
 

@@ -21,13 +21,13 @@ returns-in_default-clause-read c = λ s h t.
 pub returns-in-Err-clause-bad : goal.returns-in-Err-clause-bad
 returns-in-Err-clause-bad c =
     bad_text c.args.text.now c.in-Some.sizes c.skip_notes-notes.result.1.now c.in-Some.body.now c.skip_notes-notes.result.0 c.in-Err.fault
-      c.skip_notes-notes.ensures.notes c.in-Some.ensures c.in-Err.ensures.bad
+    c.skip_notes-notes.ensures.notes c.in-Some.ensures c.in-Err.ensures.bad
 
 pub returns-in-Err-clause-read : goal.returns-in-Err-clause-read
 returns-in-Err-clause-read c = λ s h t.
     let bad =
     bad_text c.args.text.now c.in-Some.sizes c.skip_notes-notes.result.1.now c.in-Some.body.now c.skip_notes-notes.result.0 c.in-Err.fault
-      c.skip_notes-notes.ensures.notes c.in-Some.ensures c.in-Err.ensures.bad in
+    c.skip_notes-notes.ensures.notes c.in-Some.ensures c.in-Err.ensures.bad in
     never_refused c.args.text.now c.in-Err.fault s bad h t
 
 pub returns-in-Ok-clause-written : goal.returns-in-Ok-clause-written
@@ -36,7 +36,7 @@ returns-in-Ok-clause-written c =
     rw c.of.ensures (
       record { sizes = c.in-Some.ensures.has_line; turns = c.in-Ok.ensures.lines },
       whole_text c.args.text.now script c.skip_notes-notes.result.1.now c.in-Some.body.now c.skip_notes-notes.result.0 c.in-Ok.ensures.read.0
-        c.skip_notes-notes.ensures.notes c.in-Some.ensures c.in-Ok.ensures.read.1,
+          c.skip_notes-notes.ensures.notes c.in-Some.ensures c.in-Ok.ensures.read.1,
     )
 
 pub returns-in-Ok-clause-read : goal.returns-in-Ok-clause-read
@@ -44,5 +44,5 @@ returns-in-Ok-clause-read c = λ s h t.
     let script : Script = record { clients = c.in-Some.sizes.0; limit = c.in-Some.sizes.1; turns = c.in-Ok.turns.items } in
     let text : IsTextOf c.args.text.now script =
     whole_text c.args.text.now script c.skip_notes-notes.result.1.now c.in-Some.body.now c.skip_notes-notes.result.0 c.in-Ok.ensures.read.0
-      c.skip_notes-notes.ensures.notes c.in-Some.ensures c.in-Ok.ensures.read.1 in
+    c.skip_notes-notes.ensures.notes c.in-Some.ensures c.in-Ok.ensures.read.1 in
     c.of.ensures ∙ same_script c.args.text.now script s (record { sizes = c.in-Some.ensures.has_line; turns = c.in-Ok.ensures.lines }) h text t

@@ -14,7 +14,7 @@ lines-preserved c =
       have_lines = rw c.in_ok-push.ensures.items (HaveLines-push turn_form turns next.0 c.lines.invariant.have_lines c.in-Some.ensures.has_line);
       reads = rw c.in_ok-push.ensures.items
           (Reads-more c.args.text.now turns next.0 c.lines.rest.now next.1.now c.skip_notes-notes.result.1.now c.lines.count c.skip_notes-notes.result.0
-            c.lines.invariant.reads c.in-Some.ensures c.skip_notes-notes.ensures.notes);
+          c.lines.invariant.reads c.in-Some.ensures c.skip_notes-notes.ensures.notes);
       no_note = c.skip_notes-notes.ensures.no_more;
       few = omega (arith, c.skip_notes-notes.ensures.few, c.lines.invariant.few);
     }
