@@ -71,6 +71,16 @@ fn push_picture(text: &mut String, picture: &str) -> Result<(), AllocError>
     push_html(text, "</figure>\n")
 }
 
+/// Returns the even cycle of a plan, of which it makes a copy.
+fn even_of(alloc: Global, plan: &Plan) -> Result<EvenCycle, AllocError>
+    ensures plan { IfOk result (λ cycle. cycle.plan ≡ plan.now) }
+    ensures first { IfOk result (IsFirstBest (strides_of (cycle_len plan.now))) }
+{
+    let copied = plan.copy(alloc)?;
+    let even = EvenCycle::of(alloc, copied)?;
+    Ok(even)
+}
+
 /// Appends what is after the head.
 fn push_body(
     text: &mut String,
@@ -100,7 +110,7 @@ fn push_body(
 pub fn report_page(alloc: Global, named: &Named, plan: &Plan) -> Result<String, AllocError>
     ensures { IfOk result (λ page. IsReport named.now.names plan.now (string_bytes page)) }
 {
-    let even = EvenCycle::of(alloc, plan.copy(alloc)?)?;
+    let even = even_of(alloc, plan)?;
     let blocking = transversal_of(plan.coterie(), STEPS);
     let figures = quorum_figures(alloc, plan)?;
     let picture = load_picture(alloc, named, plan)?;

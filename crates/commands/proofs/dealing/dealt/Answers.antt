@@ -17,7 +17,7 @@ returns-clause-account c =
     let office = c.in_ok-office.office.name in
     let clerk = c.in_ok-clerk.clerk in
     IfOk-weaker c.closed.result (λ d. d.0 ≡ account_of office.cycle (tickets_of clerk.receipts)) (λ d. d.0 ≡ account_of c.args.plan (range_with_len 0 c.args.count))
-    (λ d is. account_of-dealt office c.args.plan c.args.count clerk d.0 (c.in_ok-office.ensures.cycle ∙ c.in_ok-cycle.ensures) c.in_ok-clerk.ensures is) c.closed.ensures.account
+    (λ d is. account_of-dealt office c.args.plan c.args.count clerk d.0 (c.in_ok-office.ensures.cycle ∙ c.in_ok-cycle.ensures.ok) c.in_ok-clerk.ensures is) c.closed.ensures.account
 
 pub returns-clause-one_each : goal.returns-clause-one_each
 returns-clause-one_each c =
@@ -25,6 +25,6 @@ returns-clause-one_each c =
     let clerk = c.in_ok-clerk.clerk in
     IfOk-weaker c.closed.result (λ d. d.0 ≡ account_of office.cycle (tickets_of clerk.receipts)) (λ d. length d.0.voters ≡ c.args.plan.system.voters)
     (λ d is.
-    ap (λ (a : Account). length a.voters) (account_of-dealt office c.args.plan c.args.count clerk d.0 (c.in_ok-office.ensures.cycle ∙ c.in_ok-cycle.ensures) c.in_ok-clerk.ensures is)
+    ap (λ (a : Account). length a.voters) (account_of-dealt office c.args.plan c.args.count clerk d.0 (c.in_ok-office.ensures.cycle ∙ c.in_ok-cycle.ensures.ok) c.in_ok-clerk.ensures is)
     ∙ length-map-range_with_len _ 0 c.args.plan.system.voters)
     c.closed.ensures.account
