@@ -11,8 +11,8 @@ use Rattle.numbers.specs.Sums.{sum_below, AreAllBelow}
 use Rattle.numbers.proofs.SumLemmas.{elem-le-sum_by, sum_by-alone_at, AreAllBelow-from_sums}
 use Rattle.board.specs.declared.table.View.{View}
 use Rattle.board.specs.Seats.{Setting}
-use Rattle.board.specs.Words.{taken, is}
-use Rattle.board.specs.Rule.{present, holds_vote, IsVote, IsReading, IsKept, Kept}
+use Rattle.board.specs.Words.{taken_word, is}
+use Rattle.board.specs.Rule.{presence, holds_vote, IsVote, IsReading, IsKept, Kept}
 use Rattle.board.specs.Views.{root_view}
 use Rattle.board.proofs.Words.{is-apart, is-next}
 use Rattle.board.proofs.Giving.{none_held}
@@ -31,12 +31,12 @@ IsKept-start sheet few_voters few_clients small =
         shape = inl refl;
         current = λ name. let one : slice_index root.voters v ≡ 1 = get_or-replicate 64 v 1 0 (omega arith) in
             let is_one : is (slice_index root.voters v) (name + 1) ≡ is 0 name = ap (λ (k : ℕ). is k (name + 1)) one ∙ is-next 0 name in
-            omega (arith, sum_by-cons (present v name) root []);
+            omega (arith, sum_by-cons (presence v name) root []);
         held = λ name large. omega (
           arith,
           sum_by-cons (holds_vote v name) root [],
           none_held v name root (omega arith) (get_or_past [] v 0 (omega arith)) large,
-          is-apart 0 (taken name) (λ e. omega arith),
+          is-apart 0 (taken_word name) (λ e. omega arith),
         );
       };
       readings = only (IsReading sheet (slice_index words n)) tt;

@@ -14,10 +14,10 @@ use Rattle.numbers.proofs.SumLemmas.{sum_by-set_elem, two-le-sum_by}
 use Rattle.board.specs.declared.table.View.{View}
 use Rattle.board.specs.Seats.{Setting}
 use Rattle.board.specs.Words.{name_of, is, nobody}
-use Rattle.board.specs.Rule.{present, holds_vote, IsVote, IsReading, IsKept, Kept}
+use Rattle.board.specs.Rule.{presence, holds_vote, IsVote, IsReading, IsKept, Kept}
 use Rattle.board.specs.Views.{current_name, voter_view, client_view, without_voter, without_client, with_voter, with_client, spent_view}
 use Rattle.board.proofs.Words.{is-same, is-apart}
-use Rattle.board.proofs.Votes.{TableState, each-set_view, IsVote-present}
+use Rattle.board.proofs.Votes.{TableState, each-set_view, IsVote-presence}
 
 -- nothing is read past the end, and of nobody
 pub nobody-at : (k : ℕ) → slice_index nobody k ≡ 0
@@ -29,7 +29,7 @@ nobody-at k = in_range (dec_le 64 k)
 
 -- The rule after one view was changed and another added. Of each vote and in the other sums the two are what the one was
 split_keeps : (sheet : Setting) (s : TableState) → Kept sheet s → (id : ℕ) (u l n : View) → get_elem? s.views id ≡ some u
-    → ((v : ℕ) → v < sheet.voters → (name : ℕ) → present v name l + present v name n ≡ present v name u)
+    → ((v : ℕ) → v < sheet.voters → (name : ℕ) → presence v name l + presence v name n ≡ presence v name u)
     → ((v : ℕ) → v < sheet.voters → (name : ℕ) → 64 ≤ name → holds_vote v name l + holds_vote v name n ≡ holds_vote v name u)
     → (l.parts + n.parts ≡ u.parts) → ((h : ℕ → ℕ) → sum_by h l.passes + sum_by h n.passes ≡ sum_by h u.passes)
     → ((x : ℕ) → IsReading sheet x u → IsReading sheet x l × IsReading sheet x n)
@@ -47,7 +47,7 @@ split_keeps sheet s r id u l n at voters held parts passes reading idle client =
       long = r.long;
       votes = λ v inside. let vote = r.votes v inside in record {
         shape = vote.shape;
-        current = λ name. omega (arith, sum_by_push (present v name) (set s.views id l) n, sum_by-set_elem (present v name) s.views id u l at, vote.current name, voters v inside name);
+        current = λ name. omega (arith, sum_by_push (presence v name) (set s.views id l) n, sum_by-set_elem (presence v name) s.views id u l at, vote.current name, voters v inside name);
         held = λ name large. omega (arith, sum_by_push (holds_vote v name) (set s.views id l) n, sum_by-set_elem (holds_vote v name) s.views id u l at, vote.held name large, held v inside name large);
       };
       readings = all (IsReading sheet x) both.0 both.1 r.readings;
@@ -61,7 +61,7 @@ split_keeps sheet s r id u l n at voters held parts passes reading idle client =
     }
 
 -- a voter's seat is to all other votes nobody's
-far_present : (n v : ℕ) (current : Option (ℕ × ℕ)) → v ≢ n → (name : ℕ) → present v name (voter_view n current) ≡ 0
+far_present : (n v : ℕ) (current : Option (ℕ × ℕ)) → v ≢ n → (name : ℕ) → presence v name (voter_view n current) ≡ 0
 far_present n v current far name = is-apart (slice_index (set nobody n (current_name current + 1)) v) (name + 1) (λ e. let z = get_or-set_other nobody n v (current_name current + 1) 0 far
     ∙ nobody-at v in omega arith)
 
@@ -105,7 +105,7 @@ Splits-without_client sheet id u n few some_part s r at =
 
 -- The rule after one view took in another. Of each vote and in the other sums the one is what the two were
 join_keeps : (sheet : Setting) (s : TableState) → Kept sheet s → (id other : ℕ) (u w b : View) → get_elem? s.views id ≡ some u → ¬ (other ≡ id) → get_elem? s.views other ≡ some w
-    → ((v : ℕ) → v < sheet.voters → (name : ℕ) → present v name b ≡ present v name u + present v name w)
+    → ((v : ℕ) → v < sheet.voters → (name : ℕ) → presence v name b ≡ presence v name u + presence v name w)
     → ((v : ℕ) → v < sheet.voters → (name : ℕ) → 64 ≤ name → holds_vote v name b ≡ holds_vote v name u + holds_vote v name w)
     → (b.parts ≡ u.parts + w.parts) → ((h : ℕ → ℕ) → sum_by h b.passes ≡ sum_by h u.passes + sum_by h w.passes)
     → ((x : ℕ) → IsReading sheet x u → IsReading sheet x b)
@@ -118,15 +118,15 @@ join_keeps sheet s r id other u w b at apart there voters held parts passes read
     let all : (F : View → Type 0) → F b → F spent_view → ((i : ℕ) (z : View) → get_elem? s.views i ≡ some z → F z) → (i : ℕ) (z : View)
     → get_elem? (set (set s.views id b) other spent_view) i ≡ some z → F z =
     λ F of_b of_spent old. each-set_view F (set s.views id b) other spent_view (λ j y _ d. each-set_view F s.views id b (λ k q _ f. old k q f) of_b j y d) of_spent in
-    let spent_present : (v name : ℕ) → present v name spent_view ≡ 0 = λ v name. is-apart (slice_index nobody v) (name + 1) (λ d. let e = nobody-at v in omega arith) in
+    let spent_present : (v name : ℕ) → presence v name spent_view ≡ 0 = λ v name. is-apart (slice_index nobody v) (name + 1) (λ d. let e = nobody-at v in omega arith) in
     record {
       long = r.long;
       votes = λ v inside. let vote = r.votes v inside in record {
         shape = vote.shape;
         current = λ name. omega (
           arith,
-          sum_by-set_elem (present v name) (set s.views id b) other w spent_view there',
-          sum_by-set_elem (present v name) s.views id u b at,
+          sum_by-set_elem (presence v name) (set s.views id b) other w spent_view there',
+          sum_by-set_elem (presence v name) s.views id u b at,
           vote.current name,
           voters v inside name,
           spent_present v name,
@@ -164,12 +164,12 @@ was_there views id other b w apart e = sym (set_else views id other b apart) ∙
 pub IsVote-one_has : (v word : ℕ) (views : List View) → IsVote v word views → (i j : ℕ) (u w : View) → i ≢ j → get_elem? views i ≡ some u → get_elem? views j ≡ some w
     → (a b : ℕ) → slice_index u.voters v ≡ a + 1 → slice_index w.voters v ≡ b + 1 → ⊥
 IsVote-one_has v word views r i j u w apart at at' a b of_u of_w =
-    let x = IsVote-present v word views r i u at a of_u in
-    let y = IsVote-present v word views r j w at' b of_w in
-    let one : present v a u ≡ 1 = is-same (slice_index u.voters v) (a + 1) of_u in
-    let two : present v a w ≡ 1 = is-same (slice_index w.voters v) (a + 1) (omega arith) in
+    let x = IsVote-presence v word views r i u at a of_u in
+    let y = IsVote-presence v word views r j w at' b of_w in
+    let one : presence v a u ≡ 1 = is-same (slice_index u.voters v) (a + 1) of_u in
+    let two : presence v a w ≡ 1 = is-same (slice_index w.voters v) (a + 1) (omega arith) in
     let most : is (word / 4) a ≡ 1 = is-same (word / 4) a x in
-    omega (arith, two-le-sum_by (present v a) views i j u w apart at at', r.current a)
+    omega (arith, two-le-sum_by (presence v a) views i j u w apart at at', r.current a)
 
 pub Joins-with_voter : (sheet : Setting) (id : ℕ) (u : View) (other n : ℕ) → n < sheet.voters → n < 64 → length u.voters ≡ 64
     → Joins (Kept sheet) id u other (voter_view n None) (with_voter n u (voter_view n None)) spent_view

@@ -10,11 +10,11 @@ use lib.ListN.{get_elem?}
 use Rattle.board.specs.declared.table.View.{View}
 use Rattle.board.specs.Seats.{Setting}
 use Rattle.board.specs.Quorums.{quorum_at, HoldsAll}
-use Rattle.board.specs.Words.{name_of, offered, taken, returned, is}
-use Rattle.board.specs.Rule.{present, holds_vote, IsVote, IsReading, Kept}
+use Rattle.board.specs.Words.{name_of, offered_word, taken_word, returned_word, is}
+use Rattle.board.specs.Rule.{presence, holds_vote, IsVote, IsReading, Kept}
 use Rattle.board.specs.VotesKept.{IsWordOf, OneSeatHas, Holds, KeepsVotes}
 use Rattle.board.proofs.Words.{is-same, is-one}
-use Rattle.board.proofs.Votes.{TableState, IsVote-present, IsVote-holds}
+use Rattle.board.proofs.Votes.{TableState, IsVote-presence, IsVote-holds}
 use Rattle.board.proofs.Register.{IsVote-one_holds}
 use Rattle.board.proofs.Giving.{IsVote-one_has}
 use Rattle.numbers.proofs.SumLemmas.{AreAllBelow-from_sums}
@@ -33,7 +33,7 @@ present_alone : (v word : ℕ) (views : List View) → IsVote v word views → O
 present_alone v word views r =
     let name : ℕ = word / 4 in
     let most : is name name ≡ 1 = is-same name name refl in
-    let found = counts_some (present v name) views (omega (arith, r.current name)) in
+    let found = counts_some (presence v name) views (omega (arith, r.current name)) in
     let here : slice_index found.1.voters v ≡ name + 1 = is-one (slice_index found.1.voters v) (name + 1) found.3 in (
       found.0,
       found.1,
@@ -44,10 +44,10 @@ present_alone v word views r =
     )
 
 -- what the word says, by the name that it has
-state_of : (name word : ℕ) → word / 4 ≡ name → 1 ≤ word % 4 → (word ≡ offered name) ⊎ (word ≡ taken name) ⊎ (word ≡ returned name)
+state_of : (name word : ℕ) → word / 4 ≡ name → 1 ≤ word % 4 → (word ≡ offered_word name) ⊎ (word ≡ taken_word name) ⊎ (word ≡ returned_word name)
 state_of name word named some_state = state (dec_le (word % 4) 1) (dec_le (word % 4) 2)
   where
-    state : Dec (word % 4 ≤ 1) → Dec (word % 4 ≤ 2) → (word ≡ offered name) ⊎ (word ≡ taken name) ⊎ (word ≡ returned name)
+    state : Dec (word % 4 ≤ 1) → Dec (word % 4 ≤ 2) → (word ≡ offered_word name) ⊎ (word ≡ taken_word name) ⊎ (word ≡ returned_word name)
     state (yes first) _ = inl (omega (arith, named, some_state))
     state (no later) (yes second) = inr (inl (omega (arith, named, some_state, later)))
     state (no later) (no third) = inr (inr (omega (arith, named, some_state, third)))
@@ -58,14 +58,14 @@ word_of v word views r (suc n) named = ⊎_elim (λ (e : word ≡ 0). absurd (om
 
 -- a vote is held by a client and a grant if and only if the word says so
 holds_as_said : (v c g word : ℕ) (views : List View) → IsVote v word views → ((i : ℕ) (u : View) → get_elem? views i ≡ some u → u.client < 64) → c < 64 → 1 ≤ g
-    → Holds views c v g ↔ (word ≡ taken (name_of c g))
+    → Holds views c v g ↔ (word ≡ taken_word (name_of c g))
 holds_as_said v c g word views r clients few some_grant = (
   λ (x : Holds views c v g).
       let here = IsVote-holds v word views r x.0 x.1 x.2 (λ e. let g_is = x.4 in omega arith) in
-      here ∙ (λ i. taken (name_of (x.3 i) (x.4 i))),
+      here ∙ (λ i. taken_word (name_of (x.3 i) (x.4 i))),
   λ said.
       let name : ℕ = name_of c g in
-      let most : is word (taken name) ≡ 1 = is-same word (taken name) said in
+      let most : is word (taken_word name) ≡ 1 = is-same word (taken_word name) said in
       let found = counts_some (holds_vote v name) views (omega (arith, r.held name (omega arith))) in
       let named : name_of found.1.client (slice_index found.1.held v) ≡ name = is-one (name_of found.1.client (slice_index found.1.held v)) name found.3 in
       let client = clients found.0 found.1 found.2 in
@@ -83,7 +83,7 @@ reading_is sheet register j x u r is = subst (λ (o : Option (ℕ × ℕ)). IsRe
 pub KeepsVotes-Kept : (sheet : Setting) (s : TableState) → Kept sheet s → KeepsVotes sheet s.words s.views
 KeepsVotes-Kept sheet s r = record {
   one_has = λ v inside. present_alone v (slice_index s.words v) s.views (r.votes v inside);
-  granted = λ v name i u inside at knows. let vote = r.votes v inside in word_of v (slice_index s.words v) s.views vote name (IsVote-present v (slice_index s.words v) s.views vote i u at name knows);
+  granted = λ v name i u inside at knows. let vote = r.votes v inside in word_of v (slice_index s.words v) s.views vote name (IsVote-presence v (slice_index s.words v) s.views vote i u at name knows);
   held = λ v c g inside few some_grant. holds_as_said v c g (slice_index s.words v) s.views (r.votes v inside) r.client few some_grant;
   one_holds = λ v i k u w inside at at' holds holds'. dite (ℕ_discrete i k) (λ same. same)
       (λ apart. absurd (IsVote-one_holds v (slice_index s.words v) s.views (r.votes v inside) i k u w apart at at' holds holds'));

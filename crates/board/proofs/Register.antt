@@ -12,7 +12,7 @@ use Rattle.board.specs.declared.table.View.{View}
 use Rattle.board.specs.Seats.{Setting}
 use Rattle.quorum_set.specs.Meetings.{Meet, AllMeet}
 use Rattle.board.specs.Quorums.{quorum_at, HoldsAll}
-use Rattle.board.specs.Words.{name_of, taken, is}
+use Rattle.board.specs.Words.{name_of, taken_word, is}
 use Rattle.board.specs.Rule.{holds_vote, IsVote, IsReading, IsKept, Kept}
 use Rattle.board.specs.Moves.{Mine, Read, Wrote, Counted}
 use Rattle.numbers.proofs.Members.{All-has}
@@ -78,11 +78,11 @@ pub IsVote-one_holds : (v word : ℕ) (views : List View) → IsVote v word view
 IsVote-one_holds v word views vote i j u z apart at at' mine theirs =
     let a : ℕ = name_of u.client (slice_index u.held v) in
     let b : ℕ = name_of z.client (slice_index z.held v) in
-    let says : word ≡ taken a = IsVote-holds v word views vote i u at mine in
-    let says' : word ≡ taken b = IsVote-holds v word views vote j z at' theirs in
+    let says : word ≡ taken_word a = IsVote-holds v word views vote i u at mine in
+    let says' : word ≡ taken_word b = IsVote-holds v word views vote j z at' theirs in
     let one : holds_vote v a u ≡ 1 = is-same a a refl in
     let two : holds_vote v a z ≡ 1 = is-same b a (omega arith) in
-    let most : is word (taken a) ≡ 1 = is-same word (taken a) says in
+    let most : is word (taken_word a) ≡ 1 = is-same word (taken_word a) says in
     omega (arith, two-le-sum_by (holds_vote v a) views i j u z apart at at', vote.held a (omega arith))
 
 -- two seats can't both hold quorums that meet

@@ -18,13 +18,13 @@ use Rattle.board.specs.Seats.{Setting}
 use Rattle.board.specs.Quorums.{quorum_at, HoldsAll}
 use Rattle.board.specs.declared.vote.Vote.{Vote}
 use Rattle.board.specs.declared.vote.Vote.TheVariants.{Free, Offered, Held, Returned}
-use Rattle.board.specs.Words.{name_of, offered, taken, returned, word_of, IsSettledFrom, is}
+use Rattle.board.specs.Words.{name_of, offered_word, taken_word, returned_word, word_of, IsSettledFrom, is}
 use Rattle.board.specs.Roots.{IsCurrent}
 use Rattle.board.specs.Views.{voter_view}
 use Rattle.board.proofs.VoterFields.{length-voter_view, slice_index-voter_view}
-use Rattle.board.specs.Rule.{present, holds_vote, IsVote, IsReading, IsKept, Kept}
+use Rattle.board.specs.Rule.{presence, holds_vote, IsVote, IsReading, IsKept, Kept}
 use Rattle.board.specs.Moves.{Mine, Granted, Settled, Took, GaveBack}
-use Rattle.board.proofs.Words.{is-same, is-apart, is-one, is-next, is-taken, offered-name, taken-name, returned-name, offered-not_taken, returned-not_taken, free-not_taken}
+use Rattle.board.proofs.Words.{is-same, is-apart, is-one, is-next, is-taken_word, offered_word-name, taken_word-name, returned_word-name, offered_word-not_taken, returned_word-not_taken, free-not_taken}
 
 abbrev pub TableState : Type 0
 TableState = State (Unit {0}) View
@@ -35,28 +35,28 @@ pub each-set_view : (F : View → Type 0) (views : List View) (id : ℕ) (w : Vi
 each-set_view F views id w others mine i u e = ⊎_elim (λ (x : (i ≡ id) × (w ≡ u)). subst F x.1 mine) (λ (x : (i ≢ id) × (get_elem? views i ≡ some u)). others i u x.0 x.1) (at_set views id i w u e)
 
 -- what the word says where a seat stands for its voter
-pub IsVote-present : (v word : ℕ) (views : List View) → IsVote v word views → (id : ℕ) (u : View) → get_elem? views id ≡ some u → (name : ℕ) → slice_index u.voters v ≡ name + 1 → word / 4 ≡ name
-IsVote-present v word views r id u at name here =
+pub IsVote-presence : (v word : ℕ) (views : List View) → IsVote v word views → (id : ℕ) (u : View) → get_elem? views id ≡ some u → (name : ℕ) → slice_index u.voters v ≡ name + 1 → word / 4 ≡ name
+IsVote-presence v word views r id u at name here =
     let one = is-same (slice_index u.voters v) (name + 1) here in
-    is-one (word / 4) name (omega (arith, elem-le-sum_by (present v name) views id u at, r.current name))
+    is-one (word / 4) name (omega (arith, elem-le-sum_by (presence v name) views id u at, r.current name))
 
 -- what the word says where a seat holds its vote
 pub IsVote-holds : (v word : ℕ) (views : List View) → IsVote v word views → (id : ℕ) (u : View) → get_elem? views id ≡ some u → slice_index u.held v ≢ 0
-    → word ≡ taken (name_of u.client (slice_index u.held v))
+    → word ≡ taken_word (name_of u.client (slice_index u.held v))
 IsVote-holds v word views r id u at here =
     let name : ℕ = name_of u.client (slice_index u.held v) in
     let one = is-same name name refl in
-    is-one word (taken name) (omega (arith, elem-le-sum_by (holds_vote v name) views id u at, r.held name (omega arith)))
+    is-one word (taken_word name) (omega (arith, elem-le-sum_by (holds_vote v name) views id u at, r.held name (omega arith)))
 
 -- one word with its name's state changes with one view
 vote_after : (v word x : ℕ) (views : List View) → IsVote v word views → (id : ℕ) (u w : View) → get_elem? views id ≡ some u
     → ((x ≡ 0) ⊎ ((64 ≤ x / 4) × (1 ≤ x % 4)))
-    → ((name : ℕ) → is (word / 4) name + present v name w ≡ is (x / 4) name + present v name u)
-    → ((name : ℕ) → 64 ≤ name → is word (taken name) + holds_vote v name w ≡ is x (taken name) + holds_vote v name u)
+    → ((name : ℕ) → is (word / 4) name + presence v name w ≡ is (x / 4) name + presence v name u)
+    → ((name : ℕ) → 64 ≤ name → is word (taken_word name) + holds_vote v name w ≡ is x (taken_word name) + holds_vote v name u)
     → IsVote v x (set views id w)
 vote_after v word x views r id u w at shape current held = record {
   shape = shape;
-  current = λ name. omega (arith, sum_by-set_elem (present v name) views id u w at, r.current name, current name);
+  current = λ name. omega (arith, sum_by-set_elem (presence v name) views id u w at, r.current name, current name);
   held = λ name large. omega (arith, sum_by-set_elem (holds_vote v name) views id u w at, r.held name large, held name large);
 }
 
@@ -67,7 +67,7 @@ pub IsVote-same : (v word : ℕ) (views : List View) → IsVote v word views →
 IsVote-same v word views r id u w at voters held =
     vote_after v word word views r id u w at r.shape
     (λ name. ap (λ (k : ℕ). is (word / 4) name + is k (name + 1)) voters)
-    (λ name large. ap (λ (k : ℕ). is word (taken name) + is k name) held)
+    (λ name large. ap (λ (k : ℕ). is word (taken_word name) + is k name) held)
 
 -- a step on the word of v, by a seat that keeps its part and its passes
 vote_step : (sheet : Setting) (s : TableState) → Kept sheet s → (id : ℕ) (u w : View) → get_elem? s.views id ≡ some u → (v x : ℕ) → v < sheet.voters
@@ -108,31 +108,31 @@ free_word : (v word : ℕ) (views : List View) → IsVote v word views → word 
 free_word v word views r free = ⊎_elim (λ e. e) (λ (named : (64 ≤ word / 4) × (1 ≤ word % 4)). absurd (omega arith)) r.shape
 
 pub Granted-allowed : (sheet : Setting) (slots id : ℕ) (me : Mine) (v name : ℕ) → v < sheet.voters → 64 ≤ name → v < length me.0.voters → slice_index me.0.voters v ≡ 1
-    → Allows (Kept sheet) slots id me v (λ _. offered name) (Granted (step slots v (offered name) 0 none) me)
+    → Allows (Kept sheet) slots id me v (λ _. offered_word name) (Granted (step slots v (offered_word name) 0 none) me)
 Granted-allowed sheet slots id me v name inside large room mine s r _ at _ =
     let u = me.0 in
-    let w : View = record u { voters = set u.voters v (offered name / 4 + 1) } in
+    let w : View = record u { voters = set u.voters v (offered_word name / 4 + 1) } in
     let word : ℕ = slice_index s.words v in
     let vote = r.votes v inside in
-    let free : word ≡ 0 = free_word v word s.views vote (IsVote-present v word s.views vote id u at 0 mine) in
-    let now : slice_index w.voters v ≡ name + 1 = get_or-set_same u.voters v (offered name / 4 + 1) 0 room ∙ ap (λ (k : ℕ). k + 1) (offered-name name) in
-    let after : IsVote v (offered name) (set s.views id w) = vote_after v word (offered name) s.views vote id u w at (inr (omega arith, omega arith))
+    let free : word ≡ 0 = free_word v word s.views vote (IsVote-presence v word s.views vote id u at 0 mine) in
+    let now : slice_index w.voters v ≡ name + 1 = get_or-set_same u.voters v (offered_word name / 4 + 1) 0 room ∙ ap (λ (k : ℕ). k + 1) (offered_word-name name) in
+    let after : IsVote v (offered_word name) (set s.views id w) = vote_after v word (offered_word name) s.views vote id u w at (inr (omega arith, omega arith))
     (λ k. let a : is (slice_index w.voters v) (k + 1) ≡ is name k = ap (λ (y : ℕ). is y (k + 1)) now ∙ is-next name k in
     let b : is (slice_index u.voters v) (k + 1) ≡ is 0 k = ap (λ (y : ℕ). is y (k + 1)) mine ∙ is-next 0 k in
     let c : is (word / 4) k ≡ is 0 k = ap (λ (y : ℕ). is (y / 4) k) free in
-    let d : is (offered name / 4) k ≡ is name k = ap (λ (y : ℕ). is y k) (offered-name name) in
+    let d : is (offered_word name / 4) k ≡ is name k = ap (λ (y : ℕ). is y k) (offered_word-name name) in
     omega arith)
-    (λ k _. let a : is word (taken k) ≡ 0 = ap (λ (y : ℕ). is y (taken k)) free ∙ free-not_taken k in omega (arith, offered-not_taken name k)) in (
+    (λ k _. let a : is word (taken_word k) ≡ 0 = ap (λ (y : ℕ). is y (taken_word k)) free ∙ free-not_taken k in omega (arith, offered_word-not_taken name k)) in (
       w,
       keeps,
       tt,
-      vote_step sheet s r id u w at v (offered name) inside (λ k other. (get_or-set_other u.voters v k (offered name / 4 + 1) 0 other, refl)) after refl refl refl (r.readings id u at),
-      (free, ap offered (sym (offered-name name)), refl),
+      vote_step sheet s r id u w at v (offered_word name) inside (λ k other. (get_or-set_other u.voters v k (offered_word name / 4 + 1) 0 other, refl)) after refl refl refl (r.readings id u at),
+      (free, ap offered_word (sym (offered_word-name name)), refl),
     )
 
 -- the same by the word
 pub Granted-allowed_by_word : (sheet : Setting) (slots id : ℕ) (me : Mine) (v name word : ℕ) → v < sheet.voters → 64 ≤ name → v < length me.0.voters → slice_index me.0.voters v ≡ 1
-    → word ≡ offered name
+    → word ≡ offered_word name
     → Allows (Kept sheet) slots id me v (λ _. word) (Granted (step slots v word 0 none) me)
 Granted-allowed_by_word sheet slots id me v name word inside large room mine is_word =
     subst (λ (x : ℕ). Allows (Kept sheet) slots id me v (λ _. x) (Granted (step slots v x 0 none) me)) (sym is_word) (Granted-allowed sheet slots id me v name inside large room mine)
@@ -168,19 +168,19 @@ Allows-weaken sheet slots id me v f then more follow allowed s r long at small =
 
 -- a grant ends, where its word is offered or returned
 pub Settled-allowed : (sheet : Setting) (slots id : ℕ) (me : Mine) (v name old : ℕ) → v < sheet.voters → 64 ≤ name → v < length me.0.voters → slice_index me.0.voters v ≡ name + 1
-    → ((old ≡ offered name) ⊎ (old ≡ returned name))
+    → ((old ≡ offered_word name) ⊎ (old ≡ returned_word name))
     → Allows (Kept sheet) slots id me v (λ n. either (eqb n old) 0 n) (Settled (step slots v old 0 none) me)
 Settled-allowed sheet slots id me v name old inside large room mine which =
     let u = me.0 in
     let w : View = record u { voters = set u.voters v 1 } in
-    let named : old / 4 ≡ name = ⊎_elim (λ (e : old ≡ offered name). ap (λ (y : ℕ). y / 4) e ∙ offered-name name) (λ (e : old ≡ returned name). ap (λ (y : ℕ). y / 4) e ∙ returned-name name) which in
-    let none_taken : (k : ℕ) → is old (taken k) ≡ 0 = λ k. ⊎_elim (λ (e : old ≡ offered name). ap (λ (y : ℕ). is y (taken k)) e ∙ offered-not_taken name k)
-    (λ (e : old ≡ returned name). ap (λ (y : ℕ). is y (taken k)) e ∙ returned-not_taken name k) which in
+    let named : old / 4 ≡ name = ⊎_elim (λ (e : old ≡ offered_word name). ap (λ (y : ℕ). y / 4) e ∙ offered_word-name name) (λ (e : old ≡ returned_word name). ap (λ (y : ℕ). y / 4) e ∙ returned_word-name name) which in
+    let none_taken : (k : ℕ) → is old (taken_word k) ≡ 0 = λ k. ⊎_elim (λ (e : old ≡ offered_word name). ap (λ (y : ℕ). is y (taken_word k)) e ∙ offered_word-not_taken name k)
+    (λ (e : old ≡ returned_word name). ap (λ (y : ℕ). is y (taken_word k)) e ∙ returned_word-not_taken name k) which in
     let now : slice_index w.voters v ≡ 1 = get_or-set_same u.voters v 1 0 room in
     let f : ℕ → ℕ = λ n. either (eqb n old) 0 n in
     let known : slice_index u.voters v ≡ old / 4 + 1 = mine ∙ ap (λ (y : ℕ). y + 1) (sym named) in
-    let state : (old ≡ offered (old / 4)) ⊎ (old ≡ returned (old / 4)) = ⊎_elim (λ (e : old ≡ offered name). inl (e ∙ ap offered (sym named)))
-    (λ (e : old ≡ returned name). inr (e ∙ ap returned (sym named))) which in
+    let state : (old ≡ offered_word (old / 4)) ⊎ (old ≡ returned_word (old / 4)) = ⊎_elim (λ (e : old ≡ offered_word name). inl (e ∙ ap offered_word (sym named)))
+    (λ (e : old ≡ returned_word name). inr (e ∙ ap returned_word (sym named))) which in
     Allows-weaken sheet slots id me v f (Then sheet slots id me v old 0 w) (Settled (step slots v old 0 none) me) (λ found m h. (known, state, refl, h.0, h.1)) (swapped sheet slots id me v old 0 w
     (λ s r at e.
     let word : ℕ = slice_index s.words v in
@@ -190,7 +190,7 @@ Settled-allowed sheet slots id me v name old inside large room mine which =
     let b : is (slice_index u.voters v) (k + 1) ≡ is name k = ap (λ (y : ℕ). is y (k + 1)) mine ∙ is-next name k in
     let c : is (word / 4) k ≡ is name k = ap (λ (y : ℕ). is y k) (ap (λ (y : ℕ). y / 4) e ∙ named) in
     omega arith)
-    (λ k _. let a : is word (taken k) ≡ 0 = ap (λ (y : ℕ). is y (taken k)) e ∙ none_taken k in omega (arith, free-not_taken k)) in
+    (λ k _. let a : is word (taken_word k) ≡ 0 = ap (λ (y : ℕ). is y (taken_word k)) e ∙ none_taken k in omega (arith, free-not_taken k)) in
     vote_step sheet s r id u w at v 0 inside (λ k other. (get_or-set_other u.voters v k 1 0 other, refl)) after refl refl refl (r.readings id u at)))
 
 -- the same by the state and its word, for the seat of the voter
@@ -221,34 +221,34 @@ reading_more sheet register None u v g room some_grant h = tt
 reading_more sheet register (Some r) u v g room some_grant h = (h.0, more_held (quorum_at sheet.quorums r.0) u.held v g room some_grant h.1, h.2)
 
 pub Took-allowed : (sheet : Setting) (slots id : ℕ) (me : Mine) (v grant : ℕ) → v < sheet.voters → 1 ≤ grant → me.0.client < 64 → v < length me.0.held → slice_index me.0.held v ≡ 0
-    → Allows (Kept sheet) slots id me v (λ n. either (eqb n (offered (name_of me.0.client grant))) (taken (name_of me.0.client grant)) n)
-    (Took (step slots v (offered (name_of me.0.client grant)) (taken (name_of me.0.client grant)) none) me)
+    → Allows (Kept sheet) slots id me v (λ n. either (eqb n (offered_word (name_of me.0.client grant))) (taken_word (name_of me.0.client grant)) n)
+    (Took (step slots v (offered_word (name_of me.0.client grant)) (taken_word (name_of me.0.client grant)) none) me)
 Took-allowed sheet slots id me v grant inside large client room mine =
     let u = me.0 in
     let name : ℕ = name_of u.client grant in
-    let w : View = record u { held = set u.held v (offered name / 256) } in
-    let is_grant : offered name / 256 ≡ grant = omega arith in
-    let now : slice_index w.held v ≡ grant = get_or-set_same u.held v (offered name / 256) 0 room ∙ is_grant in
-    let f : ℕ → ℕ = λ n. either (eqb n (offered name)) (taken name) n in
-    let named : name ≡ name_of u.client (offered name / 256) = ap (name_of u.client) (sym is_grant) in
-    Allows-weaken sheet slots id me v f (Then sheet slots id me v (offered name) (taken name) w) (Took (step slots v (offered name) (taken name) none) me)
-    (λ found m h. (ap offered named, ap taken named, h.0, h.1)) (swapped sheet slots id me v (offered name) (taken name) w
+    let w : View = record u { held = set u.held v (offered_word name / 256) } in
+    let is_grant : offered_word name / 256 ≡ grant = omega arith in
+    let now : slice_index w.held v ≡ grant = get_or-set_same u.held v (offered_word name / 256) 0 room ∙ is_grant in
+    let f : ℕ → ℕ = λ n. either (eqb n (offered_word name)) (taken_word name) n in
+    let named : name ≡ name_of u.client (offered_word name / 256) = ap (name_of u.client) (sym is_grant) in
+    Allows-weaken sheet slots id me v f (Then sheet slots id me v (offered_word name) (taken_word name) w) (Took (step slots v (offered_word name) (taken_word name) none) me)
+    (λ found m h. (ap offered_word named, ap taken_word named, h.0, h.1)) (swapped sheet slots id me v (offered_word name) (taken_word name) w
     (λ s r at e.
     let word : ℕ = slice_index s.words v in
     let vote = r.votes v inside in
-    let after : IsVote v (taken name) (set s.views id w) = vote_after v word (taken name) s.views vote id u w at (inr (omega arith, omega arith))
-    (λ k. let c : is (word / 4) k ≡ is name k = ap (λ (y : ℕ). is y k) (ap (λ (y : ℕ). y / 4) e ∙ offered-name name) in
-    let d : is (taken name / 4) k ≡ is name k = ap (λ (y : ℕ). is y k) (taken-name name) in
+    let after : IsVote v (taken_word name) (set s.views id w) = vote_after v word (taken_word name) s.views vote id u w at (inr (omega arith, omega arith))
+    (λ k. let c : is (word / 4) k ≡ is name k = ap (λ (y : ℕ). is y k) (ap (λ (y : ℕ). y / 4) e ∙ offered_word-name name) in
+    let d : is (taken_word name / 4) k ≡ is name k = ap (λ (y : ℕ). is y k) (taken_word-name name) in
     omega arith)
-    (λ k wide. let a : is word (taken k) ≡ 0 = ap (λ (y : ℕ). is y (taken k)) e ∙ offered-not_taken name k in
+    (λ k wide. let a : is word (taken_word k) ≡ 0 = ap (λ (y : ℕ). is y (taken_word k)) e ∙ offered_word-not_taken name k in
     let b : is (name_of w.client (slice_index w.held v)) k ≡ is name k = ap (λ (y : ℕ). is (name_of u.client y) k) now in
     let c : is (name_of u.client (slice_index u.held v)) k ≡ 0 = is-apart (name_of u.client (slice_index u.held v)) k (λ z. omega arith) in
-    omega (arith, is-taken name k)) in
-    vote_step sheet s r id u w at v (taken name) inside (λ k other. (refl, ap (name_of u.client) (get_or-set_other u.held v k (offered name / 256) 0 other))) after refl refl refl
-    (reading_more sheet (slice_index s.words sheet.voters) u.reading u v (offered name / 256) room (λ z. omega arith) (r.readings id u at))))
+    omega (arith, is-taken_word name k)) in
+    vote_step sheet s r id u w at v (taken_word name) inside (λ k other. (refl, ap (name_of u.client) (get_or-set_other u.held v k (offered_word name / 256) 0 other))) after refl refl refl
+    (reading_more sheet (slice_index s.words sheet.voters) u.reading u v (offered_word name / 256) room (λ z. omega arith) (r.readings id u at))))
 
 pub GaveBack-allowed : (sheet : Setting) (slots id : ℕ) (me : Mine) (v new : ℕ) → v < sheet.voters → me.0.client < 64 → v < length me.0.held → slice_index me.0.held v ≢ 0
-    → new ≡ returned (name_of me.0.client (slice_index me.0.held v))
+    → new ≡ returned_word (name_of me.0.client (slice_index me.0.held v))
     → Allows (Kept sheet) slots id me v (λ _. new) (GaveBack (step slots v new 0 none) me)
 GaveBack-allowed sheet slots id me v new inside client room mine which s r _ at _ =
     let u = me.0 in
@@ -256,15 +256,15 @@ GaveBack-allowed sheet slots id me v new inside client room mine which s r _ at 
     let w : View = record u { held = set u.held v 0; reading = None } in
     let word : ℕ = slice_index s.words v in
     let vote = r.votes v inside in
-    let e : word ≡ taken name = IsVote-holds v word s.views vote id u at mine in
+    let e : word ≡ taken_word name = IsVote-holds v word s.views vote id u at mine in
     let now : slice_index w.held v ≡ 0 = get_or-set_same u.held v 0 0 room in
     let after : IsVote v new (set s.views id w) = vote_after v word new s.views vote id u w at (inr (omega arith, omega arith))
-    (λ k. let c : is (word / 4) k ≡ is name k = ap (λ (y : ℕ). is y k) (ap (λ (y : ℕ). y / 4) e ∙ taken-name name) in
-    let d : is (new / 4) k ≡ is name k = ap (λ (y : ℕ). is y k) (ap (λ (y : ℕ). y / 4) which ∙ returned-name name) in
+    (λ k. let c : is (word / 4) k ≡ is name k = ap (λ (y : ℕ). is y k) (ap (λ (y : ℕ). y / 4) e ∙ taken_word-name name) in
+    let d : is (new / 4) k ≡ is name k = ap (λ (y : ℕ). is y k) (ap (λ (y : ℕ). y / 4) which ∙ returned_word-name name) in
     omega arith)
-    (λ k wide. let a : is word (taken k) ≡ is name k = ap (λ (y : ℕ). is y (taken k)) e ∙ is-taken name k in
+    (λ k wide. let a : is word (taken_word k) ≡ is name k = ap (λ (y : ℕ). is y (taken_word k)) e ∙ is-taken_word name k in
     let b : is (name_of w.client (slice_index w.held v)) k ≡ 0 = is-apart (name_of w.client (slice_index w.held v)) k (λ z. omega arith) in
-    let c : is new (taken k) ≡ 0 = ap (λ (y : ℕ). is y (taken k)) which ∙ returned-not_taken name k in
+    let c : is new (taken_word k) ≡ 0 = ap (λ (y : ℕ). is y (taken_word k)) which ∙ returned_word-not_taken name k in
     omega arith) in (
       w,
       keeps,
@@ -275,10 +275,10 @@ GaveBack-allowed sheet slots id me v new inside client room mine which s r _ at 
 
 -- the same by the words
 pub Took-allowed_by_words : (sheet : Setting) (slots id : ℕ) (me : Mine) (v grant old new : ℕ) → v < sheet.voters → 1 ≤ grant → me.0.client < 64 → v < length me.0.held → slice_index me.0.held v ≡ 0
-    → old ≡ offered (name_of me.0.client grant) → new ≡ taken (name_of me.0.client grant)
+    → old ≡ offered_word (name_of me.0.client grant) → new ≡ taken_word (name_of me.0.client grant)
     → Allows (Kept sheet) slots id me v (λ n. either (eqb n old) new n) (Took (step slots v old new none) me)
 Took-allowed_by_words sheet slots id me v grant old new inside large client room mine is_old is_new =
     let name : ℕ = name_of me.0.client grant in
     subst (λ (k : ℕ). Allows (Kept sheet) slots id me v (λ n. either (eqb n k) new n) (Took (step slots v k new none) me)) (sym is_old)
-    (subst (λ (k : ℕ). Allows (Kept sheet) slots id me v (λ n. either (eqb n (offered name)) k n) (Took (step slots v (offered name) k none) me)) (sym is_new)
+    (subst (λ (k : ℕ). Allows (Kept sheet) slots id me v (λ n. either (eqb n (offered_word name)) k n) (Took (step slots v (offered_word name) k none) me)) (sym is_new)
     (Took-allowed sheet slots id me v grant inside large client room mine))

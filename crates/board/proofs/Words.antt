@@ -3,7 +3,7 @@ use Rattle.std.proofs.Common.{◌≡◌, ◌≢◌, ℕ, ◌+◌, ◌/◌, ◌�
 use Rattle.std.proofs.lemmas.Bool.Decides.{nat_tests}
 use mathlib.Core.Logic.{dite}
 use native.Mathlib.Decide.{ℕ_discrete}
-use Rattle.board.specs.Words.{is, offered, taken, returned}
+use Rattle.board.specs.Words.{is, offered_word, taken_word, returned_word}
 
 pub is-same : (a b : ℕ) → a ≡ b → is a b ≡ 1
 is-same a b e = grind (arith, nat_tests)
@@ -21,26 +21,26 @@ is-when a b c d f g = dite (ℕ_discrete a b) (λ e. is-same a b e ∙ sym (is-s
 pub is-next : (a b : ℕ) → is (a + 1) (b + 1) ≡ is a b
 is-next a b = is-when (a + 1) (b + 1) a b (λ e. omega arith) (λ e. omega arith)
 
-pub is-taken : (a b : ℕ) → is (taken a) (taken b) ≡ is a b
-is-taken a b = is-when (taken a) (taken b) a b (λ e. omega arith) (λ e. omega arith)
+pub is-taken_word : (a b : ℕ) → is (taken_word a) (taken_word b) ≡ is a b
+is-taken_word a b = is-when (taken_word a) (taken_word b) a b (λ e. omega arith) (λ e. omega arith)
 
-pub offered-name : (a : ℕ) → offered a / 4 ≡ a
-offered-name a = omega arith
+pub offered_word-name : (a : ℕ) → offered_word a / 4 ≡ a
+offered_word-name a = omega arith
 
-pub taken-name : (a : ℕ) → taken a / 4 ≡ a
-taken-name a = omega arith
+pub taken_word-name : (a : ℕ) → taken_word a / 4 ≡ a
+taken_word-name a = omega arith
 
-pub returned-name : (a : ℕ) → returned a / 4 ≡ a
-returned-name a = omega arith
+pub returned_word-name : (a : ℕ) → returned_word a / 4 ≡ a
+returned_word-name a = omega arith
 
-pub offered-not_taken : (a b : ℕ) → is (offered a) (taken b) ≡ 0
-offered-not_taken a b = is-apart (offered a) (taken b) (λ e. omega arith)
+pub offered_word-not_taken : (a b : ℕ) → is (offered_word a) (taken_word b) ≡ 0
+offered_word-not_taken a b = is-apart (offered_word a) (taken_word b) (λ e. omega arith)
 
-pub returned-not_taken : (a b : ℕ) → is (returned a) (taken b) ≡ 0
-returned-not_taken a b = is-apart (returned a) (taken b) (λ e. omega arith)
+pub returned_word-not_taken : (a b : ℕ) → is (returned_word a) (taken_word b) ≡ 0
+returned_word-not_taken a b = is-apart (returned_word a) (taken_word b) (λ e. omega arith)
 
-pub free-not_taken : (b : ℕ) → is 0 (taken b) ≡ 0
-free-not_taken b = is-apart 0 (taken b) (λ e. omega arith)
+pub free-not_taken : (b : ℕ) → is 0 (taken_word b) ≡ 0
+free-not_taken b = is-apart 0 (taken_word b) (λ e. omega arith)
 
 -- a test on two numbers, taken apart
 pub MatchBool-nat_eq : (a b : ℕ) (P Q : Type 0) → (a ≡ b → P) → (a ≢ b → Q) → MatchBool (nat_eq a b) P Q

@@ -6,7 +6,7 @@ use Rattle.std.specs.List.{All}
 use Rattle.atomic_table.specs.Table.{Me, Step}
 use Rattle.numbers.specs.Bounds.{max_tickets}
 use Rattle.board.specs.declared.table.View.{View}
-use Rattle.board.specs.Words.{name_of, free, offered, taken, returned, name_in, number_in}
+use Rattle.board.specs.Words.{name_of, free_word, offered_word, taken_word, returned_word, name_in, number_in}
 
 -- a seat's view, and the slots that it holds; here it holds none
 abbrev pub Mine : Type 0
@@ -16,7 +16,7 @@ Mine = Me (Unit {0}) View
 -- names the grant, which the seat knows from then on.
 abbrev pub Granted : Step (Unit {0}) → Mine → ℕ → Mine → Type 0
 Granted st m found w =
-    (found ≡ free) × (st.first ≡ offered (name_in st.first))
+    (found ≡ free_word) × (st.first ≡ offered_word (name_in st.first))
     × (w ≡ (record m.0 { voters = slice_set m.0.voters st.word (name_in st.first + 1) }, m.1))
 
 -- From offered or returned to free. A voter's seat looks for one of these two states under the
@@ -25,7 +25,7 @@ Granted st m found w =
 abbrev pub Settled : Step (Unit {0}) → Mine → ℕ → Mine → Type 0
 Settled st m found w =
     (slice_index m.0.voters st.word ≡ name_in st.first + 1)
-    × ((st.first ≡ offered (name_in st.first)) ⊎ (st.first ≡ returned (name_in st.first))) × (st.second ≡ free)
+    × ((st.first ≡ offered_word (name_in st.first)) ⊎ (st.first ≡ returned_word (name_in st.first))) × (st.second ≡ free_word)
     × (found ≡ st.first → w ≡ (record m.0 { voters = slice_set m.0.voters st.word 1 }, m.1))
     × (found ≢ st.first → w ≡ m)
 
@@ -33,8 +33,8 @@ Settled st m found w =
 -- grant that the step names; otherwise nothing changes.
 abbrev pub Took : Step (Unit {0}) → Mine → ℕ → Mine → Type 0
 Took st m found w =
-    (st.first ≡ offered (name_of m.0.client (number_in st.first)))
-    × (st.second ≡ taken (name_of m.0.client (number_in st.first)))
+    (st.first ≡ offered_word (name_of m.0.client (number_in st.first)))
+    × (st.second ≡ taken_word (name_of m.0.client (number_in st.first)))
     × (found ≡ st.first → w ≡ (record m.0 { held = slice_set m.0.held st.word (number_in st.first) }, m.1))
     × (found ≢ st.first → w ≡ m)
 
@@ -42,8 +42,8 @@ Took st m found w =
 -- reading no longer counts.
 abbrev pub GaveBack : Step (Unit {0}) → Mine → ℕ → Mine → Type 0
 GaveBack st m found w =
-    (found ≡ taken (name_of m.0.client (slice_index m.0.held st.word)))
-    × (st.first ≡ returned (name_of m.0.client (slice_index m.0.held st.word)))
+    (found ≡ taken_word (name_of m.0.client (slice_index m.0.held st.word)))
+    × (st.first ≡ returned_word (name_of m.0.client (slice_index m.0.held st.word)))
     × (w ≡ (record m.0 { held = slice_set m.0.held st.word 0; reading = None }, m.1))
 
 -- A client's seat reads the register for quorum j. The number is above each of its pass numbers,

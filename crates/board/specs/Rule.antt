@@ -8,14 +8,14 @@ use Rattle.atomic_table.specs.Table.{State}
 use Rattle.board.specs.declared.table.View.{View}
 use Rattle.board.specs.Seats.{Setting}
 use Rattle.board.specs.Quorums.{quorum_at, HoldsAll}
-use Rattle.board.specs.Words.{name_of, taken, is}
+use Rattle.board.specs.Words.{name_of, taken_word, is}
 use Rattle.numbers.specs.Bounds.{max_clients, max_tickets}
 use Rattle.numbers.specs.Sums.{sum_below}
 
 -- 1 if the seat stands for voter v and the grant that it knows has this name, else 0; name 0 means
 -- that it knows no current grant
-abbrev pub present : ℕ → ℕ → View → ℕ
-present v name u = is (slice_index u.voters v) (name + 1)
+abbrev pub presence : ℕ → ℕ → View → ℕ
+presence v name u = is (slice_index u.voters v) (name + 1)
 
 -- 1 if the seat holds the vote of voter v under the grant with this name, else 0
 abbrev pub holds_vote : ℕ → ℕ → View → ℕ
@@ -25,8 +25,8 @@ holds_vote v name u = is (name_of u.client (slice_index u.held v)) name
 -- v's vote is held, exactly one seat holds it, under that grant. Otherwise no seat holds it.
 pub record IsVote (v word : ℕ) (views : List View) : Type 0 where
   pub shape : (word ≡ 0) ⊎ ((64 ≤ word / 4) × (1 ≤ word % 4))
-  pub current : (name : ℕ) → sum_by (present v name) views ≡ is (word / 4) name
-  pub held : (name : ℕ) → 64 ≤ name → sum_by (holds_vote v name) views ≡ is word (taken name)
+  pub current : (name : ℕ) → sum_by (presence v name) views ≡ is (word / 4) name
+  pub held : (name : ℕ) → 64 ≤ name → sum_by (holds_vote v name) views ≡ is word (taken_word name)
 
 -- if the seat has a reading, it holds the votes of the quorum that it read for, and the number read
 -- is the register's

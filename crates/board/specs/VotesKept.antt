@@ -10,14 +10,14 @@ use Rattle.board.specs.declared.table.View.{View}
 use Rattle.board.specs.Seats.{Setting}
 use Rattle.quorum_set.specs.Meetings.{AllMeet}
 use Rattle.board.specs.Quorums.{quorum_at, HoldsAll}
-use Rattle.board.specs.Words.{name_of, offered, taken, returned}
+use Rattle.board.specs.Words.{name_of, offered_word, taken_word, returned_word}
 use Rattle.board.specs.Rule.{Kept}
 
 -- What a voter's word says when the voter's current grant has this name. Name 0 means that there is
 -- no grant: the vote is free. Otherwise it is offered, held or given back under that grant.
 abbrev pub IsWordOf : ℕ → ℕ → Type 0
 IsWordOf zero word = word ≡ 0
-IsWordOf (suc n) word = (word ≡ offered (suc n)) ⊎ (word ≡ taken (suc n)) ⊎ (word ≡ returned (suc n))
+IsWordOf (suc n) word = (word ≡ offered_word (suc n)) ⊎ (word ≡ taken_word (suc n)) ⊎ (word ≡ returned_word (suc n))
 
 -- Exactly one seat stands for the voter: the voter's own seat, or the root if that seat was not
 -- given or was joined again.
@@ -45,7 +45,7 @@ pub record KeepsVotes (b : Setting) (words : List ℕ) (views : List View) : Typ
   pub granted : (v name i : ℕ) (u : View) → v < b.voters → get_elem? views i ≡ some u
       → slice_index u.voters v ≡ name + 1 → IsWordOf name (slice_index words v)
   pub held : (v c g : ℕ) → v < b.voters → c < max_clients → 1 ≤ g
-      → Holds views c v g ↔ (slice_index words v ≡ taken (name_of c g))
+      → Holds views c v g ↔ (slice_index words v ≡ taken_word (name_of c g))
   pub one_holds : (v i k : ℕ) (u w : View) → v < b.voters → get_elem? views i ≡ some u → get_elem? views k ≡ some w
       → slice_index u.held v ≢ 0 → slice_index w.held v ≢ 0 → i ≡ k
   pub readings : (i j x : ℕ) (u : View) → get_elem? views i ≡ some u → u.reading ≡ Some (j, x)

@@ -9,27 +9,27 @@ abbrev pub name_of : ℕ → ℕ → ℕ
 name_of client grant = 64 * grant + client
 
 -- the word of a free vote
-abbrev pub free : ℕ
-free = 0
+abbrev pub free_word : ℕ
+free_word = 0
 
 -- the word of a vote that is offered to the client of this grant
-abbrev pub offered : ℕ → ℕ
-offered name = 4 * name + 1
+abbrev pub offered_word : ℕ → ℕ
+offered_word name = 4 * name + 1
 
 -- the word of a vote that is held under this grant
-abbrev pub taken : ℕ → ℕ
-taken name = 4 * name + 2
+abbrev pub taken_word : ℕ → ℕ
+taken_word name = 4 * name + 2
 
 -- the word of a vote that was given back under this grant, and is not settled yet
-abbrev pub returned : ℕ → ℕ
-returned name = 4 * name + 3
+abbrev pub returned_word : ℕ → ℕ
+returned_word name = 4 * name + 3
 
 -- the word of each state of a vote
 abbrev pub word_of : Vote → ℕ
-word_of Free = free
-word_of (Offered client grant) = offered (name_of client grant)
-word_of (Held client grant) = taken (name_of client grant)
-word_of (Returned client grant) = returned (name_of client grant)
+word_of Free = free_word
+word_of (Offered client grant) = offered_word (name_of client grant)
+word_of (Held client grant) = taken_word (name_of client grant)
+word_of (Returned client grant) = returned_word (name_of client grant)
 
 -- the number of the vote's grant, if it has one, is at most 2^40
 abbrev pub IsSmall : Vote → Type 0

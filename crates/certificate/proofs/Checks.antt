@@ -5,7 +5,7 @@ use Rattle.std.specs.List.{slice_split, list_all}
 use Rattle.std.specs.Option.{option_map, option_and_then}
 use Rattle.std.proofs.lemmas.Bool.{and_parts, leb-true, le-leb, eqb-true, ne_eqb, cases_eq}
 use Rattle.quorum_set.specs.Capacities.{are_unit}
-use Rattle.certificate.specs.PlanTexts.{number_of, numbers_of, behind, read_weights, read_capacities, are_in_range, have_a_line, option_holds, is_within, are_within}
+use Rattle.certificate.specs.PlanTexts.{number_of, numbers_of, after_prefix, read_weights, read_capacities, are_in_range, have_a_line, option_holds, is_within, are_within}
 use Rattle.certificate.proofs.Numbers.{number_of-HasDigits}
 use Rattle.texts.specs.Cuts.{cut_at}
 use Rattle.texts.proofs.CutLemmas.{slice_split-cut_at, slice_split-no_cut}
@@ -72,7 +72,7 @@ are_within-numbers [] = refl
 are_within-numbers (word ∷ words) =
     is_some-first (number_of 7 word) (are_within 0 9999999 words) (numbers_of words) (number-most word) (are_within-numbers words)
 
-pub is_some-read_weights : (word line rest : List ℕ) → Some rest ≡ behind word line → are_within 0 9999999 (words_of rest) ≡ is_some (read_weights word line)
+pub is_some-read_weights : (word line rest : List ℕ) → Some rest ≡ after_prefix word line → are_within 0 9999999 (words_of rest) ≡ is_some (read_weights word line)
 is_some-read_weights word line rest e =
     are_within-numbers (words_of rest) ∙ ap (λ o. is_some (option_and_then (λ rest. numbers_of (words_of rest)) o)) e
 
@@ -113,7 +113,7 @@ all_hold-stated : (r : Option (List ℕ)) → all_hold 1 1000 r && not (all_hold
 all_hold-stated None = refl
 all_hold-stated (Some ns) = ap (λ b. are_in_range ns && not b) (in_range-are_unit ns) ∙ is_some-cond (have_a_line ns) ns
 
-pub is_some-read_capacities : (line rest : List ℕ) → Some rest ≡ behind (codes "capacity ") line
+pub is_some-read_capacities : (line rest : List ℕ) → Some rest ≡ after_prefix (codes "capacity ") line
     → are_within 1 1000 (words_of rest) && not (are_within 1 1 (words_of rest)) ≡ is_some (read_capacities line)
 is_some-read_capacities line rest e =
     ap (λ b. b && not (are_within 1 1 (words_of rest))) (are_within-all_hold 1 1000 (words_of rest))

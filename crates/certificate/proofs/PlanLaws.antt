@@ -19,7 +19,7 @@ use Rattle.certificate.specs.Certificates.{Weighted, IsCertificate, cycle_len, c
 use Rattle.texts.specs.Lines.{text_of_lines}
 use Rattle.certificate.specs.PlanTexts.{HasDigits, IsShort, PlanContents, contents_of, written_capacities, version_of, load_digits, title_line, load_line, cycle_line, weights_line}
 use Rattle.certificate.specs.PlanTexts.{capacity_lines, lines_of, plan_text, read_title, read_load, read_cycle, read_capacities, read_weights, line_at, capacities_at, ◌>>=◌}
-use Rattle.certificate.specs.PlanTexts.{contents_at, contents_fault, are_given, capacities_fault, unless_fault, judged, weighted_by, plan_at, UnlessOutOfMemory}
+use Rattle.certificate.specs.PlanTexts.{contents_at, contents_fault, are_given, capacities_fault, unless_fault, judge_plan, with_weights_of, plan_at, UnlessOutOfMemory}
 use Rattle.certificate.proofs.FaultLaws.{cond_Some-None, weights_fault-IsCertificate}
 use Rattle.certificate.proofs.Numbers.{HasDigits-small}
 use Rattle.certificate.proofs.RatioLemmas.{cycle_ratio-small}
@@ -293,11 +293,11 @@ are_given-stated capacities = by (are_unit capacities) refl
 pub plan_at-Ok : (s : QuorumSystem) (capacities text : List ℕ) (p : Weighted) → plan_at s capacities text ≡ Ok p → (p.system ≡ s) × (p.capacities ≡ capacities) × (text ≡ plan_text p)
 unfolding plan_at
 plan_at-Ok s capacities text p e =
-    let stated = bind_Ok (contents_at text) (λ t. judged (weighted_by s capacities t) t) p e in
+    let stated = bind_Ok (contents_at text) (λ t. judge_plan (with_weights_of s capacities t) t) p e in
     let t = stated.0 in
-    let w = weighted_by s capacities t in
-    let judged = unless_Ok (option_or (capacities_fault capacities t) (option_or (weights_fault w) (contents_fault w t))) w p stated.2 in
-    let given = or_None (capacities_fault capacities t) (option_or (weights_fault w) (contents_fault w t)) judged.0 in
+    let w = with_weights_of s capacities t in
+    let judge_plan = unless_Ok (option_or (capacities_fault capacities t) (option_or (weights_fault w) (contents_fault w t))) w p stated.2 in
+    let given = or_None (capacities_fault capacities t) (option_or (weights_fault w) (contents_fault w t)) judge_plan.0 in
     let none = or_None (weights_fault w) (contents_fault w t) given.1 in
     let same = same_lines w t none.1 in
     let line = contents-Ok text t stated.1 in
@@ -306,7 +306,7 @@ plan_at-Ok s capacities text p e =
     ap (λ l. text_of_lines (title_line (version_of t.capacities) ∷ l ∷ cycle_line t.cycle ∷ (capacity_lines t.capacities ++ weights_lines t))) same.0
     ∙ ap (λ l. text_of_lines (title_line (version_of t.capacities) ∷ load_line (load_of w) ∷ l ∷ (capacity_lines t.capacities ++ weights_lines t))) same.1
     ∙ ap (λ c. text_of_lines (title_line (version_of c) ∷ load_line (load_of w) ∷ cycle_line (cycle_len w) ∷ (capacity_lines c ++ weights_lines t))) capacities_are in
-    (ap (λ v. v.system) (sym judged.1), ap (λ v. v.capacities) (sym judged.1), line.0 ∙ rewritten ∙ ap plan_text judged.1)
+    (ap (λ v. v.system) (sym judge_plan.1), ap (λ v. v.capacities) (sym judge_plan.1), line.0 ∙ rewritten ∙ ap plan_text judge_plan.1)
   where
     no_fault : (b : Bool) → cond b None (Some WrongCapacity) ≡ None → b ≡ true
     no_fault true h = refl
@@ -373,7 +373,7 @@ pub plan_at-plan_text : (w : Weighted) → IsCertificate w → plan_at w.system 
 unfolding plan_at
 plan_at-plan_text w h =
     let t = contents_of w in
-    ap (λ r. r >>= λ t. judged (weighted_by w.system w.capacities t) t) (reported_again w h)
+    ap (λ r. r >>= λ t. judge_plan (with_weights_of w.system w.capacities t) t) (reported_again w h)
     ∙ ap (λ b. unless_fault (option_or (cond b None (Some WrongCapacity)) (option_or (weights_fault w) (contents_fault w t))) w) (are_given-stated w.capacities)
     ∙ ap (λ o. unless_fault (option_or o (contents_fault w t)) w) (weights_fault-IsCertificate w h)
     ∙ ap (λ o. unless_fault o w) (fits_itself w)

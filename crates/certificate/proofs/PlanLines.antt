@@ -15,7 +15,7 @@ use Rattle.std.proofs.lemmas.List.Splits.{join_with_byte-slice_split, length-sli
 use Rattle.std.proofs.lemmas.Slice.Eq.{bytes_eq-Decides}
 use Rattle.certificate.specs.declared.fault.PlanFault.{PlanFault}
 use Rattle.certificate.specs.declared.fault.PlanFault.TheVariants.{BadText}
-use Rattle.certificate.specs.PlanTexts.{HasDigits, IsShort, spaced, title_line, load_line, cycle_line, weights_line, number_of, numbers_of, behind, read_title, read_pair}
+use Rattle.certificate.specs.PlanTexts.{HasDigits, IsShort, with_spaces, title_line, load_line, cycle_line, weights_line, number_of, numbers_of, after_prefix, read_title, read_pair}
 use Rattle.certificate.specs.PlanTexts.{read_load, read_cycle, read_weights, have_a_line, read_capacities, line_at}
 use Rattle.numbers.specs.Bounds.{max_capacity}
 use Rattle.numbers.proofs.Options.{and_then-Some, option_map-Some}
@@ -25,12 +25,12 @@ use Rattle.certificate.proofs.Numbers.{HasDigits-small, number_of-Some, number_o
 use Rattle.texts.proofs.CutLemmas.{Lacks, Lacks-append, Lacks-decimal, Lacks-join, AllLack, cut_at-append, cut_at-Some, slice_split-join}
 
 -- one more number is written
-pub spaced-push : (ns : List ℕ) (n : ℕ) → 0 < length ns → spaced (ns ++ n ∷ []) ≡ spaced ns ++ 32 ∷ decimal n
-spaced-push [] n some = absurd (omega arith)
-spaced-push (x ∷ []) n some = refl
-spaced-push (x ∷ y ∷ ns) n some =
-    ap (λ t. decimal x ++ 32 ∷ t) (spaced-push (y ∷ ns) n (omega arith))
-    ∙ sym (append_assoc (decimal x) (32 ∷ spaced (y ∷ ns)) (32 ∷ decimal n))
+pub with_spaces-push : (ns : List ℕ) (n : ℕ) → 0 < length ns → with_spaces (ns ++ n ∷ []) ≡ with_spaces ns ++ 32 ∷ decimal n
+with_spaces-push [] n some = absurd (omega arith)
+with_spaces-push (x ∷ []) n some = refl
+with_spaces-push (x ∷ y ∷ ns) n some =
+    ap (λ t. decimal x ++ 32 ∷ t) (with_spaces-push (y ∷ ns) n (omega arith))
+    ∙ sym (append_assoc (decimal x) (32 ∷ with_spaces (y ∷ ns)) (32 ∷ decimal n))
 
 some_is : {A : Type 0} (x y : A) → Some x ≡ Some y → x ≡ y
 some_is x y e = cc
@@ -57,14 +57,14 @@ AllLack-decimal mark [] low h = tt
 AllLack-decimal mark (n ∷ ns) low h = (Lacks-decimal mark n low (HasDigits-small 7 n (omega arith) h.0), AllLack-decimal mark ns low h.1)
 
 -- a word and what follows it
-behind-Some : (word line rest : List ℕ) → behind word line ≡ Some rest → line ≡ word ++ rest
-behind-Some word line rest e =
+after_prefix-Some : (word line rest : List ℕ) → after_prefix word line ≡ Some rest → line ≡ word ++ rest
+after_prefix-Some word line rest e =
     let parts = cond_some (bytes_eq (take (length word) line) word) (drop (length word) line) rest e in
     let same = (bytes_eq-Decides (take (length word) line) word).0 parts.0 in
     sym (take-append-drop (length word) line) ∙ ap (λ t. t ++ drop (length word) line) same ∙ ap (λ t. word ++ t) parts.1
 
-behind-append : (word rest : List ℕ) → behind word (word ++ rest) ≡ Some rest
-behind-append word rest =
+after_prefix-append : (word rest : List ℕ) → after_prefix word (word ++ rest) ≡ Some rest
+after_prefix-append word rest =
     let same = (bytes_eq-Decides (take (length word) (word ++ rest)) word).1 (take_at word rest (length word) refl) in
     ap (λ b. cond b (Some (drop (length word) (word ++ rest))) None) same ∙ ap Some (drop_at word rest (length word) refl)
 
@@ -107,7 +107,7 @@ record IsLoad (digits : ℕ) (line : List ℕ) (x : ℕ × ℕ) : Type 0 where
 
 read_load-IsLoad : (digits : ℕ) (line : List ℕ) (x : ℕ × ℕ) → read_load digits line ≡ Some x → IsLoad digits line x
 read_load-IsLoad digits line x e =
-    let word = and_then-Some (λ rest. option_and_then (read_pair digits) (cut_at 47 rest)) (behind (codes "load ") line) x e in
+    let word = and_then-Some (λ rest. option_and_then (read_pair digits) (cut_at 47 rest)) (after_prefix (codes "load ") line) x e in
     let sides = and_then-Some (read_pair digits) (cut_at 47 word.0) x word.2 in
     let left = and_then-Some (λ p. option_map (λ q. (p, q)) (number_of digits sides.0.1)) (number_of digits sides.0.0) x sides.2 in
     let right = option_map-Some (λ q. (left.0, q)) (number_of digits sides.0.1) x left.2 in
@@ -115,7 +115,7 @@ read_load-IsLoad digits line x e =
     record {
       before = sides.0.0;
       after = sides.0.1;
-      line_is = behind-Some (codes "load ") line word.0 word.1 ∙ ap (λ t. codes "load " ++ t) (cut_at-Some 47 word.0 sides.0 sides.1);
+      line_is = after_prefix-Some (codes "load ") line word.0 word.1 ∙ ap (λ t. codes "load " ++ t) (cut_at-Some 47 word.0 sides.0 sides.1);
       left = left.1 ∙ ap Some parts.0;
       right = right.1 ∙ ap Some parts.1;
     }
@@ -129,22 +129,22 @@ read_load-Some digits line x few e =
 pub read_load-load_line : (digits : ℕ) (x : ℕ × ℕ) → 0 < digits → digits ≤ 19 → HasDigits digits x.0 → HasDigits digits x.1 → read_load digits (load_line x) ≡ Some x
 read_load-load_line digits x some few left right =
     let cut = cut_at-append 47 (decimal x.0) (decimal x.1) (Lacks-decimal 47 x.0 (omega arith) (HasDigits-small digits x.0 few left)) in
-    ap (option_and_then (λ rest. option_and_then (read_pair digits) (cut_at 47 rest))) (behind-append (codes "load ") (decimal x.0 ++ 47 ∷ decimal x.1))
+    ap (option_and_then (λ rest. option_and_then (read_pair digits) (cut_at 47 rest))) (after_prefix-append (codes "load ") (decimal x.0 ++ 47 ∷ decimal x.1))
     ∙ ap (option_and_then (read_pair digits)) cut ∙ rw (number_of-decimal digits x.0 some few left, number_of-decimal digits x.1 some few right) refl
 
 pub read_cycle-Some : (line : List ℕ) (n : ℕ) → read_cycle line ≡ Some n → line ≡ cycle_line n
 read_cycle-Some line n e =
-    let word = and_then-Some (number_of 7) (behind (codes "cycle ") line) n e in
-    behind-Some (codes "cycle ") line word.0 word.1 ∙ ap (λ t. codes "cycle " ++ t) (number_of-Some 7 word.0 n (omega arith) word.2)
+    let word = and_then-Some (number_of 7) (after_prefix (codes "cycle ") line) n e in
+    after_prefix-Some (codes "cycle ") line word.0 word.1 ∙ ap (λ t. codes "cycle " ++ t) (number_of-Some 7 word.0 n (omega arith) word.2)
 
 pub read_cycle-cycle_line : (n : ℕ) → IsShort n → read_cycle (cycle_line n) ≡ Some n
 read_cycle-cycle_line n short =
-    ap (option_and_then (number_of 7)) (behind-append (codes "cycle ") (decimal n)) ∙ number_of-decimal 7 n (omega arith) (omega arith) short
+    ap (option_and_then (number_of 7)) (after_prefix-append (codes "cycle ") (decimal n)) ∙ number_of-decimal 7 n (omega arith) (omega arith) short
 
 pub read_weights-Some : (word line ns : List ℕ) → read_weights word line ≡ Some ns → line ≡ weights_line word ns
 read_weights-Some word line ns e =
-    let rest = and_then-Some (λ rest. numbers_of (slice_split (λ b. eqb b 32) rest)) (behind word line) ns e in
-    behind-Some word line rest.0 rest.1
+    let rest = and_then-Some (λ rest. numbers_of (slice_split (λ b. eqb b 32) rest)) (after_prefix word line) ns e in
+    after_prefix-Some word line rest.0 rest.1
     ∙ ap (λ t. word ++ t) (sym (join_with_byte-slice_split 32 rest.0) ∙ ap (join_with_byte 32) (numbers_of-Some (slice_split (λ b. eqb b 32) rest.0) ns rest.2))
 
 some_words : (ns : List ℕ) → 0 < length ns → 0 < length (map decimal ns)
@@ -153,7 +153,7 @@ some_words (n ∷ ns) some = omega arith
 
 pub read_weights-weights_line : (word ns : List ℕ) → 0 < length ns → AllByRecursion IsShort ns → read_weights word (weights_line word ns) ≡ Some ns
 read_weights-weights_line word ns some short =
-    ap (option_and_then (λ rest. numbers_of (slice_split (λ b. eqb b 32) rest))) (behind-append word (spaced ns))
+    ap (option_and_then (λ rest. numbers_of (slice_split (λ b. eqb b 32) rest))) (after_prefix-append word (with_spaces ns))
     ∙ ap numbers_of (slice_split-join (map decimal ns) (some_words ns some) (AllLack-decimal 32 ns (omega arith) short))
     ∙ numbers_of-decimal ns short
 
@@ -167,7 +167,7 @@ pub Lacks-cycle : (n : ℕ) → IsShort n → Lacks 10 (cycle_line n)
 Lacks-cycle n short = Lacks-append 10 (codes "cycle ") (decimal n) (search rules) (Lacks-decimal 10 n (omega arith) (HasDigits-small 7 n (omega arith) short))
 
 pub Lacks-weights : (word ns : List ℕ) → Lacks 10 word → AllByRecursion IsShort ns → Lacks 10 (weights_line word ns)
-Lacks-weights word ns one short = Lacks-append 10 word (spaced ns) one (Lacks-join (map decimal ns) (AllLack-decimal 10 ns (omega arith) short))
+Lacks-weights word ns one short = Lacks-append 10 word (with_spaces ns) one (Lacks-join (map decimal ns) (AllLack-decimal 10 ns (omega arith) short))
 
 -- a line at the front of a text
 ok_or_Ok : {A : Type 0} (o : Option A) (e : PlanFault) (x : A) → ok_or o e ≡ Ok x → o ≡ Some x
@@ -194,7 +194,7 @@ read_load-HasDigits digits line x e =
 
 pub read_cycle-IsShort : (line : List ℕ) (n : ℕ) → read_cycle line ≡ Some n → IsShort n
 read_cycle-IsShort line n e =
-    let word = and_then-Some (number_of 7) (behind (codes "cycle ") line) n e in
+    let word = and_then-Some (number_of 7) (after_prefix (codes "cycle ") line) n e in
     number_of-HasDigits 7 word.0 n word.2
 
 numbers-short : (words : List (List ℕ)) (ns : List ℕ) → numbers_of words ≡ Some ns → All IsShort ns × (length ns ≡ length words)
@@ -211,7 +211,7 @@ numbers-short (word ∷ words) ns e =
 
 pub read_weights-IsShort : (word line ns : List ℕ) → read_weights word line ≡ Some ns → All IsShort ns × (0 < length ns)
 read_weights-IsShort word line ns e =
-    let rest = and_then-Some (λ rest. numbers_of (slice_split (λ b. eqb b 32) rest)) (behind word line) ns e in
+    let rest = and_then-Some (λ rest. numbers_of (slice_split (λ b. eqb b 32) rest)) (after_prefix word line) ns e in
     let short = numbers-short (slice_split (λ b. eqb b 32) rest.0) ns rest.2 in
     (short.0, omega (arith, short.1, length-slice_split (λ b. eqb b 32) rest.0))
 

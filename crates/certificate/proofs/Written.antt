@@ -5,23 +5,23 @@ use Rattle.std.specs.Fmt.{decimal}
 use Rattle.std.proofs.lemmas.List.{take_more, length-take}
 use Rattle.std.proofs.lemmas.Fmt.{decimal_digit}
 use Rattle.texts.specs.Lines.{text_of_lines}
-use Rattle.certificate.specs.PlanTexts.{spaced, version_of, title_line, load_line, cycle_line, capacity_lines}
-use Rattle.certificate.proofs.PlanLines.{spaced-push}
+use Rattle.certificate.specs.PlanTexts.{with_spaces, version_of, title_line, load_line, cycle_line, capacity_lines}
+use Rattle.certificate.proofs.PlanLines.{with_spaces-push}
 
-pub spaced-first : (new text before ns : List ℕ) (k : ℕ) → k ≤ 0 → k < length ns → new ≡ text ++ decimal (get_or ns k 0) → text ≡ before → before ≡ spaced (take k ns) → new ≡ spaced (take (k + 1) ns)
-spaced-first new text before ns k low lt written same is =
+pub with_spaces-first : (new text before ns : List ℕ) (k : ℕ) → k ≤ 0 → k < length ns → new ≡ text ++ decimal (get_or ns k 0) → text ≡ before → before ≡ with_spaces (take k ns) → new ≡ with_spaces (take (k + 1) ns)
+with_spaces-first new text before ns k low lt written same is =
     let none : k ≡ 0 = omega arith in
-    let nothing : spaced (take k ns) ≡ [] = rw none refl in
-    let one : spaced (take k ns ++ get_or ns k 0 ∷ []) ≡ decimal (get_or ns k 0) = rw none refl in
-    written ∙ ap (λ t. t ++ decimal (get_or ns k 0)) (same ∙ is ∙ nothing) ∙ sym one ∙ ap spaced (sym (take_more ns k 0 lt))
+    let nothing : with_spaces (take k ns) ≡ [] = rw none refl in
+    let one : with_spaces (take k ns ++ get_or ns k 0 ∷ []) ≡ decimal (get_or ns k 0) = rw none refl in
+    written ∙ ap (λ t. t ++ decimal (get_or ns k 0)) (same ∙ is ∙ nothing) ∙ sym one ∙ ap with_spaces (sym (take_more ns k 0 lt))
 
-pub spaced-next : (new text pushed before ns : List ℕ) (k : ℕ) → 0 < k → k < length ns → new ≡ text ++ decimal (get_or ns k 0) → text ≡ pushed → pushed ≡ before ++ 32 ∷ []
-    → before ≡ spaced (take k ns) → new ≡ spaced (take (k + 1) ns)
-spaced-next new text pushed before ns k some lt written same push is =
+pub with_spaces-next : (new text pushed before ns : List ℕ) (k : ℕ) → 0 < k → k < length ns → new ≡ text ++ decimal (get_or ns k 0) → text ≡ pushed → pushed ≡ before ++ 32 ∷ []
+    → before ≡ with_spaces (take k ns) → new ≡ with_spaces (take (k + 1) ns)
+with_spaces-next new text pushed before ns k some lt written same push is =
     written ∙ ap (λ t. t ++ decimal (get_or ns k 0)) (same ∙ push ∙ ap (λ t. t ++ 32 ∷ []) is)
-    ∙ append_assoc (spaced (take k ns)) (32 ∷ []) (decimal (get_or ns k 0))
-    ∙ sym (spaced-push (take k ns) (get_or ns k 0) (omega (arith, length-take k ns)))
-    ∙ ap spaced (sym (take_more ns k 0 lt))
+    ∙ append_assoc (with_spaces (take k ns)) (32 ∷ []) (decimal (get_or ns k 0))
+    ∙ sym (with_spaces-push (take k ns) (get_or ns k 0) (omega (arith, length-take k ns)))
+    ∙ ap with_spaces (sym (take_more ns k 0 lt))
 
 -- the lines as one text, with the line of capacities and the weights as they were written
 abbrev pub written_text : ℕ → ℕ → ℕ → ℕ → List ℕ → List ℕ → List ℕ → List ℕ

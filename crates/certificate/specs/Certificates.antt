@@ -22,8 +22,8 @@ pub record Weighted : Type 0 where
   pub voter_weights : List ℕ
 
 -- a coterie with these capacities and these weights
-abbrev pub weighted : QuorumSystem → List ℕ → List ℕ → List ℕ → Weighted
-weighted system capacities quorum_weights voter_weights =
+abbrev pub with_weights : QuorumSystem → List ℕ → List ℕ → List ℕ → Weighted
+with_weights system capacities quorum_weights voter_weights =
     record { system = system; capacities = capacities; quorum_weights = quorum_weights; voter_weights = voter_weights }
 
 -- the length of a cycle: the sum of the quorums' weights
@@ -113,8 +113,8 @@ unit_load w = lowest_terms (busiest_count w) (cycle_len w)
 -- Faults
 
 -- the fault of weights that are no certificate, with the numbers that do not balance
-abbrev pub unbalanced : Weighted → PlanFault
-unbalanced w =
+abbrev pub balance_fault : Weighted → PlanFault
+balance_fault w =
     if are_unit w.capacities
     then NotOptimal (busiest_count w) (voter_total w) (lightest_quorum w) (cycle_len w)
     else NotOptimalRatio (cycle_ratio w).0 (cycle_ratio w).1 (capacity_total w) (lightest_quorum w) (cycle_len w)
@@ -127,7 +127,7 @@ weights_fault w =
     if nat_lt max_cycle (cycle_len w) || nat_lt max_cycle (voter_total w) then Some TooLarge else
     if (cycle_len w == 0) || (voter_total w == 0) then Some Empty else
     if not ((cycle_ratio w).0 * capacity_total w == (cycle_ratio w).1 * lightest_quorum w * cycle_len w)
-    then Some (unbalanced w) else None
+    then Some (balance_fault w) else None
 
 -- the result for the weights: if they have no fault, what their plan stores; else their first fault
 abbrev pub AnswersSums : Weighted → Result Sums PlanFault → Type 0

@@ -83,12 +83,12 @@ abbrev pub cycle_line : ℕ → List ℕ
 cycle_line n = codes "cycle " ++ decimal n
 
 -- the numbers, with a space between each two
-abbrev pub spaced : List ℕ → List ℕ
-spaced numbers = join_with_byte 32 (map decimal numbers)
+abbrev pub with_spaces : List ℕ → List ℕ
+with_spaces numbers = join_with_byte 32 (map decimal numbers)
 
 -- a line of weights, after its word
 abbrev pub weights_line : List ℕ → List ℕ → List ℕ
-weights_line word weights = word ++ spaced weights
+weights_line word weights = word ++ with_spaces weights
 
 -- the line of the capacities, if the text has one
 abbrev pub capacity_lines : Option (List ℕ) → List (List ℕ)
@@ -125,8 +125,8 @@ numbers_of [] = Some []
 numbers_of (word ∷ words) = option_and_then (λ n. option_map (λ ns. n ∷ ns) (numbers_of words)) (number_of 7 word)
 
 -- the rest of the line after this word, if the line begins with it
-abbrev pub behind : List ℕ → List ℕ → Option (List ℕ)
-behind word line = if bytes_eq (take (length word) line) word then Some (drop (length word) line) else None
+abbrev pub after_prefix : List ℕ → List ℕ → Option (List ℕ)
+after_prefix word line = if bytes_eq (take (length word) line) word then Some (drop (length word) line) else None
 
 -- the version, if the line is a title
 abbrev pub read_title : List ℕ → Option ℕ
@@ -142,15 +142,15 @@ read_pair digits sides =
 -- the load in a line, if it is a line of a load with numbers of at most this many digits
 abbrev pub read_load : ℕ → List ℕ → Option (ℕ × ℕ)
 read_load digits line =
-    option_and_then (λ rest. option_and_then (read_pair digits) (cut_at 47 rest)) (behind (codes "load ") line)
+    option_and_then (λ rest. option_and_then (read_pair digits) (cut_at 47 rest)) (after_prefix (codes "load ") line)
 
 -- the cycle's length in a line, if it is the line of one
 abbrev pub read_cycle : List ℕ → Option ℕ
-read_cycle line = option_and_then (number_of 7) (behind (codes "cycle ") line)
+read_cycle line = option_and_then (number_of 7) (after_prefix (codes "cycle ") line)
 
 -- the weights in a line, if it is a line of weights after this word
 abbrev pub read_weights : List ℕ → List ℕ → Option (List ℕ)
-read_weights word line = option_and_then (λ rest. numbers_of (slice_split (λ b. b == 32) rest)) (behind word line)
+read_weights word line = option_and_then (λ rest. numbers_of (slice_split (λ b. b == 32) rest)) (after_prefix word line)
 
 -- whether each number is a capacity
 abbrev pub are_in_range : List ℕ → Bool
@@ -250,18 +250,18 @@ abbrev pub capacities_fault : List ℕ → PlanContents → Option PlanFault
 capacities_fault capacities t = if are_given capacities t.capacities then None else Some WrongCapacity
 
 -- the plan, or the first fault: of the text's capacities, of its weights, then of its other values
-abbrev pub judged : Weighted → PlanContents → Result Weighted PlanFault
-judged w t =
+abbrev pub judge_plan : Weighted → PlanContents → Result Weighted PlanFault
+judge_plan w t =
     unless_fault (option_or (capacities_fault w.capacities t) (option_or (weights_fault w) (contents_fault w t))) w
 
 -- a system of quorums and capacities with the weights of a text
-abbrev pub weighted_by : QuorumSystem → List ℕ → PlanContents → Weighted
-weighted_by s capacities t =
+abbrev pub with_weights_of : QuorumSystem → List ℕ → PlanContents → Weighted
+with_weights_of s capacities t =
     record { system = s; capacities = capacities; quorum_weights = t.quorum_weights; voter_weights = t.voter_weights }
 
 -- the plan of a coterie and capacities that the text describes, or the first fault
 unfoldable pub plan_at : QuorumSystem → List ℕ → List ℕ → Result Weighted PlanFault
-plan_at s capacities text = contents_at text >>= λ t. judged (weighted_by s capacities t) t
+plan_at s capacities text = contents_at text >>= λ t. judge_plan (with_weights_of s capacities t) t
 
 -- the fault is out of memory
 abbrev pub is_out_of_memory : PlanFault → Bool

@@ -4,7 +4,7 @@ ghost use Rattle.std.specs.Int.{IsGcd};
 ghost use Rattle.numbers.specs.Bounds.{max_capacity, max_cycle};
 ghost use Rattle.numbers.specs.Counts.{greatest_below};
 ghost use Rattle.quorum_set.specs.Capacities.{AreCapacities, are_unit};
-ghost use Rattle.certificate.specs.Certificates.{IsCertificate, IsOptimal, IsUnitOptimal, AnswersPlan, AnswersSums, capacity_total, cycle_count, cycle_len, cycle_ratio, busiest_count, lightest_quorum, load_of, unit_load, weighted};
+ghost use Rattle.certificate.specs.Certificates.{IsCertificate, IsOptimal, IsUnitOptimal, AnswersPlan, AnswersSums, capacity_total, cycle_count, cycle_len, cycle_ratio, busiest_count, lightest_quorum, load_of, unit_load, with_weights};
 ghost use Rattle.certificate.specs.Loads.{weight_on};
 ghost use Rattle.certificate.specs.Ratios.{greatest_ratio};
 
@@ -73,7 +73,7 @@ pub fn check(
 ) -> Result<Plan, PlanFault>
     requires capacities { AreCapacities capacities.now coterie.now.voters }
     ensures exact { AnswersPlan
-        (weighted coterie.now capacities.now quorum_weights.items voter_weights.items) result }
+        (with_weights coterie.now capacities.now quorum_weights.items voter_weights.items) result }
     ensures certificate { IfOk result IsCertificate }
     ensures optimal { IfOk result IsOptimal }
 {
@@ -90,7 +90,7 @@ fn plan_of(
 ) -> Result<Plan, PlanFault>
     requires capacities { AreCapacities capacities.now coterie.now.voters }
     ensures exact { AnswersPlan
-        (weighted coterie.now capacities.now quorum_weights.items voter_weights.items) result }
+        (with_weights coterie.now capacities.now quorum_weights.items voter_weights.items) result }
     ensures certificate { IfOk result IsCertificate }
 {
     let Sums {
@@ -129,7 +129,7 @@ fn sums_of(
 ) -> Result<Sums, PlanFault>
     requires capacities { AreCapacities capacities.now coterie.now.voters }
     ensures { AnswersSums
-        (weighted coterie.now capacities.now quorum_weights.now voter_weights.now) result }
+        (with_weights coterie.now capacities.now quorum_weights.now voter_weights.now) result }
 {
     if quorum_weights.len() != coterie.count() || voter_weights.len() != coterie.voters() {
         return Err(PlanFault::WrongLength);

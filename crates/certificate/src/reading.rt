@@ -3,7 +3,7 @@ ghost use Rattle.std.specs.Prelude.{◌≡◌, ◌<◌, ◌≤◌, ◌==◌, tru
 ghost use Rattle.std.specs.List.{slice_split};
 ghost use Rattle.quorum_set.specs.Capacities.{AreCapacities};
 ghost use Rattle.certificate.specs.Certificates.{Weighted, IsCertificate, IsOptimal};
-ghost use Rattle.certificate.specs.PlanTexts.{plan_text, number_of, numbers_of, behind, are_given, are_in_range, have_a_line, capacities_at, load_digits, read_title, read_pair, read_load, read_cycle, read_capacities, read_weights, line_at, is_within, are_within, first_weights, first_capacities, contents_at, head_fault, plan_at, Answers, Gives, UnlessOutOfMemory, RefusesAs};
+ghost use Rattle.certificate.specs.PlanTexts.{plan_text, number_of, numbers_of, after_prefix, are_given, are_in_range, have_a_line, capacities_at, load_digits, read_title, read_pair, read_load, read_cycle, read_capacities, read_weights, line_at, is_within, are_within, first_weights, first_capacities, contents_at, head_fault, plan_at, Answers, Gives, UnlessOutOfMemory, RefusesAs};
 
 use crate::fault::PlanFault;
 use crate::plan::{Plan, check};
@@ -63,8 +63,8 @@ fn numbers(alloc: Global, text: &[u8]) -> Result<Option<Vec<u64>>, AllocError>
     Ok(Some(found))
 }
 
-fn behind<'a>(word: &[u8], line: &'a [u8]) -> Option<&'a [u8]>
-    ensures { option_map (λ rest. rest.now) result ≡ behind word.now line.now }
+fn after_prefix<'a>(word: &[u8], line: &'a [u8]) -> Option<&'a [u8]>
+    ensures { option_map (λ rest. rest.now) result ≡ after_prefix word.now line.now }
 {
     line.strip_prefix(word)
 }
@@ -85,7 +85,7 @@ fn load(line: &[u8], digits: u32) -> Option<(u64, u64)>
     requires few { digits ≤ 19 }
     ensures { result ≡ read_load digits line.now }
 {
-    match behind(b"load ", line) {
+    match after_prefix(b"load ", line) {
         Some(rest) => match cut_at(rest, b'/') {
             Some((before, after)) => pair(before, after, digits),
             None => None,
@@ -97,7 +97,7 @@ fn load(line: &[u8], digits: u32) -> Option<(u64, u64)>
 fn cycle(line: &[u8]) -> Option<u64>
     ensures { result ≡ read_cycle line.now }
 {
-    match behind(b"cycle ", line) {
+    match after_prefix(b"cycle ", line) {
         Some(rest) => number(rest, DIGITS),
         None => None,
     }
@@ -106,7 +106,7 @@ fn cycle(line: &[u8]) -> Option<u64>
 fn weights(alloc: Global, word: &[u8], line: &[u8]) -> Result<Option<Vec<u64>>, AllocError>
     ensures { IfOk result (λ found. option_map (λ v. v.items) found ≡ read_weights word.now line.now) }
 {
-    match behind(word, line) {
+    match after_prefix(word, line) {
         Some(rest) => numbers(alloc, rest),
         None => Ok(None),
     }
@@ -254,7 +254,7 @@ fn are_within(text: &[u8], least: u64, most: u64) -> bool
 fn is_weights_line(word: &[u8], line: &[u8]) -> bool
     ensures { result ≡ is_some (read_weights word.now line.now) }
 {
-    match behind(word, line) {
+    match after_prefix(word, line) {
         Some(rest) => are_within(rest, 0, MOST),
         None => false,
     }
@@ -264,7 +264,7 @@ fn is_weights_line(word: &[u8], line: &[u8]) -> bool
 fn is_capacity_line(line: &[u8]) -> bool
     ensures { result ≡ is_some (read_capacities line.now) }
 {
-    match behind(b"capacity ", line) {
+    match after_prefix(b"capacity ", line) {
         Some(rest) => are_within(rest, 1, MAX_CAPACITY) && !are_within(rest, 1, 1),
         None => false,
     }

@@ -1,15 +1,15 @@
 //! Writing a plan as text.
 ghost use Rattle.std.specs.Prelude.{◌≡◌, IfOk, string_bytes};
 ghost use Rattle.texts.specs.Lines.{text_of_lines};
-ghost use Rattle.certificate.specs.PlanTexts.{capacity_lines, spaced, written_capacities, version_of, plan_text};
+ghost use Rattle.certificate.specs.PlanTexts.{capacity_lines, with_spaces, written_capacities, version_of, plan_text};
 
 use crate::plan::Plan;
 use quorum_set::are_unit;
 use std::alloc::{AllocError, Global};
 
 /// Returns the numbers as text, with a space between each two.
-fn spaced(alloc: Global, numbers: &[u64]) -> Result<String, AllocError>
-    ensures { IfOk result (λ text. string_bytes text ≡ spaced numbers.now) }
+fn with_spaces(alloc: Global, numbers: &[u64]) -> Result<String, AllocError>
+    ensures { IfOk result (λ text. string_bytes text ≡ with_spaces numbers.now) }
 {
     let mut text = String::new(alloc);
     for (k, n) in numbers.iter().enumerate() {
@@ -29,7 +29,7 @@ fn capacity_line(alloc: Global, capacities: &[u64]) -> Result<String, AllocError
     if are_unit(capacities) {
         return Ok(String::new(alloc));
     }
-    let numbers = spaced(alloc, capacities)?;
+    let numbers = with_spaces(alloc, capacities)?;
     format!(in alloc; "capacity {numbers}\n")
 }
 
@@ -49,8 +49,8 @@ pub fn write_plan(alloc: Global, plan: &Plan) -> Result<String, AllocError>
     let cycle_len = plan.cycle_len();
     let version = version(plan.capacities());
     let capacity_line = capacity_line(alloc, plan.capacities())?;
-    let quorum_weights = spaced(alloc, plan.quorum_weights())?;
-    let voter_weights = spaced(alloc, plan.voter_weights())?;
+    let quorum_weights = with_spaces(alloc, plan.quorum_weights())?;
+    let voter_weights = with_spaces(alloc, plan.voter_weights())?;
     format!(in alloc;
         "quorum-plan {version}\nload {numerator}/{denominator}\ncycle {cycle_len}\n{capacity_line}quorum {quorum_weights}\nvoter {voter_weights}\n"
     )

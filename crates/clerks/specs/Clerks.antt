@@ -52,8 +52,8 @@ abbrev pub drawn : ClerksState → Receipt → ClerksState
 drawn k r = drawn_by k.side k r
 
 -- the clerks once the second plan is in use
-abbrev pub exchanged : ClerksState → ClerksState
-exchanged k = record k { side = Second }
+abbrev pub use_second_plan : ClerksState → ClerksState
+use_second_plan k = record k { side = Second }
 
 abbrev pub may_exchange_from : Side → Option ClerkState → Bool
 may_exchange_from First (Some k) = true

@@ -4,7 +4,7 @@ ghost use Rattle.numbers.specs.Bounds.{max_tickets};
 ghost use Rattle.numbers.specs.Sets.{IsSet};
 ghost use Rattle.numbers.specs.Sums.{AreAllBelow};
 ghost use Rattle.dealer.specs.Offices.{RefusesTicket, share_of, tickets_of};
-ghost use Rattle.clerks.specs.Clerks.{ClerksState, OfficesState, AreDealt, AreWhole, IsDealt, IsDealtBy, IsThere, IsWholeIn, drawn, exchanged, fresh_clerk, fresh_clerks, joined_each, joined_second, less_each, may_exchange, names_of, office_names, offices_with, quorums_in, quorums_of, receipts_in, receipts_of, rest_in, rest_of, with_less, with_receipt};
+ghost use Rattle.clerks.specs.Clerks.{ClerksState, OfficesState, AreDealt, AreWhole, IsDealt, IsDealtBy, IsThere, IsWholeIn, drawn, use_second_plan, fresh_clerk, fresh_clerks, joined_each, joined_second, less_each, may_exchange, names_of, office_names, offices_with, quorums_in, quorums_of, receipts_in, receipts_of, rest_in, rest_of, with_less, with_receipt};
 
 use certificate::Plan;
 use dealer::{Clerk, Cycle, DealFault, Office, Receipt};
@@ -220,7 +220,7 @@ impl Clerks {
     /// already, and then changes nothing.
     pub fn exchange(&mut self) -> bool
         ensures { MatchBool result
-            ((may_exchange self.old ≡ true) × (self.new ≡ exchanged self.old))
+            ((may_exchange self.old ≡ true) × (self.new ≡ use_second_plan self.old))
             ((may_exchange self.old ≡ false) × (self.new ≡ self.old)) }
     {
         match (self.side, &self.second) {

@@ -21,7 +21,7 @@ use Rattle.run_outcome.specs.declared.fault.ClusterFault.{ClusterFault}
 use Rattle.run_outcome.specs.declared.fault.ClusterFault.TheVariants as ends
 use Rattle.members.specs.Members.{AreIdle, MemberState, RefusesPass}
 use Rattle.cluster.specs.Drives.{EndsWork, HasMore, HasServed, HasServedOn, IsBack, IsBackBy, HasEndedOn, KeepsWork, Stops, TookTurns, WasLet, Worked, draws_by}
-use Rattle.cluster.specs.Drives.{draws_if, next_plan, on, side_after, side_if, wasted}
+use Rattle.cluster.specs.Drives.{draws_if, next_plan, on, side_after, side_if, tickets_without_pass}
 
 -- More of a list
 
@@ -167,16 +167,16 @@ later_ends client tickets rest m passed ends.NoSecondPlan more h = h
 
 -- after n passes the next was not made
 pub Worked-stopped : (n : ℕ) (a b c d : MemberState) (fault : ClusterFault) → HasServedOn n a b → Stops b c fault → KeepsWork c d
-    → Worked (λ plan. on a.clerks.side plan (n + wasted fault)) n a (record d { fault = Some fault })
+    → Worked (λ plan. on a.clerks.side plan (n + tickets_without_pass fault)) n a (record d { fault = Some fault })
 Worked-stopped n a b c d fault r stops kept =
-    subst (λ k. Worked (λ plan. on a.clerks.side plan (n + wasted fault)) k a (record d { fault = Some fault })) (add-zero n)
-    (on_then n (wasted fault) n 0 a b (record d { fault = Some fault }) r.worked r.side last)
+    subst (λ k. Worked (λ plan. on a.clerks.side plan (n + tickets_without_pass fault)) k a (record d { fault = Some fault })) (add-zero n)
+    (on_then n (tickets_without_pass fault) n 0 a b (record d { fault = Some fault }) r.worked r.side last)
   where
-    last : Worked (λ plan. on b.clerks.side plan (wasted fault)) 0 b (record d { fault = Some fault })
+    last : Worked (λ plan. on b.clerks.side plan (tickets_without_pass fault)) 0 b (record d { fault = Some fault })
     last = record {
       client = kept.client ∙ stops.0.client;
-      receipts = λ plan. subst (λ (x : ClerksState). HasMore (on b.clerks.side plan (wasted fault)) (receipts_of b.clerks plan) (receipts_of x plan)) (sym kept.clerks) (stops.0.receipts plan);
-      rest = λ plan. subst (λ (x : ClerksState). rest_of x plan + on b.clerks.side plan (wasted fault) ≡ rest_of b.clerks plan) (sym kept.clerks) (stops.0.rest plan);
+      receipts = λ plan. subst (λ (x : ClerksState). HasMore (on b.clerks.side plan (tickets_without_pass fault)) (receipts_of b.clerks plan) (receipts_of x plan)) (sym kept.clerks) (stops.0.receipts plan);
+      rest = λ plan. subst (λ (x : ClerksState). rest_of x plan + on b.clerks.side plan (tickets_without_pass fault) ≡ rest_of b.clerks plan) (sym kept.clerks) (stops.0.rest plan);
       passes = subst (λ l. HasMore 0 b.seat.passes l) (sym kept.passes) stops.0.passes;
       second = ap (λ (x : ClerksState). is_some x.second) kept.clerks ∙ stops.0.second;
     }
@@ -253,7 +253,7 @@ side_if-later true side half n = ap (λ b. cond {A = Side} b Second side) (le ha
     le : (half n : ℕ) → nat_le half (half + n) ≡ true
     le half n = grind (arith, nat_tests)
 
-few_wasted : (fault : ClusterFault) → wasted fault ≤ 1
+few_wasted : (fault : ClusterFault) → tickets_without_pass fault ≤ 1
 few_wasted (ends.Client e) = omega arith
 few_wasted (ends.Deal e) = omega arith
 few_wasted (ends.Board e) = omega arith
@@ -269,7 +269,7 @@ IsBack-early passes a b fault r =
     subst (λ f. IsBackBy passes f a b) (sym r.keeps) (record {
       passed = r.passed;
       fewer = omega (arith, r.fewer);
-      worked = Worked-as _ _ (λ plan. early_draws k half (r.passed + wasted fault) plan (omega (arith, r.fewer, few_wasted fault))) r.passed a b r.worked;
+      worked = Worked-as _ _ (λ plan. early_draws k half (r.passed + tickets_without_pass fault) plan (omega (arith, r.fewer, few_wasted fault))) r.passed a b r.worked;
       side = r.side ∙ sym (side_if-before (may_exchange k) k.side half r.passed r.fewer);
       idle = r.idle;
       ends = subst (λ (s : Side). EndsWork b.requester.id (rest_of k s) (draws_by k half r.passed s) fault) (sym r.side)
@@ -346,11 +346,11 @@ IsBack-both passes a b d r s = subst (λ f. IsBackBy passes f a d) (sym s.fault)
 pub IsBack-late : (passes : ℕ) (a b d : MemberState) (fault : ClusterFault) → HasServedOn (passes / 2) a b → HasEndedOn (passes - passes / 2) fault (exchanged_member b) d → IsBack passes a d
 IsBack-late passes a b d fault r s =
     let half = passes / 2 in
-    let all : half + (s.passed + wasted fault) ≡ half + s.passed + wasted fault = omega arith in
+    let all : half + (s.passed + tickets_without_pass fault) ≡ half + s.passed + tickets_without_pass fault = omega arith in
     subst (λ f. IsBackBy passes f a d) (sym s.keeps) (record {
       passed = half + s.passed;
       fewer = omega (arith, s.fewer);
-      worked = subst (λ n. Worked (draws_by a.clerks half n) (half + s.passed) a d) all (Worked-both half a b r (s.passed + wasted fault) s.passed d s.worked);
+      worked = subst (λ n. Worked (draws_by a.clerks half n) (half + s.passed) a d) all (Worked-both half a b r (s.passed + tickets_without_pass fault) s.passed d s.worked);
       side = s.side ∙ side-both half a b r s.passed;
       idle = s.idle;
       ends = subst (λ (x : Side). EndsWork d.requester.id (rest_of a.clerks x) (draws_by a.clerks half (half + s.passed) x) fault) (sym s.side)

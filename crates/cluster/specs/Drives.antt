@@ -101,13 +101,13 @@ LeavesTurns left (ends.TurnsSpent c) = left ≡ 0
 LeavesTurns left ends.NoSecondPlan = Unit {0}
 
 -- how many tickets this fault leaves without a pass: 1 if it came after the draw
-abbrev pub wasted : ClusterFault → ℕ
-wasted (ends.Client e) = 0
-wasted (ends.Deal e) = 0
-wasted (ends.Board e) = 1
-wasted ends.NotInside = 1
-wasted (ends.TurnsSpent c) = 1
-wasted ends.NoSecondPlan = 0
+abbrev pub tickets_without_pass : ClusterFault → ℕ
+tickets_without_pass (ends.Client e) = 0
+tickets_without_pass (ends.Deal e) = 0
+tickets_without_pass (ends.Board e) = 1
+tickets_without_pass ends.NotInside = 1
+tickets_without_pass (ends.TurnsSpent c) = 1
+tickets_without_pass ends.NoSecondPlan = 0
 
 -- The member is idle again, and its work ended early by this fault. It made fewer than `passes`
 -- passes. It drew a ticket for each that it made, and one more if the fault came after the draw. If
@@ -115,7 +115,7 @@ wasted ends.NoSecondPlan = 0
 pub record HasEnded (passes : ℕ) (fault : ClusterFault) (before after : MemberState) : Type 0 where
   pub passed : ℕ
   pub fewer : passed < passes
-  pub worked : Worked (draws_by before.clerks (passes / 2) (passed + wasted fault)) passed before after
+  pub worked : Worked (draws_by before.clerks (passes / 2) (passed + tickets_without_pass fault)) passed before after
   pub side : after.clerks.side ≡ side_after before.clerks (passes / 2) passed
   pub idle : is_idle after.requester.phase ≡ true
   pub ends : EndsWork after.requester.id (rest_of before.clerks after.clerks.side)
@@ -133,7 +133,7 @@ pub record HasServedOn (n : ℕ) (before after : MemberState) : Type 0 where
 pub record HasEndedOn (n : ℕ) (fault : ClusterFault) (before after : MemberState) : Type 0 where
   pub passed : ℕ
   pub fewer : passed < n
-  pub worked : Worked (λ plan. on before.clerks.side plan (passed + wasted fault)) passed before after
+  pub worked : Worked (λ plan. on before.clerks.side plan (passed + tickets_without_pass fault)) passed before after
   pub side : after.clerks.side ≡ before.clerks.side
   pub idle : is_idle after.requester.phase ≡ true
   pub keeps : after.fault ≡ Some fault
@@ -145,7 +145,7 @@ next_plan k = record k { side = cond (may_exchange k) Second k.side }
 
 -- the member did not make its pass, because of this fault
 abbrev pub Stops : MemberState → MemberState → ClusterFault → Type 0
-Stops before after fault = Worked (λ plan. on before.clerks.side plan (wasted fault)) 0 before after
+Stops before after fault = Worked (λ plan. on before.clerks.side plan (tickets_without_pass fault)) 0 before after
     × (after.clerks.side ≡ before.clerks.side)
     × EndsWork before.requester.id (rest_of before.clerks before.clerks.side) 0 fault
 

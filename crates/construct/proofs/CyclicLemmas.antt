@@ -14,7 +14,7 @@ use Rattle.numbers.specs.Sets.{has}
 use Rattle.quorum_set.specs.Coteries.{QuorumSystem, first_from, first_outside, first_pair, are_disjoint, is_one_within, fault_if, first_fault, coterie_or, coterie_of}
 use Rattle.quorum_set.specs.declared.fault.CoterieFault.TheVariants.{NoVoters, TooManyVoters, NoQuorums, TooManyQuorums, EmptyQuorum, VoterOutOfRange, Disjoint, Contained}
 use Rattle.numbers.proofs.SetLemmas.{has-append}
-use Rattle.construct.specs.Cyclic.{shifted, cyclic_quorums, has_repeat, is_bad_base, as_construct, IsCyclicFault}
+use Rattle.construct.specs.Cyclic.{shift_by, cyclic_quorums, has_repeat, is_bad_base, as_construct, IsCyclicFault}
 use Rattle.construct.proofs.Quorums.{IsQuorum, IsQuorum-where, All-range}
 use Rattle.construct.proofs.SetLemmas.{eqb_turned}
 
@@ -27,9 +27,9 @@ moved_below n s (x ∷ xs) v some e =
       | inr later ↦ moved_below n s xs v some later
     ]
 
-IsQuorum-shifted : (n : ℕ) (base : List ℕ) (s : ℕ) → 0 < n → n ≤ 64 → (length base ≡ 0 → ⊥) → IsQuorum n (shifted n base s)
-IsQuorum-shifted n [] s some few full = absurd (full refl)
-IsQuorum-shifted n (x ∷ xs) s some few full =
+IsQuorum-shift_by : (n : ℕ) (base : List ℕ) (s : ℕ) → 0 < n → n ≤ 64 → (length base ≡ 0 → ⊥) → IsQuorum n (shift_by n base s)
+IsQuorum-shift_by n [] s some few full = absurd (full refl)
+IsQuorum-shift_by n (x ∷ xs) s some few full =
     IsQuorum-where n (λ v. list_any (λ y. eqb ((y + s) % n) v) (x ∷ xs)) ((x + s) % n) (omega (arith, mod_below (x + s) n some))
     (ap (λ b. b || list_any (λ y. eqb ((y + s) % n) ((x + s) % n)) xs) (eq-eqb ((x + s) % n) ((x + s) % n) refl))
     (λ v small passes. moved_below n s (x ∷ xs) v some passes)
@@ -83,13 +83,13 @@ IsCyclicFault-coterie_of n base few good =
     let full = eqb-false (length base) 0 some_member in
     let off = eqb-false n 0 some_voter in
     let some : 0 < n = omega arith in
-    let long = length-map-range_with_len (shifted n base) 0 n in
+    let long = length-map-range_with_len (shift_by n base) 0 n in
     sets_fault n (cyclic_quorums n base) some few (omega (arith, long)) (omega (arith, long))
-    (All-range (IsQuorum n) (shifted n base) 0 n (λ s from lt. IsQuorum-shifted n base s some few full))
+    (All-range (IsQuorum n) (shift_by n base) 0 n (λ s from lt. IsQuorum-shift_by n base s some few full))
 
 pub length-cyclic_quorums : (n : ℕ) (base : List ℕ) → length (cyclic_quorums n base) ≡ n
 unfolding cyclic_quorums
-length-cyclic_quorums n base = length-map-range_with_len (shifted n base) 0 n
+length-cyclic_quorums n base = length-map-range_with_len (shift_by n base) 0 n
 
 -- repeats
 or_mixed : (a b c d : Bool) → ((a || (b || false)) || (c || d)) ≡ ((a || c) || (b || d))

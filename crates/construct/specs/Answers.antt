@@ -6,8 +6,8 @@ use Rattle.construct.specs.declared.fault.ConstructFault.{ConstructFault}
 use Rattle.construct.specs.declared.fault.ConstructFault.TheVariants.{BadSize, TooLarge, OutOfMemory}
 
 -- `BadSize` if the sizes are bad, else `TooLarge` if they are too large, else what is built
-abbrev pub sized : Bool → Bool → Result QuorumSystem ConstructFault → Result QuorumSystem ConstructFault
-sized bad large built = if bad then Err BadSize else if large then Err TooLarge else built
+abbrev pub check_sizes : Bool → Bool → Result QuorumSystem ConstructFault → Result QuorumSystem ConstructFault
+check_sizes bad large built = if bad then Err BadSize else if large then Err TooLarge else built
 
 -- the fault is out of memory
 abbrev pub is_out_of_memory : ConstructFault → Bool

@@ -7,17 +7,17 @@ use Rattle.numbers.specs.Bounds.{max_voters}
 use Rattle.numbers.specs.Sets.{has, set_where}
 use Rattle.quorum_set.specs.declared.fault.CoterieFault.{CoterieFault}
 use Rattle.quorum_set.specs.declared.fault.CoterieFault.TheVariants.{Disjoint, Contained}
-use Rattle.construct.specs.Answers.{sized}
+use Rattle.construct.specs.Answers.{check_sizes}
 use Rattle.construct.specs.declared.fault.ConstructFault.{ConstructFault}
 use Rattle.construct.specs.declared.fault.ConstructFault.TheVariants.{Coterie}
 
 -- the base, shifted by s places round a ring of n
-abbrev pub shifted : ℕ → List ℕ → ℕ → List ℕ
-shifted n base s = set_where (λ v. list_any (λ x. (x + s) % n == v) base)
+abbrev pub shift_by : ℕ → List ℕ → ℕ → List ℕ
+shift_by n base s = set_where (λ v. list_any (λ x. (x + s) % n == v) base)
 
 -- the base, shifted by each number of places below n
 unfoldable pub cyclic_quorums : ℕ → List ℕ → List (List ℕ)
-cyclic_quorums n base = map (shifted n base) (range_with_len 0 n)
+cyclic_quorums n base = map (shift_by n base) (range_with_len 0 n)
 
 -- whether a number is in the list twice
 abbrev pub has_repeat : List ℕ → Bool
@@ -41,7 +41,7 @@ as_construct (Err fault) = Err (Coterie fault)
 -- sets
 abbrev pub cyclic_at : ℕ → List ℕ → Result QuorumSystem ConstructFault
 cyclic_at voters base =
-    sized (is_bad_base voters base) (nat_lt max_voters voters)
+    check_sizes (is_bad_base voters base) (nat_lt max_voters voters)
     (as_construct (coterie_of voters (cyclic_quorums voters base)))
 
 -- if the fault is one of sets, two of them are disjoint, or one lies within the other

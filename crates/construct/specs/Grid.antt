@@ -5,7 +5,7 @@ use Rattle.std.specs.List.{range_with_len}
 use Rattle.quorum_set.specs.Coteries.{QuorumSystem}
 use Rattle.numbers.specs.Bounds.{max_voters}
 use Rattle.numbers.specs.Sets.{set_where}
-use Rattle.construct.specs.Answers.{sized}
+use Rattle.construct.specs.Answers.{check_sizes}
 use Rattle.construct.specs.declared.fault.ConstructFault.{ConstructFault}
 
 -- the voters of row i and those of column k, in a grid of these rows and columns; voter v is in row
@@ -26,4 +26,4 @@ grid_system rows columns = record { voters = rows * columns; quorums = grid_quor
 -- the grid of these rows and columns, or the fault of its sizes
 abbrev pub grid_at : ℕ → ℕ → Result QuorumSystem ConstructFault
 grid_at rows columns =
-    sized (nat_lt rows 2 || nat_lt columns 2) (nat_lt max_voters (rows * columns)) (Ok (grid_system rows columns))
+    check_sizes (nat_lt rows 2 || nat_lt columns 2) (nat_lt max_voters (rows * columns)) (Ok (grid_system rows columns))

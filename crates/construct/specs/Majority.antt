@@ -2,7 +2,7 @@
 -- 32(4), 1985).
 use Rattle.std.specs.Prelude.{ℕ, ◌+◌, ◌/◌, ◌==◌, List, [], ◌∷◌, ◌++◌, Result, Ok, map, nat_lt, zero, suc}
 use Rattle.quorum_set.specs.Coteries.{QuorumSystem}
-use Rattle.construct.specs.Answers.{sized}
+use Rattle.construct.specs.Answers.{check_sizes}
 use Rattle.construct.specs.declared.fault.ConstructFault.{ConstructFault}
 
 -- the sets of k of the n numbers from low on, in lexicographic order: first those with low, then
@@ -28,4 +28,4 @@ majority_system voters = record { voters = voters; quorums = majority_quorums vo
 
 -- the majorities of these voters, or the fault of their number
 abbrev pub majority_at : ℕ → Result QuorumSystem ConstructFault
-majority_at voters = sized (voters == 0) (nat_lt 14 voters) (Ok (majority_system voters))
+majority_at voters = check_sizes (voters == 0) (nat_lt 14 voters) (Ok (majority_system voters))

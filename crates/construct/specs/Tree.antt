@@ -5,7 +5,7 @@ use Rattle.std.specs.List.{flat_map}
 use Rattle.quorum_set.specs.Coteries.{QuorumSystem}
 use Rattle.numbers.specs.Sets.{has, set_where}
 pub use Rattle.numbers.specs.Sets.{union}
-use Rattle.construct.specs.Answers.{sized}
+use Rattle.construct.specs.Answers.{check_sizes}
 use Rattle.construct.specs.declared.fault.ConstructFault.{ConstructFault}
 
 -- the set with the node added
@@ -33,4 +33,4 @@ tree_system height = record { voters = 2 ^ (height + 1) - 1; quorums = tree_quor
 
 -- the tree of this height, or the fault of its size
 abbrev pub tree_at : ℕ → Result QuorumSystem ConstructFault
-tree_at height = sized false (nat_lt 3 height) (Ok (tree_system height))
+tree_at height = check_sizes false (nat_lt 3 height) (Ok (tree_system height))

@@ -4,7 +4,7 @@ use Rattle.std.specs.Prelude.{ℕ, ◌+◌, ◌==◌, ◌||◌, ◌&&◌, List, 
 use Rattle.std.specs.List.{range_with_len}
 use Rattle.quorum_set.specs.Coteries.{QuorumSystem}
 use Rattle.numbers.specs.Sets.{set_where}
-use Rattle.construct.specs.Answers.{sized}
+use Rattle.construct.specs.Answers.{check_sizes}
 use Rattle.construct.specs.declared.fault.ConstructFault.{ConstructFault}
 
 -- the hub, voter 0, with voter i of the rim
@@ -25,4 +25,4 @@ wheel_system rims = record { voters = rims + 1; quorums = wheel_quorums rims }
 
 -- the wheel with `rims` voters on its rim, or the fault of its size
 abbrev pub wheel_at : ℕ → Result QuorumSystem ConstructFault
-wheel_at rims = sized (nat_lt rims 2) (nat_lt 63 rims) (Ok (wheel_system rims))
+wheel_at rims = check_sizes (nat_lt rims 2) (nat_lt 63 rims) (Ok (wheel_system rims))

@@ -11,7 +11,7 @@ use Rattle.quorum_set.specs.declared.fault.CoterieFault.{CoterieFault}
 use Rattle.quorum_set.specs.declared.fault.CoterieFault.TheVariants.{TooManyVoters}
 use Rattle.coterie_file.specs.Answers.{unless, Gives, Refuses}
 use Rattle.coterie_file.specs.Capacities.{capacities_fault}
-use Rattle.coterie_file.specs.Lists.{NameLists, listed, listed_by}
+use Rattle.coterie_file.specs.Lists.{NameLists, name_lists, name_lists_by}
 use Rattle.coterie_file.specs.Names.{has_name, first_repeat, names_fault}
 use Rattle.coterie_file.specs.Reading.{quorum_of, system_of, named_of, lists_fault}
 use Rattle.coterie_file.specs.declared.fault.FileFault.{FileFault}
@@ -52,19 +52,19 @@ repeated_at quorums = position-map (λ members. is_some (first_repeat [] members
 
 -- the first fault of lists whose names have none
 pub unknown_fault : (names : List (List ℕ)) (quorums : List (Vec (String Global) Global)) (capacities : List ℕ) (j : ℕ) → names_fault names ≡ None
-    → position (λ q. not (list_all (λ n. has_name names (string_bytes n)) q.items)) quorums ≡ Some j → lists_fault (listed_by names quorums capacities) ≡ Some (UnknownName j)
+    → position (λ q. not (list_all (λ n. has_name names (string_bytes n)) q.items)) quorums ≡ Some j → lists_fault (name_lists_by names quorums capacities) ≡ Some (UnknownName j)
 unknown_fault names quorums capacities j named at = rw (named, unknown_at names quorums ∙ at) refl
 
 pub repeated_fault : (names : List (List ℕ)) (quorums : List (Vec (String Global) Global)) (capacities : List ℕ) (j : ℕ) → names_fault names ≡ None
     → position (λ q. not (list_all (λ n. has_name names (string_bytes n)) q.items)) quorums ≡ None → position repeats quorums ≡ Some j
-    → lists_fault (listed_by names quorums capacities) ≡ Some (RepeatedMember j)
+    → lists_fault (name_lists_by names quorums capacities) ≡ Some (RepeatedMember j)
 repeated_fault names quorums capacities j named known at = rw (named, unknown_at names quorums ∙ known, repeated_at quorums ∙ at) refl
 
 -- the same, if no quorum lists an unknown name or a name twice
 pub later_fault : (names : List (List ℕ)) (quorums : List (Vec (String Global) Global)) (capacities : List ℕ) → names_fault names ≡ None
     → position (λ q. not (list_all (λ n. has_name names (string_bytes n)) q.items)) quorums ≡ None → position repeats quorums ≡ None
-    → lists_fault (listed_by names quorums capacities) ≡ option_or (capacities_fault (length names) capacities)
-    (option_map Coterie (first_fault (length names) (system_of (listed_by names quorums capacities)).quorums))
+    → lists_fault (name_lists_by names quorums capacities) ≡ option_or (capacities_fault (length names) capacities)
+    (option_map Coterie (first_fault (length names) (system_of (name_lists_by names quorums capacities)).quorums))
 later_fault names quorums capacities named known once = rw (named, unknown_at names quorums ∙ known, repeated_at quorums ∙ once) refl
 
 -- more than 64 voters are refused, whatever the sets
@@ -77,13 +77,13 @@ pub known_answer : (lists : NameLists) (system : QuorumSystem) → lists_fault l
 known_answer lists system fault made = ap (λ o. unless o (system_of lists)) fault ∙ ap (λ s. unless (option_map Coterie (first_fault s.voters s.quorums)) s) made
 
 -- the same lists
-pub listed-same : (n m : List (String Global)) (p q : List (Vec (String Global) Global)) (c d : List ℕ) → n ≡ m → p ≡ q → c ≡ d → listed n p c ≡ listed m q d
-listed-same n m p q c d e f g = rw (e, f, g) refl
+pub name_lists-same : (n m : List (String Global)) (p q : List (Vec (String Global) Global)) (c d : List ℕ) → n ≡ m → p ≡ q → c ≡ d → name_lists n p c ≡ name_lists m q d
+name_lists-same n m p q c d e f g = rw (e, f, g) refl
 
 -- the system of the lists, by the sets that were made
-pub system_of-listed : (names : List (List ℕ)) (quorums : List (Vec (String Global) Global)) (capacities : List ℕ) (n : ℕ) (sets : List (List ℕ)) → length names ≡ n
-    → sets ≡ map (λ q. quorum_of names (map string_bytes q.items)) quorums → system_of (listed_by names quorums capacities) ≡ record { voters = n; quorums = sets }
-system_of-listed names quorums capacities n sets count made = rw (map-map (quorum_of names) (λ q. map string_bytes q.items) quorums, ← made, count) refl
+pub system_of-name_lists : (names : List (List ℕ)) (quorums : List (Vec (String Global) Global)) (capacities : List ℕ) (n : ℕ) (sets : List (List ℕ)) → length names ≡ n
+    → sets ≡ map (λ q. quorum_of names (map string_bytes q.items)) quorums → system_of (name_lists_by names quorums capacities) ≡ record { voters = n; quorums = sets }
+system_of-name_lists names quorums capacities n sets count made = rw (map-map (quorum_of names) (λ q. map string_bytes q.items) quorums, ← made, count) refl
 
 -- the system, the names and the capacities of the lists, as they were kept
 pub named_of-same : (lists : NameLists) (system : QuorumSystem) (names : List (List ℕ)) (capacities : List ℕ) → system_of lists ≡ system → lists.names ≡ names → lists.capacities ≡ capacities

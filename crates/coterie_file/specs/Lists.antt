@@ -16,16 +16,16 @@ pub record NameLists : Type 0 where
   pub capacities : List ℕ
 
 -- the lists of these names, strings and numbers
-abbrev pub listed_by : List (List ℕ) → List (Vec (String Global) Global) → List ℕ → NameLists
-listed_by names quorums capacities = record {
+abbrev pub name_lists_by : List (List ℕ) → List (Vec (String Global) Global) → List ℕ → NameLists
+name_lists_by names quorums capacities = record {
   names = names;
   quorums = map (λ members. map string_bytes members.items) quorums;
   capacities = capacities;
 }
 
 -- the lists of these strings and numbers
-abbrev pub listed : List (String Global) → List (Vec (String Global) Global) → List ℕ → NameLists
-listed names quorums capacities = listed_by (map string_bytes names) quorums capacities
+abbrev pub name_lists : List (String Global) → List (Vec (String Global) Global) → List ℕ → NameLists
+name_lists names quorums capacities = name_lists_by (map string_bytes names) quorums capacities
 
 -- the texts of an array, if each item is a string
 abbrev pub texts_of : Items → Option (List (List ℕ))

@@ -6,12 +6,12 @@ use Rattle.coterie_file.specs.Named.{NamedSystem}
 use Rattle.coterie_file.specs.Names.{name_at}
 
 -- the name in quotation marks
-abbrev pub quoted : List ℕ → List ℕ
-quoted name = codes "\"" ++ (name ++ codes "\"")
+abbrev pub quote : List ℕ → List ℕ
+quote name = codes "\"" ++ (name ++ codes "\"")
 
 -- the names in brackets, with a comma and a space between each two
 abbrev pub name_list : List (List ℕ) → List ℕ
-name_list names = codes "[" ++ (join_by quoted (codes ", ") names ++ codes "]")
+name_list names = codes "[" ++ (join_by quote (codes ", ") names ++ codes "]")
 
 -- the line of a quorum: its members' names in ascending order of their numbers
 abbrev pub quorum_line : List (List ℕ) → List ℕ → List ℕ

@@ -5,7 +5,7 @@ ghost use Rattle.toml.specs.Errors.{IsBlank};
 ghost use Rattle.toml.specs.View.{table_view, items_view};
 ghost use Rattle.quorum_set.specs.Capacities.{unit_capacities};
 ghost use Rattle.coterie_file.specs.Answers.{Gives};
-ghost use Rattle.coterie_file.specs.Lists.{table_at, texts_of, text_lists_of, or_zero, numbers_of, items_at, has_capacities, wanted_keys, capacities_at, listed, lists_in, lists_at};
+ghost use Rattle.coterie_file.specs.Lists.{table_at, texts_of, text_lists_of, or_zero, numbers_of, items_at, has_capacities, wanted_keys, capacities_at, name_lists, lists_in, lists_at};
 ghost use Rattle.coterie_file.specs.declared.fault.FileFault.TheVariants.{Keys, OutOfMemory};
 
 use crate::fault::FileFault;
@@ -151,7 +151,7 @@ fn wanted_keys(table: &Table) -> usize
 /// Returns the lists of a table that has the keys `voters` and `quorums`, may have `capacity`, and
 /// has no other key. Any other table is `Keys`.
 fn lists_in(alloc: Global, table: &Table) -> Result<NameLists, FileFault>
-    ensures exact { Gives (λ l. listed l.names.items l.quorums.items l.capacities.items) result
+    ensures exact { Gives (λ l. name_lists l.names.items l.quorums.items l.capacities.items) result
         (lists_in (table_view table.now)) }
     ensures empty { table_view table.now ≡ no_members → result ≡ Err Keys }
 {
@@ -178,7 +178,7 @@ impl NameLists {
     /// Returns the lists that a text describes, whether or not they describe a coterie. Fails with
     /// `NotToml` or `Keys` if there are no such lists, or with `OutOfMemory`.
     pub fn of(alloc: Global, text: &str) -> Result<NameLists, FileFault>
-        ensures exact { Gives (λ l. listed l.names.items l.quorums.items l.capacities.items) result
+        ensures exact { Gives (λ l. name_lists l.names.items l.quorums.items l.capacities.items) result
             (lists_at text.now) }
         ensures blank { IsBlank text.now → result ≡ Err Keys }
     {

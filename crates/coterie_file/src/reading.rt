@@ -4,7 +4,7 @@ ghost use Rattle.std.specs.List.{list_all};
 ghost use Rattle.toml.specs.Errors.{IsBlank};
 ghost use Rattle.numbers.specs.Bounds.{max_voters};
 ghost use Rattle.coterie_file.specs.Answers.{Gives, unless};
-ghost use Rattle.coterie_file.specs.Lists.{listed, listed_by};
+ghost use Rattle.coterie_file.specs.Lists.{name_lists, name_lists_by};
 ghost use Rattle.coterie_file.specs.Names.{has_name, number_of, first_repeat, names_fault, AreNames};
 ghost use Rattle.quorum_set.specs.Capacities.{AreCapacities};
 ghost use Rattle.coterie_file.specs.Reading.{quorum_of, system_of, lists_fault, coterie_at};
@@ -115,8 +115,8 @@ fn coterie_by(
 ) -> Result<Coterie, FileFault>
     requires { names_fault (map (λ k. k.now) voters.now.keys) ≡ None }
     ensures exact { Gives (λ c. c) result
-        (unless (lists_fault (listed_by (map (λ k. k.now) voters.now.keys) quorums.now capacities.now))
-        (system_of (listed_by (map (λ k. k.now) voters.now.keys) quorums.now capacities.now))) }
+        (unless (lists_fault (name_lists_by (map (λ k. k.now) voters.now.keys) quorums.now capacities.now))
+        (system_of (name_lists_by (map (λ k. k.now) voters.now.keys) quorums.now capacities.now))) }
     ensures capacities { OnOk result (AreCapacities capacities.now (length voters.now.keys)) }
 {
     if let Some(j) = first_unknown(voters, quorums) {
@@ -144,8 +144,8 @@ fn coterie_of(
     capacities: &[u64],
 ) -> Result<Coterie, FileFault>
     ensures exact { Gives (λ c. c) result
-        (unless (lists_fault (listed names.now quorums.now capacities.now))
-        (system_of (listed names.now quorums.now capacities.now))) }
+        (unless (lists_fault (name_lists names.now quorums.now capacities.now))
+        (system_of (name_lists names.now quorums.now capacities.now))) }
     ensures names { OnOk result (AreNames (map string_bytes names.now)) }
     ensures capacities { OnOk result (AreCapacities capacities.now (length names.now)) }
 {

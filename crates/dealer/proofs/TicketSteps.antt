@@ -12,7 +12,7 @@ use Rattle.numbers.proofs.SumLemmas.{AreAllBelow-from_sums, weight_past, sum_by-
 use Rattle.numbers.proofs.SumsBelow.{sum_below-one, sum_by-one}
 use Rattle.dealer.specs.declared.tickets.Hand.{Hand}
 use Rattle.dealer.specs.declared.tickets.Sheet.{Sheet}
-use Rattle.dealer.specs.Tickets.{hand, IsDealt, Dealt, Draws, Looks, joined, nothing, Ends}
+use Rattle.dealer.specs.Tickets.{hand, IsDealt, Dealt, Draws, Looks, join_hands, empty_hand, Ends}
 
 abbrev TableState : Type 0
 TableState = State (Unit {0}) Hand
@@ -112,11 +112,11 @@ Dealt-splits sheet id v amount enough s r at =
       each_once = λ h. omega (arith, sum_by-set_elem (λ (u : Hand). sum_by h u.drawn) s.views id v left at, sum_by_push (λ (u : Hand). sum_by h u.drawn) (set s.views id left) right, r.each_once h);
     }
 
-pub Dealt-joins : (sheet : Sheet) (id : ℕ) (v : Hand) (other : ℕ) (w : Hand) → Joins (Dealt sheet) id v other w (joined v w) nothing
+pub Dealt-joins : (sheet : Sheet) (id : ℕ) (v : Hand) (other : ℕ) (w : Hand) → Joins (Dealt sheet) id v other w (join_hands v w) empty_hand
 Dealt-joins sheet id v other w s r at apart there =
-    let both = joined v w in
+    let both = join_hands v w in
     let rests = sum_by-set_elem (λ (u : Hand). u.rest) s.views id v both at in
-    let spent = sum_by-set_elem (λ (u : Hand). u.rest) (set s.views id both) other w nothing there in
+    let spent = sum_by-set_elem (λ (u : Hand). u.rest) (set s.views id both) other w empty_hand there in
     let whole = r.quota_kept in
     record {
       one_word = r.one_word;
@@ -126,7 +126,7 @@ Dealt-joins sheet id v other w s r at apart there =
         arith,
         sum_by-set_elem (λ (u : Hand). sum_by h u.drawn) s.views id v both at,
         sum_by-set_elem (λ (u : Hand). sum_by h u.drawn)
-            (set s.views id both) other w nothing there,
+            (set s.views id both) other w empty_hand there,
         sum_by-append h v.drawn w.drawn,
         r.each_once h,
       );

@@ -38,12 +38,12 @@ abbrev pub Looks : Step (Unit {0}) → Me (Unit {0}) Hand → ℕ → Me (Unit {
 Looks st m found after = (after ≡ m) × (m.0.rest ≤ max_tickets)
 
 -- two seats in one: what they may draw, and what they drew
-abbrev pub joined : Hand → Hand → Hand
-joined v w = hand v.cycle (v.rest + w.rest) (v.drawn ++ w.drawn)
+abbrev pub join_hands : Hand → Hand → Hand
+join_hands v w = hand v.cycle (v.rest + w.rest) (v.drawn ++ w.drawn)
 
 -- what is left of a seat that joined another
-abbrev pub nothing : Hand
-nothing = hand (record { system = record { voters = 0; quorums = [] }; capacities = []; quorum_weights = []; voter_weights = [] }) 0 []
+abbrev pub empty_hand : Hand
+empty_hand = hand (record { system = record { voters = 0; quorums = [] }; capacities = []; quorum_weights = []; voter_weights = [] }) 0 []
 
 -- The end of an office, as a seat sees it. The seat has no more than the quota. If it has all of
 -- it, it has all tickets that were drawn.

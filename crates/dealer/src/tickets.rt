@@ -3,7 +3,7 @@
 ghost use Rattle.std.specs.Prelude.{◌≡◌, ◌+◌, ◌-◌, ◌<◌, ◌≤◌, [], ◌∷◌, ◌++◌, length};
 ghost use Rattle.std.specs.List.{All};
 ghost use Rattle.numbers.specs.Bounds.{max_tickets};
-ghost use Rattle.dealer.specs.Tickets.{hand, joined, Ends};
+ghost use Rattle.dealer.specs.Tickets.{hand, join_hands, Ends};
 
 use crate::cycle::Cycle;
 use atomic_table::{Join, Play, Seat, Split, Table, TableRule};
@@ -93,9 +93,9 @@ struct Merge;
 
 impl Join<Hand> for Merge {
     ghost use Rattle.std.specs.Prelude.{[]};
-    ghost use Rattle.dealer.specs.Tickets.{joined, nothing};
+    ghost use Rattle.dealer.specs.Tickets.{join_hands, nothing};
 
-    ghost both = { joined };
+    ghost both = { join_hands };
 
     ghost spent = { nothing };
 }
@@ -148,7 +148,7 @@ pub(crate) fn take_in(table: &TicketTable, seat: &mut Seat<(), Hand>, other: Sea
     requires other_table { other.table_id ≡ table.now.shared.table_id }
     requires word { 0 < table.now.shared.table_id.words }
     requires no_slot { other.me.1 ≡ [] }
-    ensures both { seat.new.me ≡ (joined seat.old.me.0 other.me.0, seat.old.me.1) }
+    ensures both { seat.new.me ≡ (join_hands seat.old.me.0 other.me.0, seat.old.me.1) }
     ensures fits { seat.old.me.0.rest + other.me.0.rest ≤ max_tickets }
     ensures table { seat.new.table_id ≡ seat.old.table_id }
 {

@@ -16,7 +16,7 @@ use Rattle.even.specs.EvenCycles.{EvenOrder, Row, even_quorum, window, quorums_o
 use Rattle.even.specs.Leads.{IsGreatestLead}
 use Rattle.even.specs.Slacks.{slack_unit, IsWithin, IsExcess}
 use Rattle.even.specs.Strides.{with_stride, IsBestOf, IsFirstBest, IsMoreEven}
-use Rattle.even.proofs.WindowLemmas.{repeated-window}
+use Rattle.even.proofs.WindowLemmas.{repeat_order-window}
 
 -- the bound for the voters below n
 abbrev pub IsWithinBelow : EvenOrder → ℕ → ℕ → Type 0
@@ -64,7 +64,7 @@ IsExcessBelow-more o order i excess lead up after some is cap before greatest ro
     let both = div_ceil_times lead capacity cap in
     let low : lead ≤ up * capacity = subst (λ u. lead ≤ u * capacity) (sym rounded) both.0 in
     let high : up * capacity < lead + capacity = subst (λ u. u * capacity < lead + capacity) (sym rounded) both.1 in
-    let turned = λ (first n : ℕ). ap (λ list. unit * count_of o.plan.system i list) (repeated-window o order first n some is) in
+    let turned = λ (first n : ℕ). ap (λ list. unit * count_of o.plan.system i list) (repeat_order-window o order first n some is) in
     record {
       bound = λ j first n lt. elim (cases_eq j i) [
         | inl at ↦

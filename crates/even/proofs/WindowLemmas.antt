@@ -18,7 +18,7 @@ use Rattle.quorum_set.specs.Coteries.{QuorumSystem}
 use Rattle.quorum_set.specs.Counts.{count_of}
 use Rattle.certificate.specs.Certificates.{IsCertificate, cycle_len}
 use Rattle.even.specs.EvenCycles.{EvenOrder, Row, places_of, even_quorum, window, IsFair, quorums_of_rows, whole_rows, total_of}
-use Rattle.even.specs.Leads.{gains_of, lead_after, repeated, IsGreatestLead}
+use Rattle.even.specs.Leads.{gains_of, lead_after, repeat_order, IsGreatestLead}
 use Rattle.even.proofs.StrideLemmas.{place_again, sum_below-strided}
 use Rattle.even.proofs.PlaceLemmas.{length-places_of, places_of-lt, times-places_of}
 use Rattle.even.proofs.LeadLemmas.{gained, greatest_lead-is}
@@ -60,9 +60,9 @@ times-count_of s i gain (j ∷ list) =
 abbrev again_of : QuorumSystem → ℕ → ℕ → List ℕ → ℕ → ℕ
 again_of s i gain order t = gains_of s i gain order (t % length order)
 
-gained-repeated : (s : QuorumSystem) (i gain : ℕ) (order : List ℕ) (first n : ℕ) → gain * count_of s i (repeated order first n) ≡ gained (again_of s i gain order) first n
-gained-repeated s i gain order first n =
-    times-count_of s i gain (repeated order first n)
+gained-repeat_order : (s : QuorumSystem) (i gain : ℕ) (order : List ℕ) (first n : ℕ) → gain * count_of s i (repeat_order order first n) ≡ gained (again_of s i gain order) first n
+gained-repeat_order s i gain order first n =
+    times-count_of s i gain (repeat_order order first n)
     ∙ sum_by-map_range (gain_for s i gain) (λ t. get_or order (t % length order) 0) first n
 
 gained-whole : (s : QuorumSystem) (i gain : ℕ) (order : List ℕ) → gain * count_of s i order ≡ gained (again_of s i gain order) 0 (length order)
@@ -85,8 +85,8 @@ IsGreatestLead-rounds s i gain cost order start greatest some whole begun most =
     (omega (arith, gained-whole s i gain order, whole)) begun most in
     let (a, n, same) = both.1 in
     record {
-      bound = λ first n. omega (arith, gained-repeated s i gain order first n, both.0 first n);
-      reached = (a, n, gained-repeated s i gain order a n ∙ same);
+      bound = λ first n. omega (arith, gained-repeat_order s i gain order first n, both.0 first n);
+      reached = (a, n, gained-repeat_order s i gain order a n ∙ same);
     }
 
 -- Windows
@@ -95,8 +95,8 @@ even_quorum-again : (o : EvenOrder) (t : ℕ) → even_quorum o (t % cycle_len o
 even_quorum-again o t = ap (λ p. get_or (places_of o.plan.quorum_weights) p 0) (mul-mod_first t o.stride (cycle_len o.plan))
 
 -- the tickets of one cycle, begun again at their end, are all tickets
-pub repeated-window : (o : EvenOrder) (order : List ℕ) (first n : ℕ) → 0 < cycle_len o.plan → order ≡ window o 0 (cycle_len o.plan) → repeated order first n ≡ window o first n
-repeated-window o order first n some is =
+pub repeat_order-window : (o : EvenOrder) (order : List ℕ) (first n : ℕ) → 0 < cycle_len o.plan → order ≡ window o 0 (cycle_len o.plan) → repeat_order order first n ≡ window o first n
+repeat_order-window o order first n some is =
     let d = cycle_len o.plan in
     let long : length order ≡ d = ap length is ∙ length-map-range_with_len (even_quorum o) 0 d in
     map-same (λ t. get_or order (t % length order) 0) (even_quorum o) (range_with_len first n)

@@ -16,11 +16,11 @@ lead_after gains cost start zero = start
 lead_after gains cost start (suc n) = (lead_after gains cost start n + gains n) - cost
 
 -- n quorums of an order that begins again at its end, from the first one on
-abbrev pub repeated : List ℕ → ℕ → ℕ → List ℕ
-repeated order first n = map (λ t. slice_index order (t % length order)) (range_with_len first n)
+abbrev pub repeat_order : List ℕ → ℕ → ℕ → List ℕ
+repeat_order order first n = map (λ t. slice_index order (t % length order)) (range_with_len first n)
 
 -- The greatest lead: of any n quorums in a row, the gains are at most n times the cost and this more.
 -- Of some they are exactly that.
 pub record IsGreatestLead (s : QuorumSystem) (i gain cost : ℕ) (order : List ℕ) (lead : ℕ) : Type 0 where
-  pub bound : (first n : ℕ) → gain * count_of s i (repeated order first n) ≤ n * cost + lead
-  pub reached : (first : ℕ) × (n : ℕ) × (gain * count_of s i (repeated order first n) ≡ n * cost + lead)
+  pub bound : (first n : ℕ) → gain * count_of s i (repeat_order order first n) ≤ n * cost + lead
+  pub reached : (first : ℕ) × (n : ℕ) × (gain * count_of s i (repeat_order order first n) ≡ n * cost + lead)

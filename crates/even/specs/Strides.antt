@@ -17,13 +17,13 @@ abbrev pub strides_tried : ℕ → ℕ
 strides_tried len = max 2 (min 12 (3000000 / len))
 
 -- 0.618 times a length: the golden section
-abbrev pub golden : ℕ → ℕ
-golden len = len * 618 / 1000
+abbrev pub golden_section : ℕ → ℕ
+golden_section len = len * 618 / 1000
 
 -- the numbers next to the golden section, in turn above and below it: turn 0 is the golden section
 abbrev pub stride_at : ℕ → ℕ → ℕ
 stride_at len turn =
-    if turn % 2 == 0 then (golden len + turn / 2) % len else (golden len + len - (turn + 1) / 2) % len
+    if turn % 2 == 0 then (golden_section len + turn / 2) % len else (golden_section len + len - (turn + 1) / 2) % len
 
 -- the strides that are tried: 1, and those next to the golden section that have no divisor in common
 -- with the cycle's length

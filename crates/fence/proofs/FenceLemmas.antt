@@ -2,12 +2,12 @@
 use Rattle.std.proofs.Common.{◌≡◌, ℕ, ◌<◌, ◌≤◌, List, length, arith}
 use Rattle.std.specs.Prelude.{slice_index}
 use Rattle.std.proofs.Math.Nat.{le-max_left, le-max_right}
-use Rattle.fence.specs.Passes.{HasSeen, SeesAlso, raised}
+use Rattle.fence.specs.Passes.{HasSeen, SeesAlso, highest_with}
 
 -- below this voter what was seen is raised, and from it on it is as before
 pub record Raised (old shown : List ℕ) (n : ℕ) (seen : List ℕ) : Type 0 where
   pub places : length seen ≡ 64
-  pub done : (v : ℕ) → v < n → slice_index seen v ≡ raised old shown v
+  pub done : (v : ℕ) → v < n → slice_index seen v ≡ highest_with old shown v
   pub left : (v : ℕ) → n ≤ v → slice_index seen v ≡ slice_index old v
 
 -- ---- what was seen stays seen

@@ -7,8 +7,8 @@ abbrev pub is_not_older : List ℕ → List ℕ → ℕ → Bool
 is_not_older seen shown voter = (slice_index shown voter == 0) || nat_le (slice_index seen voter) (slice_index shown voter)
 
 -- the highest grant of this voter that was seen, with this pass
-abbrev pub raised : List ℕ → List ℕ → ℕ → ℕ
-raised seen shown voter = max (slice_index seen voter) (slice_index shown voter)
+abbrev pub highest_with : List ℕ → List ℕ → ℕ → ℕ
+highest_with seen shown voter = max (slice_index seen voter) (slice_index shown voter)
 
 -- a guard that has seen these grants admits this pass
 abbrev pub Admits : List ℕ → List ℕ → Type 0
@@ -20,7 +20,7 @@ Refuses seen pass = (v : ℕ) × (v < max_voters) × (is_not_older seen pass v �
 
 -- what the guard has seen after it admitted this pass
 abbrev pub SeesAlso : List ℕ → List ℕ → List ℕ → Type 0
-SeesAlso seen pass after = (v : ℕ) → v < max_voters → slice_index after v ≡ raised seen pass v
+SeesAlso seen pass after = (v : ℕ) → v < max_voters → slice_index after v ≡ highest_with seen pass v
 
 -- the guard has seen each grant of this pass, or a newer one
 abbrev pub HasSeen : List ℕ → List ℕ → Type 0

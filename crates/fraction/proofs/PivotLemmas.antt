@@ -10,8 +10,8 @@ use Rattle.std.proofs.lemmas.Int.{ints, unsigned_abs-mul}
 use Rattle.std.proofs.lemmas.Nat.Gcd.{dvd_antisymm}
 use Rattle.std.proofs.Math.Nat.{one-dvd, eq-zero_of_zero-dvd, mul-dvd-mul_left, dvd_of_mul-dvd-mul_left, mul-div_cancel', mul_comm}
 use Rattle.fraction.specs.Fractions.{Fits}
-use Rattle.fraction.specs.Tables.{Table, PivotFits, pivoted, row_of}
-use Rattle.fraction.specs.Rows.{lists_of, row_at, entry_of, combined, EachFits, EliminateFits, IsEliminated, AllEliminateFit, EachRow, IsDivided, IsDivisorOfAll, IsLevelWith}
+use Rattle.fraction.specs.Tables.{Table, PivotFits, pivot_entry, row_of}
+use Rattle.fraction.specs.Rows.{lists_of, row_at, entry_of, combine_entry, EachFits, EliminateFits, IsEliminated, AllEliminateFit, EachRow, IsDivided, IsDivisorOfAll, IsLevelWith}
 use Rattle.fraction.specs.Rows.{OthersFit, IsUnreduced, IsLowest}
 use Rattle.fraction.proofs.Lowest.{unsigned_abs-some, positive-some}
 
@@ -105,21 +105,21 @@ EachFits-pivot_row L A B p den row col e n fits =
 
 -- a row that lost the pivot's row has the numbers of the pivot
 other_is : (t : Table) (old new p : List ℤ) (row col i : ℕ) → row_of t row ≡ p → row_of t i ≡ old → i ≢ row → IsEliminated old new (entry_of p col) p col
-    → (length new ≡ length (row_of t i)) × ((j : ℕ) → j < length (row_of t i) → entry_of new j ≡ pivoted t row col i j)
+    → (length new ≡ length (row_of t i)) × ((j : ℕ) → j < length (row_of t i) → entry_of new j ≡ pivot_entry t row col i j)
 other_is t old new p row col i ep er ne is =
     (is.0 ∙ ap length (sym er), λ j lt. is.1 j (subst (λ r. j < length r) er lt) ∙ sym (at j))
   where
-    at : (j : ℕ) → pivoted t row col i j ≡ combined old (entry_of p col) p (entry_of old col) j
+    at : (j : ℕ) → pivot_entry t row col i j ≡ combine_entry old (entry_of p col) p (entry_of old col) j
     at j = rw (ne_eqb i row ne, er, ep) refl
 
 -- the pivot's row, scaled, has the numbers of the pivot
 own_is : (t : Table) (new p : List ℤ) (row col i : ℕ) → row_of t row ≡ p → i ≡ row → length new ≡ length p → ((j : ℕ) → j < length p → entry_of new j ≡ entry_of p j *ℤ t.den)
-    → (length new ≡ length (row_of t i)) × ((j : ℕ) → j < length (row_of t i) → entry_of new j ≡ pivoted t row col i j)
+    → (length new ≡ length (row_of t i)) × ((j : ℕ) → j < length (row_of t i) → entry_of new j ≡ pivot_entry t row col i j)
 own_is t new p row col i ep ei same is =
     let this : row_of t i ≡ p = ap (row_of t) ei ∙ ep in
     (same ∙ ap length (sym this), λ j lt. is j (subst (λ r. j < length r) this lt) ∙ sym (at j))
   where
-    at : (j : ℕ) → pivoted t row col i j ≡ entry_of p j *ℤ t.den
+    at : (j : ℕ) → pivot_entry t row col i j ≡ entry_of p j *ℤ t.den
     at j = rw (eq-eqb i row ei, ep) refl
 
 pub IsUnreduced-from_rows : (L M A B A' B' : List (List ℤ)) (p p' : List ℤ) (den : ℤ) (row col : ℕ) → L ≡ A ++ (p ∷ B) → M ≡ A' ++ (p' ∷ B') → length A ≡ row
@@ -154,7 +154,7 @@ IsUnreduced-from_rows L M A B A' B' p p' den row col e f n above below same own 
     t = record { rows = L; den = den }
 
     Right : ℕ → List ℤ → Type 0
-    Right i r = (length r ≡ length (row_of t i)) × ((j : ℕ) → j < length (row_of t i) → entry_of r j ≡ pivoted t row col i j)
+    Right i r = (length r ≡ length (row_of t i)) × ((j : ℕ) → j < length (row_of t i) → entry_of r j ≡ pivot_entry t row col i j)
 
 -- a divisor of a number that is not 0 is not 0
 pub divisor-some : (den : ℤ) (size g : ℕ) → size ≡ unsigned_abs den → pos 0 <ℤ den → g ∣ size → 0 < g

@@ -4,7 +4,7 @@ use Rattle.std.proofs.lemmas.Bool.{cases_eq, eq-eqb, ne_eqb}
 use Rattle.std.proofs.lemmas.Int.{ints, unsigned_abs-mul}
 use Rattle.std.proofs.Math.Nat.{mul-le-mul_left}
 use Rattle.fraction.specs.Fractions.{Fits}
-use Rattle.fraction.specs.Tables.{Table, IsTable, IsPlace, IsPivoted, PivotFits, pivoted, entry_at, row_of}
+use Rattle.fraction.specs.Tables.{Table, IsTable, IsPlace, IsPivoted, PivotFits, pivot_entry, entry_at, row_of}
 use Rattle.fraction.specs.Rows.{row_at, entry_of, IsUnreduced, IsLowest}
 use Rattle.fraction.proofs.Lowest.{signed_of-*ℤ}
 
@@ -52,17 +52,17 @@ quotient_positive (negsuc n) w g e above = absurd (not_above (suc n * g) (subst 
     not_above (suc k) h = omega (arith, ints)
 
 -- what a pivot makes of an entry fits
-pivoted_fits : (t : Table) (row col i j : ℕ) → PivotFits t row col → IsPlace t i j → Fits (pivoted t row col i j)
+pivoted_fits : (t : Table) (row col i j : ℕ) → PivotFits t row col → IsPlace t i j → Fits (pivot_entry t row col i j)
 pivoted_fits t row col i j fits place =
     elim (cases_eq i row) [
       | inl at ↦ own at
       | inr ne ↦ other ne
     ]
   where
-    own : i ≡ row → Fits (pivoted t row col i j)
+    own : i ≡ row → Fits (pivot_entry t row col i j)
     own at = rw (eq-eqb i row at) (fits.pivot_row j (subst (λ k. IsPlace t k j) at place))
 
-    other : i ≢ row → Fits (pivoted t row col i j)
+    other : i ≢ row → Fits (pivot_entry t row col i j)
     other ne = rw (ne_eqb i row ne) ((fits.others i j ne place).2)
 
 -- the numbers of a pivot, and these in lowest terms
@@ -92,8 +92,8 @@ IsPivoted-from_unreduced t M N low row col made lowest =
     in_t i lt e = omega arith
 
 -- a table that is pivoted is a table
-pub IsTable-pivoted : (t u : Table) (row col : ℕ) → IsTable t → PivotFits t row col → pos 0 <ℤ entry_at t row col → IsPivoted t u row col → IsTable u
-IsTable-pivoted t u row col table fits positive is =
+pub IsTable-pivot_entry : (t u : Table) (row col : ℕ) → IsTable t → PivotFits t row col → pos 0 <ℤ entry_at t row col → IsPivoted t u row col → IsTable u
+IsTable-pivot_entry t u row col table fits positive is =
     let rows = is.shape.rows in
     record {
       level = λ i k li lk. is.shape.columns i (omega arith) ∙ table.level i k (omega arith) (omega arith) ∙ sym (is.shape.columns k (omega arith));

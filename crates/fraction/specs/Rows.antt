@@ -3,7 +3,7 @@ use Rattle.std.specs.Prelude.{◌≡◌, ◌≢◌, ℕ, ◌<◌, ◌≤◌, ◌
 use Rattle.std.specs.declared.alloc.Global.{Global}
 use Rattle.std.specs.Int.{◌∣◌}
 use Rattle.fraction.specs.Fractions.{Fits}
-use Rattle.fraction.specs.Tables.{Table, row_of, pivoted, sum_in, SumFits}
+use Rattle.fraction.specs.Tables.{Table, row_of, pivot_entry, sum_in, SumFits}
 
 -- the entry in a column
 abbrev pub entry_of : List ℤ → ℕ → ℤ
@@ -18,14 +18,14 @@ abbrev pub EachFits : List ℤ → ℤ → Type 0
 EachFits r factor = (j : ℕ) → j < length r → Fits (entry_of r j *ℤ factor)
 
 -- the row's entry in a column times `scale`, minus `taken` times the other row's entry
-abbrev pub combined : List ℤ → ℤ → List ℤ → ℤ → ℕ → ℤ
-combined r scale other taken j = (entry_of r j *ℤ scale) -ℤ (taken *ℤ entry_of other j)
+abbrev pub combine_entry : List ℤ → ℤ → List ℤ → ℤ → ℕ → ℤ
+combine_entry r scale other taken j = (entry_of r j *ℤ scale) -ℤ (taken *ℤ entry_of other j)
 
 -- both products and their difference fit, in each column
 abbrev pub CombineFits : List ℤ → ℤ → List ℤ → ℤ → Type 0
 CombineFits r scale other taken =
     (j : ℕ) → j < length r
-    → Fits (entry_of r j *ℤ scale) × Fits (taken *ℤ entry_of other j) × Fits (combined r scale other taken j)
+    → Fits (entry_of r j *ℤ scale) × Fits (taken *ℤ entry_of other j) × Fits (combine_entry r scale other taken j)
 
 -- the numbers fit that are computed for a row when the other row, times the row's entry in the
 -- column, is subtracted from it
@@ -37,7 +37,7 @@ EliminateFits r scale other column = CombineFits r scale other (entry_of r colum
 abbrev pub IsEliminated : List ℤ → List ℤ → ℤ → List ℤ → ℕ → Type 0
 IsEliminated old new scale other column =
     (length new ≡ length old)
-    × ((j : ℕ) → j < length old → entry_of new j ≡ combined old scale other (entry_of old column) j)
+    × ((j : ℕ) → j < length old → entry_of new j ≡ combine_entry old scale other (entry_of old column) j)
 
 -- The greatest number that divides a number and each entry.
 pub record IsDivisorOf (start : ℕ) (r : List ℤ) (g : ℕ) : Type 0 where
@@ -102,7 +102,7 @@ OthersFit rows scale row column =
 pub record IsUnreduced (t : Table) (rows : List (List ℤ)) (row column : ℕ) : Type 0 where
   pub count : length rows ≡ length t.rows
   pub entries : (i : ℕ) → i < length t.rows → (length (row_at rows i) ≡ length (row_of t i))
-      × ((j : ℕ) → j < length (row_of t i) → entry_of (row_at rows i) j ≡ pivoted t row column i j)
+      × ((j : ℕ) → j < length (row_of t i) → entry_of (row_at rows i) j ≡ pivot_entry t row column i j)
 
 -- The new rows and denominator, times a divisor, are the old ones. They have no common divisor
 -- above 1 themselves.

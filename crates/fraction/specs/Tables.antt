@@ -36,8 +36,8 @@ pub record HasSameShape (t u : Table) : Type 0 where
 
 -- the entry at (i, j) after the pivot at (row, col), over the old denominator times the pivot's
 -- entry
-abbrev pub pivoted : Table → ℕ → ℕ → ℕ → ℕ → ℤ
-pivoted t row col i j =
+abbrev pub pivot_entry : Table → ℕ → ℕ → ℕ → ℕ → ℤ
+pivot_entry t row col i j =
     if i == row then entry_at t row j *ℤ t.den
     else (entry_at t i j *ℤ entry_at t row col) -ℤ (entry_at t i col *ℤ entry_at t row j)
 
@@ -57,7 +57,7 @@ pub record IsPivoted (t u : Table) (row col : ℕ) : Type 0 where
   pub divisor : ℕ
   pub positive : 0 < divisor
   pub den : u.den *ℤ pos divisor ≡ t.den *ℤ entry_at t row col
-  pub entries : (i j : ℕ) → IsPlace t i j → entry_at u i j *ℤ pos divisor ≡ pivoted t row col i j
+  pub entries : (i j : ℕ) → IsPlace t i j → entry_at u i j *ℤ pos divisor ≡ pivot_entry t row col i j
   pub lowest : (d : ℕ) → d ∣ unsigned_abs u.den → ((i j : ℕ) → IsPlace t i j → d ∣ unsigned_abs (entry_at u i j))
       → d ≡ 1
 

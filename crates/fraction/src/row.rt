@@ -4,7 +4,7 @@ ghost use Rattle.std.specs.List.{All};
 ghost use Rattle.fraction.specs.Tables.{sum_in, SumFits};
 ghost use Rattle.fraction.specs.Fractions.{Fits};
 ghost use Rattle.std.specs.Int.{◌∣◌};
-ghost use Rattle.fraction.specs.Rows.{entry_of, IsSmall, CombineFits, combined, EliminateFits, IsEliminated, EachFits, IsDivisorOf, IsSummedRow};
+ghost use Rattle.fraction.specs.Rows.{entry_of, IsSmall, CombineFits, combine_entry, EliminateFits, IsEliminated, EachFits, IsDivisorOf, IsSummedRow};
 
 use crate::checked::{difference, product, sum};
 use crate::fault::FracFault;
@@ -86,7 +86,7 @@ pub(crate) fn combine(row: &mut [i128], scale: i128, pivot_row: &[i128], taken: 
     requires lengths { length row.old ≡ length pivot_row.now }
     requires fits { CombineFits row.old scale pivot_row.now taken }
     ensures { (j : ℕ) → j < length row.old
-        → slice_index_or row.new j (pos 0) ≡ combined row.old scale pivot_row.now taken j }
+        → slice_index_or row.new j (pos 0) ≡ combine_entry row.old scale pivot_row.now taken j }
 {
     for (j, entry) in row.iter_mut().enumerate() {
         *entry = *entry * scale - taken * pivot_row[j];

@@ -15,8 +15,8 @@ use Rattle.requester.specs.Held.{HoldsNothing}
 use Rattle.members.specs.ClientLaws.{AreClientLaws}
 use Rattle.requester.specs.RequesterContract.{Sees}
 use Rattle.requester.specs.Soundness.{IsSound}
-use Rattle.requester.specs.Steps.{Outcome, Asks, Takes, Leaves, GivesUp, ask, ask_in, ask_unless, give_up, give_up_in, leave, leave_in, step, take, take_body, see, locked}
-use Rattle.requester.specs.Steps.{locked_by, enter_if, hold, is_fresh, failed, failed_by, fail, inquired, inquired_by, relinquish, relinquish_if, relinquish_each}
+use Rattle.requester.specs.Steps.{Outcome, Asks, Takes, Leaves, GivesUp, ask, ask_in, ask_unless, give_up, give_up_in, leave, leave_in, step, take, take_body, see, take_locked}
+use Rattle.requester.specs.Steps.{take_locked_by, enter_if, hold, is_fresh, take_fail, take_fail_by, fail, take_inquire, take_inquire_by, relinquish, relinquish_if, relinquish_each}
 use Rattle.requester.specs.Words.{is_idle, is_asking, is_inside, is_spent, is_current, is_covered, is_inquired, is_hindered, is_member, holds, holds_under, members}
 use Rattle.board.specs.Seats.{BoardState, ClientSeatState as SeatState}
 use Rattle.board.specs.Quorums.{HasQuorum, place_of, quorum_at}
@@ -163,36 +163,36 @@ enter_if-not_left : (b : Bool) (x : ClientState) → is_left (enter_if b x).seen
 enter_if-not_left false x = refl
 enter_if-not_left true x = refl
 
-locked_by-not_left : (b fresh : Bool) (x : ClientState) (v s g : ℕ) → is_left (locked_by b fresh x v s g).seen ≡ false
-locked_by-not_left false fresh x v s g = refl
-locked_by-not_left true false x v s g = refl
-locked_by-not_left true true x v s g = enter_if-not_left (is_covered (hold x v g)) (hold x v g)
+take_locked_by-not_left : (b fresh : Bool) (x : ClientState) (v s g : ℕ) → is_left (take_locked_by b fresh x v s g).seen ≡ false
+take_locked_by-not_left false fresh x v s g = refl
+take_locked_by-not_left true false x v s g = refl
+take_locked_by-not_left true true x v s g = enter_if-not_left (is_covered (hold x v g)) (hold x v g)
 
-locked-not_left : (x : ClientState) (v s g : ℕ) → is_left (locked x v s g).seen ≡ false
-unfolding locked
-locked-not_left x v s g = locked_by-not_left (is_current x s) (is_fresh x v g) x v s g
+take_locked-not_left : (x : ClientState) (v s g : ℕ) → is_left (take_locked x v s g).seen ≡ false
+unfolding take_locked
+take_locked-not_left x v s g = take_locked_by-not_left (is_current x s) (is_fresh x v g) x v s g
 
-failed_by-not_left : (b : Bool) (x : ClientState) (v : ℕ) → is_left (failed_by b x v).seen ≡ false
-failed_by-not_left false x v = refl
-failed_by-not_left true x v = relinquish_each-not_left (fail x v) (filter (is_inquired (fail x v)) (members x))
+take_fail_by-not_left : (b : Bool) (x : ClientState) (v : ℕ) → is_left (take_fail_by b x v).seen ≡ false
+take_fail_by-not_left false x v = refl
+take_fail_by-not_left true x v = relinquish_each-not_left (fail x v) (filter (is_inquired (fail x v)) (members x))
 
-failed-not_left : (x : ClientState) (v s : ℕ) → is_left (failed x v s).seen ≡ false
-unfolding failed
-failed-not_left x v s = failed_by-not_left (is_asking x.phase && s == x.stamp && is_member x v && not (holds x v)) x v
+take_fail-not_left : (x : ClientState) (v s : ℕ) → is_left (take_fail x v s).seen ≡ false
+unfolding take_fail
+take_fail-not_left x v s = take_fail_by-not_left (is_asking x.phase && s == x.stamp && is_member x v && not (holds x v)) x v
 
-inquired_by-not_left : (b hindered : Bool) (x : ClientState) (v : ℕ) → is_left (inquired_by b hindered x v).seen ≡ false
-inquired_by-not_left false hindered x v = refl
-inquired_by-not_left true false x v = refl
-inquired_by-not_left true true x v = relinquish-not_left x v
+take_inquire_by-not_left : (b hindered : Bool) (x : ClientState) (v : ℕ) → is_left (take_inquire_by b hindered x v).seen ≡ false
+take_inquire_by-not_left false hindered x v = refl
+take_inquire_by-not_left true false x v = refl
+take_inquire_by-not_left true true x v = relinquish-not_left x v
 
-inquired-not_left : (x : ClientState) (v g : ℕ) → is_left (inquired x v g).seen ≡ false
-unfolding inquired
-inquired-not_left x v g = inquired_by-not_left (is_asking x.phase && holds_under x v g) (is_hindered x) x v
+take_inquire-not_left : (x : ClientState) (v g : ℕ) → is_left (take_inquire x v g).seen ≡ false
+unfolding take_inquire
+take_inquire-not_left x v g = take_inquire_by-not_left (is_asking x.phase && holds_under x v g) (is_hindered x) x v
 
 take_body-not_left : (x : ClientState) (v : ℕ) (b : ClientBody) → is_left (take_body x v b).seen ≡ false
-take_body-not_left x v (to_client.Locked s g) = locked-not_left x v s g
-take_body-not_left x v (to_client.Fail s) = failed-not_left x v s
-take_body-not_left x v (to_client.Inquire g) = inquired-not_left x v g
+take_body-not_left x v (to_client.Locked s g) = take_locked-not_left x v s g
+take_body-not_left x v (to_client.Fail s) = take_fail-not_left x v s
+take_body-not_left x v (to_client.Inquire g) = take_inquire-not_left x v g
 
 take-not_left : (x : ClientState) (m : ToClient) → is_left (take x m).seen ≡ false
 unfolding take

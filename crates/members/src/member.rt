@@ -6,7 +6,7 @@ ghost use Rattle.board.specs.Quorums.{quorum_at};
 ghost use Rattle.board.specs.declared.fault.BoardFault.{BoardFault};
 ghost use Rattle.requester.specs.Steps.{remind};
 ghost use Rattle.requester.specs.Words.{is_asking, is_idle, is_inside, members};
-ghost use Rattle.clerks.specs.Clerks.{AreDealt, IsDealt, drawn, exchanged, may_exchange, receipts_of};
+ghost use Rattle.clerks.specs.Clerks.{AreDealt, IsDealt, drawn, use_second_plan, may_exchange, receipts_of};
 ghost use Rattle.members.specs.Clusters.{ClusterState, names_in};
 ghost use Rattle.members.specs.Losses.{LosesAtMost, most_lost};
 ghost use Rattle.members.specs.Members.{MemberState, MayAsk, Asked, HasLeft, GaveUp, Met, Pumped, RefusesAsk, RefusesPass, fresh_member, place_in, with_pass};
@@ -171,7 +171,7 @@ impl<N: ClusterName> Member<N> {
     /// Fails with `NoSecondPlan` if and only if there is no second plan or it is in use already, and
     /// then changes nothing.
     pub fn exchange(&mut self) -> Result<(), ClusterFault>
-        ensures exchanged { IfOk result (λ _. self.new ≡ record self.old { clerks = exchanged self.old.clerks }) }
+        ensures exchanged { IfOk result (λ _. self.new ≡ record self.old { clerks = use_second_plan self.old.clerks }) }
         ensures may { IfOk result (λ _. may_exchange self.old.clerks ≡ true) }
         ensures refused { IfErr result (λ fault.
             (fault ≡ ClusterFault.NoSecondPlan) × (may_exchange self.old.clerks ≡ false)) }

@@ -13,7 +13,7 @@ use Rattle.voter.specs.VoteMoves.{VoteMoves}
 use Rattle.voter.specs.VoterContract.{IsEntry, Brings}
 use Rattle.board.specs.Seats.{BoardState, VoterSeatState as SeatState}
 use Rattle.node.specs.PartLaws.{StepsSoundly}
-use Rattle.node.specs.Nodes.{IsNode, IsFor, run, next, seat_grant, settled, offered, offered_by}
+use Rattle.node.specs.Nodes.{IsNode, IsFor, run, next, seat_grant, settle_grant, offer_grant, offer_grant_by}
 
 run-push : (v : Option VoterState) (log : List ToVoter) (m : ToVoter) → run v (log ++ m ∷ []) ≡ next (run v log) m
 run-push v [] m = refl
@@ -51,15 +51,15 @@ not_both x a e f = true≢false (sym (ap is_some f) ∙ ap is_some e)
 
 -- the seat after the vote was settled
 
-kept_table : (b : Bool) (seat : SeatState) → (settled b seat).table ≡ seat.table
+kept_table : (b : Bool) (seat : SeatState) → (settle_grant b seat).table ≡ seat.table
 kept_table false seat = refl
 kept_table true seat = refl
 
-kept_voter : (b : Bool) (seat : SeatState) → (settled b seat).voter ≡ seat.voter
+kept_voter : (b : Bool) (seat : SeatState) → (settle_grant b seat).voter ≡ seat.voter
 kept_voter false seat = refl
 kept_voter true seat = refl
 
-kept_last : (b : Bool) (seat : SeatState) → (settled b seat).last ≡ seat.last
+kept_last : (b : Bool) (seat : SeatState) → (settle_grant b seat).last ≡ seat.last
 kept_last false seat = refl
 kept_last true seat = refl
 
@@ -76,7 +76,7 @@ Brings-client_below clients client (asks.Relinquish s) c t lt p = absurd p
 Brings-client_below clients client (asks.Release s) c t lt p = absurd p
 
 -- the number of a grant that the seat has to offer
-new_number : (v w : VoterState) (seat : SeatState) → seat.current ≡ seat_grant v.held → (b : Bool) → VoteMoves b v w → (settled b seat).current ≡ None → (g : Grant)
+new_number : (v w : VoterState) (seat : SeatState) → seat.current ≡ seat_grant v.held → (b : Bool) → VoteMoves b v w → (settle_grant b seat).current ≡ None → (g : Grant)
     → w.held ≡ Some g → (g.grant ≡ v.granted + 1) × (w.granted ≡ v.granted + 1)
 new_number v w seat cur true (inl ends) free g is = absurd (not_both w.held g ends.held is)
 new_number v w seat cur true (inr n) free g is = (ap (λ (h : Grant). h.grant) (same_grant g n.grant w.held is n.held) ∙ n.number, n.granted)
@@ -92,8 +92,8 @@ pub record Agrees (seat : SeatState) (w : VoterState) (after : SeatState) : Type
   pub last : after.last ≡ w.granted
 
 -- where it still has a current grant, that is the voter's
-kept_grant : (v w : VoterState) (seat : SeatState) → seat.current ≡ seat_grant v.held → seat.last ≡ v.granted → (b : Bool) → VoteMoves b v w → (x : ℕ × ℕ) → (settled b seat).current ≡ Some x
-    → ((settled b seat).current ≡ seat_grant w.held) × ((settled b seat).last ≡ w.granted)
+kept_grant : (v w : VoterState) (seat : SeatState) → seat.current ≡ seat_grant v.held → seat.last ≡ v.granted → (b : Bool) → VoteMoves b v w → (x : ℕ × ℕ) → (settle_grant b seat).current ≡ Some x
+    → ((settle_grant b seat).current ≡ seat_grant w.held) × ((settle_grant b seat).last ≡ w.granted)
 kept_grant v w seat cur last true moves x is = absurd (not_both None x refl is)
 kept_grant v w seat cur last false (inl stays) x is = (cur ∙ ap seat_grant (sym stays.held), last ∙ sym stays.granted)
 kept_grant v w seat cur last false (inr n) x is = absurd (not_both seat.current x (cur ∙ ap seat_grant n.0) is)
@@ -105,14 +105,14 @@ kept_count v w true (inr n) free = absurd (not_both w.held n.grant free n.held)
 kept_count v w false (inl stays) free = stays.granted
 kept_count v w false (inr n) free = absurd (not_both w.held n.1.grant free n.1.held)
 
-Agrees-offered_by : (v w : VoterState) (seat : SeatState) → seat.current ≡ seat_grant v.held → seat.last ≡ v.granted → (b : Bool) → VoteMoves b v w
-    → (x : Option (ℕ × ℕ)) → (settled b seat).current ≡ x → (held : Option Grant) → w.held ≡ held → Agrees seat w (offered_by x held (settled b seat))
-Agrees-offered_by v w seat cur last b moves (Some x) is held holds =
+Agrees-offer_grant_by : (v w : VoterState) (seat : SeatState) → seat.current ≡ seat_grant v.held → seat.last ≡ v.granted → (b : Bool) → VoteMoves b v w
+    → (x : Option (ℕ × ℕ)) → (settle_grant b seat).current ≡ x → (held : Option Grant) → w.held ≡ held → Agrees seat w (offer_grant_by x held (settle_grant b seat))
+Agrees-offer_grant_by v w seat cur last b moves (Some x) is held holds =
     let k = kept_grant v w seat cur last b moves x is in
     record { table = kept_table b seat; voter = kept_voter b seat; current = k.0; last = k.1 }
-Agrees-offered_by v w seat cur last b moves None is None holds =
+Agrees-offer_grant_by v w seat cur last b moves None is None holds =
     record { table = kept_table b seat; voter = kept_voter b seat; current = is ∙ sym (ap seat_grant holds); last = kept_last b seat ∙ last ∙ sym (kept_count v w b moves holds) }
-Agrees-offered_by v w seat cur last b moves None is (Some g) holds =
+Agrees-offer_grant_by v w seat cur last b moves None is (Some g) holds =
     let n = new_number v w seat cur b moves is g holds in
     record { table = kept_table b seat; voter = kept_voter b seat; current = sym (ap seat_grant holds); last = n.0 ∙ sym n.1 }
 
@@ -121,8 +121,8 @@ module _ (board : BoardState) (v : VoterState) (log : List ToVoter) (seat : Seat
   entries c s e = ⊎_elim (t.node.clients c s) (Brings-client_below board.clients m.client m.body c s t.meant.client) (t.laws.meets.entries c s e)
 
   -- what the seat may be asked to offer
-  pub may_offer : (held : Option Grant) → o.state.held ≡ held → (settled (effect_of v m).frees seat).current ≡ None
-      → IfSome held (λ g. (g.client < board.clients) × ((settled (effect_of v m).frees seat).last < g.grant) × (g.grant ≤ 2 ^ 40))
+  pub may_offer : (held : Option Grant) → o.state.held ≡ held → (settle_grant (effect_of v m).frees seat).current ≡ None
+      → IfSome held (λ g. (g.client < board.clients) × ((settle_grant (effect_of v m).frees seat).last < g.grant) × (g.grant ≤ 2 ^ 40))
   may_offer None holds free = tt
   may_offer (Some g) holds free =
       let n = new_number v o.state seat t.node.current (effect_of v m).frees t.laws.moves free g holds in
@@ -141,10 +141,10 @@ module _ (board : BoardState) (v : VoterState) (log : List ToVoter) (seat : Seat
   known : All (IsFor board seat.voter) (log ++ m ∷ [])
   known = All-push (IsFor board seat.voter) log m t.node.known t.meant
 
-  pub IsNode-offered : IsNode board o.state (log ++ m ∷ []) (offered o.state.held (settled (effect_of v m).frees seat))
-  IsNode-offered =
+  pub IsNode-offer_grant : IsNode board o.state (log ++ m ∷ []) (offer_grant o.state.held (settle_grant (effect_of v m).frees seat))
+  IsNode-offer_grant =
       let b = (effect_of v m).frees in
-      let a = Agrees-offered_by v o.state seat t.node.current t.node.last b t.laws.moves (settled b seat).current refl o.state.held refl in record {
+      let a = Agrees-offer_grant_by v o.state seat t.node.current t.node.last b t.laws.moves (settle_grant b seat).current refl o.state.held refl in record {
         follows = subst (λ (n : ℕ). run (Some (start n (2 ^ 40))) (log ++ m ∷ []) ≡ Some o.state) (sym a.voter) follows;
         known = subst (λ (n : ℕ). All (IsFor board n) (log ++ m ∷ [])) (sym a.voter) known;
         table = a.table ∙ t.node.table;

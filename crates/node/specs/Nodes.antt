@@ -53,16 +53,16 @@ pub record IsNode (board : BoardState) (voter : VoterState) (log : List ToVoter)
   pub sound : IsSound voter
 
 -- the seat after it settled its grant, if a message frees the vote
-abbrev pub settled : Bool → SeatState → SeatState
-settled false seat = seat
-settled true seat = record seat { current = None }
+abbrev pub settle_grant : Bool → SeatState → SeatState
+settle_grant false seat = seat
+settle_grant true seat = record seat { current = None }
 
 -- the seat after it offers the voter's grant; nothing changes if it has a current grant or the
 -- voter has none
-abbrev pub offered_by : Option (ℕ × ℕ) → Option Grant → SeatState → SeatState
-offered_by (Some x) held seat = seat
-offered_by None None seat = seat
-offered_by None (Some g) seat = record seat { current = Some (g.client, g.grant); last = g.grant }
+abbrev pub offer_grant_by : Option (ℕ × ℕ) → Option Grant → SeatState → SeatState
+offer_grant_by (Some x) held seat = seat
+offer_grant_by None None seat = seat
+offer_grant_by None (Some g) seat = record seat { current = Some (g.client, g.grant); last = g.grant }
 
-abbrev pub offered : Option Grant → SeatState → SeatState
-offered held seat = offered_by seat.current held seat
+abbrev pub offer_grant : Option Grant → SeatState → SeatState
+offer_grant held seat = offer_grant_by seat.current held seat

@@ -3,7 +3,7 @@ ghost use Rattle.std.specs.Prelude.{◌≡◌, ◌⊎◌, ◌<◌, ◌≤◌, �
 ghost use Rattle.numbers.specs.Bounds.{max_voters, max_clients, max_stamp};
 ghost use Rattle.voter.specs.Steps.{effect_of, remind, start, step};
 ghost use Rattle.node.specs.Names.{ClusterState};
-ghost use Rattle.node.specs.Nodes.{NodeState, IsFor, offered, seat_grant, settled};
+ghost use Rattle.node.specs.Nodes.{NodeState, IsFor, offer_grant, seat_grant, settle_grant};
 
 use crate::laws::voters_keep_their_laws;
 use crate::name::ClusterName;
@@ -45,7 +45,7 @@ impl<N: ClusterName> Model for Node<N> {
 fn settle(seat: &mut VoterSeat, board: &Board, frees: bool) -> bool
     requires table { seat.old.table ≡ board.now.table }
     requires current { frees ≡ true → IsSome seat.old.current }
-    ensures settled { MatchBool result (seat.new ≡ settled frees seat.old) ((frees ≡ true) × (seat.new ≡ seat.old)) }
+    ensures settled { MatchBool result (seat.new ≡ settle_grant frees seat.old) ((frees ≡ true) × (seat.new ≡ seat.old)) }
 {
     !frees || seat.settle(board)
 }
@@ -55,7 +55,7 @@ fn offer(seat: &mut VoterSeat, board: &Board, held: Option<Grant>)
     requires table { seat.old.table ≡ board.now.table }
     requires next { seat.old.current ≡ None
         → IfSome held (λ g. (g.client < board.now.clients) × (seat.old.last < g.grant) × (g.grant ≤ max_stamp)) }
-    ensures { seat.new ≡ offered held seat.old }
+    ensures { seat.new ≡ offer_grant held seat.old }
 {
     if seat.current().is_some() {
         return;

@@ -2,7 +2,7 @@
 use Rattle.std.proofs.Common.{◌≡◌, ℕ, List, Bool, true, false, not, ◌&&◌, ◌==◌, cond, length, refl, sym, subst, ◌∙◌, Option, None, Some, Err}
 use Rattle.std.proofs.lemmas.Bool.{eq-eqb}
 use Rattle.quorum_set.specs.Capacities.{are_unit}
-use Rattle.certificate.specs.Certificates.{Weighted, AnswersPlan, weights_fault, unbalanced}
+use Rattle.certificate.specs.Certificates.{Weighted, AnswersPlan, weights_fault, balance_fault}
 use Rattle.certificate.specs.declared.fault.PlanFault.{PlanFault}
 use Rattle.certificate.specs.declared.fault.PlanFault.TheVariants.{WrongLength, TooLarge, Empty, NotOptimal, NotOptimalRatio, OutOfMemory}
 use Rattle.planner.specs.Causes.{CanCome, of_plan_fault}
@@ -15,10 +15,10 @@ found_Some P false f e rest own others is = others is
 right_lengths : (a b c d : ℕ) → a ≡ b → c ≡ d → not ((a == b) && (c == d)) ≡ false
 right_lengths a b c d first second = rw (eq-eqb a b first, eq-eqb c d second) refl
 
-CanCome-unbalanced : (capacities : List ℕ) (b : Bool) (most total lightest len p q all : ℕ) → are_unit capacities ≡ b
+CanCome-balance_fault : (capacities : List ℕ) (b : Bool) (most total lightest len p q all : ℕ) → are_unit capacities ≡ b
     → CanCome capacities (of_plan_fault (cond b (NotOptimal most total lightest len) (NotOptimalRatio p q all lightest len)))
-CanCome-unbalanced capacities true most total lightest len p q all is = is
-CanCome-unbalanced capacities false most total lightest len p q all is = is
+CanCome-balance_fault capacities true most total lightest len p q all is = is
+CanCome-balance_fault capacities false most total lightest len p q all is = is
 
 CanCome-weights_fault : (w : Weighted) (e : PlanFault) → length w.quorum_weights ≡ length w.system.quorums → length w.voter_weights ≡ w.system.voters → weights_fault w ≡ Some e
     → CanCome w.capacities (of_plan_fault e)
@@ -28,7 +28,7 @@ CanCome-weights_fault w e quorums voters is =
     found_Some P _ WrongLength e _ (λ wrong. absurd (apart (sym right ∙ wrong)))
     (found_Some P _ TooLarge e _ (λ large. tt)
     (found_Some P _ Empty e _ (λ empty. tt)
-    (found_Some P _ (unbalanced w) e None (λ unequal. CanCome-unbalanced w.capacities _ _ _ _ _ _ _ _ refl) (λ nothing. nothing_found nothing))))
+    (found_Some P _ (balance_fault w) e None (λ unequal. CanCome-balance_fault w.capacities _ _ _ _ _ _ _ _ refl) (λ nothing. nothing_found nothing))))
     is
   where
     apart : false ≡ true → ⊥

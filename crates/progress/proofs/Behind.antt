@@ -41,7 +41,7 @@ use Rattle.world.proofs.Claims.{IsLater-self}
 
 -- ---- a client's step
 
-pub ask-Ok : (x : ClientState) (q : List ℕ) (o : requester.Outcome) → requester.step x (requester.Asks q) ≡ Ok o → requester.asked x q ≡ o
+pub ask-Ok : (x : ClientState) (q : List ℕ) (o : requester.Outcome) → requester.step x (requester.Asks q) ≡ Ok o → requester.send_requests x q ≡ o
 unfolding requester.step
 ask-Ok x q o e = (ask_ok x q o e).2
 
@@ -53,7 +53,7 @@ accepts_by : (w u : WorldState) → IsCoherent w → IsCoherent u → (c : ℕ) 
     → requester.step (client_at w.clients c) cause ≡ Ok o → client_at u.clients c ≡ o.state → Accepts (client_at w.clients c) cause
 accepts_by w u ok now c (requester.Asks q) o within came step here =
     let is = ask-Ok (client_at w.clients c) q o step in
-    let state : requester.begun (client_at w.clients c) q ≡ client_at u.clients c = ap (λ (p : requester.Outcome). p.state) is ∙ sym here in
+    let state : requester.begin_request (client_at w.clients c) q ≡ client_at u.clients c = ap (λ (p : requester.Outcome). p.state) is ∙ sym here in
     let sound = now.clients c in (
       subst (λ (y : ClientState). IsSet (members y)) (sym state) sound.quorum,
       subst (λ (y : ClientState). is_idle y.phase ≡ false → 1 ≤ length (members y)) (sym state) sound.asked refl,

@@ -25,7 +25,7 @@ use Rattle.world.specs.declared.step.Step.{Step}
 use Rattle.world.specs.Coherence.{IsCoherent}
 use Rattle.world.specs.Runs.{IsReached, after, run_of}
 use Rattle.world.specs.Steps.{Planned, WorldState, client_at, dealing_of, events, step, voter_at}
-use Rattle.progress.specs.Overtaking.{IsKnownEverywhere, StillRuns, entered_by}
+use Rattle.progress.specs.Overtaking.{IsKnownEverywhere, StillRuns, entries_of}
 use Rattle.progress.proofs.Always.{Always, Always-reached}
 use Rattle.progress.proofs.Behind.{Behind, Behind-first, Behind-moved, IsLater-moved, IsLater-then, ask-Ok, meets, stamp_of, the_request}
 use Rattle.progress.specs.Rules.{ClientLaws, Laws}
@@ -136,18 +136,18 @@ enters_by laws w u c d ok h busy other inside =
 
 -- ---- what is counted
 
-pub entered_by-append : (d : ℕ) (es fs : List Event) → entered_by d (es ++ fs) ≡ entered_by d es + entered_by d fs
-entered_by-append d es fs = sum_by-append (λ (e : Event). cond ((e.client == d) && e.entered) 1 0) es fs
+pub entries_of-append : (d : ℕ) (es fs : List Event) → entries_of d (es ++ fs) ≡ entries_of d es + entries_of d fs
+entries_of-append d es fs = sum_by-append (λ (e : Event). cond ((e.client == d) && e.entered) 1 0) es fs
 
-not_entered : (d e : ℕ) (seen : Seen) → d ≢ e → entered_by d (events e seen) ≡ 0
+not_entered : (d e : ℕ) (seen : Seen) → d ≢ e → entries_of d (events e seen) ≡ 0
 not_entered d e Nothing other = refl
 not_entered d e Entered other = (let apart : eqb e d ≡ false = grind (arith, nat_tests) in ap (λ b. 0 + cond (b && true) 1 0) apart)
 not_entered d e Left other = (let apart : eqb e d ≡ false = grind (arith, nat_tests) in ap (λ b. 0 + cond (b && false) 1 0) apart)
 
-left_not_entered : (d : ℕ) → entered_by d (events d Left) ≡ 0
+left_not_entered : (d : ℕ) → entries_of d (events d Left) ≡ 0
 left_not_entered d = (let same : eqb d d ≡ true = grind (arith, nat_tests) in ap (λ b. 0 + cond (b && false) 1 0) same)
 
-pub one_entered : (d : ℕ) → entered_by d (events d Entered) ≡ 1
+pub one_entered : (d : ℕ) → entries_of d (events d Entered) ≡ 1
 one_entered d = (let same : eqb d d ≡ true = grind (arith, nat_tests) in ap (λ b. 0 + cond (b && true) 1 0) same)
 
 none_more : (n m : ℕ) → m ≡ 0 → n ≡ n + m
@@ -160,43 +160,43 @@ one_more n m one = omega arith
 counted_own : (laws : ClientLaws) (w u x : WorldState) (c n : ℕ) → IsCoherent u → IsCoherent x → Behind w c u → Behind w c x → is_idle (client_at x.clients c).phase ≡ false
     → (k : ClientMoved u x) → k.who ≢ c
     → (seen : Seen) → Sees (client_at u.clients k.who).phase seen k.outcome.state.phase → Counted w c k.who n (client_at u.clients k.who)
-    → Counted w c k.who (n + entered_by k.who (events k.who seen)) k.outcome.state
+    → Counted w c k.who (n + entries_of k.who (events k.who seen)) k.outcome.state
 counted_own laws w u x c n ok now before h busy k other Nothing sees count =
-    subst (λ i. Counted w c k.who i k.outcome.state) (none_more n (entered_by k.who (events k.who Nothing)) refl)
+    subst (λ i. Counted w c k.who i k.outcome.state) (none_more n (entries_of k.who (events k.who Nothing)) refl)
     (Counted-on w c k.who n (client_at u.clients k.who) k.outcome.state k.cause (laws.clock (client_at u.clients k.who) k.cause k.outcome (ok.clients k.who) k.step)
     (before.clients.later k.who) (ok.clients k.who).clock count)
 counted_own laws w u x c n ok now before h busy k other Left sees count =
-    subst (λ i. Counted w c k.who i k.outcome.state) (none_more n (entered_by k.who (events k.who Left)) (left_not_entered k.who))
+    subst (λ i. Counted w c k.who i k.outcome.state) (none_more n (entries_of k.who (events k.who Left)) (left_not_entered k.who))
     (Counted-on w c k.who n (client_at u.clients k.who) k.outcome.state k.cause (laws.clock (client_at u.clients k.who) k.cause k.outcome (ok.clients k.who) k.step)
     (before.clients.later k.who) (ok.clients k.who).clock count)
 counted_own laws w u x c n ok now before h busy k other Entered sees count =
     let contract = meets laws u x ok now k in
     let asks = asked_before (client_at u.clients k.who) k.cause k.outcome k.step contract.quorum sees.0 sees.1 in
     let by = subst (λ (y : ClientState). EntersBy w c k.who y) k.here (enters_by laws w x c k.who now h busy other (subst (λ (y : ClientState). is_inside y.phase ≡ true) (sym k.here) sees.1)) in
-    subst (λ i. Counted w c k.who i k.outcome.state) (one_more n (entered_by k.who (events k.who Entered)) (one_entered k.who))
+    subst (λ i. Counted w c k.who i k.outcome.state) (one_more n (entries_of k.who (events k.who Entered)) (one_entered k.who))
     (Counted-enters w c k.who n (client_at u.clients k.who) k.outcome.state asks (inside_not_asks k.outcome.state.phase sees.1) contract.later.stamp by count)
 
 -- the events since the world w, and what they say of the client d
 pub record Entries (w : WorldState) (c d : ℕ) (u : WorldState) : Type 0 where
   pub more : List Event
   pub visible : u.visible ≡ w.visible ++ more
-  pub counted : Counted w c d (entered_by d more) (client_at u.clients d)
+  pub counted : Counted w c d (entries_of d more) (client_at u.clients d)
 
 counted_client : (laws : ClientLaws) (w u x : WorldState) (c d : ℕ) → IsCoherent u → IsCoherent x → Behind w c u → Behind w c x → is_idle (client_at x.clients c).phase ≡ false
     → d ≢ c → (k : ClientMoved u x)
-    → (more : List Event) → Counted w c d (entered_by d more) (client_at u.clients d) → Counted w c d (entered_by d (more ++ events k.who k.outcome.seen)) (client_at x.clients d)
-counted_client laws w u x c d ok now before h busy other k more = elim (cases_eq d k.who) as (λ _. Counted w c d (entered_by d more) (client_at u.clients d)
-    → Counted w c d (entered_by d (more ++ events k.who k.outcome.seen)) (client_at x.clients d)) [
+    → (more : List Event) → Counted w c d (entries_of d more) (client_at u.clients d) → Counted w c d (entries_of d (more ++ events k.who k.outcome.seen)) (client_at x.clients d)
+counted_client laws w u x c d ok now before h busy other k more = elim (cases_eq d k.who) as (λ _. Counted w c d (entries_of d more) (client_at u.clients d)
+    → Counted w c d (entries_of d (more ++ events k.who k.outcome.seen)) (client_at x.clients d)) [
       | inl same ↦
           let apart : k.who ≢ c = subst (λ i. i ≢ c) same other in
-          let own : Counted w c k.who (entered_by k.who more) (client_at u.clients k.who) → Counted w c k.who (entered_by k.who (more ++ events k.who k.outcome.seen)) (client_at x.clients k.who) =
-          λ count. subst (λ (y : ClientState). Counted w c k.who (entered_by k.who (more ++ events k.who k.outcome.seen)) y) (sym k.here)
-          (subst (λ i. Counted w c k.who i k.outcome.state) (sym (entered_by-append k.who more (events k.who k.outcome.seen)))
-          (counted_own laws w u x c (entered_by k.who more) ok now before h busy k apart k.outcome.seen (meets laws u x ok now k).seen count)) in
-          subst (λ i. Counted w c i (entered_by i more) (client_at u.clients i) → Counted w c i (entered_by i (more ++ events k.who k.outcome.seen)) (client_at x.clients i)) (sym same) own
-      | inr apart ↦ λ count. subst (λ (y : ClientState). Counted w c d (entered_by d (more ++ events k.who k.outcome.seen)) y) (sym (k.others d apart))
-          (subst (λ i. Counted w c d i (client_at u.clients d)) (none_more (entered_by d more) _ (not_entered d k.who k.outcome.seen apart)
-          ∙ sym (entered_by-append d more (events k.who k.outcome.seen))) count)
+          let own : Counted w c k.who (entries_of k.who more) (client_at u.clients k.who) → Counted w c k.who (entries_of k.who (more ++ events k.who k.outcome.seen)) (client_at x.clients k.who) =
+          λ count. subst (λ (y : ClientState). Counted w c k.who (entries_of k.who (more ++ events k.who k.outcome.seen)) y) (sym k.here)
+          (subst (λ i. Counted w c k.who i k.outcome.state) (sym (entries_of-append k.who more (events k.who k.outcome.seen)))
+          (counted_own laws w u x c (entries_of k.who more) ok now before h busy k apart k.outcome.seen (meets laws u x ok now k).seen count)) in
+          subst (λ i. Counted w c i (entries_of i more) (client_at u.clients i) → Counted w c i (entries_of i (more ++ events k.who k.outcome.seen)) (client_at x.clients i)) (sym same) own
+      | inr apart ↦ λ count. subst (λ (y : ClientState). Counted w c d (entries_of d (more ++ events k.who k.outcome.seen)) y) (sym (k.others d apart))
+          (subst (λ i. Counted w c d i (client_at u.clients d)) (none_more (entries_of d more) _ (not_entered d k.who k.outcome.seen apart)
+          ∙ sym (entries_of-append d more (events k.who k.outcome.seen))) count)
     ]
 
 Entries-client : (laws : ClientLaws) (w u x : WorldState) (c d : ℕ) → IsCoherent u → IsCoherent x → Behind w c u → Behind w c x → is_idle (client_at x.clients c).phase ≡ false
@@ -211,7 +211,7 @@ Entries-same : (w u x : WorldState) (c d : ℕ) → x.clients ≡ u.clients → 
 Entries-same w u x c d clients visible e = record {
   more = e.more;
   visible = visible ∙ e.visible;
-  counted = subst (λ (cs : List ClientState). Counted w c d (entered_by d e.more) (client_at cs d)) (sym clients) e.counted;
+  counted = subst (λ (cs : List ClientState). Counted w c d (entries_of d e.more) (client_at cs d)) (sym clients) e.counted;
 }
 
 Entries-moved : (laws : ClientLaws) (w u x : WorldState) (c d : ℕ) → IsCoherent u → IsCoherent x → Behind w c u → Behind w c x → is_idle (client_at x.clients c).phase ≡ false
@@ -264,11 +264,11 @@ Entries-first w c d = record {
 
 pub nobody_overtakes : Laws → (w : Planned) (c d : ℕ) (steps : List Step) (more : List Event) → IsReached w → IsKnownEverywhere w.state c → d ≢ c
     → StillRuns w.state (run_of (dealing_of w.plans) steps w.state) c
-    → (run_of (dealing_of w.plans) steps w.state).visible ≡ w.state.visible ++ more → entered_by d more ≤ 2
+    → (run_of (dealing_of w.plans) steps w.state).visible ≡ w.state.visible ++ more → entries_of d more ≤ 2
 nobody_overtakes laws w c d steps more r known other end visible =
     let ok = laws.coherent w r in
     let always = Always-reached laws w r in
     let still : StillRuns w.state w.state c = record { runs = known.runs; same = refl } in
     let e = Entries-run laws w c d other steps w.state r always still (Behind-first w.state c ok always known) (Entries-first w.state c d) end in
     let same : more ≡ e.more = append_cancel_left w.state.visible more e.more (sym visible ∙ e.visible) in
-    subst (λ es. entered_by d es ≤ 2) (sym same) e.counted.few
+    subst (λ es. entries_of d es ≤ 2) (sym same) e.counted.few

@@ -15,9 +15,9 @@ use Rattle.world.specs.declared.step.Step.{Step}
 use Rattle.world.specs.declared.step.Step.TheVariants.{Ask, Deliver, Leave, GiveUp, RemindClient, RemindVoter, Exchange}
 use Rattle.world.specs.Runs.{IsReached, after, run_of}
 use Rattle.world.specs.Steps.{Dealing, Planned, WorldState, after_client, client_at, client_did, dealing_of, events, if_client, step, voter_at}
-use Rattle.progress.specs.Overtaking.{entered_by}
+use Rattle.progress.specs.Overtaking.{entries_of}
 use Rattle.progress.specs.WayIn.{Asks, GetsIn, HasGrants, Helps, IsFree, Serves}
-use Rattle.progress.proofs.Counting.{entered_by-append, one_entered}
+use Rattle.progress.proofs.Counting.{entries_of-append, one_entered}
 use Rattle.progress.proofs.Led.{EntersBy}
 use Rattle.progress.specs.Rules.{Laws}
 use Rattle.progress.proofs.Moves.{client_here, client_others, with_state}
@@ -142,7 +142,7 @@ GetsIn-after deal c u x rest a g = record {
   serves = serve_then (length u.sent) (length x.sent) a.steps rest a.sent a.serves g.serves;
   more = a.more ++ g.more;
   visible = ap (λ (z : WorldState). z.visible) (run_then deal a.steps rest u ∙ ap (run_of deal rest) a.run) ∙ g.visible ∙ ap (λ es. es ++ g.more) a.visible ∙ append_assoc u.visible a.more g.more;
-  enters = (let count = entered_by-append c a.more g.more in let some = g.enters in omega arith);
+  enters = (let count = entries_of-append c a.more g.more in let some = g.enters in omega arith);
 }
 
 Served-enters : (deal : Dealing) (e : ℕ) (n : ℕ → ℕ) (u : WorldState) → (a : EntersBy deal e n u) → Served deal u a.world
@@ -160,7 +160,7 @@ Served-enters deal e n u a =
 -- ---- a client leaves
 
 unfoldable left_by : WorldState → ℕ → WorldState
-left_by u d = (client_did u d (requester.released (client_at u.clients d) Left)).state
+left_by u d = (client_did u d (requester.end_request (client_at u.clients d) Left)).state
 
 after-leave : (laws : Laws) (deal : Dealing) (u : WorldState) (d : ℕ) → d < length u.clients → is_inside (client_at u.clients d).phase ≡ true → after u (step deal u (Leave d)) ≡ left_by u d
 unfolding step requester.step left_by
@@ -179,7 +179,7 @@ record Leaves (deal : Dealing) (d : ℕ) (u : WorldState) : Type 0 where
 leaves : (laws : Laws) (deal : Dealing) (d : ℕ) (u : WorldState) → d < length u.clients → is_inside (client_at u.clients d).phase ≡ true → Leaves deal d u
 unfolding left_by
 leaves laws deal d u within inside =
-    let o = requester.released (client_at u.clients d) Left in
+    let o = requester.end_request (client_at u.clients d) Left in
     record {
       world = left_by u d;
       served = record {
@@ -264,7 +264,7 @@ serves_all laws p c k (suc t) u is most r asks left = elim (inside_below u (leng
             serves = served.serves;
             more = events e Entered;
             visible = ap (λ (z : WorldState). z.visible) served.run ∙ way.visible;
-            enters = subst (λ i. 1 ≤ entered_by i (events e Entered)) same (let count = one_entered e in omega arith);
+            enters = subst (λ i. 1 ≤ entries_of i (events e Entered)) same (let count = one_entered e in omega arith);
           },
         )
         | inr apart ↦

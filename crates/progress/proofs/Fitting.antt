@@ -188,13 +188,13 @@ Lacks-enter : (b : Bool) (x : ClientState) → is_covered x ≡ b → Lacks (req
 Lacks-enter true x e asks = absurd (false≢true asks)
 Lacks-enter false x e asks = e
 
-Lacks-locked_by : (current fresh : Bool) (x : ClientState) (v t g : ℕ) → Lacks x → Lacks (requester.locked_by current fresh x v t g).state
+Lacks-locked_by : (current fresh : Bool) (x : ClientState) (v t g : ℕ) → Lacks x → Lacks (requester.take_locked_by current fresh x v t g).state
 Lacks-locked_by false fresh x v t g h = h
 Lacks-locked_by true false x v t g h = h
 Lacks-locked_by true true x v t g h = Lacks-enter _ (requester.hold x v g) refl
 
-Lacks-locked : (x : ClientState) (v t g : ℕ) → Lacks x → Lacks (requester.locked x v t g).state
-unfolding requester.locked
+Lacks-locked : (x : ClientState) (v t g : ℕ) → Lacks x → Lacks (requester.take_locked x v t g).state
+unfolding requester.take_locked
 Lacks-locked x v t g h = Lacks-locked_by _ _ x v t g h
 
 -- FAIL and INQUIRE leave the request
@@ -220,27 +220,27 @@ Stays-relinquish_each x (v ∷ vs) =
     let b = Stays-relinquish_each (requester.relinquish x v).state vs in
     record { phase = b.phase ∙ a.phase; stamp = b.stamp ∙ a.stamp; quorum = b.quorum ∙ a.quorum; seen = refl }
 
-Stays-failed_by : (b : Bool) (x : ClientState) (v : ℕ) → Stays x (requester.failed_by b x v)
-Stays-failed_by false x v = record { phase = refl; stamp = refl; quorum = refl; seen = refl }
-Stays-failed_by true x v =
+Stays-take_fail_by : (b : Bool) (x : ClientState) (v : ℕ) → Stays x (requester.take_fail_by b x v)
+Stays-take_fail_by false x v = record { phase = refl; stamp = refl; quorum = refl; seen = refl }
+Stays-take_fail_by true x v =
     let h = Stays-relinquish_each (requester.fail x v) (filter (is_inquired (requester.fail x v)) (members x)) in
     record { phase = h.phase; stamp = h.stamp; quorum = h.quorum; seen = h.seen }
 
-Stays-inquired_by : (b hindered : Bool) (x : ClientState) (v : ℕ) → Stays x (requester.inquired_by b hindered x v)
-Stays-inquired_by false hindered x v = record { phase = refl; stamp = refl; quorum = refl; seen = refl }
-Stays-inquired_by true false x v = record { phase = refl; stamp = refl; quorum = refl; seen = refl }
-Stays-inquired_by true true x v = Stays-relinquish x v
+Stays-take_inquire_by : (b hindered : Bool) (x : ClientState) (v : ℕ) → Stays x (requester.take_inquire_by b hindered x v)
+Stays-take_inquire_by false hindered x v = record { phase = refl; stamp = refl; quorum = refl; seen = refl }
+Stays-take_inquire_by true false x v = record { phase = refl; stamp = refl; quorum = refl; seen = refl }
+Stays-take_inquire_by true true x v = Stays-relinquish x v
 
 pub Stays-fail : (x : ClientState) (m : ToClient) (t : ℕ) → m.body ≡ to_client.Fail t → Stays x (requester.take x m)
-unfolding requester.take requester.failed
+unfolding requester.take requester.take_fail
 Stays-fail x m t is = subst (λ b. Stays x (requester.take_body (requester.see x m.seen) m.voter b)) (sym is) (
-    let h = Stays-failed_by _ (requester.see x m.seen) m.voter in
+    let h = Stays-take_fail_by _ (requester.see x m.seen) m.voter in
     record { phase = h.phase; stamp = h.stamp; quorum = h.quorum; seen = h.seen })
 
 pub Stays-inquire : (x : ClientState) (m : ToClient) (g : ℕ) → m.body ≡ to_client.Inquire g → Stays x (requester.take x m)
-unfolding requester.take requester.inquired
+unfolding requester.take requester.take_inquire
 Stays-inquire x m g is = subst (λ b. Stays x (requester.take_body (requester.see x m.seen) m.voter b)) (sym is) (
-    let h = Stays-inquired_by _ _ (requester.see x m.seen) m.voter in
+    let h = Stays-take_inquire_by _ _ (requester.see x m.seen) m.voter in
     record { phase = h.phase; stamp = h.stamp; quorum = h.quorum; seen = h.seen })
 
 abbrev NotLocked : ClientBody → Type 0
@@ -279,9 +279,9 @@ lacks_all x (v ∷ vs) none some = (let here = none v in grind (arith, nat_tests
 
 Lacks-client : (x z : ClientState) (cause : requester.Cause) (o : requester.Outcome) → IsSound z → o.state ≡ z → requester.step x cause ≡ Ok o → MeetsContract x cause o → Lacks x → Lacks z
 Lacks-client x z (requester.Asks q) o sound is taken contract h asks =
-    let state : requester.begun x q ≡ z = ap (λ (p : requester.Outcome). p.state) (ask-Ok x q o taken) ∙ is in
+    let state : requester.begin_request x q ≡ z = ap (λ (p : requester.Outcome). p.state) (ask-Ok x q o taken) ∙ is in
     subst (λ (w : ClientState). IsSound w → is_covered w ≡ false) state
-    (λ ok. lacks_all (requester.begun x q) q (λ v. none_held (requester.begun x q) v (slice_index-replicate_zero max_voters v)) (ok.asked refl)) sound
+    (λ ok. lacks_all (requester.begin_request x q) q (λ v. none_held (requester.begin_request x q) v (slice_index-replicate_zero max_voters v)) (ok.asked refl)) sound
 Lacks-client x z (requester.Takes m) o sound is taken contract h asks =
     let same = take-Ok x m o taken in
     subst (λ (w : ClientState). Lacks w) (ap (λ (p : requester.Outcome). p.state) same ∙ is)

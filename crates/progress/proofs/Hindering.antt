@@ -101,16 +101,16 @@ again_fails true v g client s e = absurd (false≢true (sym e))
 again_fails false v g client s e = refl
 
 compared_same : (less same : Bool) (v : VoterState) (client s t : ℕ) → less ≡ false → same ≡ true
-    → voter.compared_by less same v client s t ≡ record { replies = voter.again v v.held client s; state = v }
+    → voter.compare_by less same v client s t ≡ record { replies = voter.again v v.held client s; state = v }
 compared_same true same v client s t e f = absurd (false≢true (sym e))
 compared_same false true v client s t e f = refl
 compared_same false false v client s t e f = absurd (false≢true f)
 
-beside_same : (v : VoterState) (client s : ℕ) (o : Option ℕ) → o ≡ Some s → voter.requested_beside v client s o ≡ record { replies = voter.again v v.held client s; state = v }
-unfolding voter.requested_beside
-beside_same v client s o is = ap (voter.requested_beside v client s) is ∙ compared_same (nat_lt s s) (s == s) v client s s (grind (arith, nat_tests)) (grind (arith, nat_tests))
+beside_same : (v : VoterState) (client s : ℕ) (o : Option ℕ) → o ≡ Some s → voter.take_request_beside v client s o ≡ record { replies = voter.again v v.held client s; state = v }
+unfolding voter.take_request_beside
+beside_same v client s o is = ap (voter.take_request_beside v client s) is ∙ compared_same (nat_lt s s) (s == s) v client s s (grind (arith, nat_tests)) (grind (arith, nat_tests))
 
-requested_not : (b : Bool) (v : VoterState) (client s : ℕ) → b ≡ false → voter.requested_by b v client s ≡ voter.requested_beside v client s (voter.standing v client)
+requested_not : (b : Bool) (v : VoterState) (client s : ℕ) → b ≡ false → voter.take_request_by b v client s ≡ voter.take_request_beside v client s (voter.current_stamp v client)
 requested_not true v client s e = absurd (false≢true (sym e))
 requested_not false v client s e = refl
 
@@ -120,15 +120,15 @@ eq_false a b other = false_from_ne_true (a == b) (λ is. other (grind (arith, na
 fails_again : (y : VoterState) (m : ToVoter) (s : ℕ) (g : Grant) (o : voter.Outcome) → m.body ≡ asks.Request s → slice_index y.finished m.client < s → y.held ≡ Some g
     → g.client ≢ m.client → get y.waiting m.client ≡ Some s → voter.step y m ≡ Some o
     → o ≡ record { replies = voter.reply (voter.see y s) m.client (to_client.Fail s) ∷ []; state = voter.see y s }
-unfolding voter.step voter.requested
+unfolding voter.step voter.take_request
 fails_again y m s g o is unfinished held other waits step =
     let c = m.client in
     let v = voter.see y s in
-    let present : voter.standing v c ≡ Some s =
+    let present : voter.current_stamp v c ≡ Some s =
     ap (λ h. voter.first_some (voter.held_stamp h c) (get y.waiting c)) held ∙ ap (λ h. voter.first_some h (get y.waiting c)) (not_held_by (g.client == c) g.stamp (eq_false g.client c other))
     ∙ waits in
     let out : voter.outcome_of y c m.body ≡ record { replies = voter.reply v c (to_client.Fail s) ∷ []; state = v } =
-    ap (voter.outcome_of y c) is ∙ requested_not (nat_le s (slice_index y.finished c)) v c s (lt-leb s (slice_index y.finished c) unfinished) ∙ beside_same v c s (voter.standing v c) present
+    ap (voter.outcome_of y c) is ∙ requested_not (nat_le s (slice_index y.finished c)) v c s (lt-leb s (slice_index y.finished c) unfinished) ∙ beside_same v c s (voter.current_stamp v c) present
     ∙ ap (λ rs. record { replies = rs; state = v }) (ap (λ h. voter.again v h c s) held ∙ again_fails (g.client == c) v g c s (eq_false g.client c other)) in
     sym (unless-Some _ (voter.outcome_of y c m.body) o step) ∙ out
 

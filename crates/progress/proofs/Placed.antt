@@ -107,11 +107,11 @@ no-relinquish_each x (v ∷ vs) =
     AllByRecursion-append (λ (m : ToVoter). NoAsk m.body) (requester.relinquish x v).out (requester.relinquish_each (requester.relinquish x v).state vs).out
     (no-relinquish x v) (no-relinquish_each (requester.relinquish x v).state vs)
 
-no-failed_by : (b : Bool) (x : ClientState) (v : ℕ) → NoAsks (requester.failed_by b x v).out
+no-failed_by : (b : Bool) (x : ClientState) (v : ℕ) → NoAsks (requester.take_fail_by b x v).out
 no-failed_by false x v = tt
 no-failed_by true x v = no-relinquish_each (requester.fail x v) (filter (is_inquired (requester.fail x v)) (members x))
 
-no-inquired_by : (b hindered : Bool) (x : ClientState) (v : ℕ) → NoAsks (requester.inquired_by b hindered x v).out
+no-inquired_by : (b hindered : Bool) (x : ClientState) (v : ℕ) → NoAsks (requester.take_inquire_by b hindered x v).out
 no-inquired_by false hindered x v = tt
 no-inquired_by true false x v = tt
 no-inquired_by true true x v = no-relinquish x v
@@ -120,13 +120,13 @@ no-enter_if : (b : Bool) (x : ClientState) → NoAsks (requester.enter_if b x).o
 no-enter_if false x = tt
 no-enter_if true x = tt
 
-no-locked_by : (a b : Bool) (x : ClientState) (v t g : ℕ) → NoAsks (requester.locked_by a b x v t g).out
+no-locked_by : (a b : Bool) (x : ClientState) (v t g : ℕ) → NoAsks (requester.take_locked_by a b x v t g).out
 no-locked_by false b x v t g = (tt, tt)
 no-locked_by true false x v t g = tt
 no-locked_by true true x v t g = no-enter_if _ (requester.hold x v g)
 
 no-take_body : (x : ClientState) (v : ℕ) (b : ClientBody) → NoAsks (requester.take_body x v b).out
-unfolding requester.locked requester.failed requester.inquired
+unfolding requester.take_locked requester.take_fail requester.take_inquire
 no-take_body x v (to_client.Locked t g) = no-locked_by _ _ x v t g
 no-take_body x v (to_client.Fail t) = no-failed_by _ x v
 no-take_body x v (to_client.Inquire g) = no-inquired_by _ _ x v
@@ -164,7 +164,7 @@ members_asked x z b (v ∷ q) all = (member_ask z v b (all v (grind (arith, nat_
 
 asked_out : (x z : ClientState) (cause : requester.Cause) (o : requester.Outcome) → requester.step x cause ≡ Ok o → o.state ≡ z → KeepsQuorum x cause z → AllAsked z o.out
 asked_out x z (requester.Asks q) o taken is keeps =
-    subst (λ (p : requester.Outcome). AllAsked z p.out) (ask-Ok x q o taken) (members_asked (requester.begun x q) z (asks.Request (x.clock + 1)) q (λ v there. ap (λ l. has l v) keeps ∙ there))
+    subst (λ (p : requester.Outcome). AllAsked z p.out) (ask-Ok x q o taken) (members_asked (requester.begin_request x q) z (asks.Request (x.clock + 1)) q (λ v there. ap (λ l. has l v) keeps ∙ there))
 asked_out x z (requester.Takes m) o taken is keeps = none_asked z o.out (subst (λ (p : requester.Outcome). NoAsks p.out) (take-Ok x m o taken) (no-take x m))
 asked_out x z requester.Leaves o taken is keeps = idle_asked z o.out keeps.1
 asked_out x z requester.GivesUp o taken is keeps = idle_asked z o.out keeps.1

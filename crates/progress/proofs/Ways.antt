@@ -279,14 +279,14 @@ hears laws p c v u h body there left =
 
 -- ---- LOCKED for the request
 
-pub new-locked_by : (b d : Bool) (x : ClientState) (v t g : ℕ) → b ≡ true → d ≡ true → requester.locked_by b d x v t g ≡ requester.enter_if (is_covered (requester.hold x v g)) (requester.hold x v g)
+pub new-locked_by : (b d : Bool) (x : ClientState) (v t g : ℕ) → b ≡ true → d ≡ true → requester.take_locked_by b d x v t g ≡ requester.enter_if (is_covered (requester.hold x v g)) (requester.hold x v g)
 new-locked_by false d x v t g e f = absurd (false≢true e)
 new-locked_by true false x v t g e f = absurd (false≢true f)
 new-locked_by true true x v t g e f = refl
 
 pub new-take : (x : ClientState) (m : ToClient) (stamp grant : ℕ) → m.body ≡ to_client.Locked stamp grant → is_current x stamp ≡ true → requester.is_fresh x m.voter grant ≡ true
     → requester.take x m ≡ requester.enter_if (is_covered (requester.hold (requester.see x m.seen) m.voter grant)) (requester.hold (requester.see x m.seen) m.voter grant)
-unfolding requester.take requester.locked
+unfolding requester.take requester.take_locked
 new-take x m stamp grant is current fresh = ap (requester.take_body (requester.see x m.seen) m.voter) is ∙ new-locked_by _ _ (requester.see x m.seen) m.voter stamp grant current fresh
 
 pub Gains-hold : (x : ClientState) (n v g : ℕ) → 1 ≤ g → v < length x.held → Gains x (requester.hold (requester.see x n) v g)

@@ -20,5 +20,5 @@ pub record StillRuns (w u : WorldState) (c : ℕ) : Type 0 where
   pub same : (client_at u.clients c).stamp ≡ (client_at w.clients c).stamp
 
 -- how often this client enters
-abbrev pub entered_by : ℕ → List Event → ℕ
-entered_by c es = count_by (λ e. (e.client == c) && e.entered) es
+abbrev pub entries_of : ℕ → List Event → ℕ
+entries_of c es = count_by (λ e. (e.client == c) && e.entered) es

@@ -48,7 +48,7 @@ pub record ClientLaws : Type 0 where
   pub gives : (x : ClientState) (m : ToClient) → IsSound x → is_asking x.phase ≡ true → holds x m.voter ≡ true → is_hindered x ≡ true → m.voter < max_voters
       → m.body ≡ to_client.Inquire (held_of x m.voter)
       → IsGivenBack x (requester.take x m) m.voter × (is_relinquished (requester.take x m).state m.voter ≡ true)
-  pub left : (x : ClientState) → is_inside x.phase ≡ true → requester.leave x ≡ Ok (requester.released x Left)
+  pub left : (x : ClientState) → is_inside x.phase ≡ true → requester.leave x ≡ Ok (requester.end_request x Left)
 
 -- what the laws of `voter` say of every voter
 pub record VoterLaws : Type 0 where

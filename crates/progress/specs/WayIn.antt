@@ -8,7 +8,7 @@ use Rattle.world.specs.declared.step.Step.{Step}
 use Rattle.world.specs.declared.step.Step.TheVariants.{Ask, Deliver, Leave, GiveUp, RemindClient, RemindVoter, Exchange}
 use Rattle.world.specs.Runs.{run_of}
 use Rattle.world.specs.Steps.{WorldState, Dealing, client_at, events, voter_at}
-use Rattle.progress.specs.Overtaking.{entered_by}
+use Rattle.progress.specs.Overtaking.{entries_of}
 
 -- a reminder, or the arrival of a message that is not among the first `sent` ones
 abbrev pub Helps : ℕ → Step → Type 0
@@ -59,4 +59,4 @@ pub record GetsIn (deal : Dealing) (w : WorldState) (c : ℕ) (steps : List Step
   pub serves : AllByRecursion (Serves (length w.sent)) steps
   pub more : List Event
   pub visible : (run_of deal steps w).visible ≡ w.visible ++ more
-  pub enters : 1 ≤ entered_by c more
+  pub enters : 1 ≤ entries_of c more

@@ -1,7 +1,7 @@
 //! Laws on progress.
 ghost use Rattle.std.specs.Prelude.{◌≡◌, ◌≢◌, ◌≤◌, ◌+◌, ◌*◌, ◌++◌, ℕ, List, length};
 ghost use Rattle.progress.specs.LostVotes.{ComesBack, GoesOn, HasLostVote, HasReturnedVote};
-ghost use Rattle.progress.specs.Overtaking.{IsKnownEverywhere, StillRuns, entered_by};
+ghost use Rattle.progress.specs.Overtaking.{IsKnownEverywhere, StillRuns, entries_of};
 ghost use Rattle.progress.specs.Rules.{Laws};
 ghost use Rattle.progress.specs.WayIn.{Asks, AsksAlone, GetsIn, HasGrants, IsFree, IsWayIn};
 ghost use Rattle.voter.specs.declared.state.Grant.{Grant};
@@ -60,7 +60,7 @@ fn parts_keep_their_rules()
 pub fn nobody_overtakes_often()
     ensures { (w : Planned) (c d : ℕ) (steps : List Step) (more : List Event) → IsReached w
         → IsKnownEverywhere w.state c → d ≢ c → StillRuns w.state (run_of (dealing_of w.plans) steps w.state) c
-        → (run_of (dealing_of w.plans) steps w.state).visible ≡ w.state.visible ++ more → entered_by d more ≤ 2 }
+        → (run_of (dealing_of w.plans) steps w.state).visible ≡ w.state.visible ++ more → entries_of d more ≤ 2 }
 {
     parts_keep_their_rules();
 }

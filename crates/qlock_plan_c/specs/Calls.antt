@@ -117,8 +117,8 @@ pub record Asked : Type 0 where
   pub first : ℕ
   pub bytes : ℕ
 
-abbrev pub asked : ℕ → ℕ → ℕ → Asked
-asked order first bytes = record { order = order; first = first; bytes = bytes }
+abbrev pub question_of : ℕ → ℕ → ℕ → Asked
+question_of order first bytes = record { order = order; first = first; bytes = bytes }
 
 -- there is such an order, each mask has 8 bytes, and there are such tickets
 abbrev pub IsAllowed : Asked → Type 0

@@ -1,6 +1,6 @@
 //! The calls that deal: the quorums of tickets in both orders, and how even the second one is.
 ghost use Rattle.std.specs.Prelude.{◌≤◌, ◌↔◌, IsTrue, length};
-ghost use Rattle.qlock_plan_c.specs.Calls.{IsAllowed, QuorumsCall, SlackCall, asked, three};
+ghost use Rattle.qlock_plan_c.specs.Calls.{IsAllowed, QuorumsCall, SlackCall, question_of, three};
 ghost use Rattle.qlock_plan_c.specs.Numbers.{Returns};
 ghost use Rattle.qlock_plan_c.specs.Orders.{IsEvenOrder, IsOrder};
 ghost use Rattle.qlock_plan_c.specs.Outputs.{output};
@@ -18,7 +18,7 @@ use words::write_words;
 /// Returns whether there is an order with this number, the bytes are whole masks, and the tickets
 /// from the first one on, one for each mask, are tickets.
 fn is_allowed(order: u32, first: u64, bytes: usize) -> bool
-    ensures { IsTrue result ↔ IsAllowed (asked order first bytes) }
+    ensures { IsTrue result ↔ IsAllowed (question_of order first bytes) }
 {
     order <= 1 && bytes % 8 == 0 && first <= MAX_TICKETS - (bytes / 8) as u64
 }
@@ -62,7 +62,7 @@ fn quorums(
     out: &mut [u8],
     written: &mut usize,
 ) -> Outcome
-    ensures { QuorumsCall coterie.now plan.now (asked order first (length masks.old)) masks.old masks.new
+    ensures { QuorumsCall coterie.now plan.now (question_of order first (length masks.old)) masks.old masks.new
         (output out.old out.new written.old written.new) result }
 {
     if !is_allowed(order, first, masks.len()) {
@@ -122,7 +122,7 @@ pub extern "C" fn qlock_quorums(
     out: &mut [u8],
     written: &mut usize,
 ) -> i32
-    ensures { Returns result (QuorumsCall coterie.now plan.now (asked order first (length masks.old))
+    ensures { Returns result (QuorumsCall coterie.now plan.now (question_of order first (length masks.old))
         masks.old masks.new (output out.old out.new written.old written.new)) }
 {
     quorums(alloc, coterie, plan, order, first, masks, out, written).number()

@@ -11,7 +11,7 @@ use Rattle.requester.specs.declared.state.ClientState.{ClientState}
 use Rattle.requester.specs.Words.{holds}
 use Rattle.requester.specs.Soundness.{IsSound}
 use Rattle.requester.specs.RequesterContract.{Accepts}
-use Rattle.requester.specs.Steps.{Outcome, Cause, Asks, Leaves, GivesUp, step, ask, leave, give_up, take, relinquish, relinquish_if, relinquish_each, failed, failed_by, inquired, inquired_by}
+use Rattle.requester.specs.Steps.{Outcome, Cause, Asks, Leaves, GivesUp, step, ask, leave, give_up, take, relinquish, relinquish_if, relinquish_each, take_fail, take_fail_by, take_inquire, take_inquire_by}
 use Rattle.requester.proofs.SoundSteps.{IsSound-step, IsSound-take}
 use Rattle.requester.proofs.ContractLemmas.{MeetsContract-step, MeetsContract-take}
 
@@ -74,20 +74,20 @@ seen-relinquish_each : (x : ClientState) (vs : List ℕ) → (relinquish_each x 
 seen-relinquish_each x [] = refl
 seen-relinquish_each x (v ∷ vs) = refl
 
-seen-failed_by : (b : Bool) (x : ClientState) (v : ℕ) → (failed_by b x v).seen ≡ Nothing
-seen-failed_by false x v = refl
-seen-failed_by true x v = seen-relinquish_each _ _
+seen-take_fail_by : (b : Bool) (x : ClientState) (v : ℕ) → (take_fail_by b x v).seen ≡ Nothing
+seen-take_fail_by false x v = refl
+seen-take_fail_by true x v = seen-relinquish_each _ _
 
-pub seen-failed : (x : ClientState) (v t : ℕ) → (failed x v t).seen ≡ Nothing
-unfolding failed
-seen-failed x v t = seen-failed_by _ x v
+pub seen-take_fail : (x : ClientState) (v t : ℕ) → (take_fail x v t).seen ≡ Nothing
+unfolding take_fail
+seen-take_fail x v t = seen-take_fail_by _ x v
 
-seen-inquired_by : (b hindered : Bool) (x : ClientState) (v : ℕ) → (inquired_by b hindered x v).seen ≡ Nothing
+seen-take_inquire_by : (b hindered : Bool) (x : ClientState) (v : ℕ) → (take_inquire_by b hindered x v).seen ≡ Nothing
 unfolding relinquish
-seen-inquired_by false hindered x v = refl
-seen-inquired_by true false x v = refl
-seen-inquired_by true true x v = seen-relinquish_if (holds x v) x v
+seen-take_inquire_by false hindered x v = refl
+seen-take_inquire_by true false x v = refl
+seen-take_inquire_by true true x v = seen-relinquish_if (holds x v) x v
 
-pub seen-inquired : (x : ClientState) (v g : ℕ) → (inquired x v g).seen ≡ Nothing
-unfolding inquired
-seen-inquired x v g = seen-inquired_by _ _ x v
+pub seen-take_inquire : (x : ClientState) (v g : ℕ) → (take_inquire x v g).seen ≡ Nothing
+unfolding take_inquire
+seen-take_inquire x v g = seen-take_inquire_by _ _ x v

@@ -18,10 +18,10 @@ use Rattle.requester.specs.declared.state.Seen.TheVariants.{Nothing}
 use Rattle.requester.specs.Clocks.{KeepsTime}
 use Rattle.requester.specs.Words.{holds, is_asking, is_current, is_member, is_relinquished, last_of, members}
 use Rattle.requester.specs.Soundness.{IsSound}
-use Rattle.requester.specs.Steps.{Outcome, Cause, Asks, Takes, Leaves, GivesUp, step, take, take_body, see, tell, locked, locked_by, enter_if, hold, failed, failed_by, inquired}
-use Rattle.requester.specs.Steps.{inquired_by, remind, remind_in, remind_by, remind_member}
+use Rattle.requester.specs.Steps.{Outcome, Cause, Asks, Takes, Leaves, GivesUp, step, take, take_body, see, tell, take_locked, take_locked_by, enter_if, hold, take_fail, take_fail_by, take_inquire}
+use Rattle.requester.specs.Steps.{take_inquire_by, remind, remind_in, remind_by, remind_member}
 use Rattle.requester.proofs.Giving.{GivesBack, GivesBack-relinquish}
-use Rattle.requester.proofs.SoundSteps.{GivesBack-failed_by, IsSound-see, Ok-same, ask-Ok, leave-Ok, give_up-Ok}
+use Rattle.requester.proofs.SoundSteps.{GivesBack-take_fail_by, IsSound-see, Ok-same, ask-Ok, leave-Ok, give_up-Ok}
 
 -- ---- a message
 
@@ -38,28 +38,28 @@ Stays-enter : (b : Bool) (x : ClientState) (v g : ℕ) → Stays x (enter_if b (
 Stays-enter false x v g = record { clock = refl; stamp = refl; asking = λ a. a }
 Stays-enter true x v g = record { clock = refl; stamp = refl; asking = λ a. absurd (false≢true a) }
 
-Stays-locked_by : (current fresh : Bool) (x : ClientState) (v t g : ℕ) → Stays x (locked_by current fresh x v t g).state
-Stays-locked_by false fresh x v t g = Stays-self x
-Stays-locked_by true false x v t g = Stays-self x
-Stays-locked_by true true x v t g = Stays-enter _ x v g
+Stays-take_locked_by : (current fresh : Bool) (x : ClientState) (v t g : ℕ) → Stays x (take_locked_by current fresh x v t g).state
+Stays-take_locked_by false fresh x v t g = Stays-self x
+Stays-take_locked_by true false x v t g = Stays-self x
+Stays-take_locked_by true true x v t g = Stays-enter _ x v g
 
 Stays-GivesBack : (x : ClientState) (o : Outcome) → GivesBack x o → Stays x o.state
 Stays-GivesBack x o k = record { clock = k.clock; stamp = k.stamp; asking = λ a. ap is_asking (sym k.phase) ∙ a }
 
-Stays-failed_by : (b : Bool) (x : ClientState) (v : ℕ) → IsSound x → Stays x (failed_by b x v).state
-Stays-failed_by false x v s = Stays-self x
-Stays-failed_by true x v s = Stays-GivesBack x (failed_by true x v) (GivesBack-failed_by x v s.places)
+Stays-take_fail_by : (b : Bool) (x : ClientState) (v : ℕ) → IsSound x → Stays x (take_fail_by b x v).state
+Stays-take_fail_by false x v s = Stays-self x
+Stays-take_fail_by true x v s = Stays-GivesBack x (take_fail_by true x v) (GivesBack-take_fail_by x v s.places)
 
-Stays-inquired_by : (b hindered : Bool) (x : ClientState) (v : ℕ) → IsSound x → Stays x (inquired_by b hindered x v).state
-Stays-inquired_by false hindered x v s = Stays-self x
-Stays-inquired_by true false x v s = record { clock = refl; stamp = refl; asking = λ a. a }
-Stays-inquired_by true true x v s = Stays-GivesBack x (inquired_by true true x v) (GivesBack-relinquish x v s.places)
+Stays-take_inquire_by : (b hindered : Bool) (x : ClientState) (v : ℕ) → IsSound x → Stays x (take_inquire_by b hindered x v).state
+Stays-take_inquire_by false hindered x v s = Stays-self x
+Stays-take_inquire_by true false x v s = record { clock = refl; stamp = refl; asking = λ a. a }
+Stays-take_inquire_by true true x v s = Stays-GivesBack x (take_inquire_by true true x v) (GivesBack-relinquish x v s.places)
 
 Stays-body : (x : ClientState) (v : ℕ) (b : ClientBody) → IsSound x → Stays x (take_body x v b).state
-unfolding locked failed inquired
-Stays-body x v (to_client.Locked t g) s = Stays-locked_by _ _ x v t g
-Stays-body x v (to_client.Fail t) s = Stays-failed_by _ x v s
-Stays-body x v (to_client.Inquire g) s = Stays-inquired_by _ _ x v s
+unfolding take_locked take_fail take_inquire
+Stays-body x v (to_client.Locked t g) s = Stays-take_locked_by _ _ x v t g
+Stays-body x v (to_client.Fail t) s = Stays-take_fail_by _ x v s
+Stays-body x v (to_client.Inquire g) s = Stays-take_inquire_by _ _ x v s
 
 Stays-take : (x : ClientState) (m : ToClient) → IsSound x → Stays (see x m.seen) (take x m).state
 unfolding take
@@ -85,14 +85,14 @@ KeepsTime-step x GivesUp o s e = KeepsTime-call x GivesUp o _ (give_up-Ok x o e)
 
 -- ---- a vote for a request that is over
 
-old-locked_by : (b fresh : Bool) (x : ClientState) (v t g : ℕ) → b ≡ false → locked_by b fresh x v t g ≡ record { out = tell x v (asks.Release t) ∷ []; seen = Nothing; state = x }
-old-locked_by true fresh x v t g e = absurd (false≢true (sym e))
-old-locked_by false fresh x v t g e = refl
+old-take_locked_by : (b fresh : Bool) (x : ClientState) (v t g : ℕ) → b ≡ false → take_locked_by b fresh x v t g ≡ record { out = tell x v (asks.Release t) ∷ []; seen = Nothing; state = x }
+old-take_locked_by true fresh x v t g e = absurd (false≢true (sym e))
+old-take_locked_by false fresh x v t g e = refl
 
 old-body : (x : ClientState) (v t g : ℕ) (b : ClientBody) → b ≡ to_client.Locked t g → is_current x t ≡ false
     → take_body x v b ≡ record { out = tell x v (asks.Release t) ∷ []; seen = Nothing; state = x }
-unfolding locked
-old-body x v t g b is over = ap (take_body x v) is ∙ old-locked_by _ _ x v t g over
+unfolding take_locked
+old-body x v t g b is over = ap (take_body x v) is ∙ old-take_locked_by _ _ x v t g over
 
 pub old-take : (x : ClientState) (m : ToClient) (stamp grant : ℕ) → m.body ≡ to_client.Locked stamp grant → is_current x stamp ≡ false
     → take x m ≡ record { out = tell x m.voter (asks.Release stamp) ∷ []; seen = Nothing; state = see x m.seen }

@@ -17,11 +17,11 @@ use Rattle.requester.specs.declared.state.ClientState.{ClientState}
 use Rattle.requester.specs.Words.{is_idle, is_inside, members, is_current, held_of, holds, holds_under, last_of}
 use Rattle.requester.specs.Soundness.{IsSound}
 use Rattle.requester.specs.RequesterContract.{Accepts, IsLive, IsLocked, Locks, Sees, KeepsQuorum, Says, MeetsContract, Repeats, AllRepeat}
-use Rattle.requester.specs.Steps.{Outcome, silent, cleared, begun, asked, tell, is_fresh, hold, enter_if, locked, locked_by, failed, failed_by, inquired, inquired_by, see}
-use Rattle.requester.specs.Steps.{take_body, take, released, Cause, Asks, Takes, Leaves, GivesUp, step, remind, remind_in, remind_by, remind_member}
+use Rattle.requester.specs.Steps.{Outcome, no_effect, clear_votes, begin_request, send_requests, tell, is_fresh, hold, enter_if, take_locked, take_locked_by, take_fail, take_fail_by, take_inquire, take_inquire_by, see}
+use Rattle.requester.specs.Steps.{take_body, take, end_request, Cause, Asks, Takes, Leaves, GivesUp, step, remind, remind_in, remind_by, remind_member}
 use Rattle.requester.proofs.Members.{absurd-true_false, AllByRecursion-map_members, AllByRecursion-flat_map_members}
-use Rattle.requester.proofs.Giving.{GivesBack, IsGiving, Given, GivesBack-silent, GivesBack-relinquish}
-use Rattle.requester.proofs.SoundSteps.{Counts, Counts-is_fresh, is_current-busy, HoldsMore-hold, is_inside-from_Counts, GivesBack-failed_by, is_asking-outside, IsSound-see}
+use Rattle.requester.proofs.Giving.{GivesBack, IsGiving, Given, GivesBack-no_effect, GivesBack-relinquish}
+use Rattle.requester.proofs.SoundSteps.{Counts, Counts-is_fresh, is_current-busy, HoldsMore-hold, is_inside-from_Counts, GivesBack-take_fail_by, is_asking-outside, IsSound-see}
 use Rattle.requester.proofs.SoundSteps.{Ok-same, ask-Ok, leave-Ok, give_up-Ok}
 use Rattle.numbers.proofs.Lists.{AllByRecursion-weaker, slice_index-replicate_zero}
 
@@ -74,8 +74,8 @@ MeetsContract-GivesBack x m o s k = record {
 }
 
 -- a step after which the same is held, and nothing is sent
-MeetsContract-silent : (x : ClientState) (m : ToClient) → IsSound x → MeetsContract x (Takes m) (silent x)
-MeetsContract-silent x m s = MeetsContract-GivesBack x m (silent x) s (GivesBack-silent x s.places)
+MeetsContract-no_effect : (x : ClientState) (m : ToClient) → IsSound x → MeetsContract x (Takes m) (no_effect x)
+MeetsContract-no_effect x m s = MeetsContract-GivesBack x m (no_effect x) s (GivesBack-no_effect x s.places)
 
 -- LOCKED
 
@@ -126,9 +126,9 @@ MeetsContract-enter b x m t g body s c busy current = elim b as (λ b. MeetsCont
           inl (holds_under-same_held x (hold x m.voter g) v h (more.other_held v other) e, refl)
     ]
 
-MeetsContract-locked_by : (current fresh : Bool) (x : ClientState) (m : ToClient) (t g : ℕ) → m.body ≡ to_client.Locked t g → IsSound x → is_current x t ≡ current → is_fresh x m.voter g ≡ fresh
-    → MeetsContract x (Takes m) (locked_by current fresh x m.voter t g)
-MeetsContract-locked_by false fresh x m t g body s c f = record {
+MeetsContract-take_locked_by : (current fresh : Bool) (x : ClientState) (m : ToClient) (t g : ℕ) → m.body ≡ to_client.Locked t g → IsSound x → is_current x t ≡ current → is_fresh x m.voter g ≡ fresh
+    → MeetsContract x (Takes m) (take_locked_by current fresh x m.voter t g)
+MeetsContract-take_locked_by false fresh x m t g body s c f = record {
   id = refl;
   limit = refl;
   later = record { stamp = omega arith; last = λ v. omega arith; idle = λ _ idle. idle };
@@ -138,18 +138,18 @@ MeetsContract-locked_by false fresh x m t g body s c f = record {
   seen = refl;
   quorum = (refl, refl);
 }
-MeetsContract-locked_by true false x m t g body s c f = MeetsContract-silent x m s
-MeetsContract-locked_by true true x m t g body s c f = let k = is_current-busy x t c in MeetsContract-enter _ x m t g body s (Counts-is_fresh x m.voter g s f) k.0 k.1
+MeetsContract-take_locked_by true false x m t g body s c f = MeetsContract-no_effect x m s
+MeetsContract-take_locked_by true true x m t g body s c f = let k = is_current-busy x t c in MeetsContract-enter _ x m t g body s (Counts-is_fresh x m.voter g s f) k.0 k.1
 
 -- FAIL and INQUIRE
 
-MeetsContract-failed_by : (b : Bool) (x : ClientState) (m : ToClient) → IsSound x → MeetsContract x (Takes m) (failed_by b x m.voter)
-MeetsContract-failed_by false x m s = MeetsContract-silent x m s
-MeetsContract-failed_by true x m s = MeetsContract-GivesBack x m (failed_by true x m.voter) s (GivesBack-failed_by x m.voter s.places)
+MeetsContract-take_fail_by : (b : Bool) (x : ClientState) (m : ToClient) → IsSound x → MeetsContract x (Takes m) (take_fail_by b x m.voter)
+MeetsContract-take_fail_by false x m s = MeetsContract-no_effect x m s
+MeetsContract-take_fail_by true x m s = MeetsContract-GivesBack x m (take_fail_by true x m.voter) s (GivesBack-take_fail_by x m.voter s.places)
 
-MeetsContract-inquired_by : (b hindered : Bool) (x : ClientState) (m : ToClient) → IsSound x → MeetsContract x (Takes m) (inquired_by b hindered x m.voter)
-MeetsContract-inquired_by false hindered x m s = MeetsContract-silent x m s
-MeetsContract-inquired_by true false x m s = record {
+MeetsContract-take_inquire_by : (b hindered : Bool) (x : ClientState) (m : ToClient) → IsSound x → MeetsContract x (Takes m) (take_inquire_by b hindered x m.voter)
+MeetsContract-take_inquire_by false hindered x m s = MeetsContract-no_effect x m s
+MeetsContract-take_inquire_by true false x m s = record {
   id = refl;
   limit = refl;
   later = record { stamp = omega arith; last = λ v. omega arith; idle = λ _ idle. idle };
@@ -159,15 +159,15 @@ MeetsContract-inquired_by true false x m s = record {
   seen = refl;
   quorum = (refl, refl);
 }
-MeetsContract-inquired_by true true x m s = MeetsContract-GivesBack x m (inquired_by true true x m.voter) s (GivesBack-relinquish x m.voter s.places)
+MeetsContract-take_inquire_by true true x m s = MeetsContract-GivesBack x m (take_inquire_by true true x m.voter) s (GivesBack-relinquish x m.voter s.places)
 
 -- Any message
 
 MeetsContract-body : (x : ClientState) (m : ToClient) (b : ClientBody) → m.body ≡ b → IsSound x → MeetsContract x (Takes m) (take_body x m.voter b)
-unfolding locked failed inquired
-MeetsContract-body x m (to_client.Locked t g) body s = MeetsContract-locked_by _ _ x m t g body s refl refl
-MeetsContract-body x m (to_client.Fail t) body s = MeetsContract-failed_by _ x m s
-MeetsContract-body x m (to_client.Inquire g) body s = MeetsContract-inquired_by _ _ x m s
+unfolding take_locked take_fail take_inquire
+MeetsContract-body x m (to_client.Locked t g) body s = MeetsContract-take_locked_by _ _ x m t g body s refl refl
+MeetsContract-body x m (to_client.Fail t) body s = MeetsContract-take_fail_by _ x m s
+MeetsContract-body x m (to_client.Inquire g) body s = MeetsContract-take_inquire_by _ _ x m s
 
 pub MeetsContract-take : (x : ClientState) (m : ToClient) → IsSound x → MeetsContract x (Takes m) (take x m)
 unfolding take
@@ -195,37 +195,37 @@ MeetsContract-take x m s =
 
 -- Calls
 
-cleared-holds_under_nothing : {A : Type 0} (x : ClientState) (v g : ℕ) → holds_under (cleared x) v g ≡ true → A
-cleared-holds_under_nothing x v g h = absurd-true_false (holds (cleared x) v) (holds_under-parts (cleared x) v g h).0 (ap (ltb 0) (slice_index-replicate_zero 64 v))
+clear_votes-holds_under_nothing : {A : Type 0} (x : ClientState) (v g : ℕ) → holds_under (clear_votes x) v g ≡ true → A
+clear_votes-holds_under_nothing x v g h = absurd-true_false (holds (clear_votes x) v) (holds_under-parts (clear_votes x) v g h).0 (ap (ltb 0) (slice_index-replicate_zero 64 v))
 
 pub is_idle-outside : (p : Phase) → is_idle p ≡ true → is_inside p ≡ false
 is_idle-outside Idle e = refl
 is_idle-outside Asking e = refl
 is_idle-outside Inside e = sym e
 
-MeetsContract-asked : (x : ClientState) (q : List ℕ) → IsSound x → is_idle x.phase ≡ true → MeetsContract x (Asks q) (asked x q)
-MeetsContract-asked x q s idle =
+MeetsContract-send_requests : (x : ClientState) (q : List ℕ) → IsSound x → is_idle x.phase ≡ true → MeetsContract x (Asks q) (send_requests x q)
+MeetsContract-send_requests x q s idle =
     let clock = s.clock in
     record {
       id = refl;
       limit = refl;
       later = record { stamp = omega arith; last = λ v. omega arith; idle = λ same _. absurd (omega arith) };
-      held = λ v g h. cleared-holds_under_nothing x v g h;
+      held = λ v g h. clear_votes-holds_under_nothing x v g h;
       last = λ v. inl refl;
-      out = AllByRecursion-map_members (λ m. (m.client ≡ x.id) × Says x (Asks q) (begun x q) m.voter m.body) (λ v. tell (begun x q) v (asks.Request (x.clock + 1))) q (λ v _. (refl, refl));
+      out = AllByRecursion-map_members (λ m. (m.client ≡ x.id) × Says x (Asks q) (begin_request x q) m.voter m.body) (λ v. tell (begin_request x q) v (asks.Request (x.clock + 1))) q (λ v _. (refl, refl));
       seen = is_idle-outside x.phase idle;
       quorum = refl;
     }
 
 -- the request is over
-MeetsContract-released : (x : ClientState) (seen : Seen) (cause : Cause) → Sees x.phase seen Idle → KeepsQuorum x cause (released x seen).state → MeetsContract x cause (released x seen)
-MeetsContract-released x seen cause sees keeps =
-    let y = (released x seen).state in
+MeetsContract-end_request : (x : ClientState) (seen : Seen) (cause : Cause) → Sees x.phase seen Idle → KeepsQuorum x cause (end_request x seen).state → MeetsContract x cause (end_request x seen)
+MeetsContract-end_request x seen cause sees keeps =
+    let y = (end_request x seen).state in
     record {
       id = refl;
       limit = refl;
       later = record { stamp = omega arith; last = λ v. omega arith; idle = λ _ _. refl };
-      held = λ v g h. cleared-holds_under_nothing x v g h;
+      held = λ v g h. clear_votes-holds_under_nothing x v g h;
       last = λ v. inl refl;
       out = AllByRecursion-map_members (λ m. (m.client ≡ x.id) × Says x cause y m.voter m.body) (λ v. tell x v (asks.Release x.stamp)) (members x) (λ v _. (refl, inl (refl, refl)));
       seen = sees;
@@ -234,14 +234,14 @@ MeetsContract-released x seen cause sees keeps =
 
 pub MeetsContract-step : (x : ClientState) (cause : Cause) (o : Outcome) → IsSound x → Accepts x cause → step x cause ≡ Ok o → MeetsContract x cause o
 unfolding step
-MeetsContract-step x (Asks q) o s accepts e = let k = ask-Ok x q o e in subst (λ (p : Outcome). MeetsContract x (Asks q) p) k.2 (MeetsContract-asked x q s k.0)
+MeetsContract-step x (Asks q) o s accepts e = let k = ask-Ok x q o e in subst (λ (p : Outcome). MeetsContract x (Asks q) p) k.2 (MeetsContract-send_requests x q s k.0)
 MeetsContract-step x (Takes m) o s accepts e = subst (λ (p : Outcome). MeetsContract x (Takes m) p) (Ok-same (take x m) o e) (MeetsContract-take x m s)
 MeetsContract-step x Leaves o s accepts e =
     let k = leave-Ok x o e in
-    subst (λ (p : Outcome). MeetsContract x Leaves p) k.1 (MeetsContract-released x Left Leaves (k.0, refl) (refl, refl))
+    subst (λ (p : Outcome). MeetsContract x Leaves p) k.1 (MeetsContract-end_request x Left Leaves (k.0, refl) (refl, refl))
 MeetsContract-step x GivesUp o s accepts e =
     let k = give_up-Ok x o e in
-    subst (λ (p : Outcome). MeetsContract x GivesUp p) k.1 (MeetsContract-released x Nothing GivesUp (is_asking-outside x.phase k.0) (refl, refl))
+    subst (λ (p : Outcome). MeetsContract x GivesUp p) k.1 (MeetsContract-end_request x Nothing GivesUp (is_asking-outside x.phase k.0) (refl, refl))
 
 -- Reminders
 

@@ -10,7 +10,7 @@ use Rattle.requester.specs.declared.state.ClientState.{ClientState}
 use Rattle.requester.specs.declared.state.Seen.TheVariants.{Nothing}
 use Rattle.requester.specs.Words.{held_of, holds, last_of, is_relinquished, is_inquired}
 use Rattle.requester.specs.Soundness.{HasPlaces}
-use Rattle.requester.specs.Steps.{Outcome, silent, tell, relinquish, relinquish_if, relinquish_each}
+use Rattle.requester.specs.Steps.{Outcome, no_effect, tell, relinquish, relinquish_if, relinquish_each}
 use Rattle.requester.proofs.Members.{absurd-true_false, has-with_voter, has-without_voter, get_or-some_below}
 use Rattle.numbers.proofs.Lists.{AllByRecursion-weaker, AllByRecursion-append}
 
@@ -51,8 +51,8 @@ pub record GivesBack (x : ClientState) (o : Outcome) : Type 0 where
   pub votes : (v : ℕ) → Kept x o.state v ⊎ (Given x o.state v × Contains o.out (giving x v))
   pub out : AllByRecursion (IsGiving x o.state) o.out
 
-pub GivesBack-silent : (x : ClientState) → HasPlaces x → GivesBack x (silent x)
-GivesBack-silent x places = record {
+pub GivesBack-no_effect : (x : ClientState) → HasPlaces x → GivesBack x (no_effect x)
+GivesBack-no_effect x places = record {
   id = refl;
   limit = refl;
   clock = refl;
@@ -127,7 +127,7 @@ GivesBack-then x a b k l = record {
     later m q = later_by m q (k.votes m.voter)
 
 GivesBack-relinquish_if : (b : Bool) (x : ClientState) (v : ℕ) → HasPlaces x → holds x v ≡ b → GivesBack x (relinquish_if b x v)
-GivesBack-relinquish_if false x v places e = GivesBack-silent x places
+GivesBack-relinquish_if false x v places e = GivesBack-no_effect x places
 GivesBack-relinquish_if true x v places e =
     let o = relinquish_if true x v in
     let place : v < length x.held = get_or-some_below x.held v e in
@@ -171,7 +171,7 @@ unfolding relinquish
 GivesBack-relinquish x v places = GivesBack-relinquish_if (holds x v) x v places refl
 
 pub GivesBack-relinquish_each : (x : ClientState) (vs : List ℕ) → HasPlaces x → GivesBack x (relinquish_each x vs)
-GivesBack-relinquish_each x [] places = GivesBack-silent x places
+GivesBack-relinquish_each x [] places = GivesBack-no_effect x places
 GivesBack-relinquish_each x (v ∷ vs) places =
     let one = GivesBack-relinquish x v places in
     GivesBack-then x (relinquish x v) (relinquish_each (relinquish x v).state vs) one (GivesBack-relinquish_each (relinquish x v).state vs one.places)

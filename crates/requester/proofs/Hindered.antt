@@ -12,13 +12,13 @@ use Rattle.message.specs.declared.message.ClientBody.TheVariants as to_client
 use Rattle.requester.specs.declared.state.ClientState.{ClientState}
 use Rattle.requester.specs.Words.{is_asking, members, is_member, held_of, holds, holds_under, last_of, is_failed, is_inquired, is_relinquished, is_hindered, with_voter}
 use Rattle.requester.specs.Soundness.{HasPlaces, IsSound}
-use Rattle.requester.specs.Steps.{Outcome, relinquish, relinquish_if, relinquish_each, fail, failed, failed_by, inquired, inquired_by, hold, is_fresh, locked, locked_by, enter_if}
+use Rattle.requester.specs.Steps.{Outcome, relinquish, relinquish_if, relinquish_each, fail, take_fail, take_fail_by, take_inquire, take_inquire_by, hold, is_fresh, take_locked, take_locked_by, enter_if}
 use Rattle.requester.specs.Steps.{see, take, take_body}
 use Rattle.requester.specs.Held.{IsGivenBack, KeepsMark}
 use Rattle.requester.proofs.Members.{absurd-true_false, get_or-some_below, has-without_voter-other}
 use Rattle.std.proofs.lemmas.List.{get_or-set_same, get_or-set_other}
 use Rattle.requester.proofs.Giving.{Given, giving, GivesBack-relinquish}
-use Rattle.requester.proofs.SoundSteps.{Counts, Counts-is_fresh, GivesBack-failed_by, IsSound-see}
+use Rattle.requester.proofs.SoundSteps.{Counts, Counts-is_fresh, GivesBack-take_fail_by, IsSound-see}
 
 list_any-member : (p : ℕ → Bool) (v : ℕ) (vs : List ℕ) → has vs v ≡ true → p v ≡ true → list_any p vs ≡ true
 list_any-member p v [] is passes = absurd (false≢true is)
@@ -36,17 +36,17 @@ has_with-before s v u below is = has-set_where (λ i. eqb i v || has s i) u belo
 
 -- giving back leaves the failed marks, keeps the marks of what was given back, and adds its own
 
-failed-relinquish_if : (b : Bool) (x : ClientState) (v : ℕ) → (relinquish_if b x v).state.failed ≡ x.failed
-failed-relinquish_if false x v = refl
-failed-relinquish_if true x v = refl
+take_fail-relinquish_if : (b : Bool) (x : ClientState) (v : ℕ) → (relinquish_if b x v).state.failed ≡ x.failed
+take_fail-relinquish_if false x v = refl
+take_fail-relinquish_if true x v = refl
 
-failed-relinquish : (x : ClientState) (v : ℕ) → (relinquish x v).state.failed ≡ x.failed
+take_fail-relinquish : (x : ClientState) (v : ℕ) → (relinquish x v).state.failed ≡ x.failed
 unfolding relinquish
-failed-relinquish x v = failed-relinquish_if (holds x v) x v
+take_fail-relinquish x v = take_fail-relinquish_if (holds x v) x v
 
-failed-relinquish_each : (x : ClientState) (vs : List ℕ) → (relinquish_each x vs).state.failed ≡ x.failed
-failed-relinquish_each x [] = refl
-failed-relinquish_each x (v ∷ vs) = failed-relinquish_each (relinquish x v).state vs ∙ failed-relinquish x v
+take_fail-relinquish_each : (x : ClientState) (vs : List ℕ) → (relinquish_each x vs).state.failed ≡ x.failed
+take_fail-relinquish_each x [] = refl
+take_fail-relinquish_each x (v ∷ vs) = take_fail-relinquish_each (relinquish x v).state vs ∙ take_fail-relinquish x v
 
 marked-relinquish_if : (b : Bool) (x : ClientState) (v u : ℕ) → u < 64 → is_relinquished x u ≡ true → is_relinquished (relinquish_if b x v).state u ≡ true
 marked-relinquish_if false x v u below is = is
@@ -70,13 +70,13 @@ now-relinquish x v held below = now-relinquish_if (holds x v) x v held below
 
 -- FAIL that counts hinders
 
-hinders-failed_by : (b : Bool) (x : ClientState) (v : ℕ) → b ≡ true → is_member x v ≡ true → IsSound x → is_hindered (failed_by b x v).state ≡ true
-hinders-failed_by false x v counts member s = absurd (false≢true counts)
-hinders-failed_by true x v counts member s =
-    let o = failed_by true x v in
-    let k = GivesBack-failed_by x v s.places in
+hinders-take_fail_by : (b : Bool) (x : ClientState) (v : ℕ) → b ≡ true → is_member x v ≡ true → IsSound x → is_hindered (take_fail_by b x v).state ≡ true
+hinders-take_fail_by false x v counts member s = absurd (false≢true counts)
+hinders-take_fail_by true x v counts member s =
+    let o = take_fail_by true x v in
+    let k = GivesBack-take_fail_by x v s.places in
     let below = has-IsSet_below (members x) v s.quorum member in
-    let mark : is_failed o.state v ≡ true = ap (λ l. has l v) (failed-relinquish_each (fail x v) (filter (is_inquired (fail x v)) (members x))) ∙ has_with-self x.failed v below in
+    let mark : is_failed o.state v ≡ true = ap (λ l. has l v) (take_fail-relinquish_each (fail x v) (filter (is_inquired (fail x v)) (members x))) ∙ has_with-self x.failed v below in
     let there : has (members o.state) v ≡ true = ap (λ q. has q.items v) k.quorum ∙ member in
     list_any-member (λ u. is_failed o.state u || is_relinquished o.state u) v (members o.state) there (or_left (is_failed o.state v) (is_relinquished o.state v) mark)
 
@@ -84,11 +84,11 @@ all_true : (a b c d : Bool) → a ≡ true → b ≡ true → c ≡ true → d �
 all_true a b c d e f g h = grind (arith, nat_tests)
 
 -- FAIL of the present request, from a member whose vote is not held: the client is hindered afterwards
-pub hinders-fail : (x : ClientState) (v : ℕ) → is_asking x.phase ≡ true → is_member x v ≡ true → holds x v ≡ false → IsSound x → is_hindered (failed x v x.stamp).state ≡ true
-unfolding failed
+pub hinders-fail : (x : ClientState) (v : ℕ) → is_asking x.phase ≡ true → is_member x v ≡ true → holds x v ≡ false → IsSound x → is_hindered (take_fail x v x.stamp).state ≡ true
+unfolding take_fail
 hinders-fail x v asking member free s =
     let now : (x.stamp == x.stamp) ≡ true = eq-eqb x.stamp x.stamp refl in
-    hinders-failed_by _ x v (all_true (is_asking x.phase) (x.stamp == x.stamp) (is_member x v) (holds x v) asking now member free) member s
+    hinders-take_fail_by _ x v (all_true (is_asking x.phase) (x.stamp == x.stamp) (is_member x v) (holds x v) asking now member free) member s
 
 -- INQUIRE of a held grant, while hindered: the vote is given back, with its message and its mark
 pub record IsReturned (x : ClientState) (o : Outcome) (v : ℕ) : Type 0 where
@@ -110,16 +110,16 @@ returned-relinquish x v held below places = elim ((GivesBack-relinquish x v plac
   | inr given ↦ record { given = given.0; sent = given.1; mark = now-relinquish x v held below }
 ]
 
-returned-inquired_by : (b hindered : Bool) (x : ClientState) (v : ℕ) → b ≡ true → hindered ≡ true → holds x v ≡ true → v < 64 → HasPlaces x → IsReturned x (inquired_by b hindered x v) v
-returned-inquired_by false hindered x v b h held below places = absurd (false≢true b)
-returned-inquired_by true false x v b h held below places = absurd (false≢true h)
-returned-inquired_by true true x v b h held below places = returned-relinquish x v held below places
+returned-take_inquire_by : (b hindered : Bool) (x : ClientState) (v : ℕ) → b ≡ true → hindered ≡ true → holds x v ≡ true → v < 64 → HasPlaces x → IsReturned x (take_inquire_by b hindered x v) v
+returned-take_inquire_by false hindered x v b h held below places = absurd (false≢true b)
+returned-take_inquire_by true false x v b h held below places = absurd (false≢true h)
+returned-take_inquire_by true true x v b h held below places = returned-relinquish x v held below places
 
-pub returned-inquire : (x : ClientState) (v : ℕ) → is_asking x.phase ≡ true → holds x v ≡ true → is_hindered x ≡ true → v < 64 → HasPlaces x → IsReturned x (inquired x v (held_of x v)) v
-unfolding inquired
+pub returned-inquire : (x : ClientState) (v : ℕ) → is_asking x.phase ≡ true → holds x v ≡ true → is_hindered x ≡ true → v < 64 → HasPlaces x → IsReturned x (take_inquire x v (held_of x v)) v
+unfolding take_inquire
 returned-inquire x v asking held hindered below places =
     let under : holds_under x v (held_of x v) ≡ true = and_from (holds x v) (held_of x v == held_of x v) held (eq-eqb (held_of x v) (held_of x v) refl) in
-    returned-inquired_by _ _ x v (and_from (is_asking x.phase) (holds_under x v (held_of x v)) asking under) hindered held below places
+    returned-take_inquire_by _ _ x v (and_from (is_asking x.phase) (holds_under x v (held_of x v)) asking under) hindered held below places
 
 -- ---- any message
 
@@ -183,16 +183,16 @@ from_Marks : (x y : ClientState) (u : ℕ) → Marks x y u → KeepsMark x y u
 from_Marks x y u (inl a) = inl (a.1, λ m. inl (a.2 m))
 from_Marks x y u (inr a) = inr (a.0, a.1, a.2)
 
-marks-failed_by : (b : Bool) (x : ClientState) (v u : ℕ) → HasPlaces x → u < 64 → KeepsMark x (failed_by b x v).state u
-marks-failed_by false x v u places below = inl (refl, λ m. inl m)
-marks-failed_by true x v u places below =
+marks-take_fail_by : (b : Bool) (x : ClientState) (v u : ℕ) → HasPlaces x → u < 64 → KeepsMark x (take_fail_by b x v).state u
+marks-take_fail_by false x v u places below = inl (refl, λ m. inl m)
+marks-take_fail_by true x v u places below =
     let y = fail x v in
-    from_Marks x (failed_by true x v).state u (Marks-relinquish_each y (filter (is_inquired y) (members y)) u (record { held = places.held; last = places.last }) below)
+    from_Marks x (take_fail_by true x v).state u (Marks-relinquish_each y (filter (is_inquired y) (members y)) u (record { held = places.held; last = places.last }) below)
 
-marks-inquired_by : (b hindered : Bool) (x : ClientState) (v u : ℕ) → HasPlaces x → u < 64 → KeepsMark x (inquired_by b hindered x v).state u
-marks-inquired_by false hindered x v u places below = inl (refl, λ m. inl m)
-marks-inquired_by true false x v u places below = inl (refl, λ m. inl m)
-marks-inquired_by true true x v u places below = from_Marks x (relinquish x v).state u (Marks-relinquish x v u places below)
+marks-take_inquire_by : (b hindered : Bool) (x : ClientState) (v u : ℕ) → HasPlaces x → u < 64 → KeepsMark x (take_inquire_by b hindered x v).state u
+marks-take_inquire_by false hindered x v u places below = inl (refl, λ m. inl m)
+marks-take_inquire_by true false x v u places below = inl (refl, λ m. inl m)
+marks-take_inquire_by true true x v u places below = from_Marks x (relinquish x v).state u (Marks-relinquish x v u places below)
 
 -- a vote that is held loses its mark, and the others keep theirs
 marks-hold : (x : ClientState) (v g u : ℕ) → Counts x v g → HasPlaces x → u < 64 → KeepsMark x (hold x v g) u
@@ -215,16 +215,16 @@ marks-enter : (b : Bool) (x y : ClientState) (u : ℕ) → KeepsMark x y u → K
 marks-enter false x y u k = k
 marks-enter true x y u k = k
 
-marks-locked_by : (current fresh : Bool) (x : ClientState) (v t g u : ℕ) → is_fresh x v g ≡ fresh → IsSound x → u < 64 → KeepsMark x (locked_by current fresh x v t g).state u
-marks-locked_by false fresh x v t g u f s below = inl (refl, λ m. inl m)
-marks-locked_by true false x v t g u f s below = inl (refl, λ m. inl m)
-marks-locked_by true true x v t g u f s below = marks-enter _ x (hold x v g) u (marks-hold x v g u (Counts-is_fresh x v g s f) s.places below)
+marks-take_locked_by : (current fresh : Bool) (x : ClientState) (v t g u : ℕ) → is_fresh x v g ≡ fresh → IsSound x → u < 64 → KeepsMark x (take_locked_by current fresh x v t g).state u
+marks-take_locked_by false fresh x v t g u f s below = inl (refl, λ m. inl m)
+marks-take_locked_by true false x v t g u f s below = inl (refl, λ m. inl m)
+marks-take_locked_by true true x v t g u f s below = marks-enter _ x (hold x v g) u (marks-hold x v g u (Counts-is_fresh x v g s f) s.places below)
 
 marks-body : (x : ClientState) (v : ℕ) (b : ClientBody) (u : ℕ) → IsSound x → u < 64 → KeepsMark x (take_body x v b).state u
-unfolding locked failed inquired
-marks-body x v (to_client.Locked t g) u s below = marks-locked_by _ _ x v t g u refl s below
-marks-body x v (to_client.Fail t) u s below = marks-failed_by _ x v u s.places below
-marks-body x v (to_client.Inquire g) u s below = marks-inquired_by _ _ x v u s.places below
+unfolding take_locked take_fail take_inquire
+marks-body x v (to_client.Locked t g) u s below = marks-take_locked_by _ _ x v t g u refl s below
+marks-body x v (to_client.Fail t) u s below = marks-take_fail_by _ x v u s.places below
+marks-body x v (to_client.Inquire g) u s below = marks-take_inquire_by _ _ x v u s.places below
 
 pub marks-take : (x : ClientState) (m : ToClient) (u : ℕ) → IsSound x → u < 64 → KeepsMark x (take x m).state u
 unfolding take

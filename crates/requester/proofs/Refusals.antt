@@ -6,7 +6,7 @@ use Rattle.requester.specs.declared.state.Phase.TheVariants.{Idle, Asking, Insid
 use Rattle.requester.specs.declared.state.Seen.TheVariants.{Nothing, Left}
 use Rattle.requester.specs.declared.state.ClientState.{ClientState}
 use Rattle.requester.specs.Words.{is_idle, is_asking, is_inside, is_spent}
-use Rattle.requester.specs.Steps.{Outcome, ask, ask_in, ask_unless, asked, leave, leave_in, give_up, give_up_in, released}
+use Rattle.requester.specs.Steps.{Outcome, ask, ask_in, ask_unless, send_requests, leave, leave_in, give_up, give_up_in, end_request}
 use Rattle.requester.proofs.Members.{absurd-true_false}
 
 ask_in-busy : (p : Phase) (x : ClientState) (q : List ℕ) → is_idle p ≡ false → ask_in p x q ≡ Err Busy
@@ -27,12 +27,12 @@ pub ask-spent : (x : ClientState) (q : List ℕ) → is_idle x.phase ≡ true �
 unfolding ask
 ask-spent x q e f = ask_in-idle x.phase x q e ∙ ap (λ b. ask_unless b x q) f
 
-pub ask-unspent : (x : ClientState) (q : List ℕ) → is_idle x.phase ≡ true → is_spent x ≡ false → ask x q ≡ Ok (asked x q)
+pub ask-unspent : (x : ClientState) (q : List ℕ) → is_idle x.phase ≡ true → is_spent x ≡ false → ask x q ≡ Ok (send_requests x q)
 unfolding ask
 ask-unspent x q e f = ask_in-idle x.phase x q e ∙ ap (λ b. ask_unless b x q) f
 
 pub ask-may : (x : ClientState) → x.phase ≡ Idle → is_spent x ≡ false → (q : List ℕ) → (o : Outcome) × (ask x q ≡ Ok o)
-ask-may x e f q = (asked x q, ask-unspent x q (ap is_idle e) f)
+ask-may x e f q = (send_requests x q, ask-unspent x q (ap is_idle e) f)
 
 leave_in-outside : (p : Phase) (x : ClientState) → is_inside p ≡ false → leave_in p x ≡ Err NotInside
 leave_in-outside Idle x e = refl
@@ -43,17 +43,17 @@ pub leave-outside : (x : ClientState) → is_inside x.phase ≡ false → leave 
 unfolding leave
 leave-outside x e = leave_in-outside x.phase x e
 
-leave_in-inside : (p : Phase) (x : ClientState) → is_inside p ≡ true → leave_in p x ≡ Ok (released x Left)
+leave_in-inside : (p : Phase) (x : ClientState) → is_inside p ≡ true → leave_in p x ≡ Ok (end_request x Left)
 leave_in-inside Idle x e = absurd-true_false false e refl
 leave_in-inside Asking x e = absurd-true_false false e refl
 leave_in-inside Inside x e = refl
 
-pub leave-inside : (x : ClientState) → is_inside x.phase ≡ true → leave x ≡ Ok (released x Left)
+pub leave-inside : (x : ClientState) → is_inside x.phase ≡ true → leave x ≡ Ok (end_request x Left)
 unfolding leave
 leave-inside x e = leave_in-inside x.phase x e
 
 pub leave-may : (x : ClientState) → x.phase ≡ Inside → (o : Outcome) × (leave x ≡ Ok o)
-leave-may x e = (released x Left, leave-inside x (ap is_inside e))
+leave-may x e = (end_request x Left, leave-inside x (ap is_inside e))
 
 give_up_in-not_asking : (p : Phase) (x : ClientState) → is_asking p ≡ false → give_up_in p x ≡ Err NotAsking
 give_up_in-not_asking Idle x e = refl
@@ -64,14 +64,14 @@ pub give_up-not_asking : (x : ClientState) → is_asking x.phase ≡ false → g
 unfolding give_up
 give_up-not_asking x e = give_up_in-not_asking x.phase x e
 
-give_up_in-asking : (p : Phase) (x : ClientState) → is_asking p ≡ true → give_up_in p x ≡ Ok (released x Nothing)
+give_up_in-asking : (p : Phase) (x : ClientState) → is_asking p ≡ true → give_up_in p x ≡ Ok (end_request x Nothing)
 give_up_in-asking Idle x e = absurd-true_false false e refl
 give_up_in-asking Asking x e = refl
 give_up_in-asking Inside x e = absurd-true_false false e refl
 
-pub give_up-asking : (x : ClientState) → is_asking x.phase ≡ true → give_up x ≡ Ok (released x Nothing)
+pub give_up-asking : (x : ClientState) → is_asking x.phase ≡ true → give_up x ≡ Ok (end_request x Nothing)
 unfolding give_up
 give_up-asking x e = give_up_in-asking x.phase x e
 
 pub give_up-may : (x : ClientState) → x.phase ≡ Asking → (o : Outcome) × (give_up x ≡ Ok o)
-give_up-may x e = (released x Nothing, give_up-asking x (ap is_asking e))
+give_up-may x e = (end_request x Nothing, give_up-asking x (ap is_asking e))

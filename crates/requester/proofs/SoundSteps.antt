@@ -20,8 +20,8 @@ use Rattle.requester.specs.declared.state.ClientState.{ClientState}
 use Rattle.requester.specs.Words.{is_idle, is_asking, is_inside, members, is_member, is_current, held_of, holds, holds_under, is_covered, last_of, is_relinquished, is_inquired, is_spent}
 use Rattle.requester.specs.Soundness.{IsHeldWell, HasPlaces, IsSound}
 use Rattle.requester.specs.RequesterContract.{Accepts}
-use Rattle.requester.specs.Steps.{Outcome, cleared, begun, asked, ask, ask_in, ask_unless, is_fresh, hold, enter_if, locked, locked_by, fail, failed, failed_by, inquire, inquired}
-use Rattle.requester.specs.Steps.{inquired_by, see, take_body, take, released, leave, leave_in, give_up, give_up_in, Cause, Asks, Takes, Leaves, GivesUp, step, start}
+use Rattle.requester.specs.Steps.{Outcome, clear_votes, begin_request, send_requests, ask, ask_in, ask_unless, is_fresh, hold, enter_if, take_locked, take_locked_by, fail, take_fail, take_fail_by, inquire, take_inquire}
+use Rattle.requester.specs.Steps.{take_inquire_by, see, take_body, take, end_request, leave, leave_in, give_up, give_up_in, Cause, Asks, Takes, Leaves, GivesUp, step, start}
 use Rattle.requester.proofs.Members.{absurd-true_false, list_all-member, has-with_voter, has-without_voter}
 use Rattle.requester.proofs.Giving.{GivesBack, IsGiving, Kept, Given, GivesBack-relinquish, GivesBack-relinquish_each}
 
@@ -119,7 +119,7 @@ is_current-busy x s e =
 pub record HoldsMore (x y : ClientState) (v g : ℕ) : Type 0 where
   pub held : held_of y v ≡ g
   pub other_held : (u : ℕ) → u ≢ v → held_of y u ≡ held_of x u
-  pub inquired : (u : ℕ) → is_inquired y u ≡ true → (u ≢ v) × (is_inquired x u ≡ true)
+  pub take_inquire : (u : ℕ) → is_inquired y u ≡ true → (u ≢ v) × (is_inquired x u ≡ true)
   pub relinquished : (u : ℕ) → is_relinquished y u ≡ true → (u ≢ v) × (is_relinquished x u ≡ true)
 
 pub HoldsMore-hold : (x : ClientState) (v g : ℕ) → HasPlaces x → v < 64 → HoldsMore x (hold x v g) v g
@@ -182,19 +182,19 @@ IsSound-enter : (b : Bool) (x : ClientState) (v g : ℕ) → IsSound x → Count
 IsSound-enter false x v g s c busy e = IsSound-hold x x.phase v g s c busy busy (λ inside. absurd-true_false (is_inside x.phase) inside (is_inside-from_Counts x v g s c))
 IsSound-enter true x v g s c busy e = IsSound-hold x Inside v g s c busy refl (λ _. e)
 
-IsSound-locked_by : (current fresh : Bool) (x : ClientState) (v t g : ℕ) → IsSound x → is_current x t ≡ current → is_fresh x v g ≡ fresh → IsSound (locked_by current fresh x v t g).state
-IsSound-locked_by false fresh x v t g s c f = s
-IsSound-locked_by true false x v t g s c f = s
-IsSound-locked_by true true x v t g s c f = IsSound-enter _ x v g s (Counts-is_fresh x v g s f) (is_current-busy x t c).0 refl
+IsSound-take_locked_by : (current fresh : Bool) (x : ClientState) (v t g : ℕ) → IsSound x → is_current x t ≡ current → is_fresh x v g ≡ fresh → IsSound (take_locked_by current fresh x v t g).state
+IsSound-take_locked_by false fresh x v t g s c f = s
+IsSound-take_locked_by true false x v t g s c f = s
+IsSound-take_locked_by true true x v t g s c f = IsSound-enter _ x v g s (Counts-is_fresh x v g s f) (is_current-busy x t c).0 refl
 
 -- FAIL and INQUIRE
 
-pub GivesBack-failed_by : (x : ClientState) (v : ℕ) → HasPlaces x → GivesBack x (failed_by true x v)
-GivesBack-failed_by x v places =
+pub GivesBack-take_fail_by : (x : ClientState) (v : ℕ) → HasPlaces x → GivesBack x (take_fail_by true x v)
+GivesBack-take_fail_by x v places =
     let y = fail x v in
     let there : HasPlaces y = record { held = places.held; last = places.last } in
     let k = GivesBack-relinquish_each y (filter (is_inquired y) (members y)) there in
-    let o = failed_by true x v in
+    let o = take_fail_by true x v in
     record {
       id = k.id;
       limit = k.limit;
@@ -212,9 +212,9 @@ GivesBack-failed_by x v places =
           (λ m p. let g = p.vote in record { client = p.client; vote = record { was = g.was; gone = g.gone; last = g.last; inquired = g.inquired }; body = p.body }) o.out k.out;
     }
 
-IsSound-failed_by : (b : Bool) (x : ClientState) (v : ℕ) → IsSound x → (b ≡ true → is_asking x.phase ≡ true) → IsSound (failed_by b x v).state
-IsSound-failed_by false x v s asking = s
-IsSound-failed_by true x v s asking = IsSound-GivesBack x (failed_by true x v) s (is_asking-outside x.phase (asking refl)) (GivesBack-failed_by x v s.places)
+IsSound-take_fail_by : (b : Bool) (x : ClientState) (v : ℕ) → IsSound x → (b ≡ true → is_asking x.phase ≡ true) → IsSound (take_fail_by b x v).state
+IsSound-take_fail_by false x v s asking = s
+IsSound-take_fail_by true x v s asking = IsSound-GivesBack x (take_fail_by true x v) s (is_asking-outside x.phase (asking refl)) (GivesBack-take_fail_by x v s.places)
 
 pub is_asking-from_failed : (x : ClientState) (v t : ℕ) → (is_asking x.phase && t == x.stamp && is_member x v && not (holds x v)) ≡ true → is_asking x.phase ≡ true
 is_asking-from_failed x v t e = grind (arith, nat_tests)
@@ -251,19 +251,19 @@ IsSound-inquire x v s h =
       | inr was ↦ s.inquired u was
     ])
 
-IsSound-inquired_by : (b hindered : Bool) (x : ClientState) (v g : ℕ) → IsSound x → (is_asking x.phase && holds_under x v g) ≡ b → IsSound (inquired_by b hindered x v).state
-IsSound-inquired_by false hindered x v g s e = s
-IsSound-inquired_by true false x v g s e = IsSound-inquire x v s (holds_under-holds x v g (and_parts (is_asking x.phase) (holds_under x v g) e).1)
-IsSound-inquired_by true true x v g s e = IsSound-GivesBack x (inquired_by true true x v) s (is_asking-outside x.phase (and_parts (is_asking x.phase) (holds_under x v g) e).0)
+IsSound-take_inquire_by : (b hindered : Bool) (x : ClientState) (v g : ℕ) → IsSound x → (is_asking x.phase && holds_under x v g) ≡ b → IsSound (take_inquire_by b hindered x v).state
+IsSound-take_inquire_by false hindered x v g s e = s
+IsSound-take_inquire_by true false x v g s e = IsSound-inquire x v s (holds_under-holds x v g (and_parts (is_asking x.phase) (holds_under x v g) e).1)
+IsSound-take_inquire_by true true x v g s e = IsSound-GivesBack x (take_inquire_by true true x v) s (is_asking-outside x.phase (and_parts (is_asking x.phase) (holds_under x v g) e).0)
     (GivesBack-relinquish x v s.places)
 
 -- Any message
 
 IsSound-body : (x : ClientState) (v : ℕ) (b : ClientBody) → IsSound x → IsSound (take_body x v b).state
-unfolding locked failed inquired
-IsSound-body x v (to_client.Locked t g) s = IsSound-locked_by _ _ x v t g s refl refl
-IsSound-body x v (to_client.Fail t) s = IsSound-failed_by _ x v s (is_asking-from_failed x v t)
-IsSound-body x v (to_client.Inquire g) s = IsSound-inquired_by _ _ x v g s refl
+unfolding take_locked take_fail take_inquire
+IsSound-body x v (to_client.Locked t g) s = IsSound-take_locked_by _ _ x v t g s refl refl
+IsSound-body x v (to_client.Fail t) s = IsSound-take_fail_by _ x v s (is_asking-from_failed x v t)
+IsSound-body x v (to_client.Inquire g) s = IsSound-take_inquire_by _ _ x v g s refl
 
 pub IsSound-see : (x : ClientState) (t : ℕ) → IsSound x → IsSound (see x t)
 IsSound-see x t s = IsSound-raised x (see x t).clock x.inquired s (omega arith) s.inquired
@@ -274,15 +274,15 @@ IsSound-take x m s = IsSound-body (see x m.seen) m.voter m.body (IsSound-see x m
 
 -- Calls
 
-pub HasPlaces-cleared : (x : ClientState) → HasPlaces x → HasPlaces (cleared x)
-HasPlaces-cleared x p = record { held = refl; last = p.last }
+pub HasPlaces-clear_votes : (x : ClientState) → HasPlaces x → HasPlaces (clear_votes x)
+HasPlaces-clear_votes x p = record { held = refl; last = p.last }
 
-cleared-holds_nothing : {A : Type 0} (x : ClientState) (v : ℕ) → holds (cleared x) v ≡ true → A
-cleared-holds_nothing x v h = absurd-true_false (holds (cleared x) v) h (ap (ltb 0) (slice_index-replicate_zero 64 v))
+clear_votes-holds_nothing : {A : Type 0} (x : ClientState) (v : ℕ) → holds (clear_votes x) v ≡ true → A
+clear_votes-holds_nothing x v h = absurd-true_false (holds (clear_votes x) v) h (ap (ltb 0) (slice_index-replicate_zero 64 v))
 
-IsSound-asked : (x : ClientState) (q : List ℕ) → IsSound x → IsSet q → 1 ≤ length q → x.clock < x.limit → IsSound (begun x q)
-IsSound-asked x q s set some room =
-    let p = HasPlaces-cleared x s.places in
+IsSound-send_requests : (x : ClientState) (q : List ℕ) → IsSound x → IsSet q → 1 ≤ length q → x.clock < x.limit → IsSound (begin_request x q)
+IsSound-send_requests x q s set some room =
+    let p = HasPlaces-clear_votes x s.places in
     record {
       id = s.id;
       some = s.some;
@@ -293,15 +293,15 @@ IsSound-asked x q s set some room =
       stamped = λ _. omega arith;
       quorum = set;
       asked = λ _. some;
-      held = λ v h. cleared-holds_nothing x v h;
+      held = λ v h. clear_votes-holds_nothing x v h;
       inside = λ inside. absurd-true_false false inside refl;
       inquired = λ v h. absurd-true_false false h refl;
       relinquished = λ v h. absurd-true_false false h refl;
     }
 
-IsSound-released : (x : ClientState) (seen : Seen) → IsSound x → IsSound (released x seen).state
-IsSound-released x seen s =
-    let p = HasPlaces-cleared x s.places in
+IsSound-end_request : (x : ClientState) (seen : Seen) → IsSound x → IsSound (end_request x seen).state
+IsSound-end_request x seen s =
+    let p = HasPlaces-clear_votes x s.places in
     record {
       id = s.id;
       some = s.some;
@@ -312,7 +312,7 @@ IsSound-released x seen s =
       stamped = λ busy. absurd-true_false true refl busy;
       quorum = s.quorum;
       asked = λ busy. absurd-true_false true refl busy;
-      held = λ v h. cleared-holds_nothing x v h;
+      held = λ v h. clear_votes-holds_nothing x v h;
       inside = λ inside. absurd-true_false false inside refl;
       inquired = λ v h. absurd-true_false false h refl;
       relinquished = λ v h. absurd-true_false false h refl;
@@ -326,48 +326,48 @@ Ok-same a b e = same_Some a b (ap result_ok e)
 Err-not_Ok : {A E B : Type 0} (f : E) (b : B) → ◌≡◌ {A = Result B E} (Err f) (Ok b) → A
 Err-not_Ok f b e = absurd-true_false true refl (ap is_err e)
 
-ask_unless-Ok : (b : Bool) (x : ClientState) (q : List ℕ) (o : Outcome) → ask_unless b x q ≡ Ok o → (b ≡ false) × (asked x q ≡ o)
+ask_unless-Ok : (b : Bool) (x : ClientState) (q : List ℕ) (o : Outcome) → ask_unless b x q ≡ Ok o → (b ≡ false) × (send_requests x q ≡ o)
 ask_unless-Ok true x q o e = Err-not_Ok _ o e
-ask_unless-Ok false x q o e = (refl, Ok-same (asked x q) o e)
+ask_unless-Ok false x q o e = (refl, Ok-same (send_requests x q) o e)
 
-ask_in-Ok : (p : Phase) (x : ClientState) (q : List ℕ) (o : Outcome) → ask_in p x q ≡ Ok o → (is_idle p ≡ true) × (is_spent x ≡ false) × (asked x q ≡ o)
+ask_in-Ok : (p : Phase) (x : ClientState) (q : List ℕ) (o : Outcome) → ask_in p x q ≡ Ok o → (is_idle p ≡ true) × (is_spent x ≡ false) × (send_requests x q ≡ o)
 ask_in-Ok Idle x q o e = let k = ask_unless-Ok (is_spent x) x q o e in (refl, k.0, k.1)
 ask_in-Ok Asking x q o e = Err-not_Ok _ o e
 ask_in-Ok Inside x q o e = Err-not_Ok _ o e
 
 -- an ask that is not refused
-pub ask-Ok : (x : ClientState) (q : List ℕ) (o : Outcome) → ask x q ≡ Ok o → (is_idle x.phase ≡ true) × (x.clock < x.limit) × (asked x q ≡ o)
+pub ask-Ok : (x : ClientState) (q : List ℕ) (o : Outcome) → ask x q ≡ Ok o → (is_idle x.phase ≡ true) × (x.clock < x.limit) × (send_requests x q ≡ o)
 unfolding ask
 ask-Ok x q o e = let k = ask_in-Ok x.phase x q o e in let spent = k.1 in (k.0, grind (arith, nat_tests), k.2)
 
-leave_in-Ok : (p : Phase) (x : ClientState) (o : Outcome) → leave_in p x ≡ Ok o → (is_inside p ≡ true) × (released x Left ≡ o)
+leave_in-Ok : (p : Phase) (x : ClientState) (o : Outcome) → leave_in p x ≡ Ok o → (is_inside p ≡ true) × (end_request x Left ≡ o)
 leave_in-Ok Idle x o e = Err-not_Ok _ o e
 leave_in-Ok Asking x o e = Err-not_Ok _ o e
-leave_in-Ok Inside x o e = (refl, Ok-same (released x Left) o e)
+leave_in-Ok Inside x o e = (refl, Ok-same (end_request x Left) o e)
 
-pub leave-Ok : (x : ClientState) (o : Outcome) → leave x ≡ Ok o → (is_inside x.phase ≡ true) × (released x Left ≡ o)
+pub leave-Ok : (x : ClientState) (o : Outcome) → leave x ≡ Ok o → (is_inside x.phase ≡ true) × (end_request x Left ≡ o)
 unfolding leave
 leave-Ok x o e = leave_in-Ok x.phase x o e
 
-give_up_in-Ok : (p : Phase) (x : ClientState) (o : Outcome) → give_up_in p x ≡ Ok o → (is_asking p ≡ true) × (released x Nothing ≡ o)
+give_up_in-Ok : (p : Phase) (x : ClientState) (o : Outcome) → give_up_in p x ≡ Ok o → (is_asking p ≡ true) × (end_request x Nothing ≡ o)
 give_up_in-Ok Idle x o e = Err-not_Ok _ o e
-give_up_in-Ok Asking x o e = (refl, Ok-same (released x Nothing) o e)
+give_up_in-Ok Asking x o e = (refl, Ok-same (end_request x Nothing) o e)
 give_up_in-Ok Inside x o e = Err-not_Ok _ o e
 
-pub give_up-Ok : (x : ClientState) (o : Outcome) → give_up x ≡ Ok o → (is_asking x.phase ≡ true) × (released x Nothing ≡ o)
+pub give_up-Ok : (x : ClientState) (o : Outcome) → give_up x ≡ Ok o → (is_asking x.phase ≡ true) × (end_request x Nothing ≡ o)
 unfolding give_up
 give_up-Ok x o e = give_up_in-Ok x.phase x o e
 
 pub IsSound-ask : (x : ClientState) (q : List ℕ) (o : Outcome) → IsSound x → IsSet q → 1 ≤ length q → ask x q ≡ Ok o → IsSound o.state
 IsSound-ask x q o s set some e =
     let k = ask-Ok x q o e in
-    subst (λ (p : Outcome). IsSound p.state) k.2 (IsSound-asked x q s set some k.1)
+    subst (λ (p : Outcome). IsSound p.state) k.2 (IsSound-send_requests x q s set some k.1)
 
 pub IsSound-leave : (x : ClientState) (o : Outcome) → IsSound x → leave x ≡ Ok o → IsSound o.state
-IsSound-leave x o s e = subst (λ (p : Outcome). IsSound p.state) (leave-Ok x o e).1 (IsSound-released x Left s)
+IsSound-leave x o s e = subst (λ (p : Outcome). IsSound p.state) (leave-Ok x o e).1 (IsSound-end_request x Left s)
 
 pub IsSound-give_up : (x : ClientState) (o : Outcome) → IsSound x → give_up x ≡ Ok o → IsSound o.state
-IsSound-give_up x o s e = subst (λ (p : Outcome). IsSound p.state) (give_up-Ok x o e).1 (IsSound-released x Nothing s)
+IsSound-give_up x o s e = subst (λ (p : Outcome). IsSound p.state) (give_up-Ok x o e).1 (IsSound-end_request x Nothing s)
 
 pub IsSound-step : (x : ClientState) (cause : Cause) (o : Outcome) → IsSound x → Accepts x cause → step x cause ≡ Ok o → IsSound o.state
 unfolding step

@@ -9,10 +9,10 @@ use Rattle.requester.specs.declared.state.ClientState.{ClientState}
 use Rattle.requester.specs.Words.{is_idle, is_inside, is_member, members, held_of, holds}
 use Rattle.requester.specs.Soundness.{IsSound}
 use Rattle.requester.specs.Held.{HoldsBesides, HoldsNothing, IsKeptOrGiven}
-use Rattle.requester.specs.Steps.{Outcome, ask, hold, enter_if, locked, locked_by, failed, failed_by, inquired, inquired_by, see, take, take_body, would_hold, would_hold_body, leave, give_up}
+use Rattle.requester.specs.Steps.{Outcome, ask, hold, enter_if, take_locked, take_locked_by, take_fail, take_fail_by, take_inquire, take_inquire_by, see, take, take_body, would_hold, would_hold_body, leave, give_up}
 use Rattle.requester.proofs.Members.{absurd-true_false, list_all-member}
 use Rattle.requester.proofs.Giving.{GivesBack, GivesBack-relinquish}
-use Rattle.requester.proofs.SoundSteps.{GivesBack-failed_by, IsSound-see, ask-Ok, leave-Ok, give_up-Ok}
+use Rattle.requester.proofs.SoundSteps.{GivesBack-take_fail_by, IsSound-see, ask-Ok, leave-Ok, give_up-Ok}
 
 -- A LOCKED that counts
 
@@ -20,14 +20,14 @@ held-enter_if : (b : Bool) (x : ClientState) → (enter_if b x).state.held ≡ x
 held-enter_if false x = refl
 held-enter_if true x = refl
 
-held-locked_by : (current fresh : Bool) (x : ClientState) (v t g : ℕ) → (current && fresh) ≡ true → (locked_by current fresh x v t g).state.held ≡ set x.held v g
-held-locked_by false fresh x v t g e = absurd-true_false false e refl
-held-locked_by true false x v t g e = absurd-true_false false e refl
-held-locked_by true true x v t g e = held-enter_if _ (hold x v g)
+held-take_locked_by : (current fresh : Bool) (x : ClientState) (v t g : ℕ) → (current && fresh) ≡ true → (take_locked_by current fresh x v t g).state.held ≡ set x.held v g
+held-take_locked_by false fresh x v t g e = absurd-true_false false e refl
+held-take_locked_by true false x v t g e = absurd-true_false false e refl
+held-take_locked_by true true x v t g e = held-enter_if _ (hold x v g)
 
 HoldsBesides-take_body : (x : ClientState) (n v : ℕ) (b : ClientBody) → would_hold_body x v b ≡ true → HoldsBesides x v b (take_body (see x n) v b).state
-unfolding locked
-HoldsBesides-take_body x n v (to_client.Locked t g) e = held-locked_by _ _ (see x n) v t g e
+unfolding take_locked
+HoldsBesides-take_body x n v (to_client.Locked t g) e = held-take_locked_by _ _ (see x n) v t g e
 HoldsBesides-take_body x n v (to_client.Fail t) e = absurd-true_false false e refl
 HoldsBesides-take_body x n v (to_client.Inquire g) e = absurd-true_false false e refl
 
@@ -43,25 +43,25 @@ IsKeptOrGiven-GivesBack x o k v = elim (k.votes v) [
   | inr given ↦ inr (given.0.was, given.0.gone, given.1)
 ]
 
-IsKeptOrGiven-locked_by : (current fresh : Bool) (x : ClientState) (v t g : ℕ) → (current && fresh) ≡ false → (u : ℕ) → IsKeptOrGiven x (locked_by current fresh x v t g) u
-IsKeptOrGiven-locked_by false fresh x v t g e u = inl refl
-IsKeptOrGiven-locked_by true false x v t g e u = inl refl
-IsKeptOrGiven-locked_by true true x v t g e u = absurd-true_false true refl e
+IsKeptOrGiven-take_locked_by : (current fresh : Bool) (x : ClientState) (v t g : ℕ) → (current && fresh) ≡ false → (u : ℕ) → IsKeptOrGiven x (take_locked_by current fresh x v t g) u
+IsKeptOrGiven-take_locked_by false fresh x v t g e u = inl refl
+IsKeptOrGiven-take_locked_by true false x v t g e u = inl refl
+IsKeptOrGiven-take_locked_by true true x v t g e u = absurd-true_false true refl e
 
-IsKeptOrGiven-failed_by : (b : Bool) (x : ClientState) (v : ℕ) → IsSound x → (u : ℕ) → IsKeptOrGiven x (failed_by b x v) u
-IsKeptOrGiven-failed_by false x v s u = inl refl
-IsKeptOrGiven-failed_by true x v s u = IsKeptOrGiven-GivesBack x (failed_by true x v) (GivesBack-failed_by x v s.places) u
+IsKeptOrGiven-take_fail_by : (b : Bool) (x : ClientState) (v : ℕ) → IsSound x → (u : ℕ) → IsKeptOrGiven x (take_fail_by b x v) u
+IsKeptOrGiven-take_fail_by false x v s u = inl refl
+IsKeptOrGiven-take_fail_by true x v s u = IsKeptOrGiven-GivesBack x (take_fail_by true x v) (GivesBack-take_fail_by x v s.places) u
 
-IsKeptOrGiven-inquired_by : (b hindered : Bool) (x : ClientState) (v : ℕ) → IsSound x → (u : ℕ) → IsKeptOrGiven x (inquired_by b hindered x v) u
-IsKeptOrGiven-inquired_by false hindered x v s u = inl refl
-IsKeptOrGiven-inquired_by true false x v s u = inl refl
-IsKeptOrGiven-inquired_by true true x v s u = IsKeptOrGiven-GivesBack x (inquired_by true true x v) (GivesBack-relinquish x v s.places) u
+IsKeptOrGiven-take_inquire_by : (b hindered : Bool) (x : ClientState) (v : ℕ) → IsSound x → (u : ℕ) → IsKeptOrGiven x (take_inquire_by b hindered x v) u
+IsKeptOrGiven-take_inquire_by false hindered x v s u = inl refl
+IsKeptOrGiven-take_inquire_by true false x v s u = inl refl
+IsKeptOrGiven-take_inquire_by true true x v s u = IsKeptOrGiven-GivesBack x (take_inquire_by true true x v) (GivesBack-relinquish x v s.places) u
 
 IsKeptOrGiven-take_body : (x : ClientState) (v : ℕ) (b : ClientBody) → IsSound x → would_hold_body x v b ≡ false → (u : ℕ) → IsKeptOrGiven x (take_body x v b) u
-unfolding locked failed inquired
-IsKeptOrGiven-take_body x v (to_client.Locked t g) s e u = IsKeptOrGiven-locked_by _ _ x v t g e u
-IsKeptOrGiven-take_body x v (to_client.Fail t) s e u = IsKeptOrGiven-failed_by _ x v s u
-IsKeptOrGiven-take_body x v (to_client.Inquire g) s e u = IsKeptOrGiven-inquired_by _ _ x v s u
+unfolding take_locked take_fail take_inquire
+IsKeptOrGiven-take_body x v (to_client.Locked t g) s e u = IsKeptOrGiven-take_locked_by _ _ x v t g e u
+IsKeptOrGiven-take_body x v (to_client.Fail t) s e u = IsKeptOrGiven-take_fail_by _ x v s u
+IsKeptOrGiven-take_body x v (to_client.Inquire g) s e u = IsKeptOrGiven-take_inquire_by _ _ x v s u
 
 would_hold-see : (x : ClientState) (n v : ℕ) (b : ClientBody) → would_hold_body (see x n) v b ≡ would_hold_body x v b
 would_hold-see x n v (to_client.Locked t g) = refl

@@ -26,8 +26,8 @@ pub record Outcome : Type 0 where
   pub state : ClientState
 
 -- no message, nothing seen, and the state stays as it was
-abbrev pub silent : ClientState → Outcome
-silent x = record { out = []; seen = Nothing; state = x }
+abbrev pub no_effect : ClientState → Outcome
+no_effect x = record { out = []; seen = Nothing; state = x }
 
 -- a message of this client to a voter
 abbrev pub tell : ClientState → ℕ → VoterBody → ToVoter
@@ -38,8 +38,8 @@ abbrev pub send_to_members : ClientState → VoterBody → List ToVoter
 send_to_members x body = map (λ v. tell x v body) (members x)
 
 -- no vote is held, and no voter is marked
-abbrev pub cleared : ClientState → ClientState
-cleared x = record x {
+abbrev pub clear_votes : ClientState → ClientState
+clear_votes x = record x {
   held = replicate max_voters 0;
   failed = [];
   relinquished = [];
@@ -49,8 +49,8 @@ cleared x = record x {
 -- Asking
 
 -- a new request; its stamp is the next one of the clock
-abbrev pub begun : ClientState → List ℕ → ClientState
-begun x quorum = record (cleared x) {
+abbrev pub begin_request : ClientState → List ℕ → ClientState
+begin_request x quorum = record (clear_votes x) {
   clock = x.clock + 1;
   stamp = x.clock + 1;
   phase = Asking;
@@ -58,17 +58,17 @@ begun x quorum = record (cleared x) {
 }
 
 -- REQUEST to each member
-abbrev pub asked : ClientState → List ℕ → Outcome
-asked x quorum = record {
-  out = send_to_members (begun x quorum) (asks.Request (x.clock + 1));
+abbrev pub send_requests : ClientState → List ℕ → Outcome
+send_requests x quorum = record {
+  out = send_to_members (begin_request x quorum) (asks.Request (x.clock + 1));
   seen = Nothing;
-  state = begun x quorum;
+  state = begin_request x quorum;
 }
 
 -- a client whose stamps are spent can't ask
 abbrev pub ask_unless : Bool → ClientState → List ℕ → Result Outcome ClientFault
 ask_unless true x quorum = Err StampsSpent
-ask_unless false x quorum = Ok (asked x quorum)
+ask_unless false x quorum = Ok (send_requests x quorum)
 
 -- only an idle client can ask
 abbrev pub ask_in : Phase → ClientState → List ℕ → Result Outcome ClientFault
@@ -85,7 +85,7 @@ ask x quorum = ask_in x.phase x quorum
 -- A vote that is held goes back to its voter by RELINQUISH with its grant. That grant is then the
 -- last one given back.
 abbrev pub relinquish_if : Bool → ClientState → ℕ → Outcome
-relinquish_if false x voter = silent x
+relinquish_if false x voter = no_effect x
 relinquish_if true x voter = record {
   out = tell x voter (asks.Relinquish (held_of x voter)) ∷ [];
   seen = Nothing;
@@ -103,7 +103,7 @@ relinquish x voter = relinquish_if (holds x voter) x voter
 
 -- each of these votes is given back, in order
 abbrev pub relinquish_each : ClientState → List ℕ → Outcome
-relinquish_each x [] = silent x
+relinquish_each x [] = no_effect x
 relinquish_each x (v ∷ vs) = record {
   out = (relinquish x v).out ++ (relinquish_each (relinquish x v).state vs).out;
   seen = Nothing;
@@ -112,7 +112,7 @@ relinquish_each x (v ∷ vs) = record {
 
 -- the vote is given back if its voter is marked as inquired
 abbrev pub relinquish_marked_if : Bool → ClientState → ℕ → Outcome
-relinquish_marked_if false x voter = silent x
+relinquish_marked_if false x voter = no_effect x
 relinquish_marked_if true x voter = relinquish x voter
 
 -- a vote that its voter asked for is given back
@@ -141,22 +141,22 @@ hold x voter grant = record x {
 
 -- the client enters if it holds the vote of each member
 abbrev pub enter_if : Bool → ClientState → Outcome
-enter_if false x = silent x
+enter_if false x = no_effect x
 enter_if true x = record { out = []; seen = Entered; state = record x { phase = Inside } }
 
 -- By whether the request of this stamp runs, and whether the grant counts. A vote for any other
 -- request goes back by RELEASE.
-abbrev pub locked_by : Bool → Bool → ClientState → ℕ → ℕ → ℕ → Outcome
-locked_by false fresh x voter stamp grant =
+abbrev pub take_locked_by : Bool → Bool → ClientState → ℕ → ℕ → ℕ → Outcome
+take_locked_by false fresh x voter stamp grant =
     record { out = tell x voter (asks.Release stamp) ∷ []; seen = Nothing; state = x }
-locked_by true false x voter stamp grant = silent x
-locked_by true true x voter stamp grant = enter_if (is_covered (hold x voter grant)) (hold x voter grant)
+take_locked_by true false x voter stamp grant = no_effect x
+take_locked_by true true x voter stamp grant = enter_if (is_covered (hold x voter grant)) (hold x voter grant)
 
 -- LOCKED: a vote for another request than the one that runs goes back by RELEASE. A vote that
 -- doesn't count does nothing. A vote that counts is held, and with the last member's vote the
 -- client enters.
-unfoldable pub locked : ClientState → ℕ → ℕ → ℕ → Outcome
-locked x voter stamp grant = locked_by (is_current x stamp) (is_fresh x voter grant) x voter stamp grant
+unfoldable pub take_locked : ClientState → ℕ → ℕ → ℕ → Outcome
+take_locked x voter stamp grant = take_locked_by (is_current x stamp) (is_fresh x voter grant) x voter stamp grant
 
 -- FAIL
 
@@ -166,14 +166,14 @@ fail x voter = record x { failed = with_voter x.failed voter }
 
 -- By whether the message counts. If it does, the request can't win yet, so votes that were asked
 -- for are given back.
-abbrev pub failed_by : Bool → ClientState → ℕ → Outcome
-failed_by false x voter = silent x
-failed_by true x voter = relinquish_inquired (fail x voter) (members x)
+abbrev pub take_fail_by : Bool → ClientState → ℕ → Outcome
+take_fail_by false x voter = no_effect x
+take_fail_by true x voter = relinquish_inquired (fail x voter) (members x)
 
 -- FAIL counts while the client asks under this stamp, from a member whose vote is not held
-unfoldable pub failed : ClientState → ℕ → ℕ → Outcome
-failed x voter stamp =
-    failed_by (is_asking x.phase && stamp == x.stamp && is_member x voter && not (holds x voter)) x voter
+unfoldable pub take_fail : ClientState → ℕ → ℕ → Outcome
+take_fail x voter stamp =
+    take_fail_by (is_asking x.phase && stamp == x.stamp && is_member x voter && not (holds x voter)) x voter
 
 -- INQUIRE
 
@@ -184,14 +184,14 @@ inquire x voter = record x { inquired = with_voter x.inquired voter }
 -- By whether the message counts, and whether the request can't win yet. If it can't, the vote is
 -- given back. If it still may, the vote is kept. If the client is inside, the RELEASE when it
 -- leaves is the reply.
-abbrev pub inquired_by : Bool → Bool → ClientState → ℕ → Outcome
-inquired_by false hindered x voter = silent x
-inquired_by true false x voter = silent (inquire x voter)
-inquired_by true true x voter = relinquish x voter
+abbrev pub take_inquire_by : Bool → Bool → ClientState → ℕ → Outcome
+take_inquire_by false hindered x voter = no_effect x
+take_inquire_by true false x voter = no_effect (inquire x voter)
+take_inquire_by true true x voter = relinquish x voter
 
 -- INQUIRE counts while the client asks, if it holds the vote under this grant
-unfoldable pub inquired : ClientState → ℕ → ℕ → Outcome
-inquired x voter grant = inquired_by (is_asking x.phase && holds_under x voter grant) (is_hindered x) x voter
+unfoldable pub take_inquire : ClientState → ℕ → ℕ → Outcome
+take_inquire x voter grant = take_inquire_by (is_asking x.phase && holds_under x voter grant) (is_hindered x) x voter
 
 -- Any message
 
@@ -201,9 +201,9 @@ see x stamp = record x { clock = max x.clock stamp }
 
 -- a message, by its kind
 abbrev pub take_body : ClientState → ℕ → ClientBody → Outcome
-take_body x voter (to_client.Locked stamp grant) = locked x voter stamp grant
-take_body x voter (to_client.Fail stamp) = failed x voter stamp
-take_body x voter (to_client.Inquire grant) = inquired x voter grant
+take_body x voter (to_client.Locked stamp grant) = take_locked x voter stamp grant
+take_body x voter (to_client.Fail stamp) = take_fail x voter stamp
+take_body x voter (to_client.Inquire grant) = take_inquire x voter grant
 
 -- the client takes a message
 unfoldable pub take : ClientState → ToClient → Outcome
@@ -222,18 +222,18 @@ would_hold x m = would_hold_body x m.voter m.body
 -- Leaving and giving up
 
 -- RELEASE to each member, and the request is over
-abbrev pub released : ClientState → Seen → Outcome
-released x seen = record {
+abbrev pub end_request : ClientState → Seen → Outcome
+end_request x seen = record {
   out = send_to_members x (asks.Release x.stamp);
   seen = seen;
-  state = record (cleared x) { phase = Idle };
+  state = record (clear_votes x) { phase = Idle };
 }
 
 -- only a client that is inside can leave
 abbrev pub leave_in : Phase → ClientState → Result Outcome ClientFault
 leave_in Idle x = Err NotInside
 leave_in Asking x = Err NotInside
-leave_in Inside x = Ok (released x Left)
+leave_in Inside x = Ok (end_request x Left)
 
 -- a client that is inside leaves
 unfoldable pub leave : ClientState → Result Outcome ClientFault
@@ -242,7 +242,7 @@ leave x = leave_in x.phase x
 -- only a client that asks can give up
 abbrev pub give_up_in : Phase → ClientState → Result Outcome ClientFault
 give_up_in Idle x = Err NotAsking
-give_up_in Asking x = Ok (released x Nothing)
+give_up_in Asking x = Ok (end_request x Nothing)
 give_up_in Inside x = Err NotAsking
 
 -- a client that asks gives up its request

@@ -10,7 +10,7 @@ ghost use Rattle.requester.specs.Clocks.{KeepsTime};
 ghost use Rattle.requester.specs.Held.{HoldsBesides, HoldsNothing, IsGivenBack, IsKeptOrGiven, KeepsMark};
 ghost use Rattle.requester.specs.RequesterContract.{Accepts, AllInRange, AllRepeat, ComesInRange, MeetsContract, RemindersInRange};
 ghost use Rattle.requester.specs.Soundness.{HoldsOfMembers, IsSound};
-ghost use Rattle.requester.specs.Steps.{Cause, Outcome, ask, asked, give_up, leave, released, remind, see, start, step, take, tell, would_hold};
+ghost use Rattle.requester.specs.Steps.{Cause, Outcome, ask, send_requests, give_up, leave, end_request, remind, see, start, step, take, tell, would_hold};
 ghost use Rattle.requester.specs.Words.{held_of, holds, is_asking, is_current, is_hindered, is_idle, is_inside, is_member, is_relinquished, is_spent, last_of};
 
 use crate::fault::ClientFault;
@@ -79,11 +79,11 @@ pub fn phases_show_refusals()
     ensures spent { (x : ClientState) (quorum : List ℕ) → is_idle x.phase ≡ true → is_spent x ≡ true
         → ask x quorum ≡ Err ClientFault.StampsSpent }
     ensures asked { (x : ClientState) (quorum : List ℕ) → is_idle x.phase ≡ true → is_spent x ≡ false
-        → ask x quorum ≡ Ok (asked x quorum) }
+        → ask x quorum ≡ Ok (send_requests x quorum) }
     ensures not_inside { (x : ClientState) → is_inside x.phase ≡ false → leave x ≡ Err ClientFault.NotInside }
-    ensures left { (x : ClientState) → is_inside x.phase ≡ true → leave x ≡ Ok (released x Seen.Left) }
+    ensures left { (x : ClientState) → is_inside x.phase ≡ true → leave x ≡ Ok (end_request x Seen.Left) }
     ensures not_asking { (x : ClientState) → is_asking x.phase ≡ false → give_up x ≡ Err ClientFault.NotAsking }
-    ensures given_up { (x : ClientState) → is_asking x.phase ≡ true → give_up x ≡ Ok (released x Seen.Nothing) }
+    ensures given_up { (x : ClientState) → is_asking x.phase ≡ true → give_up x ≡ Ok (end_request x Seen.Nothing) }
 {}
 
 /// The clock never falls, and it isn't behind the highest stamp that a message's voter saw. The stamp

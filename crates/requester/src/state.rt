@@ -5,7 +5,7 @@ ghost use Rattle.arrayvec.specs.ArrayVec.{array_vec_len};
 ghost use Rattle.numbers.specs.Sets.{IsSet};
 ghost use Rattle.requester.specs.Words.{held_of, holds, holds_under, is_covered, is_current, is_hindered, is_idle, is_member, last_of};
 ghost use Rattle.requester.specs.Soundness.{AreMembers, HoldsOfMembers};
-ghost use Rattle.requester.specs.Steps.{Predicts, ask, cleared, failed, give_up, hold, inquired, is_fresh, leave, locked, relinquish, relinquish_inquired, relinquish_marked, remind, remind_member, take, take_body, tell, send_to_members, would_hold};
+ghost use Rattle.requester.specs.Steps.{Predicts, ask, clear_votes, take_fail, give_up, hold, take_inquire, is_fresh, leave, take_locked, relinquish, relinquish_inquired, relinquish_marked, remind, remind_member, take, take_body, tell, send_to_members, would_hold};
 
 use crate::fault::ClientFault;
 use arrayvec::ArrayVec;
@@ -288,13 +288,13 @@ impl ClientState {
         self.inquired.remove(voter);
     }
 
-    #[tactic(auto, unfolding(crate::specs::Steps::locked))]
+    #[tactic(auto, unfolding(crate::specs::Steps::take_locked))]
     fn locked(&mut self, voter: u8, stamp: u64, grant: u64, out: &mut Messages) -> Seen
         requires voter { voter < max_voters }
         requires room { out.old.items ≡ [] }
-        ensures state { self.new ≡ (locked self.old voter stamp grant).state }
-        ensures out { out.new.items ≡ (locked self.old voter stamp grant).out }
-        ensures seen { result ≡ (locked self.old voter stamp grant).seen }
+        ensures state { self.new ≡ (take_locked self.old voter stamp grant).state }
+        ensures out { out.new.items ≡ (take_locked self.old voter stamp grant).out }
+        ensures seen { result ≡ (take_locked self.old voter stamp grant).seen }
     {
         if !self.is_current(stamp) {
             out.push(self.tell(voter, VoterBody::Release { stamp }));
@@ -310,13 +310,13 @@ impl ClientState {
         Seen::Nothing
     }
 
-    #[tactic(auto, unfolding(crate::specs::Steps::failed))]
+    #[tactic(auto, unfolding(crate::specs::Steps::take_fail))]
     fn failed(&mut self, voter: u8, stamp: u64, out: &mut Messages)
         requires voter { voter < max_voters }
         requires members { AreMembers self.old.quorum.items }
         requires room { out.old.items ≡ [] }
-        ensures state { self.new ≡ (failed self.old voter stamp).state }
-        ensures out { out.new.items ≡ (failed self.old voter stamp).out }
+        ensures state { self.new ≡ (take_fail self.old voter stamp).state }
+        ensures out { out.new.items ≡ (take_fail self.old voter stamp).out }
     {
         if self.phase == Phase::Asking
             && stamp == self.stamp
@@ -328,12 +328,12 @@ impl ClientState {
         }
     }
 
-    #[tactic(auto, unfolding(crate::specs::Steps::inquired))]
+    #[tactic(auto, unfolding(crate::specs::Steps::take_inquire))]
     fn inquired(&mut self, voter: u8, grant: u64, out: &mut Messages)
         requires voter { voter < max_voters }
         requires room { out.old.items ≡ [] }
-        ensures state { self.new ≡ (inquired self.old voter grant).state }
-        ensures out { out.new.items ≡ (inquired self.old voter grant).out }
+        ensures state { self.new ≡ (take_inquire self.old voter grant).state }
+        ensures out { out.new.items ≡ (take_inquire self.old voter grant).out }
     {
         if self.phase == Phase::Asking && self.holds_under(voter, grant) {
             if self.is_hindered() {
@@ -396,7 +396,7 @@ impl ClientState {
         requires of_members { HoldsOfMembers self.old }
         requires members { AreMembers self.old.quorum.items }
         requires room { out.old.items ≡ [] }
-        ensures state { self.new ≡ record (cleared self.old) { phase = Phase.Idle } }
+        ensures state { self.new ≡ record (clear_votes self.old) { phase = Phase.Idle } }
         ensures out { out.new.items ≡ send_to_members self.old (VoterBody.Release self.old.stamp) }
     {
         self.send_to_members(VoterBody::Release { stamp: self.stamp }, out);

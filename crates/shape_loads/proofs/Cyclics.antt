@@ -13,8 +13,8 @@ use Rattle.numbers.proofs.SetLemmas.{IsSet-set_where, has-set_where}
 use Rattle.numbers.proofs.SumsBelow.{sum_below-same}
 use Rattle.quorum_set.specs.Coteries.{QuorumSystem, IsCoterie, first_fault, coterie_or}
 use Rattle.quorum_set.specs.declared.fault.CoterieFault.{CoterieFault}
-use Rattle.construct.specs.Answers.{sized}
-use Rattle.construct.specs.Cyclic.{shifted, cyclic_quorums, cyclic_at, as_construct, has_repeat, is_bad_base}
+use Rattle.construct.specs.Answers.{check_sizes}
+use Rattle.construct.specs.Cyclic.{shift_by, cyclic_quorums, cyclic_at, as_construct, has_repeat, is_bad_base}
 use Rattle.construct.specs.declared.fault.ConstructFault.{ConstructFault}
 use Rattle.shape_loads.proofs.Sums.{sum_below-choice, sum_below-lists, sum_below-turned, eqb_turned}
 use Rattle.shape_loads.proofs.Uniform.{IsUniformOf, IsUniform-made}
@@ -124,10 +124,10 @@ pub record IsMade (n : ℕ) (base : List ℕ) (s : QuorumSystem) : Type 0 where
   pub no_fault : first_fault n (cyclic_quorums n base) ≡ None
   pub system : record { voters = n; quorums = cyclic_quorums n base } ≡ s
 
-sized-Ok : (bad large : Bool) (built : Result QuorumSystem ConstructFault) (s : QuorumSystem) → sized bad large built ≡ Ok s → (bad ≡ false) × (built ≡ Ok s)
-sized-Ok true large built s e = cc
-sized-Ok false true built s e = cc
-sized-Ok false false built s e = (refl, e)
+check_sizes-Ok : (bad large : Bool) (built : Result QuorumSystem ConstructFault) (s : QuorumSystem) → check_sizes bad large built ≡ Ok s → (bad ≡ false) × (built ≡ Ok s)
+check_sizes-Ok true large built s e = cc
+check_sizes-Ok false true built s e = cc
+check_sizes-Ok false false built s e = (refl, e)
 
 coterie-Ok : (o : Option CoterieFault) (made s : QuorumSystem) → as_construct (coterie_or o made) ≡ Ok s → (o ≡ None) × (made ≡ s)
 coterie-Ok None made s e = (refl, cc)
@@ -135,15 +135,15 @@ coterie-Ok (Some fault) made s e = cc
 
 pub IsMade-cyclic_at : (n : ℕ) (base : List ℕ) (s : QuorumSystem) → cyclic_at n base ≡ Ok s → IsMade n base s
 IsMade-cyclic_at n base s e =
-    let outer = sized-Ok (is_bad_base n base) _ _ s e in
+    let outer = check_sizes-Ok (is_bad_base n base) _ _ s e in
     let inner = coterie-Ok (first_fault n (cyclic_quorums n base)) _ s outer.1 in
     record { good = outer.0; no_fault = inner.0; system = inner.1 }
 
 pub IsSet-cyclic_quorums : (n : ℕ) (base : List ℕ) → All IsSet (cyclic_quorums n base)
 unfolding cyclic_quorums
 IsSet-cyclic_quorums n base k d lt =
-    let inside : k < n = omega (arith, lt, length-map-range_with_len (shifted n base) 0 n) in
-    subst IsSet (sym (get_or-map-range_with_len (shifted n base) 0 n k k d inside (omega arith)))
+    let inside : k < n = omega (arith, lt, length-map-range_with_len (shift_by n base) 0 n) in
+    subst IsSet (sym (get_or-map-range_with_len (shift_by n base) 0 n k k d inside (omega arith)))
     (IsSet-set_where (λ v. list_any (λ x. eqb ((x + k) % n) v) base))
 
 pub IsUniform-cyclic : (n : ℕ) (base : List ℕ) → is_bad_base n base ≡ false
@@ -152,7 +152,7 @@ unfolding cyclic_quorums
 IsUniform-cyclic n base good is =
     let known = IsBase-good n base good in
     let few = is.few_voters in
-    IsUniform-made n n (length base) (length base) (shifted n base) (λ s v. list_any (λ x. eqb ((x + s) % n) v) base) is
+    IsUniform-made n n (length base) (length base) (shift_by n base) (λ s v. list_any (λ x. eqb ((x + s) % n) v) base) is
     (λ s v inside below. has-set_where (λ w. list_any (λ x. eqb ((x + s) % n) w) base) v (omega arith))
     (λ s inside. shift-size n s base inside known)
     (λ v below. shift-degree n v base below known)

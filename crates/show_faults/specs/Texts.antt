@@ -8,8 +8,8 @@ abbrev pub indented_line : List ℕ → List ℕ
 indented_line line = codes "    " ++ (line ++ codes "\n")
 
 -- the lines of a text, each behind four spaces
-abbrev pub indented : List ℕ → List ℕ
-indented text = flat_map indented_line (lines text)
+abbrev pub indent : List ℕ → List ℕ
+indent text = flat_map indented_line (lines text)
 
 -- the line of a fault: its code, its name and, if it has any, the names of its arguments
 abbrev pub title_of : Explanation → List ℕ
@@ -26,5 +26,5 @@ title_line e = title_of e ++ codes "\n"
 abbrev pub text_of : Explanation → List ℕ
 text_of e =
     title_of e ++ (codes "\n\n" ++ (e.meaning.now
-    ++ (codes "\n\nFor example:\n" ++ (indented e.example.now
-    ++ (codes "\nWhat usually led to it:\n" ++ indented e.mistakes.now)))))
+    ++ (codes "\n\nFor example:\n" ++ (indent e.example.now
+    ++ (codes "\nWhat usually led to it:\n" ++ indent e.mistakes.now)))))

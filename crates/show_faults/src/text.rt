@@ -1,13 +1,13 @@
 //! The text of an explanation.
 ghost use Rattle.std.specs.Prelude.{◌≡◌, IfOk, string_bytes};
-ghost use Rattle.show_faults.specs.Texts.{indented, text_of, title_of};
+ghost use Rattle.show_faults.specs.Texts.{indent, text_of, title_of};
 
 use crate::explanation::Explanation;
 use std::alloc::{AllocError, Global};
 
 /// Returns the lines of a text, each behind four spaces and with a newline at its end.
 fn indented(alloc: Global, text: &str) -> Result<String, AllocError>
-    ensures { IfOk result (λ t. string_bytes t ≡ indented text.now) }
+    ensures { IfOk result (λ t. string_bytes t ≡ indent text.now) }
 {
     let mut out = String::new(alloc);
     for line in text.lines() {

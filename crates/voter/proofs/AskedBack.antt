@@ -13,8 +13,8 @@ use Rattle.message.specs.declared.message.VoterBody.TheVariants as asks
 use Rattle.voter.specs.declared.state.Grant.{Grant}
 use Rattle.voter.specs.declared.state.VoterState.{VoterState}
 use Rattle.voter.specs.Waiting.{Waiting, precedes, least, front}
-use Rattle.voter.specs.Steps.{grant_to, grant_front, released, released_by, queued, queued_by, admitted, admitted_by, queue, freed, finish, is_before, start, standing, requested}
-use Rattle.voter.specs.Steps.{requested_by, requested_beside, compared_by, relinquished, relinquished_by, put_back, see, outcome_of, Outcome, step}
+use Rattle.voter.specs.Steps.{grant_to, grant_front, take_release, take_release_by, join_queue, join_queue_by, admit, admit_by, queue, free_vote, finish, is_before, start, current_stamp, take_request}
+use Rattle.voter.specs.Steps.{take_request_by, take_request_beside, compare_by, take_relinquish, take_relinquish_by, put_back, see, outcome_of, Outcome, step}
 use Rattle.voter.specs.Entries.{AsksBack, request_of}
 use Rattle.voter.proofs.Front.{IsLeastOf, least-is, front-found}
 use Rattle.voter.proofs.Soundness.{get-removed, get-inserted}
@@ -48,23 +48,23 @@ asked-grant_front : (v : VoterState) → v.held ≡ None → AsksBack (grant_fro
 unfolding grant_front
 asked-grant_front v free = asked-grant_to v (front v.waiting) refl free
 
-asked-released_by : (holds waits : Bool) (v : VoterState) (c s : ℕ) → AsksBack v → AsksBack (released_by holds waits v c s).state
-asked-released_by true waits v c s h = asked-grant_front (freed (finish v c s)) refl
-asked-released_by false true v c s h = λ g d t held is before. h g d t held (still_removed v.waiting c d t is) before
-asked-released_by false false v c s h = h
+asked-take_release_by : (holds waits : Bool) (v : VoterState) (c s : ℕ) → AsksBack v → AsksBack (take_release_by holds waits v c s).state
+asked-take_release_by true waits v c s h = asked-grant_front (free_vote (finish v c s)) refl
+asked-take_release_by false true v c s h = λ g d t held is before. h g d t held (still_removed v.waiting c d t is) before
+asked-take_release_by false false v c s h = h
 
-asked-released : (v : VoterState) (c s : ℕ) → AsksBack v → AsksBack (released v c s).state
-unfolding released
-asked-released v c s h = asked-released_by _ _ v c s h
+asked-take_release : (v : VoterState) (c s : ℕ) → AsksBack v → AsksBack (take_release v c s).state
+unfolding take_release
+asked-take_release v c s h = asked-take_release_by _ _ v c s h
 
 before_all : (o : Option Request) (r : Request) → is_before o r ≡ true → (q : Request) × (o ≡ Some q) × (precedes q r ≡ true)
 before_all None r e = absurd (false≢true e)
 before_all (Some q) r e = (q, refl, e)
 
-asked-queued_by : (waits granted : Bool) (v : VoterState) (g : Grant) (c s : ℕ) → v.held ≡ Some g → is_before (front v.waiting) (record { stamp = s; client = c }) ≡ waits
+asked-join_queue_by : (waits granted : Bool) (v : VoterState) (g : Grant) (c s : ℕ) → v.held ≡ Some g → is_before (front v.waiting) (record { stamp = s; client = c }) ≡ waits
     → precedes (request_of g) (record { stamp = s; client = c }) ≡ granted
-    → AsksBack v → AsksBack (queued_by waits granted v g c s).state
-asked-queued_by true granted v g c s is e f h k d t held waits before = elim (inserted_cases v.waiting c s d t waits) [
+    → AsksBack v → AsksBack (join_queue_by waits granted v g c s).state
+asked-join_queue_by true granted v g c s is e f h k d t held waits before = elim (inserted_cases v.waiting c s d t waits) [
   | inl new ↦
       let first = before_all (front v.waiting) _ e in
       let found = front-found v.waiting first.0 first.1 in
@@ -72,51 +72,51 @@ asked-queued_by true granted v g c s is e f h k d t held waits before = elim (in
       h k first.0.client first.0.stamp held found earlier
   | inr old ↦ h k d t held old before
 ]
-asked-queued_by false true v g c s is e f h k d t held waits before = elim (inserted_cases v.waiting c s d t waits) [
+asked-join_queue_by false true v g c s is e f h k d t held waits before = elim (inserted_cases v.waiting c s d t waits) [
   | inl new ↦
       let same : request_of g ≡ request_of k = ap request_of (same_Some g k (sym is ∙ held)) in
       let later : precedes (request_of k) (record { stamp = s; client = c }) ≡ true = subst (λ (x : Request). precedes x (record { stamp = s; client = c }) ≡ true) same f in
       (let b = new.0 in let b2 = new.1 in grind (arith, nat_tests))
   | inr old ↦ h k d t held old before
 ]
-asked-queued_by false false v g c s is e f h k d t held waits before = refl
+asked-join_queue_by false false v g c s is e f h k d t held waits before = refl
 
-asked-admitted_by : (o : Option Grant) (v : VoterState) (c s : ℕ) → v.held ≡ o → AsksBack v → AsksBack (admitted_by o v c s).state
-unfolding queued
-asked-admitted_by None v c s is h = asked-grant_front (queue v c s) is
-asked-admitted_by (Some g) v c s is h = asked-queued_by _ _ v g c s is refl refl h
+asked-admit_by : (o : Option Grant) (v : VoterState) (c s : ℕ) → v.held ≡ o → AsksBack v → AsksBack (admit_by o v c s).state
+unfolding join_queue
+asked-admit_by None v c s is h = asked-grant_front (queue v c s) is
+asked-admit_by (Some g) v c s is h = asked-join_queue_by _ _ v g c s is refl refl h
 
-asked-admitted : (v : VoterState) (c s : ℕ) → AsksBack v → AsksBack (admitted v c s).state
-unfolding admitted
-asked-admitted v c s h = asked-admitted_by v.held v c s refl h
+asked-admit : (v : VoterState) (c s : ℕ) → AsksBack v → AsksBack (admit v c s).state
+unfolding admit
+asked-admit v c s h = asked-admit_by v.held v c s refl h
 
-asked-compared_by : (less same : Bool) (v : VoterState) (c s t : ℕ) → AsksBack v → AsksBack (compared_by less same v c s t).state
-asked-compared_by true same v c s t h = h
-asked-compared_by false true v c s t h = h
-asked-compared_by false false v c s t h = asked-admitted (released v c t).state c s (asked-released v c t h)
+asked-compare_by : (less same : Bool) (v : VoterState) (c s t : ℕ) → AsksBack v → AsksBack (compare_by less same v c s t).state
+asked-compare_by true same v c s t h = h
+asked-compare_by false true v c s t h = h
+asked-compare_by false false v c s t h = asked-admit (take_release v c t).state c s (asked-take_release v c t h)
 
-asked-beside : (v : VoterState) (c s : ℕ) (o : Option ℕ) → AsksBack v → AsksBack (requested_beside v c s o).state
-unfolding requested_beside
-asked-beside v c s None h = asked-admitted v c s h
-asked-beside v c s (Some t) h = asked-compared_by _ _ v c s t h
+asked-beside : (v : VoterState) (c s : ℕ) (o : Option ℕ) → AsksBack v → AsksBack (take_request_beside v c s o).state
+unfolding take_request_beside
+asked-beside v c s None h = asked-admit v c s h
+asked-beside v c s (Some t) h = asked-compare_by _ _ v c s t h
 
-asked-requested_by : (done : Bool) (v : VoterState) (c s : ℕ) → AsksBack v → AsksBack (requested_by done v c s).state
-asked-requested_by true v c s h = h
-asked-requested_by false v c s h = asked-beside v c s (standing v c) h
+asked-take_request_by : (done : Bool) (v : VoterState) (c s : ℕ) → AsksBack v → AsksBack (take_request_by done v c s).state
+asked-take_request_by true v c s h = h
+asked-take_request_by false v c s h = asked-beside v c s (current_stamp v c) h
 
 asked-put_back : (o : Option Grant) (v : VoterState) → AsksBack v → AsksBack (put_back o v).state
 asked-put_back None v h = h
-asked-put_back (Some g) v h = asked-grant_front (queue (freed v) g.client g.stamp) refl
+asked-put_back (Some g) v h = asked-grant_front (queue (free_vote v) g.client g.stamp) refl
 
-asked-relinquished_by : (b : Bool) (v : VoterState) → AsksBack v → AsksBack (relinquished_by b v).state
-asked-relinquished_by true v h = asked-put_back v.held v h
-asked-relinquished_by false v h = h
+asked-take_relinquish_by : (b : Bool) (v : VoterState) → AsksBack v → AsksBack (take_relinquish_by b v).state
+asked-take_relinquish_by true v h = asked-put_back v.held v h
+asked-take_relinquish_by false v h = h
 
 pub AsksBack-outcome_of : (v : VoterState) (c : ℕ) (b : VoterBody) → AsksBack v → AsksBack (outcome_of v c b).state
-unfolding relinquished requested
-AsksBack-outcome_of v c (asks.Request s) h = asked-requested_by _ (see v s) c s h
-AsksBack-outcome_of v c (asks.Relinquish n) h = asked-relinquished_by _ v h
-AsksBack-outcome_of v c (asks.Release s) h = asked-released (see v s) c s h
+unfolding take_relinquish take_request
+AsksBack-outcome_of v c (asks.Request s) h = asked-take_request_by _ (see v s) c s h
+AsksBack-outcome_of v c (asks.Relinquish n) h = asked-take_relinquish_by _ v h
+AsksBack-outcome_of v c (asks.Release s) h = asked-take_release (see v s) c s h
 
 pub AsksBack-step : (v : VoterState) (m : ToVoter) (o : Outcome) → AsksBack v → step v m ≡ Some o → AsksBack o.state
 AsksBack-step v m o h e = let t = step-Some v m o e in subst (λ (p : Outcome). AsksBack p.state) t.1 (AsksBack-outcome_of v m.client m.body h)

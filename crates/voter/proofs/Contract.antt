@@ -17,11 +17,11 @@ use Rattle.voter.specs.declared.state.VoterState.{VoterState}
 use Rattle.voter.specs.Waiting.{Waiting, front}
 use Rattle.voter.specs.VoteMoves.{VoteMoves}
 use Rattle.voter.specs.VoterContract.{ReportsVote, AllReport, Ends, IsEntry, Brings, MeetsContract}
-use Rattle.voter.specs.Steps.{Outcome, grant_to, grant_front, released, released_by, queued, queued_by, inquiry, fail_former, admitted, admitted_by, queue, freed, finish}
-use Rattle.voter.specs.Steps.{held_stamp, is_up_to, is_older, is_grant, standing, first_some, requested, requested_by, requested_beside, compared_by, again, again_by, relinquished}
-use Rattle.voter.specs.Steps.{relinquished_by, put_back, see, outcome_of, ends_grant, step, remind, remind_of, inquiry_again}
+use Rattle.voter.specs.Steps.{Outcome, grant_to, grant_front, take_release, take_release_by, join_queue, join_queue_by, inquiry, fail_former, admit, admit_by, queue, free_vote, finish}
+use Rattle.voter.specs.Steps.{held_stamp, is_up_to, is_older, is_grant, current_stamp, first_some, take_request, take_request_by, take_request_beside, compare_by, again, again_by, take_relinquish}
+use Rattle.voter.specs.Steps.{take_relinquish_by, put_back, see, outcome_of, ends_grant, step, remind, remind_of, inquiry_again}
 use Rattle.voter.proofs.Front.{front-found}
-use Rattle.voter.proofs.Moves.{VoteMoves-outcome_of, VoteMoves-admitted}
+use Rattle.voter.proofs.Moves.{VoteMoves-outcome_of, VoteMoves-admit}
 use Rattle.voter.proofs.Soundness.{get-removed, get-inserted}
 use Rattle.voter.proofs.Effects.{step-Some}
 
@@ -107,56 +107,56 @@ module _ (P : ℕ → ℕ → Type 0) where
   unfolding grant_front
   stamps-grant_front v h = stamps-grant_to v (front v.waiting) refl h
 
-  stamps-freed : (v : VoterState) → Stamps P v → Stamps P (freed v)
-  stamps-freed v h = record { held = λ g is. absurd (none-some g is); waiting = h.waiting }
+  stamps-free_vote : (v : VoterState) → Stamps P v → Stamps P (free_vote v)
+  stamps-free_vote v h = record { held = λ g is. absurd (none-some g is); waiting = h.waiting }
 
   stamps-queue : (v : VoterState) (c s : ℕ) → P c s → Stamps P v → Stamps P (queue v c s)
   stamps-queue v c s p h = record { held = h.held; waiting = inserted v.waiting c s h.waiting p }
 
-  stamps-released_by : (holds waits : Bool) (v : VoterState) (c s : ℕ) → Stamps P v → Stamps P (released_by holds waits v c s).state
-  stamps-released_by true waits v c s h = stamps-grant_front (freed (finish v c s)) (record { held = λ g is. absurd (none-some g is); waiting = h.waiting })
-  stamps-released_by false true v c s h = record { held = h.held; waiting = removed v.waiting c h.waiting }
-  stamps-released_by false false v c s h = record { held = h.held; waiting = h.waiting }
+  stamps-take_release_by : (holds waits : Bool) (v : VoterState) (c s : ℕ) → Stamps P v → Stamps P (take_release_by holds waits v c s).state
+  stamps-take_release_by true waits v c s h = stamps-grant_front (free_vote (finish v c s)) (record { held = λ g is. absurd (none-some g is); waiting = h.waiting })
+  stamps-take_release_by false true v c s h = record { held = h.held; waiting = removed v.waiting c h.waiting }
+  stamps-take_release_by false false v c s h = record { held = h.held; waiting = h.waiting }
 
-  stamps-released : (v : VoterState) (c s : ℕ) → Stamps P v → Stamps P (released v c s).state
-  unfolding released
-  stamps-released v c s h = stamps-released_by _ _ v c s h
+  stamps-take_release : (v : VoterState) (c s : ℕ) → Stamps P v → Stamps P (take_release v c s).state
+  unfolding take_release
+  stamps-take_release v c s h = stamps-take_release_by _ _ v c s h
 
-  stamps-queued_by : (waits granted : Bool) (v : VoterState) (g : Grant) (c s : ℕ) → P c s → Stamps P v → Stamps P (queued_by waits granted v g c s).state
-  stamps-queued_by true granted v g c s p h = stamps-queue v c s p h
-  stamps-queued_by false true v g c s p h = stamps-queue v c s p h
-  stamps-queued_by false false v g c s p h = let k = stamps-queue v c s p h in record { held = k.held; waiting = k.waiting }
+  stamps-join_queue_by : (waits granted : Bool) (v : VoterState) (g : Grant) (c s : ℕ) → P c s → Stamps P v → Stamps P (join_queue_by waits granted v g c s).state
+  stamps-join_queue_by true granted v g c s p h = stamps-queue v c s p h
+  stamps-join_queue_by false true v g c s p h = stamps-queue v c s p h
+  stamps-join_queue_by false false v g c s p h = let k = stamps-queue v c s p h in record { held = k.held; waiting = k.waiting }
 
-  stamps-admitted_by : (o : Option Grant) (v : VoterState) (c s : ℕ) → P c s → Stamps P v → Stamps P (admitted_by o v c s).state
-  unfolding queued
-  stamps-admitted_by None v c s p h = stamps-grant_front (queue v c s) (stamps-queue v c s p h)
-  stamps-admitted_by (Some g) v c s p h = stamps-queued_by _ _ v g c s p h
+  stamps-admit_by : (o : Option Grant) (v : VoterState) (c s : ℕ) → P c s → Stamps P v → Stamps P (admit_by o v c s).state
+  unfolding join_queue
+  stamps-admit_by None v c s p h = stamps-grant_front (queue v c s) (stamps-queue v c s p h)
+  stamps-admit_by (Some g) v c s p h = stamps-join_queue_by _ _ v g c s p h
 
-  stamps-admitted : (v : VoterState) (c s : ℕ) → P c s → Stamps P v → Stamps P (admitted v c s).state
-  unfolding admitted
-  stamps-admitted v c s p h = stamps-admitted_by v.held v c s p h
+  stamps-admit : (v : VoterState) (c s : ℕ) → P c s → Stamps P v → Stamps P (admit v c s).state
+  unfolding admit
+  stamps-admit v c s p h = stamps-admit_by v.held v c s p h
 
-  stamps-compared_by : (less same : Bool) (v : VoterState) (c s t : ℕ) → P c s → Stamps P v → Stamps P (compared_by less same v c s t).state
-  stamps-compared_by true same v c s t p h = h
-  stamps-compared_by false true v c s t p h = h
-  stamps-compared_by false false v c s t p h = stamps-admitted (released v c t).state c s p (stamps-released v c t h)
+  stamps-compare_by : (less same : Bool) (v : VoterState) (c s t : ℕ) → P c s → Stamps P v → Stamps P (compare_by less same v c s t).state
+  stamps-compare_by true same v c s t p h = h
+  stamps-compare_by false true v c s t p h = h
+  stamps-compare_by false false v c s t p h = stamps-admit (take_release v c t).state c s p (stamps-take_release v c t h)
 
-  stamps-beside : (v : VoterState) (c s : ℕ) (o : Option ℕ) → P c s → Stamps P v → Stamps P (requested_beside v c s o).state
-  unfolding requested_beside
-  stamps-beside v c s None p h = stamps-admitted v c s p h
-  stamps-beside v c s (Some t) p h = stamps-compared_by _ _ v c s t p h
+  stamps-beside : (v : VoterState) (c s : ℕ) (o : Option ℕ) → P c s → Stamps P v → Stamps P (take_request_beside v c s o).state
+  unfolding take_request_beside
+  stamps-beside v c s None p h = stamps-admit v c s p h
+  stamps-beside v c s (Some t) p h = stamps-compare_by _ _ v c s t p h
 
-  stamps-requested_by : (done : Bool) (v : VoterState) (c s : ℕ) → P c s → Stamps P v → Stamps P (requested_by done v c s).state
-  stamps-requested_by true v c s p h = h
-  stamps-requested_by false v c s p h = stamps-beside v c s (standing v c) p h
+  stamps-take_request_by : (done : Bool) (v : VoterState) (c s : ℕ) → P c s → Stamps P v → Stamps P (take_request_by done v c s).state
+  stamps-take_request_by true v c s p h = h
+  stamps-take_request_by false v c s p h = stamps-beside v c s (current_stamp v c) p h
 
   stamps-put_back : (o : Option Grant) (v : VoterState) → v.held ≡ o → Stamps P v → Stamps P (put_back o v).state
   stamps-put_back None v is h = h
-  stamps-put_back (Some g) v is h = stamps-grant_front (queue (freed v) g.client g.stamp) (stamps-queue (freed v) g.client g.stamp (h.held g is) (stamps-freed v h))
+  stamps-put_back (Some g) v is h = stamps-grant_front (queue (free_vote v) g.client g.stamp) (stamps-queue (free_vote v) g.client g.stamp (h.held g is) (stamps-free_vote v h))
 
-  stamps-relinquished_by : (b : Bool) (v : VoterState) → Stamps P v → Stamps P (relinquished_by b v).state
-  stamps-relinquished_by true v h = stamps-put_back v.held v refl h
-  stamps-relinquished_by false v h = h
+  stamps-take_relinquish_by : (b : Bool) (v : VoterState) → Stamps P v → Stamps P (take_relinquish_by b v).state
+  stamps-take_relinquish_by true v h = stamps-put_back v.held v refl h
+  stamps-take_relinquish_by false v h = h
 
   -- what a REQUEST says is so
   abbrev pub Says : ℕ → VoterBody → Type 0
@@ -165,10 +165,10 @@ module _ (P : ℕ → ℕ → Type 0) where
   Says c (asks.Release s) = Unit {0}
 
   pub Stamps-outcome_of : (v : VoterState) (c : ℕ) (b : VoterBody) → Says c b → Stamps P v → Stamps P (outcome_of v c b).state
-  unfolding relinquished requested
-  Stamps-outcome_of v c (asks.Request s) p h = stamps-requested_by _ (see v s) c s p (record { held = h.held; waiting = h.waiting })
-  Stamps-outcome_of v c (asks.Relinquish n) p h = stamps-relinquished_by _ v h
-  Stamps-outcome_of v c (asks.Release s) p h = stamps-released (see v s) c s (record { held = h.held; waiting = h.waiting })
+  unfolding take_relinquish take_request
+  Stamps-outcome_of v c (asks.Request s) p h = stamps-take_request_by _ (see v s) c s p (record { held = h.held; waiting = h.waiting })
+  Stamps-outcome_of v c (asks.Relinquish n) p h = stamps-take_relinquish_by _ v h
+  Stamps-outcome_of v c (asks.Release s) p h = stamps-take_release (see v s) c s (record { held = h.held; waiting = h.waiting })
 
 abbrev pub Came : VoterState → ℕ → VoterBody → ℕ → ℕ → Type 0
 Came v c b d t = IsEntry v d t ⊎ Brings c b d t
@@ -198,14 +198,14 @@ heard-grant_front : (v : VoterState) → AllReport (grant_front v).state.held (g
 unfolding grant_front
 heard-grant_front v = heard-grant_to v (front v.waiting)
 
-heard-released_by : (holds waits : Bool) (v : VoterState) (c s : ℕ) → AllReport (released_by holds waits v c s).state.held (released_by holds waits v c s).replies
-heard-released_by true waits v c s = heard-grant_front (freed (finish v c s))
-heard-released_by false true v c s = tt
-heard-released_by false false v c s = tt
+heard-take_release_by : (holds waits : Bool) (v : VoterState) (c s : ℕ) → AllReport (take_release_by holds waits v c s).state.held (take_release_by holds waits v c s).replies
+heard-take_release_by true waits v c s = heard-grant_front (free_vote (finish v c s))
+heard-take_release_by false true v c s = tt
+heard-take_release_by false false v c s = tt
 
-heard-released : (v : VoterState) (c s : ℕ) → AllReport (released v c s).state.held (released v c s).replies
-unfolding released
-heard-released v c s = heard-released_by _ _ v c s
+heard-take_release : (v : VoterState) (c s : ℕ) → AllReport (take_release v c s).state.held (take_release v c s).replies
+unfolding take_release
+heard-take_release v c s = heard-take_release_by _ _ v c s
 
 reported_former : (v : VoterState) (held : Option Grant) (o : Option Request) → AllReport held (fail_former v o)
 reported_former v held None = tt
@@ -216,19 +216,19 @@ reported_inquiry true v held g o = reported_former v held o
 reported_inquiry false v held g o = (tt, reported_former v held o)
 
 -- nobody receives a grant while another holds the vote
-heard-queued_by : (waits granted : Bool) (v : VoterState) (g : Grant) (c s : ℕ) → AllReport (queued_by waits granted v g c s).state.held (queued_by waits granted v g c s).replies
-heard-queued_by true granted v g c s = (tt, tt)
-heard-queued_by false true v g c s = (tt, reported_former v v.held (front v.waiting))
-heard-queued_by false false v g c s = reported_inquiry v.inquiring v v.held g (front v.waiting)
+heard-join_queue_by : (waits granted : Bool) (v : VoterState) (g : Grant) (c s : ℕ) → AllReport (join_queue_by waits granted v g c s).state.held (join_queue_by waits granted v g c s).replies
+heard-join_queue_by true granted v g c s = (tt, tt)
+heard-join_queue_by false true v g c s = (tt, reported_former v v.held (front v.waiting))
+heard-join_queue_by false false v g c s = reported_inquiry v.inquiring v v.held g (front v.waiting)
 
-heard-admitted_by : (o : Option Grant) (v : VoterState) (c s : ℕ) → AllReport (admitted_by o v c s).state.held (admitted_by o v c s).replies
-unfolding queued
-heard-admitted_by None v c s = heard-grant_front (queue v c s)
-heard-admitted_by (Some g) v c s = heard-queued_by _ _ v g c s
+heard-admit_by : (o : Option Grant) (v : VoterState) (c s : ℕ) → AllReport (admit_by o v c s).state.held (admit_by o v c s).replies
+unfolding join_queue
+heard-admit_by None v c s = heard-grant_front (queue v c s)
+heard-admit_by (Some g) v c s = heard-join_queue_by _ _ v g c s
 
-heard-admitted : (v : VoterState) (c s : ℕ) → AllReport (admitted v c s).state.held (admitted v c s).replies
-unfolding admitted
-heard-admitted v c s = heard-admitted_by v.held v c s
+heard-admit : (v : VoterState) (c s : ℕ) → AllReport (admit v c s).state.held (admit v c s).replies
+unfolding admit
+heard-admit v c s = heard-admit_by v.held v c s
 
 -- a reply that reports the vote before a step that ends no grant reports it afterwards
 still_one : (v w : VoterState) → VoteMoves false v w → (client : ℕ) (body : ClientBody) → ReportsVote v.held client body → ReportsVote w.held client body
@@ -248,48 +248,48 @@ same_stamp (Some h) w c g s is own present =
     let stamp = ap (λ (k : Grant). k.stamp) (same_Some h g is) in
     grind (arith, nat_tests)
 
-reported_again_by : (b : Bool) (v : VoterState) (g : Grant) (c s : ℕ) → (g.client == c) ≡ b → v.held ≡ Some g → standing v c ≡ Some s → AllReport v.held (again_by b v g c s)
+reported_again_by : (b : Bool) (v : VoterState) (g : Grant) (c s : ℕ) → (g.client == c) ≡ b → v.held ≡ Some g → current_stamp v c ≡ Some s → AllReport v.held (again_by b v g c s)
 reported_again_by true v g c s e is present =
     let own : g.client ≡ c = grind (arith, nat_tests) in
     let same : g.stamp ≡ s = same_stamp v.held (get v.waiting c) c g s is own present in
     (is ∙ (λ i. Some (record { client = own i; stamp = same i; grant = g.grant })), tt)
 reported_again_by false v g c s e is present = (tt, tt)
 
-reported_again : (o : Option Grant) (v : VoterState) (c s : ℕ) → v.held ≡ o → standing v c ≡ Some s → AllReport v.held (again v o c s)
+reported_again : (o : Option Grant) (v : VoterState) (c s : ℕ) → v.held ≡ o → current_stamp v c ≡ Some s → AllReport v.held (again v o c s)
 reported_again None v c s is present = (tt, tt)
 reported_again (Some g) v c s is present = reported_again_by _ v g c s refl is present
 
-heard-compared_by : (less same : Bool) (v : VoterState) (c s t : ℕ) → (s == t) ≡ same → standing v c ≡ Some t
-    → AllReport (compared_by less same v c s t).state.held (compared_by less same v c s t).replies
-heard-compared_by true same v c s t e present = tt
-heard-compared_by false true v c s t e present = let same : t ≡ s = grind (arith, nat_tests) in reported_again v.held v c s refl (present ∙ ap (λ (n : ℕ). Some n) same)
-heard-compared_by false false v c s t e present =
-    let w = (released v c t).state in
-    let a = admitted w c s in
-    AllByRecursion-append _ (released v c t).replies a.replies (still_all w a.state (VoteMoves-admitted w c s) (released v c t).replies (heard-released v c t)) (heard-admitted w c s)
+heard-compare_by : (less same : Bool) (v : VoterState) (c s t : ℕ) → (s == t) ≡ same → current_stamp v c ≡ Some t
+    → AllReport (compare_by less same v c s t).state.held (compare_by less same v c s t).replies
+heard-compare_by true same v c s t e present = tt
+heard-compare_by false true v c s t e present = let same : t ≡ s = grind (arith, nat_tests) in reported_again v.held v c s refl (present ∙ ap (λ (n : ℕ). Some n) same)
+heard-compare_by false false v c s t e present =
+    let w = (take_release v c t).state in
+    let a = admit w c s in
+    AllByRecursion-append _ (take_release v c t).replies a.replies (still_all w a.state (VoteMoves-admit w c s) (take_release v c t).replies (heard-take_release v c t)) (heard-admit w c s)
 
-heard-beside : (v : VoterState) (c s : ℕ) (o : Option ℕ) → standing v c ≡ o → AllReport (requested_beside v c s o).state.held (requested_beside v c s o).replies
-unfolding requested_beside
-heard-beside v c s None present = heard-admitted v c s
-heard-beside v c s (Some t) present = heard-compared_by _ _ v c s t refl present
+heard-beside : (v : VoterState) (c s : ℕ) (o : Option ℕ) → current_stamp v c ≡ o → AllReport (take_request_beside v c s o).state.held (take_request_beside v c s o).replies
+unfolding take_request_beside
+heard-beside v c s None present = heard-admit v c s
+heard-beside v c s (Some t) present = heard-compare_by _ _ v c s t refl present
 
-heard-requested_by : (done : Bool) (v : VoterState) (c s : ℕ) → AllReport (requested_by done v c s).state.held (requested_by done v c s).replies
-heard-requested_by true v c s = tt
-heard-requested_by false v c s = heard-beside v c s (standing v c) refl
+heard-take_request_by : (done : Bool) (v : VoterState) (c s : ℕ) → AllReport (take_request_by done v c s).state.held (take_request_by done v c s).replies
+heard-take_request_by true v c s = tt
+heard-take_request_by false v c s = heard-beside v c s (current_stamp v c) refl
 
 heard-put_back : (o : Option Grant) (v : VoterState) → AllReport (put_back o v).state.held (put_back o v).replies
 heard-put_back None v = tt
-heard-put_back (Some g) v = heard-grant_front (queue (freed v) g.client g.stamp)
+heard-put_back (Some g) v = heard-grant_front (queue (free_vote v) g.client g.stamp)
 
-heard-relinquished_by : (b : Bool) (v : VoterState) → AllReport (relinquished_by b v).state.held (relinquished_by b v).replies
-heard-relinquished_by true v = heard-put_back v.held v
-heard-relinquished_by false v = tt
+heard-take_relinquish_by : (b : Bool) (v : VoterState) → AllReport (take_relinquish_by b v).state.held (take_relinquish_by b v).replies
+heard-take_relinquish_by true v = heard-put_back v.held v
+heard-take_relinquish_by false v = tt
 
 pub AllReport-outcome_of : (v : VoterState) (c : ℕ) (b : VoterBody) → AllReport (outcome_of v c b).state.held (outcome_of v c b).replies
-unfolding relinquished requested
-AllReport-outcome_of v c (asks.Request s) = heard-requested_by _ (see v s) c s
-AllReport-outcome_of v c (asks.Relinquish n) = heard-relinquished_by _ v
-AllReport-outcome_of v c (asks.Release s) = heard-released (see v s) c s
+unfolding take_relinquish take_request
+AllReport-outcome_of v c (asks.Request s) = heard-take_request_by _ (see v s) c s
+AllReport-outcome_of v c (asks.Relinquish n) = heard-take_relinquish_by _ v
+AllReport-outcome_of v c (asks.Release s) = heard-take_release (see v s) c s
 
 reported_again_all : (out : Bool) (v : VoterState) (held : Option Grant) (g : Grant) → AllReport held (inquiry_again out v g)
 reported_again_all true v held g = (tt, tt)

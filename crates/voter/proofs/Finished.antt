@@ -11,8 +11,8 @@ use Rattle.message.specs.declared.message.VoterBody.TheVariants as asks
 use Rattle.voter.specs.declared.state.Grant.{Grant}
 use Rattle.voter.specs.declared.state.VoterState.{VoterState}
 use Rattle.voter.specs.Waiting.{front}
-use Rattle.voter.specs.Steps.{grant_to, grant_front, released, released_by, queued, queued_by, admitted, admitted_by, queue, freed, finish, standing, requested, requested_by}
-use Rattle.voter.specs.Steps.{requested_beside, compared_by, relinquished, relinquished_by, put_back, see, outcome_of, Outcome, step}
+use Rattle.voter.specs.Steps.{grant_to, grant_front, take_release, take_release_by, join_queue, join_queue_by, admit, admit_by, queue, free_vote, finish, current_stamp, take_request, take_request_by}
+use Rattle.voter.specs.Steps.{take_request_beside, compare_by, take_relinquish, take_relinquish_by, put_back, see, outcome_of, Outcome, step}
 use Rattle.voter.specs.Entries.{FinishesBy}
 use Rattle.voter.proofs.Effects.{step-Some}
 
@@ -28,28 +28,28 @@ same-grant_front : (v : VoterState) → Same v (grant_front v).state
 unfolding grant_front
 same-grant_front v = same-grant_to v (front v.waiting)
 
-same-queued_by : (waits granted : Bool) (v : VoterState) (g : Grant) (c s : ℕ) → Same v (queued_by waits granted v g c s).state
-same-queued_by true granted v g c s = refl
-same-queued_by false true v g c s = refl
-same-queued_by false false v g c s = refl
+same-join_queue_by : (waits granted : Bool) (v : VoterState) (g : Grant) (c s : ℕ) → Same v (join_queue_by waits granted v g c s).state
+same-join_queue_by true granted v g c s = refl
+same-join_queue_by false true v g c s = refl
+same-join_queue_by false false v g c s = refl
 
-same-admitted_by : (o : Option Grant) (v : VoterState) (c s : ℕ) → Same v (admitted_by o v c s).state
-unfolding queued
-same-admitted_by None v c s = same-grant_front (queue v c s)
-same-admitted_by (Some g) v c s = same-queued_by _ _ v g c s
+same-admit_by : (o : Option Grant) (v : VoterState) (c s : ℕ) → Same v (admit_by o v c s).state
+unfolding join_queue
+same-admit_by None v c s = same-grant_front (queue v c s)
+same-admit_by (Some g) v c s = same-join_queue_by _ _ v g c s
 
-same-admitted : (v : VoterState) (c s : ℕ) → Same v (admitted v c s).state
-unfolding admitted
-same-admitted v c s = same-admitted_by v.held v c s
+same-admit : (v : VoterState) (c s : ℕ) → Same v (admit v c s).state
+unfolding admit
+same-admit v c s = same-admit_by v.held v c s
 
-finished-released_by : (holds waits : Bool) (v : VoterState) (c s : ℕ) → (released_by holds waits v c s).state.finished ≡ (finish v c s).finished
-finished-released_by true waits v c s = same-grant_front (freed (finish v c s))
-finished-released_by false true v c s = refl
-finished-released_by false false v c s = refl
+finished-take_release_by : (holds waits : Bool) (v : VoterState) (c s : ℕ) → (take_release_by holds waits v c s).state.finished ≡ (finish v c s).finished
+finished-take_release_by true waits v c s = same-grant_front (free_vote (finish v c s))
+finished-take_release_by false true v c s = refl
+finished-take_release_by false false v c s = refl
 
-finished-released : (v : VoterState) (c s : ℕ) → (released v c s).state.finished ≡ (finish v c s).finished
-unfolding released
-finished-released v c s = finished-released_by _ _ v c s
+finished-take_release : (v : VoterState) (c s : ℕ) → (take_release v c s).state.finished ≡ (finish v c s).finished
+unfolding take_release
+finished-take_release v c s = finished-take_release_by _ _ v c s
 
 max_cases : (a b : ℕ) → (max a b ≡ a) ⊎ (max a b ≡ b)
 max_cases a b = elim (cases_lt a b) [ inl less ↦ inr (grind (arith, nat_tests)) | inr least ↦ inl (grind (arith, nat_tests)) ]
@@ -71,40 +71,40 @@ finish_cases xs c s d =
     ]
 
 -- a release finishes at most up to its stamp
-released_cases : (v : VoterState) (c s d : ℕ) → (slice_index (released v c s).state.finished d ≡ slice_index v.finished d) ⊎ ((d ≡ c) × (slice_index (released v c s).state.finished d ≡ s))
-released_cases v c s d = subst (λ (l : List ℕ). (slice_index l d ≡ slice_index v.finished d) ⊎ ((d ≡ c) × (slice_index l d ≡ s))) (sym (finished-released v c s)) (finish_cases v.finished c s d)
+released_cases : (v : VoterState) (c s d : ℕ) → (slice_index (take_release v c s).state.finished d ≡ slice_index v.finished d) ⊎ ((d ≡ c) × (slice_index (take_release v c s).state.finished d ≡ s))
+released_cases v c s d = subst (λ (l : List ℕ). (slice_index l d ≡ slice_index v.finished d) ⊎ ((d ≡ c) × (slice_index l d ≡ s))) (sym (finished-take_release v c s)) (finish_cases v.finished c s d)
 
-finished-compared_by : (less same : Bool) (v : VoterState) (c s t : ℕ) → nat_lt s t ≡ less → (s == t) ≡ same → FinishesBy v c (asks.Request s) (compared_by less same v c s t).state
-finished-compared_by true same v c s t l e d = inl refl
-finished-compared_by false true v c s t l e d = inl refl
-finished-compared_by false false v c s t l e d =
-    let w = (released v c t).state in
-    subst (λ (l : List ℕ). (slice_index l d ≡ slice_index v.finished d) ⊎ ((d ≡ c) × (slice_index l d < s))) (sym (same-admitted w c s)) (elim (released_cases v c t d) [
+finished-compare_by : (less same : Bool) (v : VoterState) (c s t : ℕ) → nat_lt s t ≡ less → (s == t) ≡ same → FinishesBy v c (asks.Request s) (compare_by less same v c s t).state
+finished-compare_by true same v c s t l e d = inl refl
+finished-compare_by false true v c s t l e d = inl refl
+finished-compare_by false false v c s t l e d =
+    let w = (take_release v c t).state in
+    subst (λ (l : List ℕ). (slice_index l d ≡ slice_index v.finished d) ⊎ ((d ≡ c) × (slice_index l d < s))) (sym (same-admit w c s)) (elim (released_cases v c t d) [
       | inl stays ↦ inl stays
       | inr new ↦ inr (new.0, let is = new.1 in grind (arith, nat_tests))
     ])
 
-finished-beside : (v : VoterState) (c s : ℕ) (o : Option ℕ) → FinishesBy v c (asks.Request s) (requested_beside v c s o).state
-unfolding requested_beside
-finished-beside v c s None d = inl (ap (λ (l : List ℕ). slice_index l d) (same-admitted v c s))
-finished-beside v c s (Some t) d = finished-compared_by _ _ v c s t refl refl d
+finished-beside : (v : VoterState) (c s : ℕ) (o : Option ℕ) → FinishesBy v c (asks.Request s) (take_request_beside v c s o).state
+unfolding take_request_beside
+finished-beside v c s None d = inl (ap (λ (l : List ℕ). slice_index l d) (same-admit v c s))
+finished-beside v c s (Some t) d = finished-compare_by _ _ v c s t refl refl d
 
-finished-requested_by : (done : Bool) (v : VoterState) (c s : ℕ) → FinishesBy v c (asks.Request s) (requested_by done v c s).state
-finished-requested_by true v c s d = inl refl
-finished-requested_by false v c s d = finished-beside v c s (standing v c) d
+finished-take_request_by : (done : Bool) (v : VoterState) (c s : ℕ) → FinishesBy v c (asks.Request s) (take_request_by done v c s).state
+finished-take_request_by true v c s d = inl refl
+finished-take_request_by false v c s d = finished-beside v c s (current_stamp v c) d
 
 same-put_back : (o : Option Grant) (v : VoterState) → Same v (put_back o v).state
 same-put_back None v = refl
-same-put_back (Some g) v = same-grant_front (queue (freed v) g.client g.stamp)
+same-put_back (Some g) v = same-grant_front (queue (free_vote v) g.client g.stamp)
 
-same-relinquished_by : (b : Bool) (v : VoterState) → Same v (relinquished_by b v).state
-same-relinquished_by true v = same-put_back v.held v
-same-relinquished_by false v = refl
+same-take_relinquish_by : (b : Bool) (v : VoterState) → Same v (take_relinquish_by b v).state
+same-take_relinquish_by true v = same-put_back v.held v
+same-take_relinquish_by false v = refl
 
 pub FinishesBy-outcome_of : (v : VoterState) (c : ℕ) (b : VoterBody) → FinishesBy v c b (outcome_of v c b).state
-unfolding relinquished requested
-FinishesBy-outcome_of v c (asks.Request s) d = finished-requested_by _ (see v s) c s d
-FinishesBy-outcome_of v c (asks.Relinquish n) d = inl (ap (λ (l : List ℕ). slice_index l d) (same-relinquished_by _ v))
+unfolding take_relinquish take_request
+FinishesBy-outcome_of v c (asks.Request s) d = finished-take_request_by _ (see v s) c s d
+FinishesBy-outcome_of v c (asks.Relinquish n) d = inl (ap (λ (l : List ℕ). slice_index l d) (same-take_relinquish_by _ v))
 FinishesBy-outcome_of v c (asks.Release s) d = elim (released_cases (see v s) c s d) [ inl stays ↦ inl stays | inr new ↦ inr (new.0, let is = new.1 in omega arith) ]
 
 pub FinishesBy-step : (v : VoterState) (m : ToVoter) (o : Outcome) → step v m ≡ Some o → FinishesBy v m.client m.body o.state

@@ -7,9 +7,9 @@ pub mod Front
 pub mod Grants
 pub mod KeptLemmas
 pub mod Moves
+pub mod NewRequests
 pub mod Queues
 pub mod ReplyLemmas
 pub mod SavedLemmas
 pub mod Soundness
-pub mod Standing
 pub mod Staying

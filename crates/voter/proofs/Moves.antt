@@ -11,8 +11,8 @@ use Rattle.voter.specs.declared.state.Grant.{Grant}
 use Rattle.voter.specs.declared.state.VoterState.{VoterState}
 use Rattle.voter.specs.Waiting.{front}
 use Rattle.voter.specs.VoteMoves.{VoteMoves}
-use Rattle.voter.specs.Steps.{grant_to, grant_front, released, released_by, queued, queued_by, admitted, admitted_by, queue, freed, finish, held_stamp, is_up_to, is_older}
-use Rattle.voter.specs.Steps.{standing, first_some, requested, requested_by, requested_beside, compared_by, relinquished, relinquished_by, put_back, see, outcome_of, ends_grant}
+use Rattle.voter.specs.Steps.{grant_to, grant_front, take_release, take_release_by, join_queue, join_queue_by, admit, admit_by, queue, free_vote, finish, held_stamp, is_up_to, is_older}
+use Rattle.voter.specs.Steps.{current_stamp, first_some, take_request, take_request_by, take_request_beside, compare_by, take_relinquish, take_relinquish_by, put_back, see, outcome_of, ends_grant}
 use Rattle.voter.proofs.Grants.{up_to_own}
 
 VoteMoves-same : (v w : VoterState) → w.granted ≡ v.granted → w.held ≡ v.held → VoteMoves false v w
@@ -32,36 +32,36 @@ moves-grant_front : (v u : VoterState) → u.granted ≡ v.granted → u.held �
 unfolding grant_front
 moves-grant_front v u n free = moves_to v u (front u.waiting) n free
 
-moves-released_by : (holds waits : Bool) (v : VoterState) (c s : ℕ) → VoteMoves holds v (released_by holds waits v c s).state
-moves-released_by true waits v c s = moves-grant_front v (freed (finish v c s)) refl refl
-moves-released_by false true v c s = inl (record { granted = refl; held = refl })
-moves-released_by false false v c s = inl (record { granted = refl; held = refl })
+moves-take_release_by : (holds waits : Bool) (v : VoterState) (c s : ℕ) → VoteMoves holds v (take_release_by holds waits v c s).state
+moves-take_release_by true waits v c s = moves-grant_front v (free_vote (finish v c s)) refl refl
+moves-take_release_by false true v c s = inl (record { granted = refl; held = refl })
+moves-take_release_by false false v c s = inl (record { granted = refl; held = refl })
 
-moves-released : (v : VoterState) (c s : ℕ) → VoteMoves (is_up_to (held_stamp v.held c) s) v (released v c s).state
-unfolding released
-moves-released v c s = moves-released_by _ _ v c s
+moves-take_release : (v : VoterState) (c s : ℕ) → VoteMoves (is_up_to (held_stamp v.held c) s) v (take_release v c s).state
+unfolding take_release
+moves-take_release v c s = moves-take_release_by _ _ v c s
 
-moves-queued_by : (waits granted : Bool) (v : VoterState) (g : Grant) (c s : ℕ) → VoteMoves false v (queued_by waits granted v g c s).state
-moves-queued_by true granted v g c s = inl (record { granted = refl; held = refl })
-moves-queued_by false true v g c s = inl (record { granted = refl; held = refl })
-moves-queued_by false false v g c s = inl (record { granted = refl; held = refl })
+moves-join_queue_by : (waits granted : Bool) (v : VoterState) (g : Grant) (c s : ℕ) → VoteMoves false v (join_queue_by waits granted v g c s).state
+moves-join_queue_by true granted v g c s = inl (record { granted = refl; held = refl })
+moves-join_queue_by false true v g c s = inl (record { granted = refl; held = refl })
+moves-join_queue_by false false v g c s = inl (record { granted = refl; held = refl })
 
-moves-queued : (v : VoterState) (g : Grant) (c s : ℕ) → VoteMoves false v (queued v g c s).state
-unfolding queued
-moves-queued v g c s = moves-queued_by _ _ v g c s
+moves-join_queue : (v : VoterState) (g : Grant) (c s : ℕ) → VoteMoves false v (join_queue v g c s).state
+unfolding join_queue
+moves-join_queue v g c s = moves-join_queue_by _ _ v g c s
 
 -- a free vote stays free or is granted
 from_free : (v w : VoterState) → v.held ≡ None → VoteMoves true v w → VoteMoves false v w
 from_free v w free (inl k) = inl (record { granted = k.granted; held = k.held ∙ sym free })
 from_free v w free (inr k) = inr (free, k)
 
-moves-admitted_by : (o : Option Grant) (v : VoterState) (c s : ℕ) → v.held ≡ o → VoteMoves false v (admitted_by o v c s).state
-moves-admitted_by None v c s is = from_free v (grant_front (queue v c s)).state is (moves-grant_front v (queue v c s) refl is)
-moves-admitted_by (Some g) v c s is = moves-queued v g c s
+moves-admit_by : (o : Option Grant) (v : VoterState) (c s : ℕ) → v.held ≡ o → VoteMoves false v (admit_by o v c s).state
+moves-admit_by None v c s is = from_free v (grant_front (queue v c s)).state is (moves-grant_front v (queue v c s) refl is)
+moves-admit_by (Some g) v c s is = moves-join_queue v g c s
 
-pub VoteMoves-admitted : (v : VoterState) (c s : ℕ) → VoteMoves false v (admitted v c s).state
-unfolding admitted
-VoteMoves-admitted v c s = moves-admitted_by v.held v c s refl
+pub VoteMoves-admit : (v : VoterState) (c s : ℕ) → VoteMoves false v (admit v c s).state
+unfolding admit
+VoteMoves-admit v c s = moves-admit_by v.held v c s refl
 
 -- one step, and then one that ends no grant
 VoteMoves-then : (e : Bool) (u v w : VoterState) → VoteMoves e u v → VoteMoves false v w → VoteMoves e u w
@@ -93,48 +93,48 @@ older_own : (o w : Option ℕ) (s t : ℕ) → first_some o w ≡ Some t → is_
 older_own None w s t e = refl
 older_own (Some u) w s t e = grind (arith, nat_tests)
 
-moves-compared_by : (less same : Bool) (v : VoterState) (c s t : ℕ) → nat_lt s t ≡ less → (s == t) ≡ same → standing v c ≡ Some t
-    → VoteMoves (is_older (held_stamp v.held c) s) v (compared_by less same v c s t).state
-moves-compared_by true same v c s t l e present =
+moves-compare_by : (less same : Bool) (v : VoterState) (c s t : ℕ) → nat_lt s t ≡ less → (s == t) ≡ same → current_stamp v c ≡ Some t
+    → VoteMoves (is_older (held_stamp v.held c) s) v (compare_by less same v c s t).state
+moves-compare_by true same v c s t l e present =
     let own = older_own (held_stamp v.held c) (get v.waiting c) s t present in
     let no : is_older (held_stamp v.held c) s ≡ false = grind (arith, nat_tests) in
     subst (λ b. VoteMoves b v v) (sym no) (VoteMoves-same v v refl refl)
-moves-compared_by false true v c s t l e present =
+moves-compare_by false true v c s t l e present =
     let own = older_own (held_stamp v.held c) (get v.waiting c) s t present in
     let no : is_older (held_stamp v.held c) s ≡ false = grind (arith, nat_tests) in
     subst (λ b. VoteMoves b v v) (sym no) (VoteMoves-same v v refl refl)
-moves-compared_by false false v c s t l e present =
+moves-compare_by false false v c s t l e present =
     let own = older_own (held_stamp v.held c) (get v.waiting c) s t present in
     let up = up_to_own (held_stamp v.held c) (get v.waiting c) t present in
     let same_test : is_up_to (held_stamp v.held c) t ≡ is_older (held_stamp v.held c) s = grind (arith, nat_tests) in
-    let w = (released v c t).state in
-    subst (λ b. VoteMoves b v (admitted w c s).state) same_test (VoteMoves-then _ v w (admitted w c s).state (moves-released v c t) (VoteMoves-admitted w c s))
+    let w = (take_release v c t).state in
+    subst (λ b. VoteMoves b v (admit w c s).state) same_test (VoteMoves-then _ v w (admit w c s).state (moves-take_release v c t) (VoteMoves-admit w c s))
 
 none_older : (o w : Option ℕ) (s : ℕ) → first_some o w ≡ None → is_older o s ≡ false
 none_older None w s e = refl
 none_older (Some u) w s e = grind (arith, nat_tests)
 
-moves-beside : (v : VoterState) (c s : ℕ) (o : Option ℕ) → standing v c ≡ o → VoteMoves (is_older (held_stamp v.held c) s) v (requested_beside v c s o).state
-unfolding requested_beside
-moves-beside v c s None present = subst (λ b. VoteMoves b v (admitted v c s).state) (sym (none_older (held_stamp v.held c) (get v.waiting c) s present)) (VoteMoves-admitted v c s)
-moves-beside v c s (Some t) present = moves-compared_by _ _ v c s t refl refl present
+moves-beside : (v : VoterState) (c s : ℕ) (o : Option ℕ) → current_stamp v c ≡ o → VoteMoves (is_older (held_stamp v.held c) s) v (take_request_beside v c s o).state
+unfolding take_request_beside
+moves-beside v c s None present = subst (λ b. VoteMoves b v (admit v c s).state) (sym (none_older (held_stamp v.held c) (get v.waiting c) s present)) (VoteMoves-admit v c s)
+moves-beside v c s (Some t) present = moves-compare_by _ _ v c s t refl refl present
 
-moves-requested_by : (done : Bool) (v : VoterState) (c s : ℕ) → nat_le s (slice_index v.finished c) ≡ done
-    → VoteMoves (nat_lt (slice_index v.finished c) s && is_older (held_stamp v.held c) s) v (requested_by done v c s).state
-moves-requested_by true v c s e =
+moves-take_request_by : (done : Bool) (v : VoterState) (c s : ℕ) → nat_le s (slice_index v.finished c) ≡ done
+    → VoteMoves (nat_lt (slice_index v.finished c) s && is_older (held_stamp v.held c) s) v (take_request_by done v c s).state
+moves-take_request_by true v c s e =
     let no : (nat_lt (slice_index v.finished c) s && is_older (held_stamp v.held c) s) ≡ false = grind (arith, nat_tests) in
     subst (λ b. VoteMoves b v v) (sym no) (VoteMoves-same v v refl refl)
-moves-requested_by false v c s e =
+moves-take_request_by false v c s e =
     let same : is_older (held_stamp v.held c) s ≡ (nat_lt (slice_index v.finished c) s && is_older (held_stamp v.held c) s) = grind (arith, nat_tests) in
-    subst (λ b. VoteMoves b v (requested_beside v c s (standing v c)).state) same (moves-beside v c s (standing v c) refl)
+    subst (λ b. VoteMoves b v (take_request_beside v c s (current_stamp v c)).state) same (moves-beside v c s (current_stamp v c) refl)
 
 moves-put_back : (o : Option Grant) (v : VoterState) → v.held ≡ o → VoteMoves true v (put_back o v).state
 moves-put_back None v is = inl (record { granted = refl; held = is })
-moves-put_back (Some g) v is = moves-grant_front v (queue (freed v) g.client g.stamp) refl refl
+moves-put_back (Some g) v is = moves-grant_front v (queue (free_vote v) g.client g.stamp) refl refl
 
-moves-relinquished_by : (b : Bool) (v : VoterState) → VoteMoves b v (relinquished_by b v).state
-moves-relinquished_by true v = moves-put_back v.held v refl
-moves-relinquished_by false v = inl (record { granted = refl; held = refl })
+moves-take_relinquish_by : (b : Bool) (v : VoterState) → VoteMoves b v (take_relinquish_by b v).state
+moves-take_relinquish_by true v = moves-put_back v.held v refl
+moves-take_relinquish_by false v = inl (record { granted = refl; held = refl })
 
 -- what was seen is no matter
 VoteMoves-from_see : (e : Bool) (v : VoterState) (s : ℕ) (w : VoterState) → VoteMoves e (see v s) w → VoteMoves e v w
@@ -144,7 +144,7 @@ VoteMoves-from_see false v s w (inl k) = inl (record { granted = k.granted; held
 VoteMoves-from_see false v s w (inr k) = inr (k.0, record { granted = k.1.granted; grant = k.1.grant; held = k.1.held; number = k.1.number })
 
 pub VoteMoves-outcome_of : (v : VoterState) (c : ℕ) (b : VoterBody) → VoteMoves (ends_grant v c b) v (outcome_of v c b).state
-unfolding relinquished requested ends_grant
-VoteMoves-outcome_of v c (asks.Request s) = VoteMoves-from_see _ v s _ (moves-requested_by _ (see v s) c s refl)
-VoteMoves-outcome_of v c (asks.Relinquish n) = moves-relinquished_by _ v
-VoteMoves-outcome_of v c (asks.Release s) = VoteMoves-from_see _ v s _ (moves-released (see v s) c s)
+unfolding take_relinquish take_request ends_grant
+VoteMoves-outcome_of v c (asks.Request s) = VoteMoves-from_see _ v s _ (moves-take_request_by _ (see v s) c s refl)
+VoteMoves-outcome_of v c (asks.Relinquish n) = moves-take_relinquish_by _ v
+VoteMoves-outcome_of v c (asks.Release s) = VoteMoves-from_see _ v s _ (moves-take_release (see v s) c s)

@@ -18,14 +18,14 @@ use Rattle.voter.specs.declared.state.Grant.{Grant}
 use Rattle.voter.specs.declared.state.VoterState.{VoterState}
 use Rattle.voter.specs.Waiting.{Waiting, front}
 use Rattle.voter.specs.Replies.{AllReportPlace, locked_in, locked_count, AllCarry, seen_after, AreAnswers, CarrySeen}
-use Rattle.voter.specs.Steps.{Outcome, grant_to, grant_front, released, released_by, queued, queued_by, inquiry, fail_former, admitted, admitted_by, queue, freed, finish}
-use Rattle.voter.specs.Steps.{held_stamp, is_up_to, standing, first_some, requested, requested_by, requested_beside, compared_by, again, again_by, relinquished, relinquished_by}
+use Rattle.voter.specs.Steps.{Outcome, grant_to, grant_front, take_release, take_release_by, join_queue, join_queue_by, inquiry, fail_former, admit, admit_by, queue, free_vote, finish}
+use Rattle.voter.specs.Steps.{held_stamp, is_up_to, current_stamp, first_some, take_request, take_request_by, take_request_beside, compare_by, again, again_by, take_relinquish, take_relinquish_by}
 use Rattle.voter.specs.Steps.{put_back, see, outcome_of, step, remind, remind_of, inquiry_again, IsSound}
 use Rattle.voter.proofs.Front.{front-found}
-use Rattle.voter.proofs.Grants.{granted-compared_by, granted-admitted, KeepsBut-outcome_of, Keeps-released, up_to_own, more}
+use Rattle.voter.proofs.Grants.{granted-compare_by, granted-admit, KeepsBut-outcome_of, Keeps-take_release, up_to_own, more}
 use Rattle.voter.proofs.Soundness.{IsOrderly, get-inserted, get-removed_none, get-removed_self, held_stamp-holder, IsOrderly-see}
 use Rattle.voter.proofs.Effects.{step-Some}
-use Rattle.voter.proofs.Standing.{here_inserted}
+use Rattle.voter.proofs.NewRequests.{here_inserted}
 
 -- FAIL goes to a client that waits, INQUIRE to the holder.
 
@@ -38,14 +38,14 @@ place-grant_front : (w v : VoterState) → AllReportPlace w (grant_front v).repl
 unfolding grant_front
 place-grant_front w v = place-grant_to w v (front v.waiting)
 
-place-released_by : (w : VoterState) (holds waits : Bool) (v : VoterState) (c s : ℕ) → AllReportPlace w (released_by holds waits v c s).replies
-place-released_by w true waits v c s = place-grant_front w (freed (finish v c s))
-place-released_by w false true v c s = tt
-place-released_by w false false v c s = tt
+place-take_release_by : (w : VoterState) (holds waits : Bool) (v : VoterState) (c s : ℕ) → AllReportPlace w (take_release_by holds waits v c s).replies
+place-take_release_by w true waits v c s = place-grant_front w (free_vote (finish v c s))
+place-take_release_by w false true v c s = tt
+place-take_release_by w false false v c s = tt
 
-place-released : (w v : VoterState) (c s : ℕ) → AllReportPlace w (released v c s).replies
-unfolding released
-place-released w v c s = place-released_by w _ _ v c s
+place-take_release : (w v : VoterState) (c s : ℕ) → AllReportPlace w (take_release v c s).replies
+unfolding take_release
+place-take_release w v c s = place-take_release_by w _ _ v c s
 
 -- who waited still does, when another comes
 still_waits : (w : Waiting) (c s d t : ℕ) → get w c ≡ None → get w d ≡ Some t → get (insert w c s) d ≡ Some t
@@ -69,20 +69,20 @@ place_inquiry false v w g o is waits = ((g, is, refl, refl), place_former v w o 
 front_waits : (v : VoterState) (c s : ℕ) → get v.waiting c ≡ None → (q : Request) → front v.waiting ≡ Some q → get (insert v.waiting c s) q.client ≡ Some q.stamp
 front_waits v c s none q is = still_waits v.waiting c s q.client q.stamp none (front-found v.waiting q is)
 
-place-queued_by : (waits granted : Bool) (v : VoterState) (g : Grant) (c s : ℕ) → v.held ≡ Some g → get v.waiting c ≡ None
-    → AllReportPlace (queued_by waits granted v g c s).state (queued_by waits granted v g c s).replies
-place-queued_by true granted v g c s is none = (here_inserted v.waiting c s, tt)
-place-queued_by false true v g c s is none = (here_inserted v.waiting c s, place_former v (queue v c s) (front v.waiting) (front_waits v c s none))
-place-queued_by false false v g c s is none = place_inquiry v.inquiring v (record (queue v c s) { inquiring = true }) g (front v.waiting) is (front_waits v c s none)
+place-join_queue_by : (waits granted : Bool) (v : VoterState) (g : Grant) (c s : ℕ) → v.held ≡ Some g → get v.waiting c ≡ None
+    → AllReportPlace (join_queue_by waits granted v g c s).state (join_queue_by waits granted v g c s).replies
+place-join_queue_by true granted v g c s is none = (here_inserted v.waiting c s, tt)
+place-join_queue_by false true v g c s is none = (here_inserted v.waiting c s, place_former v (queue v c s) (front v.waiting) (front_waits v c s none))
+place-join_queue_by false false v g c s is none = place_inquiry v.inquiring v (record (queue v c s) { inquiring = true }) g (front v.waiting) is (front_waits v c s none)
 
-place-admitted_by : (o : Option Grant) (v : VoterState) (c s : ℕ) → v.held ≡ o → get v.waiting c ≡ None → AllReportPlace (admitted_by o v c s).state (admitted_by o v c s).replies
-unfolding queued
-place-admitted_by None v c s is none = place-grant_front (grant_front (queue v c s)).state (queue v c s)
-place-admitted_by (Some g) v c s is none = place-queued_by _ _ v g c s is none
+place-admit_by : (o : Option Grant) (v : VoterState) (c s : ℕ) → v.held ≡ o → get v.waiting c ≡ None → AllReportPlace (admit_by o v c s).state (admit_by o v c s).replies
+unfolding join_queue
+place-admit_by None v c s is none = place-grant_front (grant_front (queue v c s)).state (queue v c s)
+place-admit_by (Some g) v c s is none = place-join_queue_by _ _ v g c s is none
 
-place-admitted : (v : VoterState) (c s : ℕ) → get v.waiting c ≡ None → AllReportPlace (admitted v c s).state (admitted v c s).replies
-unfolding admitted
-place-admitted v c s none = place-admitted_by v.held v c s refl none
+place-admit : (v : VoterState) (c s : ℕ) → get v.waiting c ≡ None → AllReportPlace (admit v c s).state (admit v c s).replies
+unfolding admit
+place-admit v c s none = place-admit_by v.held v c s refl none
 
 waits_free : (o : Option Grant) (w : Option ℕ) (c s : ℕ) → o ≡ None → first_some (held_stamp o c) w ≡ Some s → w ≡ Some s
 waits_free None w c s free present = present
@@ -92,11 +92,11 @@ waits_beside : (o : Option Grant) (w : Option ℕ) (c : ℕ) (g : Grant) (s : �
 waits_beside None w c g s is other present = absurd (none-some g is)
 waits_beside (Some h) w c g s is other present = let client = ap (λ (k : Grant). k.client) (same_Some h g is) in grind (arith, nat_tests)
 
-place_again_by : (b : Bool) (v : VoterState) (g : Grant) (c s : ℕ) → (g.client == c) ≡ b → v.held ≡ Some g → standing v c ≡ Some s → AllReportPlace v (again_by b v g c s)
+place_again_by : (b : Bool) (v : VoterState) (g : Grant) (c s : ℕ) → (g.client == c) ≡ b → v.held ≡ Some g → current_stamp v c ≡ Some s → AllReportPlace v (again_by b v g c s)
 place_again_by true v g c s e is present = (tt, tt)
 place_again_by false v g c s e is present = (waits_beside v.held (get v.waiting c) c g s is e present, tt)
 
-place_again : (o : Option Grant) (v : VoterState) (c s : ℕ) → v.held ≡ o → standing v c ≡ Some s → AllReportPlace v (again v o c s)
+place_again : (o : Option Grant) (v : VoterState) (c s : ℕ) → v.held ≡ o → current_stamp v c ≡ Some s → AllReportPlace v (again v o c s)
 place_again None v c s is present = (waits_free v.held (get v.waiting c) c s is present, tt)
 place_again (Some g) v c s is present = place_again_by _ v g c s refl is present
 
@@ -114,53 +114,53 @@ gone_by : (o w : Option ℕ) (t : ℕ) → first_some o w ≡ Some t → is_up_t
 gone_by None w t present held waits = absurd (false≢true (sym waits ∙ ap (λ x. is_up_to x t) present ∙ grind (arith, nat_tests)))
 gone_by (Some u) w t present held waits = let same = same_Some u t present in absurd (false≢true (sym held ∙ grind (arith, nat_tests)))
 
-gone-released_by : (holds waits : Bool) (v : VoterState) (c t : ℕ) → is_up_to (held_stamp v.held c) t ≡ holds → is_up_to (get v.waiting c) t ≡ waits → standing v c ≡ Some t
-    → IsOrderly v → get (released_by holds waits v c t).state.waiting c ≡ None
-gone-released_by true waits v c t e f present h =
+gone-take_release_by : (holds waits : Bool) (v : VoterState) (c t : ℕ) → is_up_to (held_stamp v.held c) t ≡ holds → is_up_to (get v.waiting c) t ≡ waits → current_stamp v c ≡ Some t
+    → IsOrderly v → get (take_release_by holds waits v c t).state.waiting c ≡ None
+gone-take_release_by true waits v c t e f present h =
     let own = held_stamp-holder v.held c (sym (up_to_own (held_stamp v.held c) (get v.waiting c) t present) ∙ e) in
-    gone-grant_front (freed (finish v c t)) c (ap (get v.waiting) (sym own.2) ∙ h.apart own.0 own.1)
-gone-released_by false true v c t e f present h = get-removed_self v.waiting c
-gone-released_by false false v c t e f present h = gone_by (held_stamp v.held c) (get v.waiting c) t present e f
+    gone-grant_front (free_vote (finish v c t)) c (ap (get v.waiting) (sym own.2) ∙ h.apart own.0 own.1)
+gone-take_release_by false true v c t e f present h = get-removed_self v.waiting c
+gone-take_release_by false false v c t e f present h = gone_by (held_stamp v.held c) (get v.waiting c) t present e f
 
-gone-released : (v : VoterState) (c t : ℕ) → standing v c ≡ Some t → IsOrderly v → get (released v c t).state.waiting c ≡ None
-unfolding released
-gone-released v c t present h = gone-released_by _ _ v c t refl refl present h
+gone-take_release : (v : VoterState) (c t : ℕ) → current_stamp v c ≡ Some t → IsOrderly v → get (take_release v c t).state.waiting c ≡ None
+unfolding take_release
+gone-take_release v c t present h = gone-take_release_by _ _ v c t refl refl present h
 
-place-compared_by : (less same : Bool) (v : VoterState) (c s t : ℕ) → (s == t) ≡ same → standing v c ≡ Some t → IsOrderly v
-    → AllReportPlace (compared_by less same v c s t).state (compared_by less same v c s t).replies
-place-compared_by true same v c s t e present h = tt
-place-compared_by false true v c s t e present h = let same : t ≡ s = grind (arith, nat_tests) in place_again v.held v c s refl (present ∙ ap (λ (n : ℕ). Some n) same)
-place-compared_by false false v c s t e present h =
-    let w = (released v c t).state in
-    let a = admitted w c s in
-    AllByRecursion-append _ (released v c t).replies a.replies (place-released a.state v c t) (place-admitted w c s (gone-released v c t present h))
+place-compare_by : (less same : Bool) (v : VoterState) (c s t : ℕ) → (s == t) ≡ same → current_stamp v c ≡ Some t → IsOrderly v
+    → AllReportPlace (compare_by less same v c s t).state (compare_by less same v c s t).replies
+place-compare_by true same v c s t e present h = tt
+place-compare_by false true v c s t e present h = let same : t ≡ s = grind (arith, nat_tests) in place_again v.held v c s refl (present ∙ ap (λ (n : ℕ). Some n) same)
+place-compare_by false false v c s t e present h =
+    let w = (take_release v c t).state in
+    let a = admit w c s in
+    AllByRecursion-append _ (take_release v c t).replies a.replies (place-take_release a.state v c t) (place-admit w c s (gone-take_release v c t present h))
 
 none_waits : (o w : Option ℕ) → first_some o w ≡ None → w ≡ None
 none_waits None w e = e
 none_waits (Some s) w e = absurd (none-some s (sym e))
 
-place-beside : (v : VoterState) (c s : ℕ) (o : Option ℕ) → standing v c ≡ o → IsOrderly v → AllReportPlace (requested_beside v c s o).state (requested_beside v c s o).replies
-unfolding requested_beside
-place-beside v c s None present h = place-admitted v c s (none_waits (held_stamp v.held c) (get v.waiting c) present)
-place-beside v c s (Some t) present h = place-compared_by _ _ v c s t refl present h
+place-beside : (v : VoterState) (c s : ℕ) (o : Option ℕ) → current_stamp v c ≡ o → IsOrderly v → AllReportPlace (take_request_beside v c s o).state (take_request_beside v c s o).replies
+unfolding take_request_beside
+place-beside v c s None present h = place-admit v c s (none_waits (held_stamp v.held c) (get v.waiting c) present)
+place-beside v c s (Some t) present h = place-compare_by _ _ v c s t refl present h
 
-place-requested_by : (done : Bool) (v : VoterState) (c s : ℕ) → IsOrderly v → AllReportPlace (requested_by done v c s).state (requested_by done v c s).replies
-place-requested_by true v c s h = tt
-place-requested_by false v c s h = place-beside v c s (standing v c) refl h
+place-take_request_by : (done : Bool) (v : VoterState) (c s : ℕ) → IsOrderly v → AllReportPlace (take_request_by done v c s).state (take_request_by done v c s).replies
+place-take_request_by true v c s h = tt
+place-take_request_by false v c s h = place-beside v c s (current_stamp v c) refl h
 
 place-put_back : (o : Option Grant) (v : VoterState) → AllReportPlace (put_back o v).state (put_back o v).replies
 place-put_back None v = tt
-place-put_back (Some g) v = place-grant_front (grant_front (queue (freed v) g.client g.stamp)).state (queue (freed v) g.client g.stamp)
+place-put_back (Some g) v = place-grant_front (grant_front (queue (free_vote v) g.client g.stamp)).state (queue (free_vote v) g.client g.stamp)
 
-place-relinquished_by : (b : Bool) (v : VoterState) → AllReportPlace (relinquished_by b v).state (relinquished_by b v).replies
-place-relinquished_by true v = place-put_back v.held v
-place-relinquished_by false v = tt
+place-take_relinquish_by : (b : Bool) (v : VoterState) → AllReportPlace (take_relinquish_by b v).state (take_relinquish_by b v).replies
+place-take_relinquish_by true v = place-put_back v.held v
+place-take_relinquish_by false v = tt
 
 place_after : (v : VoterState) (c : ℕ) (b : VoterBody) → IsOrderly v → AllReportPlace (outcome_of v c b).state (outcome_of v c b).replies
-unfolding relinquished requested
-place_after v c (asks.Request s) h = place-requested_by _ (see v s) c s (IsOrderly-see v s h)
-place_after v c (asks.Relinquish n) h = place-relinquished_by _ v
-place_after v c (asks.Release s) h = place-released (released (see v s) c s).state (see v s) c s
+unfolding take_relinquish take_request
+place_after v c (asks.Request s) h = place-take_request_by _ (see v s) c s (IsOrderly-see v s h)
+place_after v c (asks.Relinquish n) h = place-take_relinquish_by _ v
+place_after v c (asks.Release s) h = place-take_release (take_release (see v s) c s).state (see v s) c s
 
 -- At most three replies, and at most one LOCKED.
 
@@ -189,14 +189,14 @@ few-grant_front : (v : VoterState) → IsFew 1 v (grant_front v)
 unfolding grant_front
 few-grant_front v = few-grant_to v (front v.waiting)
 
-few-released_by : (holds waits : Bool) (v : VoterState) (c s : ℕ) → IsFew 1 v (released_by holds waits v c s)
-few-released_by true waits v c s = let k = few-grant_front (freed (finish v c s)) in record { few = k.few; locked = k.locked }
-few-released_by false true v c s = record { few = omega arith; locked = omega arith }
-few-released_by false false v c s = record { few = omega arith; locked = omega arith }
+few-take_release_by : (holds waits : Bool) (v : VoterState) (c s : ℕ) → IsFew 1 v (take_release_by holds waits v c s)
+few-take_release_by true waits v c s = let k = few-grant_front (free_vote (finish v c s)) in record { few = k.few; locked = k.locked }
+few-take_release_by false true v c s = record { few = omega arith; locked = omega arith }
+few-take_release_by false false v c s = record { few = omega arith; locked = omega arith }
 
-few-released : (v : VoterState) (c s : ℕ) → IsFew 1 v (released v c s)
-unfolding released
-few-released v c s = few-released_by _ _ v c s
+few-take_release : (v : VoterState) (c s : ℕ) → IsFew 1 v (take_release v c s)
+unfolding take_release
+few-take_release v c s = few-take_release_by _ _ v c s
 
 record IsQuiet (most : ℕ) (replies : List ToClient) : Type 0 where
   few : length replies ≤ most
@@ -210,19 +210,19 @@ quiet_inquiry : (out : Bool) (v : VoterState) (g : Grant) (o : Option Request) �
 quiet_inquiry true v g o = let k = quiet_former v o in let n = k.few in record { few = omega arith; locked = k.locked }
 quiet_inquiry false v g o = let k = quiet_former v o in let n = k.few in let l = k.locked in record { few = omega arith; locked = omega arith }
 
-few-queued_by : (waits granted : Bool) (v : VoterState) (g : Grant) (c s : ℕ) → IsFew 2 v (queued_by waits granted v g c s)
-few-queued_by true granted v g c s = record { few = omega arith; locked = omega arith }
-few-queued_by false true v g c s = let k = quiet_former v (front v.waiting) in let n = k.few in let l = k.locked in record { few = omega arith; locked = grind (arith, nat_tests) }
-few-queued_by false false v g c s = let k = quiet_inquiry v.inquiring v g (front v.waiting) in let n = k.few in let l = k.locked in record { few = n; locked = grind (arith, nat_tests) }
+few-join_queue_by : (waits granted : Bool) (v : VoterState) (g : Grant) (c s : ℕ) → IsFew 2 v (join_queue_by waits granted v g c s)
+few-join_queue_by true granted v g c s = record { few = omega arith; locked = omega arith }
+few-join_queue_by false true v g c s = let k = quiet_former v (front v.waiting) in let n = k.few in let l = k.locked in record { few = omega arith; locked = grind (arith, nat_tests) }
+few-join_queue_by false false v g c s = let k = quiet_inquiry v.inquiring v g (front v.waiting) in let n = k.few in let l = k.locked in record { few = n; locked = grind (arith, nat_tests) }
 
-few-admitted_by : (o : Option Grant) (v : VoterState) (c s : ℕ) → IsFew 2 v (admitted_by o v c s)
-unfolding queued
-few-admitted_by None v c s = let k = few-grant_front (queue v c s) in let n = k.few in record { few = omega arith; locked = k.locked }
-few-admitted_by (Some g) v c s = few-queued_by _ _ v g c s
+few-admit_by : (o : Option Grant) (v : VoterState) (c s : ℕ) → IsFew 2 v (admit_by o v c s)
+unfolding join_queue
+few-admit_by None v c s = let k = few-grant_front (queue v c s) in let n = k.few in record { few = omega arith; locked = k.locked }
+few-admit_by (Some g) v c s = few-join_queue_by _ _ v g c s
 
-few-admitted : (v : VoterState) (c s : ℕ) → IsFew 2 v (admitted v c s)
-unfolding admitted
-few-admitted v c s = few-admitted_by v.held v c s
+few-admit : (v : VoterState) (c s : ℕ) → IsFew 2 v (admit v c s)
+unfolding admit
+few-admit v c s = few-admit_by v.held v c s
 
 -- few replies, of which at most one is LOCKED
 record IsBrief (replies : List ToClient) : Type 0 where
@@ -252,37 +252,37 @@ both_brief : (b : Bool) (v w : VoterState) (r a : List ToClient) (n : ℕ) → l
 both_brief true v w r a n fr fa lr la g = let c = count_append r a in let l = length-append r a in record { few = omega arith; locked = omega arith }
 both_brief false v w r a n fr fa lr la g = let c = count_append r a in let l = length-append r a in record { few = omega arith; locked = omega arith }
 
-brief-compared_by : (less same : Bool) (v : VoterState) (c s t : ℕ) → nat_lt s t ≡ less → (s == t) ≡ same → standing v c ≡ Some t → IsBrief (compared_by less same v c s t).replies
-brief-compared_by true same v c s t l e present = brief_none
-brief-compared_by false true v c s t l e present = brief_again v.held v c s
-brief-compared_by false false v c s t l e present =
-    let w = (released v c t).state in
-    let r = few-released v c t in
-    let a = few-admitted w c s in
-    both_brief _ v w (released v c t).replies (admitted w c s).replies (admitted w c s).state.granted r.few a.few r.locked a.locked (granted-compared_by false false v c s t l e present)
+brief-compare_by : (less same : Bool) (v : VoterState) (c s t : ℕ) → nat_lt s t ≡ less → (s == t) ≡ same → current_stamp v c ≡ Some t → IsBrief (compare_by less same v c s t).replies
+brief-compare_by true same v c s t l e present = brief_none
+brief-compare_by false true v c s t l e present = brief_again v.held v c s
+brief-compare_by false false v c s t l e present =
+    let w = (take_release v c t).state in
+    let r = few-take_release v c t in
+    let a = few-admit w c s in
+    both_brief _ v w (take_release v c t).replies (admit w c s).replies (admit w c s).state.granted r.few a.few r.locked a.locked (granted-compare_by false false v c s t l e present)
 
-brief-beside : (v : VoterState) (c s : ℕ) (o : Option ℕ) → standing v c ≡ o → IsBrief (requested_beside v c s o).replies
-unfolding requested_beside
-brief-beside v c s None present = brief_few _ v (admitted v c s) (few-admitted v c s) (granted-admitted v c s)
-brief-beside v c s (Some t) present = brief-compared_by _ _ v c s t refl refl present
+brief-beside : (v : VoterState) (c s : ℕ) (o : Option ℕ) → current_stamp v c ≡ o → IsBrief (take_request_beside v c s o).replies
+unfolding take_request_beside
+brief-beside v c s None present = brief_few _ v (admit v c s) (few-admit v c s) (granted-admit v c s)
+brief-beside v c s (Some t) present = brief-compare_by _ _ v c s t refl refl present
 
-brief-requested_by : (done : Bool) (v : VoterState) (c s : ℕ) → IsBrief (requested_by done v c s).replies
-brief-requested_by true v c s = brief_none
-brief-requested_by false v c s = brief-beside v c s (standing v c) refl
+brief-take_request_by : (done : Bool) (v : VoterState) (c s : ℕ) → IsBrief (take_request_by done v c s).replies
+brief-take_request_by true v c s = brief_none
+brief-take_request_by false v c s = brief-beside v c s (current_stamp v c) refl
 
 brief-put_back : (o : Option Grant) (v : VoterState) → IsBrief (put_back o v).replies
 brief-put_back None v = brief_none
-brief-put_back (Some g) v = brief_one (queue (freed v) g.client g.stamp) (grant_front (queue (freed v) g.client g.stamp)) (few-grant_front (queue (freed v) g.client g.stamp))
+brief-put_back (Some g) v = brief_one (queue (free_vote v) g.client g.stamp) (grant_front (queue (free_vote v) g.client g.stamp)) (few-grant_front (queue (free_vote v) g.client g.stamp))
 
-brief-relinquished_by : (b : Bool) (v : VoterState) → IsBrief (relinquished_by b v).replies
-brief-relinquished_by true v = brief-put_back v.held v
-brief-relinquished_by false v = brief_none
+brief-take_relinquish_by : (b : Bool) (v : VoterState) → IsBrief (take_relinquish_by b v).replies
+brief-take_relinquish_by true v = brief-put_back v.held v
+brief-take_relinquish_by false v = brief_none
 
 brief_after : (v : VoterState) (c : ℕ) (b : VoterBody) → IsBrief (outcome_of v c b).replies
-unfolding relinquished requested
-brief_after v c (asks.Request s) = brief-requested_by _ (see v s) c s
-brief_after v c (asks.Relinquish n) = brief-relinquished_by _ v
-brief_after v c (asks.Release s) = brief_one (see v s) (released (see v s) c s) (few-released (see v s) c s)
+unfolding take_relinquish take_request
+brief_after v c (asks.Request s) = brief-take_request_by _ (see v s) c s
+brief_after v c (asks.Relinquish n) = brief-take_relinquish_by _ v
+brief_after v c (asks.Release s) = brief_one (see v s) (take_release (see v s) c s) (few-take_release (see v s) c s)
 
 -- The replies carry the voter's number and what it saw.
 
@@ -294,14 +294,14 @@ carry-grant_front : (v : VoterState) → AllCarry v.id v.seen (grant_front v).re
 unfolding grant_front
 carry-grant_front v = carry-grant_to v (front v.waiting)
 
-carry-released_by : (holds waits : Bool) (v : VoterState) (c s : ℕ) → AllCarry v.id v.seen (released_by holds waits v c s).replies
-carry-released_by true waits v c s = carry-grant_front (freed (finish v c s))
-carry-released_by false true v c s = tt
-carry-released_by false false v c s = tt
+carry-take_release_by : (holds waits : Bool) (v : VoterState) (c s : ℕ) → AllCarry v.id v.seen (take_release_by holds waits v c s).replies
+carry-take_release_by true waits v c s = carry-grant_front (free_vote (finish v c s))
+carry-take_release_by false true v c s = tt
+carry-take_release_by false false v c s = tt
 
-carry-released : (v : VoterState) (c s : ℕ) → AllCarry v.id v.seen (released v c s).replies
-unfolding released
-carry-released v c s = carry-released_by _ _ v c s
+carry-take_release : (v : VoterState) (c s : ℕ) → AllCarry v.id v.seen (take_release v c s).replies
+unfolding take_release
+carry-take_release v c s = carry-take_release_by _ _ v c s
 
 carry_former : (v : VoterState) (o : Option Request) → AllCarry v.id v.seen (fail_former v o)
 carry_former v None = tt
@@ -311,19 +311,19 @@ carry_inquiry : (out : Bool) (v : VoterState) (g : Grant) (o : Option Request) �
 carry_inquiry true v g o = carry_former v o
 carry_inquiry false v g o = ((refl, refl), carry_former v o)
 
-carry-queued_by : (waits granted : Bool) (v : VoterState) (g : Grant) (c s : ℕ) → AllCarry v.id v.seen (queued_by waits granted v g c s).replies
-carry-queued_by true granted v g c s = ((refl, refl), tt)
-carry-queued_by false true v g c s = ((refl, refl), carry_former v (front v.waiting))
-carry-queued_by false false v g c s = carry_inquiry v.inquiring v g (front v.waiting)
+carry-join_queue_by : (waits granted : Bool) (v : VoterState) (g : Grant) (c s : ℕ) → AllCarry v.id v.seen (join_queue_by waits granted v g c s).replies
+carry-join_queue_by true granted v g c s = ((refl, refl), tt)
+carry-join_queue_by false true v g c s = ((refl, refl), carry_former v (front v.waiting))
+carry-join_queue_by false false v g c s = carry_inquiry v.inquiring v g (front v.waiting)
 
-carry-admitted_by : (o : Option Grant) (v : VoterState) (c s : ℕ) → AllCarry v.id v.seen (admitted_by o v c s).replies
-unfolding queued
-carry-admitted_by None v c s = carry-grant_front (queue v c s)
-carry-admitted_by (Some g) v c s = carry-queued_by _ _ v g c s
+carry-admit_by : (o : Option Grant) (v : VoterState) (c s : ℕ) → AllCarry v.id v.seen (admit_by o v c s).replies
+unfolding join_queue
+carry-admit_by None v c s = carry-grant_front (queue v c s)
+carry-admit_by (Some g) v c s = carry-join_queue_by _ _ v g c s
 
-carry-admitted : (v : VoterState) (c s : ℕ) → AllCarry v.id v.seen (admitted v c s).replies
-unfolding admitted
-carry-admitted v c s = carry-admitted_by v.held v c s
+carry-admit : (v : VoterState) (c s : ℕ) → AllCarry v.id v.seen (admit v c s).replies
+unfolding admit
+carry-admit v c s = carry-admit_by v.held v c s
 
 carry_again_by : (b : Bool) (v : VoterState) (g : Grant) (c s : ℕ) → AllCarry v.id v.seen (again_by b v g c s)
 carry_again_by true v g c s = ((refl, refl), tt)
@@ -333,37 +333,37 @@ carry_again : (o : Option Grant) (v : VoterState) (c s : ℕ) → AllCarry v.id 
 carry_again None v c s = ((refl, refl), tt)
 carry_again (Some g) v c s = carry_again_by _ v g c s
 
-carry-compared_by : (less same : Bool) (v : VoterState) (c s t : ℕ) → AllCarry v.id v.seen (compared_by less same v c s t).replies
-carry-compared_by true same v c s t = tt
-carry-compared_by false true v c s t = carry_again v.held v c s
-carry-compared_by false false v c s t =
-    let w = (released v c t).state in
-    let k = Keeps-released v c t in
-    let a = (admitted w c s).replies in
-    AllByRecursion-append _ (released v c t).replies a (carry-released v c t) (subst (λ i. AllCarry i v.seen a) k.id (subst (λ n. AllCarry w.id n a) k.seen (carry-admitted w c s)))
+carry-compare_by : (less same : Bool) (v : VoterState) (c s t : ℕ) → AllCarry v.id v.seen (compare_by less same v c s t).replies
+carry-compare_by true same v c s t = tt
+carry-compare_by false true v c s t = carry_again v.held v c s
+carry-compare_by false false v c s t =
+    let w = (take_release v c t).state in
+    let k = Keeps-take_release v c t in
+    let a = (admit w c s).replies in
+    AllByRecursion-append _ (take_release v c t).replies a (carry-take_release v c t) (subst (λ i. AllCarry i v.seen a) k.id (subst (λ n. AllCarry w.id n a) k.seen (carry-admit w c s)))
 
-carry-beside : (v : VoterState) (c s : ℕ) (o : Option ℕ) → AllCarry v.id v.seen (requested_beside v c s o).replies
-unfolding requested_beside
-carry-beside v c s None = carry-admitted v c s
-carry-beside v c s (Some t) = carry-compared_by _ _ v c s t
+carry-beside : (v : VoterState) (c s : ℕ) (o : Option ℕ) → AllCarry v.id v.seen (take_request_beside v c s o).replies
+unfolding take_request_beside
+carry-beside v c s None = carry-admit v c s
+carry-beside v c s (Some t) = carry-compare_by _ _ v c s t
 
-carry-requested_by : (done : Bool) (v : VoterState) (c s : ℕ) → AllCarry v.id v.seen (requested_by done v c s).replies
-carry-requested_by true v c s = tt
-carry-requested_by false v c s = carry-beside v c s (standing v c)
+carry-take_request_by : (done : Bool) (v : VoterState) (c s : ℕ) → AllCarry v.id v.seen (take_request_by done v c s).replies
+carry-take_request_by true v c s = tt
+carry-take_request_by false v c s = carry-beside v c s (current_stamp v c)
 
 carry-put_back : (o : Option Grant) (v : VoterState) → AllCarry v.id v.seen (put_back o v).replies
 carry-put_back None v = tt
-carry-put_back (Some g) v = carry-grant_front (queue (freed v) g.client g.stamp)
+carry-put_back (Some g) v = carry-grant_front (queue (free_vote v) g.client g.stamp)
 
-carry-relinquished_by : (b : Bool) (v : VoterState) → AllCarry v.id v.seen (relinquished_by b v).replies
-carry-relinquished_by true v = carry-put_back v.held v
-carry-relinquished_by false v = tt
+carry-take_relinquish_by : (b : Bool) (v : VoterState) → AllCarry v.id v.seen (take_relinquish_by b v).replies
+carry-take_relinquish_by true v = carry-put_back v.held v
+carry-take_relinquish_by false v = tt
 
 carry_after : (v : VoterState) (c : ℕ) (b : VoterBody) → AllCarry v.id (seen_after v.seen b) (outcome_of v c b).replies
-unfolding relinquished requested
-carry_after v c (asks.Request s) = carry-requested_by _ (see v s) c s
-carry_after v c (asks.Relinquish n) = carry-relinquished_by _ v
-carry_after v c (asks.Release s) = carry-released (see v s) c s
+unfolding take_relinquish take_request
+carry_after v c (asks.Request s) = carry-take_request_by _ (see v s) c s
+carry_after v c (asks.Relinquish n) = carry-take_relinquish_by _ v
+carry_after v c (asks.Release s) = carry-take_release (see v s) c s
 
 -- The step.
 

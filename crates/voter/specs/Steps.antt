@@ -21,8 +21,8 @@ pub record Outcome : Type 0 where
   pub state : VoterState
 
 -- no reply, and the state stays as it was
-abbrev pub silent : VoterState → Outcome
-silent v = record { replies = []; state = v }
+abbrev pub no_reply : VoterState → Outcome
+no_reply v = record { replies = []; state = v }
 
 -- one outcome and then another: the replies of both, and the state after the second
 abbrev pub and_then : Outcome → Outcome → Outcome
@@ -45,7 +45,7 @@ granted_to v r = record v {
 
 -- the request, if there is one, gets the vote, and its client receives LOCKED
 abbrev pub grant_to : VoterState → Option Request → Outcome
-grant_to v None = silent v
+grant_to v None = no_reply v
 grant_to v (Some r) = record {
   replies = reply v r.client (to_client.Locked r.stamp (v.granted + 1)) ∷ [];
   state = granted_to v r;
@@ -56,8 +56,8 @@ unfoldable pub grant_front : VoterState → Outcome
 grant_front v = grant_to v (front v.waiting)
 
 -- the current grant ends
-abbrev pub freed : VoterState → VoterState
-freed v = record v { held = None; inquiring = false }
+abbrev pub free_vote : VoterState → VoterState
+free_vote v = record v { held = None; inquiring = false }
 
 -- the stamp under which this client holds the vote, if it does
 abbrev pub held_stamp : Option Grant → ℕ → Option ℕ
@@ -71,8 +71,8 @@ first_some (Some s) o = Some s
 
 -- the stamp of the client's current request: the one that holds the vote, or else the one that
 -- waits
-abbrev pub standing : VoterState → ℕ → Option ℕ
-standing v client = first_some (held_stamp v.held client) (get v.waiting client)
+abbrev pub current_stamp : VoterState → ℕ → Option ℕ
+current_stamp v client = first_some (held_stamp v.held client) (get v.waiting client)
 
 -- RELEASE
 
@@ -90,16 +90,16 @@ abbrev pub withdraw : VoterState → ℕ → VoterState
 withdraw v client = record v { waiting = remove v.waiting client }
 
 -- by whether the client holds the vote under a stamp up to this one, and whether it waits under one
-abbrev pub released_by : Bool → Bool → VoterState → ℕ → ℕ → Outcome
-released_by true waits v client stamp = grant_front (freed (finish v client stamp))
-released_by false true v client stamp = silent (withdraw (finish v client stamp) client)
-released_by false false v client stamp = silent (finish v client stamp)
+abbrev pub take_release_by : Bool → Bool → VoterState → ℕ → ℕ → Outcome
+take_release_by true waits v client stamp = grant_front (free_vote (finish v client stamp))
+take_release_by false true v client stamp = no_reply (withdraw (finish v client stamp) client)
+take_release_by false false v client stamp = no_reply (finish v client stamp)
 
 -- RELEASE: the client's requests up to this stamp are finished. If one of them holds the vote, the
 -- vote goes to the front of the queue. If one waits, it leaves the queue.
-unfoldable pub released : VoterState → ℕ → ℕ → Outcome
-released v client stamp =
-    released_by (is_up_to (held_stamp v.held client) stamp) (is_up_to (get v.waiting client) stamp) v client stamp
+unfoldable pub take_release : VoterState → ℕ → ℕ → Outcome
+take_release v client stamp =
+    take_release_by (is_up_to (held_stamp v.held client) stamp) (is_up_to (get v.waiting client) stamp) v client stamp
 
 -- REQUEST
 
@@ -121,16 +121,16 @@ fail_former v (Some q) = reply v q.client (to_client.Fail q.stamp) ∷ []
 -- whether the granted one does. If one of them does, the new request receives FAIL. Otherwise the
 -- holder receives INQUIRE, unless one is outstanding. If the new request is first in the queue, the
 -- former first one receives FAIL.
-abbrev pub queued_by : Bool → Bool → VoterState → Grant → ℕ → ℕ → Outcome
-queued_by true granted v g client stamp = record {
+abbrev pub join_queue_by : Bool → Bool → VoterState → Grant → ℕ → ℕ → Outcome
+join_queue_by true granted v g client stamp = record {
   replies = reply v client (to_client.Fail stamp) ∷ [];
   state = queue v client stamp;
 }
-queued_by false true v g client stamp = record {
+join_queue_by false true v g client stamp = record {
   replies = reply v client (to_client.Fail stamp) ∷ fail_former v (front v.waiting);
   state = queue v client stamp;
 }
-queued_by false false v g client stamp = record {
+join_queue_by false false v g client stamp = record {
   replies = inquiry v.inquiring v g ++ fail_former v (front v.waiting);
   state = record (queue v client stamp) { inquiring = true };
 }
@@ -142,20 +142,20 @@ is_before (Some q) r = precedes q r
 
 -- A new request while the vote is held: it waits. If it precedes the granted request and all
 -- waiting ones, the holder is asked to give the vote back. Otherwise its client receives FAIL.
-unfoldable pub queued : VoterState → Grant → ℕ → ℕ → Outcome
-queued v g client stamp =
-    queued_by (is_before (front v.waiting) (record { stamp = stamp; client = client }))
+unfoldable pub join_queue : VoterState → Grant → ℕ → ℕ → Outcome
+join_queue v g client stamp =
+    join_queue_by (is_before (front v.waiting) (record { stamp = stamp; client = client }))
     (precedes (record { stamp = g.stamp; client = g.client }) (record { stamp = stamp; client = client }))
     v g client stamp
 
 -- a new request, of a client that neither holds the vote nor waits, by who holds the vote
-abbrev pub admitted_by : Option Grant → VoterState → ℕ → ℕ → Outcome
-admitted_by None v client stamp = grant_front (queue v client stamp)
-admitted_by (Some g) v client stamp = queued v g client stamp
+abbrev pub admit_by : Option Grant → VoterState → ℕ → ℕ → Outcome
+admit_by None v client stamp = grant_front (queue v client stamp)
+admit_by (Some g) v client stamp = join_queue v g client stamp
 
 -- a new request: it gets the vote if the vote is free, and waits otherwise
-unfoldable pub admitted : VoterState → ℕ → ℕ → Outcome
-admitted v client stamp = admitted_by v.held v client stamp
+unfoldable pub admit : VoterState → ℕ → ℕ → Outcome
+admit v client stamp = admit_by v.held v client stamp
 
 -- the reply to a repeated request: LOCKED again if its client holds the vote, FAIL again if it
 -- waits
@@ -170,26 +170,26 @@ again v (Some g) client stamp = again_by (g.client == client) v g client stamp
 
 -- A request of a client with a current request, by whether it is older than that, and whether it is
 -- that one. A newer request finishes the older one first.
-abbrev pub compared_by : Bool → Bool → VoterState → ℕ → ℕ → ℕ → Outcome
-compared_by true same v client stamp s = silent v
-compared_by false true v client stamp s = record { replies = again v v.held client stamp; state = v }
-compared_by false false v client stamp s =
-    and_then (released v client s) (admitted (released v client s).state client stamp)
+abbrev pub compare_by : Bool → Bool → VoterState → ℕ → ℕ → ℕ → Outcome
+compare_by true same v client stamp s = no_reply v
+compare_by false true v client stamp s = record { replies = again v v.held client stamp; state = v }
+compare_by false false v client stamp s =
+    and_then (take_release v client s) (admit (take_release v client s).state client stamp)
 
 -- by the stamp of the client's current request, if there is one
-unfoldable pub requested_beside : VoterState → ℕ → ℕ → Option ℕ → Outcome
-requested_beside v client stamp None = admitted v client stamp
-requested_beside v client stamp (Some s) = compared_by (nat_lt stamp s) (stamp == s) v client stamp s
+unfoldable pub take_request_beside : VoterState → ℕ → ℕ → Option ℕ → Outcome
+take_request_beside v client stamp None = admit v client stamp
+take_request_beside v client stamp (Some s) = compare_by (nat_lt stamp s) (stamp == s) v client stamp s
 
 -- by whether the request is finished
-abbrev pub requested_by : Bool → VoterState → ℕ → ℕ → Outcome
-requested_by true v client stamp = silent v
-requested_by false v client stamp = requested_beside v client stamp (standing v client)
+abbrev pub take_request_by : Bool → VoterState → ℕ → ℕ → Outcome
+take_request_by true v client stamp = no_reply v
+take_request_by false v client stamp = take_request_beside v client stamp (current_stamp v client)
 
 -- REQUEST: one that is finished, or older than the client's current request, does nothing. The
 -- current request gets its reply again. A new one is admitted.
-unfoldable pub requested : VoterState → ℕ → ℕ → Outcome
-requested v client stamp = requested_by (nat_le stamp (slice_index v.finished client)) v client stamp
+unfoldable pub take_request : VoterState → ℕ → ℕ → Outcome
+take_request v client stamp = take_request_by (nat_le stamp (slice_index v.finished client)) v client stamp
 
 -- RELINQUISH
 
@@ -200,17 +200,17 @@ is_grant (Some g) client grant = g.client == client && g.grant == grant
 
 -- the granted request goes back into the queue, and the vote goes to the front of the queue
 abbrev pub put_back : Option Grant → VoterState → Outcome
-put_back None v = silent v
-put_back (Some g) v = grant_front (queue (freed v) g.client g.stamp)
+put_back None v = no_reply v
+put_back (Some g) v = grant_front (queue (free_vote v) g.client g.stamp)
 
 -- RELINQUISH of the current grant puts its request back into the queue; any other does nothing
-abbrev pub relinquished_by : Bool → VoterState → Outcome
-relinquished_by true v = put_back v.held v
-relinquished_by false v = silent v
+abbrev pub take_relinquish_by : Bool → VoterState → Outcome
+take_relinquish_by true v = put_back v.held v
+take_relinquish_by false v = no_reply v
 
 -- RELINQUISH: the holder gives the vote back and goes on waiting
-unfoldable pub relinquished : VoterState → ℕ → ℕ → Outcome
-relinquished v client grant = relinquished_by (is_grant v.held client grant) v
+unfoldable pub take_relinquish : VoterState → ℕ → ℕ → Outcome
+take_relinquish v client grant = take_relinquish_by (is_grant v.held client grant) v
 
 -- Any message
 
@@ -220,9 +220,9 @@ see v stamp = record v { seen = max v.seen stamp }
 
 -- what a message does if enough grants are left
 abbrev pub outcome_of : VoterState → ℕ → VoterBody → Outcome
-outcome_of v client (asks.Request stamp) = requested (see v stamp) client stamp
-outcome_of v client (asks.Relinquish grant) = relinquished v client grant
-outcome_of v client (asks.Release stamp) = released (see v stamp) client stamp
+outcome_of v client (asks.Request stamp) = take_request (see v stamp) client stamp
+outcome_of v client (asks.Relinquish grant) = take_relinquish v client grant
+outcome_of v client (asks.Release stamp) = take_release (see v stamp) client stamp
 
 -- nothing if more grants would have been given than the limit
 abbrev pub unless_spent : Bool → Outcome → Option Outcome
@@ -295,7 +295,7 @@ is_later (Some s) stamp = nat_lt s stamp
 -- the message needs a new grant
 unfoldable pub needs_grant : VoterState → ℕ → VoterBody → Bool
 needs_grant v client (asks.Request stamp) =
-    nat_lt (slice_index v.finished client) stamp && is_later (standing v client) stamp
+    nat_lt (slice_index v.finished client) stamp && is_later (current_stamp v client) stamp
     && (is_none v.held || is_some (held_stamp v.held client))
 needs_grant v client (asks.Relinquish grant) = is_grant v.held client grant
 needs_grant v client (asks.Release stamp) = is_up_to (held_stamp v.held client) stamp && is_some (front v.waiting)

@@ -2,7 +2,7 @@
 ghost use Rattle.std.specs.Prelude.{◌≡◌, ◌<◌, ◌≤◌, ◌+◌, ◌^◌, ◌∷◌, ◌++◌, [], true, slice_index};
 ghost use Rattle.arrayvec.specs.ArrayVec.{array_vec_len};
 ghost use Rattle.numbers.specs.Bounds.{max_clients};
-ghost use Rattle.voter.specs.Steps.{admitted, again, ends_grant, grant_front, held_stamp, inquiry, is_before, is_grant, is_later, is_older, is_refused, is_up_to, needs_grant, outcome_of, queued, released, relinquished, remind, reply, requested, requested_beside, standing};
+ghost use Rattle.voter.specs.Steps.{admit, again, ends_grant, grant_front, held_stamp, inquiry, is_before, is_grant, is_later, is_older, is_refused, is_up_to, needs_grant, outcome_of, join_queue, take_release, take_relinquish, remind, reply, take_request, take_request_beside, current_stamp};
 
 use crate::queue::{Queue, precedes};
 use arrayvec::ArrayVec;
@@ -107,13 +107,13 @@ impl VoterState {
         }
     }
 
-    #[tactic(auto, unfolding(crate::specs::Steps::released))]
+    #[tactic(auto, unfolding(crate::specs::Steps::take_release))]
     fn release(&mut self, client: u8, stamp: u64, replies: &mut Replies)
         requires client { client < max_clients }
         requires room { array_vec_len replies.old < 3 }
         requires few { self.old.granted < 2 ^ 63 }
-        ensures state { self.new ≡ (released self.old client stamp).state }
-        ensures replies { replies.new.items ≡ replies.old.items ++ (released self.old client stamp).replies }
+        ensures state { self.new ≡ (take_release self.old client stamp).state }
+        ensures replies { replies.new.items ≡ replies.old.items ++ (take_release self.old client stamp).replies }
         ensures len { array_vec_len replies.new ≤ array_vec_len replies.old + 1 }
         ensures granted { self.new.granted ≤ self.old.granted + 1 }
     {
@@ -152,13 +152,13 @@ impl VoterState {
     }
 
     /// Queues a new request while another one holds the vote.
-    #[tactic(auto, unfolding(crate::specs::Steps::queued))]
+    #[tactic(auto, unfolding(crate::specs::Steps::join_queue))]
     fn queue_behind(&mut self, grant: Grant, request: Request, replies: &mut Replies)
         requires client { request.client < max_clients }
         requires room { array_vec_len replies.old < 2 }
-        ensures state { self.new ≡ (queued self.old grant request.client request.stamp).state }
+        ensures state { self.new ≡ (join_queue self.old grant request.client request.stamp).state }
         ensures replies { replies.new.items
-            ≡ replies.old.items ++ (queued self.old grant request.client request.stamp).replies }
+            ≡ replies.old.items ++ (join_queue self.old grant request.client request.stamp).replies }
     {
         let holder = Request {
             stamp: grant.stamp,
@@ -181,14 +181,14 @@ impl VoterState {
     }
 
     /// Admits a new request of a client that neither holds the vote nor waits.
-    #[tactic(auto, unfolding(crate::specs::Steps::admitted))]
+    #[tactic(auto, unfolding(crate::specs::Steps::admit))]
     fn admit(&mut self, request: Request, replies: &mut Replies)
         requires client { request.client < max_clients }
         requires room { array_vec_len replies.old < 2 }
         requires few { self.old.granted < 2 ^ 63 }
-        ensures state { self.new ≡ (admitted self.old request.client request.stamp).state }
+        ensures state { self.new ≡ (admit self.old request.client request.stamp).state }
         ensures replies { replies.new.items
-            ≡ replies.old.items ++ (admitted self.old request.client request.stamp).replies }
+            ≡ replies.old.items ++ (admit self.old request.client request.stamp).replies }
     {
         match self.held {
             Some(grant) => self.queue_behind(grant, request, replies),
@@ -200,8 +200,8 @@ impl VoterState {
     }
 
     /// Returns the stamp of the client's current request: the one that holds the vote or waits.
-    fn standing(&self, client: u8) -> Option<u64>
-        ensures { result ≡ standing self.now client }
+    fn current_stamp(&self, client: u8) -> Option<u64>
+        ensures { result ≡ current_stamp self.now client }
     {
         match self.held_stamp(client) {
             Some(stamp) => Some(stamp),
@@ -226,14 +226,14 @@ impl VoterState {
         replies.push(self.reply(request.client, body));
     }
 
-    #[tactic(auto, unfolding(crate::specs::Steps::requested_beside))]
+    #[tactic(auto, unfolding(crate::specs::Steps::take_request_beside))]
     fn request_beside(&mut self, request: Request, standing: Option<u64>, replies: &mut Replies)
         requires client { request.client < max_clients }
         requires room { replies.old.items ≡ [] }
         requires few { self.old.granted + 1 < 2 ^ 63 }
-        ensures state { self.new ≡ (requested_beside self.old request.client request.stamp standing).state }
+        ensures state { self.new ≡ (take_request_beside self.old request.client request.stamp standing).state }
         ensures replies { replies.new.items
-            ≡ (requested_beside self.old request.client request.stamp standing).replies }
+            ≡ (take_request_beside self.old request.client request.stamp standing).replies }
     {
         match standing {
             None => self.admit(request, replies),
@@ -248,27 +248,27 @@ impl VoterState {
         }
     }
 
-    #[tactic(auto, unfolding(crate::specs::Steps::requested))]
+    #[tactic(auto, unfolding(crate::specs::Steps::take_request))]
     fn request(&mut self, request: Request, replies: &mut Replies)
         requires client { request.client < max_clients }
         requires room { replies.old.items ≡ [] }
         requires few { self.old.granted + 1 < 2 ^ 63 }
-        ensures state { self.new ≡ (requested self.old request.client request.stamp).state }
-        ensures replies { replies.new.items ≡ (requested self.old request.client request.stamp).replies }
+        ensures state { self.new ≡ (take_request self.old request.client request.stamp).state }
+        ensures replies { replies.new.items ≡ (take_request self.old request.client request.stamp).replies }
     {
         if request.stamp > self.finished_of(request.client) {
-            let standing = self.standing(request.client);
+            let standing = self.current_stamp(request.client);
             self.request_beside(request, standing, replies);
         }
     }
 
-    #[tactic(auto, unfolding(crate::specs::Steps::relinquished))]
+    #[tactic(auto, unfolding(crate::specs::Steps::take_relinquish))]
     fn relinquish(&mut self, client: u8, grant: u64, replies: &mut Replies)
         requires client { client < max_clients }
         requires room { array_vec_len replies.old < 3 }
         requires few { self.old.granted < 2 ^ 63 }
-        ensures state { self.new ≡ (relinquished self.old client grant).state }
-        ensures replies { replies.new.items ≡ replies.old.items ++ (relinquished self.old client grant).replies }
+        ensures state { self.new ≡ (take_relinquish self.old client grant).state }
+        ensures replies { replies.new.items ≡ replies.old.items ++ (take_relinquish self.old client grant).replies }
     {
         if let Some(g) = self.held {
             if g.client == client && g.grant == grant {
@@ -292,7 +292,7 @@ impl VoterState {
         match message.body {
             VoterBody::Request { stamp } => {
                 stamp > self.finished_of(client)
-                    && is_later(self.standing(client), stamp)
+                    && is_later(self.current_stamp(client), stamp)
                     && (self.held.is_none() || self.held_stamp(client).is_some())
             }
             VoterBody::Relinquish { grant } => is_grant(self.held, client, grant),

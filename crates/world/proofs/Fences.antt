@@ -23,7 +23,7 @@ use Rattle.world.specs.declared.fault.WorldFault.{WorldFault}
 use Rattle.world.specs.declared.step.Step.{Step}
 use Rattle.world.specs.declared.step.Step.TheVariants.{Ask, Deliver, Leave, GiveUp, RemindClient, RemindVoter, Exchange}
 use Rattle.world.specs.Restarts.{Node, OneClient, OneVoter, Nobody, Saved, Happening, Goes, Saves, Forgets, Restarts, HasVote, IsIn, IsNewer, IsSameRequest, pass_of, stamp_of}
-use Rattle.world.specs.Restarts.{forget, come_back, if_there, is_silent, maker, save, restart, save_unless, gone, happens, all_happen, begin}
+use Rattle.world.specs.Restarts.{forget, come_back, if_there, is_silent, maker, save, restart, save_unless, save_and_send, happens, all_happen, begin}
 use Rattle.world.specs.Runs.{AreLimits, start}
 use Rattle.world.specs.Steps.{Dealing, Outcome, WorldState, act, after_client, ask, next_ticket, quorum_dealt, say, after_voter, client_at, come, draw_of, exchange, if_client}
 use Rattle.world.specs.Steps.{if_voter, step, voter_at}
@@ -128,7 +128,7 @@ saves_unless : (P : ℕ → VoterState → Type 0) (silent : Bool) (who : Node) 
 saves_unless P true who s each = each
 saves_unless P false who s each = saves P who s each
 
-goes : (P : ℕ → VoterState → Type 0) (s : Saved) (who : Node) (r : Result Outcome WorldFault) → Moved P r → EachSaved P s → EachSaved P (gone s who r)
+goes : (P : ℕ → VoterState → Type 0) (s : Saved) (who : Node) (r : Result Outcome WorldFault) → Moved P r → EachSaved P s → EachSaved P (save_and_send s who r)
 goes P s who (Ok o) now each = saves_unless P (is_silent o.sent o.seen) who (record s { live = o.state }) (now, each.1)
 goes P s who (Err fault) now each = each
 

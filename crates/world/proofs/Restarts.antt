@@ -64,7 +64,7 @@ use Rattle.world.specs.declared.fault.WorldFault.{WorldFault}
 use Rattle.world.specs.declared.step.Step.TheVariants.{Ask, Deliver, Leave, GiveUp, RemindClient, RemindVoter, Exchange}
 use Rattle.world.specs.Ranges.{IsInRange}
 use Rattle.world.specs.Restarts.{Node, OneClient, OneVoter, Nobody, Saved, Happening, Goes, Saves, Forgets, Restarts, forget, crash_seen, come_back, if_there, receiver, save}
-use Rattle.world.specs.Restarts.{restart, is_silent, save_unless, gone, happens, all_happen, begin}
+use Rattle.world.specs.Restarts.{restart, is_silent, save_unless, save_and_send, happens, all_happen, begin}
 use Rattle.world.specs.Runs.{AreLimits, start}
 use Rattle.world.specs.Steps.{Dealing, Outcome, after_client, after_voter, client_at, client_did, come, draw_of, events, exchange, if_client, if_voter, next_ticket, quorum_dealt}
 use Rattle.world.specs.Steps.{say, step, voter_at, voter_did}
@@ -311,7 +311,7 @@ client_gone b given s ok c cause o act true is =
 
 client_tried : (b : Bounds) → Given b → (s : Saved) → SavedOk b s → (c : ℕ) → c < length s.live.clients → (cause : client.Cause)
     → Accepts (client_at s.live.clients c) cause → CameAll b (client_at s.live.clients) s.live.sent c cause → Draws b cause
-    → (r : Result client.Outcome ClientFault) → client.step (client_at s.live.clients c) cause ≡ r → SavedOk b (gone s (OneClient c) (after_client s.live c r))
+    → (r : Result client.Outcome ClientFault) → client.step (client_at s.live.clients c) cause ≡ r → SavedOk b (save_and_send s (OneClient c) (after_client s.live c r))
 client_tried b given s ok c within cause accepts came draws (Ok o) is =
     client_gone b given s ok c cause o (record { within = subst (λ n. c < n) ok.live_clients within; accepts = accepts; step = is; came = came; draws = draws }) _ refl
 client_tried b given s ok c within cause accepts came draws (Err fault) is = ok
@@ -319,7 +319,7 @@ client_tried b given s ok c within cause accepts came draws (Err fault) is = ok
 -- the same with a ticket that is drawn
 client_drew : (b : Bounds) → Given b → (s : Saved) → SavedOk b s → (c : ℕ) → c < length s.live.clients → (cause : client.Cause)
     → Accepts (client_at s.live.clients c) cause → CameAll b (client_at s.live.clients) s.live.sent c cause → Draws b cause
-    → (side : Side) (r : Result client.Outcome ClientFault) → client.step (client_at s.live.clients c) cause ≡ r → SavedOk b (gone s (OneClient c) (after_client (draw_of side s.live c) c r))
+    → (side : Side) (r : Result client.Outcome ClientFault) → client.step (client_at s.live.clients c) cause ≡ r → SavedOk b (save_and_send s (OneClient c) (after_client (draw_of side s.live c) c r))
 client_drew b given s ok c within cause accepts came draws First (Ok o) is =
     client_gone b given (record s { live = draw_of First s.live c })
     (record { live_clients = ok.live_clients; live_voters = ok.live_voters; clients = ok.clients; voters = ok.voters; mixes = ok.mixes; walked = ok.walked; insides = ok.insides }) c cause o
@@ -377,7 +377,7 @@ voter_gone b given s ok m o act true is =
 
 voter_tried : (b : Bounds) → Given b → (s : Saved) → SavedOk b s → (m : ToVoter) → IsInRange b.voters b.clients b.limit (kinds.ToVoter m)
     → ((X : ℕ → ClientState) (Y : ℕ → VoterState) → WorldOk b X Y s.live.sent → AskOk (X m.client) m.voter m.body)
-    → (r : Option voter.Outcome) → voter.step (voter_at s.live.voters m.voter) m ≡ r → SavedOk b (gone s (OneVoter m.voter) (after_voter s.live m.voter r))
+    → (r : Option voter.Outcome) → voter.step (voter_at s.live.voters m.voter) m ≡ r → SavedOk b (save_and_send s (OneVoter m.voter) (after_voter s.live m.voter r))
 voter_tried b given s ok m range asked (Some o) is = voter_gone b given s ok m o (record { range = range; asked = asked; step = is }) _ refl
 voter_tried b given s ok m range asked None is = ok
 
@@ -687,17 +687,17 @@ voter_said b given s ok v within true is =
 
 -- ---- all that may happen
 
-if_one : (b : Bounds) (s : Saved) → SavedOk b s → (who : Node) (t : Bool) (c : ℕ) (next : Result Outcome WorldFault) → (t ≡ true → SavedOk b (gone s who next)) → SavedOk b
-    (gone s who (if_client t c next))
+if_one : (b : Bounds) (s : Saved) → SavedOk b s → (who : Node) (t : Bool) (c : ℕ) (next : Result Outcome WorldFault) → (t ≡ true → SavedOk b (save_and_send s who next)) → SavedOk b
+    (save_and_send s who (if_client t c next))
 if_one b s ok who true c next then = then refl
 if_one b s ok who false c next then = ok
 
-if_voter_one : (b : Bounds) (s : Saved) → SavedOk b s → (who : Node) (t : Bool) (v : ℕ) (next : Result Outcome WorldFault) → (t ≡ true → SavedOk b (gone s who next)) → SavedOk b
-    (gone s who (if_voter t v next))
+if_voter_one : (b : Bounds) (s : Saved) → SavedOk b s → (who : Node) (t : Bool) (v : ℕ) (next : Result Outcome WorldFault) → (t ≡ true → SavedOk b (save_and_send s who next)) → SavedOk b
+    (save_and_send s who (if_voter t v next))
 if_voter_one b s ok who true v next then = then refl
 if_voter_one b s ok who false v next then = ok
 
-exchange_ok : (b : Bounds) (s : Saved) → SavedOk b s → (are_two : Bool) (side : Side) → SavedOk b (gone s Nobody (exchange are_two side s.live))
+exchange_ok : (b : Bounds) (s : Saved) → SavedOk b s → (are_two : Bool) (side : Side) → SavedOk b (save_and_send s Nobody (exchange are_two side s.live))
 exchange_ok b s ok true First = record {
   live_clients = ok.live_clients;
   live_voters = ok.live_voters;
@@ -713,7 +713,7 @@ exchange_ok b s ok false side = ok
 
 comes_ok : (b : Bounds) → Given b → (s : Saved) → SavedOk b s → (k : ℕ) (o : Option Message)
     → ((X : ℕ → ClientState) (Y : ℕ → VoterState) → WorldOk b X Y s.live.sent → (m : Message) → o ≡ Some m → MessageOk X Y m)
-    → ((m : Message) → o ≡ Some m → IsInRange b.voters b.clients b.limit m) → SavedOk b (gone s (receiver o) (come s.live k o))
+    → ((m : Message) → o ≡ Some m → IsInRange b.voters b.clients b.limit m) → SavedOk b (save_and_send s (receiver o) (come s.live k o))
 comes_ok b given s ok k None known range = ok
 comes_ok b given s ok k (Some (kinds.ToVoter m)) known range =
     voter_tried b given s ok m (range (kinds.ToVoter m) refl) (λ X Y world. known X Y world (kinds.ToVoter m) refl) _ refl

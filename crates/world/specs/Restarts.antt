@@ -110,13 +110,13 @@ save_unless false who s = save who s
 
 -- Save, then send: a step that isn't silent is saved before its messages can arrive. A refused step
 -- changes nothing.
-abbrev pub gone : Saved → Node → Result Outcome WorldFault → Saved
-gone s who (Ok o) = save_unless (is_silent o.sent o.seen) who (record s { live = o.state })
-gone s who (Err fault) = s
+abbrev pub save_and_send : Saved → Node → Result Outcome WorldFault → Saved
+save_and_send s who (Ok o) = save_unless (is_silent o.sent o.seen) who (record s { live = o.state })
+save_and_send s who (Err fault) = s
 
 -- the world after one of these happens
 abbrev pub happens : Dealing → Saved → Happening → Saved
-happens deal s (Goes st) = gone s (maker s.live st) (step deal s.live st)
+happens deal s (Goes st) = save_and_send s (maker s.live st) (step deal s.live st)
 happens deal s (Saves who) = save who s
 happens deal s (Forgets who) = forget who s
 happens deal s (Restarts who) = restart who s

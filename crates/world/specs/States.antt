@@ -14,8 +14,8 @@ use Rattle.world.specs.Steps.{Planned, WorldState}
 use Rattle.world.specs.Visible.{IsExclusive}
 
 -- the contents of the lists that the code keeps
-abbrev pub shown : State → WorldState
-shown s = record {
+abbrev pub contents_of : State → WorldState
+contents_of s = record {
   clients = s.clients.items;
   voters = s.voters.items;
   sent = s.sent.items;

@@ -5,7 +5,7 @@ ghost use Rattle.message.specs.declared.message.Message.TheVariants as kinds;
 ghost use Rattle.world.specs.declared.step.Step.TheVariants as steps;
 ghost use Rattle.requester.specs.Steps.Cause.{Takes};
 ghost use Rattle.world.specs.Ranges.{IsNumbered};
-ghost use Rattle.world.specs.States.{HasRoom, cause_of, plans_of, shown};
+ghost use Rattle.world.specs.States.{HasRoom, cause_of, plans_of, contents_of};
 ghost use Rattle.world.specs.Steps as worlds;
 ghost use Rattle.world.specs.Steps.{Dealing, Does, WorldState, act, client_at, dealing_of, events, exchange, if_client, next_ticket, quorum_dealt, vote, voter_at};
 
@@ -46,7 +46,7 @@ pub struct State {
 impl State {
     /// Reserves room for any one step. Fails if out of memory.
     pub fn make_room(&mut self) -> Result<(), AllocError>
-        ensures same { shown self.new ≡ shown self.old }
+        ensures same { contents_of self.new ≡ contents_of self.old }
         ensures room { OnOk result (HasRoom self.new) }
     {
         self.sent.reserve(128)?;
@@ -64,7 +64,7 @@ impl State {
 
     /// Returns the next ticket of the plan in use.
     fn next_ticket(&self) -> u64
-        ensures { result ≡ next_ticket (shown self.now) }
+        ensures { result ≡ next_ticket (contents_of self.now) }
     {
         match self.side {
             Side::First => self.draws.len() as u64,
@@ -116,7 +116,7 @@ impl State {
         requires visible { vec_len self.old.visible + 1 ≤ vec_capacity self.old.visible }
         ensures sent { result.sent ≡ length self.old.out.items }
         ensures seen { result.seen ≡ seen }
-        ensures state { shown self.new ≡ record (shown self.old) {
+        ensures state { contents_of self.new ≡ record (contents_of self.old) {
           sent = self.old.sent.items ++ map kinds.ToVoter self.old.out.items;
           visible = self.old.visible.items ++ events client seen;
         } }
@@ -133,8 +133,8 @@ impl State {
         requires room { room ≡ true → HasRoom self.old }
         requires quorum { 1 ≤ length quorum.now }
         ensures { (deal : Dealing)
-            → quorum_dealt deal self.old.side (next_ticket (shown self.old)) ≡ quorum.now
-            → Does (worlds.step deal (shown self.old) (steps.Ask client)) (shown self.old) result (shown self.new) }
+            → quorum_dealt deal self.old.side (next_ticket (contents_of self.old)) ≡ quorum.now
+            → Does (worlds.step deal (contents_of self.old) (steps.Ask client)) (contents_of self.old) result (contents_of self.new) }
     {
         if let Some(fault) = self.client_fault(client) {
             return Err(fault);
@@ -157,7 +157,7 @@ impl State {
     fn end(&mut self, client: u8, ending: Ending, room: bool) -> Result<Stepped, WorldFault>
         requires room { room ≡ true → HasRoom self.old }
         ensures { Does (if_client (nat_lt client (length self.old.clients.items)) client
-            (act (shown self.old) client (cause_of ending))) (shown self.old) result (shown self.new) }
+            (act (contents_of self.old) client (cause_of ending))) (contents_of self.old) result (contents_of self.new) }
     {
         if let Some(fault) = self.client_fault(client) {
             return Err(fault);
@@ -177,8 +177,8 @@ impl State {
         requires client { message.now.client < length self.old.clients.items }
         requires id { (client_at self.old.clients.items message.now.client).id ≡ message.now.client }
         requires voter { message.now.voter < max_voters }
-        ensures { Does (act (shown self.old) message.now.client (Takes message.now))
-            (shown self.old) result (shown self.new) }
+        ensures { Does (act (contents_of self.old) message.now.client (Takes message.now))
+            (contents_of self.old) result (contents_of self.new) }
     {
         if !room {
             return Err(WorldFault::OutOfMemory);
@@ -192,7 +192,7 @@ impl State {
         requires voter { message.now.voter < length self.old.voters.items }
         requires id { (voter_at self.old.voters.items message.now.voter).id ≡ message.now.voter }
         requires client { message.now.client < max_clients }
-        ensures { Does (vote (shown self.old) message.now) (shown self.old) result (shown self.new) }
+        ensures { Does (vote (contents_of self.old) message.now) (contents_of self.old) result (contents_of self.new) }
     {
         if !room {
             let voter = moves::voter_of(&self.voters, message.voter);
@@ -212,9 +212,9 @@ impl State {
 
     fn deliver(&mut self, number: u64, room: bool) -> Result<Stepped, WorldFault>
         requires room { room ≡ true → HasRoom self.old }
-        requires numbered { IsNumbered (shown self.old) }
+        requires numbered { IsNumbered (contents_of self.old) }
         ensures { (deal : Dealing)
-            → Does (worlds.step deal (shown self.old) (steps.Deliver number)) (shown self.old) result (shown self.new) }
+            → Does (worlds.step deal (contents_of self.old) (steps.Deliver number)) (contents_of self.old) result (contents_of self.new) }
     {
         match self.message(number) {
             None => Err(WorldFault::NoSuchMessage(number)),
@@ -226,8 +226,8 @@ impl State {
     fn remind_client(&mut self, client: u8, room: bool) -> Result<Stepped, WorldFault>
         requires room { room ≡ true → HasRoom self.old }
         ensures { (deal : Dealing)
-            → Does (worlds.step deal (shown self.old) (steps.RemindClient client))
-            (shown self.old) result (shown self.new) }
+            → Does (worlds.step deal (contents_of self.old) (steps.RemindClient client))
+            (contents_of self.old) result (contents_of self.new) }
     {
         if let Some(fault) = self.client_fault(client) {
             return Err(fault);
@@ -246,8 +246,8 @@ impl State {
     fn remind_voter(&mut self, voter: u8, room: bool) -> Result<Stepped, WorldFault>
         requires room { room ≡ true → HasRoom self.old }
         ensures { (deal : Dealing)
-            → Does (worlds.step deal (shown self.old) (steps.RemindVoter voter))
-            (shown self.old) result (shown self.new) }
+            → Does (worlds.step deal (contents_of self.old) (steps.RemindVoter voter))
+            (contents_of self.old) result (contents_of self.new) }
     {
         if let Some(fault) = self.voter_fault(voter) {
             return Err(fault);
@@ -264,7 +264,7 @@ impl State {
     }
 
     fn exchange(&mut self, are_two: bool) -> Result<Stepped, WorldFault>
-        ensures { Does (exchange are_two self.old.side (shown self.old)) (shown self.old) result (shown self.new) }
+        ensures { Does (exchange are_two self.old.side (contents_of self.old)) (contents_of self.old) result (contents_of self.new) }
     {
         if let Some(fault) = self.exchange_fault(are_two) {
             return Err(fault);
@@ -279,9 +279,9 @@ impl State {
     /// Makes one step. Without room for it, it fails with its own fault, else with out of memory.
     pub fn act(&mut self, cycles: &Cycles, step: Step, room: bool) -> Result<Stepped, WorldFault>
         requires room { room ≡ true → HasRoom self.old }
-        requires numbered { IsNumbered (shown self.old) }
-        ensures { Does (worlds.step (dealing_of (plans_of cycles.now)) (shown self.old) step)
-            (shown self.old) result (shown self.new) }
+        requires numbered { IsNumbered (contents_of self.old) }
+        ensures { Does (worlds.step (dealing_of (plans_of cycles.now)) (contents_of self.old) step)
+            (contents_of self.old) result (contents_of self.new) }
     {
         match step {
             Step::Ask(client) => {

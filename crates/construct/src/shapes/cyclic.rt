@@ -2,7 +2,7 @@
 ghost use Rattle.std.specs.Prelude.{◌≡◌, ◌==◌, ◌+◌, ◌%◌, ◌<◌, nat_lt, true, Err, IfOk, IfErr};
 ghost use Rattle.std.specs.List.{list_all, list_any};
 ghost use Rattle.construct.specs.Answers.{Gives};
-ghost use Rattle.construct.specs.Cyclic.{shifted, cyclic_quorums, has_repeat, is_off_ring, cyclic_at, IsCyclicFault};
+ghost use Rattle.construct.specs.Cyclic.{shift_by, cyclic_quorums, has_repeat, is_off_ring, cyclic_at, IsCyclicFault};
 ghost use Rattle.construct.specs.declared.fault.ConstructFault.TheVariants.{BadSize};
 
 use crate::fault::ConstructFault;
@@ -26,7 +26,7 @@ fn moves_to(n: u32, base: &[u32], s: u32, v: u8) -> bool
 /// Returns the base, shifted by s places round a ring of n.
 fn shifted(n: u32, base: &[u32], s: u32) -> QSet
     requires { 0 < n }
-    ensures { result ≡ shifted n base.now s }
+    ensures { result ≡ shift_by n base.now s }
 {
     set_where(|v| moves_to(n, base, s, v))
 }

@@ -2,7 +2,7 @@ use Rattle.std.proofs.Common.{rules, pos, to_z, of_z, get_or, sym, subst, ap, �
 use Rattle.std.specs.Prelude.{FitsSigned}
 use Rattle.std.specs.Int.{w128}
 use Rattle.std.proofs.lemmas.Int.{to_z-of_z}
-use Rattle.fraction.specs.Rows.{CombineFits, combined}
+use Rattle.fraction.specs.Rows.{CombineFits, combine_entry}
 use Rattle.fraction.proofs.row.eliminate.Goals as goal
 
 pub combine-requires-clause-fits : goal.combine-requires-clause-fits
@@ -19,6 +19,6 @@ returns c =
     let other = c.args.pivot_row.now in
     let taken : FitsSigned w128 (get_or row c.args.column (pos 0)) = search rules in (
       c.combine.auto.row,
-      λ j lt. c.combine.ensures j lt ∙ ap (λ s. combined row s other (to_z w128 (of_z w128 (get_or row c.args.column (pos 0)))) j) (to_z-of_z w128 c.args.scale c.ranges.scale)
-          ∙ ap (λ t. combined row c.args.scale other t j) (to_z-of_z w128 _ taken),
+      λ j lt. c.combine.ensures j lt ∙ ap (λ s. combine_entry row s other (to_z w128 (of_z w128 (get_or row c.args.column (pos 0)))) j) (to_z-of_z w128 c.args.scale c.ranges.scale)
+          ∙ ap (λ t. combine_entry row c.args.scale other t j) (to_z-of_z w128 _ taken),
     )

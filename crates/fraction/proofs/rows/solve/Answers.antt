@@ -6,7 +6,7 @@ use Rattle.fraction.specs.Fractions.{Fits}
 use Rattle.fraction.specs.Tables.{Table, IsTable, IsPivoted, PivotFits, entry_at}
 use Rattle.fraction.specs.Rows.{lists_of, entry_of, IsUnreduced, IsLowest}
 use Rattle.fraction.proofs.RowLemmas.{to_z-of_z_product, FitsSigned-product}
-use Rattle.fraction.proofs.SolveLemmas.{positive-product, IsPivoted-from_unreduced, IsTable-pivoted, Fits-unreduced}
+use Rattle.fraction.proofs.SolveLemmas.{positive-product, IsPivoted-from_unreduced, IsTable-pivot_entry, Fits-unreduced}
 use Rattle.fraction.proofs.rows.solve.Goals as goal
 
 pub reduce-requires-clause-positive : goal.reduce-requires-clause-positive
@@ -49,7 +49,7 @@ returns-clause-table c =
     let lowest = subst (λ d. IsLowest (lists_of c.pivot.new.rows) (lists_of c.reduce.new.rows) d c.reduce.result) den_is c.reduce.ensures in
     let is = IsPivoted-from_unreduced t (lists_of c.pivot.new.rows) (lists_of c.reduce.new.rows) c.reduce.result c.args.row c.args.column made lowest in
     let result_is = to_z-of_z w128 c.reduce.result (record { sfits = c.reduce.type_inv }) in
-    subst (λ d. IsTable (record { rows = lists_of c.reduce.new.rows; den = d })) (sym result_is) (IsTable-pivoted t _ c.args.row c.args.column c.requires.table c.requires.fits c.requires.positive is)
+    subst (λ d. IsTable (record { rows = lists_of c.reduce.new.rows; den = d })) (sym result_is) (IsTable-pivot_entry t _ c.args.row c.args.column c.requires.table c.requires.fits c.requires.positive is)
 
 pub overflow_mul-new_den : goal.overflow_mul-new_den
 overflow_mul-new_den c =

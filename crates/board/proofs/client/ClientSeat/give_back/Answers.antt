@@ -5,7 +5,7 @@ use Rattle.board.specs.declared.table.View.{View}
 use Rattle.board.specs.Seats.{Setting}
 use Rattle.board.specs.Seats.{BoardState, ClientSeatState}
 use Rattle.atomic_table.specs.Seated.{TableId}
-use Rattle.board.specs.Words.{name_of, returned}
+use Rattle.board.specs.Words.{name_of, returned_word}
 use Rattle.board.proofs.Votes.{GaveBack-allowed}
 use Rattle.board.proofs.client.ClientSeat.give_back.Goals as goal
 
@@ -31,5 +31,5 @@ swap-requires c =
       GaveBack-allowed c.board.inside.table.shared.key _ _ _ c.from-place.result _ (omega (arith, sheet, c.board.invariant.words, words, inside)) (omega (arith, c.self.invariant.few))
           (let long : length c.self.inside.seat.me.0.held ≡ length c.self.inside.held = ap length mine in omega (arith, few, words, inside, c.board.invariant.words, c.self.told))
           (λ z. some_grant (sym here ∙ z))
-          (c.word-returned.ensures ∙ ap₂ (λ (n g : ℕ). returned (name_of n g)) (sym client) (sym here)),
+          (c.word-returned.ensures ∙ ap₂ (λ (n g : ℕ). returned_word (name_of n g)) (sym client) (sym here)),
     )

@@ -4,7 +4,7 @@ use Rattle.atomic_table.specs.Table.{Me}
 use Rattle.board.specs.declared.table.View.{View}
 use Rattle.board.specs.Seats.{Setting}
 use Rattle.board.specs.Seats.{BoardState, ClientSeatState}
-use Rattle.board.specs.Words.{name_of, offered, taken}
+use Rattle.board.specs.Words.{name_of, offered_word, taken_word}
 use Rattle.board.proofs.Votes.{Took-allowed_by_words}
 use Rattle.board.proofs.client.ClientSeat.take.Goals as goal
 
@@ -25,6 +25,6 @@ compare_exchange-found-requires c =
           (omega (arith, c.self.invariant.few))
           (let long : length c.self.inside.seat.me.0.held ≡ length c.self.inside.held = ap length mine in omega (arith, c.requires.voter, c.self.told))
           (ap (slice_index c.self.inside.seat.me.0.held) at ∙ ap (λ l. slice_index l c.args.voter) (mine ∙ held) ∙ c.requires.free)
-          (named offered _ c.word-offered.ensures)
-          (named taken _ c.word-held.ensures),
+          (named offered_word _ c.word-offered.ensures)
+          (named taken_word _ c.word-held.ensures),
     )

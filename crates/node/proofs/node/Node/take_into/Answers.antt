@@ -3,8 +3,8 @@ use Rattle.message.specs.declared.message.ToVoter.{ToVoter}
 use Rattle.voter.specs.declared.state.Effect.{Effect}
 use Rattle.voter.specs.Steps.{Outcome, effect_of}
 use Rattle.board.specs.Seats.{BoardState, VoterSeatState as SeatState}
-use Rattle.node.specs.Nodes.{NodeState, IsFor, IsNode, offered, settled}
-use Rattle.node.proofs.NodeLemmas.{Took, held-from_frees, not_refused, may_offer, IsNode-offered}
+use Rattle.node.specs.Nodes.{NodeState, IsFor, IsNode, offer_grant, settle_grant}
+use Rattle.node.proofs.NodeLemmas.{Took, held-from_frees, not_refused, may_offer, IsNode-offer_grant}
 use Rattle.node.proofs.node.Node.take_into.Given.{Over}
 use Rattle.node.proofs.node.Node.take_into.Goals.{After-held}
 use Rattle.node.proofs.node.Node.take_into.Goals as goal
@@ -34,9 +34,9 @@ took g c =
     }
 
 seat_settled : (g : Over) (c : After-held g)
-    → c.settle.new.seat ≡ settled (effect_of c.self.inside.voter c.args.message.now).frees c.self.inside.seat
+    → c.settle.new.seat ≡ settle_grant (effect_of c.self.inside.voter c.args.message.now).frees c.self.inside.seat
 seat_settled g c =
-    c.if-not-settle.ensures.settled ∙ ap (λ (x : Effect). settled x.frees c.self.inside.seat) c.effect-effect.ensures
+    c.if-not-settle.ensures.settled ∙ ap (λ (x : Effect). settle_grant x.frees c.self.inside.seat) c.effect-effect.ensures
 
 pub offer-requires-clause-next : goal.offer-requires-clause-next
 offer-requires-clause-next g c =
@@ -52,8 +52,8 @@ invariant_of-self-2 g c =
     let m = c.args.message.now in
     let log = c.self.inside.log.items in
     let board = g.N.ClusterName.cluster.board in
-    let after : c.offer.new.seat ≡ offered c.take_into.new.self.held (settled (effect_of c.self.inside.voter m).frees c.self.inside.seat) =
-    c.offer.ensures ∙ (λ i. offered (c.held.ensures i) (seat_settled g at i)) in
+    let after : c.offer.new.seat ≡ offer_grant c.take_into.new.self.held (settle_grant (effect_of c.self.inside.voter m).frees c.self.inside.seat) =
+    c.offer.ensures ∙ (λ i. offer_grant (c.held.ensures i) (seat_settled g at i)) in
     let pushed : c.push_reserved.new.self.items ≡ log ++ m ∷ [] = c.push_reserved.ensures.items ∙ ap (λ (l : List ToVoter). l ++ m ∷ []) c.in_ok-reserve.ensures.items in
     subst (λ (p : List ToVoter × SeatState). IsNode board c.take_into.new.self p.0 p.1) (λ i. (sym pushed i, sym after i))
-    (IsNode-offered board c.self.inside.voter log c.self.inside.seat m _ (took g at))
+    (IsNode-offer_grant board c.self.inside.voter log c.self.inside.seat m _ (took g at))

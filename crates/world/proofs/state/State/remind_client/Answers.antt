@@ -5,7 +5,7 @@ use Rattle.message.specs.declared.message.Message.{Message}
 use Rattle.message.specs.declared.message.Message.TheVariants as kinds
 use Rattle.requester.specs.declared.state.ClientState.{ClientState}
 use Rattle.requester.specs.Steps.{remind}
-use Rattle.world.specs.States.{shown}
+use Rattle.world.specs.States.{contents_of}
 use Rattle.world.specs.Steps.{client_at, step}
 use Rattle.world.proofs.Acts.{say-outcome}
 use Rattle.world.proofs.Refused.{if_client-below, if_client-missing, no_memory, refuses}
@@ -25,7 +25,7 @@ returns c = λ deal.
     let out : c.remind-reminders.result.items ≡ remind (client_at c.args.self.now.clients.items c.args.client) =
     c.remind-reminders.ensures ∙ ap (λ (x : ClientState). remind x) (c.client_of.ensures ∙ ap (λ (l : List ClientState). client_at l c.args.client) c.deref.ensures.value) in
     if_client-below c.args.client (length c.args.self.now.clients.items) _ c.in_default.ensures.found
-    ∙ ap (λ o. Ok o) (say-outcome (shown c.args.self.now) (map kinds.ToVoter (remind (client_at c.args.self.now.clients.items c.args.client))) c.len.result _
+    ∙ ap (λ o. Ok o) (say-outcome (contents_of c.args.self.now) (map kinds.ToVoter (remind (client_at c.args.self.now.clients.items c.args.client))) c.len.result _
     (c.len.ensures.value ∙ ap (λ (l : List ToVoter). length l) out ∙ sym (length-map (remind (client_at c.args.self.now.clients.items c.args.client)) kinds.ToVoter))
-    (ap (λ (l : List Message). record (shown c.args.self.now) { sent = l })
+    (ap (λ (l : List Message). record (contents_of c.args.self.now) { sent = l })
     (c.send_to_voters.ensures ∙ ap (λ (l : List ToVoter). c.args.self.now.sent.items ++ map kinds.ToVoter l) (c.as_slice.ensures.value ∙ out))))

@@ -5,7 +5,7 @@ use Rattle.message.specs.declared.message.Message.{Message}
 use Rattle.message.specs.declared.message.Message.TheVariants as kinds
 use Rattle.voter.specs.declared.state.VoterState.{VoterState}
 use Rattle.voter.specs.Steps.{remind}
-use Rattle.world.specs.States.{shown}
+use Rattle.world.specs.States.{contents_of}
 use Rattle.world.specs.Steps.{voter_at, step}
 use Rattle.world.proofs.Acts.{say-outcome}
 use Rattle.world.proofs.Refused.{if_voter-below, if_voter-missing, no_memory, refuses}
@@ -25,7 +25,7 @@ returns c = λ deal.
     let out : c.remind-reminders.result.items ≡ remind (voter_at c.args.self.now.voters.items c.args.voter) =
     c.remind-reminders.ensures ∙ ap (λ (x : VoterState). remind x) (c.voter_of.ensures ∙ ap (λ (l : List VoterState). voter_at l c.args.voter) c.deref.ensures.value) in
     if_voter-below c.args.voter (length c.args.self.now.voters.items) _ c.in_default.ensures.found
-    ∙ ap (λ o. Ok o) (say-outcome (shown c.args.self.now) (map kinds.ToClient (remind (voter_at c.args.self.now.voters.items c.args.voter))) c.len.result _
+    ∙ ap (λ o. Ok o) (say-outcome (contents_of c.args.self.now) (map kinds.ToClient (remind (voter_at c.args.self.now.voters.items c.args.voter))) c.len.result _
     (c.len.ensures.value ∙ ap (λ (l : List ToClient). length l) out ∙ sym (length-map (remind (voter_at c.args.self.now.voters.items c.args.voter)) kinds.ToClient))
-    (ap (λ (l : List Message). record (shown c.args.self.now) { sent = l })
+    (ap (λ (l : List Message). record (contents_of c.args.self.now) { sent = l })
     (c.send_to_clients.ensures ∙ ap (λ (l : List ToClient). c.args.self.now.sent.items ++ map kinds.ToClient l) (c.as_slice.ensures.value ∙ out))))

@@ -2,7 +2,7 @@ use Rattle.std.proofs.Common.{refl}
 use Rattle.std.specs.Vec.{with_items}
 use Rattle.requester.specs.Steps as client
 use Rattle.requester.specs.Steps.{Takes}
-use Rattle.world.specs.States.{shown}
+use Rattle.world.specs.States.{contents_of}
 use Rattle.world.proofs.Acts.{act-Ok, with_items-items}
 use Rattle.world.proofs.state.State.take.Goals as goal
 
@@ -12,9 +12,9 @@ returns-then-not-room c = (refl, refl)
 
 pub returns : goal.returns
 returns c =
-    act-Ok (shown c.args.self.now) c.deref_mut.result.now c.take-seen.new.clients (with_items c.args.self.now.clients c.take-seen.new.clients).items c.args.message.now.client
+    act-Ok (contents_of c.args.self.now) c.deref_mut.result.now c.take-seen.new.clients (with_items c.args.self.now.clients c.take-seen.new.clients).items c.args.message.now.client
     (Takes c.args.message.now)
-    c.take-seen.new.out.items c.take-seen.result c.tell.result (shown c.tell.new.self) c.deref_mut.ensures.value
+    c.take-seen.new.out.items c.take-seen.result c.tell.result (contents_of c.tell.new.self) c.deref_mut.ensures.value
     c.take-seen.ensures.taken
     c.take-seen.ensures.others (with_items-items c.args.self.now.clients c.deref_mut.result.now c.take-seen.new.clients c.args.message.now.client _ c.deref_mut.ensures.value
     c.take-seen.ensures.others)
