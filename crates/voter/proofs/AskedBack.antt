@@ -13,9 +13,10 @@ use Rattle.message.specs.declared.message.VoterBody.TheVariants as asks
 use Rattle.voter.specs.declared.state.Grant.{Grant}
 use Rattle.voter.specs.declared.state.VoterState.{VoterState}
 use Rattle.voter.specs.Waiting.{Waiting, precedes, least, front}
-use Rattle.voter.specs.Steps.{grant_to, grant_front, take_release, take_release_by, join_queue, join_queue_by, admit, admit_by, queue, free_vote, finish, is_before, start, current_stamp, take_request}
-use Rattle.voter.specs.Steps.{take_request_by, take_request_beside, compare_by, take_relinquish, take_relinquish_by, put_back, see, outcome_of, Outcome, step}
+use Rattle.voter.specs.Steps.{grant_to, grant_front, take_release, join_queue, join_queue_by, admit, queue, free_vote, finish, is_before, start, take_request}
+use Rattle.voter.specs.Steps.{see, outcome_of, Outcome, step}
 use Rattle.voter.specs.Entries.{AsksBack, request_of}
+use Rattle.voter.proofs.Cases.{by_admit, by_release, by_relinquish, by_request}
 use Rattle.voter.proofs.Front.{IsLeastOf, least-is, front-found}
 use Rattle.voter.proofs.Soundness.{get-removed, get-inserted}
 use Rattle.voter.proofs.Effects.{step-Some}
@@ -48,14 +49,9 @@ asked-grant_front : (v : VoterState) → v.held ≡ None → AsksBack (grant_fro
 unfolding grant_front
 asked-grant_front v free = asked-grant_to v (front v.waiting) refl free
 
-asked-take_release_by : (holds waits : Bool) (v : VoterState) (c s : ℕ) → AsksBack v → AsksBack (take_release_by holds waits v c s).state
-asked-take_release_by true waits v c s h = asked-grant_front (free_vote (finish v c s)) refl
-asked-take_release_by false true v c s h = λ g d t held is before. h g d t held (still_removed v.waiting c d t is) before
-asked-take_release_by false false v c s h = h
-
 asked-take_release : (v : VoterState) (c s : ℕ) → AsksBack v → AsksBack (take_release v c s).state
-unfolding take_release
-asked-take_release v c s h = asked-take_release_by _ _ v c s h
+asked-take_release v c s h = by_release (λ o. AsksBack o.state) v c s (λ _. asked-grant_front (free_vote (finish v c s)) refl)
+    (λ _ _ g d t held is before. h g d t held (still_removed v.waiting c d t is) before) (λ _ _. h)
 
 before_all : (o : Option Request) (r : Request) → is_before o r ≡ true → (q : Request) × (o ≡ Some q) × (precedes q r ≡ true)
 before_all None r e = absurd (false≢true e)
@@ -81,41 +77,21 @@ asked-join_queue_by false true v g c s is e f h k d t held waits before = elim (
 ]
 asked-join_queue_by false false v g c s is e f h k d t held waits before = refl
 
-asked-admit_by : (o : Option Grant) (v : VoterState) (c s : ℕ) → v.held ≡ o → AsksBack v → AsksBack (admit_by o v c s).state
-unfolding join_queue
-asked-admit_by None v c s is h = asked-grant_front (queue v c s) is
-asked-admit_by (Some g) v c s is h = asked-join_queue_by _ _ v g c s is refl refl h
-
 asked-admit : (v : VoterState) (c s : ℕ) → AsksBack v → AsksBack (admit v c s).state
-unfolding admit
-asked-admit v c s h = asked-admit_by v.held v c s refl h
+unfolding join_queue
+asked-admit v c s h = by_admit (λ o. AsksBack o.state) v c s (asked-grant_front (queue v c s)) (λ g is. asked-join_queue_by _ _ v g c s is refl refl h)
 
-asked-compare_by : (less same : Bool) (v : VoterState) (c s t : ℕ) → AsksBack v → AsksBack (compare_by less same v c s t).state
-asked-compare_by true same v c s t h = h
-asked-compare_by false true v c s t h = h
-asked-compare_by false false v c s t h = asked-admit (take_release v c t).state c s (asked-take_release v c t h)
-
-asked-beside : (v : VoterState) (c s : ℕ) (o : Option ℕ) → AsksBack v → AsksBack (take_request_beside v c s o).state
-unfolding take_request_beside
-asked-beside v c s None h = asked-admit v c s h
-asked-beside v c s (Some t) h = asked-compare_by _ _ v c s t h
-
-asked-take_request_by : (done : Bool) (v : VoterState) (c s : ℕ) → AsksBack v → AsksBack (take_request_by done v c s).state
-asked-take_request_by true v c s h = h
-asked-take_request_by false v c s h = asked-beside v c s (current_stamp v c) h
-
-asked-put_back : (o : Option Grant) (v : VoterState) → AsksBack v → AsksBack (put_back o v).state
-asked-put_back None v h = h
-asked-put_back (Some g) v h = asked-grant_front (queue (free_vote v) g.client g.stamp) refl
-
-asked-take_relinquish_by : (b : Bool) (v : VoterState) → AsksBack v → AsksBack (take_relinquish_by b v).state
-asked-take_relinquish_by true v h = asked-put_back v.held v h
-asked-take_relinquish_by false v h = h
+asked-take_request : (v : VoterState) (c s : ℕ) → AsksBack v → AsksBack (take_request v c s).state
+asked-take_request v c s h = by_request (λ o. AsksBack o.state) v c s (record {
+  stale = λ _. h;
+  repeated = λ _. h;
+  only = λ _ _. asked-admit v c s h;
+  newer = λ _ t _ _. asked-admit (take_release v c t).state c s (asked-take_release v c t h);
+})
 
 pub AsksBack-outcome_of : (v : VoterState) (c : ℕ) (b : VoterBody) → AsksBack v → AsksBack (outcome_of v c b).state
-unfolding take_relinquish take_request
-AsksBack-outcome_of v c (asks.Request s) h = asked-take_request_by _ (see v s) c s h
-AsksBack-outcome_of v c (asks.Relinquish n) h = asked-take_relinquish_by _ v h
+AsksBack-outcome_of v c (asks.Request s) h = asked-take_request (see v s) c s h
+AsksBack-outcome_of v c (asks.Relinquish n) h = by_relinquish (λ o. AsksBack o.state) v c n h (λ g _. asked-grant_front (queue (free_vote v) g.client g.stamp) refl)
 AsksBack-outcome_of v c (asks.Release s) h = asked-take_release (see v s) c s h
 
 pub AsksBack-step : (v : VoterState) (m : ToVoter) (o : Outcome) → AsksBack v → step v m ≡ Some o → AsksBack o.state

@@ -17,9 +17,10 @@ use Rattle.voter.specs.declared.state.VoterState.{VoterState}
 use Rattle.voter.specs.Waiting.{Waiting, front}
 use Rattle.voter.specs.VoteMoves.{VoteMoves}
 use Rattle.voter.specs.VoterContract.{ReportsVote, AllReport, Ends, IsEntry, Brings, MeetsContract}
-use Rattle.voter.specs.Steps.{Outcome, grant_to, grant_front, take_release, take_release_by, join_queue, join_queue_by, inquiry, fail_former, admit, admit_by, queue, free_vote, finish}
-use Rattle.voter.specs.Steps.{held_stamp, is_up_to, is_older, is_grant, current_stamp, first_some, take_request, take_request_by, take_request_beside, compare_by, again, again_by, take_relinquish}
-use Rattle.voter.specs.Steps.{take_relinquish_by, put_back, see, outcome_of, ends_grant, step, remind, remind_of, inquiry_again}
+use Rattle.voter.specs.Steps.{Outcome, grant_to, grant_front, take_release, join_queue, join_queue_by, inquiry, fail_former, admit, queue, free_vote, finish}
+use Rattle.voter.specs.Steps.{held_stamp, is_up_to, is_older, is_grant, current_stamp, first_some, take_request, again, again_by}
+use Rattle.voter.specs.Steps.{see, outcome_of, ends_grant, step, remind, remind_of, inquiry_again}
+use Rattle.voter.proofs.Cases.{by_admit, by_release, by_relinquish, by_request}
 use Rattle.voter.proofs.Front.{front-found}
 use Rattle.voter.proofs.Moves.{VoteMoves-outcome_of, VoteMoves-admit}
 use Rattle.voter.proofs.Soundness.{get-removed, get-inserted}
@@ -113,50 +114,27 @@ module _ (P : ℕ → ℕ → Type 0) where
   stamps-queue : (v : VoterState) (c s : ℕ) → P c s → Stamps P v → Stamps P (queue v c s)
   stamps-queue v c s p h = record { held = h.held; waiting = inserted v.waiting c s h.waiting p }
 
-  stamps-take_release_by : (holds waits : Bool) (v : VoterState) (c s : ℕ) → Stamps P v → Stamps P (take_release_by holds waits v c s).state
-  stamps-take_release_by true waits v c s h = stamps-grant_front (free_vote (finish v c s)) (record { held = λ g is. absurd (none-some g is); waiting = h.waiting })
-  stamps-take_release_by false true v c s h = record { held = h.held; waiting = removed v.waiting c h.waiting }
-  stamps-take_release_by false false v c s h = record { held = h.held; waiting = h.waiting }
-
   stamps-take_release : (v : VoterState) (c s : ℕ) → Stamps P v → Stamps P (take_release v c s).state
-  unfolding take_release
-  stamps-take_release v c s h = stamps-take_release_by _ _ v c s h
+  stamps-take_release v c s h = by_release (λ o. Stamps P o.state) v c s
+      (λ _. stamps-grant_front (free_vote (finish v c s)) (record { held = λ g is. absurd (none-some g is); waiting = h.waiting }))
+      (λ _ _. record { held = h.held; waiting = removed v.waiting c h.waiting }) (λ _ _. record { held = h.held; waiting = h.waiting })
 
   stamps-join_queue_by : (waits granted : Bool) (v : VoterState) (g : Grant) (c s : ℕ) → P c s → Stamps P v → Stamps P (join_queue_by waits granted v g c s).state
-  stamps-join_queue_by true granted v g c s p h = stamps-queue v c s p h
-  stamps-join_queue_by false true v g c s p h = stamps-queue v c s p h
   stamps-join_queue_by false false v g c s p h = let k = stamps-queue v c s p h in record { held = k.held; waiting = k.waiting }
-
-  stamps-admit_by : (o : Option Grant) (v : VoterState) (c s : ℕ) → P c s → Stamps P v → Stamps P (admit_by o v c s).state
-  unfolding join_queue
-  stamps-admit_by None v c s p h = stamps-grant_front (queue v c s) (stamps-queue v c s p h)
-  stamps-admit_by (Some g) v c s p h = stamps-join_queue_by _ _ v g c s p h
+  stamps-join_queue_by waits granted v g c s p h = stamps-queue v c s p h
 
   stamps-admit : (v : VoterState) (c s : ℕ) → P c s → Stamps P v → Stamps P (admit v c s).state
-  unfolding admit
-  stamps-admit v c s p h = stamps-admit_by v.held v c s p h
+  unfolding join_queue
+  stamps-admit v c s p h = by_admit (λ o. Stamps P o.state) v c s (λ _. stamps-grant_front (queue v c s) (stamps-queue v c s p h))
+      (λ g _. stamps-join_queue_by _ _ v g c s p h)
 
-  stamps-compare_by : (less same : Bool) (v : VoterState) (c s t : ℕ) → P c s → Stamps P v → Stamps P (compare_by less same v c s t).state
-  stamps-compare_by true same v c s t p h = h
-  stamps-compare_by false true v c s t p h = h
-  stamps-compare_by false false v c s t p h = stamps-admit (take_release v c t).state c s p (stamps-take_release v c t h)
-
-  stamps-beside : (v : VoterState) (c s : ℕ) (o : Option ℕ) → P c s → Stamps P v → Stamps P (take_request_beside v c s o).state
-  unfolding take_request_beside
-  stamps-beside v c s None p h = stamps-admit v c s p h
-  stamps-beside v c s (Some t) p h = stamps-compare_by _ _ v c s t p h
-
-  stamps-take_request_by : (done : Bool) (v : VoterState) (c s : ℕ) → P c s → Stamps P v → Stamps P (take_request_by done v c s).state
-  stamps-take_request_by true v c s p h = h
-  stamps-take_request_by false v c s p h = stamps-beside v c s (current_stamp v c) p h
-
-  stamps-put_back : (o : Option Grant) (v : VoterState) → v.held ≡ o → Stamps P v → Stamps P (put_back o v).state
-  stamps-put_back None v is h = h
-  stamps-put_back (Some g) v is h = stamps-grant_front (queue (free_vote v) g.client g.stamp) (stamps-queue (free_vote v) g.client g.stamp (h.held g is) (stamps-free_vote v h))
-
-  stamps-take_relinquish_by : (b : Bool) (v : VoterState) → Stamps P v → Stamps P (take_relinquish_by b v).state
-  stamps-take_relinquish_by true v h = stamps-put_back v.held v refl h
-  stamps-take_relinquish_by false v h = h
+  stamps-take_request : (v : VoterState) (c s : ℕ) → P c s → Stamps P v → Stamps P (take_request v c s).state
+  stamps-take_request v c s p h = by_request (λ o. Stamps P o.state) v c s (record {
+    stale = λ _. h;
+    repeated = λ _. h;
+    only = λ _ _. stamps-admit v c s p h;
+    newer = λ _ t _ _. stamps-admit (take_release v c t).state c s p (stamps-take_release v c t h);
+  })
 
   -- what a REQUEST says is so
   abbrev pub Says : ℕ → VoterBody → Type 0
@@ -165,9 +143,9 @@ module _ (P : ℕ → ℕ → Type 0) where
   Says c (asks.Release s) = Unit {0}
 
   pub Stamps-outcome_of : (v : VoterState) (c : ℕ) (b : VoterBody) → Says c b → Stamps P v → Stamps P (outcome_of v c b).state
-  unfolding take_relinquish take_request
-  Stamps-outcome_of v c (asks.Request s) p h = stamps-take_request_by _ (see v s) c s p (record { held = h.held; waiting = h.waiting })
-  Stamps-outcome_of v c (asks.Relinquish n) p h = stamps-take_relinquish_by _ v h
+  Stamps-outcome_of v c (asks.Request s) p h = stamps-take_request (see v s) c s p (record { held = h.held; waiting = h.waiting })
+  Stamps-outcome_of v c (asks.Relinquish n) p h = by_relinquish (λ o. Stamps P o.state) v c n h
+      (λ g is. stamps-grant_front (queue (free_vote v) g.client g.stamp) (stamps-queue (free_vote v) g.client g.stamp (h.held g is) (stamps-free_vote v h)))
   Stamps-outcome_of v c (asks.Release s) p h = stamps-take_release (see v s) c s (record { held = h.held; waiting = h.waiting })
 
 abbrev pub Came : VoterState → ℕ → VoterBody → ℕ → ℕ → Type 0
@@ -175,8 +153,7 @@ Came v c b d t = IsEntry v d t ⊎ Brings c b d t
 
 Says-Came : (v : VoterState) (c : ℕ) (b : VoterBody) → Says (Came v c b) c b
 Says-Came v c (asks.Request s) = inr (refl, refl)
-Says-Came v c (asks.Relinquish n) = tt
-Says-Came v c (asks.Release s) = tt
+Says-Came v c b = tt
 
 came_before : (v : VoterState) (c : ℕ) (b : VoterBody) → Stamps (Came v c b) v
 came_before v c b = record { held = λ g is. inl (inl (g, is, refl, refl)); waiting = λ d t is. inl (inr is) }
@@ -198,14 +175,8 @@ heard-grant_front : (v : VoterState) → AllReport (grant_front v).state.held (g
 unfolding grant_front
 heard-grant_front v = heard-grant_to v (front v.waiting)
 
-heard-take_release_by : (holds waits : Bool) (v : VoterState) (c s : ℕ) → AllReport (take_release_by holds waits v c s).state.held (take_release_by holds waits v c s).replies
-heard-take_release_by true waits v c s = heard-grant_front (free_vote (finish v c s))
-heard-take_release_by false true v c s = tt
-heard-take_release_by false false v c s = tt
-
 heard-take_release : (v : VoterState) (c s : ℕ) → AllReport (take_release v c s).state.held (take_release v c s).replies
-unfolding take_release
-heard-take_release v c s = heard-take_release_by _ _ v c s
+heard-take_release v c s = by_release (λ o. AllReport o.state.held o.replies) v c s (λ _. heard-grant_front (free_vote (finish v c s))) (λ _ _. tt) (λ _ _. tt)
 
 reported_former : (v : VoterState) (held : Option Grant) (o : Option Request) → AllReport held (fail_former v o)
 reported_former v held None = tt
@@ -221,21 +192,15 @@ heard-join_queue_by true granted v g c s = (tt, tt)
 heard-join_queue_by false true v g c s = (tt, reported_former v v.held (front v.waiting))
 heard-join_queue_by false false v g c s = reported_inquiry v.inquiring v v.held g (front v.waiting)
 
-heard-admit_by : (o : Option Grant) (v : VoterState) (c s : ℕ) → AllReport (admit_by o v c s).state.held (admit_by o v c s).replies
-unfolding join_queue
-heard-admit_by None v c s = heard-grant_front (queue v c s)
-heard-admit_by (Some g) v c s = heard-join_queue_by _ _ v g c s
-
 heard-admit : (v : VoterState) (c s : ℕ) → AllReport (admit v c s).state.held (admit v c s).replies
-unfolding admit
-heard-admit v c s = heard-admit_by v.held v c s
+unfolding join_queue
+heard-admit v c s = by_admit (λ o. AllReport o.state.held o.replies) v c s (λ _. heard-grant_front (queue v c s)) (λ g _. heard-join_queue_by _ _ v g c s)
 
 -- a reply that reports the vote before a step that ends no grant reports it afterwards
 still_one : (v w : VoterState) → VoteMoves false v w → (client : ℕ) (body : ClientBody) → ReportsVote v.held client body → ReportsVote w.held client body
 still_one v w (inl k) client (to_client.Locked stamp grant) t = k.held ∙ t
 still_one v w (inr k) client (to_client.Locked stamp grant) t = absurd (none-some _ (sym k.0 ∙ t))
-still_one v w k client (to_client.Fail stamp) t = tt
-still_one v w k client (to_client.Inquire grant) t = tt
+still_one v w k client body t = tt
 
 still_all : (v w : VoterState) → VoteMoves false v w → (rs : List ToClient) → AllReport v.held rs → AllReport w.held rs
 still_all v w k [] t = tt
@@ -259,36 +224,20 @@ reported_again : (o : Option Grant) (v : VoterState) (c s : ℕ) → v.held ≡ 
 reported_again None v c s is present = (tt, tt)
 reported_again (Some g) v c s is present = reported_again_by _ v g c s refl is present
 
-heard-compare_by : (less same : Bool) (v : VoterState) (c s t : ℕ) → (s == t) ≡ same → current_stamp v c ≡ Some t
-    → AllReport (compare_by less same v c s t).state.held (compare_by less same v c s t).replies
-heard-compare_by true same v c s t e present = tt
-heard-compare_by false true v c s t e present = let same : t ≡ s = grind (arith, nat_tests) in reported_again v.held v c s refl (present ∙ ap (λ (n : ℕ). Some n) same)
-heard-compare_by false false v c s t e present =
-    let w = (take_release v c t).state in
-    let a = admit w c s in
-    AllByRecursion-append _ (take_release v c t).replies a.replies (still_all w a.state (VoteMoves-admit w c s) (take_release v c t).replies (heard-take_release v c t)) (heard-admit w c s)
-
-heard-beside : (v : VoterState) (c s : ℕ) (o : Option ℕ) → current_stamp v c ≡ o → AllReport (take_request_beside v c s o).state.held (take_request_beside v c s o).replies
-unfolding take_request_beside
-heard-beside v c s None present = heard-admit v c s
-heard-beside v c s (Some t) present = heard-compare_by _ _ v c s t refl present
-
-heard-take_request_by : (done : Bool) (v : VoterState) (c s : ℕ) → AllReport (take_request_by done v c s).state.held (take_request_by done v c s).replies
-heard-take_request_by true v c s = tt
-heard-take_request_by false v c s = heard-beside v c s (current_stamp v c) refl
-
-heard-put_back : (o : Option Grant) (v : VoterState) → AllReport (put_back o v).state.held (put_back o v).replies
-heard-put_back None v = tt
-heard-put_back (Some g) v = heard-grant_front (queue (free_vote v) g.client g.stamp)
-
-heard-take_relinquish_by : (b : Bool) (v : VoterState) → AllReport (take_relinquish_by b v).state.held (take_relinquish_by b v).replies
-heard-take_relinquish_by true v = heard-put_back v.held v
-heard-take_relinquish_by false v = tt
+heard-take_request : (v : VoterState) (c s : ℕ) → AllReport (take_request v c s).state.held (take_request v c s).replies
+heard-take_request v c s = by_request (λ o. AllReport o.state.held o.replies) v c s (record {
+  stale = λ _. tt;
+  repeated = λ present. reported_again v.held v c s refl present;
+  only = λ _ _. heard-admit v c s;
+  newer = λ _ t _ _.
+      let w = (take_release v c t).state in
+      let a = admit w c s in
+      AllByRecursion-append _ (take_release v c t).replies a.replies (still_all w a.state (VoteMoves-admit w c s) (take_release v c t).replies (heard-take_release v c t)) (heard-admit w c s);
+})
 
 pub AllReport-outcome_of : (v : VoterState) (c : ℕ) (b : VoterBody) → AllReport (outcome_of v c b).state.held (outcome_of v c b).replies
-unfolding take_relinquish take_request
-AllReport-outcome_of v c (asks.Request s) = heard-take_request_by _ (see v s) c s
-AllReport-outcome_of v c (asks.Relinquish n) = heard-take_relinquish_by _ v
+AllReport-outcome_of v c (asks.Request s) = heard-take_request (see v s) c s
+AllReport-outcome_of v c (asks.Relinquish n) = by_relinquish (λ o. AllReport o.state.held o.replies) v c n tt (λ g _. heard-grant_front (queue (free_vote v) g.client g.stamp))
 AllReport-outcome_of v c (asks.Release s) = heard-take_release (see v s) c s
 
 reported_again_all : (out : Bool) (v : VoterState) (held : Option Grant) (g : Grant) → AllReport held (inquiry_again out v g)

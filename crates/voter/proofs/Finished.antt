@@ -1,6 +1,6 @@
 -- how finished stamps change
 use Rattle.std.proofs.Common.{◌≡◌, ℕ, ◌<◌, Bool, true, false, List, Option, Some, None, refl, sym, ap, subst, ◌∙◌, ◌⊎◌, inl, inr, arith, length}
-use Rattle.std.specs.Prelude.{slice_index, slice_set, max, nat_lt, ◌==◌}
+use Rattle.std.specs.Prelude.{slice_index, slice_set, max}
 use Rattle.std.proofs.lemmas.Bool.Decides.{nat_tests}
 use Rattle.std.proofs.lemmas.List.{get_or-set_same, get_or-set_other, set_past}
 use Rattle.std.proofs.lemmas.Bool.{cases_lt, cases_eq}
@@ -11,9 +11,10 @@ use Rattle.message.specs.declared.message.VoterBody.TheVariants as asks
 use Rattle.voter.specs.declared.state.Grant.{Grant}
 use Rattle.voter.specs.declared.state.VoterState.{VoterState}
 use Rattle.voter.specs.Waiting.{front}
-use Rattle.voter.specs.Steps.{grant_to, grant_front, take_release, take_release_by, join_queue, join_queue_by, admit, admit_by, queue, free_vote, finish, current_stamp, take_request, take_request_by}
-use Rattle.voter.specs.Steps.{take_request_beside, compare_by, take_relinquish, take_relinquish_by, put_back, see, outcome_of, Outcome, step}
+use Rattle.voter.specs.Steps.{grant_to, grant_front, take_release, join_queue, join_queue_by, admit, queue, free_vote, finish, take_request}
+use Rattle.voter.specs.Steps.{see, outcome_of, Outcome, step}
 use Rattle.voter.specs.Entries.{FinishesBy}
+use Rattle.voter.proofs.Cases.{by_admit, by_release, by_relinquish, by_request}
 use Rattle.voter.proofs.Effects.{step-Some}
 
 -- the finished stamps stay
@@ -29,27 +30,15 @@ unfolding grant_front
 same-grant_front v = same-grant_to v (front v.waiting)
 
 same-join_queue_by : (waits granted : Bool) (v : VoterState) (g : Grant) (c s : ℕ) → Same v (join_queue_by waits granted v g c s).state
-same-join_queue_by true granted v g c s = refl
 same-join_queue_by false true v g c s = refl
-same-join_queue_by false false v g c s = refl
-
-same-admit_by : (o : Option Grant) (v : VoterState) (c s : ℕ) → Same v (admit_by o v c s).state
-unfolding join_queue
-same-admit_by None v c s = same-grant_front (queue v c s)
-same-admit_by (Some g) v c s = same-join_queue_by _ _ v g c s
+same-join_queue_by waits granted v g c s = refl
 
 same-admit : (v : VoterState) (c s : ℕ) → Same v (admit v c s).state
-unfolding admit
-same-admit v c s = same-admit_by v.held v c s
-
-finished-take_release_by : (holds waits : Bool) (v : VoterState) (c s : ℕ) → (take_release_by holds waits v c s).state.finished ≡ (finish v c s).finished
-finished-take_release_by true waits v c s = same-grant_front (free_vote (finish v c s))
-finished-take_release_by false true v c s = refl
-finished-take_release_by false false v c s = refl
+unfolding join_queue
+same-admit v c s = by_admit (λ o. Same v o.state) v c s (λ _. same-grant_front (queue v c s)) (λ g _. same-join_queue_by _ _ v g c s)
 
 finished-take_release : (v : VoterState) (c s : ℕ) → (take_release v c s).state.finished ≡ (finish v c s).finished
-unfolding take_release
-finished-take_release v c s = finished-take_release_by _ _ v c s
+finished-take_release v c s = by_release (λ o. o.state.finished ≡ (finish v c s).finished) v c s (λ _. same-grant_front (free_vote (finish v c s))) (λ _ _. refl) (λ _ _. refl)
 
 max_cases : (a b : ℕ) → (max a b ≡ a) ⊎ (max a b ≡ b)
 max_cases a b = elim (cases_lt a b) [ inl less ↦ inr (grind (arith, nat_tests)) | inr least ↦ inl (grind (arith, nat_tests)) ]
@@ -74,37 +63,23 @@ finish_cases xs c s d =
 released_cases : (v : VoterState) (c s d : ℕ) → (slice_index (take_release v c s).state.finished d ≡ slice_index v.finished d) ⊎ ((d ≡ c) × (slice_index (take_release v c s).state.finished d ≡ s))
 released_cases v c s d = subst (λ (l : List ℕ). (slice_index l d ≡ slice_index v.finished d) ⊎ ((d ≡ c) × (slice_index l d ≡ s))) (sym (finished-take_release v c s)) (finish_cases v.finished c s d)
 
-finished-compare_by : (less same : Bool) (v : VoterState) (c s t : ℕ) → nat_lt s t ≡ less → (s == t) ≡ same → FinishesBy v c (asks.Request s) (compare_by less same v c s t).state
-finished-compare_by true same v c s t l e d = inl refl
-finished-compare_by false true v c s t l e d = inl refl
-finished-compare_by false false v c s t l e d =
-    let w = (take_release v c t).state in
-    subst (λ (l : List ℕ). (slice_index l d ≡ slice_index v.finished d) ⊎ ((d ≡ c) × (slice_index l d < s))) (sym (same-admit w c s)) (elim (released_cases v c t d) [
-      | inl stays ↦ inl stays
-      | inr new ↦ inr (new.0, let is = new.1 in grind (arith, nat_tests))
-    ])
-
-finished-beside : (v : VoterState) (c s : ℕ) (o : Option ℕ) → FinishesBy v c (asks.Request s) (take_request_beside v c s o).state
-unfolding take_request_beside
-finished-beside v c s None d = inl (ap (λ (l : List ℕ). slice_index l d) (same-admit v c s))
-finished-beside v c s (Some t) d = finished-compare_by _ _ v c s t refl refl d
-
-finished-take_request_by : (done : Bool) (v : VoterState) (c s : ℕ) → FinishesBy v c (asks.Request s) (take_request_by done v c s).state
-finished-take_request_by true v c s d = inl refl
-finished-take_request_by false v c s d = finished-beside v c s (current_stamp v c) d
-
-same-put_back : (o : Option Grant) (v : VoterState) → Same v (put_back o v).state
-same-put_back None v = refl
-same-put_back (Some g) v = same-grant_front (queue (free_vote v) g.client g.stamp)
-
-same-take_relinquish_by : (b : Bool) (v : VoterState) → Same v (take_relinquish_by b v).state
-same-take_relinquish_by true v = same-put_back v.held v
-same-take_relinquish_by false v = refl
+finished-take_request : (v : VoterState) (c s : ℕ) → FinishesBy v c (asks.Request s) (take_request v c s).state
+finished-take_request v c s = by_request (λ o. FinishesBy v c (asks.Request s) o.state) v c s (record {
+  stale = λ _ d. inl refl;
+  repeated = λ _ d. inl refl;
+  only = λ _ _ d. inl (ap (λ (l : List ℕ). slice_index l d) (same-admit v c s));
+  newer = λ _ t _ less d.
+      let w = (take_release v c t).state in
+      subst (λ (l : List ℕ). (slice_index l d ≡ slice_index v.finished d) ⊎ ((d ≡ c) × (slice_index l d < s))) (sym (same-admit w c s)) (elim (released_cases v c t d) [
+        | inl stays ↦ inl stays
+        | inr new ↦ inr (new.0, let is = new.1 in omega arith)
+      ]);
+})
 
 pub FinishesBy-outcome_of : (v : VoterState) (c : ℕ) (b : VoterBody) → FinishesBy v c b (outcome_of v c b).state
-unfolding take_relinquish take_request
-FinishesBy-outcome_of v c (asks.Request s) d = finished-take_request_by _ (see v s) c s d
-FinishesBy-outcome_of v c (asks.Relinquish n) d = inl (ap (λ (l : List ℕ). slice_index l d) (same-take_relinquish_by _ v))
+FinishesBy-outcome_of v c (asks.Request s) d = finished-take_request (see v s) c s d
+FinishesBy-outcome_of v c (asks.Relinquish n) d =
+    inl (ap (λ (l : List ℕ). slice_index l d) (by_relinquish (λ o. Same v o.state) v c n refl (λ g _. same-grant_front (queue (free_vote v) g.client g.stamp))))
 FinishesBy-outcome_of v c (asks.Release s) d = elim (released_cases (see v s) c s d) [ inl stays ↦ inl stays | inr new ↦ inr (new.0, let is = new.1 in omega arith) ]
 
 pub FinishesBy-step : (v : VoterState) (m : ToVoter) (o : Outcome) → step v m ≡ Some o → FinishesBy v m.client m.body o.state

@@ -48,7 +48,7 @@ below_missed q (e ∷ es) h =
     let head = find-head q e es in
     grind (arith, nat_tests)
 
--- each key stands once
+-- each key is there once
 IsApart : List (ℕ × ℕ) → Type 0
 IsApart [] = Unit {0}
 IsApart (e ∷ es) = (find nat_cmp e.0 es ≡ None) × IsApart es

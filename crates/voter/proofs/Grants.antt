@@ -13,6 +13,7 @@ use Rattle.voter.specs.Steps.{grant_to, grant_front, take_release, take_release_
 use Rattle.voter.specs.Steps.{first_some, take_request, take_request_by, take_request_beside, compare_by, take_relinquish, take_relinquish_by, put_back, see, outcome_of, needs_grant, is_later}
 use Rattle.voter.specs.Steps.{is_grant}
 use Rattle.voter.specs.Replies.{seen_after}
+use Rattle.voter.proofs.Cases.{by_admit, by_release, by_relinquish, by_request}
 use Rattle.voter.proofs.Queues.{front-insert}
 
 -- n, and one more where the test holds
@@ -37,9 +38,8 @@ unfolding take_release
 granted-take_release v c s = granted-take_release_by _ _ v c s
 
 granted-join_queue_by : (waits granted : Bool) (v : VoterState) (g : Grant) (c s : ℕ) → (join_queue_by waits granted v g c s).state.granted ≡ v.granted
-granted-join_queue_by true granted v g c s = refl
 granted-join_queue_by false true v g c s = refl
-granted-join_queue_by false false v g c s = refl
+granted-join_queue_by waits granted v g c s = refl
 
 granted-join_queue : (v : VoterState) (g : Grant) (c s : ℕ) → (join_queue v g c s).state.granted ≡ v.granted
 unfolding join_queue
@@ -67,7 +67,7 @@ held-take_release : (v : VoterState) (c s : ℕ) → is_none (take_release v c s
 unfolding take_release
 held-take_release v c s = held-take_release_by _ _ v c s
 
--- a client whose request stands holds the vote or waits; its release, and then its new request
+-- a client with a current request holds the vote or waits; its release, and then its new request
 more-release_and_request : (n a : ℕ) (none some up : Bool) → more (cond up (not some) none) (more (up && some) n) ≡ more (none || up) n
 more-release_and_request n a none some up = grind (arith, nat_tests)
 
@@ -81,8 +81,6 @@ first_none (Some u) w e = grind (arith, nat_tests)
 
 pub granted-compare_by : (less same : Bool) (v : VoterState) (c s t : ℕ) → nat_lt s t ≡ less → (s == t) ≡ same → current_stamp v c ≡ Some t
     → (compare_by less same v c s t).state.granted ≡ more (nat_lt t s && (is_none v.held || is_some (held_stamp v.held c))) v.granted
-granted-compare_by true same v c s t l e present = grind (arith, nat_tests)
-granted-compare_by false true v c s t l e present = grind (arith, nat_tests)
 granted-compare_by false false v c s t l e present =
     let w = (take_release v c t).state in
     let up = up_to_own (held_stamp v.held c) (get v.waiting c) t present in
@@ -90,6 +88,7 @@ granted-compare_by false false v c s t l e present =
     ∙ ap (more (cond (is_up_to (held_stamp v.held c) t) (is_none (front v.waiting)) (is_none v.held))) (granted-take_release v c t)
     ∙ more-release_and_request v.granted 0 (is_none v.held) (is_some (front v.waiting)) (is_up_to (held_stamp v.held c) t) in
     grind (arith, nat_tests)
+granted-compare_by less same v c s t l e present = grind (arith, nat_tests)
 
 granted-beside : (v : VoterState) (c s : ℕ) (o : Option ℕ) → current_stamp v c ≡ o
     → (take_request_beside v c s o).state.granted ≡ more (is_later o s && (is_none v.held || is_some (held_stamp v.held c))) v.granted
@@ -135,64 +134,44 @@ pub record Keeps (v w : VoterState) : Type 0 where
   pub limit : w.limit ≡ v.limit
   pub seen : w.seen ≡ v.seen
 
+kept : (v : VoterState) → Keeps v v
+kept v = record { id = refl; limit = refl; seen = refl }
+
 kept_to : (v : VoterState) (o : Option Request) → Keeps v (grant_to v o).state
-kept_to v None = record { id = refl; limit = refl; seen = refl }
+kept_to v None = kept v
 kept_to v (Some r) = record { id = refl; limit = refl; seen = refl }
 
 kept-grant_front : (v : VoterState) → Keeps v (grant_front v).state
 unfolding grant_front
 kept-grant_front v = kept_to v (front v.waiting)
 
-kept-take_release_by : (holds waits : Bool) (v : VoterState) (c s : ℕ) → Keeps v (take_release_by holds waits v c s).state
-kept-take_release_by true waits v c s = let k = kept-grant_front (free_vote (finish v c s)) in record { id = k.id; limit = k.limit; seen = k.seen }
-kept-take_release_by false true v c s = record { id = refl; limit = refl; seen = refl }
-kept-take_release_by false false v c s = record { id = refl; limit = refl; seen = refl }
-
 pub Keeps-take_release : (v : VoterState) (c s : ℕ) → Keeps v (take_release v c s).state
-unfolding take_release
-Keeps-take_release v c s = kept-take_release_by _ _ v c s
+Keeps-take_release v c s = by_release (λ o. Keeps v o.state) v c s (λ _. let k = kept-grant_front (free_vote (finish v c s)) in record { id = k.id; limit = k.limit; seen = k.seen })
+    (λ _ _. record { id = refl; limit = refl; seen = refl }) (λ _ _. record { id = refl; limit = refl; seen = refl })
 
 kept-join_queue_by : (waits granted : Bool) (v : VoterState) (g : Grant) (c s : ℕ) → Keeps v (join_queue_by waits granted v g c s).state
-kept-join_queue_by true granted v g c s = record { id = refl; limit = refl; seen = refl }
 kept-join_queue_by false true v g c s = record { id = refl; limit = refl; seen = refl }
-kept-join_queue_by false false v g c s = record { id = refl; limit = refl; seen = refl }
-
-kept-join_queue : (v : VoterState) (g : Grant) (c s : ℕ) → Keeps v (join_queue v g c s).state
-unfolding join_queue
-kept-join_queue v g c s = kept-join_queue_by _ _ v g c s
-
-kept-admit_by : (o : Option Grant) (v : VoterState) (c s : ℕ) → Keeps v (admit_by o v c s).state
-kept-admit_by None v c s = let k = kept-grant_front (queue v c s) in record { id = k.id; limit = k.limit; seen = k.seen }
-kept-admit_by (Some g) v c s = kept-join_queue v g c s
+kept-join_queue_by waits granted v g c s = record { id = refl; limit = refl; seen = refl }
 
 kept-admit : (v : VoterState) (c s : ℕ) → Keeps v (admit v c s).state
-unfolding admit
-kept-admit v c s = kept-admit_by v.held v c s
+unfolding join_queue
+kept-admit v c s = by_admit (λ o. Keeps v o.state) v c s (λ _. let k = kept-grant_front (queue v c s) in record { id = k.id; limit = k.limit; seen = k.seen })
+    (λ g _. kept-join_queue_by _ _ v g c s)
 
-kept-compare_by : (less same : Bool) (v : VoterState) (c s t : ℕ) → Keeps v (compare_by less same v c s t).state
-kept-compare_by true same v c s t = record { id = refl; limit = refl; seen = refl }
-kept-compare_by false true v c s t = record { id = refl; limit = refl; seen = refl }
-kept-compare_by false false v c s t =
-    let r = Keeps-take_release v c t in
-    let a = kept-admit (take_release v c t).state c s in
-    record { id = a.id ∙ r.id; limit = a.limit ∙ r.limit; seen = a.seen ∙ r.seen }
+kept-take_request : (v : VoterState) (c s : ℕ) → Keeps v (take_request v c s).state
+kept-take_request v c s = by_request (λ o. Keeps v o.state) v c s (record {
+  stale = λ _. kept v;
+  repeated = λ _. kept v;
+  only = λ _ _. kept-admit v c s;
+  newer = λ _ t _ _.
+      let r = Keeps-take_release v c t in
+      let a = kept-admit (take_release v c t).state c s in
+      record { id = a.id ∙ r.id; limit = a.limit ∙ r.limit; seen = a.seen ∙ r.seen };
+})
 
-kept-beside : (v : VoterState) (c s : ℕ) (o : Option ℕ) → Keeps v (take_request_beside v c s o).state
-unfolding take_request_beside
-kept-beside v c s None = kept-admit v c s
-kept-beside v c s (Some t) = kept-compare_by _ _ v c s t
-
-kept-take_request_by : (done : Bool) (v : VoterState) (c s : ℕ) → Keeps v (take_request_by done v c s).state
-kept-take_request_by true v c s = record { id = refl; limit = refl; seen = refl }
-kept-take_request_by false v c s = kept-beside v c s (current_stamp v c)
-
-kept-put_back : (o : Option Grant) (v : VoterState) → Keeps v (put_back o v).state
-kept-put_back None v = record { id = refl; limit = refl; seen = refl }
-kept-put_back (Some g) v = let k = kept-grant_front (queue (free_vote v) g.client g.stamp) in record { id = k.id; limit = k.limit; seen = k.seen }
-
-kept-take_relinquish_by : (b : Bool) (v : VoterState) → Keeps v (take_relinquish_by b v).state
-kept-take_relinquish_by true v = kept-put_back v.held v
-kept-take_relinquish_by false v = record { id = refl; limit = refl; seen = refl }
+kept-take_relinquish : (v : VoterState) (c n : ℕ) → Keeps v (take_relinquish v c n).state
+kept-take_relinquish v c n = by_relinquish (λ o. Keeps v o.state) v c n (kept v)
+    (λ g _. let k = kept-grant_front (queue (free_vote v) g.client g.stamp) in record { id = k.id; limit = k.limit; seen = k.seen })
 
 -- and of what was seen only a stamp is new
 pub record KeepsBut (v : VoterState) (b : VoterBody) (w : VoterState) : Type 0 where
@@ -201,7 +180,6 @@ pub record KeepsBut (v : VoterState) (b : VoterBody) (w : VoterState) : Type 0 w
   pub seen : w.seen ≡ seen_after v.seen b
 
 pub KeepsBut-outcome_of : (v : VoterState) (c : ℕ) (b : VoterBody) → KeepsBut v b (outcome_of v c b).state
-unfolding take_relinquish take_request
-KeepsBut-outcome_of v c (asks.Request s) = let k = kept-take_request_by _ (see v s) c s in record { id = k.id; limit = k.limit; seen = k.seen }
-KeepsBut-outcome_of v c (asks.Relinquish n) = let k = kept-take_relinquish_by _ v in record { id = k.id; limit = k.limit; seen = k.seen }
+KeepsBut-outcome_of v c (asks.Request s) = let k = kept-take_request (see v s) c s in record { id = k.id; limit = k.limit; seen = k.seen }
+KeepsBut-outcome_of v c (asks.Relinquish n) = let k = kept-take_relinquish v c n in record { id = k.id; limit = k.limit; seen = k.seen }
 KeepsBut-outcome_of v c (asks.Release s) = let k = Keeps-take_release (see v s) c s in record { id = k.id; limit = k.limit; seen = k.seen }

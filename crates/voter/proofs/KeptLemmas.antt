@@ -40,8 +40,7 @@ known v kept c s is = elim is [
 
 brought : (client : ℕ) (b : VoterBody) → client < 64 → 1 ≤ voter_number b → (c s : ℕ) → Brings client b c s → Known c s
 brought client (asks.Request stamp) few some c s brings = (subst (λ n. n < 64) (sym brings.0) few, subst (λ n. 1 ≤ n) (sym brings.1) some)
-brought client (asks.Relinquish grant) few some c s brings = absurd brings
-brought client (asks.Release stamp) few some c s brings = absurd brings
+brought client b few some c s brings = absurd brings
 
 known_after : (v : VoterState) (m : ToVoter) (o : Outcome) → IsKept v → m.client < 64 → 1 ≤ voter_number m.body → MeetsContract v m o → (c s : ℕ) → IsEntry o.state c s → Known c s
 known_after v m o kept few some meets c s is = elim (meets.entries c s is) [

@@ -1,4 +1,5 @@
 pub mod AskedBack
+pub mod Cases
 pub mod Contract
 pub mod Effects
 pub mod Finished

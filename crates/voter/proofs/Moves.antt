@@ -10,9 +10,10 @@ use Rattle.message.specs.declared.message.VoterBody.TheVariants as asks
 use Rattle.voter.specs.declared.state.Grant.{Grant}
 use Rattle.voter.specs.declared.state.VoterState.{VoterState}
 use Rattle.voter.specs.Waiting.{front}
-use Rattle.voter.specs.VoteMoves.{VoteMoves}
-use Rattle.voter.specs.Steps.{grant_to, grant_front, take_release, take_release_by, join_queue, join_queue_by, admit, admit_by, queue, free_vote, finish, held_stamp, is_up_to, is_older}
+use Rattle.voter.specs.VoteMoves.{GrantIsNew, VoteMoves}
+use Rattle.voter.specs.Steps.{grant_to, grant_front, take_release, take_release_by, join_queue, join_queue_by, admit, queue, free_vote, finish, held_stamp, is_up_to, is_older}
 use Rattle.voter.specs.Steps.{current_stamp, first_some, take_request, take_request_by, take_request_beside, compare_by, take_relinquish, take_relinquish_by, put_back, see, outcome_of, ends_grant}
+use Rattle.voter.proofs.Cases.{by_admit}
 use Rattle.voter.proofs.Grants.{up_to_own}
 
 VoteMoves-same : (v w : VoterState) → w.granted ≡ v.granted → w.held ≡ v.held → VoteMoves false v w
@@ -42,50 +43,33 @@ unfolding take_release
 moves-take_release v c s = moves-take_release_by _ _ v c s
 
 moves-join_queue_by : (waits granted : Bool) (v : VoterState) (g : Grant) (c s : ℕ) → VoteMoves false v (join_queue_by waits granted v g c s).state
-moves-join_queue_by true granted v g c s = inl (record { granted = refl; held = refl })
 moves-join_queue_by false true v g c s = inl (record { granted = refl; held = refl })
-moves-join_queue_by false false v g c s = inl (record { granted = refl; held = refl })
-
-moves-join_queue : (v : VoterState) (g : Grant) (c s : ℕ) → VoteMoves false v (join_queue v g c s).state
-unfolding join_queue
-moves-join_queue v g c s = moves-join_queue_by _ _ v g c s
+moves-join_queue_by waits granted v g c s = inl (record { granted = refl; held = refl })
 
 -- a free vote stays free or is granted
 from_free : (v w : VoterState) → v.held ≡ None → VoteMoves true v w → VoteMoves false v w
 from_free v w free (inl k) = inl (record { granted = k.granted; held = k.held ∙ sym free })
 from_free v w free (inr k) = inr (free, k)
 
-moves-admit_by : (o : Option Grant) (v : VoterState) (c s : ℕ) → v.held ≡ o → VoteMoves false v (admit_by o v c s).state
-moves-admit_by None v c s is = from_free v (grant_front (queue v c s)).state is (moves-grant_front v (queue v c s) refl is)
-moves-admit_by (Some g) v c s is = moves-join_queue v g c s
-
 pub VoteMoves-admit : (v : VoterState) (c s : ℕ) → VoteMoves false v (admit v c s).state
-unfolding admit
-VoteMoves-admit v c s = moves-admit_by v.held v c s refl
+unfolding join_queue
+VoteMoves-admit v c s = by_admit (λ o. VoteMoves false v o.state) v c s (λ is. from_free v (grant_front (queue v c s)).state is (moves-grant_front v (queue v c s) refl is))
+    (λ g _. moves-join_queue_by _ _ v g c s)
+
+-- a new grant, after a step that gave none
+new_later : (u v w : VoterState) → v.granted ≡ u.granted → GrantIsNew v w → GrantIsNew u w
+new_later u v w same k =
+    let number = ap (λ (n : ℕ). n + 1) same in
+    record { granted = k.granted ∙ number; grant = k.grant; held = k.held; number = k.number ∙ number }
 
 -- one step, and then one that ends no grant
 VoteMoves-then : (e : Bool) (u v w : VoterState) → VoteMoves e u v → VoteMoves false v w → VoteMoves e u w
 VoteMoves-then true u v w (inl h) (inl k) = inl (record { granted = k.granted ∙ h.granted; held = k.held ∙ h.held })
-VoteMoves-then true u v w (inl h) (inr k) = inr (record {
-  granted = k.1.granted ∙ ap (λ (n : ℕ). n + 1) h.granted;
-  grant = k.1.grant;
-  held = k.1.held;
-  number = k.1.number
-      ∙ ap (λ (n : ℕ). n + 1) h.granted;
-})
+VoteMoves-then true u v w (inl h) (inr k) = inr (new_later u v w h.granted k.1)
 VoteMoves-then true u v w (inr h) (inl k) = inr (record { granted = k.granted ∙ h.granted; grant = h.grant; held = k.held ∙ h.held; number = h.number })
 VoteMoves-then true u v w (inr h) (inr k) = absurd (none-some h.grant (sym k.0 ∙ h.held))
 VoteMoves-then false u v w (inl h) (inl k) = inl (record { granted = k.granted ∙ h.granted; held = k.held ∙ h.held })
-VoteMoves-then false u v w (inl h) (inr k) = inr (
-  sym h.held ∙ k.0,
-  record {
-    granted = k.1.granted ∙ ap (λ (n : ℕ). n + 1) h.granted;
-    grant = k.1.grant;
-    held = k.1.held;
-    number = k.1.number
-        ∙ ap (λ (n : ℕ). n + 1) h.granted;
-  },
-)
+VoteMoves-then false u v w (inl h) (inr k) = inr (sym h.held ∙ k.0, new_later u v w h.granted k.1)
 VoteMoves-then false u v w (inr h) (inl k) = inr (h.0, record { granted = k.granted ∙ h.1.granted; grant = h.1.grant; held = k.held ∙ h.1.held; number = h.1.number })
 VoteMoves-then false u v w (inr h) (inr k) = absurd (none-some h.1.grant (sym k.0 ∙ h.1.held))
 
@@ -95,20 +79,16 @@ older_own (Some u) w s t e = grind (arith, nat_tests)
 
 moves-compare_by : (less same : Bool) (v : VoterState) (c s t : ℕ) → nat_lt s t ≡ less → (s == t) ≡ same → current_stamp v c ≡ Some t
     → VoteMoves (is_older (held_stamp v.held c) s) v (compare_by less same v c s t).state
-moves-compare_by true same v c s t l e present =
-    let own = older_own (held_stamp v.held c) (get v.waiting c) s t present in
-    let no : is_older (held_stamp v.held c) s ≡ false = grind (arith, nat_tests) in
-    subst (λ b. VoteMoves b v v) (sym no) (VoteMoves-same v v refl refl)
-moves-compare_by false true v c s t l e present =
-    let own = older_own (held_stamp v.held c) (get v.waiting c) s t present in
-    let no : is_older (held_stamp v.held c) s ≡ false = grind (arith, nat_tests) in
-    subst (λ b. VoteMoves b v v) (sym no) (VoteMoves-same v v refl refl)
 moves-compare_by false false v c s t l e present =
     let own = older_own (held_stamp v.held c) (get v.waiting c) s t present in
     let up = up_to_own (held_stamp v.held c) (get v.waiting c) t present in
     let same_test : is_up_to (held_stamp v.held c) t ≡ is_older (held_stamp v.held c) s = grind (arith, nat_tests) in
     let w = (take_release v c t).state in
     subst (λ b. VoteMoves b v (admit w c s).state) same_test (VoteMoves-then _ v w (admit w c s).state (moves-take_release v c t) (VoteMoves-admit w c s))
+moves-compare_by less same v c s t l e present =
+    let own = older_own (held_stamp v.held c) (get v.waiting c) s t present in
+    let no : is_older (held_stamp v.held c) s ≡ false = grind (arith, nat_tests) in
+    subst (λ b. VoteMoves b v v) (sym no) (VoteMoves-same v v refl refl)
 
 none_older : (o w : Option ℕ) (s : ℕ) → first_some o w ≡ None → is_older o s ≡ false
 none_older None w s e = refl
@@ -139,9 +119,9 @@ moves-take_relinquish_by false v = inl (record { granted = refl; held = refl })
 -- what was seen is no matter
 VoteMoves-from_see : (e : Bool) (v : VoterState) (s : ℕ) (w : VoterState) → VoteMoves e (see v s) w → VoteMoves e v w
 VoteMoves-from_see true v s w (inl k) = inl (record { granted = k.granted; held = k.held })
-VoteMoves-from_see true v s w (inr k) = inr (record { granted = k.granted; grant = k.grant; held = k.held; number = k.number })
+VoteMoves-from_see true v s w (inr k) = inr (new_later v (see v s) w refl k)
 VoteMoves-from_see false v s w (inl k) = inl (record { granted = k.granted; held = k.held })
-VoteMoves-from_see false v s w (inr k) = inr (k.0, record { granted = k.1.granted; grant = k.1.grant; held = k.1.held; number = k.1.number })
+VoteMoves-from_see false v s w (inr k) = inr (k.0, new_later v (see v s) w refl k.1)
 
 pub VoteMoves-outcome_of : (v : VoterState) (c : ℕ) (b : VoterBody) → VoteMoves (ends_grant v c b) v (outcome_of v c b).state
 unfolding take_relinquish take_request ends_grant

@@ -1,6 +1,6 @@
--- a new request stands, and the others stay
-use Rattle.std.proofs.Common.{◌≡◌, ◌≢◌, ℕ, ◌+◌, ◌<◌, ◌≤◌, Bool, true, false, Option, Some, None, refl, sym, ap, subst, ◌∙◌, inl, inr, arith}
-use Rattle.std.specs.Prelude.{slice_index, nat_lt, ◌==◌}
+-- a new request holds the vote or waits, and the others stay
+use Rattle.std.proofs.Common.{◌≡◌, ◌≢◌, ℕ, ◌+◌, ◌<◌, Bool, true, false, Option, Some, None, refl, sym, ap, ◌∙◌, inl, inr, arith}
+use Rattle.std.specs.Prelude.{slice_index}
 use Rattle.std.specs.FinMap.{get, insert, remove}
 use Rattle.std.proofs.lemmas.Bool.Decides.{nat_tests}
 use Rattle.std.proofs.lemmas.Bool.{false≢true, cases_eq}
@@ -11,9 +11,10 @@ use Rattle.voter.specs.declared.state.Grant.{Grant}
 use Rattle.voter.specs.declared.state.VoterState.{VoterState}
 use Rattle.voter.specs.Waiting.{Waiting, front}
 use Rattle.voter.specs.VoterContract.{IsEntry}
-use Rattle.voter.specs.Steps.{grant_to, grant_front, take_release, take_release_by, join_queue, join_queue_by, admit, admit_by, queue, free_vote, finish, held_stamp, is_up_to, current_stamp}
-use Rattle.voter.specs.Steps.{first_some, take_request, take_request_by, take_request_beside, compare_by, see, outcome_of}
+use Rattle.voter.specs.Steps.{grant_to, grant_front, take_release, join_queue, join_queue_by, admit, queue, free_vote, finish, held_stamp, is_up_to}
+use Rattle.voter.specs.Steps.{first_some, take_request, see, outcome_of}
 use Rattle.voter.specs.Entries.{KnowsUpTo}
+use Rattle.voter.proofs.Cases.{by_admit, by_release, by_request}
 use Rattle.voter.proofs.Front.{front-found}
 use Rattle.voter.proofs.Soundness.{IsOrderly, IsOrderly-see, get-removed, get-inserted, orderly-take_release}
 
@@ -54,27 +55,23 @@ waits_by v c t (Some h) is up e s other entry = elim entry [
   | inr waits ↦ waits
 ]
 
-pub others-take_release_by : (holds waits : Bool) (v : VoterState) (c t : ℕ) → is_up_to (held_stamp v.held c) t ≡ holds → OthersStay v c (take_release_by holds waits v c t).state
-others-take_release_by true waits v c t up d s other entry = entry-grant_front (free_vote (finish v c t)) refl d s (waits_by v c t v.held refl up d s other entry)
-others-take_release_by false true v c t up d s other entry = elim entry [ inl held ↦ inl held | inr waits ↦ inr (kept_removed v.waiting c d s other waits) ]
-others-take_release_by false false v c t up d s other entry = entry
-
 pub OthersStay-take_release : (v : VoterState) (c t : ℕ) → OthersStay v c (take_release v c t).state
-unfolding take_release
-OthersStay-take_release v c t = others-take_release_by _ _ v c t refl
+OthersStay-take_release v c t = by_release (λ o. OthersStay v c o.state) v c t
+    (λ up d s other entry. entry-grant_front (free_vote (finish v c t)) refl d s (waits_by v c t v.held refl up d s other entry))
+    (λ _ _ d s other entry. elim entry [ inl held ↦ inl held | inr waits ↦ inr (kept_removed v.waiting c d s other waits) ])
+    (λ _ _ d s other entry. entry)
 
 queue_entry : (v : VoterState) (c s d t : ℕ) → d ≢ c → IsEntry v d t → IsEntry (queue v c s) d t
 queue_entry v c s d t other entry = elim entry [ inl held ↦ inl held | inr waits ↦ inr (kept_inserted v.waiting c s d t other waits) ]
 
--- ---- the new request stands
+-- ---- the new request holds the vote or waits
 
 pub here_inserted : (w : Waiting) (c s : ℕ) → get (insert w c s) c ≡ Some s
 here_inserted w c s = get-inserted w c s c ∙ grind (arith, nat_tests)
 
 present-join_queue_by : (waits granted : Bool) (v : VoterState) (g : Grant) (c s : ℕ) → IsEntry (join_queue_by waits granted v g c s).state c s × OthersStay v c (join_queue_by waits granted v g c s).state
-present-join_queue_by true granted v g c s = (inr (here_inserted v.waiting c s), λ d t other entry. queue_entry v c s d t other entry)
 present-join_queue_by false true v g c s = (inr (here_inserted v.waiting c s), λ d t other entry. queue_entry v c s d t other entry)
-present-join_queue_by false false v g c s = (inr (here_inserted v.waiting c s), λ d t other entry. queue_entry v c s d t other entry)
+present-join_queue_by waits granted v g c s = (inr (here_inserted v.waiting c s), λ d t other entry. queue_entry v c s d t other entry)
 
 pub no_entry : (v : VoterState) → v.held ≡ None → IsOrderly v → (d t : ℕ) → IsEntry v d t → ⊥
 no_entry v free ok d t entry = elim entry [
@@ -82,14 +79,11 @@ no_entry v free ok d t entry = elim entry [
   | inr waits ↦ none-some t (sym (ok.free free d) ∙ waits)
 ]
 
-present-admit_by : (o : Option Grant) (v : VoterState) (c s : ℕ) → v.held ≡ o → IsOrderly v → IsEntry (admit_by o v c s).state c s × OthersStay v c (admit_by o v c s).state
-unfolding join_queue
-present-admit_by None v c s is ok = (entry-grant_front (queue v c s) is c s (here_inserted v.waiting c s), λ d t other entry. absurd (no_entry v is ok d t entry))
-present-admit_by (Some g) v c s is ok = present-join_queue_by _ _ v g c s
-
 pub present-admit : (v : VoterState) (c s : ℕ) → IsOrderly v → IsEntry (admit v c s).state c s × OthersStay v c (admit v c s).state
-unfolding admit
-present-admit v c s ok = present-admit_by v.held v c s refl ok
+unfolding join_queue
+present-admit v c s ok = by_admit (λ o. IsEntry o.state c s × OthersStay v c o.state) v c s
+    (λ is. (entry-grant_front (queue v c s) is c s (here_inserted v.waiting c s), λ d t other entry. absurd (no_entry v is ok d t entry)))
+    (λ g _. present-join_queue_by _ _ v g c s)
 
 pub entry_by : (v : VoterState) (c t : ℕ) (o : Option Grant) → v.held ≡ o → first_some (held_stamp o c) (get v.waiting c) ≡ Some t → IsEntry v c t
 entry_by v c t None is e = inr e
@@ -98,30 +92,20 @@ entry_by v c t (Some g) is e = elim (cases_eq g.client c) [
   | inr other ↦ inr (grind (arith, nat_tests))
 ]
 
-present-compare_by : (less same : Bool) (v : VoterState) (c s t : ℕ) → nat_lt s t ≡ less → (s == t) ≡ same → current_stamp v c ≡ Some t → t ≤ s → IsOrderly v
-    → IsEntry (compare_by less same v c s t).state c s × OthersStay v c (compare_by less same v c s t).state
-present-compare_by true same v c s t l e present most ok = absurd (let x : ⊥ = grind (arith, nat_tests) in x)
-present-compare_by false true v c s t l e present most ok =
-    let equal : t ≡ s = grind (arith, nat_tests) in
-    (subst (λ n. IsEntry v c n) equal (entry_by v c t v.held refl present), λ d u other entry. entry)
-present-compare_by false false v c s t l e present most ok =
-    let w = (take_release v c t).state in
-    let a = present-admit w c s (orderly-take_release v c t ok) in
-    (a.0, λ d u other entry. a.1 d u other (OthersStay-take_release v c t d u other entry))
+present_by : (v : VoterState) (c s : ℕ) → slice_index v.finished c < s → KnowsUpTo v c s → IsOrderly v → IsEntry (take_request v c s).state c s × OthersStay v c (take_request v c s).state
+present_by v c s new most ok = by_request (λ o. IsEntry o.state c s × OthersStay v c o.state) v c s (record {
+  stale = λ why. absurd (elim why [
+    | inl done ↦ omega arith
+    | inr old ↦ let least = most old.0 (entry_by v c old.0 v.held refl old.1) in let less = old.2 in omega arith
+  ]);
+  repeated = λ present. (entry_by v c s v.held refl present, λ d u other entry. entry);
+  only = λ _ _. present-admit v c s ok;
+  newer = λ _ t _ _.
+      let a = present-admit (take_release v c t).state c s (orderly-take_release v c t ok) in
+      (a.0, λ d u other entry. a.1 d u other (OthersStay-take_release v c t d u other entry));
+})
 
-present-beside : (v : VoterState) (c s : ℕ) (o : Option ℕ) → current_stamp v c ≡ o → KnowsUpTo v c s → IsOrderly v → IsEntry (take_request_beside v c s o).state c s
-    × OthersStay v c (take_request_beside v c s o).state
-unfolding take_request_beside
-present-beside v c s None present most ok = present-admit v c s ok
-present-beside v c s (Some t) present most ok = present-compare_by _ _ v c s t refl refl present (most t (entry_by v c t v.held refl present)) ok
-
-present-take_request_by : (done : Bool) (v : VoterState) (c s : ℕ) → done ≡ false → KnowsUpTo v c s → IsOrderly v → IsEntry (take_request_by done v c s).state c s
-    × OthersStay v c (take_request_by done v c s).state
-present-take_request_by true v c s new most ok = absurd (false≢true (sym new))
-present-take_request_by false v c s new most ok = present-beside v c s (current_stamp v c) refl most ok
-
--- a REQUEST that is not finished, and no older than what the voter knows of its client, stands; the others stay
+-- a REQUEST that is not finished, and no older than what the voter knows of its client, holds the vote or waits; the others stay
 pub present-take_request : (v : VoterState) (c s : ℕ) → slice_index v.finished c < s → KnowsUpTo v c s → IsOrderly v
     → IsEntry (outcome_of v c (asks.Request s)).state c s × OthersStay v c (outcome_of v c (asks.Request s)).state
-unfolding take_request
-present-take_request v c s new most ok = present-take_request_by _ (see v s) c s (grind (arith, nat_tests)) most (IsOrderly-see v s ok)
+present-take_request v c s new most ok = present_by (see v s) c s new most (IsOrderly-see v s ok)

@@ -1,36 +1,6 @@
 -- a voter as numbers
-use Rattle.std.proofs.Common.{
-  ◌≡◌,
-  ◌≢◌,
-  ℕ,
-  ◌+◌,
-  ◌<◌,
-  ◌≤◌,
-  Bool,
-  true,
-  false,
-  cond,
-  List,
-  [],
-  ◌∷◌,
-  ◌++◌,
-  length,
-  take,
-  drop,
-  Option,
-  Some,
-  None,
-  refl,
-  sym,
-  ap,
-  subst,
-  ◌∙◌,
-  arith,
-  eqb,
-  ltb,
-  take-append-drop,
-  length-append,
-}
+use Rattle.std.proofs.Common.{◌≡◌, ◌≢◌, ℕ, ◌+◌, ◌<◌, ◌≤◌, Bool, true, false, cond, List, [], ◌∷◌, ◌++◌, length, take, drop, Option, Some, None, refl, sym, ap, subst, ◌∙◌, arith, eqb, ltb}
+use Rattle.std.proofs.Common.{take-append-drop, length-append}
 use Rattle.std.specs.Prelude.{replicate, slice_index, slice_index_or, slice_set, unwrap_or, zero, suc, not, is_some, IsTrue, IfSome}
 use Rattle.std.specs.List.{AllByRecursion}
 use Rattle.std.specs.Ordering.{nat_cmp}
@@ -155,9 +125,8 @@ length-words_of v kept =
     omega (arith, length-head_words v, length-waiting_words v.waiting, kept.places)
 
 stamp_again : (o : Option ℕ) → ((s : ℕ) → o ≡ Some s → 1 ≤ s) → stamp_of_word (unwrap_or o 0) ≡ o
-stamp_again None h = refl
 stamp_again (Some zero) h = absurd (let most = h zero refl in omega arith)
-stamp_again (Some (suc n)) h = refl
+stamp_again o h = refl
 
 same_queue : (w q : Waiting) (ws : List ℕ) → ws ≡ waiting_words w → ((c s : ℕ) → get w c ≡ Some s → 1 ≤ s) → ((c : ℕ) → 64 ≤ c → get w c ≡ None)
     → ((c : ℕ) → get q c ≡ stamp_of_word (slice_index ws c)) → q ≡ w

@@ -14,9 +14,10 @@ use Rattle.message.specs.declared.message.VoterBody.TheVariants as asks
 use Rattle.voter.specs.declared.state.Grant.{Grant}
 use Rattle.voter.specs.declared.state.VoterState.{VoterState}
 use Rattle.voter.specs.Waiting.{Waiting, front}
-use Rattle.voter.specs.Steps.{grant_to, grant_front, take_release, take_release_by, join_queue, join_queue_by, admit, admit_by, queue, free_vote, finish, held_stamp, is_up_to, current_stamp}
-use Rattle.voter.specs.Steps.{first_some, take_request, take_request_by, take_request_beside, compare_by, take_relinquish, take_relinquish_by, put_back, see, outcome_of, is_refused, IsSound}
+use Rattle.voter.specs.Steps.{grant_to, grant_front, take_release, join_queue, join_queue_by, admit, queue, free_vote, finish, held_stamp, current_stamp}
+use Rattle.voter.specs.Steps.{first_some, take_request, see, outcome_of, is_refused, IsSound}
 use Rattle.voter.specs.Steps.{start}
+use Rattle.voter.proofs.Cases.{by_admit, by_release, by_relinquish, by_request}
 use Rattle.voter.proofs.Front.{front-found, get-no_front, eq_by_cmp-nat}
 use Rattle.voter.proofs.Grants.{granted-outcome_of, KeepsBut-outcome_of, up_to_own}
 
@@ -62,18 +63,14 @@ orderly-grant_front : (v : VoterState) → v.held ≡ None → IsOrderly (grant_
 unfolding grant_front
 orderly-grant_front v free = orderly-grant_to v (front v.waiting) refl free
 
-orderly-take_release_by : (holds waits : Bool) (v : VoterState) (c s : ℕ) → IsOrderly v → IsOrderly (take_release_by holds waits v c s).state
-orderly-take_release_by true waits v c s h = orderly-grant_front (free_vote (finish v c s)) refl
-orderly-take_release_by false true v c s h = record {
-  numbered = h.numbered;
-  apart = λ g held. get-removed_none v.waiting c g.client (h.apart g held);
-  free = λ none d. get-removed_none v.waiting c d (h.free none d);
-}
-orderly-take_release_by false false v c s h = record { numbered = h.numbered; apart = h.apart; free = h.free }
-
 pub orderly-take_release : (v : VoterState) (c s : ℕ) → IsOrderly v → IsOrderly (take_release v c s).state
-unfolding take_release
-orderly-take_release v c s h = orderly-take_release_by _ _ v c s h
+orderly-take_release v c s h = by_release (λ o. IsOrderly o.state) v c s (λ _. orderly-grant_front (free_vote (finish v c s)) refl)
+    (λ _ _. record {
+      numbered = h.numbered;
+      apart = λ g held. get-removed_none v.waiting c g.client (h.apart g held);
+      free = λ none d. get-removed_none v.waiting c d (h.free none d);
+    })
+    (λ _ _. record { numbered = h.numbered; apart = h.apart; free = h.free })
 
 not_holder : (o : Option Grant) (c : ℕ) (g : Grant) → held_stamp o c ≡ None → o ≡ Some g → g.client ≢ c
 not_holder None c g none is = absurd (none-some g is)
@@ -87,18 +84,12 @@ orderly_queue v g c s is away h = record {
 }
 
 orderly-join_queue_by : (waits granted : Bool) (v : VoterState) (g : Grant) (c s : ℕ) → v.held ≡ Some g → held_stamp v.held c ≡ None → IsOrderly v → IsOrderly (join_queue_by waits granted v g c s).state
-orderly-join_queue_by true granted v g c s is away h = orderly_queue v g c s is away h
-orderly-join_queue_by false true v g c s is away h = orderly_queue v g c s is away h
 orderly-join_queue_by false false v g c s is away h = let k = orderly_queue v g c s is away h in record { numbered = k.numbered; apart = k.apart; free = k.free }
-
-orderly-admit_by : (o : Option Grant) (v : VoterState) (c s : ℕ) → v.held ≡ o → held_stamp v.held c ≡ None → IsOrderly v → IsOrderly (admit_by o v c s).state
-unfolding join_queue
-orderly-admit_by None v c s is away h = orderly-grant_front (queue v c s) is
-orderly-admit_by (Some g) v c s is away h = orderly-join_queue_by _ _ v g c s is away h
+orderly-join_queue_by waits granted v g c s is away h = orderly_queue v g c s is away h
 
 orderly-admit : (v : VoterState) (c s : ℕ) → held_stamp v.held c ≡ None → IsOrderly v → IsOrderly (admit v c s).state
-unfolding admit
-orderly-admit v c s away h = orderly-admit_by v.held v c s refl away h
+unfolding join_queue
+orderly-admit v c s away h = by_admit (λ o. IsOrderly o.state) v c s (orderly-grant_front (queue v c s)) (λ g is. orderly-join_queue_by _ _ v g c s is away h)
 
 -- After its release a client does not hold the vote.
 
@@ -122,51 +113,31 @@ pub held_stamp-holder : (o : Option Grant) (c : ℕ) → is_some (held_stamp o c
 held_stamp-holder None c e = absurd (false≢true e)
 held_stamp-holder (Some g) c e = (g, refl, grind (arith, nat_tests))
 
-away-take_release_by : (holds waits : Bool) (v : VoterState) (c t : ℕ) → is_up_to (held_stamp v.held c) t ≡ holds → current_stamp v c ≡ Some t → IsOrderly v
-    → held_stamp (take_release_by holds waits v c t).state.held c ≡ None
-away-take_release_by true waits v c t e present h =
-    let own = held_stamp-holder v.held c (sym (up_to_own (held_stamp v.held c) (get v.waiting c) t present) ∙ e) in
-    away-grant_front (free_vote (finish v c t)) c refl (ap (get v.waiting) (sym own.2) ∙ h.apart own.0 own.1)
-away-take_release_by false true v c t e present h = none_of (held_stamp v.held c) (sym (up_to_own (held_stamp v.held c) (get v.waiting c) t present) ∙ e)
-away-take_release_by false false v c t e present h = none_of (held_stamp v.held c) (sym (up_to_own (held_stamp v.held c) (get v.waiting c) t present) ∙ e)
-
 pub held_stamp-take_release : (v : VoterState) (c t : ℕ) → current_stamp v c ≡ Some t → IsOrderly v → held_stamp (take_release v c t).state.held c ≡ None
-unfolding take_release
-held_stamp-take_release v c t present h = away-take_release_by _ _ v c t refl present h
-
-orderly-compare_by : (less same : Bool) (v : VoterState) (c s t : ℕ) → current_stamp v c ≡ Some t → IsOrderly v → IsOrderly (compare_by less same v c s t).state
-orderly-compare_by true same v c s t present h = h
-orderly-compare_by false true v c s t present h = h
-orderly-compare_by false false v c s t present h = orderly-admit (take_release v c t).state c s (held_stamp-take_release v c t present h) (orderly-take_release v c t h)
+held_stamp-take_release v c t present h =
+    let up = up_to_own (held_stamp v.held c) (get v.waiting c) t present in
+    by_release (λ o. held_stamp o.state.held c ≡ None) v c t
+    (λ e. let own = held_stamp-holder v.held c (sym up ∙ e) in away-grant_front (free_vote (finish v c t)) c refl (ap (get v.waiting) (sym own.2) ∙ h.apart own.0 own.1))
+    (λ e _. none_of (held_stamp v.held c) (sym up ∙ e)) (λ e _. none_of (held_stamp v.held c) (sym up ∙ e))
 
 away_none : (o w : Option ℕ) → first_some o w ≡ None → o ≡ None
 away_none None w e = refl
 away_none (Some s) w e = absurd (none-some s (sym e))
 
-orderly-beside : (v : VoterState) (c s : ℕ) (o : Option ℕ) → current_stamp v c ≡ o → IsOrderly v → IsOrderly (take_request_beside v c s o).state
-unfolding take_request_beside
-orderly-beside v c s None present h = orderly-admit v c s (away_none (held_stamp v.held c) (get v.waiting c) present) h
-orderly-beside v c s (Some t) present h = orderly-compare_by _ _ v c s t present h
-
-orderly-take_request_by : (done : Bool) (v : VoterState) (c s : ℕ) → IsOrderly v → IsOrderly (take_request_by done v c s).state
-orderly-take_request_by true v c s h = h
-orderly-take_request_by false v c s h = orderly-beside v c s (current_stamp v c) refl h
-
-orderly-put_back : (o : Option Grant) (v : VoterState) → IsOrderly v → IsOrderly (put_back o v).state
-orderly-put_back None v h = h
-orderly-put_back (Some g) v h = orderly-grant_front (queue (free_vote v) g.client g.stamp) refl
-
-orderly-take_relinquish_by : (b : Bool) (v : VoterState) → IsOrderly v → IsOrderly (take_relinquish_by b v).state
-orderly-take_relinquish_by true v h = orderly-put_back v.held v h
-orderly-take_relinquish_by false v h = h
+orderly-take_request : (v : VoterState) (c s : ℕ) → IsOrderly v → IsOrderly (take_request v c s).state
+orderly-take_request v c s h = by_request (λ o. IsOrderly o.state) v c s (record {
+  stale = λ _. h;
+  repeated = λ _. h;
+  only = λ _ present. orderly-admit v c s (away_none (held_stamp v.held c) (get v.waiting c) present) h;
+  newer = λ _ t present _. orderly-admit (take_release v c t).state c s (held_stamp-take_release v c t present h) (orderly-take_release v c t h);
+})
 
 pub IsOrderly-see : (v : VoterState) (s : ℕ) → IsOrderly v → IsOrderly (see v s)
 IsOrderly-see v s h = record { numbered = h.numbered; apart = h.apart; free = h.free }
 
 pub IsOrderly-outcome_of : (v : VoterState) (c : ℕ) (b : VoterBody) → IsOrderly v → IsOrderly (outcome_of v c b).state
-unfolding take_relinquish take_request
-IsOrderly-outcome_of v c (asks.Request s) h = orderly-take_request_by _ (see v s) c s (IsOrderly-see v s h)
-IsOrderly-outcome_of v c (asks.Relinquish n) h = orderly-take_relinquish_by _ v h
+IsOrderly-outcome_of v c (asks.Request s) h = orderly-take_request (see v s) c s (IsOrderly-see v s h)
+IsOrderly-outcome_of v c (asks.Relinquish n) h = by_relinquish (λ o. IsOrderly o.state) v c n h (λ g _. orderly-grant_front (queue (free_vote v) g.client g.stamp) refl)
 IsOrderly-outcome_of v c (asks.Release s) h = orderly-take_release (see v s) c s (IsOrderly-see v s h)
 
 -- With the limit.

@@ -1,11 +1,10 @@
 -- which requests stay, and which of them gets the vote
 use Rattle.std.proofs.Common.{◌≡◌, ◌∷◌, ℕ, ◌<◌, ◌≤◌, Bool, true, false, Option, Some, None, refl, sym, ap, subst, ◌∙◌, ◌⊎◌, inl, inr, arith}
-use Rattle.std.specs.Prelude.{slice_index, nat_lt, ◌==◌}
+use Rattle.std.specs.Prelude.{slice_index}
 use Rattle.std.specs.FinMap.{get, insert}
 use Rattle.std.proofs.lemmas.Bool.Decides.{nat_tests}
 use Rattle.std.proofs.lemmas.Option.{none-some, same_Some}
 use Rattle.std.proofs.lemmas.Bool.{cases_lt, cases_eq}
-use Rattle.message.specs.declared.request.Request.{Request}
 use Rattle.message.specs.declared.message.ToVoter.{ToVoter}
 use Rattle.message.specs.declared.message.ClientBody.TheVariants as to_client
 use Rattle.message.specs.declared.message.VoterBody.{VoterBody}
@@ -15,11 +14,12 @@ use Rattle.voter.specs.declared.state.VoterState.{VoterState}
 use Rattle.voter.specs.Entries.{Finishes, KnowsUpTo, request_of}
 use Rattle.voter.specs.Waiting.{Waiting, precedes}
 use Rattle.voter.specs.VoterContract.{IsEntry}
-use Rattle.voter.specs.Steps.{take_release, take_release_by, join_queue, join_queue_by, admit, admit_by, queue, free_vote, finish, held_stamp, is_up_to, current_stamp, first_some, take_request}
-use Rattle.voter.specs.Steps.{take_request_by, take_request_beside, compare_by, take_relinquish, take_relinquish_by, put_back, see, outcome_of, is_refused, Outcome, step, IsSound, remind}
+use Rattle.voter.specs.Steps.{take_release, join_queue, join_queue_by, admit, queue, free_vote, finish, held_stamp, is_up_to, current_stamp, first_some, take_request}
+use Rattle.voter.specs.Steps.{see, outcome_of, is_refused, Outcome, step, IsSound, remind}
 use Rattle.voter.specs.Steps.{remind_of, reply, inquiry_again, ends_grant}
 use Rattle.voter.proofs.AskedBack.{inserted_cases}
 use Rattle.voter.specs.VoteMoves.{GrantIsNew, VoteMoves}
+use Rattle.voter.proofs.Cases.{by_admit, by_release, by_relinquish, by_request}
 use Rattle.voter.proofs.Effects.{IsSound-step, step-Some, step-taken}
 use Rattle.voter.proofs.Moves.{VoteMoves-outcome_of}
 use Rattle.voter.proofs.Freeing.{HolderFirst-grant_front, own_grant, requeues-relinquish, requeues_by, frees-release}
@@ -43,41 +43,31 @@ waits_up_to : (o : Option ℕ) (s t : ℕ) → o ≡ Some s → is_up_to o t ≡
 waits_up_to None s t is up = absurd (none-some s is)
 waits_up_to (Some u) s t is up = let same = same_Some u s is in grind (arith, nat_tests)
 
-stay-take_release_by : (holds waits : Bool) (v : VoterState) (c t : ℕ) → is_up_to (held_stamp v.held c) t ≡ holds → is_up_to (get v.waiting c) t ≡ waits
-    → (d s : ℕ) → IsEntry v d s → IsEntry (take_release_by holds waits v c t).state d s ⊎ ((d ≡ c) × (s ≤ t))
-stay-take_release_by true waits v c t holds waiting d s entry = elim entry [
-  | inl held ↦ let up = up_to_stamp v.held held.0 c t held.1 holds in inr (sym held.2 ∙ up.0, subst (λ n. n ≤ t) held.3 up.1)
-  | inr waits ↦ inl (entry-grant_front (free_vote (finish v c t)) refl d s waits)
-]
-stay-take_release_by false true v c t holds waiting d s entry = elim entry [
-  | inl held ↦ inl (inl held)
-  | inr waits ↦ elim (cases_eq d c) [
-    | inl same ↦ inr (same, waits_up_to (get v.waiting c) s t (ap (get v.waiting) (sym same) ∙ waits) waiting)
-    | inr other ↦ inl (inr (kept_removed v.waiting c d s other waits))
-  ]
-]
-stay-take_release_by false false v c t holds waiting d s entry = inl entry
-
 stay-take_release : (v : VoterState) (c t d s : ℕ) → IsEntry v d s → IsEntry (take_release v c t).state d s ⊎ ((d ≡ c) × (s ≤ t))
-unfolding take_release
-stay-take_release v c t d s entry = stay-take_release_by _ _ v c t refl refl d s entry
+stay-take_release v c t d s entry = by_release (λ o. IsEntry o.state d s ⊎ ((d ≡ c) × (s ≤ t))) v c t
+    (λ holds. elim entry [
+      | inl held ↦ let up = up_to_stamp v.held held.0 c t held.1 holds in inr (sym held.2 ∙ up.0, subst (λ n. n ≤ t) held.3 up.1)
+      | inr waits ↦ inl (entry-grant_front (free_vote (finish v c t)) refl d s waits)
+    ])
+    (λ _ waiting. elim entry [
+      | inl held ↦ inl (inl held)
+      | inr waits ↦ elim (cases_eq d c) [
+        | inl same ↦ inr (same, waits_up_to (get v.waiting c) s t (ap (get v.waiting) (sym same) ∙ waits) waiting)
+        | inr other ↦ inl (inr (kept_removed v.waiting c d s other waits))
+      ]
+    ])
+    (λ _ _. inl entry)
 
 -- ---- a REQUEST
 
-others-compare_by : (less same : Bool) (v : VoterState) (c s t : ℕ) → IsOrderly v → OthersStay v c (compare_by less same v c s t).state
-others-compare_by true same v c s t ok d u other entry = entry
-others-compare_by false true v c s t ok d u other entry = entry
-others-compare_by false false v c s t ok d u other entry =
-    (present-admit (take_release v c t).state c s (orderly-take_release v c t ok)).1 d u other (OthersStay-take_release v c t d u other entry)
-
-others-beside : (v : VoterState) (c s : ℕ) (o : Option ℕ) → IsOrderly v → OthersStay v c (take_request_beside v c s o).state
-unfolding take_request_beside
-others-beside v c s None ok = (present-admit v c s ok).1
-others-beside v c s (Some t) ok = others-compare_by _ _ v c s t ok
-
-others-take_request_by : (done : Bool) (v : VoterState) (c s : ℕ) → IsOrderly v → OthersStay v c (take_request_by done v c s).state
-others-take_request_by true v c s ok d u other entry = entry
-others-take_request_by false v c s ok d u other entry = others-beside v c s (current_stamp v c) ok d u other entry
+others-take_request : (v : VoterState) (c s : ℕ) → IsOrderly v → OthersStay v c (take_request v c s).state
+others-take_request v c s ok = by_request (λ o. OthersStay v c o.state) v c s (record {
+  stale = λ _ d u other entry. entry;
+  repeated = λ _ d u other entry. entry;
+  only = λ _ _. (present-admit v c s ok).1;
+  newer = λ _ t _ _ d u other entry.
+      (present-admit (take_release v c t).state c s (orderly-take_release v c t ok)).1 d u other (OthersStay-take_release v c t d u other entry);
+})
 
 -- a client with a request has one, and it is this one
 current_stamp_by : (v : VoterState) (c u : ℕ) (o : Option Grant) → v.held ≡ o → IsOrderly v → IsEntry v c u → first_some (held_stamp o c) (get v.waiting c) ≡ Some u
@@ -100,46 +90,30 @@ current_stamp_by v c u (Some g) is ok entry = elim entry [
 pub current_stamp-entry : (v : VoterState) (c u : ℕ) → IsOrderly v → IsEntry v c u → current_stamp v c ≡ Some u
 current_stamp-entry v c u ok entry = current_stamp_by v c u v.held refl ok entry
 
-own-compare_by : (less same : Bool) (v : VoterState) (c s u : ℕ) → nat_lt s u ≡ less → (s == u) ≡ same → s ≤ u → IsEntry v c u → IsEntry (compare_by less same v c s u).state c u
-own-compare_by true same v c s u l e most entry = entry
-own-compare_by false true v c s u l e most entry = entry
-own-compare_by false false v c s u l e most entry = absurd (let x : ⊥ = grind (arith, nat_tests) in x)
+own-take_request : (v : VoterState) (c s u : ℕ) → IsOrderly v → s ≤ u → IsEntry v c u → IsEntry (take_request v c s).state c u
+own-take_request v c s u ok most entry =
+    let now = current_stamp-entry v c u ok entry in
+    by_request (λ o. IsEntry o.state c u) v c s (record {
+      stale = λ _. entry;
+      repeated = λ _. entry;
+      only = λ _ none. absurd (none-some u (sym none ∙ now));
+      newer = λ _ t present less. absurd (let same = same_Some t u (sym present ∙ now) in omega arith);
+    })
 
-own-beside : (v : VoterState) (c s u : ℕ) (o : Option ℕ) → o ≡ Some u → s ≤ u → IsEntry v c u → IsEntry (take_request_beside v c s o).state c u
-unfolding take_request_beside
-own-beside v c s u None is most entry = absurd (none-some u is)
-own-beside v c s u (Some t) is most entry =
-    subst (λ n. IsEntry (compare_by (nat_lt s n) (s == n) v c s n).state c u) (sym (same_Some t u is)) (own-compare_by _ _ v c s u refl refl most entry)
-
-own-take_request_by : (done : Bool) (v : VoterState) (c s u : ℕ) → IsOrderly v → s ≤ u → IsEntry v c u → IsEntry (take_request_by done v c s).state c u
-own-take_request_by true v c s u ok most entry = entry
-own-take_request_by false v c s u ok most entry = own-beside v c s u (current_stamp v c) (current_stamp-entry v c u ok entry) most entry
-
-stay-take_request : (done : Bool) (v : VoterState) (c s d u : ℕ) → IsOrderly v → IsEntry v d u → IsEntry (take_request_by done v c s).state d u ⊎ ((d ≡ c) × (u < s))
-stay-take_request done v c s d u ok entry = elim (cases_eq d c) [
+stay-take_request : (v : VoterState) (c s d u : ℕ) → IsOrderly v → IsEntry v d u → IsEntry (take_request v c s).state d u ⊎ ((d ≡ c) × (u < s))
+stay-take_request v c s d u ok entry = elim (cases_eq d c) [
   | inl same ↦ elim (cases_lt u s) [
     | inl less ↦ inr (same, less)
-    | inr most ↦ inl (subst (λ n. IsEntry (take_request_by done v c s).state n u) (sym same) (own-take_request_by done v c s u ok most (subst (λ n. IsEntry v n u) same entry)))
+    | inr most ↦ inl (subst (λ n. IsEntry (take_request v c s).state n u) (sym same) (own-take_request v c s u ok most (subst (λ n. IsEntry v n u) same entry)))
   ]
-  | inr other ↦ inl (others-take_request_by done v c s ok d u other entry)
+  | inr other ↦ inl (others-take_request v c s ok d u other entry)
 ]
-
--- ---- a RELINQUISH
-
-stay-put_back : (o : Option Grant) (v : VoterState) → v.held ≡ o → IsOrderly v → (d s : ℕ) → IsEntry v d s → IsEntry (put_back o v).state d s
-stay-put_back None v is ok d s entry = entry
-stay-put_back (Some g) v is ok d s entry = (requeues_by (Some g) v g refl is ok).0 d s entry
-
-stay-take_relinquish_by : (b : Bool) (v : VoterState) → IsOrderly v → (d s : ℕ) → IsEntry v d s → IsEntry (take_relinquish_by b v).state d s
-stay-take_relinquish_by true v ok d s entry = stay-put_back v.held v refl ok d s entry
-stay-take_relinquish_by false v ok d s entry = entry
 
 -- ---- any message
 
 stay-outcome_of : (v : VoterState) (c : ℕ) (b : VoterBody) → IsOrderly v → (d s : ℕ) → IsEntry v d s → IsEntry (outcome_of v c b).state d s ⊎ Finishes c b d s
-unfolding take_relinquish take_request
-stay-outcome_of v c (asks.Request t) ok d s entry = stay-take_request _ (see v t) c t d s (IsOrderly-see v t ok) entry
-stay-outcome_of v c (asks.Relinquish n) ok d s entry = inl (stay-take_relinquish_by _ v ok d s entry)
+stay-outcome_of v c (asks.Request t) ok d s entry = stay-take_request (see v t) c t d s (IsOrderly-see v t ok) entry
+stay-outcome_of v c (asks.Relinquish n) ok d s entry = inl (by_relinquish (λ o. IsEntry o.state d s) v c n entry (λ g is. (requeues_by (Some g) v g refl is ok).0 d s entry))
 stay-outcome_of v c (asks.Release t) ok d s entry = stay-take_release (see v t) c t d s entry
 
 pub requests_stay-step : (v : VoterState) (m : ToVoter) (o : Outcome) (client stamp : ℕ) → IsSound v → step v m ≡ Some o → IsEntry v client stamp → IsEntry o.state client stamp
@@ -161,82 +135,54 @@ NewFirstOf v w = (g : Grant) (d t : ℕ) → w.held ≡ Some g → v.granted < g
 first-old : (v : VoterState) → IsOrderly v → NewFirst v.granted v
 first-old v ok g d t held new waits = let most = ok.numbered g held in absurd (omega arith)
 
-first-take_release_by : (holds waits : Bool) (v : VoterState) (c t : ℕ) → IsOrderly v → NewFirst v.granted (take_release_by holds waits v c t).state
-first-take_release_by true waits v c t ok g d s held new waiting = HolderFirst-grant_front (free_vote (finish v c t)) refl g d s held waiting
-first-take_release_by false true v c t ok g d s held new waiting = let most = ok.numbered g held in absurd (omega arith)
-first-take_release_by false false v c t ok g d s held new waiting = let most = ok.numbered g held in absurd (omega arith)
-
 first-take_release : (v : VoterState) (c t : ℕ) → IsOrderly v → NewFirst v.granted (take_release v c t).state
-unfolding take_release
-first-take_release v c t ok = first-take_release_by _ _ v c t ok
+first-take_release v c t ok = by_release (λ o. NewFirst v.granted o.state) v c t
+    (λ _ g d s held new waiting. HolderFirst-grant_front (free_vote (finish v c t)) refl g d s held waiting)
+    (λ _ _ g d s held new waiting. let most = ok.numbered g held in absurd (omega arith))
+    (λ _ _ g d s held new waiting. let most = ok.numbered g held in absurd (omega arith))
 
 held-join_queue_by : (waits granted : Bool) (v : VoterState) (g : Grant) (c s : ℕ) → (join_queue_by waits granted v g c s).state.held ≡ v.held
-held-join_queue_by true granted v g c s = refl
 held-join_queue_by false true v g c s = refl
-held-join_queue_by false false v g c s = refl
+held-join_queue_by waits granted v g c s = refl
 
 waiting-join_queue_by : (waits granted : Bool) (v : VoterState) (g : Grant) (c s : ℕ) → (join_queue_by waits granted v g c s).state.waiting ≡ insert v.waiting c s
-waiting-join_queue_by true granted v g c s = refl
 waiting-join_queue_by false true v g c s = refl
-waiting-join_queue_by false false v g c s = refl
+waiting-join_queue_by waits granted v g c s = refl
 
 -- what waits after a new request waited before, or is that request
-first-admit_by : (o : Option Grant) (v : VoterState) (c s n : ℕ) → v.held ≡ o → NewFirst n v
-    → (g : Grant) (d t : ℕ) → (admit_by o v c s).state.held ≡ Some g → n < g.grant → ((d ≡ c) × (t ≡ s) → ⊥) → get (admit_by o v c s).state.waiting d ≡ Some t
+first-admit : (v : VoterState) (c s n : ℕ) → NewFirst n v
+    → (g : Grant) (d t : ℕ) → (admit v c s).state.held ≡ Some g → n < g.grant → ((d ≡ c) × (t ≡ s) → ⊥) → get (admit v c s).state.waiting d ≡ Some t
     → precedes (record { stamp = t; client = d }) (request_of g) ≡ false
 unfolding join_queue
-first-admit_by None v c s n is first g d t held new other waits = HolderFirst-grant_front (queue v c s) is g d t held waits
-first-admit_by (Some h) v c s n is first g d t held new other waits =
+first-admit v c s n first g d t = by_admit (λ o. o.state.held ≡ Some g → n < g.grant → ((d ≡ c) × (t ≡ s) → ⊥) → get o.state.waiting d ≡ Some t
+    → precedes (record { stamp = t; client = d }) (request_of g) ≡ false) v c s
+    (λ is held new other waits. HolderFirst-grant_front (queue v c s) is g d t held waits)
+    (λ h _ held new other waits.
     let same = held-join_queue_by _ _ v h c s in
     let list = waiting-join_queue_by _ _ v h c s in
     elim (inserted_cases v.waiting c s d t (sym (ap (λ (w : Waiting). get w d) list) ∙ waits)) [
       | inl here ↦ absurd (other here)
       | inr before ↦ first g d t (sym same ∙ held) new before
-    ]
+    ])
 
-first-admit : (v : VoterState) (c s n : ℕ) → NewFirst n v
-    → (g : Grant) (d t : ℕ) → (admit v c s).state.held ≡ Some g → n < g.grant → ((d ≡ c) × (t ≡ s) → ⊥) → get (admit v c s).state.waiting d ≡ Some t
-    → precedes (record { stamp = t; client = d }) (request_of g) ≡ false
-unfolding admit
-first-admit v c s n first = first-admit_by v.held v c s n refl first
-
-first-compare_by : (less same : Bool) (v : VoterState) (c s t : ℕ) → (s == t) ≡ same → current_stamp v c ≡ Some t → IsOrderly v → NewFirstOf v (compare_by less same v c s t).state
-first-compare_by true same v c s t e present ok g d u held new entry waits = first-old v ok g d u held new waits
-first-compare_by false true v c s t e present ok g d u held new entry waits = first-old v ok g d u held new waits
-first-compare_by false false v c s t e present ok g d u held new entry waits =
-    first-admit (take_release v c t).state c s v.granted (first-take_release v c t ok) g d u held new
-    (λ here.
-    let now = current_stamp-entry v c u ok (subst (λ n. IsEntry v n u) here.0 entry) in
-    let old = same_Some t u (sym present ∙ now) in
-    let same = here.1 in
-    (let x : ⊥ = grind (arith, nat_tests) in x))
-    waits
-
-no_current_stamp : (v : VoterState) (c u : ℕ) → current_stamp v c ≡ None → IsOrderly v → IsEntry v c u → ⊥
-no_current_stamp v c u none ok entry = none-some u (sym none ∙ current_stamp-entry v c u ok entry)
-
-first-beside : (v : VoterState) (c s : ℕ) (o : Option ℕ) → current_stamp v c ≡ o → IsOrderly v → NewFirstOf v (take_request_beside v c s o).state
-unfolding take_request_beside
-first-beside v c s None present ok g d u held new entry waits =
-    first-admit v c s v.granted (first-old v ok) g d u held new (λ here. no_current_stamp v c u present ok (subst (λ n. IsEntry v n u) here.0 entry)) waits
-first-beside v c s (Some t) present ok g d u held new entry waits = first-compare_by _ _ v c s t refl present ok g d u held new entry waits
-
-first-take_request_by : (done : Bool) (v : VoterState) (c s : ℕ) → IsOrderly v → NewFirstOf v (take_request_by done v c s).state
-first-take_request_by true v c s ok g d u held new entry waits = first-old v ok g d u held new waits
-first-take_request_by false v c s ok g d t held new entry waits = first-beside v c s (current_stamp v c) refl ok g d t held new entry waits
-
-first-put_back : (o : Option Grant) (v : VoterState) → v.held ≡ o → IsOrderly v → NewFirst v.granted (put_back o v).state
-first-put_back None v is ok g d t held new waits = first-old v ok g d t held new waits
-first-put_back (Some h) v is ok g d t held new waits = (requeues_by (Some h) v h refl is ok).1 g d t held waits
-
-first-take_relinquish_by : (b : Bool) (v : VoterState) → IsOrderly v → NewFirst v.granted (take_relinquish_by b v).state
-first-take_relinquish_by true v ok = first-put_back v.held v refl ok
-first-take_relinquish_by false v ok = first-old v ok
+first-take_request : (v : VoterState) (c s : ℕ) → IsOrderly v → NewFirstOf v (take_request v c s).state
+first-take_request v c s ok = by_request (λ o. NewFirstOf v o.state) v c s (record {
+  stale = λ _ g d u held new entry waits. first-old v ok g d u held new waits;
+  repeated = λ _ g d u held new entry waits. first-old v ok g d u held new waits;
+  only = λ _ none g d u held new entry waits. first-admit v c s v.granted (first-old v ok) g d u held new
+      (λ here. none-some u (sym none ∙ current_stamp-entry v c u ok (subst (λ n. IsEntry v n u) here.0 entry))) waits;
+  newer = λ _ t present less g d u held new entry waits. first-admit (take_release v c t).state c s v.granted (first-take_release v c t ok) g d u held new
+      (λ here.
+      let old = same_Some t u (sym present ∙ current_stamp-entry v c u ok (subst (λ n. IsEntry v n u) here.0 entry)) in
+      let same = here.1 in
+      (let x : ⊥ = omega arith in x))
+      waits;
+})
 
 first-outcome_of : (v : VoterState) (c : ℕ) (b : VoterBody) → IsOrderly v → NewFirstOf v (outcome_of v c b).state
-unfolding take_relinquish take_request
-first-outcome_of v c (asks.Request s) ok g d t held new entry waits = first-take_request_by _ (see v s) c s (IsOrderly-see v s ok) g d t held new entry waits
-first-outcome_of v c (asks.Relinquish n) ok g d t held new entry waits = first-take_relinquish_by _ v ok g d t held new waits
+first-outcome_of v c (asks.Request s) ok g d t held new entry waits = first-take_request (see v s) c s (IsOrderly-see v s ok) g d t held new entry waits
+first-outcome_of v c (asks.Relinquish n) ok g d t held new entry waits = by_relinquish (λ o. NewFirst v.granted o.state) v c n (first-old v ok)
+    (λ h is g d t held new waits. (requeues_by (Some h) v h refl is ok).1 g d t held waits) g d t held new waits
 first-outcome_of v c (asks.Release s) ok g d t held new entry waits = first-take_release (see v s) c s (IsOrderly-see v s ok) g d t held new waits
 
 pub first-step : (v : VoterState) (m : ToVoter) (o : Outcome) (g : Grant) (client stamp : ℕ) → IsSound v → step v m ≡ Some o → o.state.held ≡ Some g → v.granted < g.grant

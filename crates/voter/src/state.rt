@@ -227,15 +227,15 @@ impl VoterState {
     }
 
     #[tactic(auto, unfolding(crate::specs::Steps::take_request_beside))]
-    fn request_beside(&mut self, request: Request, standing: Option<u64>, replies: &mut Replies)
+    fn request_beside(&mut self, request: Request, current: Option<u64>, replies: &mut Replies)
         requires client { request.client < max_clients }
         requires room { replies.old.items ≡ [] }
         requires few { self.old.granted + 1 < 2 ^ 63 }
-        ensures state { self.new ≡ (take_request_beside self.old request.client request.stamp standing).state }
+        ensures state { self.new ≡ (take_request_beside self.old request.client request.stamp current).state }
         ensures replies { replies.new.items
-            ≡ (take_request_beside self.old request.client request.stamp standing).replies }
+            ≡ (take_request_beside self.old request.client request.stamp current).replies }
     {
-        match standing {
+        match current {
             None => self.admit(request, replies),
             Some(stamp) => {
                 if request.stamp == stamp {
@@ -257,8 +257,8 @@ impl VoterState {
         ensures replies { replies.new.items ≡ (take_request self.old request.client request.stamp).replies }
     {
         if request.stamp > self.finished_of(request.client) {
-            let standing = self.current_stamp(request.client);
-            self.request_beside(request, standing, replies);
+            let current = self.current_stamp(request.client);
+            self.request_beside(request, current, replies);
         }
     }
 
@@ -369,11 +369,11 @@ impl VoterState {
     }
 }
 
-fn is_later(standing: Option<u64>, stamp: u64) -> bool
-    ensures { result ≡ is_later standing stamp }
+fn is_later(current: Option<u64>, stamp: u64) -> bool
+    ensures { result ≡ is_later current stamp }
 {
-    match standing {
-        Some(standing) => standing < stamp,
+    match current {
+        Some(current) => current < stamp,
         None => true,
     }
 }

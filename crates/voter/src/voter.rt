@@ -1,4 +1,4 @@
-ghost use Rattle.std.specs.Prelude.{◌≡◌, ◌<◌, ◌≤◌, [], IfErr, IfOk, IfSome, OnErr, OnOk, None, Option, Result, Some};
+ghost use Rattle.std.specs.Prelude.{◌≡◌, ◌<◌, ◌≤◌, [], IfErr, IfOk, IfSome, OnErr, OnOk, None, Some};
 ghost use Rattle.arrayvec.specs.ArrayVec.{array_vec_len};
 ghost use Rattle.numbers.specs.Bounds.{max_voters, max_clients, max_stamp};
 ghost use Rattle.voter.specs.Steps.{IsSound, effect_of, remind, start, step};
