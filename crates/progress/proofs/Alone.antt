@@ -75,7 +75,7 @@ asks_for laws p c v u h others free left =
     let alive = range_with_len 0 (length u.clients) in
     let count = length-range_with_len 0 (length u.clients) in
     let idle : OthersIdle c z = λ d other. ap is_idle (heard.went.gains d).phase ∙ others d other in
-    let same = heard.went.clients in
+    let same = heard.went.path.clients in
     let limit = heard.went.limit in
     got_or p c v top u z heard.went (omega arith) (λ lacks. known_gets laws p c v top alive z (record {
       spot = spot;
@@ -98,15 +98,15 @@ record Left (c : ℕ) (w u : WorldState) : Type 0 where
 
 Left-went : (deal : Dealing) (c v : ℕ) (w u x : WorldState) → Went deal v u x → holds (client_at x.clients c) v ≡ true → Left c w u → Left c w x
 Left-went deal c v w u x a has h = record {
-  clients = a.clients ∙ h.clients;
-  voters = a.voters ∙ h.voters;
+  clients = a.path.clients ∙ h.clients;
+  voters = a.path.voters ∙ h.voters;
   quorum = (a.gains c).quorum ∙ h.quorum;
   grants = λ q within free. elim (cases_eq q v) [
     | inl same ↦ absurd (false≢true (sym free ∙ ap (λ i. holds (client_at x.clients c) i) same ∙ has))
     | inr other ↦
-        let before = h.grants q (subst (λ n. q < n) a.voters within) (lacked q free) in
+        let before = h.grants q (subst (λ n. q < n) a.path.voters within) (lacked q free) in
         subst (λ (y : VoterState). y.granted + (length x.clients + 2) ≤ y.limit) (sym (a.others q other))
-        (subst (λ n. (voter_at u.voters q).granted + (n + 2) ≤ (voter_at u.voters q).limit) (sym a.clients) before)
+        (subst (λ n. (voter_at u.voters q).granted + (n + 2) ≤ (voter_at u.voters q).limit) (sym a.path.clients) before)
   ];
 }
   where

@@ -1,12 +1,10 @@
 -- what holds after every run, beside what `world` says
 use Rattle.std.proofs.Common.{◌≡◌, ℕ, ◌≤◌, Bool, true, false, List, [], ◌∷◌, ◌++◌, map, Some, refl, sym, ap, subst, ◌∙◌, inl, inr, arith}
 use Rattle.std.specs.FinMap as fin
-use Rattle.std.specs.List.{AllByRecursion, range_with_len}
+use Rattle.std.specs.List.{AllByRecursion}
 use Rattle.std.specs.Ordering.{nat_cmp}
 use Rattle.std.proofs.lemmas.Bool.{cases_lt}
 use Rattle.std.proofs.lemmas.Bool.Decides.{nat_tests}
-use Rattle.std.proofs.lemmas.List.{get_or_past}
-use Rattle.std.proofs.lemmas.List.FromFn.{get_or-map-range_with_len, length-map-range_with_len}
 use Rattle.std.proofs.lemmas.Option.{none-some}
 use Rattle.message.specs.declared.message.Message.{Message}
 use Rattle.message.specs.declared.message.Message.TheVariants as kinds
@@ -21,10 +19,11 @@ use Rattle.voter.specs.Replies.{AllCarry, seen_after}
 use Rattle.voter.specs.Steps as voter
 use Rattle.voter.specs.VoteMoves.{VoteMoves}
 use Rattle.voter.specs.VoterContract.{AllReport, Brings, IsEntry, ReportsVote}
-use Rattle.world.specs.Coherence.{IsCoherent}
+use Rattle.world.specs.Coherence.{AskOk, IsCoherent, MessageOk}
 use Rattle.world.specs.Ranges.{IsAddressed}
 use Rattle.world.specs.Runs.{IsReached, start}
-use Rattle.world.specs.Steps.{Planned, WorldState, step, voter_at}
+use Rattle.world.specs.Steps.{Planned, WorldState, client_at, step, voter_at}
+use Rattle.world.proofs.Reached.{new_voters, voter_new, voter_past}
 use Rattle.progress.specs.Rules.{Laws, VoterLaws}
 use Rattle.progress.proofs.Moves.{ClientMoved, IsReminder, Moved, OnlySent, VoterMoved, all_sent, each_voter, kept-reached}
 use Rattle.numbers.proofs.Lists.{AllByRecursion-append, AllByRecursion-get, AllByRecursion-weaker}
@@ -109,6 +108,11 @@ HasSeen-voter laws w u k seen = each_voter (λ v y. (c s : ℕ) → IsEntry y c 
 pub is_named : (w u : WorldState) → IsCoherent w → (k : VoterMoved w u) → (voter_at w.voters k.message.voter).id ≡ k.message.voter
 is_named w u ok k = ok.numbered.voters k.message.voter (AllByRecursion-get (IsAddressed w) w.sent k.place (kinds.ToVoter k.message) ok.numbered.messages k.came).1
 
+-- what the message says is so of its client
+pub asked_by : (w u : WorldState) → IsCoherent w → (k : VoterMoved w u) → (c : ℕ) → c ≡ k.message.client → AskOk (client_at w.clients c) k.message.voter k.message.body
+asked_by w u ok k c same = subst (λ n. AskOk (client_at w.clients n) k.message.voter k.message.body) (sym same)
+    (AllByRecursion-get (MessageOk (client_at w.clients) (voter_at w.voters)) w.sent k.place (kinds.ToVoter k.message) ok.messages k.came)
+
 Always-voter : (laws : VoterLaws) (w u : WorldState) → IsCoherent w → IsCoherent u → VoterMoved w u → Always w → Always u
 Always-voter laws w u ok now k a =
     let y = voter_at w.voters k.message.voter in
@@ -155,16 +159,9 @@ Always-moved laws w u ok now moved a = elim moved [
 
 -- ---- every run
 
-unfoldable pub new_voters : ℕ → ℕ → List VoterState
-new_voters n limit = map (λ v. voter.start v limit) (range_with_len 0 n)
-
 -- each voter of a new world is a new one
 pub new_voter : (n limit v : ℕ) → (i : ℕ) × (l : ℕ) × (voter_at (new_voters n limit) v ≡ voter.start i l)
-unfolding voter_at new_voters
-new_voter n limit v = elim (cases_lt v n) [
-  | inl within ↦ (v, limit, get_or-map-range_with_len (λ i. voter.start i limit) 0 n v v (voter.start 0 1) within (omega arith))
-  | inr beyond ↦ (0, 1, get_or_past (new_voters n limit) v (voter.start 0 1) (let len = length-map-range_with_len (λ i. voter.start i limit) 0 n in omega arith))
-]
+new_voter n limit v = elim (cases_lt v n) [ inl within ↦ (v, limit, voter_new n limit v within) | inr beyond ↦ (0, 1, voter_past n limit v beyond) ]
 
 pub none_entry : (i l c s : ℕ) → IsEntry (voter.start i l) c s → ⊥
 none_entry i l c s entry = elim entry [

@@ -31,10 +31,10 @@ use Rattle.requester.specs.Clocks.{Hears}
 use Rattle.requester.specs.RequesterContract.{Accepts, IsLater, IsLocked, KeepsQuorum, Locks, MeetsContract}
 use Rattle.requester.specs.Steps as requester
 use Rattle.requester.specs.Words.{holds_under, is_idle, is_member, members}
-use Rattle.world.specs.Coherence.{AskOk, IsCoherent, MessageOk}
+use Rattle.world.specs.Coherence.{AskOk, IsCoherent}
 use Rattle.world.specs.Steps.{WorldState, client_at, voter_at}
 use Rattle.progress.specs.Overtaking.{IsKnownEverywhere, StillRuns}
-use Rattle.progress.proofs.Always.{Always, IsUpTo, WasGiven, granted_rises, is_named}
+use Rattle.progress.proofs.Always.{Always, IsUpTo, WasGiven, asked_by, granted_rises, is_named}
 use Rattle.progress.specs.Rules.{ClientLaws, Laws, VoterLaws}
 use Rattle.progress.proofs.Moves.{Came, ClientMoved, IsReminder, Moved, OnlySent, VoterMoved, all_sent, each_client, each_voter}
 use Rattle.world.proofs.Claims.{IsLater-self}
@@ -261,8 +261,7 @@ OneVoter-moved : (laws : VoterLaws) (w u x : WorldState) (c : ℕ) → IsCoheren
     → OneVoter w c k.message.voter (voter_at u.voters k.message.voter) → OneVoter w c k.message.voter k.outcome.state
 OneVoter-moved laws w u x c ok runs k h =
     let y = voter_at u.voters k.message.voter in
-    let asked : c ≡ k.message.client → AskOk (client_at u.clients c) k.message.voter k.message.body = λ same. subst (λ n. AskOk (client_at u.clients n) k.message.voter k.message.body) (sym same)
-    (AllByRecursion-get (MessageOk (client_at u.clients) (voter_at u.voters)) u.sent k.place (kinds.ToVoter k.message) ok.messages k.came) in
+    let asked = asked_by u x ok k c in
     let known : IsAsked w c k.message.voter → IsEntry k.outcome.state c (stamp_of w c) = λ is.
     elim (laws.stays y k.message k.outcome c (stamp_of w c) (ok.voters k.message.voter) k.step (h.known is)) [
       | inl stays ↦ stays

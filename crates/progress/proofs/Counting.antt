@@ -17,7 +17,7 @@ use Rattle.requester.specs.declared.state.Seen.TheVariants.{Nothing, Entered, Le
 use Rattle.requester.specs.Clocks.{KeepsTime}
 use Rattle.requester.specs.RequesterContract.{IsLater, KeepsQuorum, Sees}
 use Rattle.requester.specs.Steps as requester
-use Rattle.requester.specs.Words.{held_of, holds, is_asking, is_idle, is_inside, is_member}
+use Rattle.requester.specs.Words.{held_of, is_asking, is_idle, is_inside, is_member}
 use Rattle.numbers.specs.Sets.{has}
 use Rattle.numbers.proofs.Options.{false-by}
 use Rattle.world.specs.declared.step.Event.{Event}
@@ -31,7 +31,7 @@ use Rattle.progress.proofs.Behind.{Behind, Behind-first, Behind-moved, IsLater-m
 use Rattle.progress.specs.Rules.{ClientLaws, Laws}
 use Rattle.progress.proofs.Moves.{ClientMoved, IsReached-after, Moved, Moved-step, kept-run, with_state}
 use Rattle.world.proofs.Claims.{IsLater-self}
-use Rattle.progress.proofs.Fitting.{held_under}
+use Rattle.world.proofs.Exclusion.{held_under}
 use Rattle.requester.proofs.RangeLemmas.{is_inside-busy}
 
 -- What the number of entries since the world w says of the client d: after one, it asks under a greater

@@ -22,7 +22,8 @@ use Rattle.progress.proofs.Led.{EntersBy}
 use Rattle.progress.specs.Rules.{Laws}
 use Rattle.progress.proofs.Moves.{client_here, client_others, with_state}
 use Rattle.progress.proofs.Together.{asks_within, lets_in, one_entry}
-use Rattle.progress.proofs.Ways.{IsReached-run, run_then}
+use Rattle.progress.proofs.Ways.{IsReached-run}
+use Rattle.world.proofs.Plans.{run_then}
 use Rattle.std.proofs.Math.Nat.{mul-le-mul_right}
 use Rattle.numbers.specs.Sums.{sum_below}
 use Rattle.numbers.proofs.Lists.{AllByRecursion-append, AllByRecursion-weaker}
@@ -149,10 +150,10 @@ Served-enters : (deal : Dealing) (e : ℕ) (n : ℕ → ℕ) (u : WorldState) �
 Served-enters deal e n u a =
     let sent = length u.sent in
     record {
-      steps = a.steps;
-      serves = AllByRecursion-weaker (Helps sent) (Serves sent) (help_serves sent) a.steps a.helps;
-      run = a.run;
-      sent = a.sent;
+      steps = a.path.steps;
+      serves = AllByRecursion-weaker (Helps sent) (Serves sent) (help_serves sent) a.path.steps a.path.helps;
+      run = a.path.run;
+      sent = a.path.sent;
       more = events e Entered;
       visible = a.visible;
     }
@@ -274,12 +275,12 @@ serves_all laws p c k (suc t) u is most r asks left = elim (inside_below u (leng
             let before : weight (client_at u.clients e).phase ≡ 2 = ap weight was in
             let now_one : asking_one (client_at x.clients e).phase ≡ 0 = ap asking_one way.inside in
             let before_one : asking_one (client_at u.clients e).phase ≡ 1 = ap asking_one was in
-            let less = total_less weight u x e way.clients within (omega arith) way.phases in
-            let fewer = total_less asking_one u x e way.clients within (omega arith) way.phases in
+            let less = total_less weight u x e way.path.clients within (omega arith) way.phases in
+            let fewer = total_less asking_one u x e way.path.clients within (omega arith) way.phases in
             let product : (total asking_one x + 1) * k ≤ total asking_one u * k = mul-le-mul_right k fewer in
-            let rest = serves_all laws p c k t x (same_entry u x way.voters way.clients ∙ is) (omega arith) (Reached-served p u x served r)
-            (record { client = subst (λ n. c < n) (sym way.clients) asks.client; asks = ap is_asking (way.phases c (λ same. apart (sym same))) ∙ asks.asks })
-            (λ v there. (let count = left v (subst (λ n. v < n) way.voters there) in let few = way.few v in let limit = way.limit v in omega arith)) in
+            let rest = serves_all laws p c k t x (same_entry u x way.path.voters way.path.clients ∙ is) (omega arith) (Reached-served p u x served r)
+            (record { client = subst (λ n. c < n) (sym way.path.clients) asks.client; asks = ap is_asking (way.phases c (λ same. apart (sym same))) ∙ asks.asks })
+            (λ v there. (let count = left v (subst (λ n. v < n) way.path.voters there) in let few = way.few v in let limit = way.limit v in omega arith)) in
             (served.steps ++ rest.0, GetsIn-after (dealing_of p.plans) c u x rest.0 served rest.1)
       ]
 ]

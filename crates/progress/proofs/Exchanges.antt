@@ -1,5 +1,5 @@
 -- what reminders and deliveries make of a world
-use Rattle.std.proofs.Common.{false, Option, ◌≤◌, ◌+◌, ◌≡◌, ℕ, ◌<◌, true, List, [], ◌∷◌, ◌++◌, map, length, set, Some, Ok, refl, sym, ap, subst, ◌∙◌, inl, inr, arith, length-append}
+use Rattle.std.proofs.Common.{false, Option, ◌≤◌, ◌+◌, ◌≡◌, ℕ, ◌<◌, true, List, [], ◌∷◌, ◌++◌, map, length, Some, Ok, refl, sym, ap, subst, ◌∙◌, inl, inr, arith}
 use Rattle.std.specs.Prelude.{zero, suc, slice_get, slice_index_or}
 use Rattle.std.specs.List.{Contains}
 use Rattle.std.proofs.lemmas.Bool.Decides.{nat_tests}
@@ -24,7 +24,7 @@ use Rattle.requester.specs.Words.{held_of, holds, holds_under, last_of}
 use Rattle.world.specs.declared.step.Step.TheVariants.{Deliver, RemindClient, RemindVoter}
 use Rattle.world.specs.Runs.{IsReached, after, run_of}
 use Rattle.world.specs.Steps.{Dealing, Planned, WorldState, after_voter, client_at, client_did, come, dealing_of, if_client, if_voter, say, step, voter_at, voter_did}
-use Rattle.progress.specs.LostVotes.{ComesBack, GoesOn, HasLostVote, HasReturnedVote, reminder_and_one, reminder_and_two}
+use Rattle.progress.specs.LostVotes.{GoesOn, HasLostVote, HasReturnedVote, reminder_and_one}
 use Rattle.world.specs.Coherence.{Names}
 use Rattle.progress.proofs.Fitting.{Fits-reached}
 use Rattle.progress.specs.Rules.{Laws}
@@ -84,40 +84,6 @@ pub after-release : (laws : Laws) (deal : Dealing) (w : WorldState) (v : ℕ) (g
     → after (answered w v g) (step deal (answered w v g) (Deliver (length (reminded w v).sent))) ≡ (voter_did (answered w v g) (voter_at w.voters v).id o).state
 unfolding reminded
 after-release laws deal w v g o takes = after-deliver_voter deal (answered w v g) (length (reminded w v).sent) (answer w v g) o (get_next (reminded w v).sent (kinds.ToVoter (answer w v g)) []) takes
-
-pub comes_back : Laws → (w : Planned) (v : ℕ) (g : Grant) → IsReached w → HasLostVote w.state v g → ComesBack (dealing_of w.plans) w.state v g
-unfolding reminded
-comes_back laws plan v g r lost =
-    let w = plan.state in
-    let deal = dealing_of plan.plans in
-    let ok = laws.coherent plan r in
-    let y = voter_at w.voters v in
-    let id : y.id ≡ v = ok.numbered.voters v lost.voter in
-    let client = (ok.made v g.client g.stamp (inl (g, lost.held, refl, refl))).client in
-    let m = answer w v g in
-    let taken = laws.voter.takes y m (ok.voters v) lost.left in
-    let o = taken.0 in
-    let takes : voter.step (voter_at w.voters y.id) m ≡ Some o = subst (λ n. voter.step (voter_at w.voters n) m ≡ Some o) (sym id) taken.1 in
-    let second = length (reminded w v).sent in
-    let run : run_of deal (reminder_and_two v (length w.sent) second) w ≡ (voter_did (answered w v g) y.id o).state =
-    ap (λ (u : WorldState). after (after u (step deal u (Deliver (length w.sent)))) (step deal (after u (step deal u (Deliver (length w.sent)))) (Deliver second)))
-    (after-remind_voter deal w v lost.voter)
-    ∙ ap (λ (u : WorldState). after u (step deal u (Deliver second))) (after-answer laws deal w v g lost)
-    ∙ after-release laws deal w v g o takes in
-    let here : voter_at (run_of deal (reminder_and_two v (length w.sent) second) w).voters v ≡ o.state =
-    ap (λ (u : WorldState). voter_at u.voters v) run ∙ ap (λ n. voter_at (set w.voters n o.state) v) id ∙ voter_here w.voters v o.state lost.voter in
-    let own : m.client ≡ g.client = ok.numbered.clients g.client client in
-    record {
-      first = length w.sent;
-      second = second;
-      first_is_new = omega arith;
-      second_is_new = omega (arith, length-append w.sent (map kinds.ToClient (voter.remind y)));
-      gone = subst (λ (z : VoterState). (s : ℕ) → IsEntry z g.client s → ⊥) (sym here) (laws.voter.ends y m o g g.stamp (ok.voters v) lost.held own refl (omega arith) taken.1);
-      others = λ c s other entry. subst (λ (z : VoterState). IsEntry z c s) (sym here) (elim (laws.voter.stays y m o c s (ok.voters v) taken.1 entry) [
-        | inl stays ↦ stays
-        | inr finishes ↦ absurd (other (finishes.0 ∙ own))
-      ]);
-    }
 
 -- ---- a client's reminder
 

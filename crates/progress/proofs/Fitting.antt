@@ -1,17 +1,14 @@
 -- what clients gave back and what voters finished fit together, after every run
-use Rattle.std.proofs.Common.{◌≡◌, ℕ, ◌+◌, ◌<◌, ◌≤◌, Bool, true, false, List, [], ◌∷◌, map, length, Option, Some, Ok, refl, sym, ap, subst, ◌∙◌, ◌⊎◌, inl, inr, arith}
+use Rattle.std.proofs.Common.{◌≡◌, ℕ, ◌+◌, ◌<◌, ◌≤◌, Bool, true, false, List, [], ◌∷◌, length, Option, Some, Ok, refl, sym, ap, subst, ◌∙◌, ◌⊎◌, inl, inr, arith}
 use Rattle.std.specs.Prelude.{slice_index}
-use Rattle.std.specs.List.{filter, list_all, range_with_len}
+use Rattle.std.specs.List.{filter, list_all}
 use Rattle.std.specs.Result.{result_ok}
 use Rattle.std.proofs.lemmas.Bool.{cases_lt, false≢true, false_from_ne_true}
 use Rattle.std.proofs.lemmas.Bool.Decides.{nat_tests}
-use Rattle.std.proofs.lemmas.List.{get_or_past}
-use Rattle.std.proofs.lemmas.List.FromFn.{get_or-map-range_with_len, length-map-range_with_len}
 use Rattle.std.proofs.lemmas.Option.{none-some, same_Some}
 use Rattle.numbers.specs.Bounds.{max_voters}
 use Rattle.numbers.proofs.Options.{false-by}
-use Rattle.numbers.proofs.Lists.{AllByRecursion-get, slice_index-replicate_zero}
-use Rattle.message.specs.declared.message.Message.TheVariants as kinds
+use Rattle.numbers.proofs.Lists.{slice_index-replicate_zero}
 use Rattle.message.specs.declared.message.ToClient.{ToClient}
 use Rattle.message.specs.declared.message.ClientBody.{ClientBody}
 use Rattle.message.specs.declared.message.ClientBody.TheVariants as to_client
@@ -29,14 +26,16 @@ use Rattle.requester.specs.RequesterContract.{IsLater, Locks, MeetsContract}
 use Rattle.requester.specs.Soundness.{IsSound}
 use Rattle.requester.specs.Steps as requester
 use Rattle.requester.specs.Words.{held_of, holds, holds_under, is_asking, is_covered, is_current, is_idle, is_relinquished, last_of, members, is_inquired}
-use Rattle.world.specs.Coherence.{AskOk, IsCoherent, MessageOk, Names}
+use Rattle.world.specs.Coherence.{AskOk, IsCoherent, Names}
 use Rattle.world.specs.Runs.{IsReached, start}
 use Rattle.world.specs.Steps.{Planned, WorldState, client_at, step, voter_at}
-use Rattle.progress.proofs.Always.{granted_later, new_voter, new_voters}
+use Rattle.progress.proofs.Always.{asked_by, granted_later, new_voter}
+use Rattle.world.proofs.Reached.{client_new, client_past, new_clients, new_voters}
 use Rattle.progress.proofs.Behind.{ask-Ok, grant_moved, meets}
 use Rattle.progress.specs.Rules.{Laws}
 use Rattle.progress.proofs.Moves.{ClientMoved, Moved, VoterMoved, each_client, each_voter, kept-reached}
 use Rattle.requester.proofs.SoundSteps.{is_asking-busy, holds_under-holds}
+use Rattle.world.proofs.Exclusion.{held_under}
 
 -- the voter finished no request of the client that runs
 pub record Unfinished (x : ClientState) (c : ℕ) (y : VoterState) : Type 0 where
@@ -70,9 +69,6 @@ current_busy x s is = grind (arith, nat_tests)
 
 pub current_stamp : (x : ClientState) (s : ℕ) → is_current x s ≡ true → s ≡ x.stamp
 current_stamp x s is = grind (arith, nat_tests)
-
-pub held_under : (x : ClientState) (v : ℕ) → holds x v ≡ true → holds_under x v (held_of x v) ≡ true
-held_under x v is = grind (arith, nat_tests)
 
 pub take-Ok : (x : ClientState) (m : ToClient) (o : requester.Outcome) → requester.step x (requester.Takes m) ≡ Ok o → requester.take x m ≡ o
 unfolding requester.step
@@ -317,8 +313,7 @@ Pair-voter : (laws : Laws) (u x : WorldState) → IsCoherent u → (k : VoterMov
     → Pair c k.message.voter (client_at u.clients c) k.outcome.state
 Pair-voter laws u x ok k c h =
     let y = voter_at u.voters k.message.voter in
-    let asked : c ≡ k.message.client → AskOk (client_at u.clients c) k.message.voter k.message.body = λ same. subst (λ n. AskOk (client_at u.clients n) k.message.voter k.message.body) (sym same)
-    (AllByRecursion-get (MessageOk (client_at u.clients) (voter_at u.voters)) u.sent k.place (kinds.ToVoter k.message) ok.messages k.came) in
+    let asked = asked_by u x ok k c in
     let rises = subst (λ (z : VoterState). y.granted ≤ z.granted) k.here (granted_later laws.voter u x ok k k.message.voter) in
     let last = h.last in
     record {
@@ -345,15 +340,8 @@ Fits-moved laws u x ok now moved h = elim moved [
 
 -- ---- every run
 
-pub new_clients : ℕ → ℕ → List ClientState
-new_clients n limit = map (λ c. requester.start c limit) (range_with_len 0 n)
-
 pub new_client : (n limit c : ℕ) → (i : ℕ) × (l : ℕ) × (client_at (new_clients n limit) c ≡ requester.start i l)
-unfolding client_at new_clients
-new_client n limit c = elim (cases_lt c n) [
-  | inl within ↦ (c, limit, get_or-map-range_with_len (λ i. requester.start i limit) 0 n c c (requester.start 0 1) within (omega arith))
-  | inr beyond ↦ (0, 1, get_or_past (new_clients n limit) c (requester.start 0 1) (let len = length-map-range_with_len (λ i. requester.start i limit) 0 n in omega arith))
-]
+new_client n limit c = elim (cases_lt c n) [ inl within ↦ (c, limit, client_new n limit c within) | inr beyond ↦ (0, 1, client_past n limit c beyond) ]
 
 Pair-start : (c v i l j m : ℕ) → Pair c v (requester.start i l) (voter.start j m)
 Pair-start c v i l j m = record {

@@ -30,11 +30,13 @@ use Rattle.world.specs.declared.step.Step.TheVariants.{Deliver, RemindVoter}
 use Rattle.world.specs.Runs.{IsReached, run_of}
 use Rattle.world.specs.Steps.{Dealing, Planned, WorldState, client_at, client_did, dealing_of, events, step, voter_at}
 use Rattle.progress.proofs.Exchanges.{after-deliver_client, after-remind_voter, get_next, reminded, spoken}
-use Rattle.progress.proofs.Fitting.{Fits-reached, Stays, Stays-fail, Stays-inquire, grant_is, held_under}
+use Rattle.progress.proofs.Fitting.{Fits-reached, Stays, Stays-fail, Stays-inquire, grant_is}
 use Rattle.progress.specs.Rules.{Laws}
 use Rattle.progress.proofs.Moves.{client_here, client_others, each_set, with_state}
 use Rattle.progress.proofs.Placed.{Placed-reached}
-use Rattle.progress.proofs.Ways.{Here, Here-went, Leads, asks_again, entry_waits, gets, has_range, hears, held_some, help_then, own_stamp, run_then}
+use Rattle.progress.proofs.Ways.{Here, Here-went, Leads, asks_again, entry_waits, gets, has_range, hears, held_some, help_then, own_stamp}
+use Rattle.world.proofs.Exclusion.{held_under}
+use Rattle.world.proofs.Plans.{run_then}
 use Rattle.progress.proofs.Counts.{CanGive, none, one_each, only, only_here, only_zero, times_in, times_more, times_once}
 use Rattle.progress.proofs.Led.{CanGive-led, Here-led, Led, Led-more, Led-self, Led-then, Led-went, SameRequest, Somebody, Somebody-led, Somebody-more, somebody_at}
 use Rattle.progress.proofs.Behind.{the_request}
@@ -49,13 +51,15 @@ Led-takes deal c n k u x m a new is within other st =
     let d = m.client in
     let o = requester.take (client_at x.clients d) m in
     record {
-      steps = a.steps ++ Deliver k ∷ [];
-      helps = help_then (length u.sent) (length u.sent) a.steps (Deliver k ∷ []) (omega arith) a.helps (new, tt);
-      run = run_then deal a.steps (Deliver k ∷ []) u ∙ ap (run_of deal (Deliver k ∷ [])) a.run ∙ after-deliver_client deal x k m is;
-      sent = (let most = a.sent in omega (arith, length-append x.sent (map kinds.ToVoter o.out)));
+      path = record {
+        steps = a.path.steps ++ Deliver k ∷ [];
+        helps = help_then (length u.sent) (length u.sent) a.path.steps (Deliver k ∷ []) (omega arith) a.path.helps (new, tt);
+        run = run_then deal a.path.steps (Deliver k ∷ []) u ∙ ap (run_of deal (Deliver k ∷ [])) a.path.run ∙ after-deliver_client deal x k m is;
+        sent = (let most = a.path.sent in omega (arith, length-append x.sent (map kinds.ToVoter o.out)));
+        clients = length-set x.clients d o.state ∙ a.path.clients;
+        voters = a.path.voters;
+      };
       visible = ap (λ e. x.visible ++ events d e) st.seen ∙ append-nil x.visible ∙ a.visible;
-      clients = length-set x.clients d o.state ∙ a.clients;
-      voters = a.voters;
       same = each_set (λ e z. SameRequest (client_at u.clients e) z) x.clients d o.state within
           (record { phase = st.phase ∙ (a.same d).phase; stamp = st.stamp ∙ (a.same d).stamp; quorum = st.quorum ∙ (a.same d).quorum }) a.same;
       held = λ q has. ap (λ (z : ClientState). holds z q) (client_others x.clients d o.state c (λ same. other (sym same))) ∙ a.held q has;
@@ -203,13 +207,15 @@ pub record Returns (p : Planned) (c d v : ℕ) (n : ℕ → ℕ) (g : Grant) (u 
 Led-reminded : (deal : Dealing) (c v : ℕ) (u : WorldState) → v < length u.voters → Led deal c none u (reminded u v)
 unfolding reminded
 Led-reminded deal c v u within = record {
-  steps = RemindVoter v ∷ [];
-  helps = (tt, tt);
-  run = after-remind_voter deal u v within;
-  sent = omega (arith, length-append u.sent (map kinds.ToClient (voter.remind (voter_at u.voters v))));
+  path = record {
+    steps = RemindVoter v ∷ [];
+    helps = (tt, tt);
+    run = after-remind_voter deal u v within;
+    sent = omega (arith, length-append u.sent (map kinds.ToClient (voter.remind (voter_at u.voters v))));
+    clients = refl;
+    voters = refl;
+  };
   visible = refl;
-  clients = refl;
-  voters = refl;
   same = λ d. record { phase = refl; stamp = refl; quorum = refl };
   held = λ q has. has;
   few = λ q. omega arith;

@@ -1,17 +1,13 @@
 -- helping steps, and what they leave
-use Rattle.std.proofs.Common.{◌≡◌, ◌≢◌, ℕ, ◌+◌, ◌<◌, ◌≤◌, true, List, [], ◌++◌, length, refl, sym, ap, subst, ◌∙◌, arith}
-use Rattle.std.specs.List.{AllByRecursion}
+use Rattle.std.proofs.Common.{◌≡◌, ◌≢◌, ℕ, ◌+◌, ◌<◌, ◌≤◌, true, ◌++◌, refl, sym, ap, subst, ◌∙◌, arith}
 use Rattle.numbers.specs.Sets.{has}
 use Rattle.requester.specs.declared.state.ClientState.{ClientState}
 use Rattle.requester.specs.declared.state.Seen.TheVariants.{Entered}
 use Rattle.requester.specs.declared.state.Phase.TheVariants.{Inside}
 use Rattle.requester.specs.Words.{holds, is_asking, members}
-use Rattle.world.specs.declared.step.Step.{Step}
-use Rattle.world.specs.Runs.{IsReached, run_of}
 use Rattle.world.specs.Steps.{Dealing, Planned, WorldState, client_at, dealing_of, events, voter_at}
-use Rattle.progress.specs.WayIn.{Helps}
-use Rattle.progress.proofs.Moves.{each_but, with_state}
-use Rattle.progress.proofs.Ways.{EntersAt, Here, IsReached-run, Leads, Leads-same, Went, help_then, run_then}
+use Rattle.progress.proofs.Moves.{each_but}
+use Rattle.progress.proofs.Ways.{EntersAt, Here, IsReached-path, Leads, Leads-same, Path, Path-self, Path-then, Went}
 use Rattle.progress.proofs.Counts.{CanGive, none, only, only_here}
 
 pub record SameRequest (x y : ClientState) : Type 0 where
@@ -22,13 +18,8 @@ pub record SameRequest (x y : ClientState) : Type 0 where
 -- Helping steps by which nobody enters: each request runs on, this client keeps its votes, and the voter q
 -- gives at most n q grants.
 pub record Led (deal : Dealing) (c : ℕ) (n : ℕ → ℕ) (u x : WorldState) : Type 0 where
-  pub steps : List Step
-  pub helps : AllByRecursion (Helps (length u.sent)) steps
-  pub run : run_of deal steps u ≡ x
-  pub sent : length u.sent ≤ length x.sent
+  pub path : Path deal u x
   pub visible : x.visible ≡ u.visible
-  pub clients : length x.clients ≡ length u.clients
-  pub voters : length x.voters ≡ length u.voters
   pub same : (d : ℕ) → SameRequest (client_at u.clients d) (client_at x.clients d)
   pub held : (q : ℕ) → holds (client_at u.clients c) q ≡ true → holds (client_at x.clients c) q ≡ true
   pub few : (q : ℕ) → (voter_at x.voters q).granted ≤ (voter_at u.voters q).granted + n q
@@ -36,13 +27,8 @@ pub record Led (deal : Dealing) (c : ℕ) (n : ℕ → ℕ) (u x : WorldState) :
 
 pub Led-self : (deal : Dealing) (c : ℕ) (n : ℕ → ℕ) (u : WorldState) → Led deal c n u u
 Led-self deal c n u = record {
-  steps = [];
-  helps = tt;
-  run = refl;
-  sent = omega arith;
+  path = Path-self deal u;
   visible = refl;
-  clients = refl;
-  voters = refl;
   same = λ d. record { phase = refl; stamp = refl; quorum = refl };
   held = λ q has. has;
   few = λ q. omega arith;
@@ -51,13 +37,8 @@ Led-self deal c n u = record {
 
 pub Led-then : (deal : Dealing) (c : ℕ) (n m : ℕ → ℕ) (u x z : WorldState) → Led deal c n u x → Led deal c m x z → Led deal c (λ q. n q + m q) u z
 Led-then deal c n m u x z a b = record {
-  steps = a.steps ++ b.steps;
-  helps = help_then (length u.sent) (length x.sent) a.steps b.steps a.sent a.helps b.helps;
-  run = run_then deal a.steps b.steps u ∙ ap (run_of deal b.steps) a.run ∙ b.run;
-  sent = (let first = a.sent in let second = b.sent in omega arith);
+  path = Path-then deal u x z a.path b.path;
   visible = b.visible ∙ a.visible;
-  clients = b.clients ∙ a.clients;
-  voters = b.voters ∙ a.voters;
   same = λ d. record { phase = (b.same d).phase ∙ (a.same d).phase; stamp = (b.same d).stamp ∙ (a.same d).stamp; quorum = (b.same d).quorum ∙ (a.same d).quorum };
   held = λ q has. b.held q (a.held q has);
   few = λ q. (let first = a.few q in let second = b.few q in omega arith);
@@ -66,13 +47,8 @@ Led-then deal c n m u x z a b = record {
 
 pub Led-more : (deal : Dealing) (c : ℕ) (n m : ℕ → ℕ) (u x : WorldState) → ((q : ℕ) → n q ≤ m q) → Led deal c n u x → Led deal c m u x
 Led-more deal c n m u x most a = record {
-  steps = a.steps;
-  helps = a.helps;
-  run = a.run;
-  sent = a.sent;
+  path = a.path;
   visible = a.visible;
-  clients = a.clients;
-  voters = a.voters;
   same = a.same;
   held = a.held;
   few = λ q. (let first = a.few q in let more = most q in omega arith);
@@ -81,13 +57,8 @@ Led-more deal c n m u x most a = record {
 
 pub Led-went : (deal : Dealing) (c v n : ℕ) (u x : WorldState) → Went deal v u x → (voter_at x.voters v).granted ≤ (voter_at u.voters v).granted + n → Led deal c (only v n) u x
 Led-went deal c v n u x a few = record {
-  steps = a.steps;
-  helps = a.helps;
-  run = a.run;
-  sent = a.sent;
+  path = a.path;
   visible = a.visible;
-  clients = a.clients;
-  voters = a.voters;
   same = λ d. record { phase = (a.gains d).phase; stamp = (a.gains d).stamp; quorum = (a.gains d).quorum };
   held = (a.gains c).held;
   few = each_but (λ q y. y.granted ≤ (voter_at u.voters q).granted + only v n q) (voter_at u.voters) (voter_at x.voters) v a.others
@@ -97,8 +68,8 @@ Led-went deal c v n u x a few = record {
 
 pub Here-led : (p : Planned) (c : ℕ) (n : ℕ → ℕ) (d v : ℕ) (u x : WorldState) → Led (dealing_of p.plans) c n u x → Here p d v u → Here p d v x
 Here-led p c n d v u x a h = record {
-  reached = subst (λ (z : WorldState). IsReached (with_state p z)) a.run (IsReached-run p a.steps u h.reached);
-  client = subst (λ k. d < k) (sym a.clients) h.client;
+  reached = IsReached-path p u x a.path h.reached;
+  client = subst (λ k. d < k) (sym a.path.clients) h.client;
   asks = ap is_asking (a.same d).phase ∙ h.asks;
   asked = ap (λ l. has l v) (a.same d).quorum ∙ h.asked;
 }
@@ -110,13 +81,8 @@ Leads-led deal c n u x a h = Leads-same u x c (λ d. (a.same d).phase) (λ d. (a
 -- before, and the voter q gives at most n q grants.
 pub record EntersBy (deal : Dealing) (e : ℕ) (n : ℕ → ℕ) (u : WorldState) : Type 0 where
   pub world : WorldState
-  pub steps : List Step
-  pub helps : AllByRecursion (Helps (length u.sent)) steps
-  pub run : run_of deal steps u ≡ world
-  pub sent : length u.sent ≤ length world.sent
+  pub path : Path deal u world
   pub visible : world.visible ≡ u.visible ++ events e Entered
-  pub clients : length world.clients ≡ length u.clients
-  pub voters : length world.voters ≡ length u.voters
   pub inside : (client_at world.clients e).phase ≡ Inside
   pub phases : (d : ℕ) → d ≢ e → (client_at world.clients d).phase ≡ (client_at u.clients d).phase
   pub few : (q : ℕ) → (voter_at world.voters q).granted ≤ (voter_at u.voters q).granted + n q
@@ -136,13 +102,8 @@ Somebody-led p c n m k u x most a one =
       asks = ap is_asking (sym (a.same one.who).phase) ∙ one.asks;
       enters = record {
         world = e.world;
-        steps = a.steps ++ e.steps;
-        helps = help_then (length u.sent) (length x.sent) a.steps e.steps a.sent a.helps e.helps;
-        run = run_then (dealing_of p.plans) a.steps e.steps u ∙ ap (run_of (dealing_of p.plans) e.steps) a.run ∙ e.run;
-        sent = (let first = a.sent in let second = e.sent in omega arith);
+        path = Path-then (dealing_of p.plans) u x e.world a.path e.path;
         visible = e.visible ∙ ap (λ es. es ++ events one.who Entered) a.visible;
-        clients = e.clients ∙ a.clients;
-        voters = e.voters ∙ a.voters;
         inside = e.inside;
         phases = λ d other. e.phases d other ∙ (a.same d).phase;
         few = λ q. (let first = a.few q in let second = e.few q in let all = most q in omega arith);
@@ -160,13 +121,8 @@ somebody_at p e v top n u asks most a = record {
   asks = asks;
   enters = record {
     world = a.world;
-    steps = a.steps;
-    helps = a.helps;
-    run = a.run;
-    sent = a.sent;
+    path = a.path;
     visible = a.visible;
-    clients = a.clients;
-    voters = a.voters;
     inside = a.inside;
     phases = a.phases;
     few = each_but (λ q y. y.granted ≤ (voter_at u.voters q).granted + only v n q) (voter_at u.voters) (voter_at a.world.voters) v a.others
@@ -177,7 +133,7 @@ somebody_at p e v top n u asks most a = record {
 
 pub CanGive-led : (deal : Dealing) (c : ℕ) (m n k : ℕ → ℕ) (u x : WorldState) → ((q : ℕ) → m q + n q ≤ k q) → Led deal c m u x → CanGive k u → CanGive n x
 CanGive-led deal c m n k u x most a h v within =
-    let before = h v (subst (λ l. v < l) a.voters within) in
+    let before = h v (subst (λ l. v < l) a.path.voters within) in
     let few = a.few v in
     let limit = a.limit v in
     let all = most v in

@@ -25,8 +25,9 @@ use Rattle.requester.specs.Steps as requester
 use Rattle.requester.specs.Words.{is_current, is_idle, is_inquired, is_member, members}
 use Rattle.world.specs.Coherence.{AskOk, IsCoherent, MessageOk}
 use Rattle.world.specs.Runs.{IsReached, start}
-use Rattle.world.specs.Steps.{Planned, WorldState, client_at, step, voter_at}
-use Rattle.progress.proofs.Always.{none_entry, new_voter, new_voters}
+use Rattle.world.specs.Steps.{Planned, WorldState, client_at, voter_at}
+use Rattle.progress.proofs.Always.{none_entry, new_voter}
+use Rattle.world.proofs.Reached.{new_voters}
 use Rattle.progress.proofs.Behind.{ask-Ok, meets}
 use Rattle.progress.proofs.Fitting.{current_busy, current_stamp, take-Ok}
 use Rattle.progress.specs.Rules.{Laws}

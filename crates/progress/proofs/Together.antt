@@ -26,8 +26,9 @@ use Rattle.progress.proofs.Led.{CanGive-led, Here-led, Leads-led, Led, Led-more,
 use Rattle.progress.specs.Rules.{Laws}
 use Rattle.progress.proofs.Moves.{with_state}
 use Rattle.progress.proofs.Placed.{Placed-reached}
-use Rattle.progress.proofs.Ways.{Got, Here, Leads, Settled, IsKnown, asks_again, current_asks, IsReached-run, frees_up, gave_back, gets, has_range, held_some}
+use Rattle.progress.proofs.Ways.{Got, Here, Leads, Settled, IsKnown, asks_again, current_asks, IsReached-path, frees_up, gave_back, gets, has_range, held_some}
 use Rattle.progress.proofs.Behind.{the_request}
+use Rattle.voter.proofs.Front.{precedes-trans}
 
 -- ---- one vote
 
@@ -124,7 +125,7 @@ wins_from laws p c v d g u h there apart held own stamp has left =
           let x = back.world in
           let led = back.led in
           let same = back.voter in
-          let clients = led.clients in
+          let clients = led.path.clients in
           let number : turns x ≡ turns u = omega arith in
           let waits = Waits-led p c v one_each u x led same h in
           let ok = laws.coherent (with_state p x) waits.spot.reached in
@@ -174,7 +175,7 @@ wins_known laws p c v u h left =
                       let w = on.0 in
                       let same : voter_at w.voters v ≡ y = ap (λ vs. voter_at vs v) on.3 in
                       let led = Led-went deal c v 0 u w on.1 (let few = ap (λ (s : VoterState). s.granted) same in omega arith) in
-                      let clients = led.clients in
+                      let clients = led.path.clients in
                       let number : turns w ≡ turns u = omega arith in
                       Wins-then p c v (only v 0) (one_vote v (turns w)) (one_vote v (turns u)) u w
                       (λ r. (let nothing = only_zero v r in let only_same = ap (λ n. only v n r) number in omega arith)) led
@@ -201,7 +202,7 @@ wins laws p c v u h leads free left =
     let heard = asks_again laws p c v u h free (omega arith) in
     let w = heard.world in
     let led = Led-went deal c v 1 u w heard.went heard.few in
-    let clients = led.clients in
+    let clients = led.path.clients in
     let number : 1 + turns w ≡ own_turns u = omega arith in
     let sum : (r : ℕ) → only v 1 r + only v (turns w) r ≡ only v (own_turns u) r = λ r. only_sum v 1 (turns w) r ∙ ap (λ n. only v n r) number in
     Wins-then p c v (only v 1) (one_vote v (turns w)) (one_vote v (own_turns u)) u w (λ r. (let all = sum r in omega arith)) led
@@ -272,9 +273,9 @@ collects laws p c k (v ∷ vs) u is r asks leads left =
       | inr on ↦
           let x = on.0 in
           let led = on.1 in
-          let clients = led.clients in
-          let voters = led.voters in
-          let reached = subst (λ (z : WorldState). IsReached (with_state p z)) led.run (IsReached-run p led.steps u r) in
+          let clients = led.path.clients in
+          let voters = led.path.voters in
+          let reached = IsReached-path p u x led.path r in
           elim (collects laws p c k vs x (let same : own_turns x ≡ k = omega arith in same) reached (record { client = omega arith; asks = ap is_asking (led.same c).phase ∙ asks.asks })
           (Leads-led deal c f u x led leads)
           (CanGive-led deal c f (and_one k vs) (and_one k (v ∷ vs)) u x (λ r. (let all = sum r in omega arith)) led left)) [
@@ -305,7 +306,7 @@ leader_gets_in laws p c u r asks leads left =
       | inr all ↦
           let x = all.world in
           let led = all.led in
-          let reached = subst (λ (z : WorldState). IsReached (with_state p z)) led.run (IsReached-run p led.steps u r) in
+          let reached = IsReached-path p u x led.path r in
           let ok = laws.coherent (with_state p u) r in
           let lacks = (Fits-reached laws (with_state p x) reached).lacks c (ap is_asking (led.same c).phase ∙ asks.asks) in
           absurd (false≢true (sym lacks ∙ all_hold (holds (client_at x.clients c)) (members (client_at x.clients c)) (λ q there.
@@ -318,9 +319,6 @@ leader_gets_in laws p c u r asks leads left =
 
 precedes-one : (a b : Request) → a.client ≢ b.client → precedes a b ≡ false → precedes b a ≡ true
 precedes-one a b other not = grind (arith, nat_tests)
-
-precedes-trans : (a b c : Request) → precedes a b ≡ true → precedes b c ≡ true → precedes a c ≡ true
-precedes-trans a b c h k = grind (arith, nat_tests)
 
 -- the client precedes those below n that ask
 abbrev Precedes : WorldState → ℕ → ℕ → Type 0
@@ -392,4 +390,5 @@ pub gets_in : Laws → (w : Planned) (c : ℕ) → IsReached w → Asks w.state 
     → (steps : List Step) × (d : ℕ) × IsWayIn (dealing_of w.plans) w.state d steps
 gets_in laws w c r asks free left =
     let one = lets_in laws w c r asks free left in
-    (one.enters.steps, one.who, record { helps = one.enters.helps; enters = ap (λ (z : WorldState). z.visible) one.enters.run ∙ one.enters.visible })
+    let path = one.enters.path in
+    (path.steps, one.who, record { helps = path.helps; enters = ap (λ (z : WorldState). z.visible) path.run ∙ one.enters.visible })

@@ -16,7 +16,6 @@ use Rattle.message.specs.declared.message.ToVoter.{ToVoter}
 use Rattle.message.specs.declared.message.ClientBody.TheVariants as to_client
 use Rattle.message.specs.declared.message.VoterBody.{VoterBody}
 use Rattle.message.specs.declared.message.VoterBody.TheVariants as asks
-use Rattle.message.specs.declared.request.Request.{Request}
 use Rattle.voter.specs.declared.state.Grant.{Grant}
 use Rattle.voter.specs.declared.state.VoterState.{VoterState}
 use Rattle.voter.specs.Steps as voter
@@ -33,7 +32,7 @@ use Rattle.world.specs.declared.step.Step.{Step}
 use Rattle.world.specs.declared.step.Step.TheVariants.{Ask, Deliver, Leave, GiveUp, RemindClient, RemindVoter, Exchange}
 use Rattle.world.specs.Runs.{IsReached, after, run_of}
 use Rattle.world.specs.Steps.{Dealing, Planned, WorldState, client_at, client_did, dealing_of, events, step, voter_at, voter_did}
-use Rattle.progress.specs.LostVotes.{HasLostVote, reminder_and_two}
+use Rattle.progress.specs.LostVotes.{ComesBack, HasLostVote, reminder_and_two}
 use Rattle.progress.specs.WayIn.{Helps, IsWayIn}
 use Rattle.progress.proofs.Exchanges.{after-answer, after-deliver_client, after-release, after-remind_voter, after-said, answer, answered, get_next, reminded, not_held, spoken}
 use Rattle.progress.proofs.Behind.{grant_moves, the_request}
@@ -41,13 +40,10 @@ use Rattle.progress.proofs.Fitting.{Fits-reached, current_busy, current_stamp}
 use Rattle.progress.specs.Rules.{Laws}
 use Rattle.progress.proofs.Moves.{IsReached-after, client_here, client_others, each_set, voter_here, voter_others, with_state}
 use Rattle.progress.proofs.Counting.{outside_asks}
+use Rattle.world.proofs.Plans.{run_then}
 use Rattle.requester.proofs.SoundSteps.{is_asking-busy}
 
 -- ---- steps, one after the other
-
-pub run_then : (deal : Dealing) (a b : List Step) (w : WorldState) → run_of deal (a ++ b) w ≡ run_of deal b (run_of deal a w)
-run_then deal [] b w = refl
-run_then deal (s ∷ a) b w = run_then deal a b (after w (step deal w s))
 
 pub helps_later : (m n : ℕ) (s : Step) → m ≤ n → Helps n s → Helps m s
 helps_later m n (Ask c) most h = h
@@ -64,6 +60,31 @@ help_then m n a b most h k = AllByRecursion-append (Helps m) a b h (AllByRecursi
 pub IsReached-run : (p : Planned) (steps : List Step) (u : WorldState) → IsReached (with_state p u) → IsReached (with_state p (run_of (dealing_of p.plans) steps u))
 IsReached-run p [] u r = r
 IsReached-run p (s ∷ steps) u r = IsReached-run p steps _ (IsReached-after (with_state p u) r s)
+
+-- Helping steps from one world to another, which has as many clients and voters.
+pub record Path (deal : Dealing) (u x : WorldState) : Type 0 where
+  pub steps : List Step
+  pub helps : AllByRecursion (Helps (length u.sent)) steps
+  pub run : run_of deal steps u ≡ x
+  pub sent : length u.sent ≤ length x.sent
+  pub clients : length x.clients ≡ length u.clients
+  pub voters : length x.voters ≡ length u.voters
+
+pub Path-self : (deal : Dealing) (u : WorldState) → Path deal u u
+Path-self deal u = record { steps = []; helps = tt; run = refl; sent = omega arith; clients = refl; voters = refl }
+
+pub Path-then : (deal : Dealing) (u x z : WorldState) → Path deal u x → Path deal x z → Path deal u z
+Path-then deal u x z a b = record {
+  steps = a.steps ++ b.steps;
+  helps = help_then (length u.sent) (length x.sent) a.steps b.steps a.sent a.helps b.helps;
+  run = run_then deal a.steps b.steps u ∙ ap (run_of deal b.steps) a.run ∙ b.run;
+  sent = (let first = a.sent in let second = b.sent in omega arith);
+  clients = b.clients ∙ a.clients;
+  voters = b.voters ∙ a.voters;
+}
+
+pub IsReached-path : (p : Planned) (u x : WorldState) → Path (dealing_of p.plans) u x → IsReached (with_state p u) → IsReached (with_state p x)
+IsReached-path p u x a r = subst (λ (z : WorldState). IsReached (with_state p z)) a.run (IsReached-run p a.steps u r)
 
 -- the client is as before, except that its clock is later and it has more votes
 pub record Gains (x y : ClientState) : Type 0 where
@@ -85,26 +106,16 @@ Gains-see x n = record { phase = refl; stamp = refl; quorum = refl; last = λ q.
 -- helping steps that ask the voter v: each client is as before except for its clock and more votes, and the
 -- other voters are as before
 pub record Went (deal : Dealing) (v : ℕ) (u x : WorldState) : Type 0 where
-  pub steps : List Step
-  pub helps : AllByRecursion (Helps (length u.sent)) steps
-  pub run : run_of deal steps u ≡ x
-  pub sent : length u.sent ≤ length x.sent
+  pub path : Path deal u x
   pub visible : x.visible ≡ u.visible
-  pub clients : length x.clients ≡ length u.clients
-  pub voters : length x.voters ≡ length u.voters
   pub gains : (d : ℕ) → Gains (client_at u.clients d) (client_at x.clients d)
   pub others : (q : ℕ) → q ≢ v → voter_at x.voters q ≡ voter_at u.voters q
   pub limit : (voter_at x.voters v).limit ≡ (voter_at u.voters v).limit
 
 pub Went-self : (deal : Dealing) (v : ℕ) (u : WorldState) → Went deal v u u
 Went-self deal v u = record {
-  steps = [];
-  helps = tt;
-  run = refl;
-  sent = omega arith;
+  path = Path-self deal u;
   visible = refl;
-  clients = refl;
-  voters = refl;
   gains = λ d. Gains-self (client_at u.clients d);
   others = λ q other. refl;
   limit = refl;
@@ -112,13 +123,8 @@ Went-self deal v u = record {
 
 pub Went-then : (deal : Dealing) (v : ℕ) (u x z : WorldState) → Went deal v u x → Went deal v x z → Went deal v u z
 Went-then deal v u x z a b = record {
-  steps = a.steps ++ b.steps;
-  helps = help_then (length u.sent) (length x.sent) a.steps b.steps a.sent a.helps b.helps;
-  run = run_then deal a.steps b.steps u ∙ ap (run_of deal b.steps) a.run ∙ b.run;
-  sent = (let first = a.sent in let second = b.sent in omega arith);
+  path = Path-then deal u x z a.path b.path;
   visible = b.visible ∙ a.visible;
-  clients = b.clients ∙ a.clients;
-  voters = b.voters ∙ a.voters;
   gains = λ d. Gains-then (client_at u.clients d) (client_at x.clients d) (client_at z.clients d) (a.gains d) (b.gains d);
   others = λ q other. b.others q other ∙ a.others q other;
   limit = b.limit ∙ a.limit;
@@ -131,10 +137,10 @@ pub record Enters (deal : Dealing) (c : ℕ) (u : WorldState) : Type 0 where
 
 pub Enters-after : (deal : Dealing) (c v : ℕ) (u x : WorldState) → Went deal v u x → Enters deal c x → Enters deal c u
 Enters-after deal c v u x a e = record {
-  steps = a.steps ++ e.steps;
+  steps = a.path.steps ++ e.steps;
   way = record {
-    helps = help_then (length u.sent) (length x.sent) a.steps e.steps a.sent a.helps e.way.helps;
-    enters = ap (λ (z : WorldState). z.visible) (run_then deal a.steps e.steps u ∙ ap (run_of deal e.steps) a.run) ∙ e.way.enters ∙ ap (λ es. es ++ events c Entered) a.visible;
+    helps = help_then (length u.sent) (length x.sent) a.path.steps e.steps a.path.sent a.path.helps e.way.helps;
+    enters = ap (λ (z : WorldState). z.visible) (run_then deal a.path.steps e.steps u ∙ ap (run_of deal e.steps) a.path.run) ∙ e.way.enters ∙ ap (λ es. es ++ events c Entered) a.visible;
   };
 }
 
@@ -142,13 +148,8 @@ Enters-after deal c v u x a e = record {
 -- before. Only this voter has changed, and it gave at most `top` grants so far.
 pub record EntersAt (deal : Dealing) (c v top : ℕ) (u : WorldState) : Type 0 where
   pub world : WorldState
-  pub steps : List Step
-  pub helps : AllByRecursion (Helps (length u.sent)) steps
-  pub run : run_of deal steps u ≡ world
-  pub sent : length u.sent ≤ length world.sent
+  pub path : Path deal u world
   pub visible : world.visible ≡ u.visible ++ events c Entered
-  pub clients : length world.clients ≡ length u.clients
-  pub voters : length world.voters ≡ length u.voters
   pub inside : (client_at world.clients c).phase ≡ Inside
   pub phases : (d : ℕ) → d ≢ c → (client_at world.clients d).phase ≡ (client_at u.clients d).phase
   pub others : (q : ℕ) → q ≢ v → voter_at world.voters q ≡ voter_at u.voters q
@@ -158,13 +159,8 @@ pub record EntersAt (deal : Dealing) (c v top : ℕ) (u : WorldState) : Type 0 w
 pub EntersAt-after : (deal : Dealing) (c v top : ℕ) (u x : WorldState) → Went deal v u x → EntersAt deal c v top x → EntersAt deal c v top u
 EntersAt-after deal c v top u x a e = record {
   world = e.world;
-  steps = a.steps ++ e.steps;
-  helps = help_then (length u.sent) (length x.sent) a.steps e.steps a.sent a.helps e.helps;
-  run = run_then deal a.steps e.steps u ∙ ap (run_of deal e.steps) a.run ∙ e.run;
-  sent = (let first = a.sent in let second = e.sent in omega arith);
+  path = Path-then deal u x e.world a.path e.path;
   visible = e.visible ∙ ap (λ es. es ++ events c Entered) a.visible;
-  clients = e.clients ∙ a.clients;
-  voters = e.voters ∙ a.voters;
   inside = e.inside;
   phases = λ d other. e.phases d other ∙ (a.gains d).phase;
   others = λ q other. e.others q other ∙ a.others q other;
@@ -173,7 +169,7 @@ EntersAt-after deal c v top u x a e = record {
 }
 
 pub enters_by : (deal : Dealing) (c v top : ℕ) (u : WorldState) → EntersAt deal c v top u → Enters deal c u
-enters_by deal c v top u e = record { steps = e.steps; way = record { helps = e.helps; enters = ap (λ (z : WorldState). z.visible) e.run ∙ e.visible } }
+enters_by deal c v top u e = record { steps = e.path.steps; way = record { helps = e.path.helps; enters = ap (λ (z : WorldState). z.visible) e.path.run ∙ e.visible } }
 
 -- ---- a client that asks, and one voter of its quorum
 
@@ -185,8 +181,8 @@ pub record Here (p : Planned) (c v : ℕ) (u : WorldState) : Type 0 where
 
 pub Here-went : (p : Planned) (c v q : ℕ) (u x : WorldState) → Went (dealing_of p.plans) q u x → Here p c v u → Here p c v x
 Here-went p c v q u x a h = record {
-  reached = subst (λ (z : WorldState). IsReached (with_state p z)) a.run (IsReached-run p a.steps u h.reached);
-  client = subst (λ n. c < n) (sym a.clients) h.client;
+  reached = IsReached-path p u x a.path h.reached;
+  client = subst (λ n. c < n) (sym a.path.clients) h.client;
   asks = ap is_asking (a.gains c).phase ∙ h.asks;
   asked = ap (λ l. has l v) (a.gains c).quorum ∙ h.asked;
 }
@@ -261,13 +257,15 @@ hears laws p c v u h body there left =
       outcome = o;
       step = taken.1;
       went = record {
-        steps = RemindClient c ∷ Deliver (length u.sent + there.0) ∷ [];
-        helps = (tt, (omega arith, tt));
-        run = after-said deal u c m o h.client there taken.1;
-        sent = omega (arith, length-append u.sent (map kinds.ToVoter (requester.remind (client_at u.clients c))), length-append (spoken u c).sent (map kinds.ToClient o.replies));
+        path = record {
+          steps = RemindClient c ∷ Deliver (length u.sent + there.0) ∷ [];
+          helps = (tt, (omega arith, tt));
+          run = after-said deal u c m o h.client there taken.1;
+          sent = omega (arith, length-append u.sent (map kinds.ToVoter (requester.remind (client_at u.clients c))), length-append (spoken u c).sent (map kinds.ToClient o.replies));
+          clients = refl;
+          voters = length-set u.voters v o.state;
+        };
         visible = refl;
-        clients = refl;
-        voters = length-set u.voters v o.state;
         gains = λ d. Gains-self (client_at u.clients d);
         others = voter_others u.voters v o.state;
         limit = ap (λ (z : VoterState). z.limit) (voter_here u.voters v o.state within) ∙ (laws.voter.carries (voter_at u.voters v) m o taken.1).limit;
@@ -346,16 +344,20 @@ gets laws p c v u h free g held own same newer =
     let few = ok.numbered.few_voters in
     let gain : Gains x k = Gains-hold x y.seen v g.grant (omega arith) (omega arith) in
     let has_it : holds k v ≡ true = (let here : slice_index (slice_set x.held v g.grant) v ≡ g.grant = get_or-set_same x.held v g.grant 0 (omega arith) in grind (arith, nat_tests)) in
+    let goes : (b : Bool) → run_of deal (RemindVoter v ∷ Deliver (length u.sent) ∷ []) u ≡ (client_did (reminded u v) c (requester.enter_if b k)).state
+    → Path deal u (client_did (reminded u v) c (requester.enter_if b k)).state = λ b ran. record {
+      steps = RemindVoter v ∷ Deliver (length u.sent) ∷ [];
+      helps = (tt, (omega arith, tt));
+      run = ran;
+      sent = omega (arith, length-append u.sent (map kinds.ToClient (voter.remind y)), length-append (reminded u v).sent (map kinds.ToVoter (requester.enter_if b k).out));
+      clients = length-set u.clients c (requester.enter_if b k).state;
+      voters = refl;
+    } in
     elim (is_covered k) as (λ b. run_of deal (RemindVoter v ∷ Deliver (length u.sent) ∷ []) u ≡ (client_did (reminded u v) c (requester.enter_if b k)).state → Gets p c v u) [
       | true ↦ λ ran. inl (record {
         world = (client_did (reminded u v) c (requester.enter_if true k)).state;
-        steps = RemindVoter v ∷ Deliver (length u.sent) ∷ [];
-        helps = (tt, (omega arith, tt));
-        run = ran;
-        sent = omega (arith, length-append u.sent (map kinds.ToClient (voter.remind y)), length-append (reminded u v).sent []);
+        path = goes true ran;
         visible = refl;
-        clients = length-set u.clients c (requester.enter_if true k).state;
-        voters = refl;
         inside = ap (λ (z : ClientState). z.phase) (client_here u.clients c (requester.enter_if true k).state h.client);
         phases = λ d other. ap (λ (z : ClientState). z.phase) (client_others u.clients c (requester.enter_if true k).state d other);
         others = λ q other. refl;
@@ -365,13 +367,8 @@ gets laws p c v u h free g held own same newer =
       | false ↦ λ ran. inr (
         (client_did (reminded u v) c (requester.enter_if false k)).state,
         record {
-          steps = RemindVoter v ∷ Deliver (length u.sent) ∷ [];
-          helps = (tt, (omega arith, tt));
-          run = ran;
-          sent = omega (arith, length-append u.sent (map kinds.ToClient (voter.remind y)), length-append (reminded u v).sent []);
+          path = goes false ran;
           visible = append-nil u.visible;
-          clients = length-set u.clients c k;
-          voters = refl;
           gains = each_set (λ d z. Gains (client_at u.clients d) z) u.clients c k h.client gain (λ d. Gains-self (client_at u.clients d));
           others = λ q other. refl;
           limit = refl;
@@ -389,13 +386,16 @@ pub record Returned (p : Planned) (v : ℕ) (u : WorldState) (g : Grant) : Type 
   pub step : voter.step (voter_at u.voters v) (answer u v g) ≡ Some outcome
   pub own : (answer u v g).client ≡ g.client
   pub went : Went (dealing_of p.plans) v u world
+  pub steps : went.path.steps ≡ reminder_and_two v (length u.sent) (length (reminded u v).sent)
   pub here : voter_at world.voters v ≡ outcome.state
+  pub ends : (s : ℕ) → IsEntry outcome.state g.client s → ⊥
+  pub others : (d s : ℕ) → d ≢ g.client → IsEntry (voter_at u.voters v) d s → IsEntry outcome.state d s
 
-pub comes : (laws : Laws) (p : Planned) (c v : ℕ) (u : WorldState) → Here p c v u → (g : Grant) → HasLostVote u v g → Returned p v u g
+pub comes : (laws : Laws) (p : Planned) (v : ℕ) (u : WorldState) → IsReached (with_state p u) → (g : Grant) → HasLostVote u v g → Returned p v u g
 unfolding reminded
-comes laws p c v u h g lost =
+comes laws p v u reached g lost =
     let deal = dealing_of p.plans in
-    let ok = laws.coherent (with_state p u) h.reached in
+    let ok = laws.coherent (with_state p u) reached in
     let y = voter_at u.voters v in
     let id : y.id ≡ v = ok.numbered.voters v lost.voter in
     let client = (ok.made v g.client g.stamp (inl (g, lost.held, refl, refl))).client in
@@ -405,32 +405,57 @@ comes laws p c v u h g lost =
     let takes : voter.step (voter_at u.voters y.id) m ≡ Some o = subst (λ n. voter.step (voter_at u.voters n) m ≡ Some o) (sym id) taken.1 in
     let second = length (reminded u v).sent in
     let seen = requester.see (client_at u.clients g.client) y.seen in
+    let own : m.client ≡ g.client = ok.numbered.clients g.client client in
     record {
       world = (voter_did (answered u v g) y.id o).state;
       outcome = o;
       step = taken.1;
-      own = ok.numbered.clients g.client client;
+      own = own;
       went = record {
-        steps = reminder_and_two v (length u.sent) second;
-        helps = (tt, (omega arith, (omega (arith, length-append u.sent (map kinds.ToClient (voter.remind y))), tt)));
-        run = ap (λ (z : WorldState). after (after z (step deal z (Deliver (length u.sent)))) (step deal (after z (step deal z (Deliver (length u.sent)))) (Deliver second)))
-            (after-remind_voter deal u v lost.voter)
-            ∙ ap (λ (z : WorldState). after z (step deal z (Deliver second))) (after-answer laws deal u v g lost)
-            ∙ after-release laws deal u v g o takes;
-        sent = omega (
-          arith,
-          length-append u.sent (map kinds.ToClient (voter.remind y)),
-          length-append (reminded u v).sent (map kinds.ToVoter (m ∷ [])),
-          length-append (answered u v g).sent (map kinds.ToClient o.replies),
-        );
+        path = record {
+          steps = reminder_and_two v (length u.sent) second;
+          helps = (tt, (omega arith, (omega (arith, length-append u.sent (map kinds.ToClient (voter.remind y))), tt)));
+          run = ap (λ (z : WorldState). after (after z (step deal z (Deliver (length u.sent)))) (step deal (after z (step deal z (Deliver (length u.sent)))) (Deliver second)))
+              (after-remind_voter deal u v lost.voter)
+              ∙ ap (λ (z : WorldState). after z (step deal z (Deliver second))) (after-answer laws deal u v g lost)
+              ∙ after-release laws deal u v g o takes;
+          sent = omega (
+            arith,
+            length-append u.sent (map kinds.ToClient (voter.remind y)),
+            length-append (reminded u v).sent (map kinds.ToVoter (m ∷ [])),
+            length-append (answered u v g).sent (map kinds.ToClient o.replies),
+          );
+          clients = length-set u.clients g.client seen;
+          voters = length-set u.voters y.id o.state;
+        };
         visible = append-nil u.visible;
-        clients = length-set u.clients g.client seen;
-        voters = length-set u.voters y.id o.state;
         gains = each_set (λ d z. Gains (client_at u.clients d) z) u.clients g.client seen client (Gains-see (client_at u.clients g.client) y.seen) (λ d. Gains-self (client_at u.clients d));
         others = λ q other. voter_others u.voters y.id o.state q (λ e. other (e ∙ id));
         limit = ap (λ (z : VoterState). z.limit) (ap (λ n. voter_at (set u.voters n o.state) v) id ∙ voter_here u.voters v o.state lost.voter) ∙ (laws.voter.carries y m o taken.1).limit;
       };
+      steps = refl;
       here = ap (λ n. voter_at (set u.voters n o.state) v) id ∙ voter_here u.voters v o.state lost.voter;
+      ends = laws.voter.ends y m o g g.stamp (ok.voters v) lost.held own refl (omega arith) taken.1;
+      others = λ d s other entry. elim (laws.voter.stays y m o d s (ok.voters v) taken.1 entry) [
+        | inl stays ↦ stays
+        | inr finishes ↦ absurd (other (finishes.0 ∙ own))
+      ];
+    }
+
+pub comes_back : Laws → (w : Planned) (v : ℕ) (g : Grant) → IsReached w → HasLostVote w.state v g → ComesBack (dealing_of w.plans) w.state v g
+unfolding reminded
+comes_back laws w v g r lost =
+    let u = w.state in
+    let back = comes laws w v u r g lost in
+    let here : voter_at (run_of (dealing_of w.plans) (reminder_and_two v (length u.sent) (length (reminded u v).sent)) u).voters v ≡ back.outcome.state =
+    ap (λ steps. voter_at (run_of (dealing_of w.plans) steps u).voters v) (sym back.steps) ∙ ap (λ (x : WorldState). voter_at x.voters v) back.went.path.run ∙ back.here in
+    record {
+      first = length u.sent;
+      second = length (reminded u v).sent;
+      first_is_new = omega arith;
+      second_is_new = omega (arith, length-append u.sent (map kinds.ToClient (voter.remind (voter_at u.voters v))));
+      gone = subst (λ (z : VoterState). (s : ℕ) → IsEntry z g.client s → ⊥) (sym here) back.ends;
+      others = λ c s other entry. subst (λ (z : VoterState). IsEntry z c s) (sym here) (back.others c s other entry);
     }
 
 -- ---- lists of clients
@@ -497,13 +522,8 @@ pub gets_here : (p : Planned) (c v top : ℕ) (u : WorldState) → (voter_at u.v
 gets_here p c v top u few got = elim got [
   | inl e ↦ inl (record {
     world = e.world;
-    steps = e.steps;
-    helps = e.helps;
-    run = e.run;
-    sent = e.sent;
+    path = e.path;
     visible = e.visible;
-    clients = e.clients;
-    voters = e.voters;
     inside = e.inside;
     phases = e.phases;
     others = e.others;
@@ -598,13 +618,9 @@ Ready-back laws p c v top alive u r g held over there back free =
     let short = shorter g.client alive there in
     let left = r.left in
     let leads = Leads-went (dealing_of p.plans) c v u x back.went r.leads in
-    let ends : (s : ℕ) → IsEntry o.state g.client s → ⊥ = laws.voter.ends y m o g g.stamp (ok.voters v) held back.own refl (omega arith) back.step in
     let other : g.client ≢ c = λ own. false≢true (sym (ap (λ d. is_current (client_at u.clients d) g.stamp) (sym own) ∙ over)
     ∙ current_is (client_at u.clients c) g.stamp r.spot.asks (own_stamp y c own_stamp_of g (ok.voters v) r.entry held own)) in
-    let entry : IsEntry o.state c own_stamp_of = elim (laws.voter.stays y m o c own_stamp_of (ok.voters v) back.step r.entry) [
-      | inl stays ↦ stays
-      | inr finishes ↦ absurd (other (sym (finishes.0 ∙ back.own)))
-    ] in
+    let entry : IsEntry o.state c own_stamp_of = back.others c own_stamp_of (λ same. other (sym same)) r.entry in
     let runs : (d s : ℕ) → is_current (client_at x.clients d) s ≡ is_current (client_at u.clients d) s = λ d s. current_same (client_at u.clients d) (client_at x.clients d) s
     (back.went.gains d).phase (back.went.gains d).stamp in
     record {
@@ -614,7 +630,7 @@ Ready-back laws p c v top alive u r g held over there back free =
       entry = subst (λ s. IsEntry (voter_at x.voters v) c s) (sym gains.stamp) (subst (λ (z : VoterState). IsEntry z c own_stamp_of) (sym back.here) entry);
       covers = subst (λ (z : VoterState). (d s : ℕ) → IsEntry z d s → is_current (client_at x.clients d) s ≡ false → has (remove_from g.client alive) d ≡ true) (sym back.here)
           (λ d s is past. elim (cases_eq d g.client) [
-            | inl same ↦ absurd (ends s (subst (λ i. IsEntry o.state i s) same is))
+            | inl same ↦ absurd (back.ends s (subst (λ i. IsEntry o.state i s) same is))
             | inr unlike ↦ still_there g.client d alive unlike (r.covers d s (less.known d s unlike is) (sym (runs d s) ∙ past))
           ]);
       settled = subst (λ (z : VoterState). (k : Grant) → z.held ≡ Some k → is_current (client_at x.clients k.client) k.stamp ≡ true → (k.client ≡ c)
@@ -622,7 +638,7 @@ Ready-back laws p c v top alive u r g held over there back free =
           let last = ((Fits-reached laws (with_state p u) r.spot.reached).pairs c v).last in
           let same = gains.last v in
           elim (grant_moves _ y o.state k (laws.voter.numbers y m o (ok.voters v) back.step) has) [
-            | inl was ↦ absurd (ends k.stamp (inl (k, has, ap (λ (n : Grant). n.client) (same_Some k g (sym was ∙ held)), refl)))
+            | inl was ↦ absurd (back.ends k.stamp (inl (k, has, ap (λ (n : Grant). n.client) (same_Some k g (sym was ∙ held)), refl)))
             | inr next ↦ (
               new_is_own laws c y m o x k (ok.voters v) back.step leads (subst (λ s. IsEntry y c s) (sym gains.stamp) r.entry)
                   (subst (λ s. IsEntry o.state c s) (sym gains.stamp) entry) has (omega arith) now,
@@ -649,7 +665,7 @@ look laws p c v top alive u r again =
           let short = shorter g.0.client alive there in
           let room = r.room in
           let lost : HasLostVote u v g.0 = record { voter = ok.members c v r.spot.asked; held = g.1; over = over; left = omega arith } in
-          let back = comes laws p c v u r.spot g.0 lost in
+          let back = comes laws p v u r.spot.reached g.0 lost in
           let less = Less-step laws g.0.client y (answer u v g.0) back.outcome (ok.voters v) back.own back.step in
           let few = less.few in
           got_or p c v top u back.world back.went (subst (λ (z : VoterState). z.granted ≤ top) (sym back.here) (omega arith))

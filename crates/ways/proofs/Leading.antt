@@ -1,54 +1,44 @@
 -- one more step of a way
 use Rattle.std.proofs.Common.{ℕ, ◌≡◌, List, [], ◌∷◌, ◌++◌, length, Ok, refl, sym, ap, subst, ◌∙◌}
-use Rattle.std.specs.List.{AllByRecursion}
+use Rattle.std.proofs.lemmas.List.{append-nil}
+use Rattle.numbers.proofs.Lists.{AllByRecursion-append}
 use Rattle.requester.specs.declared.state.Seen.TheVariants.{Nothing, Entered, Left}
 use Rattle.progress.specs.WayIn.{Helps}
 use Rattle.world.specs.declared.step.Event.{Event}
 use Rattle.world.specs.declared.step.Step.{Step}
 use Rattle.world.specs.declared.step.Stepped.{Stepped}
-use Rattle.world.specs.Runs.{after, run_of}
-use Rattle.world.specs.Steps.{Adds, Dealing, Outcome, Planned, WorldState, dealing_of, events, outcome_of, step, step_of}
+use Rattle.world.specs.Runs.{after}
+use Rattle.world.specs.Steps.{Planned, WorldState, dealing_of, events, outcome_of, step, step_of}
+use Rattle.world.proofs.Added.{Adds-step}
+use Rattle.world.proofs.Plans.{run_then}
 use Rattle.ways.specs.declared.make.Went.{Went}
 use Rattle.ways.specs.declared.make.Went.TheVariants.{On, In, Lost}
 use Rattle.ways.specs.Leads.{Lead, Leads, LeadsOn}
 
-run_more : (deal : Dealing) (steps : List Step) (s : Step) (w : WorldState) → run_of deal (steps ++ s ∷ []) w ≡ after (run_of deal steps w) (step deal (run_of deal steps w) s)
-run_more deal [] s w = refl
-run_more deal (t ∷ steps) s w = run_more deal steps s (after w (step deal w t))
-
-all_more : (P : Step → Type 0) (steps : List Step) (s : Step) → AllByRecursion P steps → P s → AllByRecursion P (steps ++ s ∷ [])
-all_more P [] s h p = (p, tt)
-all_more P (t ∷ steps) s h p = (h.0, all_more P steps s h.1 p)
-
-none_more : (events : List Event) → events ++ [] ≡ events
-none_more [] = refl
-none_more (e ∷ es) = ap (λ (xs : List Event). e ∷ xs) (none_more es)
-
 Lead-more : (old w new : Planned) (steps : List Step) (s : Step) (st : Stepped) → Lead old w steps → step_of w s ≡ Ok (outcome_of st new.state) → new.plans ≡ w.plans → Lead old new (steps ++ s ∷ [])
 Lead-more old w new steps s st lead ok plans = record {
   plans = plans ∙ lead.plans;
-  state = sym (run_more (dealing_of old.plans) steps s old.state
+  state = sym (run_then (dealing_of old.plans) steps (s ∷ []) old.state
       ∙ ap (λ u. after u (step (dealing_of old.plans) u s)) (sym lead.state)
       ∙ ap (after w.state) (ap (λ p. step (dealing_of p) w.state s) (sym lead.plans) ∙ ok));
 }
 
 -- where a step leads, by what was seen in it
-pub Leads-more : (steps_add : (deal : Dealing) (w : WorldState) (s : Step) (o : Outcome) → step deal w s ≡ Ok o → Adds w o)
-    (old w new : Planned) (steps : List Step) (s : Step) (st : Stepped) (went : Went) → LeadsOn old w steps → Helps (length old.state.sent) s
+pub Leads-more : (old w new : Planned) (steps : List Step) (s : Step) (st : Stepped) (went : Went) → LeadsOn old w steps → Helps (length old.state.sent) s
     → step_of w s ≡ Ok (outcome_of st new.state) → new.plans ≡ w.plans
     → (st.seen ≡ Nothing → went ≡ On)
     → (st.seen ≡ Entered → (before : List Event) (c : ℕ) → new.state.visible ≡ before ++ events c Entered → went ≡ In c)
     → (st.seen ≡ Left → went ≡ Lost)
     → Leads old went new (steps ++ s ∷ [])
-Leads-more steps_add old w new steps s st went on help ok plans nothing entered left =
-    let adds = steps_add (dealing_of w.plans) w.state s (outcome_of st new.state) ok in
+Leads-more old w new steps s st went on help ok plans nothing entered left =
+    let adds = Adds-step (dealing_of w.plans) w.state s (outcome_of st new.state) ok in
     let lead = Lead-more old w new steps s st on.leads ok plans in
-    let helps = all_more (Helps (length old.state.sent)) steps s on.helps help in
+    let helps = AllByRecursion-append (Helps (length old.state.sent)) steps (s ∷ []) on.helps (help, tt) in
     elim st.seen as (λ seen. st.seen ≡ seen → Leads old went new (steps ++ s ∷ [])) [
       | Nothing ↦ λ e. subst (λ g. Leads old g new (steps ++ s ∷ [])) (sym (nothing e)) (record {
         leads = lead;
         helps = helps;
-        visible = adds.visible ∙ ap (λ seen. w.state.visible ++ events adds.client seen) e ∙ none_more w.state.visible ∙ on.visible;
+        visible = adds.visible ∙ ap (λ seen. w.state.visible ++ events adds.client seen) e ∙ append-nil w.state.visible ∙ on.visible;
       })
       | Entered ↦ λ e.
           let seen = adds.visible ∙ ap (λ seen. w.state.visible ++ events adds.client seen) e in

@@ -29,3 +29,8 @@ abbrev pub Leads : Planned → Went → Planned → List Step → Type 0
 Leads old On new steps = LeadsOn old new steps
 Leads old (In c) new steps = LeadsIn old new c steps
 Leads old Lost new steps = Unit {0}
+
+-- wherever steps began, if they led to this world, they lead to the new one with those that were added
+abbrev pub LeadFurther : ℕ → Planned → List Step → Went → Planned → List Step → Type 0
+LeadFurther first world steps went new more =
+    (old : Planned) → first ≡ length old.state.sent → LeadsOn old world steps → Leads old went new more

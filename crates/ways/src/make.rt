@@ -1,15 +1,15 @@
 //! Steps that help, one after the other.
-ghost use Rattle.std.specs.Prelude.{◌≡◌, ◌≤◌, ◌++◌, ℕ, IfOk, Some, List, length};
+ghost use Rattle.std.specs.Prelude.{◌≡◌, ◌≤◌, ◌++◌, ℕ, IfOk, Some, List};
 ghost use Rattle.requester.specs.declared.state.Seen.TheVariants.{Nothing, Entered, Left};
 ghost use Rattle.progress.specs.WayIn.{Helps};
 ghost use Rattle.world.specs.declared.step.Event.{Event};
-ghost use Rattle.world.specs.Steps.{Planned, events};
+ghost use Rattle.world.specs.Steps.{events};
 ghost use Rattle.ways.specs.declared.make.Went.TheVariants.{On, In, Lost};
-ghost use Rattle.ways.specs.Leads.{Leads, LeadsOn};
+ghost use Rattle.ways.specs.Leads.{LeadFurther};
 
 use requester::Seen;
 use std::alloc::AllocError;
-use world::{Step, World, WorldFault, steps_add};
+use world::{Step, World, WorldFault};
 
 /// The most messages that arrive after one reminder.
 const MOST_ARRIVALS: usize = 10_000;
@@ -57,10 +57,8 @@ pub fn make(
     step: Step,
 ) -> Result<Went, AllocError>
     requires { Helps first step }
-    ensures { IfOk result (λ went. (old : Planned) → first ≡ length old.state.sent
-        → LeadsOn old world.old steps.old.items → Leads old went world.new steps.new.items) }
+    ensures { IfOk result (λ went. LeadFurther first world.old steps.old.items went world.new steps.new.items) }
 {
-    steps_add();
     match world.step(step) {
         Ok(stepped) => {
             steps.push(step)?;
@@ -79,8 +77,7 @@ fn deliver_from(
     from: usize,
 ) -> Result<Went, AllocError>
     requires { first ≤ from }
-    ensures { IfOk result (λ went. (old : Planned) → first ≡ length old.state.sent
-        → LeadsOn old world.old steps.old.items → Leads old went world.new steps.new.items) }
+    ensures { IfOk result (λ went. LeadFurther first world.old steps.old.items went world.new steps.new.items) }
 {
     for number in from..from.saturating_add(MOST_ARRIVALS) {
         if number >= world.sent() {
@@ -102,8 +99,7 @@ pub fn remind(
     reminder: Step,
 ) -> Result<Went, AllocError>
     requires { Helps first reminder }
-    ensures { IfOk result (λ went. (old : Planned) → first ≡ length old.state.sent
-        → LeadsOn old world.old steps.old.items → Leads old went world.new steps.new.items) }
+    ensures { IfOk result (λ went. LeadFurther first world.old steps.old.items went world.new steps.new.items) }
 {
     let from = world.sent().max(first);
     match make(world, steps, first, reminder) {

@@ -1,7 +1,6 @@
 //! Rounds of reminders.
-ghost use Rattle.std.specs.Prelude.{◌≡◌, IfOk, IfSome, length};
-ghost use Rattle.world.specs.Steps.{Planned};
-ghost use Rattle.ways.specs.Leads.{Leads, LeadsIn, LeadsOn};
+ghost use Rattle.std.specs.Prelude.{IfOk, IfSome};
+ghost use Rattle.ways.specs.Leads.{LeadFurther, LeadsIn};
 
 use crate::make::{Went, remind};
 use requester::{Phase, Requester};
@@ -62,8 +61,7 @@ fn remind_voters(
     first: usize,
     client: u8,
 ) -> Result<Went, AllocError>
-    ensures { IfOk result (λ went. (old : Planned) → first ≡ length old.state.sent
-        → LeadsOn old world.old steps.old.items → Leads old went world.new steps.new.items) }
+    ensures { IfOk result (λ went. LeadFurther first world.old steps.old.items went world.new steps.new.items) }
 {
     for voter in 0..64u8 {
         if lacks(world, client, voter) {
@@ -83,8 +81,7 @@ fn remind_others(
     first: usize,
     leader: u8,
 ) -> Result<Went, AllocError>
-    ensures { IfOk result (λ went. (old : Planned) → first ≡ length old.state.sent
-        → LeadsOn old world.old steps.old.items → Leads old went world.new steps.new.items) }
+    ensures { IfOk result (λ went. LeadFurther first world.old steps.old.items went world.new steps.new.items) }
 {
     for client in 0..64u8 {
         if client != leader && asks(world, client) {
@@ -99,8 +96,7 @@ fn remind_others(
 
 /// Reminds the leader, the voters that it waits for, and the other clients, until somebody enters.
 fn round(world: &mut World, steps: &mut Vec<Step>, first: usize) -> Result<Went, AllocError>
-    ensures { IfOk result (λ went. (old : Planned) → first ≡ length old.state.sent
-        → LeadsOn old world.old steps.old.items → Leads old went world.new steps.new.items) }
+    ensures { IfOk result (λ went. LeadFurther first world.old steps.old.items went world.new steps.new.items) }
 {
     let Some(leader) = leader(world) else {
         return Ok(Went::On);

@@ -21,7 +21,7 @@ use Rattle.quorum_set.specs.declared.bridge.Side.TheVariants.{First, Second}
 use Rattle.world.specs.declared.fault.WorldFault.{WorldFault}
 use Rattle.world.specs.declared.fault.WorldFault.TheVariants as faults
 use Rattle.world.specs.declared.step.Stepped.{Stepped}
-use Rattle.world.specs.Steps.{Outcome, Refuses, WorldState, act, after_client, after_voter, ask, client_at, client_did, draw, draw_of, events, outcome_of, say, vote, voter_at, voter_did}
+use Rattle.world.specs.Steps.{Refuses, WorldState, act, after_client, after_voter, ask, client_at, draw, draw_of, events, outcome_of, say, vote, voter_at}
 
 -- ---- lists that the code keeps
 

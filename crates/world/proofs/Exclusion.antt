@@ -34,14 +34,14 @@ list_all-holds x (u ∷ us) v all is = elim (eqb u v) as (λ b. eqb u v ≡ b �
 pub held_under : (x : ClientState) (v : ℕ) → holds x v ≡ true → holds_under x v (held_of x v) ≡ true
 held_under x v is = grind (arith, nat_tests)
 
-pub is_idle-inside : (p : Phase) → is_inside p ≡ true → is_idle p ≡ false
+is_idle-inside : (p : Phase) → is_inside p ≡ true → is_idle p ≡ false
 is_idle-inside Idle e = absurd (false≢true e)
 is_idle-inside Asking e = refl
 is_idle-inside Inside e = refl
 
-quorum_inside : (b : Bounds) (x : ClientState) → ClientOk b x → is_inside x.phase ≡ true → IsAmong b.quorums (members x)
-quorum_inside b x ok inside = elim ok.quorum [
-  | inl none ↦ let some = ok.sound.asked (is_idle-inside x.phase inside) in let len = ap (λ (q : List ℕ). length q) none in absurd (omega arith)
+pub quorum_busy : (b : Bounds) (x : ClientState) → ClientOk b x → is_idle x.phase ≡ false → IsAmong b.quorums (members x)
+quorum_busy b x ok busy = elim ok.quorum [
+  | inl none ↦ let some = ok.sound.asked busy in let len = ap (λ (q : List ℕ). length q) none in absurd (omega arith)
   | inr among ↦ among
 ]
 
@@ -49,8 +49,8 @@ quorum_inside b x ok inside = elim ok.quorum [
 pub common_vote : (b : Bounds) → DoMeet b.voters b.quorums → (x y : ClientState) → ClientOk b x → ClientOk b y → is_inside x.phase ≡ true → is_inside y.phase ≡ true
     → (v : ℕ) × (v < b.voters) × (holds x v ≡ true) × (holds y v ≡ true)
 common_vote b meet x y ok_x ok_y in_x in_y =
-    let j = quorum_inside b x ok_x in_x in
-    let k = quorum_inside b y ok_y in_y in
+    let j = quorum_busy b x ok_x (is_idle-inside x.phase in_x) in
+    let k = quorum_busy b y ok_y (is_idle-inside y.phase in_y) in
     let both = meet.meets j.0 k.0 j.1 k.1 in
     let v = both.0 in (
       v,

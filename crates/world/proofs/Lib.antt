@@ -3,6 +3,7 @@ pub mod Added
 pub mod Addressed
 pub mod Claims
 pub mod ClientMoves
+pub mod EveryRun
 pub mod Exclusion
 pub mod Fences
 pub mod Places

@@ -143,9 +143,10 @@ HasLine-reached laws w r =
     let voters = w.plans.first.system.voters in
     AllByRecursion-weaker (IsInRange voters r.clients r.limit) HasLine (HasLine-in_range voters r.clients r.limit r.limits) w.state.sent (IsSound-reached laws w r).in_range
 
-run_more : (deal : Dealing) (steps : List Step) (s : Step) (w : WorldState) → run_of deal (steps ++ s ∷ []) w ≡ after (run_of deal steps w) (step deal (run_of deal steps w) s)
-run_more deal [] s w = refl
-run_more deal (t ∷ steps) s w = run_more deal steps s (after w (step deal w t))
+-- steps, one after the other
+pub run_then : (deal : Dealing) (a b : List Step) (w : WorldState) → run_of deal (a ++ b) w ≡ run_of deal b (run_of deal a w)
+run_then deal [] b w = refl
+run_then deal (s ∷ a) b w = run_then deal a b (after w (step deal w s))
 
 -- one more step
 pub IsReached-after : (w : Planned) → IsReached w → (s : Step) (u : WorldState) → u ≡ after w.state (step_of w s) → IsReached (record { plans = w.plans; state = u })
@@ -155,7 +156,7 @@ IsReached-after w r s u is = record {
   limit = r.limit;
   limits = r.limits;
   steps = r.steps ++ s ∷ [];
-  state = is ∙ ap (λ (v : WorldState). after v (step (dealing_of w.plans) v s)) r.state ∙ sym (run_more (dealing_of w.plans) r.steps s (start_by w.plans r.clients r.limit));
+  state = is ∙ ap (λ (v : WorldState). after v (step (dealing_of w.plans) v s)) r.state ∙ sym (run_then (dealing_of w.plans) r.steps (s ∷ []) (start_by w.plans r.clients r.limit));
 }
 
 -- what the code did to a world in which it made room

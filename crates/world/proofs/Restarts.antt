@@ -39,7 +39,7 @@ use Rattle.std.specs.Ordering.{nat_cmp}
 use Rattle.std.proofs.lemmas.Option.{none-some}
 use Rattle.std.proofs.lemmas.Bool.{false≢true, ltb-true, cases_eq}
 use Rattle.std.proofs.lemmas.Bool.Decides.{nat_tests}
-use Rattle.std.proofs.lemmas.List.{length-set, append-nil, set_past, length-replicate}
+use Rattle.std.proofs.lemmas.List.{length-set, append-nil, set_past}
 use Rattle.numbers.proofs.Lists.{AllByRecursion-weaker, AllByRecursion-get, slice_index-replicate_zero}
 use Rattle.message.specs.declared.message.ToVoter.{ToVoter}
 use Rattle.message.specs.declared.message.Message.{Message}
@@ -53,9 +53,9 @@ use Rattle.requester.specs.declared.state.Seen.TheVariants.{Nothing, Entered, Le
 use Rattle.requester.specs.declared.state.Phase.{Phase}
 use Rattle.requester.specs.declared.state.Phase.TheVariants.{Idle, Asking, Inside}
 use Rattle.requester.specs.RequesterContract.{Accepts, IsLater, Sees}
-use Rattle.requester.specs.Soundness as sound
 use Rattle.requester.specs.Steps as client
 use Rattle.requester.specs.Saved.{least_client}
+use Rattle.requester.proofs.SavedLemmas.{least_is_sound}
 use Rattle.voter.specs.Saved.{least_voter}
 use Rattle.requester.specs.Words.{is_inside, holds_under}
 use Rattle.quorum_set.specs.declared.bridge.Side.{Side}
@@ -210,11 +210,12 @@ Mix-restarted L K c X mix = Mix-with L K X c (MixBut-put_left L K X c (K c) mix)
 
 -- ---- a world whose nodes are saved
 
+-- the live clients, the live voters, the saved clients and the saved voters are as many as they should be
+abbrev pub AreAll : Bounds → ℕ → ℕ → ℕ → ℕ → Type 0
+AreAll b live_clients live_voters clients voters = (live_clients ≡ b.clients) × (live_voters ≡ b.voters) × (clients ≡ b.clients) × (voters ≡ b.voters)
+
 pub record SavedOk (b : Bounds) (s : Saved) : Type 0 where
-  pub live_clients : length s.live.clients ≡ b.clients
-  pub live_voters : length s.live.voters ≡ b.voters
-  pub clients : length s.clients ≡ b.clients
-  pub voters : length s.voters ≡ b.voters
+  pub sizes : AreAll b (length s.live.clients) (length s.live.voters) (length s.clients) (length s.voters)
   pub mixes : Mixes b (client_at s.live.clients) (client_at s.clients) (voter_at s.live.voters) (voter_at s.voters) s.live.sent
   pub walked : Walked s.live.visible (client_at s.live.clients)
   pub insides : (c : ℕ) → is_inside (client_at s.clients c).phase ≡ true → is_inside (client_at s.live.clients c).phase ≡ true
@@ -271,17 +272,14 @@ client_gone : (b : Bounds) → Given b → (s : Saved) → SavedOk b s → (c : 
 client_gone b given s ok c cause o act false is =
     let L = client_at s.live.clients in
     let K = client_at s.clients in
-    let within : c < length s.live.clients = subst (λ n. c < n) (sym ok.live_clients) act.within in
-    let within_saved : c < length s.clients = subst (λ n. c < n) (sym ok.clients) act.within in
+    let within : c < length s.live.clients = subst (λ n. c < n) (sym ok.sizes.0) act.within in
+    let within_saved : c < length s.clients = subst (λ n. c < n) (sym ok.sizes.2) act.within in
     let now = slice_set s.live.clients c o.state in
     let same : put L c o.state ≡ client_at now = sym (client_at-set s.live.clients c o.state within) in
     let there : client_at now c ≡ o.state = ap (λ (f : ℕ → ClientState). f c) (sym same) ∙ put-same L c o.state in
     let kept : put K c o.state ≡ client_at (slice_set s.clients c (client_at now c)) = sym (client_at-set s.clients c (client_at now c) within_saved ∙ ap (λ x. put K c x) there) in
     record {
-      live_clients = length-set s.live.clients c o.state ∙ ok.live_clients;
-      live_voters = ok.live_voters;
-      clients = length-set s.clients c (client_at now c) ∙ ok.clients;
-      voters = ok.voters;
+      sizes = (length-set s.live.clients c o.state ∙ ok.sizes.0, ok.sizes.1, length-set s.clients c (client_at now c) ∙ ok.sizes.2, ok.sizes.3);
       mixes =
           subst (λ (W : ℕ → ClientState). Mixes b W (client_at (slice_set s.clients c (client_at now c))) (voter_at s.live.voters) (voter_at s.voters) (s.live.sent ++ map kinds.ToVoter o.out)) same
           (subst (λ (W : ℕ → ClientState). Mixes b (put L c o.state) W (voter_at s.live.voters) (voter_at s.voters) (s.live.sent ++ map kinds.ToVoter o.out)) kept
@@ -293,16 +291,13 @@ client_gone b given s ok c cause o act false is =
 client_gone b given s ok c cause o act true is =
     let L = client_at s.live.clients in
     let K = client_at s.clients in
-    let within : c < length s.live.clients = subst (λ n. c < n) (sym ok.live_clients) act.within in
+    let within : c < length s.live.clients = subst (λ n. c < n) (sym ok.sizes.0) act.within in
     let same : put L c o.state ≡ client_at (slice_set s.live.clients c o.state) = sym (client_at-set s.live.clients c o.state within) in
     let parts = silent_parts (length o.out) o.seen is in
     let sees = (given.client.meets (L c) cause o ((live_ok b s ok).clients c).sound act.accepts act.step).seen in
     let alike : is_inside (L c).phase ≡ is_inside o.state.phase = subst (λ (seen : Seen). Sees (L c).phase seen o.state.phase) parts.1 sees in
     record {
-      live_clients = length-set s.live.clients c o.state ∙ ok.live_clients;
-      live_voters = ok.live_voters;
-      clients = ok.clients;
-      voters = ok.voters;
+      sizes = (length-set s.live.clients c o.state ∙ ok.sizes.0, ok.sizes.1, ok.sizes.2, ok.sizes.3);
       mixes = subst (λ (W : ℕ → ClientState). Mixes b W K (voter_at s.live.voters) (voter_at s.voters) (s.live.sent ++ map kinds.ToVoter o.out)) same
           (client_quiet given.client b given.meet L K (voter_at s.live.voters) (voter_at s.voters) s.live.sent ok.mixes c cause o act (none_of kinds.ToVoter s.live.sent o.out parts.0));
       walked = subst (λ (W : ℕ → ClientState). Walked (s.live.visible ++ events c o.seen) W) same (client_walks b given s ok c cause o act);
@@ -313,7 +308,7 @@ client_tried : (b : Bounds) → Given b → (s : Saved) → SavedOk b s → (c :
     → Accepts (client_at s.live.clients c) cause → CameAll b (client_at s.live.clients) s.live.sent c cause → Draws b cause
     → (r : Result client.Outcome ClientFault) → client.step (client_at s.live.clients c) cause ≡ r → SavedOk b (save_and_send s (OneClient c) (after_client s.live c r))
 client_tried b given s ok c within cause accepts came draws (Ok o) is =
-    client_gone b given s ok c cause o (record { within = subst (λ n. c < n) ok.live_clients within; accepts = accepts; step = is; came = came; draws = draws }) _ refl
+    client_gone b given s ok c cause o (record { within = subst (λ n. c < n) ok.sizes.0 within; accepts = accepts; step = is; came = came; draws = draws }) _ refl
 client_tried b given s ok c within cause accepts came draws (Err fault) is = ok
 
 -- the same with a ticket that is drawn
@@ -322,12 +317,12 @@ client_drew : (b : Bounds) → Given b → (s : Saved) → SavedOk b s → (c : 
     → (side : Side) (r : Result client.Outcome ClientFault) → client.step (client_at s.live.clients c) cause ≡ r → SavedOk b (save_and_send s (OneClient c) (after_client (draw_of side s.live c) c r))
 client_drew b given s ok c within cause accepts came draws First (Ok o) is =
     client_gone b given (record s { live = draw_of First s.live c })
-    (record { live_clients = ok.live_clients; live_voters = ok.live_voters; clients = ok.clients; voters = ok.voters; mixes = ok.mixes; walked = ok.walked; insides = ok.insides }) c cause o
-    (record { within = subst (λ n. c < n) ok.live_clients within; accepts = accepts; step = is; came = came; draws = draws }) _ refl
+    (record { sizes = ok.sizes; mixes = ok.mixes; walked = ok.walked; insides = ok.insides }) c cause o
+    (record { within = subst (λ n. c < n) ok.sizes.0 within; accepts = accepts; step = is; came = came; draws = draws }) _ refl
 client_drew b given s ok c within cause accepts came draws Second (Ok o) is =
     client_gone b given (record s { live = draw_of Second s.live c })
-    (record { live_clients = ok.live_clients; live_voters = ok.live_voters; clients = ok.clients; voters = ok.voters; mixes = ok.mixes; walked = ok.walked; insides = ok.insides }) c cause o
-    (record { within = subst (λ n. c < n) ok.live_clients within; accepts = accepts; step = is; came = came; draws = draws }) _ refl
+    (record { sizes = ok.sizes; mixes = ok.mixes; walked = ok.walked; insides = ok.insides }) c cause o
+    (record { within = subst (λ n. c < n) ok.sizes.0 within; accepts = accepts; step = is; came = came; draws = draws }) _ refl
 client_drew b given s ok c within cause accepts came draws side (Err fault) is = ok
 
 -- ---- a voter's step, in the lists
@@ -338,17 +333,14 @@ voter_gone b given s ok m o act false is =
     let M = voter_at s.live.voters in
     let N = voter_at s.voters in
     let v = m.voter in
-    let within : v < length s.live.voters = subst (λ n. v < n) (sym ok.live_voters) act.range.1 in
-    let within_saved : v < length s.voters = subst (λ n. v < n) (sym ok.voters) act.range.1 in
+    let within : v < length s.live.voters = subst (λ n. v < n) (sym ok.sizes.1) act.range.1 in
+    let within_saved : v < length s.voters = subst (λ n. v < n) (sym ok.sizes.3) act.range.1 in
     let now = slice_set s.live.voters v o.state in
     let same : put M v o.state ≡ voter_at now = sym (voter_at-set s.live.voters v o.state within) in
     let there : voter_at now v ≡ o.state = ap (λ (f : ℕ → VoterState). f v) (sym same) ∙ put-same M v o.state in
     let kept : put N v o.state ≡ voter_at (slice_set s.voters v (voter_at now v)) = sym (voter_at-set s.voters v (voter_at now v) within_saved ∙ ap (λ x. put N v x) there) in
     record {
-      live_clients = ok.live_clients;
-      live_voters = length-set s.live.voters v o.state ∙ ok.live_voters;
-      clients = ok.clients;
-      voters = length-set s.voters v (voter_at now v) ∙ ok.voters;
+      sizes = (ok.sizes.0, length-set s.live.voters v o.state ∙ ok.sizes.1, ok.sizes.2, length-set s.voters v (voter_at now v) ∙ ok.sizes.3);
       mixes =
           subst (λ (W : ℕ → VoterState). Mixes b (client_at s.live.clients) (client_at s.clients) W (voter_at (slice_set s.voters v (voter_at now v)))
           (s.live.sent ++ map kinds.ToClient o.replies)) same
@@ -361,13 +353,10 @@ voter_gone b given s ok m o act true is =
     let M = voter_at s.live.voters in
     let N = voter_at s.voters in
     let v = m.voter in
-    let within : v < length s.live.voters = subst (λ n. v < n) (sym ok.live_voters) act.range.1 in
+    let within : v < length s.live.voters = subst (λ n. v < n) (sym ok.sizes.1) act.range.1 in
     let same : put M v o.state ≡ voter_at (slice_set s.live.voters v o.state) = sym (voter_at-set s.live.voters v o.state within) in
     record {
-      live_clients = ok.live_clients;
-      live_voters = length-set s.live.voters v o.state ∙ ok.live_voters;
-      clients = ok.clients;
-      voters = ok.voters;
+      sizes = (ok.sizes.0, length-set s.live.voters v o.state ∙ ok.sizes.1, ok.sizes.2, ok.sizes.3);
       mixes = subst (λ (W : ℕ → VoterState). Mixes b (client_at s.live.clients) (client_at s.clients) W N (s.live.sent ++ map kinds.ToClient o.replies)) same
           (voter_quiet given.voter b (client_at s.live.clients) (client_at s.clients) M N s.live.sent ok.mixes m o act
           (none_of kinds.ToClient s.live.sent o.replies (silent_parts (length o.replies) Nothing is).0));
@@ -397,10 +386,7 @@ save_ok b (OneClient c) s ok = elim (within_or s.clients c) [
       let K = client_at s.clients in
       let kept : put K c (L c) ≡ client_at (slice_set s.clients c (L c)) = sym (client_at-set s.clients c (L c) within) in
       record {
-        live_clients = ok.live_clients;
-        live_voters = ok.live_voters;
-        clients = length-set s.clients c (L c) ∙ ok.clients;
-        voters = ok.voters;
+        sizes = (ok.sizes.0, ok.sizes.1, length-set s.clients c (L c) ∙ ok.sizes.2, ok.sizes.3);
         mixes = subst (λ (W : ℕ → ClientState). Mixes b L W (voter_at s.live.voters) (voter_at s.voters) s.live.sent) kept
             (Mixes-fewer b L K L (put K c (L c)) (voter_at s.live.voters) (voter_at s.voters) (voter_at s.live.voters) (voter_at s.voters) s.live.sent ok.mixes
             (λ X mix. Mix-saved L K c X mix) (λ Y mix. mix));
@@ -415,10 +401,7 @@ save_ok b (OneVoter v) s ok = elim (within_or s.voters v) [
       let N = voter_at s.voters in
       let kept : put N v (M v) ≡ voter_at (slice_set s.voters v (M v)) = sym (voter_at-set s.voters v (M v) within) in
       record {
-        live_clients = ok.live_clients;
-        live_voters = ok.live_voters;
-        clients = ok.clients;
-        voters = length-set s.voters v (M v) ∙ ok.voters;
+        sizes = (ok.sizes.0, ok.sizes.1, ok.sizes.2, length-set s.voters v (M v) ∙ ok.sizes.3);
         mixes = subst (λ (W : ℕ → VoterState). Mixes b (client_at s.live.clients) (client_at s.clients) M W s.live.sent) kept
             (Mixes-fewer b (client_at s.live.clients) (client_at s.clients) (client_at s.live.clients) (client_at s.clients) M N M (put N v (M v)) s.live.sent ok.mixes
             (λ X mix. mix) (λ Y mix. Mix-saved M N v Y mix));
@@ -450,10 +433,7 @@ come_back_ok b given s ok c within =
     let same : put L c (K c) ≡ client_at (slice_set s.live.clients c (K c)) = sym (client_at-set s.live.clients c (K c) within) in
     let world = ok.mixes (put L c (K c)) (voter_at s.live.voters) (Mix-one L K c) (λ q. inl refl) in
     record {
-      live_clients = length-set s.live.clients c (K c) ∙ ok.live_clients;
-      live_voters = ok.live_voters;
-      clients = ok.clients;
-      voters = ok.voters;
+      sizes = (length-set s.live.clients c (K c) ∙ ok.sizes.0, ok.sizes.1, ok.sizes.2, ok.sizes.3);
       mixes = subst (λ (W : ℕ → ClientState). Mixes b W K (voter_at s.live.voters) (voter_at s.voters) s.live.sent) same
           (Mixes-fewer b L K (put L c (K c)) K (voter_at s.live.voters) (voter_at s.voters) (voter_at s.live.voters) (voter_at s.voters) s.live.sent ok.mixes
           (λ X mix. Mix-restarted L K c X mix) (λ Y mix. mix));
@@ -476,10 +456,7 @@ restart_ok b given (OneVoter v) s ok = elim (within_or s.live.voters v) [
       let N = voter_at s.voters in
       let same : put M v (N v) ≡ voter_at (slice_set s.live.voters v (N v)) = sym (voter_at-set s.live.voters v (N v) within) in
       record {
-        live_clients = ok.live_clients;
-        live_voters = length-set s.live.voters v (N v) ∙ ok.live_voters;
-        clients = ok.clients;
-        voters = ok.voters;
+        sizes = (ok.sizes.0, length-set s.live.voters v (N v) ∙ ok.sizes.1, ok.sizes.2, ok.sizes.3);
         mixes = subst (λ (W : ℕ → VoterState). Mixes b (client_at s.live.clients) (client_at s.clients) W N s.live.sent) same
             (Mixes-fewer b (client_at s.live.clients) (client_at s.clients) (client_at s.live.clients) (client_at s.clients) M N (put M v (N v)) N s.live.sent ok.mixes
             (λ X mix. mix) (λ Y mix. Mix-restarted M N v Y mix));
@@ -490,9 +467,6 @@ restart_ok b given (OneVoter v) s ok = elim (within_or s.live.voters v) [
 ]
 
 -- ---- all but the least is lost
-
-nothing_held : (v : ℕ) → nat_lt 0 (slice_index (replicate 64 0) v) ≡ true → ⊥
-nothing_held v is = let none = slice_index-replicate_zero 64 v in grind (arith, nat_tests)
 
 nothing_held_under : (v g : ℕ) → (nat_lt 0 (slice_index (replicate 64 0) v) && (slice_index (replicate 64 0) v == g)) ≡ true → ⊥
 nothing_held_under v g is = let none = slice_index-replicate_zero 64 v in grind (arith, nat_tests)
@@ -533,23 +507,6 @@ voter_less b X Y sent v ok =
       voter_ids = put-each (λ q z. q < b.voters → z.id ≡ q) Y v (least_voter (Y v)) (ok.voter_ids v) ok.voter_ids;
     }
 
-least_client_sound : (x : ClientState) → sound.IsSound x → sound.IsSound (least_client x)
-least_client_sound x ok = record {
-  id = ok.id;
-  some = ok.some;
-  limit = ok.limit;
-  places = record { held = length-replicate {A = ℕ} 64 0; last = ok.places.last };
-  stamp = ok.stamp;
-  clock = ok.clock;
-  stamped = λ busy. absurd (false≢true (sym busy));
-  quorum = tt;
-  asked = λ busy. absurd (false≢true (sym busy));
-  held = λ v is. absurd (nothing_held v is);
-  inside = λ is. absurd (false≢true is);
-  inquired = λ v is. absurd (false≢true is);
-  relinquished = λ v is. absurd (false≢true is);
-}
-
 least_is_later : (x : ClientState) → IsLater x (least_client x)
 least_is_later x = record { stamp = omega arith; last = λ v. omega arith; idle = λ _ _. refl }
 
@@ -561,7 +518,7 @@ client_less b X Y sent c ok =
       messages = MessageOk-later X W Y later sent ok.messages;
       ranges = ok.ranges;
       held = put-each (λ q y. (v g : ℕ) → holds_under y v g ≡ true → Names (Y v).held q y.stamp g) X c (least_client (X c)) (λ v g is. absurd (nothing_held_under v g is)) ok.held;
-      clients = put-each (λ q y. ClientOk b y) X c (least_client (X c)) (record { sound = least_client_sound (X c) (ok.clients c).sound; last = (ok.clients c).last; quorum = inl refl }) ok.clients;
+      clients = put-each (λ q y. ClientOk b y) X c (least_client (X c)) (record { sound = least_is_sound (X c) (ok.clients c).sound; last = (ok.clients c).last; quorum = inl refl }) ok.clients;
       voters = λ v. VoterOk-later b X W later (Y v) (ok.voters v);
       client_ids = put-each (λ q y. q < b.clients → IsClient q b.limit y) X c (least_client (X c))
           (λ within. record { id = (ok.client_ids c within).id; limit = (ok.client_ids c within).limit }) ok.client_ids;
@@ -601,10 +558,7 @@ forget_ok b (OneClient c) s ok = elim (within_or s.clients c) [
       let K = client_at s.clients in
       let kept : put K c (least_client (K c)) ≡ client_at (slice_set s.clients c (least_client (K c))) = sym (client_at-set s.clients c (least_client (K c)) within) in
       record {
-        live_clients = ok.live_clients;
-        live_voters = ok.live_voters;
-        clients = length-set s.clients c (least_client (K c)) ∙ ok.clients;
-        voters = ok.voters;
+        sizes = (ok.sizes.0, ok.sizes.1, length-set s.clients c (least_client (K c)) ∙ ok.sizes.2, ok.sizes.3);
         mixes = subst (λ (W : ℕ → ClientState). Mixes b L W (voter_at s.live.voters) (voter_at s.voters) s.live.sent) kept
             (client_forgets b L K (voter_at s.live.voters) (voter_at s.voters) s.live.sent c ok.mixes);
         walked = ok.walked;
@@ -618,10 +572,7 @@ forget_ok b (OneVoter v) s ok = elim (within_or s.voters v) [
       let N = voter_at s.voters in
       let kept : put N v (least_voter (N v)) ≡ voter_at (slice_set s.voters v (least_voter (N v))) = sym (voter_at-set s.voters v (least_voter (N v)) within) in
       record {
-        live_clients = ok.live_clients;
-        live_voters = ok.live_voters;
-        clients = ok.clients;
-        voters = length-set s.voters v (least_voter (N v)) ∙ ok.voters;
+        sizes = (ok.sizes.0, ok.sizes.1, ok.sizes.2, length-set s.voters v (least_voter (N v)) ∙ ok.sizes.3);
         mixes = subst (λ (W : ℕ → VoterState). Mixes b (client_at s.live.clients) (client_at s.clients) M W s.live.sent) kept
             (voter_forgets b (client_at s.live.clients) (client_at s.clients) M N s.live.sent v ok.mixes);
         walked = ok.walked;
@@ -640,16 +591,13 @@ client_said b given s ok c within false is =
     let kept = save_ok b (OneClient c) s ok in
     let K = client_at (slice_set s.clients c (L c)) in
     let out = map kinds.ToVoter (client.remind (L c)) in
-    let number : c < b.clients = subst (λ n. c < n) ok.live_clients within in
+    let number : c < b.clients = subst (λ n. c < n) ok.sizes.0 within in
     let here : (X : ℕ → ClientState) → Mix L K X → X c ≡ L c = λ X mix. elim (mix c) [
       | inl e ↦ e
-      | inr e ↦ e ∙ ap (λ (f : ℕ → ClientState). f c) (client_at-set s.clients c (L c) (subst (λ n. c < n) (sym ok.clients) number)) ∙ put-same (client_at s.clients) c (L c)
+      | inr e ↦ e ∙ ap (λ (f : ℕ → ClientState). f c) (client_at-set s.clients c (L c) (subst (λ n. c < n) (sym ok.sizes.2) number)) ∙ put-same (client_at s.clients) c (L c)
     ] in
     record {
-      live_clients = kept.live_clients;
-      live_voters = kept.live_voters;
-      clients = kept.clients;
-      voters = kept.voters;
+      sizes = kept.sizes;
       mixes = λ X Y mix other. subst (λ (x : ClientState). WorldOk b X Y (s.live.sent ++ map kinds.ToVoter (client.remind x))) (here X mix)
           (client_reminds given.client b given.meet X Y s.live.sent (kept.mixes X Y mix other) c number);
       walked = kept.walked;
@@ -666,16 +614,13 @@ voter_said b given s ok v within false is =
     let M = voter_at s.live.voters in
     let kept = save_ok b (OneVoter v) s ok in
     let N = voter_at (slice_set s.voters v (M v)) in
-    let number : v < b.voters = subst (λ n. v < n) ok.live_voters within in
+    let number : v < b.voters = subst (λ n. v < n) ok.sizes.1 within in
     let here : (Y : ℕ → VoterState) → Mix M N Y → Y v ≡ M v = λ Y mix. elim (mix v) [
       | inl e ↦ e
-      | inr e ↦ e ∙ ap (λ (f : ℕ → VoterState). f v) (voter_at-set s.voters v (M v) (subst (λ n. v < n) (sym ok.voters) number)) ∙ put-same (voter_at s.voters) v (M v)
+      | inr e ↦ e ∙ ap (λ (f : ℕ → VoterState). f v) (voter_at-set s.voters v (M v) (subst (λ n. v < n) (sym ok.sizes.3) number)) ∙ put-same (voter_at s.voters) v (M v)
     ] in
     record {
-      live_clients = kept.live_clients;
-      live_voters = kept.live_voters;
-      clients = kept.clients;
-      voters = kept.voters;
+      sizes = kept.sizes;
       mixes = λ X Y other mix. subst (λ (y : VoterState). WorldOk b X Y (s.live.sent ++ map kinds.ToClient (voter.remind y))) (here Y mix)
           (voter_reminds given.voter b X Y s.live.sent (kept.mixes X Y other mix) v number);
       walked = kept.walked;
@@ -699,13 +644,9 @@ if_voter_one b s ok who false v next then = ok
 
 exchange_ok : (b : Bounds) (s : Saved) → SavedOk b s → (are_two : Bool) (side : Side) → SavedOk b (save_and_send s Nobody (exchange are_two side s.live))
 exchange_ok b s ok true First = record {
-  live_clients = ok.live_clients;
-  live_voters = ok.live_voters;
-  clients = ok.clients;
-  voters = ok.voters;
+  sizes = ok.sizes;
   mixes = ok.mixes;
-  walked =
-      ok.walked;
+  walked = ok.walked;
   insides = ok.insides;
 }
 exchange_ok b s ok true Second = ok
@@ -721,7 +662,7 @@ comes_ok b given s ok k (Some (kinds.ToClient m)) known range =
     let within = range (kinds.ToClient m) refl in
     let few = given.limits.few_voters in
     let least = within.1 in
-    client_tried b given s ok m.client (subst (λ n. m.client < n) (sym ok.live_clients) within.0) (client.Takes m)
+    client_tried b given s ok m.client (subst (λ n. m.client < n) (sym ok.sizes.0) within.0) (client.Takes m)
     (sym ((live_ok b s ok).client_ids m.client within.0).id, omega arith)
     (λ X Y world. came_by b (X m.client) Y m.voter m.client m.body within.1 within.3 (known X Y world (kinds.ToClient m) refl))
     tt _ refl
@@ -760,10 +701,7 @@ begin_ok b given =
     let w = start b.voters b.clients b.limit in
     let ok = start_ok b given in
     record {
-      live_clients = ok.clients;
-      live_voters = ok.voters;
-      clients = ok.clients;
-      voters = ok.voters;
+      sizes = (ok.clients, ok.voters, ok.clients, ok.voters);
       mixes = λ X Y mix other. subst (λ (V : ℕ → ClientState). WorldOk b V Y w.sent) (Mix-same (client_at w.clients) X mix)
           (subst (λ (V : ℕ → VoterState). WorldOk b (client_at w.clients) V w.sent) (Mix-same (voter_at w.voters) Y other) ok.world);
       walked = ok.walked;

@@ -35,7 +35,7 @@ pub struct World {
 }
 
 impl Model for World {
-    ghost use Rattle.world.specs.States.{IsWorld, plans_of, shown};
+    ghost use Rattle.world.specs.States.{IsWorld, plans_of, contents_of};
     ghost use Rattle.std.specs.Coded.{codes};
     ghost use Rattle.voter.specs.contracts.state.VoterState as known;
     ghost use Rattle.world.specs.Steps.{Planned};
@@ -44,9 +44,9 @@ impl Model for World {
 
     ghost coded = { Prim.hlevel (codes, known.the_row.coded) };
 
-    ghost view = { λ a. record { plans = plans_of a.cycles; state = shown a.state } };
+    ghost view = { λ a. record { plans = plans_of a.cycles; state = contents_of a.state } };
 
-    ghost invariant = { λ a. IsWorld (record { plans = plans_of a.cycles; state = shown a.state }) };
+    ghost invariant = { λ a. IsWorld (record { plans = plans_of a.cycles; state = contents_of a.state }) };
 }
 
 impl World {

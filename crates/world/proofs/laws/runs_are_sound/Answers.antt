@@ -1,4 +1,4 @@
-use Rattle.world.proofs.Reached.{every_run}
+use Rattle.world.proofs.EveryRun.{every_run}
 use Rattle.world.proofs.laws.runs_are_sound.Goals as goal
 
 pub returns : goal.returns
