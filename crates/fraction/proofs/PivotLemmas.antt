@@ -3,7 +3,7 @@ use Rattle.std.proofs.Common.{◌≡◌, ◌≢◌, ℕ, ◌+◌, ◌-◌, ◌*�
 use Rattle.std.specs.declared.alloc.Global.{Global}
 use Rattle.std.specs.Int.{◌∣◌}
 use Rattle.std.proofs.lemmas.Bool.{cases_lt, cases_eq, eq-eqb, ne_eqb}
-use Rattle.std.proofs.lemmas.List.{get_or_append_left, get_or-append-add, map-append, length-append}
+use Rattle.std.proofs.lemmas.List.{get_or_append_left, get_or-append-add, map-append, length-append, length-map}
 use Rattle.std.proofs.Math.Seq.{get_or-append_seam}
 use Rattle.std.proofs.Math.ListN.{set}
 use Rattle.std.proofs.lemmas.Int.{ints, unsigned_abs-mul}
@@ -16,7 +16,7 @@ use Rattle.fraction.specs.Rows.{OthersFit, IsUnreduced, IsLowest}
 use Rattle.fraction.proofs.Lowest.{unsigned_abs-some, positive-some}
 
 -- a list of one element
-pub cons-from_length_one : (own : List (Vec ℤ Global)) (d : Vec ℤ Global) → length own ≡ 1 → own ≡ get_or own 0 d ∷ []
+cons-from_length_one : (own : List (Vec ℤ Global)) (d : Vec ℤ Global) → length own ≡ 1 → own ≡ get_or own 0 d ∷ []
 cons-from_length_one [] d e = absurd (omega arith)
 cons-from_length_one (x ∷ []) d e = refl
 cons-from_length_one (x ∷ y ∷ xs) d e = absurd (omega arith)
@@ -32,13 +32,25 @@ pub lists_of-parted : (rows above rest own below : List (Vec ℤ Global)) (first
 lists_of-parted rows above rest own below first e f g =
     ap lists_of (e ∙ ap (λ r. above ++ r) (f ∙ ap (λ o. o ++ below) g)) ∙ map-append (λ row. row.items) above (first ∷ below)
 
-pub row_at-row : (L A B : List (List ℤ)) (p : List ℤ) (row : ℕ) → L ≡ A ++ (p ∷ B) → length A ≡ row → row_at L row ≡ p
-row_at-row L A B p row e n = ap (λ l. row_at l row) e ∙ ap (λ i. row_at (A ++ (p ∷ B)) i) (sym n) ∙ get_or-append_seam A p B []
+-- Rows: those above a row, the row, and those below.
+pub record IsParted (L A B : List (List ℤ)) (p : List ℤ) (row : ℕ) : Type 0 where
+  pub whole : L ≡ A ++ (p ∷ B)
+  pub count : length A ≡ row
 
-pub row_at-above : (L A B : List (List ℤ)) (p : List ℤ) (i : ℕ) → L ≡ A ++ (p ∷ B) → i < length A → row_at L i ≡ row_at A i
+pub IsParted-split : (rows above rest own below : List (Vec ℤ Global)) (d : Vec ℤ Global) (row : ℕ) → rows ≡ above ++ rest → length above ≡ row → rest ≡ own ++ below → length own ≡ 1
+    → IsParted (lists_of rows) (lists_of above) (lists_of below) (get_or own 0 d).items row
+IsParted-split rows above rest own below d row e n f one = record {
+  whole = lists_of-parted rows above rest own below (get_or own 0 d) e f (cons-from_length_one own d one);
+  count = length-map above (λ row. row.items) ∙ n;
+}
+
+pub row_at-row : (L A B : List (List ℤ)) (p : List ℤ) (row : ℕ) → IsParted L A B p row → row_at L row ≡ p
+row_at-row L A B p row parted = ap (λ l. row_at l row) parted.whole ∙ ap (λ i. row_at (A ++ (p ∷ B)) i) (sym parted.count) ∙ get_or-append_seam A p B []
+
+row_at-above : (L A B : List (List ℤ)) (p : List ℤ) (i : ℕ) → L ≡ A ++ (p ∷ B) → i < length A → row_at L i ≡ row_at A i
 row_at-above L A B p i e lt = ap (λ l. row_at l i) e ∙ get_or_append_left A (p ∷ B) [] i lt
 
-pub row_at-below : (L A B : List (List ℤ)) (p : List ℤ) (k : ℕ) → L ≡ A ++ (p ∷ B) → row_at L (length A + suc k) ≡ row_at B k
+row_at-below : (L A B : List (List ℤ)) (p : List ℤ) (k : ℕ) → L ≡ A ++ (p ∷ B) → row_at L (length A + suc k) ≡ row_at B k
 row_at-below L A B p k e = ap (λ l. row_at l (length A + suc k)) e ∙ get_or-append-add A (p ∷ B) (suc k) []
 
 count_of : (L A B : List (List ℤ)) (p : List ℤ) → L ≡ A ++ (p ∷ B) → length L ≡ length A + suc (length B)
@@ -77,31 +89,31 @@ row_fits : (L : List (List ℤ)) (r p : List ℤ) (den : ℤ) (row col i : ℕ) 
 row_fits L r p den row col i ep er lt ne fits =
     subst (λ r. EliminateFits r (entry_of p col) p col) er (subst (λ q. EliminateFits (row_at L i) (entry_of q col) q col) ep (λ j within. fits.others i j ne (lt, within)))
 
-pub AllEliminateFit-above : (L A B : List (List ℤ)) (p : List ℤ) (den : ℤ) (row col : ℕ) → L ≡ A ++ (p ∷ B) → length A ≡ row → IsLevelWith L row → col < length (row_at L row)
+pub AllEliminateFit-above : (L A B : List (List ℤ)) (p : List ℤ) (den : ℤ) (row col : ℕ) → IsParted L A B p row → IsLevelWith L row → col < length (row_at L row)
     → PivotFits (record { rows = L; den = den }) row col → AllEliminateFit A (entry_of p col) p col
-AllEliminateFit-above L A B p den row col e n level within fits = λ i lt.
-    let many = count_of L A B p e in
-    let own = row_at-row L A B p row e n in
-    let this = row_at-above L A B p i e lt in
+AllEliminateFit-above L A B p den row col parted level within fits = λ i lt.
+    let many = count_of L A B p parted.whole in
+    let own = row_at-row L A B p row parted in
+    let this = row_at-above L A B p i parted.whole lt in
     let inside : i < length L = omega arith in
     let ne : i ≢ row = omega arith in
     (ap length (sym this) ∙ level i inside ∙ ap length own, subst (λ r. col < length r) own within, row_fits L (row_at A i) p den row col i own this inside ne fits)
 
-pub AllEliminateFit-below : (L A B : List (List ℤ)) (p : List ℤ) (den : ℤ) (row col : ℕ) → L ≡ A ++ (p ∷ B) → length A ≡ row → IsLevelWith L row → col < length (row_at L row)
+pub AllEliminateFit-below : (L A B : List (List ℤ)) (p : List ℤ) (den : ℤ) (row col : ℕ) → IsParted L A B p row → IsLevelWith L row → col < length (row_at L row)
     → PivotFits (record { rows = L; den = den }) row col → AllEliminateFit B (entry_of p col) p col
-AllEliminateFit-below L A B p den row col e n level within fits = λ k lt.
-    let many = count_of L A B p e in
-    let own = row_at-row L A B p row e n in
-    let this = row_at-below L A B p k e in
+AllEliminateFit-below L A B p den row col parted level within fits = λ k lt.
+    let many = count_of L A B p parted.whole in
+    let own = row_at-row L A B p row parted in
+    let this = row_at-below L A B p k parted.whole in
     let inside : length A + suc k < length L = omega arith in
     let ne : length A + suc k ≢ row = omega arith in
     (ap length (sym this) ∙ level (length A + suc k) inside ∙ ap length own, subst (λ r. col < length r) own within, row_fits L (row_at B k) p den row col (length A + suc k) own this inside ne fits)
 
-pub EachFits-pivot_row : (L A B : List (List ℤ)) (p : List ℤ) (den : ℤ) (row col : ℕ) → L ≡ A ++ (p ∷ B) → length A ≡ row → PivotFits (record { rows = L; den = den }) row col → EachFits p den
-EachFits-pivot_row L A B p den row col e n fits =
-    let many = count_of L A B p e in
+pub EachFits-pivot_row : (L A B : List (List ℤ)) (p : List ℤ) (den : ℤ) (row col : ℕ) → IsParted L A B p row → PivotFits (record { rows = L; den = den }) row col → EachFits p den
+EachFits-pivot_row L A B p den row col parted fits =
+    let many = count_of L A B p parted.whole in
     let inside : row < length L = omega arith in
-    subst (λ r. EachFits r den) (row_at-row L A B p row e n) (λ j within. fits.pivot_row j (inside, within))
+    subst (λ r. EachFits r den) (row_at-row L A B p row parted) (λ j within. fits.pivot_row j (inside, within))
 
 -- a row that lost the pivot's row has the numbers of the pivot
 other_is : (t : Table) (old new p : List ℤ) (row col i : ℕ) → row_of t row ≡ p → row_of t i ≡ old → i ≢ row → IsEliminated old new (entry_of p col) p col
@@ -122,11 +134,11 @@ own_is t new p row col i ep ei same is =
     at : (j : ℕ) → pivot_entry t row col i j ≡ entry_of p j *ℤ t.den
     at j = rw (eq-eqb i row ei, ep) refl
 
-pub IsUnreduced-from_rows : (L M A B A' B' : List (List ℤ)) (p p' : List ℤ) (den : ℤ) (row col : ℕ) → L ≡ A ++ (p ∷ B) → M ≡ A' ++ (p' ∷ B') → length A ≡ row
+pub IsUnreduced-from_rows : (L M A B A' B' : List (List ℤ)) (p p' : List ℤ) (den : ℤ) (row col : ℕ) → IsParted L A B p row → M ≡ A' ++ (p' ∷ B')
     → EachRow (λ old new. IsEliminated old new (entry_of p col) p col) A A' → EachRow (λ old new. IsEliminated old new (entry_of p col) p col) B B' → length p' ≡ length p
     → ((j : ℕ) → j < length p → entry_of p' j ≡ entry_of p j *ℤ den) → IsUnreduced (record { rows = L; den = den }) M row col
-IsUnreduced-from_rows L M A B A' B' p p' den row col e f n above below same own =
-    let many = count_of L A B p e in
+IsUnreduced-from_rows L M A B A' B' p p' den row col parted f above below same own =
+    let many = count_of L A B p parted.whole in
     let many' = count_of M A' B' p' f in
     let counts = above.0 in
     let rests = below.0 in
@@ -135,17 +147,17 @@ IsUnreduced-from_rows L M A B A' B' p p' den row col e f n above below same own 
       entries = λ i lt. elim (cases_lt i (length A)) [
         | inl before ↦
             subst (λ r. Right i r) (sym (row_at-above M A' B' p' i f (omega arith)))
-            (other_is t (row_at A i) (row_at A' i) p row col i (row_at-row L A B p row e n) (row_at-above L A B p i e before) (omega arith) (above.1 i before))
+            (other_is t (row_at A i) (row_at A' i) p row col i (row_at-row L A B p row parted) (row_at-above L A B p i parted.whole before) (omega arith) (above.1 i before))
         | inr after ↦ elim (cases_eq i (length A)) [
           | inl at ↦
-              subst (λ r. Right i r) (sym (row_at-row M A' B' p' i f (counts ∙ sym at)))
-              (own_is t p' p row col i (row_at-row L A B p row e n) (at ∙ n) same own)
+              subst (λ r. Right i r) (sym (row_at-row M A' B' p' i (record { whole = f; count = counts ∙ sym at })))
+              (own_is t p' p row col i (row_at-row L A B p row parted) (at ∙ parted.count) same own)
           | inr off ↦
               let k : ℕ = i - suc (length A) in
               let place : i ≡ length A + suc k = omega arith in
               let place' : i ≡ length A' + suc k = omega arith in
               subst (λ r. Right i r) (sym (ap (row_at M) place' ∙ row_at-below M A' B' p' k f))
-              (other_is t (row_at B k) (row_at B' k) p row col i (row_at-row L A B p row e n) (ap (row_at L) place ∙ row_at-below L A B p k e) (omega arith) (below.1 k (omega arith)))
+              (other_is t (row_at B k) (row_at B' k) p row col i (row_at-row L A B p row parted) (ap (row_at L) place ∙ row_at-below L A B p k parted.whole) (omega arith) (below.1 k (omega arith)))
         ]
       ];
     }

@@ -1,6 +1,6 @@
 -- Lemmas on one row of a table, and on the numbers that are formed of it.
-use Rattle.std.proofs.Common.{◌≡◌, ◌≢◌, ℕ, ◌+◌, ◌*◌, ◌/◌, ◌<◌, ◌≤◌, Bool, true, false, ℤ, pos, negsuc, ◌+ℤ◌, ◌-ℤ◌, ◌*ℤ◌, unsigned_abs, to_z, of_z, List, length, get_or, refl, sym, subst}
-use Rattle.std.proofs.Common.{ap, ◌∙◌, arith, below_more, get_or-set_same, get_or-set_other}
+use Rattle.std.proofs.Common.{◌≡◌, ◌≢◌, ℕ, ◌+◌, ◌*◌, ◌/◌, ◌<◌, ◌≤◌, Bool, true, false, ℤ, pos, negsuc, ◌-ℤ◌, ◌*ℤ◌, unsigned_abs, to_z, of_z, List, length, get_or, refl, sym, subst}
+use Rattle.std.proofs.Common.{ap, ap₂, ◌∙◌, arith, below_more, get_or-set_same, get_or-set_other}
 use Rattle.std.proofs.Math.ListN.{set}
 use Rattle.std.specs.Prelude.{FitsSigned}
 use Rattle.std.specs.Int.{w128, ◌∣◌}
@@ -9,6 +9,7 @@ use Rattle.std.proofs.lemmas.Int.{ints, to_z-of_z, fits_signed_from_abs}
 use Rattle.std.proofs.Math.Nat.{mul-div_cancel', mul_comm}
 use Rattle.fraction.specs.Fractions.{Fits, signed_of}
 use Rattle.fraction.proofs.Lowest.{signed_of-*ℤ}
+use Rattle.fraction.proofs.Passed.{to_z-of_z_fits}
 
 -- a number is stored at i: what held of each entry below i, and holds of the number, holds of each below i + 1
 pub set-holds_below_next : (P : ℕ → ℤ → Type 0) (xs : List ℤ) (i : ℕ) (v : ℤ) → i < length xs → ((k : ℕ) → k < i → P k (get_or xs k (pos 0))) → P i v → (k : ℕ) → k < i + 1
@@ -22,41 +23,25 @@ set-holds_below_next P xs i v lt below here =
 pub set-keeps_above : (old : ℕ → ℤ) (xs : List ℤ) (i : ℕ) (v : ℤ) → ((k : ℕ) → i ≤ k → get_or xs k (pos 0) ≡ old k) → (k : ℕ) → i + 1 ≤ k → get_or (set xs i v) k (pos 0) ≡ old k
 set-keeps_above old xs i v left k le = let ne : k ≢ i = omega arith in get_or-set_other xs i k v (pos 0) ne ∙ left k (omega arith)
 
--- a number that fits, as the code passes it
-pub to_z-of_z_fits : (z : ℤ) → Fits z → to_z w128 (of_z w128 z) ≡ z
-to_z-of_z_fits z fits = to_z-of_z w128 z (fits_signed_from_abs w128 z fits)
-
--- a number that is one that fits, as the code passes it
-pub to_z-of_z_equal : (z z' : ℤ) → z ≡ z' → Fits z' → to_z w128 (of_z w128 z) ≡ z'
-to_z-of_z_equal z z' e fits = ap (λ t. to_z w128 (of_z w128 t)) e ∙ to_z-of_z_fits z' fits
+-- an entry that was read, as the code passes it
+pub passed-entry : (z : ℤ) (r q : List ℤ) (j : ℕ) → FitsSigned w128 z → z ≡ get_or r j (pos 0) → r ≡ q → to_z w128 (of_z w128 z) ≡ get_or q j (pos 0)
+passed-entry z r q j fits e same = to_z-of_z w128 z fits ∙ e ∙ ap (λ x. get_or x j (pos 0)) same
 
 -- a product, as the code forms it
-pub to_z-of_z_product : (x y x' : ℤ) → FitsSigned w128 x → FitsSigned w128 y → x ≡ x' → Fits (x' *ℤ y) → to_z w128 (of_z w128 (to_z w128 (of_z w128 x) *ℤ to_z w128 (of_z w128 y))) ≡ x' *ℤ y
-to_z-of_z_product x y x' fits_x fits_y e fits =
-    ap (λ t. to_z w128 (of_z w128 (t *ℤ to_z w128 (of_z w128 y)))) (to_z-of_z w128 x fits_x ∙ e)
-    ∙ ap (λ t. to_z w128 (of_z w128 (x' *ℤ t))) (to_z-of_z w128 y fits_y)
-    ∙ to_z-of_z_fits (x' *ℤ y) fits
+pub to_z-of_z_product : (x y x' y' : ℤ) → FitsSigned w128 x → FitsSigned w128 y → x ≡ x' → y ≡ y' → Fits (x' *ℤ y') → to_z w128 (of_z w128 (to_z w128 (of_z w128 x) *ℤ to_z w128 (of_z w128 y))) ≡ x' *ℤ y'
+to_z-of_z_product x y x' y' fits_x fits_y ex ey fits =
+    ap (λ t. to_z w128 (of_z w128 t)) (ap₂ ◌*ℤ◌ (to_z-of_z w128 x fits_x ∙ ex) (to_z-of_z w128 y fits_y ∙ ey)) ∙ to_z-of_z_fits (x' *ℤ y') fits
 
-pub FitsSigned-product : (x y x' : ℤ) → FitsSigned w128 x → FitsSigned w128 y → x ≡ x' → Fits (x' *ℤ y) → FitsSigned w128 (to_z w128 (of_z w128 x) *ℤ to_z w128 (of_z w128 y))
-FitsSigned-product x y x' fits_x fits_y e fits =
-    subst (FitsSigned w128) (sym (ap (λ t. t *ℤ to_z w128 (of_z w128 y)) (to_z-of_z w128 x fits_x ∙ e) ∙ ap (λ t. x' *ℤ t) (to_z-of_z w128 y fits_y))) (fits_signed_from_abs w128 (x' *ℤ y) fits)
+pub FitsSigned-product : (x y x' y' : ℤ) → FitsSigned w128 x → FitsSigned w128 y → x ≡ x' → y ≡ y' → Fits (x' *ℤ y') → FitsSigned w128 (to_z w128 (of_z w128 x) *ℤ to_z w128 (of_z w128 y))
+FitsSigned-product x y x' y' fits_x fits_y ex ey fits =
+    subst (FitsSigned w128) (sym (ap₂ ◌*ℤ◌ (to_z-of_z w128 x fits_x ∙ ex) (to_z-of_z w128 y fits_y ∙ ey))) (fits_signed_from_abs w128 (x' *ℤ y') fits)
 
 -- a difference, as the code forms it
 pub to_z-of_z_difference : (a b a' b' : ℤ) → a ≡ a' → b ≡ b' → Fits (a' -ℤ b') → to_z w128 (of_z w128 (a -ℤ b)) ≡ a' -ℤ b'
-to_z-of_z_difference a b a' b' ea eb fits = ap (λ t. to_z w128 (of_z w128 (t -ℤ b))) ea ∙ ap (λ t. to_z w128 (of_z w128 (a' -ℤ t))) eb ∙ to_z-of_z_fits (a' -ℤ b') fits
+to_z-of_z_difference a b a' b' ea eb fits = ap (λ t. to_z w128 (of_z w128 t)) (ap₂ ◌-ℤ◌ ea eb) ∙ to_z-of_z_fits (a' -ℤ b') fits
 
 pub FitsSigned-difference : (a b a' b' : ℤ) → a ≡ a' → b ≡ b' → Fits (a' -ℤ b') → FitsSigned w128 (a -ℤ b)
-FitsSigned-difference a b a' b' ea eb fits = subst (FitsSigned w128) (sym (ap (λ t. t -ℤ b) ea ∙ ap (λ t. a' -ℤ t) eb)) (fits_signed_from_abs w128 (a' -ℤ b') fits)
-
--- what fits as the code passes it fits
-pub Fits-product : (x y x' y' : ℤ) → x' ≡ x → y' ≡ y → Fits (x' *ℤ y') → Fits (x *ℤ y)
-Fits-product x y x' y' ex ey fits = subst (λ t. Fits (t *ℤ y)) ex (subst (λ t. Fits (x' *ℤ t)) ey fits)
-
-pub Fits-sum : (x y x' y' : ℤ) → x' ≡ x → y' ≡ y → Fits (x' +ℤ y') → Fits (x +ℤ y)
-Fits-sum x y x' y' ex ey fits = subst (λ t. Fits (t +ℤ y)) ex (subst (λ t. Fits (x' +ℤ t)) ey fits)
-
-pub Fits-difference : (x y x' y' : ℤ) → x' ≡ x → y' ≡ y → Fits (x' -ℤ y') → Fits (x -ℤ y)
-Fits-difference x y x' y' ex ey fits = subst (λ t. Fits (t -ℤ y)) ex (subst (λ t. Fits (x' -ℤ t)) ey fits)
+FitsSigned-difference a b a' b' ea eb fits = subst (FitsSigned w128) (sym (ap₂ ◌-ℤ◌ ea eb)) (fits_signed_from_abs w128 (a' -ℤ b') fits)
 
 -- a number is its absolute value with its sign
 sign_of : (z : ℤ) → signed_of (le_z (pos 0) z) (unsigned_abs z) ≡ z

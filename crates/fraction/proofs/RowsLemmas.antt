@@ -7,8 +7,8 @@ use Rattle.std.proofs.lemmas.List.{with_items_is}
 use Rattle.std.specs.Vec.{with_items}
 use Rattle.fraction.specs.Rows.{lists_of, row_at}
 
--- the entries of a row that a loop wrote as a slice
-pub with_items-items : (v : Vec ℤ Global) (ws : List ℤ) (xs : List ℤ) → length ws ≡ length xs → xs ≡ v.items → (with_items v ws).items ≡ ws
+-- what is written to a vector as a slice
+pub with_items-items : {A : Type 0} (v : Vec A Global) (ws xs : List A) → length ws ≡ length xs → xs ≡ v.items → (with_items v ws).items ≡ ws
 with_items-items v ws xs e at = with_items_is v ws (e ∙ ap length at ∙ sym v.ok.0)
 
 -- a row is stored at i: what held of each row below i, and holds of the row, holds of each below i + 1
@@ -34,3 +34,12 @@ row_at-kept old rows i v left k le =
 pub row_at-was : (rows : List (Vec ℤ Global)) (old : List (List ℤ)) (i : ℕ) (item : Vec ℤ Global) (now : List ℤ) → i < length rows → now ≡ (get_or rows i item).items
     → ((k : ℕ) → i ≤ k → row_at (lists_of rows) k ≡ row_at old k) → now ≡ row_at old i
 row_at-was rows old i item now lt e left = e ∙ sym (get_or-map (λ row. row.items) rows i item [] lt) ∙ left i (omega arith)
+
+-- the row at i is written, as the relation has it
+pub row_at-written : (R : List ℤ → List ℤ → Type 0) (old : List (List ℤ)) (rows : List (Vec ℤ Global)) (i : ℕ) (item : Vec ℤ Global) (seen new : List ℤ) → i < length rows
+    → seen ≡ (get_or rows i item).items → ((k : ℕ) → i ≤ k → row_at (lists_of rows) k ≡ row_at old k) → ((k : ℕ) → k < i → R (row_at old k) (row_at (lists_of rows) k))
+    → length new ≡ length seen → R seen new → (k : ℕ) → k < i + 1 → R (row_at old k) (row_at (lists_of (set rows i (with_items (get_or rows i item) new))) k)
+row_at-written R old rows i item seen new lt at left done same is =
+    let now = with_items-items (get_or rows i item) new seen same at in
+    let was = row_at-was rows old i item seen lt at left in
+    row_at-stored (λ k r. R (row_at old k) r) rows i (with_items (get_or rows i item) new) lt done (subst (R (row_at old i)) (sym now) (subst (λ r. R r new) was is))

@@ -1,14 +1,15 @@
 -- Lemmas on sums of columns.
-use Rattle.std.proofs.Common.{◌≡◌, ℕ, ◌+◌, ◌<◌, ◌≤◌, ℤ, pos, ◌+ℤ◌, to_z, of_z, List, [], ◌∷◌, length, take, get_or, sym, refl, subst, ap, ◌∙◌, inl, inr, arith}
+use Rattle.std.proofs.Common.{◌≡◌, ℕ, ◌+◌, ◌<◌, ◌≤◌, ℤ, pos, ◌+ℤ◌, to_z, of_z, List, length, take, get_or, sym, refl, subst, ap, ◌∙◌, inl, inr, arith}
 use Rattle.std.specs.Prelude.{FitsSigned}
 use Rattle.std.specs.Int.{w128}
 use Rattle.std.proofs.lemmas.Bool.{cases_eq}
 use Rattle.std.proofs.lemmas.Int.{to_z-of_z}
+use Rattle.std.proofs.lemmas.List.{take_all}
 use Rattle.std.proofs.lemmas.List.Sums.{fold_more}
 use Rattle.fraction.specs.Fractions.{Fits}
 use Rattle.fraction.specs.Tables.{Table, IsTable, IsSummed, SumsFit, sum_in, row_of}
 use Rattle.fraction.specs.Rows.{row_at, entry_of, EachRow, IsSummedRow}
-use Rattle.fraction.proofs.RowLemmas.{to_z-of_z_equal}
+use Rattle.fraction.proofs.Passed.{passed-equal}
 
 -- a sum of one column more, as the code forms it
 pub sum_is : (r : List ℤ) (columns : List ℕ) (i : ℕ) (t x : ℤ) → i < length columns → t ≡ sum_in r (take i columns) → x ≡ entry_of r (get_or columns i 0) → FitsSigned w128 x
@@ -24,7 +25,7 @@ pub sum_in-step : (r : List ℤ) (columns : List ℕ) (i : ℕ) (t x t' : ℤ) �
 sum_in-step r columns i t x t' lt et ex fits_x formed =
     let e = sum_is r columns i t x lt et ex fits_x in
     let fits = subst Fits e formed.1 in
-    (to_z-of_z_equal t' _ (formed.0 ∙ e) fits, fits)
+    (passed-equal t' _ (formed.0 ∙ e, fits), fits)
 
 pub Fits-sum_in_step : (r : List ℤ) (columns : List ℕ) (i : ℕ) → ((k : ℕ) → k ≤ i → Fits (sum_in r (take k columns))) → Fits (sum_in r (take (i + 1) columns)) → (k : ℕ)
     → k ≤ i + 1 → Fits (sum_in r (take k columns))
@@ -33,10 +34,6 @@ Fits-sum_in_step r columns i below here k le =
       | inl at ↦ subst (λ n. Fits (sum_in r (take n columns))) (sym at) here
       | inr off ↦ below k (omega arith)
     ]
-
-all_taken : (xs : List ℕ) → take (length xs) xs ≡ xs
-all_taken [] = refl
-all_taken (x ∷ xs) = ap (λ t. x ∷ t) (all_taken xs)
 
 -- rows with their sums are a table with its sums
 pub IsSummed-from_rows : (t : Table) (M : List (List ℤ)) (columns : List ℕ) (into : ℕ) → EachRow (IsSummedRow columns into) t.rows M → IsSummed t (record { rows = M; den = t.den }) columns into
@@ -64,6 +61,6 @@ IsTable-summed t M columns into table fits is =
     entry : (i j : ℕ) → i < length t.rows → j < length (row_of t i) → Fits (entry_of (row_at M i) j)
     entry i j lt within =
         elim (cases_eq j into) [
-          | inl at ↦ subst Fits (sym (ap (entry_of (row_at M i)) at ∙ (is.1 i lt).1)) (subst (λ cs. Fits (sum_in (row_of t i) cs)) (all_taken columns) (fits i lt (length columns) (omega arith)))
+          | inl at ↦ subst Fits (sym (ap (entry_of (row_at M i)) at ∙ (is.1 i lt).1)) (subst (λ cs. Fits (sum_in (row_of t i) cs)) (take_all (length columns) columns (omega arith)) (fits i lt (length columns) (omega arith)))
           | inr off ↦ subst Fits (sym ((is.1 i lt).2 j off)) (table.entries_fit i j (lt, within))
         ]

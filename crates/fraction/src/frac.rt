@@ -1,7 +1,7 @@
 //! Fractions.
 ghost use Rattle.std.specs.Prelude.{◌≡◌, ◌≢◌, ◌↔◌, pos, ◌+ℤ◌, ◌-ℤ◌, ◌*ℤ◌, IsOk, IfOk, IfErr};
 ghost use Rattle.std.specs.Ordering.{int_cmp};
-ghost use Rattle.fraction.specs.Fractions.{IsRatio, IsReduced, Fits, SumFits, DifferenceFits, ProductFits, QuotientFits, ComparisonFits};
+ghost use Rattle.fraction.specs.Fractions.{Checks, IsRatio, IsReduced, Fits, SumFits, DifferenceFits, ProductFits, QuotientFits, ComparisonFits};
 
 use crate::checked::{difference, fitting, product, sum};
 use crate::fault::FracFault;
@@ -47,6 +47,24 @@ pub(crate) fn reduced(num: i128, den: i128) -> Frac
     }
 }
 
+/// Returns `a * d`, of the fractions `a/b` and `c/d`.
+fn cross_product(left: Frac, right: Frac) -> Result<i128, FracFault>
+    ensures { Checks (left.num *ℤ right.den) result }
+{
+    product(left.num, right.den)
+}
+
+/// Returns a number over the product of two denominators, in lowest terms.
+fn over_product(num: i128, left: Frac, right: Frac) -> Result<Frac, FracFault>
+    requires { Fits num }
+    ensures value { IfOk result (IsRatio num (left.den *ℤ right.den)) }
+    ensures reduced { IfOk result IsReduced }
+    ensures fits { IsOk result ↔ Fits (left.den *ℤ right.den) }
+    ensures overflow { IfErr result (λ e. e ≡ FracFault.Overflow) }
+{
+    Ok(reduced(num, product(left.den, right.den)?))
+}
+
 impl Frac {
     /// Returns the fraction `num / den`. Fails with `ZeroDivisor` if the denominator is 0, and
     /// otherwise with `Overflow` if either number is -2^127.
@@ -87,8 +105,8 @@ impl Frac {
         ensures fits { IsOk result ↔ SumFits self other }
         ensures overflow { IfErr result (λ e. e ≡ FracFault.Overflow) }
     {
-        let num = sum(product(self.num, other.den)?, product(other.num, self.den)?)?;
-        Ok(reduced(num, product(self.den, other.den)?))
+        let num = sum(cross_product(self, other)?, cross_product(other, self)?)?;
+        over_product(num, self, other)
     }
 
     /// Returns the difference of `a/b` and `c/d`. Fails with `Overflow` if and only if `a * d`,
@@ -100,8 +118,8 @@ impl Frac {
         ensures fits { IsOk result ↔ DifferenceFits self other }
         ensures overflow { IfErr result (λ e. e ≡ FracFault.Overflow) }
     {
-        let num = difference(product(self.num, other.den)?, product(other.num, self.den)?)?;
-        Ok(reduced(num, product(self.den, other.den)?))
+        let num = difference(cross_product(self, other)?, cross_product(other, self)?)?;
+        over_product(num, self, other)
     }
 
     /// Returns the product of `a/b` and `c/d`. Fails with `Overflow` if and only if `a * c` or
@@ -113,7 +131,7 @@ impl Frac {
         ensures overflow { IfErr result (λ e. e ≡ FracFault.Overflow) }
     {
         let num = product(self.num, other.num)?;
-        Ok(reduced(num, product(self.den, other.den)?))
+        over_product(num, self, other)
     }
 
     /// Returns the quotient of `a/b` by `c/d`. Fails with `ZeroDivisor` if `c` is 0, and otherwise
@@ -138,8 +156,8 @@ impl Frac {
         ensures fits { IsOk result ↔ ComparisonFits self other }
         ensures overflow { IfErr result (λ e. e ≡ FracFault.Overflow) }
     {
-        let left = product(self.num, other.den)?;
-        let right = product(other.num, self.den)?;
+        let left = cross_product(self, other)?;
+        let right = cross_product(other, self)?;
         Ok(left.cmp(&right))
     }
 }

@@ -2,11 +2,12 @@ use Rattle.std.proofs.Common.{◌≡◌, ◌≢◌, ℕ, ◌/◌, ◌<◌, ◌�
 use Rattle.std.specs.Int.{IsGcd, w128}
 use Rattle.std.specs.Int.Signed.{lt_z}
 use Rattle.std.specs.Bool.{beq}
-use Rattle.std.proofs.lemmas.Int.{to_z-of_z, to_z_pos, fits_signed_from_abs}
+use Rattle.std.proofs.lemmas.Int.{to_z-of_z, to_z_pos}
 use Rattle.std.proofs.Math.Nat.{div-le_self}
 use Rattle.divisor.proofs.GcdLemmas.{IsGcd-some}
 use Rattle.fraction.specs.Fractions.{Fits, signed_of}
 use Rattle.fraction.proofs.Lowest.{IsDivided, IsRatio-divided, IsReduced-divided, unsigned_abs-some}
+use Rattle.fraction.proofs.Passed.{to_z-of_z_fits}
 use Rattle.fraction.proofs.frac.reduced.Goals as goal
 
 -- what the calls answered, where the numbers are seen as the code passes them
@@ -21,17 +22,13 @@ IsDivided-passed num den num' den' n n' d' top bottom g num_is den_is n_is den_f
       den_is = (cc);
     }
 
--- the numbers as the code passes them
-as_passed : (z : ℤ) → Fits z → to_z w128 (of_z w128 z) ≡ z
-as_passed z fits = to_z-of_z w128 z (fits_signed_from_abs w128 z fits)
-
 lt-from_le : (a b c : ℕ) → a ≤ b → b < c → a < c
 lt-from_le a b c h k = omega arith
 
 is_divided : (c : goal.After-quotient-2) → IsDivided c.args.num c.args.den c.wide_gcd-common.result (record { num = to_z w128 (of_z w128 c.signed.result); den = to_z w128 c.quotient-2.result })
 is_divided c =
-    let num_is = as_passed c.args.num c.requires.num_fits in
-    let den_is = as_passed c.args.den c.requires.den_fits in
+    let num_is = to_z-of_z_fits c.args.num c.requires.num_fits in
+    let den_is = to_z-of_z_fits c.args.den c.requires.den_fits in
     let bottom_is : c.unsigned_abs-bottom.result ≡ unsigned_abs c.args.den = c.unsigned_abs-bottom.ensures.value ∙ ap (λ z. unsigned_abs z) den_is in
     let bottom_fits : c.unsigned_abs-bottom.result < 2 ^ 127 = subst (λ n. n < 2 ^ 127) (sym bottom_is) c.requires.den_fits in
     let top_is : c.quotient.result ≡ c.unsigned_abs-top.result / c.wide_gcd-common.result = c.quotient.ensures in
@@ -50,10 +47,10 @@ IsGcd-nonzero den den' top bottom g den_is ne bottom_is gcd none =
     omega arith
 
 pub quotient-requires : goal.quotient-requires
-quotient-requires c = IsGcd-nonzero c.args.den _ _ _ _ (as_passed c.args.den c.requires.den_fits) c.requires.divisor c.unsigned_abs-bottom.ensures.value c.wide_gcd-common.ensures
+quotient-requires c = IsGcd-nonzero c.args.den _ _ _ _ (to_z-of_z_fits c.args.den c.requires.den_fits) c.requires.divisor c.unsigned_abs-bottom.ensures.value c.wide_gcd-common.ensures
 
 pub quotient-requires-2 : goal.quotient-requires-2
-quotient-requires-2 c = IsGcd-nonzero c.args.den _ _ _ _ (as_passed c.args.den c.requires.den_fits) c.requires.divisor c.unsigned_abs-bottom.ensures.value c.wide_gcd-common.ensures
+quotient-requires-2 c = IsGcd-nonzero c.args.den _ _ _ _ (to_z-of_z_fits c.args.den c.requires.den_fits) c.requires.divisor c.unsigned_abs-bottom.ensures.value c.wide_gcd-common.ensures
 
 pub invariant_of-result : goal.invariant_of-result
 invariant_of-result c = IsReduced-divided _ _ _ _ (is_divided c) c.requires.divisor c.requires.num_fits c.requires.den_fits

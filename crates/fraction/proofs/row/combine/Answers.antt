@@ -13,7 +13,7 @@ overflow_sub-entry c =
     let other : FitsSigned w128 (get_or c.args.pivot_row.now j (pos 0)) = search rules in
     let was = c.loop-j.invariant.left j (omega arith) in
     let fits = c.requires.fits j (omega arith) in
-    FitsSigned-difference _ _ _ _ (to_z-of_z_product _ _ _ at c.ranges.scale was fits.0) (to_z-of_z_product _ _ _ c.ranges.taken other refl fits.1) fits.2
+    FitsSigned-difference _ _ _ _ (to_z-of_z_product _ _ _ _ at c.ranges.scale was refl fits.0) (to_z-of_z_product _ _ _ _ c.ranges.taken other refl refl fits.1) fits.2
 
 pub loop-j-preserved : goal.loop-j-preserved
 loop-j-preserved c =
@@ -27,7 +27,7 @@ loop-j-preserved c =
     ∙ ap (λ t. combine_entry c.args.row.now c.args.scale c.args.pivot_row.now t j) (to_z-of_z w128 c.args.taken c.ranges.taken)) in
     record {
       done = set-holds_below_next (λ k v. v ≡ combine_entry c.args.row.now (to_z w128 (of_z w128 c.args.scale)) c.args.pivot_row.now (to_z w128 (of_z w128 c.args.taken)) k) _ _ _ lt c.loop-j.invariant.done
-          (to_z-of_z_difference _ _ _ _ (to_z-of_z_product _ _ _ at c.ranges.scale was fits.0) (to_z-of_z_product _ _ _ c.ranges.taken other refl fits.1) fits.2 ∙ back);
+          (to_z-of_z_difference _ _ _ _ (to_z-of_z_product _ _ _ _ at c.ranges.scale was refl fits.0) (to_z-of_z_product _ _ _ _ c.ranges.taken other refl refl fits.1) fits.2 ∙ back);
       left = set-keeps_above _ _ _ _ c.loop-j.invariant.left;
     }
 
@@ -36,7 +36,7 @@ overflow_mul-entry c =
     let j : ℕ = c.loop-j.j in
     let at : FitsSigned w128 (get_or c.loop-j.row j (pos 0)) = search rules in
     let fits = c.requires.fits j (omega arith) in
-    FitsSigned-product _ _ _ at c.ranges.scale (c.loop-j.invariant.left j (omega arith)) fits.0
+    FitsSigned-product _ _ _ _ at c.ranges.scale (c.loop-j.invariant.left j (omega arith)) refl fits.0
 
 pub returns : goal.returns
 returns c = λ j lt.

@@ -1,4 +1,4 @@
-use Rattle.std.proofs.Common.{rules, ◌≡◌, ℕ, ◌<◌, pos, ◌*ℤ◌, to_z, of_z, length, get_or, sym, ap, ◌∙◌, arith}
+use Rattle.std.proofs.Common.{rules, ◌≡◌, ℕ, ◌<◌, pos, ◌*ℤ◌, to_z, of_z, length, get_or, sym, ap, ◌∙◌, refl, arith}
 use Rattle.std.specs.Prelude.{FitsSigned}
 use Rattle.std.specs.Int.{w128}
 use Rattle.std.proofs.lemmas.Int.{to_z-of_z}
@@ -15,6 +15,6 @@ loop-entry-preserved c =
     let back = sym (ap (λ t. get_or c.args.row.now i (pos 0) *ℤ t) (to_z-of_z w128 c.args.factor c.ranges.factor)) in
     record {
       done = set-holds_below_next (λ k v. v ≡ get_or c.args.row.now k (pos 0) *ℤ to_z w128 (of_z w128 c.args.factor)) _ _ _ lt c.loop-entry.invariant.done
-          (to_z-of_z_product _ _ _ at c.ranges.factor was fits ∙ back);
+          (to_z-of_z_product _ _ _ _ at c.ranges.factor was refl fits ∙ back);
       left = set-keeps_above _ _ _ _ c.loop-entry.invariant.left;
     }

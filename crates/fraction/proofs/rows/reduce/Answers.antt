@@ -1,7 +1,7 @@
 use Rattle.std.proofs.Common.{◌≡◌, ◌≢◌, ℕ, ◌/◌, ◌<◌, pos, unsigned_abs, ap, ◌∙◌, arith}
 use Rattle.std.specs.Int.{w128}
 use Rattle.std.proofs.lemmas.Int.{to_z-of_z}
-use Rattle.fraction.proofs.RowLemmas.{to_z-of_z_fits}
+use Rattle.fraction.proofs.Passed.{to_z-of_z_fits}
 use Rattle.fraction.proofs.PivotLemmas.{divisor-some, IsLowest-divided}
 use Rattle.fraction.proofs.rows.reduce.Goals as goal
 

@@ -1,12 +1,12 @@
-use Rattle.std.proofs.Common.{◌≡◌, ◌<◌, ◌≤◌, ◌^◌, ◌↔◌, ◌*ℤ◌, to_z, of_z, unsigned_abs, length, sym, subst, ap, ◌∙◌, refl, arith, IsOk}
+use Rattle.std.proofs.Common.{◌<◌, ◌≤◌, ◌^◌, ◌↔◌, ◌*ℤ◌, to_z, of_z, unsigned_abs, length, sym, subst, refl, arith, IsOk}
 use Rattle.std.specs.Int.{w128}
 use Rattle.std.proofs.lemmas.Int.{to_z-of_z}
 use Rattle.std.proofs.lemmas.List.{length-map}
 use Rattle.std.proofs.lemmas.Bool.{false≢true}
 use Rattle.fraction.specs.Fractions.{Fits}
 use Rattle.fraction.specs.Rows.{lists_of, row_at, entry_of, EachFits, OthersFit}
-use Rattle.fraction.proofs.Passed.{product-unfit, IsOk-iff_unmet}
-use Rattle.fraction.proofs.RowLemmas.{Fits-product}
+use Rattle.fraction.proofs.Passed.{Fits-formed, formed-unfit, IsOk-iff_unmet}
+use Rattle.fraction.proofs.RowLemmas.{passed-entry}
 use Rattle.fraction.proofs.PivotLemmas.{PivotFits-from_parts, OthersFit-PivotFits}
 use Rattle.fraction.proofs.SmallLemmas.{PivotFits-small}
 use Rattle.fraction.proofs.rows.test_pivot.Goals as goal
@@ -30,10 +30,8 @@ returns-in_err-test_scale-clause-fits c =
 pub returns-clause-fits : goal.returns-clause-fits
 returns-clause-fits c =
     let L = lists_of c.args.rows.now in
-    let entry_is : c.entry-entry.result ≡ entry_of (row_at L c.args.row) c.args.column = c.entry-entry.ensures ∙ ap (λ r. entry_of r c.args.column) c.row_of-pivot_row.ensures in
-    let passed : to_z w128 (of_z w128 c.entry-entry.result) ≡ entry_of (row_at L c.args.row) c.args.column = to_z-of_z w128 c.entry-entry.result (record { sfits = c.entry-entry.type_inv })
-    ∙ entry_is in
-    let at : Fits (c.args.den *ℤ entry_of (row_at L c.args.row) c.args.column) = Fits-product _ _ _ _ (to_z-of_z w128 c.args.den c.ranges.den) passed c.in_ok-product.ensures.1 in
+    let passed = passed-entry c.entry-entry.result _ _ c.args.column (record { sfits = c.entry-entry.type_inv }) c.entry-entry.ensures c.row_of-pivot_row.ensures in
+    let at : Fits (c.args.den *ℤ entry_of (row_at L c.args.row) c.args.column) = Fits-formed ◌*ℤ◌ _ _ _ _ (to_z-of_z w128 c.args.den c.ranges.den) passed c.in_ok-product.ensures.1 in
     let own : EachFits (row_at L c.args.row) c.args.den = subst (λ d. EachFits (row_at L c.args.row) d) (to_z-of_z w128 c.args.den c.ranges.den)
     (subst (λ r. EachFits r (to_z w128 (of_z w128 c.args.den))) c.row_of-pivot_row.ensures (c.in_ok-test_scale.ensures.fits.0 refl)) in
     let others = subst (λ s. IsOk c.test_others.result ↔ OthersFit L s c.args.row c.args.column) passed c.test_others.ensures.fits in
@@ -41,6 +39,5 @@ returns-clause-fits c =
 
 pub returns-in_err-product-clause-fits : goal.returns-in_err-product-clause-fits
 returns-in_err-product-clause-fits c =
-    let entry_is : c.entry-entry.result ≡ entry_of (row_at (lists_of c.args.rows.now) c.args.row) c.args.column = c.entry-entry.ensures ∙ ap (λ r. entry_of r c.args.column) c.row_of-pivot_row.ensures in
-    let passed = to_z-of_z w128 c.entry-entry.result (record { sfits = c.entry-entry.type_inv }) ∙ entry_is in
-    IsOk-iff_unmet _ _ c.from_residual.ensures.0 (λ fits. product-unfit _ _ _ _ (to_z-of_z w128 c.args.den c.ranges.den) passed c.in_err-product.ensures.1 fits.den)
+    let passed = passed-entry c.entry-entry.result _ _ c.args.column (record { sfits = c.entry-entry.type_inv }) c.entry-entry.ensures c.row_of-pivot_row.ensures in
+    IsOk-iff_unmet _ _ c.from_residual.ensures.0 (λ fits. formed-unfit ◌*ℤ◌ _ _ _ _ (to_z-of_z w128 c.args.den c.ranges.den) passed c.in_err-product.ensures.1 fits.den)

@@ -1,70 +1,19 @@
-use Rattle.std.proofs.Common.{refl}
-use Rattle.fraction.proofs.Lowest.{positive-some}
-use Rattle.fraction.proofs.Passed.{to_z-of_z_equal, passed-sum, passed-fits, passed-num, passed-den, passed-product, passed_product-some, IsRatio-passed, product-unfit, sum-unfit, IsOk-iff_unmet}
-use Rattle.fraction.proofs.RowLemmas.{Fits-product, Fits-sum}
+use Rattle.std.proofs.Common.{◌+ℤ◌, ◌*ℤ◌, IfOk, subst}
+use Rattle.fraction.specs.Fractions.{IsRatio}
+use Rattle.fraction.proofs.Passed.{passed-equal, passed-formed, Fits-formed, formed-unfit, IsOk-iff_unmet}
 use Rattle.fraction.proofs.frac.Frac.add.Goals as goal
-
-pub returns-in_err-product-2-clause-fits : goal.returns-in_err-product-2-clause-fits
-returns-in_err-product-2-clause-fits c =
-    let num = passed-num _ _ _ c.other.invariant c.other.view_is in
-    let den = passed-den _ _ _ c.self.invariant c.self.view_is in
-    IsOk-iff_unmet _ _ c.from_residual-in_err-product-2.ensures.0 (λ fits. product-unfit _ _ _ _ num den c.in_err-product-2.ensures.1 fits.1)
 
 pub returns-in_err-num-clause-fits : goal.returns-in_err-num-clause-fits
 returns-in_err-num-clause-fits c =
-    let left = passed-product _ _ _ _ _
-    (passed-num _ _ _ c.self.invariant c.self.view_is) (passed-den _ _ _ c.other.invariant c.other.view_is) c.in_ok-product.ensures in
-    let right = passed-product _ _ _ _ _
-    (passed-num _ _ _ c.other.invariant c.other.view_is) (passed-den _ _ _ c.self.invariant c.self.view_is) c.in_ok-product-2.ensures in
-    IsOk-iff_unmet _ _ c.from_residual-in_err-num.ensures.0 (λ fits. sum-unfit _ _ _ _ left right c.in_err-num.ensures.1 fits.3)
-
-pub returns-in_err-product-3-clause-fits : goal.returns-in_err-product-3-clause-fits
-returns-in_err-product-3-clause-fits c =
-    let own = passed-den _ _ _ c.self.invariant c.self.view_is in
-    let other = passed-den _ _ _ c.other.invariant c.other.view_is in
-    IsOk-iff_unmet _ _ c.from_residual-in_err-product-3.ensures.0 (λ fits. product-unfit _ _ _ _ own other c.in_err-product-3.ensures.1 fits.2)
-
-pub reduced-requires-clause-divisor : goal.reduced-requires-clause-divisor
-reduced-requires-clause-divisor c =
-    passed_product-some _ _ _ _ _ (to_z-of_z_equal _ _ c.self.invariant.den_fits refl) (to_z-of_z_equal _ _ c.other.invariant.den_fits refl) c.in_ok-product-3.ensures
-    (positive-some _ c.self.invariant.positive) (positive-some _ c.other.invariant.positive)
-
-pub returns-in_err-product-clause-fits : goal.returns-in_err-product-clause-fits
-returns-in_err-product-clause-fits c =
-    let num = passed-num _ _ _ c.self.invariant c.self.view_is in
-    let den = passed-den _ _ _ c.other.invariant c.other.view_is in
-    IsOk-iff_unmet _ _ c.from_residual.ensures.0 (λ fits. product-unfit _ _ _ _ num den c.in_err-product.ensures.1 fits.0)
-
-pub reduced-requires-clause-num_fits : goal.reduced-requires-clause-num_fits
-reduced-requires-clause-num_fits c = passed-fits _ _ c.in_ok-num.ensures
-
-pub reduced-requires-clause-den_fits : goal.reduced-requires-clause-den_fits
-reduced-requires-clause-den_fits c = passed-fits _ _ c.in_ok-product-3.ensures
+    IsOk-iff_unmet _ _ c.from_residual-in_err-num.ensures.0
+    (λ fits. formed-unfit ◌+ℤ◌ _ _ _ _ (passed-equal _ _ c.in_ok-cross_product.ensures) (passed-equal _ _ c.in_ok-cross_product-2.ensures) c.in_err-num.ensures.1 fits.3)
 
 pub returns-clause-value : goal.returns-clause-value
 returns-clause-value c =
-    let left = passed-product _ _ _ _ _
-    (passed-num _ _ _ c.self.invariant c.self.view_is) (passed-den _ _ _ c.other.invariant c.other.view_is) c.in_ok-product.ensures in
-    let right = passed-product _ _ _ _ _
-    (passed-num _ _ _ c.other.invariant c.other.view_is) (passed-den _ _ _ c.self.invariant c.self.view_is) c.in_ok-product-2.ensures in
-    let den = passed-product _ _ _ _ _
-    (passed-den _ _ _ c.self.invariant c.self.view_is) (passed-den _ _ _ c.other.invariant c.other.view_is) c.in_ok-product-3.ensures in
-    let num = passed-sum _ _ _ _ _ left right c.in_ok-num.ensures in
-    IsRatio-passed _ _ _ _ c.reduced.result num den c.reduced.ensures.value
+    subst (λ z. IfOk c.over_product.result (IsRatio z (c.args.self.den *ℤ c.args.other.den)))
+    (passed-formed ◌+ℤ◌ _ _ _ _ _ (passed-equal _ _ c.in_ok-cross_product.ensures) (passed-equal _ _ c.in_ok-cross_product-2.ensures) c.in_ok-num.ensures) c.over_product.ensures.value
 
 pub returns-clause-fits : goal.returns-clause-fits
 returns-clause-fits c =
-    let own = passed-num _ _ _ c.self.invariant c.self.view_is in
-    let own_den = passed-den _ _ _ c.self.invariant c.self.view_is in
-    let other = passed-num _ _ _ c.other.invariant c.other.view_is in
-    let other_den = passed-den _ _ _ c.other.invariant c.other.view_is in
-    let left = passed-product _ _ _ _ _ own other_den c.in_ok-product.ensures in
-    let right = passed-product _ _ _ _ _ other own_den c.in_ok-product-2.ensures in (
-      λ ok. (
-        Fits-product _ _ _ _ own other_den c.in_ok-product.ensures.1,
-        Fits-product _ _ _ _ other own_den c.in_ok-product-2.ensures.1,
-        Fits-product _ _ _ _ own_den other_den c.in_ok-product-3.ensures.1,
-        Fits-sum _ _ _ _ left right c.in_ok-num.ensures.1,
-      ),
-      λ met. refl,
-    )
+    let num = Fits-formed ◌+ℤ◌ _ _ _ _ (passed-equal _ _ c.in_ok-cross_product.ensures) (passed-equal _ _ c.in_ok-cross_product-2.ensures) c.in_ok-num.ensures.1 in
+    (λ ok. (c.in_ok-cross_product.ensures.1, c.in_ok-cross_product-2.ensures.1, c.over_product.ensures.fits.0 ok, num), λ fits. c.over_product.ensures.fits.1 fits.2)

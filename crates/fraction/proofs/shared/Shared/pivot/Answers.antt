@@ -1,17 +1,16 @@
-use Rattle.std.proofs.Common.{rules, ◌≡◌, ℤ, to_z, of_z, length, List, Vec, sym, subst, ap, ◌∙◌}
+use Rattle.std.proofs.Common.{rules, ◌≡◌, ℤ, to_z, of_z, List, Vec, sym, subst, ap, ◌∙◌}
 use Rattle.std.specs.declared.alloc.Global.{Global}
 use Rattle.std.specs.Int.{w128}
 use Rattle.std.proofs.lemmas.Int.{to_z-of_z}
-use Rattle.std.proofs.lemmas.List.{with_items_is}
 use Rattle.fraction.specs.Tables.{Table, IsTable, IsPivoted}
 use Rattle.fraction.specs.Rows.{lists_of}
+use Rattle.fraction.proofs.RowsLemmas.{with_items-items}
 use Rattle.fraction.proofs.shared.Shared.pivot.Goals as goal
 
 pub invariant_of-self : goal.invariant_of-self
 invariant_of-self c =
     let new : List (Vec ℤ Global) = c.solve-self-inside.new.rows in
-    let same : length new ≡ length c.deref_mut.result.now = c.solve-self-inside.auto.rows in
-    let rows_are = ap lists_of (with_items_is c.self.inside.rows new (same ∙ ap length c.deref_mut.ensures.value ∙ sym c.self.inside.rows.ok.0)) in
+    let rows_are = ap lists_of (with_items-items c.self.inside.rows new _ c.solve-self-inside.auto.rows c.deref_mut.ensures.value) in
     let den_is = to_z-of_z w128 c.solve-self-inside.result (record { sfits = c.solve-self-inside.type_inv }) in
     subst (λ rs. IsTable (record { rows = rs; den = to_z w128 (of_z w128 c.solve-self-inside.result) })) (sym rows_are)
     (subst (λ d. IsTable (record { rows = lists_of new; den = d })) (sym den_is) c.solve-self-inside.ensures.table)
@@ -19,8 +18,7 @@ invariant_of-self c =
 pub returns-clause-value : goal.returns-clause-value
 returns-clause-value c =
     let new : List (Vec ℤ Global) = c.solve-self-inside.new.rows in
-    let same : length new ≡ length c.deref_mut.result.now = c.solve-self-inside.auto.rows in
-    let rows_are = ap lists_of (with_items_is c.self.inside.rows new (same ∙ ap length c.deref_mut.ensures.value ∙ sym c.self.inside.rows.ok.0)) in
+    let rows_are = ap lists_of (with_items-items c.self.inside.rows new _ c.solve-self-inside.auto.rows c.deref_mut.ensures.value) in
     let den_is = to_z-of_z w128 c.solve-self-inside.result (record { sfits = c.solve-self-inside.type_inv }) in
     let old : record { rows = lists_of c.deref_mut.result.now; den = to_z w128 (of_z w128 c.self.inside.den) } ≡ c.args.self.now =
     ap (λ rs. record { rows = lists_of rs; den = to_z w128 (of_z w128 c.self.inside.den) }) c.deref_mut.ensures.value
