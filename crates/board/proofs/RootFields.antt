@@ -1,5 +1,5 @@
 -- The root's fields and its seat, as seats are given and taken back.
-use Rattle.std.proofs.Common.{◌≡◌, ◌≢◌, ℕ, zero, suc, ◌+◌, ◌<◌, ◌≤◌, Bool, true, false, true≢false, map, List, [], ◌∷◌, ◌++◌, length, nat_lt, set, get_or, replicate, refl, sym, ap, ◌∙◌, arith}
+use Rattle.std.proofs.Common.{◌≡◌, ◌≢◌, ℕ, zero, suc, ◌+◌, ◌<◌, ◌≤◌, Bool, true, false, map, List, [], ◌∷◌, ◌++◌, length, nat_lt, set, get_or, replicate, refl, sym, ap, ◌∙◌, arith}
 use Rattle.std.specs.List.{sum_by}
 use Rattle.std.proofs.lemmas.List.Sums.{sum_by-cons}
 use Rattle.std.proofs.lemmas.List.{length-replicate, get_or-replicate}
@@ -8,18 +8,6 @@ use Rattle.std.proofs.lemmas.Bool.Decides.{nat_tests}
 use Rattle.board.specs.declared.table.View.{View}
 use Rattle.board.specs.Roots.{weight, IsRoot, passes_of}
 use Rattle.board.specs.Views.{root_view, with_client}
-
--- one flag fewer
-flags_set : (l : List Bool) (v : ℕ) → get_or l v false ≡ true → sum_by weight (set l v false) + 1 ≡ sum_by weight l
-flags_set [] v e = absurd (true≢false (sym e))
-flags_set (x ∷ xs) zero e = let one : weight x ≡ 1 = ap weight e in omega (arith, sum_by-cons weight x xs, sum_by-cons weight false xs)
-flags_set (x ∷ xs) (suc v) e = omega (arith, flags_set xs v e, sum_by-cons weight x xs, sum_by-cons weight x (set xs v false))
-
-pub some_voter : (u : View) (count : ℕ) (fv fc : List Bool) (kept : List (ℕ × ℕ)) (v : ℕ) → IsRoot u count fv fc kept → get_or fv v false ≡ true → 1 < u.parts
-some_voter u count fv fc kept v r free = omega (arith, r.parts, r.enough, flags_set fv v free)
-
-pub some_client : (u : View) (count : ℕ) (fv fc : List Bool) (kept : List (ℕ × ℕ)) (v : ℕ) → IsRoot u count fv fc kept → get_or fc v false ≡ true → 1 < u.parts
-some_client u count fv fc kept v r free = omega (arith, r.parts, r.enough, flags_set fc v free)
 
 pub IsRoot-with_client : (u : View) (count : ℕ) (fv fc : List Bool) (kept : List (ℕ × ℕ)) (w : View) (more : List (ℕ × ℕ)) → IsRoot u count fv fc kept → w.parts ≡ 1
     → w.passes ≡ map (λ p. p.1) more → IsRoot (with_client u w) (count + 1) fv fc (kept ++ more)

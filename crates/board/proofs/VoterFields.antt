@@ -3,7 +3,7 @@ use Rattle.std.proofs.Common.{◌≡◌, ℕ, ◌+◌, ◌^◌, ◌<◌, List, [
 use Rattle.std.specs.Prelude.{slice_index, Option}
 use Rattle.std.proofs.lemmas.List.{set-set, length-replicate}
 use Rattle.board.specs.declared.vote.Vote.{Vote}
-use Rattle.board.specs.declared.vote.Vote.TheVariants.{Free, Offered, Held, Returned}
+use Rattle.board.specs.declared.vote.Vote.TheVariants.{Offered, Returned}
 use Rattle.board.specs.Moves.{Mine}
 use Rattle.board.specs.Roots.{IsCurrent}
 use Rattle.board.specs.Words.{nobody, IsSettledFrom}
@@ -26,7 +26,6 @@ set-voter_view m n v k current next e step same =
 -- a grant in one of the states from which a voter settles has ended
 pub set-settled_view : (m n : Mine) (v : ℕ) (vote : Vote) → IsSettledFrom vote (λ current. (m ≡ (voter_view v (Some current), [])) × IsCurrent (Some current) (2 ^ 40))
     → n ≡ (record m.0 { voters = set m.0.voters v 1 }, m.1) → n ≡ (voter_view v None, [])
-set-settled_view m n v Free known step = absurd known
-set-settled_view m n v (Held client grant) known step = absurd known
 set-settled_view m n v (Offered client grant) known step = set-voter_view m n v 1 (Some (client, grant)) None known.0 step refl
 set-settled_view m n v (Returned client grant) known step = set-voter_view m n v 1 (Some (client, grant)) None known.0 step refl
+set-settled_view m n v vote known step = absurd known

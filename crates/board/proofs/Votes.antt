@@ -17,7 +17,7 @@ use Rattle.board.specs.declared.table.View.{View}
 use Rattle.board.specs.Seats.{Setting}
 use Rattle.board.specs.Quorums.{quorum_at, HoldsAll}
 use Rattle.board.specs.declared.vote.Vote.{Vote}
-use Rattle.board.specs.declared.vote.Vote.TheVariants.{Free, Offered, Held, Returned}
+use Rattle.board.specs.declared.vote.Vote.TheVariants.{Offered, Returned}
 use Rattle.board.specs.Words.{name_of, offered_word, taken_word, returned_word, word_of, IsSettledFrom, is}
 use Rattle.board.specs.Roots.{IsCurrent}
 use Rattle.board.specs.Views.{voter_view}
@@ -198,8 +198,6 @@ pub Settled-allowed_by_vote : (sheet : Setting) (slots id : ℕ) (me : Mine) (v 
     → IsSettledFrom vote (λ current. (me ≡ (voter_view v (Some current), [])) × IsCurrent (Some current) (2 ^ 40))
     → old ≡ word_of vote → new ≡ 0
     → Allows (Kept sheet) slots id me v (λ n. either (eqb n old) new n) (Settled (step slots v old new none) me)
-Settled-allowed_by_vote sheet slots id me v Free old new inside few known is_old is_new = absurd known
-Settled-allowed_by_vote sheet slots id me v (Held client grant) old new inside few known is_old is_new = absurd known
 Settled-allowed_by_vote sheet slots id me v (Offered client grant) old new inside few known is_old is_new =
     subst (λ (k : ℕ). Allows (Kept sheet) slots id me v (λ n. either (eqb n old) k n) (Settled (step slots v old k none) me)) (sym is_new)
     (Settled-allowed sheet slots id me v (name_of client grant) old inside (omega arith) (length-voter_view me v (Some (client, grant)) known.0 few)
@@ -208,6 +206,7 @@ Settled-allowed_by_vote sheet slots id me v (Returned client grant) old new insi
     subst (λ (k : ℕ). Allows (Kept sheet) slots id me v (λ n. either (eqb n old) k n) (Settled (step slots v old k none) me)) (sym is_new)
     (Settled-allowed sheet slots id me v (name_of client grant) old inside (omega arith) (length-voter_view me v (Some (client, grant)) known.0 few)
     (slice_index-voter_view me v (Some (client, grant)) known.0 few) (inr is_old))
+Settled-allowed_by_vote sheet slots id me v vote old new inside few known is_old is_new = absurd known
 
 -- a reading stays where one more vote is held
 more_held : (q held : List ℕ) (v g : ℕ) → v < length held → g ≢ 0 → HoldsAll q held → HoldsAll q (set held v g)

@@ -11,7 +11,7 @@ ghost use Rattle.board.specs.Seats.{BoardState};
 use crate::fault::BoardFault;
 use crate::root::BoardRoot;
 use crate::table::{Sheet, VoteTable};
-use quorum_set::{Bridge, Coterie, QSet, Side, bridges_meet, coteries_meet};
+use quorum_set::{Bridge, Coterie, QSet, Side};
 use std::alloc::{AllocError, Global};
 use std::marker::Model;
 
@@ -60,7 +60,6 @@ impl Board {
         ensures { IfOk result
             (IsNewBoard coterie.now.voters coterie.now.quorums (length coterie.now.quorums) clients limit) }
     {
-        coteries_meet();
         let quorums = quorums_of(alloc, coterie)?;
         let (voters, firsts) = (coterie.voters(), coterie.count());
         Board::over(alloc, voters, quorums, firsts, clients, limit)
@@ -83,7 +82,6 @@ impl Board {
             (IsNewBoard bridge.now.first.voters (bridge.now.first.quorums ++ bridge.now.second.quorums)
             (length bridge.now.first.quorums) clients limit) }
     {
-        bridges_meet();
         let quorums = joint_quorums(alloc, bridge)?;
         let (voters, firsts) = (bridge.first().voters(), bridge.first().count());
         Board::over(alloc, voters, quorums, firsts, clients, limit)

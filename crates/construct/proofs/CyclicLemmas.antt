@@ -8,11 +8,11 @@ use Rattle.std.proofs.lemmas.Bool.{true≢false, eqb-true, eq-eqb, ne_eqb, eqb-f
 use Rattle.std.proofs.lemmas.Nat.{mod_below}
 use Rattle.std.proofs.lemmas.List.{take-append-drop}
 use Rattle.std.proofs.lemmas.List.Elements.{All-head, All-tail}
-use Rattle.std.proofs.lemmas.List.Quantifiers.{position-Some}
 use Rattle.std.proofs.lemmas.List.FromFn.{length-map-range_with_len}
 use Rattle.numbers.specs.Sets.{has}
 use Rattle.quorum_set.specs.Coteries.{QuorumSystem, first_from, first_outside, first_pair, are_disjoint, is_one_within, fault_if, first_fault, coterie_or, coterie_of}
 use Rattle.quorum_set.specs.declared.fault.CoterieFault.TheVariants.{NoVoters, TooManyVoters, NoQuorums, TooManyQuorums, EmptyQuorum, VoterOutOfRange, Disjoint, Contained}
+use Rattle.quorum_set.proofs.FaultLaws.{position-nil}
 use Rattle.numbers.proofs.SetLemmas.{has-append}
 use Rattle.construct.specs.Cyclic.{shift_by, cyclic_quorums, has_repeat, is_bad_base, as_construct, IsCyclicFault}
 use Rattle.construct.proofs.Quorums.{IsQuorum, IsQuorum-where, All-range}
@@ -33,12 +33,6 @@ IsQuorum-shift_by n (x ∷ xs) s some few full =
     IsQuorum-where n (λ v. list_any (λ y. eqb ((y + s) % n) v) (x ∷ xs)) ((x + s) % n) (omega (arith, mod_below (x + s) n some))
     (ap (λ b. b || list_any (λ y. eqb ((y + s) % n) ((x + s) % n)) xs) (eq-eqb ((x + s) % n) ((x + s) % n) refl))
     (λ v small passes. moved_below n s (x ∷ xs) v some passes)
-
-none_empty : (n : ℕ) (sets : List (List ℕ)) (o : Option ℕ) → All (IsQuorum n) sets → position (λ s. eqb (length s) 0) sets ≡ o → o ≡ None
-none_empty n sets None all e = refl
-none_empty n sets (Some j) all e =
-    let at = position-Some (λ s. eqb (length s) 0) sets j [] e in
-    absurd (let empty = eqb-true (length (get_or sets j [])) 0 at.1 in omega (arith, (all j [] at.0).not_empty))
 
 first_from-none : (n : ℕ) (s : List ℕ) → All (λ v. v < n) s → first_from n s ≡ None
 first_from-none n [] all = refl
@@ -72,20 +66,23 @@ sets_fault n sets some few full short all =
     (option_map (λ p. VoterOutOfRange p.0 p.1) (first_outside n 0 sets)) last
     (ap (λ b. fault_if b NoVoters) (ne_eqb n 0 (λ e. omega arith))) (ap (λ b. fault_if b TooManyVoters) (le-ltb 64 n few))
     (ap (λ b. fault_if b NoQuorums) (ne_eqb (length sets) 0 (λ e. omega arith))) (ap (λ b. fault_if b TooManyQuorums) (le-ltb 4096 (length sets) short))
-    (ap (option_map EmptyQuorum) (none_empty n sets _ all refl)) (ap (option_map (λ p. VoterOutOfRange p.0 p.1)) (none_outside n 0 sets all)) in
+    (ap (option_map EmptyQuorum) (position-nil (λ s. eqb (length s) 0) sets (λ k d lt. ne_eqb (length (get_or sets k d)) 0 (λ e. omega (arith, (all k d lt).not_empty)))))
+    (ap (option_map (λ p. VoterOutOfRange p.0 p.1)) (none_outside n 0 sets all)) in
     rw e (last_faults (first_pair are_disjoint 0 sets) (first_pair is_one_within 0 sets) (record { voters = n; quorums = sets }))
 
-pub IsCyclicFault-coterie_of : (n : ℕ) (base : List ℕ) → n ≤ 64 → is_bad_base n base ≡ false → IfErr (as_construct (coterie_of n (cyclic_quorums n base))) IsCyclicFault
+pub cyclic_fault_of : (n : ℕ) (base : List ℕ) → n ≤ 64 → is_bad_base n base ≡ false → (cyclic_quorums n base ≡ cyclic_quorums n base) × IfErr (as_construct (coterie_of n (cyclic_quorums n base))) IsCyclicFault
 unfolding cyclic_quorums
-IsCyclicFault-coterie_of n base few good =
+cyclic_fault_of n base few good =
     let listed = (or_parts ((eqb n 0 || eqb (length base) 0) || not (list_all (λ x. ltb x n) base)) (has_repeat base) good).0 in
     let (some_voter, some_member) = or_parts (eqb n 0) (eqb (length base) 0) (or_parts (eqb n 0 || eqb (length base) 0) (not (list_all (λ x. ltb x n) base)) listed).0 in
     let full = eqb-false (length base) 0 some_member in
     let off = eqb-false n 0 some_voter in
     let some : 0 < n = omega arith in
-    let long = length-map-range_with_len (shift_by n base) 0 n in
-    sets_fault n (cyclic_quorums n base) some few (omega (arith, long)) (omega (arith, long))
-    (All-range (IsQuorum n) (shift_by n base) 0 n (λ s from lt. IsQuorum-shift_by n base s some few full))
+    let long = length-map-range_with_len (shift_by n base) 0 n in (
+      refl,
+      sets_fault n (cyclic_quorums n base) some few (omega (arith, long)) (omega (arith, long))
+          (All-range (IsQuorum n) (shift_by n base) 0 n (λ s from lt. IsQuorum-shift_by n base s some few full)),
+    )
 
 pub length-cyclic_quorums : (n : ℕ) (base : List ℕ) → length (cyclic_quorums n base) ≡ n
 unfolding cyclic_quorums

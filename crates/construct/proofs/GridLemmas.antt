@@ -68,9 +68,9 @@ places_differ c j l before =
           omega (arith, same, div-add-mod' j c, div-add-mod' l c))
     ]
 
-pub IsCoterie-grid : (r c : ℕ) → 2 ≤ r → 2 ≤ c → r * c ≤ 64 → IsCoterie (grid_system r c)
+pub grid_is_coterie : (r c : ℕ) → 2 ≤ r → 2 ≤ c → r * c ≤ 64 → IsCoterie (grid_system r c)
 unfolding grid_quorums
-IsCoterie-grid r c rows columns few =
+grid_is_coterie r c rows columns few =
     let four = mul-le 2 2 r c rows columns in
     let quorum_at = λ (j : ℕ). row_with_column r c (j / c) (j % c) in
     let long = length-map-range_with_len quorum_at 0 (r * c) in

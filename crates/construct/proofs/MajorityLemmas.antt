@@ -230,8 +230,8 @@ IsQuorum-choice n k s few choice = record {
   in_range = All-IsChoice n (k + 1) s choice;
 }
 
-pub IsCoterie-majority : (n : ℕ) → 0 < n → n ≤ 14 → IsCoterie (majority_system n)
-IsCoterie-majority n some few =
+pub majority_is_coterie : (n : ℕ) → 0 < n → n ≤ 14 → IsCoterie (majority_system n)
+majority_is_coterie n some few =
     let k = n / 2 + 1 in
     let list = majority_quorums n in
     let all = IsChoice-sets_from 0 n k in

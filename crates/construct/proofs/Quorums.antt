@@ -1,16 +1,19 @@
 -- When a list of sets is a coterie.
-use Rattle.std.proofs.Common.{◌≡◌, ℕ, ◌+◌, ◌<◌, ◌≤◌, Bool, true, false, ◌||◌, ◌&&◌, eqb, List, [], ◌∷◌, ◌++◌, length, get_or, map, suc, sym, refl, ap, ◌∙◌, inl, inr, arith}
+use Rattle.std.proofs.Common.{◌≡◌, ℕ, ◌+◌, ◌<◌, ◌≤◌, Bool, true, false, List, [], ◌∷◌, ◌++◌, length, map, suc, sym, refl, ◌∙◌, arith}
 use Rattle.std.specs.List.{All, AllPairs, range_with_len}
-use Rattle.std.proofs.lemmas.Bool.{true≢false, false_from_ne_true, eqb-true, cases_Bool}
-use Rattle.std.proofs.lemmas.List.{get_or_default}
+use Rattle.std.proofs.lemmas.Bool.{true≢false, false_from_ne_true}
 use Rattle.std.proofs.lemmas.List.Elements.{All-head, All-tail, All-append}
 use Rattle.std.proofs.lemmas.List.Kept.{AllPairs-cons}
 use Rattle.std.proofs.lemmas.List.FromFn.{get_or-map-range_with_len, length-map-range_with_len}
 use Rattle.numbers.specs.Sets.{has, meet, within, IsSet, set_where}
 use Rattle.quorum_set.specs.Coteries.{IsCoterie}
-use Rattle.numbers.proofs.SetLemmas.{IsSet-set_where, has-set_where, has-at}
+use Rattle.numbers.proofs.SetLemmas.{IsSet-set_where, has-set_where}
 use Rattle.numbers.proofs.Meetings.{All-members, meet-from, within-has}
+use Rattle.quorum_set.proofs.FaultLaws.{first_fault-IsCoterie}
 use Rattle.construct.proofs.SetLemmas.{has-passed}
+
+-- a coterie has no fault
+pub ruleset no_fault = (first_fault-IsCoterie)
 
 -- a set with a member, all below n
 pub record IsQuorum (n : ℕ) (q : List ℕ) : Type 0 where

@@ -398,8 +398,8 @@ IsCrossing-part : (q r : List ℕ) → Crosses q r → IsCrossing q r
 IsCrossing-part q r cross =
     IsCrossing-from q r cross.common.0 cross.left.0 cross.right.0 cross.common.1 cross.common.2 cross.left.1 cross.left.2 cross.right.1 cross.right.2
 
-pub IsCoterie-tree : (h : ℕ) → h ≤ 3 → IsCoterie (tree_system h)
-IsCoterie-tree h few =
+pub tree_is_coterie : (h : ℕ) → h ≤ 3 → IsCoterie (tree_system h)
+tree_is_coterie h few =
     let height = pow-le-pow_right {n = 2} (omega arith) few in
     let wide = pow-le-pow_right {n = 2} (omega arith) height in
     let some = pow_pos h in

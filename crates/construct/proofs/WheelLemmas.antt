@@ -57,9 +57,9 @@ pub length-wheel_quorums : (k : ℕ) → length (wheel_quorums k) ≡ k + 1
 unfolding wheel_quorums
 length-wheel_quorums k = omega (arith, length-append (map spoke (range_with_len 1 k)) (rim k ∷ []), length-map-range_with_len spoke 1 k)
 
-pub IsCoterie-wheel : (k : ℕ) → 2 ≤ k → k ≤ 63 → IsCoterie (wheel_system k)
+pub wheel_is_coterie : (k : ℕ) → 2 ≤ k → k ≤ 63 → IsCoterie (wheel_system k)
 unfolding wheel_quorums
-IsCoterie-wheel k two few =
+wheel_is_coterie k two few =
     let long = length-wheel_quorums k in
     let spokes = map spoke (range_with_len 1 k) in
     IsCoterie-from (k + 1) (wheel_quorums k) (omega arith) (omega arith) (omega (arith, long)) (omega (arith, long))

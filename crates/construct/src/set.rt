@@ -4,7 +4,7 @@ ghost use Rattle.numbers.specs.Sets.{set_where};
 ghost use Rattle.quorum_set.specs.Coteries.{IsCoterie};
 
 use crate::fault::ConstructFault;
-use quorum_set::{Coterie, QSet, coteries_have_no_fault};
+use quorum_set::{Coterie, QSet};
 
 /// Returns the set of the numbers below 64 that pass the test.
 pub(crate) fn set_where<F: Fn(u8) -> bool>(passes: F) -> QSet
@@ -21,10 +21,10 @@ pub(crate) fn set_where<F: Fn(u8) -> bool>(passes: F) -> QSet
 }
 
 /// Returns the coterie of n voters and these quorums, which have to be a coterie.
+#[tactic(auto, using(crate::proofs::Quorums::no_fault))]
 pub(crate) fn coterie_of(n: usize, quorums: Vec<QSet>) -> Result<Coterie, ConstructFault>
     requires { IsCoterie (record { voters = n; quorums = quorums.items }) }
     ensures { result ≡ Ok (record { voters = n; quorums = quorums.items }) }
 {
-    coteries_have_no_fault();
     Ok(Coterie::of(n, quorums)?)
 }

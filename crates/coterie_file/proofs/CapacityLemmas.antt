@@ -6,7 +6,7 @@ use Rattle.std.proofs.lemmas.List.FromFn.{length-map-range_with_len, get_or-map-
 use Rattle.quorum_set.specs.Capacities.{IsCapacity, AreCapacities, unit_capacities}
 use Rattle.coterie_file.specs.Capacities.{is_capacity, capacities_fault}
 use Rattle.coterie_file.specs.declared.fault.FileFault.TheVariants.{BadCapacity}
-use Rattle.coterie_file.proofs.NameLaws.{position-none}
+use Rattle.quorum_set.proofs.FaultLaws.{position-nil}
 use Rattle.numbers.proofs.Options.{and-true, option_map-None, position-None}
 
 pub IsCapacity-from_test : (c : ℕ) → is_capacity c ≡ true → IsCapacity c
@@ -32,7 +32,7 @@ AreCapacities-from_no_fault n capacities e = elim (cases_eq (length capacities) 
 
 pub capacities_fault-none : (n : ℕ) (capacities : List ℕ) → AreCapacities capacities n → capacities_fault n capacities ≡ None
 capacities_fault-none n capacities h =
-    let good : position (λ c. not (is_capacity c)) capacities ≡ None = position-none (λ c. not (is_capacity c)) capacities 0
+    let good : position (λ c. not (is_capacity c)) capacities ≡ None = position-nil (λ c. not (is_capacity c)) capacities
     (λ k d lt. not_from_true _ (is_capacity-from_IsCapacity (get_or capacities k d) (h.in_range k d lt))) in
     rw (eq-eqb (length capacities) n h.one_each, good) refl
 

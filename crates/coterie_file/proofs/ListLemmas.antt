@@ -22,10 +22,6 @@ pub list_any_map : {A B : Type 0} (p : B → Bool) (f : A → B) (xs : List A) �
 list_any_map p f [] = refl
 list_any_map p f (x ∷ xs) = ap (λ b. p (f x) || b) (list_any_map p f xs)
 
-pub map-map : {A B C : Type 0} (g : B → C) (f : A → B) (xs : List A) → map g (map f xs) ≡ map (λ x. g (f x)) xs
-map-map g f [] = refl
-map-map g f (x ∷ xs) = ap (λ ys. g (f x) ∷ ys) (map-map g f xs)
-
 -- a name that is found is there
 pub Contains-has_name : (names : List (List ℕ)) (name : List ℕ) → has_name names name ≡ true → Contains names name
 Contains-has_name names name e =

@@ -1,7 +1,7 @@
 -- What the tests of names mean, and the names v0, v1, ..
-use Rattle.std.proofs.Common.{◌≡◌, ◌≢◌, ℕ, ◌+◌, ◌<◌, ◌≤◌, Bool, true, false, cond, not, List, [], ◌∷◌, ◌++◌, length, get_or, sym, refl, ap, ◌∙◌, arith}
+use Rattle.std.proofs.Common.{◌≡◌, ◌≢◌, ℕ, ◌+◌, ◌<◌, ◌≤◌, true, false, cond, not, List, [], ◌∷◌, ◌++◌, length, get_or, sym, refl, ap, ◌∙◌, arith}
 use Rattle.std.proofs.Common.{None, Some, MatchOption, codes, decimal, subst, append_assoc, append-nil}
-use Rattle.std.specs.List.{All, position}
+use Rattle.std.specs.List.{position}
 use Rattle.std.specs.Option.{option_map}
 use Rattle.std.proofs.lemmas.Bool.{ltb-true, lt-ltb, leb-true, le-leb, not-false, not_from_true, false≢true}
 use Rattle.std.proofs.lemmas.Fmt.{decimal_is_IsNumeral, decimal_injective, length-decimal-le}
@@ -10,7 +10,7 @@ use Rattle.std.proofs.Math.ListN.{get_or-append}
 use Rattle.std.proofs.Math.Seq.{get_or-append_seam}
 use Rattle.std.proofs.lemmas.List.Elements.{All-cons}
 use Rattle.std.proofs.lemmas.List.FromFn.{length-map-range_with_len, get_or-map-range_with_len, take-map-range_with_len}
-use Rattle.std.proofs.lemmas.List.Quantifiers.{all_pairs_push, position-Some}
+use Rattle.std.proofs.lemmas.List.Quantifiers.{all_pairs_push}
 use Rattle.std.proofs.lemmas.List.Sums.{AllPass-from_list_all, list_all-from_AllPass}
 use Rattle.std.proofs.lemmas.Str.Parse.{digit_at}
 use Rattle.coterie_file.specs.Names.{is_name_byte, IsName, is_name, has_name, name_at, AllDiffer, AreNames, IsLeastRepeat, first_repeat, names_fault}
@@ -18,6 +18,7 @@ use Rattle.coterie_file.specs.Named.{numbered_names}
 use Rattle.coterie_file.specs.declared.fault.FileFault.TheVariants.{BadName, RepeatedName}
 use Rattle.coterie_file.proofs.ListLemmas.{Contains-has_name, has_name-Contains}
 use Rattle.numbers.proofs.Options.{and-true, option_map-None, option_or-None, position-None}
+use Rattle.quorum_set.proofs.FaultLaws.{position-nil}
 
 -- a name that has_name does not find is none of the list
 pub has_name-false : (names : List (List ℕ)) (name : List ℕ) → has_name names name ≡ false → (k : ℕ) (d : List ℕ) → k < length names → get_or names k d ≢ name
@@ -75,15 +76,6 @@ AreNames-from_no_fault names e =
       different = AllDiffer-from_no_repeat names (option_map-None RepeatedName _ parts.1);
     }
 
-pub position-none : {A : Type 0} (p : A → Bool) (xs : List A) (d : A) → All (λ x. p x ≡ false) xs → position p xs ≡ None
-position-none p xs d all =
-    elim (position p xs) as (λ o. position p xs ≡ o → o ≡ None) [
-      | None ↦ λ e. refl
-      | Some i ↦ λ e.
-          let found = position-Some p xs i d e in
-          absurd (false≢true (sym (all i d found.0) ∙ found.1))
-    ] refl
-
 -- names that all differ have no repeat
 pub first_repeat-none : (names : List (List ℕ)) → AllDiffer names → first_repeat [] names ≡ None
 first_repeat-none names differ =
@@ -95,7 +87,7 @@ first_repeat-none names differ =
 
 pub names_fault-none : (names : List (List ℕ)) → AreNames names → names_fault names ≡ None
 names_fault-none names h =
-    let good : position (λ n. not (is_name n)) names ≡ None = position-none (λ n. not (is_name n)) names [] (λ k d lt. not_from_true _ (is_name-from_IsName (get_or names k d) (h.named k d lt))) in
+    let good : position (λ n. not (is_name n)) names ≡ None = position-nil (λ n. not (is_name n)) names (λ k d lt. not_from_true _ (is_name-from_IsName (get_or names k d) (h.named k d lt))) in
     rw (good, first_repeat-none names h.different) refl
 
 -- the names v0, v1, ..

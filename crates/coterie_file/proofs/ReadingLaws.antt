@@ -10,7 +10,9 @@ use Rattle.std.proofs.lemmas.List.Folds.{Any-from_list_any, list_any_at}
 use Rattle.std.proofs.lemmas.List.Quantifiers.{position-Some}
 use Rattle.std.proofs.lemmas.List.Sums.{AllPass-from_list_all, list_all-from_AllPass}
 use Rattle.std.proofs.lemmas.Slice.Eq.{bytes_eq-Decides}
-use Rattle.quorum_set.specs.Coteries.{IsCoterie, first_fault}
+use Rattle.quorum_set.specs.Coteries.{first_fault}
+use Rattle.quorum_set.proofs.CoterieLemmas.{IsCoterie-first_fault}
+use Rattle.quorum_set.proofs.FaultLaws.{first_fault-IsCoterie}
 use Rattle.numbers.specs.Sets.{has, IsSet}
 use Rattle.numbers.proofs.SetLemmas.{IsSet-set_where, has-set_where, has-above}
 use Rattle.numbers.proofs.Options.{option_map-None, option_or-None, position-None}
@@ -22,15 +24,15 @@ use Rattle.coterie_file.specs.Reading.{is_number, quorum_of, system_of, lists_fa
 use Rattle.coterie_file.specs.declared.fault.FileFault.TheVariants.{UnknownName, RepeatedMember, Coterie}
 use Rattle.coterie_file.proofs.CapacityLemmas.{AreCapacities-from_no_fault, capacities_fault-none}
 use Rattle.coterie_file.proofs.ListLemmas.{Contains-has_name, has_name-Contains}
-use Rattle.coterie_file.proofs.NameLaws.{position-none, AllDiffer-from_no_repeat, first_repeat-none}
-use Rattle.coterie_file.proofs.NameLaws.{AreNames-from_no_fault, names_fault-none}
+use Rattle.quorum_set.proofs.FaultLaws.{position-nil}
+use Rattle.coterie_file.proofs.NameLaws.{AllDiffer-from_no_repeat, AreNames-from_no_fault, first_repeat-none, names_fault-none}
 use Rattle.coterie_file.proofs.ReadingLemmas.{unless-Ok}
 
 is_number-true : (o : Option ℕ) (i : ℕ) → is_number o i ≡ true → o ≡ Some i
 is_number-true None i e = cc
 is_number-true (Some j) i e = ap Some (eqb-true j i e)
 
--- a name that stands at one place is found there
+-- a name that is at one place is found there
 number_of-at : (names : List (List ℕ)) (i : ℕ) → AllDiffer names → i < length names → number_of names (name_at names i) ≡ Some i
 number_of-at names i differ lt =
     let name = name_at names i in
@@ -74,10 +76,6 @@ quorum_of-means names members i differ few = (
       ∙ list_any_at (λ name. is_number (number_of names name) i) members h.1.0 (name_at names i) h.1.1 (ap (λ o. is_number o i) number ∙ eq-eqb i i refl),
 )
 
--- the law of coteries, as the crate of coteries has it
-abbrev pub CoterieLaw : Type 0
-CoterieLaw = (n : ℕ) (sets : List (List ℕ)) → All IsSet sets → (first_fault n sets ≡ None) ↔ IsCoterie (record { voters = n; quorums = sets })
-
 pub all_sets : (lists : NameLists) → All IsSet (system_of lists).quorums
 all_sets lists = All-map IsSet (quorum_of lists.names) lists.quorums (λ k d lt. IsSet-set_where (λ i. list_any (λ name. is_number (number_of lists.names name) i) (get_or lists.quorums k d)))
 
@@ -85,8 +83,8 @@ is_some-none : {A : Type 0} (o : Option A) → is_some o ≡ false → o ≡ Non
 is_some-none None e = refl
 is_some-none (Some x) e = cc
 
-pub lists_fault-means : CoterieLaw → (lists : NameLists) → lists_fault lists ≡ None → ListsCoterie lists
-lists_fault-means law lists e =
+pub lists_fault-means : (lists : NameLists) → lists_fault lists ≡ None → ListsCoterie lists
+lists_fault-means lists e =
     let unknown = λ (members : List (List ℕ)). not (list_all (has_name lists.names) members) in
     let repeated = λ (members : List (List ℕ)). is_some (first_repeat [] members) in
     let last = option_map Coterie (first_fault (system_of lists).voters (system_of lists).quorums) in
@@ -105,36 +103,36 @@ lists_fault-means law lists e =
           Contains-has_name lists.names (get_or (get_or lists.quorums k d) j x) (AllPass-from_list_all (has_name lists.names) (get_or lists.quorums k d) (not-false _ (known k d lt)) j x l);
       once = λ k d lt. AllDiffer-from_no_repeat (get_or lists.quorums k d) (is_some-none (first_repeat [] (get_or lists.quorums k d)) (once k d lt));
       capacities = AreCapacities-from_no_fault (length lists.names) lists.capacities d.0;
-      coterie = (law (length lists.names) (system_of lists).quorums (all_sets lists)).0 (option_map-None Coterie _ d.1);
+      coterie = IsCoterie-first_fault (length lists.names) (system_of lists).quorums (all_sets lists) (option_map-None Coterie _ d.1);
     }
 
-pub lists_fault-none : CoterieLaw → (lists : NameLists) → ListsCoterie lists → lists_fault lists ≡ None
-lists_fault-none law lists h =
+pub lists_fault-none : (lists : NameLists) → ListsCoterie lists → lists_fault lists ≡ None
+lists_fault-none lists h =
     let unknown = λ (members : List (List ℕ)). not (list_all (has_name lists.names) members) in
     let repeated = λ (members : List (List ℕ)). is_some (first_repeat [] members) in
-    let known : position unknown lists.quorums ≡ None = position-none unknown lists.quorums [] (λ k d lt.
+    let known : position unknown lists.quorums ≡ None = position-nil unknown lists.quorums (λ k d lt.
     not_from_true _ (list_all-from_AllPass (has_name lists.names) (get_or lists.quorums k d) (λ j x l. has_name-Contains lists.names _ (h.known k d lt j x l)))) in
-    let once : position repeated lists.quorums ≡ None = position-none repeated lists.quorums [] (λ k d lt. ap is_some (first_repeat-none (get_or lists.quorums k d) (h.once k d lt))) in
-    let sets : first_fault (system_of lists).voters (system_of lists).quorums ≡ None = (law (length lists.names) (system_of lists).quorums (all_sets lists)).1 h.coterie in
+    let once : position repeated lists.quorums ≡ None = position-nil repeated lists.quorums (λ k d lt. ap is_some (first_repeat-none (get_or lists.quorums k d) (h.once k d lt))) in
+    let sets = first_fault-IsCoterie (length lists.names) (system_of lists).quorums h.coterie in
     rw (names_fault-none lists.names h.names, known, once, capacities_fault-none (length lists.names) lists.capacities h.capacities) (ap (option_map Coterie) sets)
 
 -- what a text reads as
-read_lists : CoterieLaw → (lists : NameLists) (n : NamedSystem) → coterie_in lists ≡ Ok n → ListsCoterie lists × (n ≡ named_of lists)
-read_lists law lists n e =
+read_lists : (lists : NameLists) (n : NamedSystem) → coterie_in lists ≡ Ok n → ListsCoterie lists × (n ≡ named_of lists)
+read_lists lists n e =
     let parts = unless-Ok (lists_fault lists) (named_of lists) n e in
-    (lists_fault-means law lists parts.0, sym parts.1)
+    (lists_fault-means lists parts.0, sym parts.1)
 
-pub coterie_at-describes : CoterieLaw → (text : List ℕ) (n : NamedSystem) → coterie_at text ≡ Ok n → Describes text n
-coterie_at-describes law text n e =
+pub coterie_at-describes : (text : List ℕ) (n : NamedSystem) → coterie_at text ≡ Ok n → Describes text n
+coterie_at-describes text n e =
     elim (lists_at text) as (λ r. lists_at text ≡ r → Describes text n) [
-      | Ok lists ↦ λ at. let read = read_lists law lists n (rw at at e) in (lists, at, read.0, read.1)
+      | Ok lists ↦ λ at. let read = read_lists lists n (rw at at e) in (lists, at, read.0, read.1)
       | Err fault ↦ λ at. let bad = rw at at e in cc
     ] refl
 
-pub describes-coterie_at : CoterieLaw → (text : List ℕ) (n : NamedSystem) → Describes text n → coterie_at text ≡ Ok n
-describes-coterie_at law text n h = rw (h.1, lists_fault-none law h.0 h.2) (ap Ok (sym h.3))
+pub describes-coterie_at : (text : List ℕ) (n : NamedSystem) → Describes text n → coterie_at text ≡ Ok n
+describes-coterie_at text n h = rw (h.1, lists_fault-none h.0 h.2) (ap Ok (sym h.3))
 
-pub named_at : CoterieLaw → (text : List ℕ) (n : NamedSystem) → coterie_at text ≡ Ok n → IsNamed n
-named_at law text n e =
-    let h = coterie_at-describes law text n e in
+pub named_at : (text : List ℕ) (n : NamedSystem) → coterie_at text ≡ Ok n → IsNamed n
+named_at text n e =
+    let h = coterie_at-describes text n e in
     rw h.3 (record { coterie = h.2.coterie; one_each = refl; names = h.2.names; capacities = h.2.capacities })

@@ -16,9 +16,10 @@ use Rattle.coterie_file.specs.Names.{has_name, first_repeat, names_fault}
 use Rattle.coterie_file.specs.Reading.{quorum_of, system_of, named_of, lists_fault}
 use Rattle.coterie_file.specs.declared.fault.FileFault.{FileFault}
 use Rattle.coterie_file.specs.declared.fault.FileFault.TheVariants.{Coterie, OutOfMemory, RepeatedMember, UnknownName}
-use Rattle.coterie_file.proofs.ListLemmas.{position-map, map-map}
+use mathlib.Core.List.{map-map}
+use Rattle.coterie_file.proofs.ListLemmas.{position-map}
 
--- whether a name stands twice among the members
+-- whether a name is twice among the members
 abbrev pub repeats : Vec (String Global) Global → Bool
 repeats members = is_some (first_repeat [] (map string_bytes members.items))
 

@@ -5,10 +5,11 @@ use Rattle.std.specs.List.{All, list_all, position}
 use Rattle.std.specs.Option.{option_or, option_map, is_some, ok_or}
 use Rattle.std.proofs.lemmas.List.Elements.{All-map}
 use Rattle.numbers.specs.Bounds.{max_voters, max_quorums}
-use Rattle.numbers.specs.Sets.{has, IsSet}
-use Rattle.quorum_set.specs.Coteries.{IsLeastStray, first_fault, first_outside, first_pair, fault_if, are_disjoint, is_one_within}
+use Rattle.numbers.specs.Sets.{has}
+use Rattle.quorum_set.specs.Coteries.{first_fault, first_outside, first_pair, fault_if, are_disjoint, is_one_within}
 use Rattle.quorum_set.specs.declared.fault.CoterieFault.{CoterieFault}
 use Rattle.quorum_set.specs.declared.fault.CoterieFault.TheVariants.{NoVoters, TooManyVoters, NoQuorums, TooManyQuorums, EmptyQuorum, VoterOutOfRange, Disjoint, Contained}
+use Rattle.quorum_set.proofs.StrayLaws.{IsLeastStray-first_outside}
 use Rattle.coterie_file.specs.Answers.{unless, ◌>>=◌}
 use Rattle.coterie_file.specs.Capacities.{is_capacity, capacities_fault}
 use Rattle.coterie_file.specs.Lists.{NameLists, lists_of, lists_at, table_at}
@@ -52,22 +53,19 @@ Holds-capacities n capacities = either (length capacities == n)
     either true = Holds-map IsInRange BadCapacity _ (λ i e. tt)
     either false = tt
 
-abbrev StrayLaw : Type 0
-StrayLaw = (n : ℕ) (sets : List (List ℕ)) (j i : ℕ) → All IsSet sets → first_outside n 0 sets ≡ Some (j, i) → IsLeastStray n sets j i
-
 -- the quorums of a text have no voter that is out of range
-no_stray : StrayLaw → (lists : NameLists) (p : ℕ × ℕ) → first_outside (length lists.names) 0 (map (quorum_of lists.names) lists.quorums) ≡ Some p → ⊥
-no_stray law lists p e =
+no_stray : (lists : NameLists) (p : ℕ × ℕ) → first_outside (length lists.names) 0 (map (quorum_of lists.names) lists.quorums) ≡ Some p → ⊥
+no_stray lists p e =
     let sets = map (quorum_of lists.names) lists.quorums in
-    let stray = law (length lists.names) sets p.0 p.1 (all_sets lists) e in
+    let stray = IsLeastStray-first_outside (length lists.names) sets p.0 p.1 (all_sets lists) e in
     let known : All (λ q. (i : ℕ) → has q i ≡ true → i < length lists.names) sets =
     All-map (λ q. (i : ℕ) → has q i ≡ true → i < length lists.names) (quorum_of lists.names) lists.quorums
     (λ k d lt. λ i in_quorum. (listed_voters lists.names (get_or lists.quorums k d) i in_quorum).0) in
     let below = known p.0 [] stray.0 p.1 stray.1 in
     omega (arith, below, stray.2)
 
-Holds-system : StrayLaw → (lists : NameLists) → Holds (λ e. IsInRange (Coterie e)) (first_fault (system_of lists).voters (system_of lists).quorums)
-Holds-system law lists =
+Holds-system : (lists : NameLists) → Holds (λ e. IsInRange (Coterie e)) (first_fault (system_of lists).voters (system_of lists).quorums)
+Holds-system lists =
     let P : CoterieFault → Type 0 = λ e. IsInRange (Coterie e) in
     let n = length lists.names in
     let sets = map (quorum_of lists.names) lists.quorums in
@@ -76,7 +74,7 @@ Holds-system law lists =
     (Holds-or P _ _ (Holds-if P (length sets == 0) NoQuorums tt)
     (Holds-or P _ _ (Holds-if P (nat_lt max_quorums (length sets)) TooManyQuorums tt)
     (Holds-or P _ _ (Holds-map P EmptyQuorum (position (λ s. length s == 0) sets) (λ j e. tt))
-    (Holds-or P _ _ (Holds-map P (λ p. VoterOutOfRange p.0 p.1) (first_outside n 0 sets) (no_stray law lists))
+    (Holds-or P _ _ (Holds-map P (λ p. VoterOutOfRange p.0 p.1) (first_outside n 0 sets) (no_stray lists))
     (Holds-or P _ _ (Holds-map P (λ p. Disjoint p.0 p.1) (first_pair are_disjoint 0 sets) (λ p e. tt))
     (Holds-map P (λ p. Contained p.0 p.1) (first_pair is_one_within 0 sets) (λ p e. tt))))))))
 
@@ -84,8 +82,8 @@ Holds-Coterie : (o : Option CoterieFault) → Holds (λ e. IsInRange (Coterie e)
 Holds-Coterie None holds = tt
 Holds-Coterie (Some e) holds = holds
 
-Holds-lists : StrayLaw → (lists : NameLists) → Holds IsInRange (lists_fault lists)
-Holds-lists law lists =
+Holds-lists : (lists : NameLists) → Holds IsInRange (lists_fault lists)
+Holds-lists lists =
     let unknown = position (λ members. not (list_all (has_name lists.names) members)) lists.quorums in
     let repeated = position (λ members. is_some (first_repeat [] members)) lists.quorums in
     let capacities = capacities_fault (length lists.names) lists.capacities in
@@ -96,7 +94,7 @@ Holds-lists law lists =
     (Holds-or IsInRange (option_map UnknownName unknown) listed (Holds-map IsInRange UnknownName unknown (λ j e. tt))
     (Holds-or IsInRange (option_map RepeatedMember repeated) last (Holds-map IsInRange RepeatedMember repeated (λ j e. tt))
     (Holds-or IsInRange capacities (option_map Coterie system) (Holds-capacities (length lists.names) lists.capacities)
-    (Holds-Coterie system (Holds-system law lists)))))
+    (Holds-Coterie system (Holds-system lists)))))
 
 unless-InRange : {X : Type 0} (o : Option FileFault) (x : X) (fault : FileFault) → Holds IsInRange o → unless o x ≡ Err fault → IsInRange fault
 unless-InRange None x fault holds e = cc
@@ -115,7 +113,7 @@ lists_at-InRange : (text : List ℕ) (fault : FileFault) → lists_at text ≡ E
 lists_at-InRange text fault e =
     bind-InRange (table_at text) (λ table. ok_or (lists_of table) Keys) fault (λ own is. ok_or-InRange _ NotToml own tt is) (λ table is. ok_or-InRange (lists_of table) Keys fault tt is) e
 
-pub coterie_at-in_range : StrayLaw → (text : List ℕ) (quorum voter : ℕ) → coterie_at text ≢ Err (Coterie (VoterOutOfRange quorum voter))
-coterie_at-in_range law text quorum voter e =
+pub coterie_at-in_range : (text : List ℕ) (quorum voter : ℕ) → coterie_at text ≢ Err (Coterie (VoterOutOfRange quorum voter))
+coterie_at-in_range text quorum voter e =
     bind-InRange (lists_at text) coterie_in (Coterie (VoterOutOfRange quorum voter)) (lists_at-InRange text)
-    (λ lists is. unless-InRange (lists_fault lists) (named_of lists) (Coterie (VoterOutOfRange quorum voter)) (Holds-lists law lists) is) e
+    (λ lists is. unless-InRange (lists_fault lists) (named_of lists) (Coterie (VoterOutOfRange quorum voter)) (Holds-lists lists) is) e

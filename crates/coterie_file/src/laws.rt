@@ -57,14 +57,10 @@ pub fn quorums_have_the_listed_voters()
 pub fn texts_read_as_coteries()
     ensures exact { (text : List ℕ) (n : NamedSystem) → (coterie_at text ≡ Ok n) ↔ Describes text n }
     ensures named { (text : List ℕ) (n : NamedSystem) → coterie_at text ≡ Ok n → IsNamed n }
-{
-    quorum_set::coteries_have_no_fault();
-}
+{}
 
 /// `VoterOutOfRange` never comes from a text: a quorum of a text has only voters of that text.
 pub fn texts_have_no_stray_voter()
     ensures { (text : List ℕ) (quorum voter : ℕ)
         → coterie_at text ≢ Err (Coterie (VoterOutOfRange quorum voter)) }
-{
-    quorum_set::found_stray_is_least();
-}
+{}

@@ -1,20 +1,20 @@
 -- Sets that meet every quorum.
-use Rattle.std.proofs.Common.{◌≡◌, ◌≢◌, ℕ, zero, suc, ◌+◌, ◌<◌, ◌≤◌, Bool, true, false, true≢false, not, cond, ◌==◌, ◌||◌, ◌&&◌, List, [], ◌∷◌, ◌++◌, length, filter, get_or, sym}
-use Rattle.std.proofs.Common.{refl, ap, subst, ◌∙◌, arith, None, Err, inl, inr, ne_eqb}
+use Rattle.std.proofs.Common.{◌≡◌, ◌≢◌, ℕ, zero, suc, ◌+◌, ◌<◌, ◌≤◌, Bool, true, false, true≢false, not, cond, ◌==◌, ◌||◌, List, [], ◌∷◌, ◌++◌, length, filter, get_or, sym}
+use Rattle.std.proofs.Common.{refl, ap, subst, ◌∙◌, arith, Err, inl, inr, ne_eqb}
 use Rattle.std.proofs.lemmas.Bool.{cases_eq}
-use Rattle.std.specs.Prelude.{◌↔◌, All, nat_lt}
+use Rattle.std.specs.Prelude.{All, nat_lt}
 use Rattle.std.proofs.lemmas.Bool.Decides.{nat_tests}
-use Rattle.std.proofs.lemmas.List.Elements.{All-filter, All-from_get_or, filter-append}
+use Rattle.std.proofs.lemmas.List.Elements.{All-filter, filter-append}
 use Rattle.std.proofs.lemmas.List.Kept.{AllPairs-filter}
 use Rattle.std.proofs.lemmas.List.Sums.{length-filter, count_by-le-length}
-use Rattle.std.proofs.Math.Bool.{or-true}
 use Rattle.numbers.specs.Sets.{has, meet, within, Ascends, IsSet}
-use Rattle.numbers.proofs.SetLemmas.{has-head, has-tail, has-below, has-at}
+use Rattle.numbers.proofs.SetLemmas.{has-head, has-tail, has-below}
 use Rattle.numbers.proofs.Meetings.{All-members, has-later, meet-common, meet-from, within-from, within-has}
 use Rattle.numbers.proofs.Members.{All-has}
 use Rattle.quorum_set.specs.declared.fault.CoterieFault.{CoterieFault}
-use Rattle.quorum_set.specs.Coteries.{QuorumSystem, IsCoterie, are_disjoint, coterie_of, coterie_or, first_fault}
-use Rattle.quorum_set.specs.Meetings.{AllMeet}
+use Rattle.quorum_set.specs.Coteries.{QuorumSystem, IsCoterie, are_disjoint, coterie_of, coterie_or}
+use Rattle.quorum_set.proofs.FaultLaws.{first_fault-IsCoterie}
+use Rattle.quorum_set.proofs.Meetings.{AllMeet-coterie}
 use Rattle.std.specs.Prelude.{Some, slice_get, take}
 use Rattle.std.proofs.lemmas.List.{take_more}
 use Rattle.std.proofs.lemmas.Option.{get_or_from_slice_get}
@@ -145,40 +145,28 @@ IsCoterie-filter s failed is some = record {
   apart = AllPairs-filter (λ q r. (within q r ≡ false) × (within r q ≡ false)) (are_disjoint failed) s.quorums is.apart;
 }
 
-abbrev pub CoteriesHaveNoFault : Type 0
-CoteriesHaveNoFault = (n : ℕ) (sets : List (List ℕ)) → All IsSet sets
-    → (first_fault n sets ≡ None) ↔ IsCoterie (record { voters = n; quorums = sets })
-
 -- quorums of a coterie are refused only if there are none
-pub refused-nothing : CoteriesHaveNoFault → (s : QuorumSystem) (failed : List ℕ) (e : CoterieFault) → IsCoterie s
+pub refused-nothing : (s : QuorumSystem) (failed : List ℕ) (e : CoterieFault) → IsCoterie s
     → coterie_of s.voters (filter (are_disjoint failed) s.quorums) ≡ Err e → MeetsEach s.quorums failed
-refused-nothing law s failed e is refused = MeetsEach-from_nothing failed s.quorums (nothing (filter (are_disjoint failed) s.quorums) refl)
+refused-nothing s failed e is refused = MeetsEach-from_nothing failed s.quorums (nothing (filter (are_disjoint failed) s.quorums) refl)
   where
     nothing : (left : List (List ℕ)) → filter (are_disjoint failed) s.quorums ≡ left → filter (are_disjoint failed) s.quorums ≡ []
     nothing [] same = same
     nothing (q ∷ left) same =
         let some : 0 < length (filter (are_disjoint failed) s.quorums) = rw same (omega arith) in
-        let whole = IsCoterie-filter s failed is some in
-        let none = (law s.voters (filter (are_disjoint failed) s.quorums) whole.sets).1 whole in
+        let none = first_fault-IsCoterie s.voters (filter (are_disjoint failed) s.quorums) (IsCoterie-filter s failed is some) in
         let made = ap (λ f. coterie_or f (system_without failed s)) none in
         cc
 
--- a quorum has a common member with each quorum
-pub quorum_meets : (s : QuorumSystem) (k : ℕ) → AllMeet s.voters s.quorums → k < length s.quorums → MeetsEach s.quorums (get_or s.quorums k [])
-quorum_meets s k meets lt j here =
-    let common = meets k j lt here in
-    meet-from (get_or s.quorums k []) (get_or s.quorums j []) common.0 common.2 common.3
-
 -- a quorum that is read by its number has a common member with each quorum
-pub IsTransversal-quorum : (s : QuorumSystem) (k : ℕ) (q r : List ℕ) → AllMeet s.voters s.quorums → k < length s.quorums
-    → slice_get s.quorums k ≡ Some q → r ≡ q → IsSet q → All (λ i. i < s.voters) q → IsTransversal s r
-IsTransversal-quorum s k q r meets lt at same set voters =
-    let is : get_or s.quorums k [] ≡ q = get_or_from_slice_get s.quorums k q [] at in
-    record {
-      is_set = subst IsSet (sym same) set;
-      voters = subst (λ t. All (λ i. i < s.voters) t) (sym same) voters;
-      meets = subst (MeetsEach s.quorums) (is ∙ sym same) (quorum_meets s k meets lt);
-    }
+pub IsTransversal-quorum : (s : QuorumSystem) (k : ℕ) (q r : List ℕ) → IsCoterie s → k < length s.quorums → slice_get s.quorums k ≡ Some q → r ≡ q → IsTransversal s r
+IsTransversal-quorum s k q r is lt at same = subst (IsTransversal s) (get_or_from_slice_get s.quorums k q [] at ∙ sym same) (record {
+  is_set = is.sets k [] lt;
+  voters = is.in_range k [] lt;
+  meets = λ j here.
+      let common = AllMeet-coterie s is k j lt here in
+      meet-from (get_or s.quorums k []) (get_or s.quorums j []) common.0 common.2 common.3;
+})
 
 -- the members of a set are below 64
 pub below_all : (q : List ℕ) (n v : ℕ) → has q v ≡ true → All (λ i. i < n) q → n ≤ 64 → v < 64

@@ -4,7 +4,7 @@ ghost use Rattle.numbers.specs.Sets.{has, IsSet};
 ghost use Rattle.failures.specs.Failures.{IsSmallest, IsSmallestWith, IsTransversal};
 
 use crate::without::first_apart_from;
-use quorum_set::{Coterie, QSet, coteries_meet};
+use quorum_set::{Coterie, QSet};
 
 /// A set of voters that has a common member with each quorum, and whether it is known that no such
 /// set is smaller.
@@ -86,7 +86,6 @@ fn smallest_quorum(coterie: &Coterie) -> usize
 fn first_transversal(coterie: &Coterie) -> QSet
     ensures { IsTransversal coterie.now result }
 {
-    coteries_meet();
     coterie.quorum(smallest_quorum(coterie)).copy()
 }
 

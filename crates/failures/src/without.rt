@@ -4,7 +4,7 @@ ghost use Rattle.numbers.specs.Sets.{meet};
 ghost use Rattle.quorum_set.specs.Coteries.{are_disjoint};
 ghost use Rattle.failures.specs.Failures.{Bears, MeetsEach, system_without};
 
-use quorum_set::{Coterie, QSet, coteries_have_no_fault};
+use quorum_set::{Coterie, QSet};
 use std::alloc::{AllocError, Global};
 
 /// Returns the number of the first quorum that has no member in common with the set.
@@ -68,7 +68,6 @@ pub fn coterie_without(
     ensures left { IfOk result (λ left. IfSome left (λ c. c ≡ system_without failed.now coterie.now)) }
     ensures none { IfOk result (λ left. IfNone left (MeetsEach coterie.now.quorums failed.now)) }
 {
-    coteries_have_no_fault();
     let quorums = quorums_without(alloc, coterie, failed)?;
     match Coterie::of(coterie.voters(), quorums) {
         Ok(left) => Ok(Some(left)),

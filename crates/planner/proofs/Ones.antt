@@ -1,5 +1,5 @@
 -- All weights 1 are a certificate exactly of a uniform coterie, if all voters have the same capacity.
-use Rattle.std.proofs.Common.{◌≡◌, ℕ, ◌+◌, ◌*◌, ◌<◌, ◌≤◌, ◌↔◌, cond, List, [], ◌∷◌, length, get_or, zero, suc, sum, count_by, sym, ap, refl, subst, ◌∙◌, arith}
+use Rattle.std.proofs.Common.{◌≡◌, ℕ, ◌+◌, ◌*◌, ◌<◌, ◌≤◌, cond, List, [], ◌∷◌, length, get_or, zero, suc, sum, count_by, sym, ap, refl, subst, ◌∙◌, arith}
 use Rattle.std.specs.List.{All}
 use Rattle.std.proofs.lemmas.List.{get_or-replicate}
 use Rattle.std.proofs.lemmas.List.Sums.{sum_by-cons}
@@ -141,6 +141,3 @@ IsUniform-certificate s capacities h are equal c =
     scaled : (p r total t d m n q c : ℕ) → 0 < r → m * r ≡ p * c → total ≡ n * c → d ≡ q → p * total ≡ r * t * d → m * n ≡ t * q
     scaled p r total t d m n q c over at eb ed balanced =
         eq_of_mul-eq-mul_left r over (m * n) (t * q) (left r m n ∙ ap (λ x. x * n) at ∙ right p c n ∙ ap (λ x. p * x) (sym eb) ∙ balanced ∙ ap (λ x. r * t * x) ed ∙ mul_assoc r t q)
-
-pub IsCertificate-all_ones : (s : QuorumSystem) (capacities : List ℕ) → IsCoterie s → AreCapacities capacities s.voters → AreEqual capacities → IsCertificate (all_ones s capacities) ↔ IsUniform s
-IsCertificate-all_ones s capacities h are equal = (IsUniform-certificate s capacities h are equal, IsCertificate-uniform s capacities h are equal)

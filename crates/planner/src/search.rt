@@ -8,8 +8,7 @@ ghost use Rattle.planner.specs.Causes.{CanCome, grew_too_large, most_pivots};
 ghost use Rattle.simplex.specs.Pivots.{NamesAtMost};
 
 use crate::fault::PlannerFault;
-use crate::laws::ones_certify_uniform_coteries;
-use certificate::{Plan, PlanFault, certificates_have_no_fault, check, gcd};
+use certificate::{Plan, PlanFault, check, gcd};
 use quorum_set::Coterie;
 use simplex::{Candidate, Rule, SimplexFault, solve_by};
 use std::alloc::Global;
@@ -78,8 +77,6 @@ fn even(alloc: Global, coterie: &Coterie, capacities: &[u64]) -> Result<Plan, Pl
     ensures ones { IfOk result (λ p. p ≡ all_ones coterie.now capacities.now) }
     ensures certified { IsCertificate (all_ones coterie.now capacities.now) → IsOkUnless result PlanFault.OutOfMemory }
 {
-    ones_certify_uniform_coteries();
-    certificates_have_no_fault();
     let quorum_weights = vec![in alloc; 1u64; coterie.count()]?;
     let voter_weights = vec![in alloc; 1u64; coterie.voters()]?;
     check(alloc, coterie, capacities, quorum_weights, voter_weights)

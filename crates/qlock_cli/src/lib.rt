@@ -25,7 +25,7 @@ mod running;
 pub use cluster::{Gate, NoGate};
 pub use commands::{
     Command, DeviceFault, Fault, InputFault, Planned, Shape, Usage, Watched, coterie_of, dealt,
-    execute, named_commands_are_in_range, planned_of, push_account, push_ratio, read_words,
-    split_part, staged_of, status_of, usage_status,
+    execute, planned_of, push_account, push_ratio, read_words, split_part, staged_of, status_of,
+    usage_status,
 };
 pub use running::execute_run;

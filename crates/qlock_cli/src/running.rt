@@ -7,7 +7,7 @@ ghost use Rattle.std.specs.Io.KnownBytes.{IsAtEnd};
 
 use cluster::Gate;
 use command_line::Command;
-use commands::{Fault, input_for, planned_of, refusals_come_of_the_input, write_answer};
+use commands::{Fault, input_for, planned_of, write_answer};
 use replay::write_record;
 use runs::record_of_run;
 use std::alloc::Global;
@@ -98,7 +98,6 @@ pub fn execute_run<T: Threads + Wait + Clock + Sync, R: Read, W: Write, G: Gate>
     // A read fault or a write fault is returned if and only if that device failed.
     ensures devices { FailsAs reader.new.failed writer.new.failed result }
 {
-    refusals_come_of_the_input();
     let input = match input_for(alloc, command, reader) {
         Ok(input) => input,
         Err(fault) => return Err(fault),

@@ -13,8 +13,9 @@ use Rattle.numbers.proofs.CountLemmas.{times-range}
 use Rattle.requester.specs.Words.{is_idle}
 use Rattle.quorum_set.specs.declared.bridge.Side.{Side}
 use Rattle.quorum_set.specs.declared.bridge.Side.TheVariants.{First, Second}
-use Rattle.board.specs.Quorums.{HasQuorum}
+use Rattle.certificate.specs.Certificates.{IsCertificate}
 use Rattle.dealer.specs.Offices.{OfficeName}
+use Rattle.dealer.proofs.AccountLemmas.{ticket_in_range}
 use Rattle.clerks.specs.Clerks.{ClerksState, IsDealt, fresh_clerks, receipts_of, rest_of}
 use Rattle.members.specs.Clusters.{ClusterState}
 use Rattle.cluster.specs.Drives.{HasMore, HasServed, HasEnded, IsBack, IsBackBy, IsLeastFault, EndsWork, TookTurns, WasLet, draws_by, side_after}
@@ -27,8 +28,9 @@ use Rattle.run_outcome.specs.declared.fault.ClusterFault.TheVariants as ends
 use Rattle.board.specs.declared.fault.BoardFault.TheVariants as board
 use Rattle.dealer.specs.declared.fault.DealFault.TheVariants as deal
 use Rattle.requester.specs.declared.fault.ClientFault.TheVariants as client
-use Rattle.replay.specs.Records.{IsSoundRecord, entries_of}
+use Rattle.members.proofs.RecordLemmas.{length-draws, register-sum_by, sum_by-evenly}
 use Rattle.runs.specs.Runs.{AreLet, EndsRun, IsRun, run_refusal}
+use Rattle.runs.proofs.SoundRecords.{IsSoundRecord-first}
 
 -- a member of a cluster of one plan, which drew and passed nothing yet
 record IsFresh (c : ClusterState) (m : MemberState) : Type 0 where
@@ -183,7 +185,7 @@ EndsRun-driven c passes before after fault alone e quota back least =
 abbrev one_of : ℕ → ℕ → ℕ
 one_of c k = cond (k == c) 1 0
 
--- how often a client stands in a list in which each member's part names it so many times and nobody else
+-- how often a client is in a list in which each member's part names it so many times and nobody else
 times_of_each : {Y : Type 0} (who : Y → ℕ) (did : MemberState → List Y) (clients times : ℕ) (members : List MemberState) (ys : List Y)
     → IsPermutation (flat_map did members) ys → map (λ m. m.requester.id) members ≡ range_with_len 0 clients
     → All (λ m. length (did m) ≡ times) members → ((m : MemberState) → All (λ y. who y ≡ m.requester.id) (did m))
@@ -227,22 +229,21 @@ no_second c [] alone all = refl
 no_second c (d ∷ ds) alone all =
     absurd (subst (λ (s : Option OfficeName). IsDealt (c.office, s) Second d.1 d.2) alone (all 0 d (omega arith)).quorum)
 
-pub run_of : (c : ClusterState) (passes : ℕ) (before after : List MemberState) (r : RunRecord) → c.second ≡ None → before ≡ map (fresh_member c) (range_with_len 0 c.board.clients)
-    → AllZip (HasServed passes) before after
-    → c.board.firsts ≡ length c.office.cycle.system.quorums → IsRecordOf c after r → IsSoundRecord c.office.cycle (entries_of r)
-    → length r.draws.items ≡ sum_by (λ m. length (receipts_of m.clerks First)) after → r.register ≡ length after * passes
-    → All (λ d. HasQuorum c.board.firsts c.board.quorums First d.2) r.draws.items
-    → IsRun c.office.cycle c.board.clients passes r
-run_of c passes before after r alone e served firsts is sound drawn register in_range =
+-- the record of a cluster of one plan is that of a run
+pub run_of : (c : ClusterState) (passes : ℕ) (before after : List MemberState) (r : RunRecord) → IsCertificate c.office.cycle → c.second ≡ None
+    → before ≡ map (fresh_member c) (range_with_len 0 c.board.clients)
+    → AllZip (HasServed passes) before after → IsRecordOf c after r → IsRun c.office.cycle c.board.clients passes r
+run_of c passes before after r plan alone e served is =
     let many = as_many c before after (HasServed passes) e served in
     record {
-      sound = sound;
+      sound = IsSoundRecord-first c after r is;
       tickets = is.first.tickets;
       numbers = is.numbers;
-      drawn = drawn ∙ sum_by_same (λ (m : MemberState). length (receipts_of m.clerks First)) passes after (All-drew c passes before after alone e served) ∙ ap (λ n. n * passes) many;
+      drawn = length-draws c First after r.draws.items is.first
+          ∙ sum_by_same (λ (m : MemberState). length (receipts_of m.clerks First)) passes after (All-drew c passes before after alone e served) ∙ ap (λ n. n * passes) many;
       one_plan = no_second c r.draws2.items alone is.second.each;
-      register = register ∙ ap (λ n. n * passes) many;
-      each_draw = λ k d lt. ((is.first.each k d lt).client, omega (arith, in_range k d lt, firsts));
+      register = register-sum_by c after r is ∙ sum_by-evenly passes after (All-passed c passes before after alone e served) ∙ ap (λ n. n * passes) many;
+      each_draw = λ k d lt. ((is.first.each k d lt).client, omega (arith, (is.first.each k d lt).quorum, ticket_in_range c.office.cycle (get_or r.draws.items k d).1 plan));
       each_pass = is.each_pass;
       draws_of_each = times_of_each (λ (d : Draw). d.0) (draws_of First) c.board.clients passes after r.draws.items is.first.same (ids-are_range c passes before after e served)
           (λ k m lt. length-map (receipts_of (get_or after k m).clerks First) (λ (x : Receipt). ((get_or after k m).requester.id, x.ticket, x.quorum))

@@ -5,7 +5,6 @@ ghost use Rattle.certificate.specs.Certificates.{IsCertificate};
 ghost use Rattle.members.specs.Clusters.{IsCluster};
 ghost use Rattle.runs.specs.Runs.{AreLet, IsRun, EndsRun};
 
-use crate::laws::records_are_of_runs;
 use certificate::Plan;
 use cluster::{Blank, CloseFault, ClusterName, Gate, RunRecord, drive};
 use dealer::Plans;
@@ -36,7 +35,6 @@ fn run_blank<N: ClusterName + Send + Sync, R: Threads + Wait + Clock + Sync, G: 
     ensures let_pass { IfOk result (λ _. 0 < passes → AreLet (G.lets gate.now) blank.board.clients) }
     ensures in_turns { IfOk result (λ _. 2 * passes ≤ turns) }
 {
-    records_are_of_runs();
     let Ok((cluster, members)) = blank.open::<N>(alloc) else {
         return Err(RunFault::OutOfMemory);
     };

@@ -1,21 +1,21 @@
 -- Lemmas on bridges by names.
-use Rattle.std.proofs.Common.{◌≡◌, ℕ, ◌+◌, ◌<◌, ◌≤◌, ◌↔◌, Bool, true, List, [], length, map, drop, get_or, slice_get, eqb, sym, refl, ap, ◌∙◌, arith, None, Some, Contains}
+use Rattle.std.proofs.Common.{◌≡◌, ℕ, ◌+◌, ◌<◌, ◌≤◌, Bool, true, List, [], length, drop, get_or, slice_get, eqb, sym, refl, ap, ◌∙◌, arith, Option, None, Some, MatchOption, Contains}
 use Rattle.std.specs.List.{position}
 use Rattle.std.specs.Option.{option_or, option_map}
-use Rattle.std.specs.Str.{bytes_eq}
 use Rattle.std.proofs.lemmas.Bool.{eqb-true, false_from_ne_true, true≢false}
-use Rattle.std.proofs.lemmas.List.{get_or_default, get_or-map, length-map}
-use Rattle.std.proofs.lemmas.List.Folds.{Any-from_list_any, list_any_at}
-use Rattle.std.proofs.lemmas.Slice.Eq.{bytes_eq-Decides}
+use Rattle.std.proofs.lemmas.List.{get_or-map, length-map}
+use Rattle.std.proofs.lemmas.List.Folds.{Any-from_list_any}
 use Rattle.numbers.specs.Sets.{has, meet}
 use Rattle.numbers.proofs.Meetings.{meet-common, meet-from}
 use Rattle.numbers.proofs.SetLemmas.{has-at}
 use Rattle.quorum_set.specs.Bridges.{AreBridged, IsLeastApart, first_apart}
-use Rattle.quorum_set.specs.Coteries.{QuorumSystem, are_disjoint}
+use Rattle.quorum_set.specs.Coteries.{are_disjoint}
+use Rattle.quorum_set.proofs.BridgeLemmas.{IsLeastApart-first_apart, first_apart-None}
 use Rattle.coterie_file.specs.Named.{NamedSystem, IsNamed}
 use Rattle.coterie_file.specs.Names.{has_name, name_at}
-use Rattle.show_failures.specs.Bridges.{AllShare, IsFirstApart, ShareName, quorum_at}
-use Rattle.show_failures.specs.Names.{names_of, voters_named}
+use Rattle.coterie_file.proofs.ListLemmas.{Contains-has_name, has_name-Contains}
+use Rattle.show_failures.specs.Bridges.{AllShare, IsFirstApart, ShareName, all_namesakes, namesakes, quorum_at}
+use Rattle.show_failures.specs.Names.{names_of}
 use Rattle.show_failures.proofs.ListLemmas.{drop-at}
 use Rattle.show_failures.proofs.VoterLemmas.{has-passing, passing-has}
 
@@ -33,26 +33,9 @@ apart-later quorums sets k q e lt none =
     ap (λ t. first_apart k t sets) (drop-at quorums k q e lt)
     ∙ ap (λ o. option_or (option_map (λ n. (k, n)) o) (first_apart (k + 1) (drop (k + 1) quorums) sets)) none
 
--- the voters of the first coterie that have the name of a member of a quorum of the second
-abbrev pub namesakes : NamedSystem → NamedSystem → List ℕ → List ℕ
-namesakes first second q = voters_named first.names (names_of second.names q)
-
-abbrev pub all_namesakes : NamedSystem → NamedSystem → List (List ℕ)
-all_namesakes first second = map (namesakes first second) second.system.quorums
-
+-- the set of a quorum of the second
 namesakes_at : (first second : NamedSystem) (k : ℕ) → k < length second.system.quorums → get_or (all_namesakes first second) k [] ≡ namesakes first second (quorum_at second k)
 namesakes_at first second k lt = get_or-map (namesakes first second) second.system.quorums k [] [] lt
-
--- a name that is found is there
-Contains-has_name : (names : List (List ℕ)) (name : List ℕ) → has_name names name ≡ true → Contains names name
-Contains-has_name names name e =
-    let found = Any-from_list_any (bytes_eq name) names e in
-    let same : name ≡ found.1 = (bytes_eq-Decides name found.1).0 found.4 in
-    (found.0, found.2, get_or_default names found.0 name found.1 found.2 ∙ found.3 ∙ sym same)
-
-has_name-Contains : (names : List (List ℕ)) (name : List ℕ) → Contains names name → has_name names name ≡ true
-has_name-Contains names name h =
-    list_any_at (bytes_eq name) names h.0 name h.1 ((bytes_eq-Decides name (get_or names h.0 name)).1 (sym h.2))
 
 -- a member's name is among the members' names
 Contains-name : (names : List (List ℕ)) (q : List ℕ) (i : ℕ) → has q i ≡ true → Contains (names_of names q) (name_at names i)
@@ -108,22 +91,8 @@ IsFirstApart-least first second j k named least =
           ∙ false_from_ne_true (meet (quorum_at first a) (namesakes first second (quorum_at second b))) (λ yes. none (share-meet first second a b yes)));
     }
 
--- the law of the pair that is found
-abbrev pub LeastLaw : Type 0
-LeastLaw = (firsts seconds : List (List ℕ)) (j k : ℕ) → first_apart 0 firsts seconds ≡ Some (j, k) → IsLeastApart firsts seconds j k
-
-pub found_pair : LeastLaw → (first second : NamedSystem) (s : QuorumSystem) (sets : List (List ℕ)) (pair : ℕ × ℕ) → IsNamed first → s ≡ first.system → sets ≡ all_namesakes first second
-    → Some pair ≡ first_apart 0 s.quorums sets → IsFirstApart first second pair.0 pair.1
-found_pair law first second s sets pair named same are e =
-    let found : first_apart 0 first.system.quorums (all_namesakes first second) ≡ Some pair = sym (e ∙ (λ i. first_apart 0 (same i).quorums (are i))) in
-    IsFirstApart-least first second pair.0 pair.1 named (law first.system.quorums (all_namesakes first second) pair.0 pair.1 found)
-
--- the law of no pair
-abbrev pub NoneLaw : Type 0
-NoneLaw = (firsts seconds : List (List ℕ)) → (first_apart 0 firsts seconds ≡ None) ↔ AreBridged firsts seconds
-
-pub found_none : NoneLaw → (first second : NamedSystem) (s : QuorumSystem) (sets : List (List ℕ)) → s ≡ first.system → sets ≡ all_namesakes first second
-    → None ≡ first_apart 0 s.quorums sets → AllShare first second
-found_none law first second s sets same are e =
-    let found : first_apart 0 first.system.quorums (all_namesakes first second) ≡ None = sym (e ∙ (λ i. first_apart 0 (same i).quorums (are i))) in
-    AllShare-bridged first second ((law first.system.quorums (all_namesakes first second)).0 found)
+-- what is found of the pairs of quorums: none, so all share a name, or the first pair that shares none
+pub pair_found : (first second : NamedSystem) (o : Option (ℕ × ℕ)) → IsNamed first → first_apart 0 first.system.quorums (all_namesakes first second) ≡ o
+    → MatchOption o (AllShare first second) (λ p. IsFirstApart first second p.0 p.1)
+pair_found first second None named e = AllShare-bridged first second (first_apart-None 0 first.system.quorums (all_namesakes first second) e)
+pair_found first second (Some p) named e = IsFirstApart-least first second p.0 p.1 named (IsLeastApart-first_apart first.system.quorums (all_namesakes first second) p.0 p.1 e)

@@ -4,7 +4,12 @@ use Rattle.std.specs.Str.{bytes_eq}
 use Rattle.quorum_set.specs.Coteries.{QuorumSystem}
 use Rattle.coterie_file.specs.Named.{NamedSystem, IsNamed}
 use Rattle.coterie_file.specs.Names.{has_name}
+use Rattle.coterie_file.proofs.CapacityLemmas.{capacities_fault-none}
+use Rattle.coterie_file.proofs.NameLaws.{names_fault-none}
 use Rattle.show_failures.proofs.ListLemmas.{drop-at}
+
+-- names and capacities of voters have no fault
+pub ruleset voters_have_no_fault = (capacities_fault-none, names_fault-none)
 
 -- the name at a place is the wanted one, or a later one is
 pub has_name-at : (names : List (List ℕ)) (k : ℕ) (name x : List ℕ) (same : Bool) → slice_get names k ≡ Some x → k < length names → bytes_eq name x ≡ same

@@ -1,20 +1,18 @@
 //! Bridges between coteries, by the names of voters.
-ghost use Rattle.std.specs.Prelude.{◌≡◌, ◌<◌, length, map, position, IfOk, string_bytes};
+ghost use Rattle.std.specs.Prelude.{◌≡◌, ◌<◌, length, position, IfOk, MatchOption, string_bytes};
 ghost use Rattle.quorum_set.specs.Bridges.{first_apart};
 ghost use Rattle.quorum_set.specs.Coteries.{are_disjoint};
-ghost use Rattle.show_failures.specs.Bridges.{IsBridgePage, apart_text, quorum_text};
-ghost use Rattle.show_failures.specs.Names.{names_of, voters_named};
+ghost use Rattle.show_failures.specs.Bridges.{AllShare, IsBridgePage, IsFirstApart, all_namesakes, apart_text, quorum_text};
 
 use crate::names::{names_of, names_text, voters_named};
 use coterie_file::Named;
-use quorum_set::{Coterie, QSet, apart_pair_is_least, bridges_have_no_fault};
+use quorum_set::{Coterie, QSet};
 use std::alloc::{AllocError, Global};
 
 /// Returns for each quorum of the second coterie the voters of the first that have the name of a
 /// member.
 fn namesakes(alloc: Global, first: &Named, second: &Named) -> Result<Vec<QSet>, AllocError>
-    ensures { IfOk result (λ v. v.items
-        ≡ map (λ q. voters_named first.now.names (names_of second.now.names q)) second.now.system.quorums) }
+    ensures { IfOk result (λ v. v.items ≡ all_namesakes first.now second.now) }
 {
     let count = second.coterie().count();
     let mut sets = Vec::with_capacity(alloc, count)?;
@@ -43,6 +41,15 @@ fn first_apart(coterie: &Coterie, sets: &[QSet]) -> Option<(usize, usize)>
         }
     }
     None
+}
+
+/// Returns the first quorum of the first coterie that shares no name with one of the second, and the
+/// first such one. The sets are the namesakes of the second coterie's quorums.
+fn first_without_name(first: &Named, second: &Named, sets: &[QSet]) -> Option<(usize, usize)>
+    requires { sets.now ≡ all_namesakes first.now second.now }
+    ensures { MatchOption result (AllShare first.now second.now) (λ p. IsFirstApart first.now second.now p.0 p.1) }
+{
+    first_apart(first.coterie(), sets)
 }
 
 /// Returns a quorum as a text: its number, and the names of its members in braces.
@@ -78,10 +85,8 @@ fn apart_text(
 pub fn bridge_page(alloc: Global, first: &Named, second: &Named) -> Result<String, AllocError>
     ensures { IfOk result (λ page. IsBridgePage first.now second.now (string_bytes page)) }
 {
-    bridges_have_no_fault();
-    apart_pair_is_least();
     let sets = namesakes(alloc, first, second)?;
-    match first_apart(first.coterie(), &sets) {
+    match first_without_name(first, second, &sets) {
         Some(pair) => apart_text(alloc, first, second, pair),
         None => String::from_str(
             alloc,

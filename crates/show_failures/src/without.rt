@@ -4,9 +4,7 @@ ghost use Rattle.show_failures.specs.Names.{voters_named};
 ghost use Rattle.show_failures.specs.Without.{none_left_text, without_text};
 
 use crate::names::{names_text, voters_named};
-use coterie_file::{
-    FileFault, Named, capacities_have_no_fault, names_have_no_fault, write_coterie,
-};
+use coterie_file::{FileFault, Named, write_coterie};
 use failures::coterie_without;
 use quorum_set::{Coterie, QSet};
 use std::alloc::{AllocError, Global};
@@ -25,13 +23,12 @@ fn voter_names(alloc: Global, named: &Named) -> Result<Vec<String>, AllocError>
 
 /// Returns another coterie over the same voters, with their names and capacities. They have no
 /// fault, so it only fails if memory runs out.
+#[tactic(auto, using(crate::proofs::NameLemmas::voters_have_no_fault))]
 fn with_coterie(alloc: Global, named: &Named, coterie: Coterie) -> Result<Named, FileFault>
     requires { coterie.voters ≡ named.now.system.voters }
     ensures made { IfOk result (λ n. n ≡ record named.now { system = coterie }) }
     ensures memory { IfErr result (λ fault. fault ≡ FileFault.OutOfMemory) }
 {
-    names_have_no_fault();
-    capacities_have_no_fault();
     let names = voter_names(alloc, named)?;
     let capacities = Vec::from_slice(alloc, named.capacities())?;
     let units = match Named::of(coterie, names) {

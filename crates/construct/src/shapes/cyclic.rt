@@ -6,7 +6,6 @@ ghost use Rattle.construct.specs.Cyclic.{shift_by, cyclic_quorums, has_repeat, i
 ghost use Rattle.construct.specs.declared.fault.ConstructFault.TheVariants.{BadSize};
 
 use crate::fault::ConstructFault;
-use crate::laws::cyclic_sets_cross_or_not;
 use crate::set::set_where;
 use quorum_set::{Coterie, QSet};
 use std::alloc::{AllocError, Global};
@@ -79,6 +78,7 @@ fn is_off_ring(n: u32, base: &[u32]) -> bool
 /// - `TooLarge` if there are more than 64 voters;
 /// - `Coterie(Disjoint)` for the smallest pair of disjoint quorums;
 /// - `Coterie(Contained)` for the smallest pair of quorums with one within the other.
+#[tactic(auto, using(crate::proofs::CyclicLemmas::cyclic_fault_of))]
 pub fn cyclic(alloc: Global, voters: u32, base: &[u32]) -> Result<Coterie, ConstructFault>
     ensures exact { Gives result (cyclic_at voters base.now) }
     ensures ring { is_off_ring voters base.now ≡ true → result ≡ Err BadSize }
@@ -90,7 +90,6 @@ pub fn cyclic(alloc: Global, voters: u32, base: &[u32]) -> Result<Coterie, Const
     if voters > 64 {
         return Err(ConstructFault::TooLarge);
     }
-    cyclic_sets_cross_or_not();
     let quorums = quorums_of(alloc, voters, base)?;
     Ok(Coterie::of(voters as usize, quorums)?)
 }

@@ -6,7 +6,6 @@ ghost use Rattle.construct.specs.Answers.{Gives};
 ghost use Rattle.construct.specs.Grid.{row_with_column, grid_quorums, grid_at};
 
 use crate::fault::ConstructFault;
-use crate::laws::grids_are_coteries;
 use crate::set::{coterie_of, set_where};
 use quorum_set::{Coterie, QSet};
 use std::alloc::{AllocError, Global};
@@ -57,6 +56,7 @@ fn quorums_of(alloc: Global, rows: u32, columns: u32) -> Result<Vec<QSet>, Alloc
 /// with column k. There are rows * columns quorums of rows + columns - 1 members each. Fails with
 /// `BadSize` if `rows` or `columns` is below 2, and with `TooLarge` if there are more than 64
 /// voters.
+#[tactic(auto, using(crate::proofs::GridLemmas::grid_is_coterie))]
 pub fn grid(alloc: Global, rows: u32, columns: u32) -> Result<Coterie, ConstructFault>
     ensures exact { Gives result (grid_at rows columns) }
     ensures sizes { IfErr (grid_at rows columns) (λ fault. result ≡ Err fault) }
@@ -67,7 +67,6 @@ pub fn grid(alloc: Global, rows: u32, columns: u32) -> Result<Coterie, Construct
     if u64::from(rows) * u64::from(columns) > 64 {
         return Err(ConstructFault::TooLarge);
     }
-    grids_are_coteries();
     let quorums = quorums_of(alloc, rows, columns)?;
     coterie_of((rows * columns) as usize, quorums)
 }

@@ -9,7 +9,6 @@ ghost use Rattle.construct.specs.Answers.{Gives};
 ghost use Rattle.construct.specs.Majority.{sets_from, majority_at};
 
 use crate::fault::ConstructFault;
-use crate::laws::majorities_are_coteries;
 use crate::set::coterie_of;
 use itertools::{Combinations, Itertools};
 use quorum_set::{Coterie, QSet};
@@ -56,6 +55,7 @@ fn sets_of(alloc: Global, n: u8, k: usize) -> Result<Vec<QSet>, AllocError>
 /// They are in lexicographic order of their ascending members. There are voters choose
 /// voters / 2 + 1 of them, at most 3003. Fails with `BadSize` if there are no voters, and with
 /// `TooLarge` if there are more than 14.
+#[tactic(auto, using(crate::proofs::MajorityLemmas::majority_is_coterie))]
 pub fn majority(alloc: Global, voters: u32) -> Result<Coterie, ConstructFault>
     ensures exact { Gives result (majority_at voters) }
     ensures sizes { IfErr (majority_at voters) (λ fault. result ≡ Err fault) }
@@ -66,7 +66,6 @@ pub fn majority(alloc: Global, voters: u32) -> Result<Coterie, ConstructFault>
     if voters > 14 {
         return Err(ConstructFault::TooLarge);
     }
-    majorities_are_coteries();
     let quorums = sets_of(alloc, voters as u8, voters as usize / 2 + 1)?;
     coterie_of(voters as usize, quorums)
 }

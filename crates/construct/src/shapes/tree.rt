@@ -6,7 +6,6 @@ ghost use Rattle.construct.specs.Answers.{Gives};
 ghost use Rattle.construct.specs.Tree.{with_node, union, node_quorums, quorums_under, tree_at};
 
 use crate::fault::ConstructFault;
-use crate::laws::trees_are_coteries;
 use crate::set::{coterie_of, set_where};
 use quorum_set::{Coterie, QSet};
 use std::alloc::{AllocError, Global};
@@ -104,6 +103,7 @@ fn quorums_under(alloc: Global, h: u32, i: u32) -> Result<Vec<QSet>, AllocError>
 /// - each quorum of the left child with each of the right child.
 ///
 /// Fails with `TooLarge` if the height is above 3.
+#[tactic(auto, using(crate::proofs::TreeLemmas::tree_is_coterie, std::proofs::lemmas::Grind::one_shifted))]
 pub fn tree(alloc: Global, height: u32) -> Result<Coterie, ConstructFault>
     ensures exact { Gives result (tree_at height) }
     ensures sizes { IfErr (tree_at height) (λ fault. result ≡ Err fault) }
@@ -111,7 +111,6 @@ pub fn tree(alloc: Global, height: u32) -> Result<Coterie, ConstructFault>
     if height > 3 {
         return Err(ConstructFault::TooLarge);
     }
-    trees_are_coteries();
     let quorums = quorums_under(alloc, height, 0)?;
     coterie_of((1 << (height + 1)) - 1, quorums)
 }

@@ -5,7 +5,6 @@ ghost use Rattle.construct.specs.Answers.{Gives};
 ghost use Rattle.construct.specs.Wheel.{spoke, rim, wheel_quorums, wheel_at};
 
 use crate::fault::ConstructFault;
-use crate::laws::wheels_are_coteries;
 use crate::set::{coterie_of, set_where};
 use quorum_set::{Coterie, QSet};
 use std::alloc::{AllocError, Global};
@@ -47,6 +46,7 @@ fn quorums_of(alloc: Global, rims: u32) -> Result<Vec<QSet>, AllocError>
 /// Voter 0 is the hub, and voters 1 to `rims` are the rim. Quorum i - 1 is the hub with voter i,
 /// for i from 1 to `rims`, and the last quorum is the rim. Fails with `BadSize` if `rims` is below
 /// 2, and with `TooLarge` if it is above 63.
+#[tactic(auto, using(crate::proofs::WheelLemmas::wheel_is_coterie))]
 pub fn wheel(alloc: Global, rims: u32) -> Result<Coterie, ConstructFault>
     ensures exact { Gives result (wheel_at rims) }
     ensures sizes { IfErr (wheel_at rims) (λ fault. result ≡ Err fault) }
@@ -57,7 +57,6 @@ pub fn wheel(alloc: Global, rims: u32) -> Result<Coterie, ConstructFault>
     if rims > 63 {
         return Err(ConstructFault::TooLarge);
     }
-    wheels_are_coteries();
     let quorums = quorums_of(alloc, rims)?;
     coterie_of(rims as usize + 1, quorums)
 }

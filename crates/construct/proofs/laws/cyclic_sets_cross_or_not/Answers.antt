@@ -1,5 +1,5 @@
-use Rattle.construct.proofs.CyclicLemmas.{IsCyclicFault-coterie_of}
+use Rattle.construct.proofs.CyclicLemmas.{cyclic_fault_of}
 use Rattle.construct.proofs.laws.cyclic_sets_cross_or_not.Goals as goal
 
 pub returns : goal.returns
-returns c = IsCyclicFault-coterie_of
+returns c = λ n base few good. (cyclic_fault_of n base few good).1

@@ -1,5 +1,5 @@
-use Rattle.construct.proofs.WheelLemmas.{IsCoterie-wheel}
+use Rattle.construct.proofs.WheelLemmas.{wheel_is_coterie}
 use Rattle.construct.proofs.laws.wheels_are_coteries.Goals as goal
 
 pub returns : goal.returns
-returns c = IsCoterie-wheel
+returns c = wheel_is_coterie

@@ -7,4 +7,4 @@ returns-in-Err-clause-none c =
     let refused = c.in-Err.is in
     let voters = c.voters.ensures.value in
     let quorums = c.in_ok-quorums.ensures in
-    refused-nothing c.coteries_have_no_fault.ensures c.args.coterie.now c.args.failed.now c.in-Err.field-0 c.voters.ensures.coterie cc
+    refused-nothing c.args.coterie.now c.args.failed.now c.in-Err.field-0 c.voters.ensures.coterie cc

@@ -3,7 +3,7 @@ use Rattle.members.specs.Clusters.{ClusterState, IsCluster}
 use Rattle.certificate.specs.Certificates.{IsCertificate}
 use Rattle.members.specs.Closes.{RefusesClose}
 use Rattle.runs.specs.Runs.{AreLet, EndsRun, IsRun}
-use Rattle.runs.proofs.RunLemmas.{all_ready, EndsRun-driven, AreLet-served, turns-served}
+use Rattle.runs.proofs.RunLemmas.{all_ready, EndsRun-driven, AreLet-served, run_of, turns-served}
 use Rattle.runs.proofs.run.run_blank.Goals as goal
 
 pub returns-in-Err-clause-ended : goal.returns-in-Err-clause-ended
@@ -20,9 +20,8 @@ returns-in-Ok-close-clause-run g c =
     let cluster = g.N.ClusterName.cluster in
     let run = c.in-Ok-close.run' in
     let alone = ap (λ (x : ClusterState). x.second) (sym c.requires.name) ∙ c.requires.alone in
-    let whole : IsCluster cluster = subst IsCluster c.requires.name c.requires.cluster in
     let plan : IsCertificate cluster.office.cycle = subst (λ (x : ClusterState). IsCertificate x.office.cycle) c.requires.name c.requires.plan in
-    let made = c.records_are_of_runs.ensures cluster c.in-Ok.members.items c.in-Ok-drive.members.items c.args.passes run whole plan alone c.in-Ok.ensures.members
+    let made = run_of cluster c.args.passes c.in-Ok.members.items c.in-Ok-drive.members.items run plan alone c.in-Ok.ensures.members
     c.in-Ok-drive.ensures.served c.in-Ok-close.ensures.record in
     subst (λ (x : ClusterState). IsRun x.office.cycle x.board.clients c.args.passes run) (sym c.requires.name) made
 

@@ -1,6 +1,6 @@
 use Rattle.std.proofs.Common.{◌+◌, ◌-◌}
 use Rattle.construct.specs.Grid.{grid_system}
-use Rattle.construct.proofs.GridLemmas.{IsCoterie-grid}
+use Rattle.construct.proofs.GridLemmas.{grid_is_coterie}
 use Rattle.shape_loads.proofs.Grids.{IsUniform-grid}
 use Rattle.shape_loads.proofs.OneLoad.{IsCoterie-plan}
 use Rattle.shape_loads.proofs.Uniform.{HasLoad-uniform, IsUnitPlan-uniform}
@@ -11,5 +11,5 @@ returns-clause-load c = λ r k w own. HasLoad-uniform (grid_system r k) w (r + k
 
 pub returns-clause-plan : goal.returns-clause-plan
 returns-clause-plan c = λ r k rows columns few.
-    let is = IsCoterie-grid r k rows columns few in
+    let is = grid_is_coterie r k rows columns few in
     IsUnitPlan-uniform (grid_system r k) is (IsUniform-grid r k is).0

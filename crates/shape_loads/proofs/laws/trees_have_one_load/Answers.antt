@@ -1,7 +1,7 @@
 use Rattle.std.proofs.Common.{ℕ, ◌+◌, refl}
 use Rattle.quorum_set.specs.Coteries.{IsCoterie}
 use Rattle.construct.specs.Tree.{tree_system}
-use Rattle.construct.proofs.TreeLemmas.{IsCoterie-tree, length-quorums_under}
+use Rattle.construct.proofs.TreeLemmas.{tree_is_coterie, length-quorums_under}
 use Rattle.shape_loads.specs.ShapeLoads.{tree_plan}
 use Rattle.shape_loads.proofs.OneLoad.{IsCoterie-plan}
 use Rattle.shape_loads.proofs.Shown.{Shows, IsUnitPlan-shows, HasLoad-shows}
@@ -15,4 +15,4 @@ pub returns-clause-load : goal.returns-clause-load
 returns-clause-load c = λ h w own. HasLoad-shows 2 (h + 2) (tree_plan h) (shows h (IsCoterie-plan (tree_system h) w own)) refl w own
 
 pub returns-clause-plan : goal.returns-clause-plan
-returns-clause-plan c = λ h low. IsUnitPlan-shows 2 (h + 2) (tree_plan h) (shows h (IsCoterie-tree h low)) refl
+returns-clause-plan c = λ h low. IsUnitPlan-shows 2 (h + 2) (tree_plan h) (shows h (tree_is_coterie h low)) refl

@@ -1,6 +1,6 @@
 use Rattle.std.proofs.Common.{◌≡◌, ◌<◌, ◌∙◌, ◌++◌, ◌∷◌, [], ap, ap₂, arith, length, map, slice_get, sym}
 use Rattle.show_failures.specs.Names.{voters_named}
-use Rattle.show_failures.proofs.BridgeLemmas.{namesakes}
+use Rattle.show_failures.specs.Bridges.{namesakes}
 use Rattle.show_failures.proofs.ListLemmas.{map-take_more}
 use Rattle.show_failures.proofs.bridge.namesakes.Goals as goal
 

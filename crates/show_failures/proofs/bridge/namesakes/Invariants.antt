@@ -1,5 +1,5 @@
 use Rattle.std.proofs.Common.{◌≡◌, map, take}
-use Rattle.show_failures.proofs.BridgeLemmas.{namesakes}
+use Rattle.show_failures.specs.Bridges.{namesakes}
 use Rattle.show_failures.proofs.bridge.namesakes.Given as goal
 
 -- the sets of the quorums so far
