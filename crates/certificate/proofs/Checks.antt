@@ -4,6 +4,7 @@ use Rattle.std.specs.Prelude.{codes}
 use Rattle.std.specs.List.{slice_split, list_all}
 use Rattle.std.specs.Option.{option_map, option_and_then}
 use Rattle.std.proofs.lemmas.Bool.{and_parts, leb-true, le-leb, eqb-true, ne_eqb, cases_eq}
+use Rattle.std.proofs.lemmas.Bool.Decides.{same_from_decides}
 use Rattle.quorum_set.specs.Capacities.{are_unit}
 use Rattle.certificate.specs.PlanTexts.{number_of, numbers_of, after_prefix, read_weights, read_capacities, are_in_range, have_a_line, option_holds, is_within, are_within}
 use Rattle.certificate.proofs.Numbers.{number_of-HasDigits}
@@ -25,11 +26,6 @@ and-true false = refl
 and-false : (b : Bool) → (b && false) ≡ false
 and-false true = refl
 and-false false = refl
-
-same-Bool : (a b : Bool) → (a ≡ true → b ≡ true) → (b ≡ true → a ≡ true) → a ≡ b
-same-Bool true b to from = sym (to refl)
-same-Bool false true to from = from refl
-same-Bool false false to from = refl
 
 -- Word by word, as a loop does
 
@@ -94,9 +90,10 @@ are_within-all_hold least most (word ∷ words) =
 
 in_range-other : (n : ℕ) → eqb n 1 ≡ false → n ≢ 1 → in_range 1 1 n ≡ eqb n 1
 in_range-other n e other =
-    same-Bool (in_range 1 1 n) (eqb n 1)
-    (λ within. let parts = and_parts (leb 1 n) (leb n 1) within in absurd (other (omega (arith, leb-true 1 n parts.0, leb-true n 1 parts.1))))
-    (λ one. absurd (other (eqb-true n 1 one)))
+    same_from_decides {P = eqb n 1 ≡ true} (in_range 1 1 n) (eqb n 1) (
+      λ within. let parts = and_parts (leb 1 n) (leb n 1) within in absurd (other (omega (arith, leb-true 1 n parts.0, leb-true n 1 parts.1))),
+      λ one. absurd (other (eqb-true n 1 one)),
+    ) (λ one. one, λ one. one)
 
 in_range-one : (n : ℕ) → in_range 1 1 n ≡ eqb n 1
 in_range-one n = elim (cases_eq n 1) [ inl one ↦ rw one refl | inr other ↦ in_range-other n (ne_eqb n 1 other) other ]

@@ -12,6 +12,7 @@ use Rattle.std.specs.Fmt.{decimal}
 use Rattle.std.proofs.Math.Nat.{div-le_self, mul-le-mul}
 use Rattle.quorum_set.specs.Coteries.{QuorumSystem}
 use Rattle.quorum_set.specs.Capacities.{IsCapacity, are_unit}
+use Rattle.numbers.proofs.Options.{option_or-None}
 use Rattle.certificate.specs.declared.fault.PlanFault.{PlanFault}
 use Rattle.certificate.specs.declared.fault.PlanFault.TheVariants.{BadText, WrongCapacity}
 use Rattle.divisor.specs.Gcd.{gcd_of}
@@ -261,10 +262,6 @@ unless_Ok : (o : Option PlanFault) (w p : Weighted) → unless_fault o w ≡ Ok 
 unless_Ok None w p e = (refl, cc)
 unless_Ok (Some d) w p e = cc
 
-or_None : (o p : Option PlanFault) → option_or o p ≡ None → (o ≡ None) × (p ≡ None)
-or_None None p e = (refl, e)
-or_None (Some d) p e = cc
-
 same_lines : (w : Weighted) (t : PlanContents) → contents_fault w t ≡ None → (load_line t.load ≡ load_line (load_of w)) × (cycle_line t.cycle ≡ cycle_line (cycle_len w))
 same_lines w t none =
     let one = cond_Some-None _ _ _ none in
@@ -297,8 +294,8 @@ plan_at-Ok s capacities text p e =
     let t = stated.0 in
     let w = with_weights_of s capacities t in
     let judge_plan = unless_Ok (option_or (capacities_fault capacities t) (option_or (weights_fault w) (contents_fault w t))) w p stated.2 in
-    let given = or_None (capacities_fault capacities t) (option_or (weights_fault w) (contents_fault w t)) judge_plan.0 in
-    let none = or_None (weights_fault w) (contents_fault w t) given.1 in
+    let given = option_or-None (capacities_fault capacities t) (option_or (weights_fault w) (contents_fault w t)) judge_plan.0 in
+    let none = option_or-None (weights_fault w) (contents_fault w t) given.1 in
     let same = same_lines w t none.1 in
     let line = contents-Ok text t stated.1 in
     let capacities_are = same_capacities capacities t.capacities line.1 (no_fault (are_given capacities t.capacities) given.0) in

@@ -7,7 +7,7 @@ use Rattle.std.specs.Option.{option_map, option_and_then, ok_or}
 use Rattle.std.specs.Str.{bytes_eq}
 use Rattle.std.specs.Fmt.{decimal}
 use Rattle.std.proofs.lemmas.Bool.{and_parts, and_from, not-true, not_from_false, leb-true, le-leb}
-use Rattle.std.proofs.lemmas.Option.{cond_some}
+use Rattle.std.proofs.lemmas.Option.{cond_some, same_Some}
 use Rattle.std.proofs.lemmas.List.{take_at, drop_at, take-append-drop}
 use Rattle.std.proofs.lemmas.List.Elements.{All-nil, All-cons, recursion_from_All}
 use Rattle.std.proofs.lemmas.List.Sums.{AllPass-from_list_all, list_all-from_AllPass}
@@ -32,15 +32,9 @@ with_spaces-push (x ∷ y ∷ ns) n some =
     ap (λ t. decimal x ++ 32 ∷ t) (with_spaces-push (y ∷ ns) n (omega arith))
     ∙ sym (append_assoc (decimal x) (32 ∷ with_spaces (y ∷ ns)) (32 ∷ decimal n))
 
-some_is : {A : Type 0} (x y : A) → Some x ≡ Some y → x ≡ y
-some_is x y e = cc
-
 -- words that are numbers are as they are written
 numbers_of-Some : (words : List (List ℕ)) (ns : List ℕ) → numbers_of words ≡ Some ns → words ≡ map decimal ns
-numbers_of-Some [] ns e = ap (map decimal) (nil ns e)
-  where
-    nil : (ns : List ℕ) → Some [] ≡ Some ns → [] ≡ ns
-    nil ns e = cc
+numbers_of-Some [] ns e = ap (map decimal) (same_Some [] ns e)
 numbers_of-Some (word ∷ words) ns e =
     let first = and_then-Some (λ n. option_map (λ ns. n ∷ ns) (numbers_of words)) (number_of 7 word) ns e in
     let others = option_map-Some (λ ms. first.0 ∷ ms) (numbers_of words) ns first.2 in
@@ -73,19 +67,19 @@ pub read_title-Some : (line : List ℕ) (version : ℕ) → read_title line ≡ 
 read_title-Some line version e = by_first (bytes_eq line (title_line 1)) refl e
   where
     by_second : (b : Bool) → bytes_eq line (title_line 2) ≡ b → cond b (Some 2) None ≡ Some version → line ≡ title_line version
-    by_second true same h = subst (λ v. line ≡ title_line v) (some_is 2 version h) ((bytes_eq-Decides line (title_line 2)).0 same)
+    by_second true same h = subst (λ v. line ≡ title_line v) (same_Some 2 version h) ((bytes_eq-Decides line (title_line 2)).0 same)
     by_second false other h = cc
 
     by_first : (b : Bool) → bytes_eq line (title_line 1) ≡ b → cond b (Some 1) (cond (bytes_eq line (title_line 2)) (Some 2) None) ≡ Some version → line ≡ title_line version
-    by_first true same h = subst (λ v. line ≡ title_line v) (some_is 1 version h) ((bytes_eq-Decides line (title_line 1)).0 same)
+    by_first true same h = subst (λ v. line ≡ title_line v) (same_Some 1 version h) ((bytes_eq-Decides line (title_line 1)).0 same)
     by_first false other h = by_second (bytes_eq line (title_line 2)) refl h
 
 pub read_title-version : (line : List ℕ) (version : ℕ) → read_title line ≡ Some version → (version ≡ 1) ⊎ (version ≡ 2)
 read_title-version line version e = by (bytes_eq line (title_line 1)) (bytes_eq line (title_line 2)) e
   where
     by : (b c : Bool) → cond b (Some 1) (cond c (Some 2) None) ≡ Some version → (version ≡ 1) ⊎ (version ≡ 2)
-    by true c h = inl (sym (some_is 1 version h))
-    by false true h = inr (sym (some_is 2 version h))
+    by true c h = inl (sym (same_Some 1 version h))
+    by false true h = inr (sym (same_Some 2 version h))
     by false false h = cc
 
 pub read_title-one : read_title (title_line 1) ≡ Some 1
@@ -198,10 +192,7 @@ read_cycle-IsShort line n e =
     number_of-HasDigits 7 word.0 n word.2
 
 numbers-short : (words : List (List ℕ)) (ns : List ℕ) → numbers_of words ≡ Some ns → All IsShort ns × (length ns ≡ length words)
-numbers-short [] ns e = subst (λ ns. All IsShort ns × (length ns ≡ 0)) (nil ns e) (All-nil IsShort, refl)
-  where
-    nil : (ns : List ℕ) → Some [] ≡ Some ns → [] ≡ ns
-    nil ns e = cc
+numbers-short [] ns e = subst (λ ns. All IsShort ns × (length ns ≡ 0)) (same_Some [] ns e) (All-nil IsShort, refl)
 numbers-short (word ∷ words) ns e =
     let first = and_then-Some (λ n. option_map (λ ns. n ∷ ns) (numbers_of words)) (number_of 7 word) ns e in
     let others = option_map-Some (λ ms. first.0 ∷ ms) (numbers_of words) ns first.2 in

@@ -4,6 +4,7 @@ ghost use Rattle.std.specs.List.{slice_split};
 ghost use Rattle.quorum_set.specs.Capacities.{AreCapacities};
 ghost use Rattle.certificate.specs.Certificates.{Weighted, IsCertificate, IsOptimal};
 ghost use Rattle.certificate.specs.PlanTexts.{plan_text, number_of, numbers_of, after_prefix, are_given, are_in_range, have_a_line, capacities_at, load_digits, read_title, read_pair, read_load, read_cycle, read_capacities, read_weights, line_at, is_within, are_within, first_weights, first_capacities, contents_at, head_fault, plan_at, Answers, Gives, UnlessOutOfMemory, RefusesAs};
+ghost use Rattle.certificate.specs.ReadLines.{contents_read};
 
 use crate::fault::PlanFault;
 use crate::plan::{Plan, check};
@@ -317,13 +318,7 @@ fn check_lines(text: &[u8]) -> Result<(), PlanFault>
 /// Returns the values of the lines, or the first bad line.
 #[tactic(auto, unfolding(crate::specs::PlanTexts::contents_at))]
 fn lines_of_text(alloc: Global, text: &[u8]) -> Result<Lines, PlanFault>
-    ensures { Gives (λ t. record {
-      load = t.load;
-      cycle = t.cycle;
-      capacities = option_map (λ v. v.items) t.capacities;
-      quorum_weights = t.quorum_weights.items;
-      voter_weights = t.voter_weights.items;
-    }) result (contents_at text.now) }
+    ensures { Gives contents_read result (contents_at text.now) }
 {
     let (version, rest) = title_line(text)?;
     let (load, rest) = load_line(rest, load_digits(version))?;
@@ -346,13 +341,7 @@ fn lines_of_text(alloc: Global, text: &[u8]) -> Result<Lines, PlanFault>
 /// Returns the values of the lines, or the first bad line. Only a text without a bad line takes
 /// memory.
 fn read_lines(alloc: Global, text: &[u8]) -> Result<Lines, PlanFault>
-    ensures exact { Gives (λ t. record {
-      load = t.load;
-      cycle = t.cycle;
-      capacities = option_map (λ v. v.items) t.capacities;
-      quorum_weights = t.quorum_weights.items;
-      voter_weights = t.voter_weights.items;
-    }) result (contents_at text.now) }
+    ensures exact { Gives contents_read result (contents_at text.now) }
     ensures format { RefusesAs (contents_at text.now) result }
 {
     check_lines(text)?;

@@ -93,11 +93,11 @@ struct Merge;
 
 impl Join<Hand> for Merge {
     ghost use Rattle.std.specs.Prelude.{[]};
-    ghost use Rattle.dealer.specs.Tickets.{join_hands, nothing};
+    ghost use Rattle.dealer.specs.Tickets.{join_hands, empty_hand};
 
     ghost both = { join_hands };
 
-    ghost spent = { nothing };
+    ghost spent = { empty_hand };
 }
 
 /// Draws the next ticket by one atomic addition to the word, and returns it.

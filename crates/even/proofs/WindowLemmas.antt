@@ -30,10 +30,6 @@ sum_by-map_range h q a (suc n) =
     ap (λ m. sum_by h (map q (range_with_len a m))) (sym (add-one n)) ∙ sum_by-map-range_with_len_more h q a n (a + n) refl
     ∙ ap (λ t. t + h (q (a + n))) (sum_by-map_range h q a n)
 
-map-same : (f g : ℕ → ℕ) (xs : List ℕ) → ((x : ℕ) → f x ≡ g x) → map f xs ≡ map g xs
-map-same f g [] same = refl
-map-same f g (x ∷ xs) same = ap (λ y. y ∷ map f xs) (same x) ∙ ap (λ ys. g x ∷ ys) (map-same f g xs same)
-
 -- Gains
 
 -- what a quorum gains for a voter
@@ -99,11 +95,11 @@ pub repeat_order-window : (o : EvenOrder) (order : List ℕ) (first n : ℕ) →
 repeat_order-window o order first n some is =
     let d = cycle_len o.plan in
     let long : length order ≡ d = ap length is ∙ length-map-range_with_len (even_quorum o) 0 d in
-    map-same (λ t. get_or order (t % length order) 0) (even_quorum o) (range_with_len first n)
-    (λ t. ap (λ m. get_or order (t % m) 0) long
+    let each : (t : ℕ) → get_or order (t % length order) 0 ≡ even_quorum o t = λ t. ap (λ m. get_or order (t % m) 0) long
     ∙ ap (λ list. get_or list (t % d) 0) is
     ∙ get_or-map-range_with_len (even_quorum o) 0 d (t % d) (t % d) 0 (mod-lt t {m = d} some) (omega arith)
-    ∙ even_quorum-again o t)
+    ∙ even_quorum-again o t in
+    λ i. map (λ t. each t i) (range_with_len first n)
 
 -- k cycles from any ticket on use each quorum k times its weight
 pub times-window : (o : EvenOrder) (first k j : ℕ) → 0 < cycle_len o.plan → IsFair o → times j (window o first (k * cycle_len o.plan)) ≡ k * get_or o.plan.quorum_weights j 0

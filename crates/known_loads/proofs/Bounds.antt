@@ -12,6 +12,7 @@ use Rattle.quorum_set.specs.Capacities.{AreCapacities}
 use Rattle.quorum_set.specs.Coteries.{QuorumSystem, IsCoterie}
 use Rattle.certificate.specs.Certificates.{Weighted, busiest_count, cycle_count, cycle_len, cycle_ratio, load_of, unit_load}
 use Rattle.certificate.specs.Loads.{weight_within}
+use Rattle.certificate.specs.Ratios.{greatest_ratio}
 use Rattle.certificate.proofs.RatioLemmas.{greatest_ratio-bound}
 use Rattle.known_loads.specs.SmallestQuorums.{smallest_size, smallest_capacity}
 use Rattle.certificate.proofs.Duality.{Bears}
@@ -53,19 +54,25 @@ module _ (s : QuorumSystem) (is : IsCoterie s) (uses : ℕ) (count : ℕ → ℕ
 -- Counts with capacities
 
 module _ (s : QuorumSystem) (is : IsCoterie s) (capacities : List ℕ) (are : AreCapacities capacities s.voters) (uses : ℕ) (count : ℕ → ℕ)
-    (bears : Bears s.voters s.quorums uses count) (r : ℕ × ℕ) (bound : (i : ℕ) → i < s.voters → count i * r.1 ≤ r.0 * get_or capacities i 0) where
-  pub capacity_average : uses * smallest_size s * r.1 ≤ sum capacities * r.0
-  capacity_average =
-      let all : r.0 * sum_below (λ i. get_or capacities i 0) s.voters ≡ r.0 * sum capacities =
-      ap (λ t. r.0 * t) (subst (λ n. sum_below (λ i. get_or capacities i 0) n ≡ sum capacities) are.one_each (sum_below-list (λ x. x) capacities)) in
-      omega (arith, average s uses r.0 r.1 count (λ i. get_or capacities i 0) bears bound, all)
+    (bears : Bears s.voters s.quorums uses count) where
+  abbrev ratio : ℕ × ℕ
+  ratio = greatest_ratio s.voters capacities count
 
-  pub capacity_smallest : uses * r.1 ≤ smallest_capacity s capacities * r.0
+  bound : (i : ℕ) → i < s.voters → count i * ratio.1 ≤ ratio.0 * get_or capacities i 0
+  bound = greatest_ratio-bound s.voters capacities count are
+
+  pub capacity_average : uses * smallest_size s * ratio.1 ≤ sum capacities * ratio.0
+  capacity_average =
+      let all : ratio.0 * sum_below (λ i. get_or capacities i 0) s.voters ≡ ratio.0 * sum capacities =
+      ap (λ t. ratio.0 * t) (subst (λ n. sum_below (λ i. get_or capacities i 0) n ≡ sum capacities) are.one_each (sum_below-list (λ x. x) capacities)) in
+      omega (arith, average s uses ratio.0 ratio.1 count (λ i. get_or capacities i 0) bears bound, all)
+
+  pub capacity_smallest : uses * ratio.1 ≤ smallest_capacity s capacities * ratio.0
   capacity_smallest =
       let found = least_of-reached (weight_within capacities) s.quorums is.some_quorum in
-      let least : r.0 * sum_by (λ i. get_or capacities i 0) (get_or s.quorums found.0 []) ≡ r.0 * smallest_capacity s capacities =
-      ap (λ t. r.0 * t) (sym found.2) in
-      omega (arith, one_quorum s uses r.0 r.1 count (λ i. get_or capacities i 0) bears bound is found.0 found.1, least)
+      let least : ratio.0 * sum_by (λ i. get_or capacities i 0) (get_or s.quorums found.0 []) ≡ ratio.0 * smallest_capacity s capacities =
+      ap (λ t. ratio.0 * t) (sym found.2) in
+      omega (arith, one_quorum s uses ratio.0 ratio.1 count (λ i. get_or capacities i 0) bears bound is found.0 found.1, least)
 
 -- Loads
 
@@ -111,16 +118,13 @@ module _ (w : Weighted) (is : IsCoterie w.system) (long : length w.quorum_weight
   load-square = square_bound (unit_load w).0 (unit_load w).1 (smallest_size w.system) w.system.voters load-average load-smallest
 
 module _ (w : Weighted) (is : IsCoterie w.system) (are : AreCapacities w.capacities w.system.voters) (long : length w.quorum_weights ≡ length w.system.quorums) where
-  bound : (i : ℕ) → i < w.system.voters → cycle_count w i * (cycle_ratio w).1 ≤ (cycle_ratio w).0 * get_or w.capacities i 0
-  bound = greatest_ratio-bound w.system.voters w.capacities (cycle_count w) are
-
   pub capacity_load-average : smallest_size w.system * (load_of w).1 ≤ sum w.capacities * (load_of w).0
   capacity_load-average =
       lowest_terms-bound (cycle_ratio w).0 ((cycle_ratio w).1 * cycle_len w) (smallest_size w.system) (sum w.capacities)
-      (omega (arith, capacity_average w.system is w.capacities are (cycle_len w) (cycle_count w) (Bears-cycle w.system w.quorum_weights is long) (cycle_ratio w) bound))
+      (omega (arith, capacity_average w.system is w.capacities are (cycle_len w) (cycle_count w) (Bears-cycle w.system w.quorum_weights is long)))
 
   pub capacity_load-smallest : (load_of w).1 ≤ smallest_capacity w.system w.capacities * (load_of w).0
   capacity_load-smallest =
       let low = lowest_terms-bound (cycle_ratio w).0 ((cycle_ratio w).1 * cycle_len w) 1 (smallest_capacity w.system w.capacities)
-      (omega (arith, capacity_smallest w.system is w.capacities are (cycle_len w) (cycle_count w) (Bears-cycle w.system w.quorum_weights is long) (cycle_ratio w) bound)) in
+      (omega (arith, capacity_smallest w.system is w.capacities are (cycle_len w) (cycle_count w) (Bears-cycle w.system w.quorum_weights is long))) in
       omega (arith, low)

@@ -1,20 +1,12 @@
-use Rattle.std.proofs.Common.{length}
-use Rattle.quorum_set.specs.Counts.{count_of}
-use Rattle.certificate.specs.Ratios.{ratio_of}
-use Rattle.certificate.proofs.RatioLemmas.{greatest_ratio-bound}
 use Rattle.certificate.proofs.Duality.{Bears-list}
 use Rattle.known_loads.proofs.Bounds.{unit_smallest, smallest_voter, capacity_smallest}
 use Rattle.known_loads.proofs.laws.smallest_quorum_bears_every_entry.Goals as goal
 
 pub returns-clause-busiest : goal.returns-clause-busiest
-returns-clause-busiest c = λ s list is small.
-    unit_smallest s is (length list) (λ i. count_of s i list) (Bears-list s list is small)
+returns-clause-busiest c = λ s list is small. unit_smallest s is _ _ (Bears-list s list is small)
 
 pub returns-clause-voter : goal.returns-clause-voter
-returns-clause-voter c = λ s list is small.
-    smallest_voter s is (length list) (λ i. count_of s i list) (Bears-list s list is small)
+returns-clause-voter c = λ s list is small. smallest_voter s is _ _ (Bears-list s list is small)
 
 pub returns-clause-ratio : goal.returns-clause-ratio
-returns-clause-ratio c = λ s capacities list is are small.
-    capacity_smallest s is capacities are (length list) (λ i. count_of s i list) (Bears-list s list is small)
-    (ratio_of s capacities list) (greatest_ratio-bound s.voters capacities (λ i. count_of s i list) are)
+returns-clause-ratio c = λ s capacities list is are small. capacity_smallest s is capacities are _ _ (Bears-list s list is small)

@@ -1,7 +1,8 @@
 use Rattle.std.proofs.Common.{◌≡◌, ◌+◌, length, ap, sym, ◌∙◌, arith}
-use Rattle.dealer.specs.Offices.{OfficeName, ClerkState}
+use Rattle.std.proofs.lemmas.List.{length-map}
+use Rattle.dealer.specs.Offices.{OfficeName, ClerkState, receipt_of}
 use Rattle.dealer.specs.declared.tickets.Sheet.{Sheet}
-use Rattle.dealer.proofs.ReceiptLemmas.{AreAllBelow-receipts, AreByCycle-map, length-receipts}
+use Rattle.dealer.proofs.ReceiptLemmas.{AreAllBelow-receipts, AreByCycle-map}
 use Rattle.dealer.proofs.office.Office.end.Goals as goal
 
 -- the last clerk has all tickets
@@ -12,7 +13,7 @@ returns-clause-tickets c =
     let are = sym receipts ∙ c.clerk.invariant.receipts in
     let is = ap (λ (s : Sheet). s.quota) c.self.invariant.same_sheet in
     let whole : length hand.drawn + hand.rest ≡ c.self.inside.table.shared.key.quota =
-    omega (arith, ap length are ∙ length-receipts hand.cycle hand.drawn, ap length receipts, c.len.ensures, c.clerk.invariant.rest, is, c.end.ensures.1, c.if-out-gt0.false) in
+    omega (arith, ap length are ∙ length-map hand.drawn (receipt_of hand.cycle), ap length receipts, c.len.ensures, c.clerk.invariant.rest, is, c.end.ensures.1, c.if-out-gt0.false) in
     AreAllBelow-receipts hand.cycle hand.drawn c.args.clerk.receipts are (c.end.ensures.2 whole)
 
 pub returns-clause-quorums : goal.returns-clause-quorums
