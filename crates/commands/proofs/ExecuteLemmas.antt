@@ -3,12 +3,10 @@ use Rattle.std.proofs.Common.{◌≡◌, ℕ, true, List, Option, None, Some, su
 use Rattle.std.specs.Prelude.{IfSome}
 use Rattle.commands.specs.Commands.{ComesOf, IsRefusedBy, IsShortFor, reads_input}
 use Rattle.commands.specs.Devices.{IsOfReading, IsOwn}
-use Rattle.whole_io.specs.declared.fault.DeviceFault.TheVariants as device
 use Rattle.whole_io.specs.declared.fault.DeviceFault.TheVariants.{ReadFault, TooLong}
 use Rattle.commands.specs.declared.fault.Fault.{Fault}
 use Rattle.commands.specs.declared.fault.Fault.TheVariants.{Device, OutOfMemory}
 use Rattle.command_line.specs.declared.command.Command.{Command}
-use Rattle.command_line.specs.declared.command.Command.TheVariants as commands
 use Rattle.command_line.specs.declared.command.Command.TheVariants.{Make}
 use Rattle.command_line.specs.declared.command.Shape.{Shape}
 

@@ -334,12 +334,7 @@ IsAnswered view command input (Err fault) = IsRefusedBy command input fault
 -- whether a command reads its input; `make` doesn't
 abbrev pub reads_input : Command → Bool
 reads_input (Make shape) = false
-reads_input Plan = true
-reads_input Check = true
-reads_input (Deal n) = true
-reads_input World = true
-reads_input (Run clients passes turns) = true
-reads_input Replay = true
+reads_input command = true
 
 -- nothing is left of the input, if the command reads it
 abbrev pub EndsAfter : Command → Option (List ℕ) → Type 0

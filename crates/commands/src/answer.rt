@@ -1,5 +1,5 @@
 //! What each command writes for its input.
-ghost use Rattle.std.specs.Prelude.{◌≡◌, ◌≤◌, ◌<◌, ◌⊎◌, length, IfErr, IfOk, string_bytes};
+ghost use Rattle.std.specs.Prelude.{◌≡◌, ◌≤◌, ◌⊎◌, length, IfErr, IfOk, string_bytes};
 ghost use Rattle.numbers.specs.Bounds.{max_tickets};
 ghost use Rattle.construct.specs.Answers as construct_answers;
 ghost use Rattle.certificate.specs.Certificates.{cycle_len};

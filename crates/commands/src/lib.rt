@@ -34,9 +34,10 @@ mod lines;
 mod parts;
 mod serving;
 mod statuses;
+mod words;
 
 pub use answer::{coterie_of, planned_of, staged_of};
-pub use command_line::{Command, Shape, Usage, read_words};
+pub use command_line::{Command, Shape, Usage};
 pub use dealing::dealt;
 pub use fault::Fault;
 pub use laws::{named_commands_are_in_range, refusals_come_of_the_input};
@@ -46,3 +47,4 @@ pub use plan_inputs::{InputFault, Planned};
 pub use serving::{execute, input_for, write_answer};
 pub use statuses::{status_of, usage_status};
 pub use whole_io::{DeviceFault, Watched};
+pub use words::read_words;

@@ -1,5 +1,5 @@
 //! The lines that commands write.
-ghost use Rattle.std.specs.Prelude.{◌≡◌, ◌++◌, ◌<◌, length, IfOk, OnOk, string_bytes};
+ghost use Rattle.std.specs.Prelude.{◌≡◌, ◌++◌, length, IfOk, OnOk, string_bytes};
 ghost use Rattle.std.specs.List.{flat_map};
 ghost use Rattle.coterie_file.specs.Named.{IsNamed};
 ghost use Rattle.commands.specs.Commands.{account_text, busiest_line, drawn_line, load_line, ratio_part, receipt_line, record_lines, register_line, voter_line, voter_lines};

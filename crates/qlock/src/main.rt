@@ -8,9 +8,7 @@
 ghost use Rattle.commands.specs.Commands.{IsInRange};
 
 use host::{command_line_of, read_files, refuse_words, report, report_unread};
-use qlock_cli::{
-    Command, NoGate, Usage, Watched, execute, execute_run, named_commands_are_in_range, read_words,
-};
+use qlock_cli::{Command, NoGate, Usage, Watched, execute, execute_run, read_words};
 use std::io;
 use std::io::Read;
 use std::process::ExitCode;
@@ -67,7 +65,6 @@ fn serve<T: Threads + Wait + Clock + Sync>(
 
 /// Serves the command that the words of the command line name. Returns the exit status.
 fn run<T: Threads + Wait + Clock + Sync>(rt: &HostRuntime, threads: &T) -> Result<u8, Usage> {
-    named_commands_are_in_range();
     let line = command_line_of(rt)?;
     let command = read_words(rt.alloc(), line.words.as_slice())?;
     Ok(serve(rt, threads, &command, line.files.as_slice()))

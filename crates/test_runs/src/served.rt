@@ -2,10 +2,7 @@
 ghost use Rattle.std.specs.Prelude.{◌≡◌, false, IfOk, IfSome};
 ghost use Rattle.commands.specs.Commands.{IsInRange};
 
-use qlock_cli::{
-    Command, Fault, Gate, NoGate, Watched, execute, execute_run, named_commands_are_in_range,
-    read_words,
-};
+use qlock_cli::{Command, Fault, Gate, NoGate, Watched, execute, execute_run, read_words};
 use std::alloc::{AllocError, Global};
 use std::io::{Read, Write};
 use std::sync::Wait;
@@ -26,7 +23,6 @@ fn words_of(alloc: Global, line: &str) -> Result<Vec<String>, AllocError> {
 fn named(alloc: Global, words: &[String]) -> Option<Command>
     ensures { IfSome result IsInRange }
 {
-    named_commands_are_in_range();
     match read_words(alloc, words) {
         Ok(command) => Some(command),
         Err(_) => None,
