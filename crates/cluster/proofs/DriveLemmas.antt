@@ -8,9 +8,9 @@ use Rattle.std.proofs.lemmas.Bool.Decides.{nat_tests}
 use Rattle.std.specs.List.{AllZip}
 use Rattle.std.proofs.lemmas.List.{append-nil, append_assoc, length-append}
 use Rattle.requester.specs.Words.{is_idle, is_inside}
-use Rattle.board.specs.declared.fault.BoardFault.TheVariants.{SeatsOut, VoteOut, RegisterFull, OutOfMemory}
+use Rattle.board.specs.declared.fault.BoardFault.TheVariants.{RegisterFull, OutOfMemory}
 use Rattle.board.specs.Seats.{ClientSeatState as SeatState}
-use Rattle.requester.specs.declared.fault.ClientFault.TheVariants.{Busy, NotInside as Outside, NotAsking, StampsSpent}
+use Rattle.requester.specs.declared.fault.ClientFault.TheVariants.{Busy}
 use Rattle.dealer.specs.declared.fault.DealFault.TheVariants.{QuotaSpent, OutOfMemory as NoRoom}
 use Rattle.dealer.specs.declared.receipt.Receipt.{Receipt}
 use Rattle.dealer.specs.Offices.{ClerkState}
@@ -40,9 +40,8 @@ second_drawn (Some k) r some = ((r ∷ [], refl, refl), omega (arith, some))
 one_drawn : (side plan : Side) (k : ClerksState) (r : Receipt) → 0 < rest_of k side
     → HasMore (on side plan 1) (receipts_of k plan) (receipts_of (drawn_by side k r) plan) × (rest_of (drawn_by side k r) plan + on side plan 1 ≡ rest_of k plan)
 one_drawn First First k r some = ((r ∷ [], refl, refl), omega (arith, some))
-one_drawn First Second k r some = (([], sym (append-nil (receipts_of k Second)), refl), omega arith)
-one_drawn Second First k r some = (([], sym (append-nil (receipts_of k First)), refl), omega arith)
 one_drawn Second Second k r some = second_drawn k.second r some
+one_drawn side plan k r some = (([], sym (append-nil (receipts_of k plan)), refl), omega arith)
 
 side-drawn_by : (side : Side) (k : ClerksState) (r : Receipt) → (drawn_by side k r).side ≡ k.side
 side-drawn_by First k r = refl
@@ -77,13 +76,8 @@ pub Stops-refused_pass : (a b c : MemberState) (fault : ClusterFault) → 0 < re
     → is_inside b.requester.phase ≡ true → RefusesPass b fault → Stops a c fault
 Stops-refused_pass a b c (ends.Board RegisterFull) some w inside r = (w.0, w.1, some)
 Stops-refused_pass a b c (ends.Board OutOfMemory) some w inside r = (w.0, w.1, some)
-Stops-refused_pass a b c (ends.Board (SeatsOut k)) some w inside r = absurd r
-Stops-refused_pass a b c (ends.Board (VoteOut v)) some w inside r = absurd r
-Stops-refused_pass a b c (ends.Client e) some w inside r = absurd r
-Stops-refused_pass a b c (ends.Deal e) some w inside r = absurd r
 Stops-refused_pass a b c ends.NotInside some w inside r = absurd (true≢false (sym inside ∙ r))
-Stops-refused_pass a b c (ends.TurnsSpent k) some w inside r = absurd r
-Stops-refused_pass a b c ends.NoSecondPlan some w inside r = absurd r
+Stops-refused_pass a b c fault some w inside r = absurd r
 
 -- who drew, then passed by x and left
 pub Worked-pass : (a b c : MemberState) (x : ℕ) → Worked (λ plan. on a.clerks.side plan 1) 0 a b × (b.clerks.side ≡ a.clerks.side)
@@ -123,9 +117,8 @@ Worked-then f g n l a b c first second = record {
 
 on-add : (side plan : Side) (m n : ℕ) → on side plan m + on side plan n ≡ on side plan (m + n)
 on-add First First m n = refl
-on-add First Second m n = refl
-on-add Second First m n = refl
 on-add Second Second m n = refl
+on-add side plan m n = refl
 
 on-same : (side : Side) (n : ℕ) → on side side n ≡ n
 on-same First n = refl
@@ -152,18 +145,12 @@ HasServedOn-next n a b c r one fault = record {
 -- what ends the work after m passes more
 later_ends : (client tickets rest m passed : ℕ) (fault : ClusterFault) → rest + m ≡ tickets → EndsWork client rest passed fault → EndsWork client tickets (m + passed) fault
 later_ends client tickets rest m passed (ends.Client Busy) more h = h
-later_ends client tickets rest m passed (ends.Client StampsSpent) more h = h
-later_ends client tickets rest m passed (ends.Client Outside) more h = h
-later_ends client tickets rest m passed (ends.Client NotAsking) more h = h
 later_ends client tickets rest m passed (ends.Deal QuotaSpent) more h = omega (arith, more, h)
 later_ends client tickets rest m passed (ends.Deal NoRoom) more h = omega (arith, more, h)
 later_ends client tickets rest m passed (ends.Board RegisterFull) more h = omega (arith, more, h)
 later_ends client tickets rest m passed (ends.Board OutOfMemory) more h = omega (arith, more, h)
-later_ends client tickets rest m passed (ends.Board (SeatsOut k)) more h = h
-later_ends client tickets rest m passed (ends.Board (VoteOut v)) more h = h
-later_ends client tickets rest m passed ends.NotInside more h = h
 later_ends client tickets rest m passed (ends.TurnsSpent k) more h = (h.0, omega (arith, more, h.1))
-later_ends client tickets rest m passed ends.NoSecondPlan more h = h
+later_ends client tickets rest m passed fault more h = h
 
 -- after n passes the next was not made
 pub Worked-stopped : (n : ℕ) (a b c d : MemberState) (fault : ClusterFault) → HasServedOn n a b → Stops b c fault → KeepsWork c d
@@ -215,8 +202,7 @@ may_exchange-first Second second e = absurd (true≢false (sym e))
 
 may_exchange-is : (side : Side) (second : Option ClerkState) → may_exchange_from side second ≡ (is_first side && is_some second)
 may_exchange-is First None = refl
-may_exchange-is First (Some k) = refl
-may_exchange-is Second second = refl
+may_exchange-is side second = refl
 
 may_exchange-same : (k later : ClerksState) → later.side ≡ k.side → is_some later.second ≡ is_some k.second → may_exchange later ≡ may_exchange k
 may_exchange-same k later side second =
@@ -255,11 +241,7 @@ side_if-later true side half n = ap (λ b. cond {A = Side} b Second side) (le ha
 
 few_wasted : (fault : ClusterFault) → tickets_without_pass fault ≤ 1
 few_wasted (ends.Client e) = omega arith
-few_wasted (ends.Deal e) = omega arith
-few_wasted (ends.Board e) = omega arith
-few_wasted ends.NotInside = omega arith
-few_wasted (ends.TurnsSpent k) = omega arith
-few_wasted ends.NoSecondPlan = omega arith
+few_wasted fault = omega arith
 
 -- the work ended before the exchange
 pub IsBack-early : (passes : ℕ) (a b : MemberState) (fault : ClusterFault) → HasEndedOn (passes / 2) fault a b → IsBack passes a b
@@ -392,17 +374,15 @@ TookTurns-then turns left n a b c d r is h took =
 
 pub AllZip-from : {X : Type 0} (R : X → X → Type 0) (xs ys : List X) → length ys ≡ length xs → ((i : ℕ) (d : X) → i < length xs → R (slice_index_or xs i d) (slice_index_or ys i d)) → AllZip R xs ys
 AllZip-from R [] [] e each = tt
-AllZip-from R [] (y ∷ ys) e each = absurd (omega (arith, e))
-AllZip-from R (x ∷ xs) [] e each = absurd (omega (arith, e))
 AllZip-from R (x ∷ xs) (y ∷ ys) e each = (each 0 x (omega arith), AllZip-from R xs ys (omega (arith, e)) (λ i d below. each (suc i) d (omega (arith, below))))
+AllZip-from R xs ys e each = absurd (omega (arith, e))
 
 -- members without a fault did all their work
 pub AllZip-HasServed : (passes : ℕ) (xs ys : List MemberState) → AllZip (IsBack passes) xs ys → All (λ m. m.fault ≡ None) ys → AllZip (HasServed passes) xs ys
 AllZip-HasServed passes [] [] back done = tt
-AllZip-HasServed passes [] (y ∷ ys) back done = absurd back
-AllZip-HasServed passes (x ∷ xs) [] back done = absurd back
 AllZip-HasServed passes (x ∷ xs) (y ∷ ys) back done =
     (subst (λ f. IsBackBy passes f x y) (done 0 y (omega arith)) back.0, AllZip-HasServed passes xs ys back.1 (λ k d below. done (suc k) d (omega (arith, below))))
+AllZip-HasServed passes xs ys back done = absurd back
 
 back_idle : (passes : ℕ) (fault : Option ClusterFault) (x y : MemberState) → IsBackBy passes fault x y → is_idle y.requester.phase ≡ true
 back_idle passes None x y back = back.idle
@@ -410,7 +390,6 @@ back_idle passes (Some fault) x y back = back.idle
 
 pub AreIdle-IsBack : (passes : ℕ) (xs ys : List MemberState) → AllZip (IsBack passes) xs ys → AreIdle ys
 AreIdle-IsBack passes [] [] back k d below = absurd (omega (arith, below))
-AreIdle-IsBack passes [] (y ∷ ys) back k d below = absurd back
-AreIdle-IsBack passes (x ∷ xs) [] back k d below = absurd back
 AreIdle-IsBack passes (x ∷ xs) (y ∷ ys) back zero d below = back_idle passes y.fault x y back.0
 AreIdle-IsBack passes (x ∷ xs) (y ∷ ys) back (suc k) d below = AreIdle-IsBack passes xs ys back.1 k d (omega (arith, below))
+AreIdle-IsBack passes xs ys back k d below = absurd back

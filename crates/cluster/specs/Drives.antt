@@ -1,8 +1,8 @@
 -- Drives of members: what becomes of each, and which fault is returned.
 use Rattle.std.specs.Prelude.{◌≡◌, ℕ, ◌+◌, ◌-◌, ◌*◌, ◌/◌, ◌<◌, ◌≤◌, ◌++◌, Bool, true, false, cond, is_some, min, nat_le, List, Option, None, Some, IfSome, All, Contains, length}
-use Rattle.board.specs.declared.fault.BoardFault.TheVariants.{SeatsOut, VoteOut, RegisterFull, OutOfMemory}
+use Rattle.board.specs.declared.fault.BoardFault.TheVariants.{RegisterFull, OutOfMemory}
 use Rattle.dealer.specs.declared.fault.DealFault.TheVariants.{QuotaSpent, OutOfMemory as NoRoom}
-use Rattle.requester.specs.declared.fault.ClientFault.TheVariants.{Busy, NotInside as Outside, NotAsking, StampsSpent}
+use Rattle.requester.specs.declared.fault.ClientFault.TheVariants.{StampsSpent}
 use Rattle.requester.specs.Words.{is_idle}
 use Rattle.run_outcome.specs.declared.fault.ClusterFault.{ClusterFault}
 use Rattle.run_outcome.specs.declared.fault.ClusterFault.TheVariants as ends
@@ -77,37 +77,25 @@ pub record HasServed (passes : ℕ) (before after : MemberState) : Type 0 where
 -- - Its turns are spent.
 abbrev pub EndsWork : ℕ → ℕ → ℕ → ClusterFault → Type 0
 EndsWork client tickets passed (ends.Client StampsSpent) = Unit {0}
-EndsWork client tickets passed (ends.Client Busy) = ⊥
-EndsWork client tickets passed (ends.Client Outside) = ⊥
-EndsWork client tickets passed (ends.Client NotAsking) = ⊥
 EndsWork client tickets passed (ends.Deal QuotaSpent) = tickets ≡ passed
 EndsWork client tickets passed (ends.Deal NoRoom) = passed < tickets
 EndsWork client tickets passed (ends.Board RegisterFull) = passed < tickets
 EndsWork client tickets passed (ends.Board OutOfMemory) = passed < tickets
-EndsWork client tickets passed (ends.Board (SeatsOut k)) = ⊥
-EndsWork client tickets passed (ends.Board (VoteOut v)) = ⊥
-EndsWork client tickets passed ends.NotInside = ⊥
 EndsWork client tickets passed (ends.TurnsSpent c) = (c ≡ client) × (passed < tickets)
-EndsWork client tickets passed ends.NoSecondPlan = ⊥
+EndsWork client tickets passed fault = ⊥
 
 -- The work that ended by this fault left this many turns. It ends by `TurnsSpent` only with no turn
 -- left.
 abbrev pub LeavesTurns : ℕ → ClusterFault → Type 0
-LeavesTurns left (ends.Client e) = Unit {0}
-LeavesTurns left (ends.Deal e) = Unit {0}
-LeavesTurns left (ends.Board e) = Unit {0}
-LeavesTurns left ends.NotInside = Unit {0}
 LeavesTurns left (ends.TurnsSpent c) = left ≡ 0
-LeavesTurns left ends.NoSecondPlan = Unit {0}
+LeavesTurns left fault = Unit {0}
 
 -- how many tickets this fault leaves without a pass: 1 if it came after the draw
 abbrev pub tickets_without_pass : ClusterFault → ℕ
 tickets_without_pass (ends.Client e) = 0
 tickets_without_pass (ends.Deal e) = 0
-tickets_without_pass (ends.Board e) = 1
-tickets_without_pass ends.NotInside = 1
-tickets_without_pass (ends.TurnsSpent c) = 1
 tickets_without_pass ends.NoSecondPlan = 0
+tickets_without_pass fault = 1
 
 -- The member is idle again, and its work ended early by this fault. It made fewer than `passes`
 -- passes. It drew a ticket for each that it made, and one more if the fault came after the draw. If

@@ -42,6 +42,6 @@ mod turns;
 pub use drives::{Driven, drive};
 pub use gate::{Gate, NoGate};
 pub use members::{
-    Blank, CloseFault, Cluster, ClusterFault, ClusterName, Member, Node, RunRecord,
+    Blank, CloseFault, Cluster, ClusterFault, ClusterName, Draw, Member, Node, Pass, RunRecord,
     records_are_in_range, records_count_passes,
 };

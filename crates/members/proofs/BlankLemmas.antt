@@ -13,21 +13,19 @@ use Rattle.dealer.specs.Plans.{ArePlans, PlanPair, coteries_of}
 use Rattle.members.specs.Clusters.{ClusterState}
 use Rattle.members.specs.Members.{AreIdle, MemberState, fresh_member}
 
+-- the quotas that are left, and those after one more
+quotas_left : (n i q : ℕ) → i < n → (n - i) * q ≡ (n - (i + 1)) * q + 1 * q
+quotas_left n i q less =
+    let more : n - i ≡ n - (i + 1) + 1 = omega (arith, less) in
+    ap (λ (k : ℕ). k * q) more ∙ add-mul (n - (i + 1)) 1 q
+
 -- one quota less
 pub mul-less_one : (n i q : ℕ) → i < n → (n - i) * q - q ≡ (n - (i + 1)) * q
-mul-less_one n i q less =
-    let m = n - (i + 1) in
-    let more : n - i ≡ m + 1 = omega (arith, less) in
-    let part : (n - i) * q ≡ m * q + 1 * q = ap (λ (k : ℕ). k * q) more ∙ add-mul m 1 q in
-    omega (arith, part)
+mul-less_one n i q less = omega (arith, quotas_left n i q less)
 
 -- one quota is among those that are left
 pub le-quotas_left : (n i q : ℕ) → i < n → q ≤ (n - i) * q
-le-quotas_left n i q less =
-    let m = n - (i + 1) in
-    let more : n - i ≡ m + 1 = omega (arith, less) in
-    let part : (n - i) * q ≡ m * q + 1 * q = ap (λ (k : ℕ). k * q) more ∙ add-mul m 1 q in
-    omega (arith, part)
+le-quotas_left n i q less = omega (arith, quotas_left n i q less)
 
 -- no quota is left
 pub mul-none_left : (n i q : ℕ) → n ≤ i → (n - i) * q ≡ 0

@@ -118,9 +118,8 @@ receipts_of-joined_each k other same Second = second k.second other.second (ap (
     second : (a b : Option ClerkState) → option_map (λ x. x.office) a ≡ option_map (λ x. x.office) b
         → receipts_of (joined_each (of a) (of b)) Second ≡ receipts_of (of a) Second ++ receipts_of (of b) Second
     second None None e = refl
-    second None (Some o) e = absurd (true≢false (sym (ap is_some e)))
-    second (Some k) None e = absurd (true≢false (ap is_some e))
     second (Some k) (Some o) e = refl
+    second a b e = cc
 
 -- clerks with this share have all the tickets of offices with a smaller quota
 pub AreWhole-HasShare : (o : OfficesState) (k : ClerksState) (names : OfficeName × Option OfficeName) (n m : ℕ) → o ≡ offices_with names n → names_of k ≡ names → HasShare k m → n ≤ m → AreWhole o k

@@ -1,11 +1,12 @@
 -- What a member keeps over its calls.
-use Rattle.std.proofs.Common.{◌≡◌, ◌≢◌, inr, ℕ, zero, suc, replicate, ◌<◌, ◌≤◌, Bool, true, false, true≢false, not, ◌&&◌, List, [], ◌∷◌, Result, Ok, Err, refl, sym, ap, ◌∙◌, subst, length, arith}
+use Rattle.std.proofs.Common.{◌≡◌, ◌≢◌, inr, ℕ, ◌<◌, ◌≤◌, Bool, true, false, true≢false, not, ◌&&◌, List, [], ◌∷◌, Result, Ok, Err, refl, sym, ap, ◌∙◌, subst, length, arith}
 use Rattle.std.specs.Prelude.{slice_index, filter, ◌==◌}
 use Rattle.std.proofs.lemmas.Grind.{same_number_lists}
 use Rattle.message.specs.declared.message.ToClient.{ToClient}
 use Rattle.message.specs.declared.message.ClientBody.{ClientBody}
 use Rattle.message.specs.declared.message.ClientBody.TheVariants as to_client
 use Rattle.requester.specs.declared.fault.ClientFault.{ClientFault}
+use Rattle.requester.specs.declared.fault.ClientFault.TheVariants.{Busy, StampsSpent}
 use Rattle.requester.specs.declared.state.ClientState.{ClientState}
 use Rattle.requester.specs.declared.state.Phase.{Phase}
 use Rattle.requester.specs.declared.state.Phase.TheVariants.{Idle, Asking, Inside}
@@ -24,6 +25,7 @@ use Rattle.board.specs.Words.{nobody}
 use Rattle.board.specs.declared.fault.BoardFault.{BoardFault}
 use Rattle.board.specs.declared.fault.BoardFault.TheVariants.{OutOfMemory, RegisterFull}
 use Rattle.dealer.specs.declared.receipt.Receipt.{Receipt}
+use Rattle.numbers.proofs.Lists.{slice_index-replicate_zero}
 use Rattle.numbers.specs.Sets.{has, IsSet}
 use Rattle.node.specs.Mail.{IsMail}
 use Rattle.run_outcome.specs.declared.fault.ClusterFault.{ClusterFault}
@@ -58,21 +60,16 @@ of_give_up x o e = e
 
 -- who asks was idle and had a stamp left
 
-abbrev is_fine : {A : Type 0} → Result A ClientFault → Bool
-is_fine (Ok o) = true
-is_fine (Err e) = false
-
-pub Ok-not_Err : {A : Type 0} (r : Result A ClientFault) (o : A) (e : ClientFault) → r ≡ Ok o → r ≡ Err e → ⊥
-Ok-not_Err r o e ok err = true≢false (ap is_fine (sym ok ∙ err))
+pub Ok-not_Err : {A E : Type 0} (r : Result A E) (o : A) (e : E) → r ≡ Ok o → r ≡ Err e → ⊥
+Ok-not_Err r o e ok err = cc
 
 unspent_if : (b : Bool) (x : ClientState) (q : List ℕ) (o : Outcome) → ask_unless b x q ≡ Ok o → b ≡ false
 unspent_if false x q o e = refl
-unspent_if true x q o e = absurd (true≢false (ap is_fine (sym e)))
+unspent_if true x q o e = cc
 
 starts_in : (p : Phase) (x : ClientState) (q : List ℕ) (o : Outcome) → ask_in p x q ≡ Ok o → (is_idle p ≡ true) × (is_spent x ≡ false)
 starts_in Idle x q o e = (refl, unspent_if (is_spent x) x q o e)
-starts_in Asking x q o e = absurd (true≢false (ap is_fine (sym e)))
-starts_in Inside x q o e = absurd (true≢false (ap is_fine (sym e)))
+starts_in p x q o e = absurd cc
 
 pub ask-Ok : (x : ClientState) (q : List ℕ) (o : Outcome) → ask x q ≡ Ok o → (is_idle x.phase ≡ true) × (is_spent x ≡ false)
 unfolding ask
@@ -80,18 +77,13 @@ ask-Ok x q o e = starts_in x.phase x q o e
 
 -- why a client does not start, and a member with a client that would start does not ask
 
-abbrev fault_or : {A : Type 0} → ClientFault → Result A ClientFault → ClientFault
-fault_or other (Ok o) = other
-fault_or other (Err e) = e
-
 spent_if : (b : Bool) (x : ClientState) (q : List ℕ) (e : ClientFault) → is_spent x ≡ b → is_idle x.phase ≡ true → ask_unless b x q ≡ Err e → RefusesStart x e
-spent_if false x q e is idle err = absurd (true≢false (ap is_fine err))
-spent_if true x q e is idle err = subst (RefusesStart x) (ap (fault_or e) err) (idle, is)
+spent_if false x q e is idle err = absurd cc
+spent_if true x q e is idle err = let same : StampsSpent ≡ e = cc in subst (RefusesStart x) same (idle, is)
 
 refuses_in : (p : Phase) (x : ClientState) (q : List ℕ) (e : ClientFault) → x.phase ≡ p → ask_in p x q ≡ Err e → RefusesStart x e
 refuses_in Idle x q e is err = spent_if (is_spent x) x q e refl (ap is_idle is) err
-refuses_in Asking x q e is err = subst (RefusesStart x) (ap (fault_or e) err) (ap is_idle is)
-refuses_in Inside x q e is err = subst (RefusesStart x) (ap (fault_or e) err) (ap is_idle is)
+refuses_in p x q e is err = let same : Busy ≡ e = cc in subst (RefusesStart x) same (ap is_idle is)
 
 pub RefusesStart-ask : (x : ClientState) (q : List ℕ) (e : ClientFault) → ask x q ≡ Err e → RefusesStart x e
 unfolding ask
@@ -105,36 +97,32 @@ RefusesAsk-ticket m NoRoom start err = (start.0, start.1, err)
 -- who leaves was inside, and who gives up asked
 
 leaves_in : (p : Phase) (x : ClientState) (o : Outcome) → leave_in p x ≡ Ok o → is_inside p ≡ true
-leaves_in Idle x o e = absurd (true≢false (ap is_fine (sym e)))
-leaves_in Asking x o e = absurd (true≢false (ap is_fine (sym e)))
 leaves_in Inside x o e = refl
+leaves_in p x o e = cc
 
 pub is_inside-leave : (x : ClientState) (o : Outcome) → leave x ≡ Ok o → is_inside x.phase ≡ true
 unfolding leave
 is_inside-leave x o e = leaves_in x.phase x o e
 
 stays_in : (p : Phase) (x : ClientState) (f : ClientFault) → leave_in p x ≡ Err f → is_inside p ≡ false
-stays_in Idle x f e = refl
-stays_in Asking x f e = refl
-stays_in Inside x f e = absurd (true≢false (ap is_fine e))
+stays_in Inside x f e = cc
+stays_in p x f e = refl
 
 pub not_left : (x : ClientState) (f : ClientFault) → leave x ≡ Err f → is_inside x.phase ≡ false
 unfolding leave
 not_left x f e = stays_in x.phase x f e
 
 gives_up_in : (p : Phase) (x : ClientState) (o : Outcome) → give_up_in p x ≡ Ok o → is_asking p ≡ true
-gives_up_in Idle x o e = absurd (true≢false (ap is_fine (sym e)))
 gives_up_in Asking x o e = refl
-gives_up_in Inside x o e = absurd (true≢false (ap is_fine (sym e)))
+gives_up_in p x o e = cc
 
 pub is_asking-give_up : (x : ClientState) (o : Outcome) → give_up x ≡ Ok o → is_asking x.phase ≡ true
 unfolding give_up
 is_asking-give_up x o e = gives_up_in x.phase x o e
 
 keeps_on_in : (p : Phase) (x : ClientState) (f : ClientFault) → give_up_in p x ≡ Err f → is_asking p ≡ false
-keeps_on_in Idle x f e = refl
-keeps_on_in Asking x f e = absurd (true≢false (ap is_fine e))
-keeps_on_in Inside x f e = refl
+keeps_on_in Asking x f e = cc
+keeps_on_in p x f e = refl
 
 pub is_asking-refused_give_up : (x : ClientState) (f : ClientFault) → give_up x ≡ Err f → is_asking x.phase ≡ false
 unfolding give_up
@@ -164,9 +152,8 @@ enter_if-not_left false x = refl
 enter_if-not_left true x = refl
 
 take_locked_by-not_left : (b fresh : Bool) (x : ClientState) (v s g : ℕ) → is_left (take_locked_by b fresh x v s g).seen ≡ false
-take_locked_by-not_left false fresh x v s g = refl
-take_locked_by-not_left true false x v s g = refl
 take_locked_by-not_left true true x v s g = enter_if-not_left (is_covered (hold x v g)) (hold x v g)
+take_locked_by-not_left b fresh x v s g = refl
 
 take_locked-not_left : (x : ClientState) (v s g : ℕ) → is_left (take_locked x v s g).seen ≡ false
 unfolding take_locked
@@ -181,9 +168,8 @@ unfolding take_fail
 take_fail-not_left x v s = take_fail_by-not_left (is_asking x.phase && s == x.stamp && is_member x v && not (holds x v)) x v
 
 take_inquire_by-not_left : (b hindered : Bool) (x : ClientState) (v : ℕ) → is_left (take_inquire_by b hindered x v).seen ≡ false
-take_inquire_by-not_left false hindered x v = refl
-take_inquire_by-not_left true false x v = refl
 take_inquire_by-not_left true true x v = relinquish-not_left x v
+take_inquire_by-not_left b hindered x v = refl
 
 take_inquire-not_left : (x : ClientState) (v g : ℕ) → is_left (take_inquire x v g).seen ≡ false
 unfolding take_inquire
@@ -244,12 +230,7 @@ no_votes : (xs ys : List ℕ) → length xs ≡ 64 → length ys ≡ 64 → ((v 
 no_votes xs ys wide same_width empty none_held = same_number_lists xs ys (wide ∙ sym same_width) (λ k lt. empty k ∙ sym (none_held k))
 
 pub HoldsWithin-nobody : (voters : ℕ) (held : List ℕ) → held ≡ nobody → HoldsWithin voters held
-HoldsWithin-nobody voters held e = λ v some. absurd (some (ap (λ l. slice_index l v) e ∙ empty 64 v))
-  where
-    empty : (n v : ℕ) → slice_index (replicate n 0) v ≡ 0
-    empty zero v = refl
-    empty (suc n) zero = refl
-    empty (suc n) (suc v) = empty n v
+HoldsWithin-nobody voters held e = λ v some. absurd (some (ap (λ l. slice_index l v) e ∙ slice_index-replicate_zero 64 v))
 
 pub HoldsFewer-HoldsNothing : (y : ClientState) (seat : List ℕ) → HoldsNothing y → HoldsFewer y.held seat
 HoldsFewer-HoldsNothing y seat nothing = λ v. inr (nothing v)
@@ -321,24 +302,8 @@ module _ (c : ClusterState) (x : ClientState) (seat : SeatState) (clerks : Clerk
 
 -- What is answered for a fault of the board
 
-abbrev fault_in : Result ℕ ClusterFault → BoardFault
-fault_in (Err (refuses.Board e)) = e
-fault_in (Err e) = OutOfMemory
-fault_in (Ok x) = OutOfMemory
-
 pub Board-injective : (r : Result ℕ ClusterFault) (a b : BoardFault) → r ≡ Err (refuses.Board a) → r ≡ Err (refuses.Board b) → a ≡ b
-Board-injective r a b first second = ap fault_in (sym first ∙ second)
-
-abbrev is_answer : Result ℕ ClusterFault → Bool
-is_answer (Ok x) = true
-is_answer (Err e) = false
-
-pub not_refused : (r : Result ℕ ClusterFault) (x : ℕ) (e : ClusterFault) → r ≡ Ok x → r ≡ Err e → ⊥
-not_refused r x e fine refused = true≢false (ap is_answer (sym fine ∙ refused))
-
-abbrev is_full : Result ℕ BoardFault → Bool
-is_full (Err RegisterFull) = true
-is_full r = false
+Board-injective r a b first second = cc
 
 pub full_or_not : (r : Result ℕ BoardFault) (e : BoardFault) → r ≡ Err RegisterFull → r ≡ Err e → e ≡ OutOfMemory → ⊥
-full_or_not r e full is other = true≢false (ap is_full (sym full ∙ is ∙ (λ i. Err (other i))))
+full_or_not r e full is other = cc

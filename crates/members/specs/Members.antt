@@ -3,14 +3,14 @@ use Rattle.std.specs.Prelude.{◌≡◌, ◌⊎◌, ℕ, ◌<◌, ◌++◌, ◌�
 use Rattle.numbers.specs.Bounds.{max_stamp}
 use Rattle.message.specs.declared.message.ToClient.{ToClient}
 use Rattle.requester.specs.declared.fault.ClientFault.{ClientFault}
-use Rattle.requester.specs.declared.fault.ClientFault.TheVariants.{Busy, NotInside as Outside, NotAsking, StampsSpent}
+use Rattle.requester.specs.declared.fault.ClientFault.TheVariants.{Busy, StampsSpent}
 use Rattle.requester.specs.declared.state.Seen.{Seen}
 use Rattle.requester.specs.declared.state.Seen.TheVariants.{Nothing}
 use Rattle.requester.specs.declared.state.ClientState.{ClientState}
 use Rattle.requester.specs.Soundness.{IsSound}
 use Rattle.requester.specs.Steps.{Outcome, ask, give_up, leave, start, take, would_hold}
 use Rattle.requester.specs.Words.{is_idle, is_inside, is_spent, members}
-use Rattle.board.specs.declared.fault.BoardFault.TheVariants.{SeatsOut, VoteOut, RegisterFull, OutOfMemory as NoPlace}
+use Rattle.board.specs.declared.fault.BoardFault.TheVariants.{RegisterFull, OutOfMemory as NoPlace}
 use Rattle.board.specs.Seats.{BoardState, ClientSeatState as SeatState}
 use Rattle.board.specs.Quorums.{quorum_at, place_of, HasQuorum}
 use Rattle.quorum_set.specs.declared.bridge.Side.{Side}
@@ -98,8 +98,7 @@ Pumped board before seen after = (m : ToClient) × IsMail board before.requester
 abbrev pub RefusesStart : ClientState → ClientFault → Type 0
 RefusesStart x Busy = is_idle x.phase ≡ false
 RefusesStart x StampsSpent = (is_idle x.phase ≡ true) × (is_spent x ≡ true)
-RefusesStart x Outside = ⊥
-RefusesStart x NotAsking = ⊥
+RefusesStart x fault = ⊥
 
 -- why a member can't ask
 abbrev pub RefusesAsk : MemberState → ClusterFault → Type 0
@@ -108,10 +107,7 @@ RefusesAsk m (refuses.Deal QuotaSpent) =
     (is_idle m.requester.phase ≡ true) × (is_spent m.requester ≡ false) × (rest_of m.clerks m.clerks.side ≡ 0)
 RefusesAsk m (refuses.Deal NoRoom) =
     (is_idle m.requester.phase ≡ true) × (is_spent m.requester ≡ false) × (0 < rest_of m.clerks m.clerks.side)
-RefusesAsk m (refuses.Board e) = ⊥
-RefusesAsk m refuses.NotInside = ⊥
-RefusesAsk m refuses.NoSecondPlan = ⊥
-RefusesAsk m (refuses.TurnsSpent c) = ⊥
+RefusesAsk m fault = ⊥
 
 -- what a member needs to ask: it is idle, and a stamp and a ticket of the plan in use are left
 abbrev pub MayAsk : MemberState → Type 0
@@ -131,9 +127,4 @@ abbrev pub RefusesPass : MemberState → ClusterFault → Type 0
 RefusesPass m refuses.NotInside = is_inside m.requester.phase ≡ false
 RefusesPass m (refuses.Board RegisterFull) = is_inside m.requester.phase ≡ true
 RefusesPass m (refuses.Board NoPlace) = is_inside m.requester.phase ≡ true
-RefusesPass m (refuses.Board (SeatsOut k)) = ⊥
-RefusesPass m (refuses.Board (VoteOut v)) = ⊥
-RefusesPass m (refuses.Client e) = ⊥
-RefusesPass m (refuses.Deal e) = ⊥
-RefusesPass m (refuses.TurnsSpent c) = ⊥
-RefusesPass m refuses.NoSecondPlan = ⊥
+RefusesPass m fault = ⊥

@@ -3,7 +3,7 @@ use Rattle.std.specs.Prelude.{◌≡◌, ℕ, ◌-◌, ◌^◌, ◌<◌, List, I
 use Rattle.std.specs.List.{All, count_by, flat_map, sum_by}
 use Rattle.requester.specs.Words.{is_idle}
 use Rattle.board.specs.declared.fault.BoardFault.{BoardFault}
-use Rattle.board.specs.declared.fault.BoardFault.TheVariants.{SeatsOut, VoteOut, RegisterFull, OutOfMemory}
+use Rattle.board.specs.declared.fault.BoardFault.TheVariants.{VoteOut, OutOfMemory}
 use Rattle.dealer.specs.declared.receipt.Receipt.{Receipt}
 use Rattle.quorum_set.specs.declared.bridge.Side.{Side}
 use Rattle.quorum_set.specs.declared.bridge.Side.TheVariants.{First, Second}
@@ -70,5 +70,4 @@ pub record IsRecordOf (c : ClusterState) (members : List MemberState) (r : RunRe
 abbrev pub IsLoss : ClusterState → BoardFault → Type 0
 IsLoss c (VoteOut v) = v < c.board.voters
 IsLoss c OutOfMemory = Unit {0}
-IsLoss c (SeatsOut k) = ⊥
-IsLoss c RegisterFull = ⊥
+IsLoss c fault = ⊥

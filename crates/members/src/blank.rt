@@ -1,5 +1,5 @@
 //! A cluster before it has a name.
-ghost use Rattle.std.specs.Prelude.{◌≡◌, ℕ, ◌+◌, ◌*◌, ◌<◌, ◌≤◌, ◌++◌, [], false, IfOk, IfSome, length, map, nat_lt, option_map, slice_index_or};
+ghost use Rattle.std.specs.Prelude.{◌≡◌, ℕ, ◌+◌, ◌*◌, ◌≤◌, ◌++◌, [], false, IfOk, IfSome, length, map, nat_lt, option_map, slice_index_or};
 ghost use Rattle.std.specs.List.{range_with_len};
 ghost use Rattle.numbers.specs.Bounds.{max_clients, max_tickets};
 ghost use Rattle.board.specs.Roots.{IsNewBoard};

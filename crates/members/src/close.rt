@@ -19,7 +19,7 @@ use clerks::{Clerks, Offices};
 use node::{ClusterName, Node};
 use quorum_set::Side;
 use requester::Phase;
-use run_outcome::{ClusterFault, RunRecord};
+use run_outcome::{ClusterFault, Draw, Pass, RunRecord};
 use std::alloc::{AllocError, Global};
 use std::fmt;
 use std::sync::Mutex;
@@ -95,7 +95,7 @@ fn lost_by<N: ClusterName>(members: &[Member<N>]) -> u64
 
 /// Appends a member's draws of one plan to the others.
 fn push_draws<N: ClusterName>(
-    draws: &mut Vec<(u8, u64, usize)>,
+    draws: &mut Vec<Draw>,
     member: &Member<N>,
     side: Side,
 ) -> Result<(), AllocError>
@@ -114,7 +114,7 @@ fn collect_draws<N: ClusterName>(
     alloc: Global,
     members: &[Member<N>],
     side: Side,
-) -> Result<Vec<(u8, u64, usize)>, AllocError>
+) -> Result<Vec<Draw>, AllocError>
     ensures value { IfOk result (λ draws. draws.items ≡ all_draws side members.now) }
     ensures each { IfOk result (λ draws. All (IsDraw N.cluster side) draws.items) }
 {
@@ -129,7 +129,7 @@ fn collect_draws<N: ClusterName>(
 fn collect_both<N: ClusterName>(
     alloc: Global,
     members: &[Member<N>],
-) -> Result<(Vec<(u8, u64, usize)>, Vec<(u8, u64, usize)>), AllocError>
+) -> Result<(Vec<Draw>, Vec<Draw>), AllocError>
     ensures first { IfOk result (λ draws. draws.0.items ≡ all_draws First members.now) }
     ensures second { IfOk result (λ draws. draws.1.items ≡ all_draws Second members.now) }
     ensures each { IfOk result (λ draws. All (IsDraw N.cluster First) draws.0.items) }
@@ -141,7 +141,7 @@ fn collect_both<N: ClusterName>(
 }
 
 /// Returns the draws in the order of their tickets.
-fn by_ticket(mut draws: Vec<(u8, u64, usize)>) -> Vec<(u8, u64, usize)>
+fn by_ticket(mut draws: Vec<Draw>) -> Vec<Draw>
     ensures same { IsPermutation draws.items result.items }
     ensures ascending { IsNonDecreasingBy (λ d. d.1) result.items }
 {
@@ -150,7 +150,7 @@ fn by_ticket(mut draws: Vec<(u8, u64, usize)>) -> Vec<(u8, u64, usize)>
 }
 
 /// Returns the passes in the order of their numbers.
-fn by_number(mut passes: Vec<(u8, u64)>) -> Vec<(u8, u64)>
+fn by_number(mut passes: Vec<Pass>) -> Vec<Pass>
     ensures same { IsPermutation passes.items result.items }
     ensures ascending { IsNonDecreasingBy (λ p. p.1) result.items }
 {

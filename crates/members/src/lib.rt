@@ -91,4 +91,4 @@ pub use cluster::Cluster;
 pub use laws::{records_are_in_range, records_count_passes};
 pub use member::Member;
 pub use node::{ClusterName, Node};
-pub use run_outcome::{ClusterFault, RunRecord};
+pub use run_outcome::{ClusterFault, Draw, Pass, RunRecord};

@@ -3,6 +3,7 @@ use Rattle.std.proofs.Common.{◌≡◌, inl, inr, ⊎_elim, ℕ, ◌+◌, ◌<�
 use Rattle.std.specs.Prelude.{option_map}
 use Rattle.std.specs.List.{All}
 use Rattle.std.proofs.lemmas.List.Elements.{All-push}
+use Rattle.std.proofs.lemmas.Option.{none-some, same_Some}
 use Rattle.message.specs.declared.message.ToVoter.{ToVoter}
 use Rattle.message.specs.declared.message.VoterBody.{VoterBody}
 use Rattle.message.specs.declared.message.VoterBody.TheVariants as asks
@@ -37,31 +38,10 @@ pub not_refused : (v : VoterState) (m : ToVoter) → (effect_of v m).refused ≡
 unfolding effect_of
 not_refused v m e none_left = true≢false (sym (ap (λ (s : Option Outcome). (effect_by v s).refused) none_left) ∙ e)
 
--- grants
-
-abbrev grant_in : Grant → Option Grant → Grant
-grant_in g None = g
-grant_in g (Some h) = h
-
-same_grant : (g h : Grant) (held : Option Grant) → held ≡ Some g → held ≡ Some h → g ≡ h
-same_grant g h held e f = ap (grant_in g) (sym e ∙ f)
-
-not_both : {A : Type 0} (x : Option A) (a : A) → x ≡ None → x ≡ Some a → ⊥
-not_both x a e f = true≢false (sym (ap is_some f) ∙ ap is_some e)
-
 -- the seat after the vote was settled
-
-kept_table : (b : Bool) (seat : SeatState) → (settle_grant b seat).table ≡ seat.table
-kept_table false seat = refl
-kept_table true seat = refl
-
-kept_voter : (b : Bool) (seat : SeatState) → (settle_grant b seat).voter ≡ seat.voter
-kept_voter false seat = refl
-kept_voter true seat = refl
-
-kept_last : (b : Bool) (seat : SeatState) → (settle_grant b seat).last ≡ seat.last
-kept_last false seat = refl
-kept_last true seat = refl
+still : (b : Bool) (seat : SeatState) → ((settle_grant b seat).table ≡ seat.table) × ((settle_grant b seat).voter ≡ seat.voter) × ((settle_grant b seat).last ≡ seat.last)
+still false seat = (refl, refl, refl)
+still true seat = (refl, refl, refl)
 
 -- what a node knows where its voter took a message
 pub record Took (board : BoardState) (v : VoterState) (log : List ToVoter) (seat : SeatState) (m : ToVoter) (o : Outcome) : Type 0 where
@@ -72,17 +52,16 @@ pub record Took (board : BoardState) (v : VoterState) (log : List ToVoter) (seat
 
 Brings-client_below : (clients client : ℕ) (b : VoterBody) (c t : ℕ) → client < clients → Brings client b c t → c < clients
 Brings-client_below clients client (asks.Request s) c t lt p = subst (λ x. x < clients) (sym p.0) lt
-Brings-client_below clients client (asks.Relinquish s) c t lt p = absurd p
-Brings-client_below clients client (asks.Release s) c t lt p = absurd p
+Brings-client_below clients client b c t lt p = absurd p
 
 -- the number of a grant that the seat has to offer
 new_number : (v w : VoterState) (seat : SeatState) → seat.current ≡ seat_grant v.held → (b : Bool) → VoteMoves b v w → (settle_grant b seat).current ≡ None → (g : Grant)
     → w.held ≡ Some g → (g.grant ≡ v.granted + 1) × (w.granted ≡ v.granted + 1)
-new_number v w seat cur true (inl ends) free g is = absurd (not_both w.held g ends.held is)
-new_number v w seat cur true (inr n) free g is = (ap (λ (h : Grant). h.grant) (same_grant g n.grant w.held is n.held) ∙ n.number, n.granted)
+new_number v w seat cur true (inl ends) free g is = absurd (none-some g (sym ends.held ∙ is))
+new_number v w seat cur true (inr n) free g is = (ap (λ (h : Grant). h.grant) (same_Some g n.grant (sym is ∙ n.held)) ∙ n.number, n.granted)
 new_number v w seat cur false (inl stays) free g is =
-    absurd (not_both (seat_grant v.held) (g.client, g.grant) (sym cur ∙ free) (ap seat_grant (sym stays.held ∙ is)))
-new_number v w seat cur false (inr n) free g is = (ap (λ (h : Grant). h.grant) (same_grant g n.1.grant w.held is n.1.held) ∙ n.1.number, n.1.granted)
+    absurd (none-some (g.client, g.grant) (sym free ∙ cur ∙ ap seat_grant (sym stays.held ∙ is)))
+new_number v w seat cur false (inr n) free g is = (ap (λ (h : Grant). h.grant) (same_Some g n.1.grant (sym is ∙ n.1.held)) ∙ n.1.number, n.1.granted)
 
 -- the seat after a step
 pub record Agrees (seat : SeatState) (w : VoterState) (after : SeatState) : Type 0 where
@@ -94,27 +73,27 @@ pub record Agrees (seat : SeatState) (w : VoterState) (after : SeatState) : Type
 -- where it still has a current grant, that is the voter's
 kept_grant : (v w : VoterState) (seat : SeatState) → seat.current ≡ seat_grant v.held → seat.last ≡ v.granted → (b : Bool) → VoteMoves b v w → (x : ℕ × ℕ) → (settle_grant b seat).current ≡ Some x
     → ((settle_grant b seat).current ≡ seat_grant w.held) × ((settle_grant b seat).last ≡ w.granted)
-kept_grant v w seat cur last true moves x is = absurd (not_both None x refl is)
+kept_grant v w seat cur last true moves x is = absurd (none-some x is)
 kept_grant v w seat cur last false (inl stays) x is = (cur ∙ ap seat_grant (sym stays.held), last ∙ sym stays.granted)
-kept_grant v w seat cur last false (inr n) x is = absurd (not_both seat.current x (cur ∙ ap seat_grant n.0) is)
+kept_grant v w seat cur last false (inr n) x is = absurd (none-some x (sym (cur ∙ ap seat_grant n.0) ∙ is))
 
 -- where the voter has no grant, none was given
 kept_count : (v w : VoterState) (b : Bool) → VoteMoves b v w → w.held ≡ None → w.granted ≡ v.granted
 kept_count v w true (inl ends) free = ends.granted
-kept_count v w true (inr n) free = absurd (not_both w.held n.grant free n.held)
+kept_count v w true (inr n) free = absurd (none-some n.grant (sym free ∙ n.held))
 kept_count v w false (inl stays) free = stays.granted
-kept_count v w false (inr n) free = absurd (not_both w.held n.1.grant free n.1.held)
+kept_count v w false (inr n) free = absurd (none-some n.1.grant (sym free ∙ n.1.held))
 
 Agrees-offer_grant_by : (v w : VoterState) (seat : SeatState) → seat.current ≡ seat_grant v.held → seat.last ≡ v.granted → (b : Bool) → VoteMoves b v w
     → (x : Option (ℕ × ℕ)) → (settle_grant b seat).current ≡ x → (held : Option Grant) → w.held ≡ held → Agrees seat w (offer_grant_by x held (settle_grant b seat))
 Agrees-offer_grant_by v w seat cur last b moves (Some x) is held holds =
     let k = kept_grant v w seat cur last b moves x is in
-    record { table = kept_table b seat; voter = kept_voter b seat; current = k.0; last = k.1 }
+    record { table = (still b seat).0; voter = (still b seat).1; current = k.0; last = k.1 }
 Agrees-offer_grant_by v w seat cur last b moves None is None holds =
-    record { table = kept_table b seat; voter = kept_voter b seat; current = is ∙ sym (ap seat_grant holds); last = kept_last b seat ∙ last ∙ sym (kept_count v w b moves holds) }
+    record { table = (still b seat).0; voter = (still b seat).1; current = is ∙ sym (ap seat_grant holds); last = (still b seat).2 ∙ last ∙ sym (kept_count v w b moves holds) }
 Agrees-offer_grant_by v w seat cur last b moves None is (Some g) holds =
     let n = new_number v w seat cur b moves is g holds in
-    record { table = kept_table b seat; voter = kept_voter b seat; current = sym (ap seat_grant holds); last = n.0 ∙ sym n.1 }
+    record { table = (still b seat).0; voter = (still b seat).1; current = sym (ap seat_grant holds); last = n.0 ∙ sym n.1 }
 
 module _ (board : BoardState) (v : VoterState) (log : List ToVoter) (seat : SeatState) (m : ToVoter) (o : Outcome) (t : Took board v log seat m o) where
   entries : (c s : ℕ) → IsEntry o.state c s → c < board.clients
@@ -126,7 +105,7 @@ module _ (board : BoardState) (v : VoterState) (log : List ToVoter) (seat : Seat
   may_offer None holds free = tt
   may_offer (Some g) holds free =
       let n = new_number v o.state seat t.node.current (effect_of v m).frees t.laws.moves free g holds in
-      let last = kept_last (effect_of v m).frees seat ∙ t.node.last in
+      let last = (still (effect_of v m).frees seat).2 ∙ t.node.last in
       let few = t.laws.sound.numbered g holds in
       let spent = t.laws.sound.granted in
       let limit = t.laws.sound.limit in (

@@ -1,5 +1,5 @@
 -- Votes of a seat and of its client.
-use Rattle.std.proofs.Common.{◌≡◌, ◌≢◌, ℕ, zero, suc, ◌≤◌, Bool, true, false, true≢false, not, ◌&&◌, List, [], ◌∷◌, refl, sym, ap, ◌∙◌, arith, drop, length, nat_lt}
+use Rattle.std.proofs.Common.{◌≡◌, ℕ, zero, suc, ◌≤◌, Bool, true, false, true≢false, not, ◌&&◌, List, [], ◌∷◌, refl, sym, ap, ◌∙◌, arith, drop, length, nat_lt}
 use Rattle.std.specs.Prelude.{slice_index, slice_set}
 use Rattle.std.proofs.lemmas.List.{at_drop_all, get_or-set_other}
 use Rattle.std.proofs.lemmas.Grind.{same_number_lists}
@@ -45,8 +45,7 @@ fresh_parts x voter grant e =
 
 would_parts : (x : ClientState) (voter : ℕ) (b : ClientBody) → would_hold_body x voter b ≡ true → (is_member x voter ≡ true) × (slice_index x.held voter ≡ 0)
 would_parts x voter (to_client.Locked stamp grant) e = fresh_parts x voter grant (and_parts (is_current x stamp) _ e).1
-would_parts x voter (to_client.Fail stamp) e = absurd (true≢false (sym e))
-would_parts x voter (to_client.Inquire grant) e = absurd (true≢false (sym e))
+would_parts x voter b e = absurd (true≢false (sym e))
 
 -- it is of a member's vote that is not held yet
 pub member_and_free : (x : ClientState) (m : ToClient) → would_hold x m ≡ true → (is_member x m.voter ≡ true) × (slice_index x.held m.voter ≡ 0)
@@ -59,8 +58,7 @@ HoldsOnly-locked : (voters : List ℕ) (voter : ℕ) (b : ClientBody) (seat afte
 HoldsOnly-locked voters voter (to_client.Locked stamp grant) seat after member only locked = λ v out. dite (ℕ_discrete v voter)
     (λ e. absurd (true≢false (sym member ∙ sym (ap (has voters) e) ∙ out)))
     (λ ne. ap (λ l. slice_index l v) locked ∙ get_or-set_other seat voter v grant 0 ne ∙ only v out)
-HoldsOnly-locked voters voter (to_client.Fail stamp) seat after member only locked = absurd locked
-HoldsOnly-locked voters voter (to_client.Inquire grant) seat after member only locked = absurd locked
+HoldsOnly-locked voters voter b seat after member only locked = absurd locked
 
 pub HoldsOnly-hold : (voters : List ℕ) (voter : ℕ) (b : ClientBody) (taken : Bool) (seat after : List ℕ) → has voters voter ≡ true → HoldsOnly voters seat
     → (taken ≡ true → HoldsLocked seat voter b after) → (taken ≡ false → after ≡ seat) → HoldsOnly voters after

@@ -20,5 +20,4 @@ HoldsFewer held others = (v : ℕ) → (slice_index held v ≡ slice_index other
 -- the message is a LOCKED, and afterwards the vote that it brings is held too
 abbrev pub HoldsLocked : List ℕ → ℕ → ClientBody → List ℕ → Type 0
 HoldsLocked before voter (to_client.Locked stamp grant) after = after ≡ slice_set before voter grant
-HoldsLocked before voter (to_client.Fail stamp) after = ⊥
-HoldsLocked before voter (to_client.Inquire grant) after = ⊥
+HoldsLocked before voter body after = ⊥

@@ -1,7 +1,7 @@
 //! The order of a plan's tickets.
 ghost use Rattle.std.specs.Prelude.{◌≡◌, ◌<◌, ◌+◌, ◌≤◌, IfOk, length};
 ghost use Rattle.numbers.specs.Bounds.{max_tickets};
-ghost use Rattle.qlock_plan_c.specs.Orders.{IsEvenOrder, IsOrder, mask_of, masks_of, plan_of, quorum_by};
+ghost use Rattle.qlock_plan_c.specs.Orders.{IsOrder, mask_of, masks_of, plan_of, quorum_by};
 
 use certificate::Plan;
 use dealer::Cycle;

@@ -84,9 +84,8 @@ seen-take_fail x v t = seen-take_fail_by _ x v
 
 seen-take_inquire_by : (b hindered : Bool) (x : ClientState) (v : ℕ) → (take_inquire_by b hindered x v).seen ≡ Nothing
 unfolding relinquish
-seen-take_inquire_by false hindered x v = refl
-seen-take_inquire_by true false x v = refl
 seen-take_inquire_by true true x v = seen-relinquish_if (holds x v) x v
+seen-take_inquire_by b hindered x v = refl
 
 pub seen-take_inquire : (x : ClientState) (v g : ℕ) → (take_inquire x v g).seen ≡ Nothing
 unfolding take_inquire

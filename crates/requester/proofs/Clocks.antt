@@ -13,7 +13,7 @@ use Rattle.message.specs.declared.message.ClientBody.TheVariants as to_client
 use Rattle.message.specs.declared.message.VoterBody.TheVariants as asks
 use Rattle.requester.specs.declared.state.ClientState.{ClientState}
 use Rattle.requester.specs.declared.state.Phase.{Phase}
-use Rattle.requester.specs.declared.state.Phase.TheVariants.{Idle, Asking, Inside}
+use Rattle.requester.specs.declared.state.Phase.TheVariants.{Asking}
 use Rattle.requester.specs.declared.state.Seen.TheVariants.{Nothing}
 use Rattle.requester.specs.Clocks.{KeepsTime}
 use Rattle.requester.specs.Words.{holds, is_asking, is_current, is_member, is_relinquished, last_of, members}
@@ -39,9 +39,8 @@ Stays-enter false x v g = record { clock = refl; stamp = refl; asking = λ a. a 
 Stays-enter true x v g = record { clock = refl; stamp = refl; asking = λ a. absurd (false≢true a) }
 
 Stays-take_locked_by : (current fresh : Bool) (x : ClientState) (v t g : ℕ) → Stays x (take_locked_by current fresh x v t g).state
-Stays-take_locked_by false fresh x v t g = Stays-self x
-Stays-take_locked_by true false x v t g = Stays-self x
 Stays-take_locked_by true true x v t g = Stays-enter _ x v g
+Stays-take_locked_by current fresh x v t g = Stays-self x
 
 Stays-GivesBack : (x : ClientState) (o : Outcome) → GivesBack x o → Stays x o.state
 Stays-GivesBack x o k = record { clock = k.clock; stamp = k.stamp; asking = λ a. ap is_asking (sym k.phase) ∙ a }
@@ -120,9 +119,8 @@ gives_by false false x v e f = absurd (false≢true f)
 gives_by false true x v e f = (0, omega arith, refl)
 
 reminds_in : (p : Phase) (x : ClientState) (v : ℕ) (m : ToVoter) → is_asking p ≡ true → is_member x v ≡ true → Contains (remind_member x v) m → Contains (remind_in p x) m
-reminds_in Idle x v m asking member there = absurd (false≢true asking)
 reminds_in Asking x v m asking member there = Contains-flat_map (remind_member x) (members x) v m member there
-reminds_in Inside x v m asking member there = absurd (false≢true asking)
+reminds_in p x v m asking member there = absurd (false≢true asking)
 
 pub reminds-request : (x : ClientState) (v : ℕ) → is_asking x.phase ≡ true → is_member x v ≡ true → holds x v ≡ false → Contains (remind x) (tell x v (asks.Request x.stamp))
 unfolding remind

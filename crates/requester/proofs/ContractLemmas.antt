@@ -81,8 +81,7 @@ MeetsContract-no_effect x m s = MeetsContract-GivesBack x m (no_effect x) s (Giv
 
 is_current-false : (p : Phase) (s t : ℕ) → (not (is_idle p) && s == t) ≡ false → (is_idle p ≡ true) ⊎ (s ≢ t)
 is_current-false Idle s t e = inl refl
-is_current-false Asking s t e = inr (λ same. grind (arith, nat_tests))
-is_current-false Inside s t e = inr (λ same. grind (arith, nat_tests))
+is_current-false p s t e = inr (λ same. grind (arith, nat_tests))
 
 MeetsContract-enter : (b : Bool) (x : ClientState) (m : ToClient) (t g : ℕ) → m.body ≡ to_client.Locked t g → IsSound x → Counts x m.voter g → is_idle x.phase ≡ false → t ≡ x.stamp
     → MeetsContract x (Takes m) (enter_if b (hold x m.voter g))
@@ -190,8 +189,7 @@ MeetsContract-take x m s =
   where
     says_seen : (z : ClientState) (v : ℕ) (b : VoterBody) → Says (see x m.seen) (Takes m) z v b → Says x (Takes m) z v b
     says_seen z v (asks.Request t) p = p
-    says_seen z v (asks.Relinquish g) p = p
-    says_seen z v (asks.Release t) p = p
+    says_seen z v b p = p
 
 -- Calls
 
@@ -199,9 +197,8 @@ clear_votes-holds_under_nothing : {A : Type 0} (x : ClientState) (v g : ℕ) →
 clear_votes-holds_under_nothing x v g h = absurd-true_false (holds (clear_votes x) v) (holds_under-parts (clear_votes x) v g h).0 (ap (ltb 0) (slice_index-replicate_zero 64 v))
 
 pub is_idle-outside : (p : Phase) → is_idle p ≡ true → is_inside p ≡ false
-is_idle-outside Idle e = refl
-is_idle-outside Asking e = refl
 is_idle-outside Inside e = sym e
+is_idle-outside p e = refl
 
 MeetsContract-send_requests : (x : ClientState) (q : List ℕ) → IsSound x → is_idle x.phase ≡ true → MeetsContract x (Asks q) (send_requests x q)
 MeetsContract-send_requests x q s idle =
@@ -251,9 +248,8 @@ AllRepeat-remind_by false false x v = ((refl, refl), tt)
 AllRepeat-remind_by false true x v = ((refl, refl), ((refl, refl), tt))
 
 AllRepeat-remind_in : (p : Phase) (x : ClientState) → AllRepeat x (remind_in p x)
-AllRepeat-remind_in Idle x = tt
 AllRepeat-remind_in Asking x = AllByRecursion-flat_map_members (λ m. (m.client ≡ x.id) × Repeats x m.voter m.body) (remind_member x) (members x) (λ v _. AllRepeat-remind_by _ _ x v)
-AllRepeat-remind_in Inside x = tt
+AllRepeat-remind_in p x = tt
 
 pub AllRepeat-remind : (x : ClientState) → AllRepeat x (remind x)
 unfolding remind

@@ -1,5 +1,5 @@
 -- what FAIL, INQUIRE and giving votes back do to marks
-use Rattle.std.proofs.Common.{◌≡◌, ◌≢◌, ℕ, ◌<◌, Bool, true, false, ◌&&◌, ◌||◌, not, eqb, ltb, List, [], ◌∷◌, filter, refl, sym, ap, subst, ◌∙◌, ◌⊎◌, inl, inr, arith}
+use Rattle.std.proofs.Common.{◌≡◌, ℕ, ◌<◌, Bool, true, false, ◌&&◌, ◌||◌, not, eqb, ltb, List, [], ◌∷◌, filter, refl, sym, ap, subst, ◌∙◌, ◌⊎◌, inl, inr, arith}
 use Rattle.std.specs.Prelude.{◌==◌}
 use Rattle.std.specs.List.{list_any, Contains}
 use Rattle.std.proofs.lemmas.Bool.{false≢true, cases_eq, eq-eqb, or_left, or_right, and_from}
@@ -190,9 +190,8 @@ marks-take_fail_by true x v u places below =
     from_Marks x (take_fail_by true x v).state u (Marks-relinquish_each y (filter (is_inquired y) (members y)) u (record { held = places.held; last = places.last }) below)
 
 marks-take_inquire_by : (b hindered : Bool) (x : ClientState) (v u : ℕ) → HasPlaces x → u < 64 → KeepsMark x (take_inquire_by b hindered x v).state u
-marks-take_inquire_by false hindered x v u places below = inl (refl, λ m. inl m)
-marks-take_inquire_by true false x v u places below = inl (refl, λ m. inl m)
 marks-take_inquire_by true true x v u places below = from_Marks x (relinquish x v).state u (Marks-relinquish x v u places below)
+marks-take_inquire_by b hindered x v u places below = inl (refl, λ m. inl m)
 
 -- a vote that is held loses its mark, and the others keep theirs
 marks-hold : (x : ClientState) (v g u : ℕ) → Counts x v g → HasPlaces x → u < 64 → KeepsMark x (hold x v g) u
@@ -216,9 +215,8 @@ marks-enter false x y u k = k
 marks-enter true x y u k = k
 
 marks-take_locked_by : (current fresh : Bool) (x : ClientState) (v t g u : ℕ) → is_fresh x v g ≡ fresh → IsSound x → u < 64 → KeepsMark x (take_locked_by current fresh x v t g).state u
-marks-take_locked_by false fresh x v t g u f s below = inl (refl, λ m. inl m)
-marks-take_locked_by true false x v t g u f s below = inl (refl, λ m. inl m)
 marks-take_locked_by true true x v t g u f s below = marks-enter _ x (hold x v g) u (marks-hold x v g u (Counts-is_fresh x v g s f) s.places below)
+marks-take_locked_by current fresh x v t g u f s below = inl (refl, λ m. inl m)
 
 marks-body : (x : ClientState) (v : ℕ) (b : ClientBody) (u : ℕ) → IsSound x → u < 64 → KeepsMark x (take_body x v b).state u
 unfolding take_locked take_fail take_inquire

@@ -10,7 +10,7 @@ use Rattle.message.specs.declared.message.VoterBody.TheVariants as asks
 use Rattle.message.specs.declared.message.ClientBody.{ClientBody}
 use Rattle.message.specs.declared.message.ClientBody.TheVariants as to_client
 use Rattle.requester.specs.declared.state.Phase.{Phase}
-use Rattle.requester.specs.declared.state.Phase.TheVariants.{Idle, Asking, Inside}
+use Rattle.requester.specs.declared.state.Phase.TheVariants.{Idle, Asking}
 use Rattle.requester.specs.declared.state.Seen.{Seen}
 use Rattle.requester.specs.declared.state.Seen.TheVariants.{Nothing, Left}
 use Rattle.requester.specs.declared.state.ClientState.{ClientState}
@@ -60,9 +60,8 @@ AllInRange-take_fail_by false x m s = tt
 AllInRange-take_fail_by true x m s = AllInRange-GivesBack x (Takes m) (take_fail_by true x m.voter) s (GivesBack-take_fail_by x m.voter s.places)
 
 AllInRange-take_inquire_by : (b hindered : Bool) (x : ClientState) (m : ToClient) → IsSound x → AllInRange (Takes m) (take_inquire_by b hindered x m.voter).state (take_inquire_by b hindered x m.voter).out
-AllInRange-take_inquire_by false hindered x m s = tt
-AllInRange-take_inquire_by true false x m s = tt
 AllInRange-take_inquire_by true true x m s = AllInRange-GivesBack x (Takes m) (take_inquire_by true true x m.voter) s (GivesBack-relinquish x m.voter s.places)
+AllInRange-take_inquire_by b hindered x m s = tt
 
 AllInRange-body : (x : ClientState) (m : ToClient) (b : ClientBody) → m.body ≡ b → IsSound x → m.voter < 64 → ComesInRange x.limit (Takes m)
     → AllInRange (Takes m) (take_body x m.voter b).state (take_body x m.voter b).out
@@ -89,8 +88,7 @@ AllInRange-end_request x seen cause s busy =
 
 pub is_inside-busy : (p : Phase) → is_inside p ≡ true → is_idle p ≡ false
 is_inside-busy Idle e = sym e
-is_inside-busy Asking e = refl
-is_inside-busy Inside e = refl
+is_inside-busy p e = refl
 
 pub AllInRange-step : (x : ClientState) (cause : Cause) (o : Outcome) → IsSound x → Accepts x cause → ComesInRange x.limit cause → step x cause ≡ Ok o → AllInRange cause o.state o.out
 unfolding step
@@ -119,10 +117,9 @@ RemindersInRange-remind_by false true x v s busy e member =
     ((member, below, s.relinquished v e), ((member, below, (s.stamped busy, s.stamp)), tt))
 
 RemindersInRange-remind_in : (p : Phase) (x : ClientState) → IsSound x → x.phase ≡ p → RemindersInRange x (remind_in p x)
-RemindersInRange-remind_in Idle x s e = tt
 RemindersInRange-remind_in Asking x s e =
     AllByRecursion-flat_map_members (ReminderInRange x) (remind_member x) (members x) (λ v member. RemindersInRange-remind_by _ _ x v s (ap is_idle e) refl member)
-RemindersInRange-remind_in Inside x s e = tt
+RemindersInRange-remind_in p x s e = tt
 
 pub RemindersInRange-remind : (x : ClientState) → IsSound x → RemindersInRange x (remind x)
 unfolding remind

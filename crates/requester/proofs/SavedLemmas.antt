@@ -1,58 +1,23 @@
 -- A client as numbers.
-use Rattle.std.proofs.Common.{
-  ◌≡◌,
-  ℕ,
-  get_or,
-  zero,
-  suc,
-  ◌+◌,
-  ◌^◌,
-  ◌<◌,
-  ◌≤◌,
-  Bool,
-  true,
-  false,
-  ◌&&◌,
-  ◌||◌,
-  not,
-  cond,
-  eqb,
-  ltb,
-  List,
-  [],
-  ◌∷◌,
-  ◌++◌,
-  length,
-  take,
-  drop,
-  Option,
-  Some,
-  None,
-  refl,
-  sym,
-  ap,
-  subst,
-  ◌∙◌,
-  arith,
-  take-append-drop,
-  length-append,
-}
-use Rattle.std.specs.Prelude.{IfSome, nat_lt, replicate, slice_index}
+use Rattle.std.proofs.Common.{◌≡◌, ℕ, get_or, zero, suc, ◌+◌, ◌^◌, ◌<◌, ◌≤◌, Bool, true, false, ◌&&◌, ◌||◌, not, cond, eqb, ltb, List, [], ◌∷◌, ◌++◌, length, take, drop, Option, Some, None}
+use Rattle.std.proofs.Common.{refl, sym, ap, subst, ◌∙◌, arith, take-append-drop, length-append}
+use Rattle.std.specs.Prelude.{IfSome, nat_lt}
 use Rattle.std.specs.Int.{bit_at}
 use Rattle.std.specs.List.{AllByRecursion}
 use Rattle.std.proofs.lemmas.Bool.{false≢true, leb-true, ltb-true}
 use Rattle.std.proofs.lemmas.Bool.Decides.{nat_tests}
-use Rattle.std.proofs.lemmas.List.{drop_all, drop_more, take_at, drop_at, length-replicate}
+use Rattle.std.proofs.lemmas.List.{drop_all, drop_more, take_at, drop_at}
 use Rattle.std.proofs.lemmas.List.Sums.{sum_by-append}
-use Rattle.numbers.proofs.Lists.{slice_index-replicate_zero}
 use Rattle.numbers.specs.Sets.{has, numbers_from, set_where, members_of, IsSet}
 use Rattle.numbers.proofs.SetLemmas.{Ascends-unique, IsSet-set_where, has-IsSet_below, has-above, has-set_where, is_set_where}
 use Rattle.quorum_set.specs.Words.{word_of, word_of-members_of, numbers_from-more}
 use Rattle.requester.specs.declared.state.ClientState.{ClientState}
+use Rattle.requester.specs.declared.state.Phase.TheVariants.{Idle}
 use Rattle.requester.specs.Saved.{HasSets, IsKept, has_sound_numbers, head_words, header, phase_word, is_vote_sound, least_client, words_of}
 use Rattle.requester.specs.Soundness.{HasPlaces, IsHeldWell, IsSound}
 use Rattle.requester.specs.Words.{held_of, holds, is_covered, is_idle, is_inquired, is_inside, is_member, is_relinquished, last_of, members}
 use Rattle.requester.proofs.Members.{all_below-from_Ascends, get_or-some_below}
+use Rattle.requester.proofs.SoundSteps.{IsSound-clear_votes}
 
 -- ---- a set from its bits
 
@@ -89,9 +54,8 @@ low_bits-below (suc n) p = omega (arith, low_bits-suc n p, low_bits-below n p, d
 
 same_top : (a b : Bool) (x y k : ℕ) → x < k → y < k → x + cond a k 0 ≡ y + cond b k 0 → (a ≡ b) × (x ≡ y)
 same_top true true x y k lx ly e = (refl, omega arith)
-same_top true false x y k lx ly e = absurd (omega arith)
-same_top false true x y k lx ly e = absurd (omega arith)
 same_top false false x y k lx ly e = (refl, omega arith)
+same_top a b x y k lx ly e = absurd (omega arith)
 
 same_bits : (n : ℕ) (p q : ℕ → Bool) → low_bits n p ≡ low_bits n q → (i : ℕ) → i < n → p i ≡ q i
 same_bits zero p q e i lt = absurd (omega arith)
@@ -160,10 +124,8 @@ Gathered-end items set i h past g = Ascends-unique 0 64 set items g.set_is h (λ
 
 has_held : (h idle m f i r l : Bool) → ((not h || (not idle && (m && f))) && ((not i || h) && (not r || l))) ≡ true → h ≡ true → (idle ≡ false) × (m ≡ true) × (f ≡ true)
 has_held true false true true i r l e t = (refl, refl, refl)
-has_held true false true false i r l e t = absurd (false≢true e)
-has_held true false false f i r l e t = absurd (false≢true e)
-has_held true true m f i r l e t = absurd (false≢true e)
 has_held false idle m f i r l e t = absurd (false≢true t)
+has_held h idle m f i r l e t = absurd (false≢true e)
 
 has_asked : (h idle m f i r l : Bool) → ((not h || (not idle && (m && f))) && ((not i || h) && (not r || l))) ≡ true → i ≡ true → h ≡ true
 has_asked true idle m f i r l e t = refl
@@ -191,11 +153,7 @@ busy_numbers false s n e t = (grind (arith, nat_tests), grind (arith, nat_tests)
 
 four : (a b c d e : Bool) → (a && (b && (c && (d && e)))) ≡ true → (a ≡ true) × (b ≡ true) × (c ≡ true) × (d ≡ true) × (e ≡ true)
 four true true true true true h = (refl, refl, refl, refl, refl)
-four true true true true false h = absurd (false≢true h)
-four true true true false e h = absurd (false≢true h)
-four true true false d e h = absurd (false≢true h)
-four true false c d e h = absurd (false≢true h)
-four false b c d e h = absurd (false≢true h)
+four a b c d e h = absurd (false≢true h)
 
 numbers_from_test : (x : ClientState) → has_sound_numbers x ≡ true → Numbers x
 numbers_from_test x e =
@@ -276,17 +234,7 @@ last_again x words lists last kept is back rest = rest ∙ ap (drop 64) (back �
 ten : (ws : List ℕ) → length ws ≡ 10
     → ws ≡ get_or ws 0 0 ∷ get_or ws 1 0 ∷ get_or ws 2 0 ∷ get_or ws 3 0 ∷ get_or ws 4 0 ∷ get_or ws 5 0 ∷ get_or ws 6 0 ∷ get_or ws 7 0 ∷ get_or ws 8 0 ∷ get_or ws 9 0 ∷ []
 ten (a ∷ b ∷ c ∷ d ∷ f ∷ g ∷ h ∷ j ∷ k ∷ l ∷ []) e = refl
-ten [] e = absurd (omega arith)
-ten (a ∷ []) e = absurd (omega arith)
-ten (a ∷ b ∷ []) e = absurd (omega arith)
-ten (a ∷ b ∷ c ∷ []) e = absurd (omega arith)
-ten (a ∷ b ∷ c ∷ d ∷ []) e = absurd (omega arith)
-ten (a ∷ b ∷ c ∷ d ∷ f ∷ []) e = absurd (omega arith)
-ten (a ∷ b ∷ c ∷ d ∷ f ∷ g ∷ []) e = absurd (omega arith)
-ten (a ∷ b ∷ c ∷ d ∷ f ∷ g ∷ h ∷ []) e = absurd (omega arith)
-ten (a ∷ b ∷ c ∷ d ∷ f ∷ g ∷ h ∷ j ∷ []) e = absurd (omega arith)
-ten (a ∷ b ∷ c ∷ d ∷ f ∷ g ∷ h ∷ j ∷ k ∷ []) e = absurd (omega arith)
-ten (a ∷ b ∷ c ∷ d ∷ f ∷ g ∷ h ∷ j ∷ k ∷ l ∷ m ∷ ws) e = absurd (omega arith)
+ten ws e = absurd (omega arith)
 
 pub head_words-from : (ws : List ℕ) (x : ClientState) → length ws ≡ 10 → get_or ws 0 0 ≡ header → get_or ws 1 0 ≡ x.id → get_or ws 2 0 ≡ x.limit → get_or ws 3 0 ≡ x.clock
     → get_or ws 4 0 ≡ phase_word x.phase → get_or ws 5 0 ≡ x.stamp → get_or ws 6 0 ≡ word_of (members x) → get_or ws 7 0 ≡ word_of x.failed
@@ -304,25 +252,8 @@ covered_if false covered e t = absurd (false≢true t)
 
 -- ---- the least of a client
 
-nothing_held : (v : ℕ) → nat_lt 0 (slice_index (replicate 64 0) v) ≡ true → ⊥
-nothing_held v is = let none = slice_index-replicate_zero 64 v in grind (arith, nat_tests)
-
 pub least_is_sound : (x : ClientState) → IsSound x → IsSound (least_client x)
-least_is_sound x sound = record {
-  id = sound.id;
-  some = sound.some;
-  limit = sound.limit;
-  places = record { held = length-replicate {A = ℕ} 64 0; last = sound.places.last };
-  stamp = sound.stamp;
-  clock = sound.clock;
-  stamped = λ busy. absurd (false≢true (sym busy));
-  quorum = tt;
-  asked = λ busy. absurd (false≢true (sym busy));
-  held = λ v is. absurd (nothing_held v is);
-  inside = λ is. absurd (false≢true is);
-  inquired = λ v is. absurd (false≢true is);
-  relinquished = λ v is. absurd (false≢true is);
-}
+least_is_sound x s = IsSound-clear_votes (least_client x) Idle refl s.id s.some s.limit s.places.last s.stamp s.clock tt (λ busy. absurd (false≢true (sym busy)))
 
 -- a set with bits is a set
 pub set_by_bits : (m : ℕ) (s : List ℕ) → members_of m ≡ s → IsSet s

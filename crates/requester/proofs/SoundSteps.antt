@@ -29,13 +29,11 @@ use Rattle.requester.proofs.Giving.{GivesBack, IsGiving, Kept, Given, GivesBack-
 
 pub is_asking-busy : (p : Phase) → is_asking p ≡ true → is_idle p ≡ false
 is_asking-busy Idle e = sym e
-is_asking-busy Asking e = refl
-is_asking-busy Inside e = refl
+is_asking-busy p e = refl
 
 pub is_asking-outside : (p : Phase) → is_asking p ≡ true → is_inside p ≡ false
-is_asking-outside Idle e = refl
-is_asking-outside Asking e = refl
 is_asking-outside Inside e = sym e
+is_asking-outside p e = refl
 
 -- Giving back, while not inside
 
@@ -119,7 +117,7 @@ is_current-busy x s e =
 pub record HoldsMore (x y : ClientState) (v g : ℕ) : Type 0 where
   pub held : held_of y v ≡ g
   pub other_held : (u : ℕ) → u ≢ v → held_of y u ≡ held_of x u
-  pub take_inquire : (u : ℕ) → is_inquired y u ≡ true → (u ≢ v) × (is_inquired x u ≡ true)
+  pub inquired : (u : ℕ) → is_inquired y u ≡ true → (u ≢ v) × (is_inquired x u ≡ true)
   pub relinquished : (u : ℕ) → is_relinquished y u ≡ true → (u ≢ v) × (is_relinquished x u ≡ true)
 
 pub HoldsMore-hold : (x : ClientState) (v g : ℕ) → HasPlaces x → v < 64 → HoldsMore x (hold x v g) v g
@@ -183,9 +181,8 @@ IsSound-enter false x v g s c busy e = IsSound-hold x x.phase v g s c busy busy 
 IsSound-enter true x v g s c busy e = IsSound-hold x Inside v g s c busy refl (λ _. e)
 
 IsSound-take_locked_by : (current fresh : Bool) (x : ClientState) (v t g : ℕ) → IsSound x → is_current x t ≡ current → is_fresh x v g ≡ fresh → IsSound (take_locked_by current fresh x v t g).state
-IsSound-take_locked_by false fresh x v t g s c f = s
-IsSound-take_locked_by true false x v t g s c f = s
 IsSound-take_locked_by true true x v t g s c f = IsSound-enter _ x v g s (Counts-is_fresh x v g s f) (is_current-busy x t c).0 refl
+IsSound-take_locked_by current fresh x v t g s c f = s
 
 -- FAIL and INQUIRE
 
@@ -274,49 +271,33 @@ IsSound-take x m s = IsSound-body (see x m.seen) m.voter m.body (IsSound-see x m
 
 -- Calls
 
-pub HasPlaces-clear_votes : (x : ClientState) → HasPlaces x → HasPlaces (clear_votes x)
-HasPlaces-clear_votes x p = record { held = refl; last = p.last }
-
 clear_votes-holds_nothing : {A : Type 0} (x : ClientState) (v : ℕ) → holds (clear_votes x) v ≡ true → A
 clear_votes-holds_nothing x v h = absurd-true_false (holds (clear_votes x) v) h (ap (ltb 0) (slice_index-replicate_zero 64 v))
 
+-- a client that is not inside, and holds and marks no vote
+pub IsSound-clear_votes : (x : ClientState) (p : Phase) → is_inside p ≡ false → x.id < 64 → 1 ≤ x.limit → x.limit ≤ 2 ^ 40 → length x.last ≡ 64 → x.stamp ≤ x.limit → x.stamp ≤ x.clock
+    → IsSet (members x) → (is_idle p ≡ false → (1 ≤ x.stamp) × (1 ≤ length (members x))) → IsSound (record (clear_votes x) { phase = p })
+IsSound-clear_votes x p outside id some limit last stamp clock set busy = record {
+  id = id;
+  some = some;
+  limit = limit;
+  places = record { held = refl; last = last };
+  stamp = stamp;
+  clock = clock;
+  stamped = λ runs. (busy runs).0;
+  quorum = set;
+  asked = λ runs. (busy runs).1;
+  held = λ v h. clear_votes-holds_nothing x v h;
+  inside = λ inside. absurd-true_false (is_inside p) inside outside;
+  inquired = λ v h. absurd-true_false false h refl;
+  relinquished = λ v h. absurd-true_false false h refl;
+}
+
 IsSound-send_requests : (x : ClientState) (q : List ℕ) → IsSound x → IsSet q → 1 ≤ length q → x.clock < x.limit → IsSound (begin_request x q)
-IsSound-send_requests x q s set some room =
-    let p = HasPlaces-clear_votes x s.places in
-    record {
-      id = s.id;
-      some = s.some;
-      limit = s.limit;
-      places = record { held = p.held; last = p.last };
-      stamp = omega arith;
-      clock = omega arith;
-      stamped = λ _. omega arith;
-      quorum = set;
-      asked = λ _. some;
-      held = λ v h. clear_votes-holds_nothing x v h;
-      inside = λ inside. absurd-true_false false inside refl;
-      inquired = λ v h. absurd-true_false false h refl;
-      relinquished = λ v h. absurd-true_false false h refl;
-    }
+IsSound-send_requests x q s set some room = IsSound-clear_votes (begin_request x q) Asking refl s.id s.some s.limit s.places.last (omega arith) (omega arith) set (λ _. (omega arith, some))
 
 IsSound-end_request : (x : ClientState) (seen : Seen) → IsSound x → IsSound (end_request x seen).state
-IsSound-end_request x seen s =
-    let p = HasPlaces-clear_votes x s.places in
-    record {
-      id = s.id;
-      some = s.some;
-      limit = s.limit;
-      places = record { held = p.held; last = p.last };
-      stamp = s.stamp;
-      clock = s.clock;
-      stamped = λ busy. absurd-true_false true refl busy;
-      quorum = s.quorum;
-      asked = λ busy. absurd-true_false true refl busy;
-      held = λ v h. clear_votes-holds_nothing x v h;
-      inside = λ inside. absurd-true_false false inside refl;
-      inquired = λ v h. absurd-true_false false h refl;
-      relinquished = λ v h. absurd-true_false false h refl;
-    }
+IsSound-end_request x seen s = IsSound-clear_votes x Idle refl s.id s.some s.limit s.places.last s.stamp s.clock s.quorum (λ busy. absurd-true_false true refl busy)
 
 -- An answered call
 
@@ -332,8 +313,7 @@ ask_unless-Ok false x q o e = (refl, Ok-same (send_requests x q) o e)
 
 ask_in-Ok : (p : Phase) (x : ClientState) (q : List ℕ) (o : Outcome) → ask_in p x q ≡ Ok o → (is_idle p ≡ true) × (is_spent x ≡ false) × (send_requests x q ≡ o)
 ask_in-Ok Idle x q o e = let k = ask_unless-Ok (is_spent x) x q o e in (refl, k.0, k.1)
-ask_in-Ok Asking x q o e = Err-not_Ok _ o e
-ask_in-Ok Inside x q o e = Err-not_Ok _ o e
+ask_in-Ok p x q o e = Err-not_Ok _ o e
 
 -- an ask that is not refused
 pub ask-Ok : (x : ClientState) (q : List ℕ) (o : Outcome) → ask x q ≡ Ok o → (is_idle x.phase ≡ true) × (x.clock < x.limit) × (send_requests x q ≡ o)
@@ -341,18 +321,16 @@ unfolding ask
 ask-Ok x q o e = let k = ask_in-Ok x.phase x q o e in let spent = k.1 in (k.0, grind (arith, nat_tests), k.2)
 
 leave_in-Ok : (p : Phase) (x : ClientState) (o : Outcome) → leave_in p x ≡ Ok o → (is_inside p ≡ true) × (end_request x Left ≡ o)
-leave_in-Ok Idle x o e = Err-not_Ok _ o e
-leave_in-Ok Asking x o e = Err-not_Ok _ o e
 leave_in-Ok Inside x o e = (refl, Ok-same (end_request x Left) o e)
+leave_in-Ok p x o e = Err-not_Ok _ o e
 
 pub leave-Ok : (x : ClientState) (o : Outcome) → leave x ≡ Ok o → (is_inside x.phase ≡ true) × (end_request x Left ≡ o)
 unfolding leave
 leave-Ok x o e = leave_in-Ok x.phase x o e
 
 give_up_in-Ok : (p : Phase) (x : ClientState) (o : Outcome) → give_up_in p x ≡ Ok o → (is_asking p ≡ true) × (end_request x Nothing ≡ o)
-give_up_in-Ok Idle x o e = Err-not_Ok _ o e
 give_up_in-Ok Asking x o e = (refl, Ok-same (end_request x Nothing) o e)
-give_up_in-Ok Inside x o e = Err-not_Ok _ o e
+give_up_in-Ok p x o e = Err-not_Ok _ o e
 
 pub give_up-Ok : (x : ClientState) (o : Outcome) → give_up x ≡ Ok o → (is_asking x.phase ≡ true) × (end_request x Nothing ≡ o)
 unfolding give_up
@@ -377,20 +355,4 @@ IsSound-step x Leaves o s accepts e = IsSound-leave x o s e
 IsSound-step x GivesUp o s accepts e = IsSound-give_up x o s e
 
 pub IsSound-start : (id limit : ℕ) → id < 64 → 1 ≤ limit → limit ≤ 2 ^ 40 → IsSound (start id limit)
-IsSound-start id limit small some most =
-    let x = start id limit in
-    record {
-      id = small;
-      some = some;
-      limit = most;
-      places = record { held = refl; last = refl };
-      stamp = omega arith;
-      clock = omega arith;
-      stamped = λ busy. absurd-true_false true refl busy;
-      quorum = tt;
-      asked = λ busy. absurd-true_false true refl busy;
-      held = λ v h. absurd-true_false (holds x v) h (ap (ltb 0) (slice_index-replicate_zero 64 v));
-      inside = λ inside. absurd-true_false false inside refl;
-      inquired = λ v h. absurd-true_false false h refl;
-      relinquished = λ v h. absurd-true_false false h refl;
-    }
+IsSound-start id limit small some most = IsSound-clear_votes (start id limit) Idle refl small some most refl (omega arith) (omega arith) tt (λ busy. absurd-true_false true refl busy)

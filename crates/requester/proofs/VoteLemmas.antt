@@ -21,15 +21,13 @@ held-enter_if false x = refl
 held-enter_if true x = refl
 
 held-take_locked_by : (current fresh : Bool) (x : ClientState) (v t g : ℕ) → (current && fresh) ≡ true → (take_locked_by current fresh x v t g).state.held ≡ set x.held v g
-held-take_locked_by false fresh x v t g e = absurd-true_false false e refl
-held-take_locked_by true false x v t g e = absurd-true_false false e refl
 held-take_locked_by true true x v t g e = held-enter_if _ (hold x v g)
+held-take_locked_by current fresh x v t g e = absurd-true_false false e refl
 
 HoldsBesides-take_body : (x : ClientState) (n v : ℕ) (b : ClientBody) → would_hold_body x v b ≡ true → HoldsBesides x v b (take_body (see x n) v b).state
 unfolding take_locked
 HoldsBesides-take_body x n v (to_client.Locked t g) e = held-take_locked_by _ _ (see x n) v t g e
-HoldsBesides-take_body x n v (to_client.Fail t) e = absurd-true_false false e refl
-HoldsBesides-take_body x n v (to_client.Inquire g) e = absurd-true_false false e refl
+HoldsBesides-take_body x n v b e = absurd-true_false false e refl
 
 pub HoldsBesides-take : (x : ClientState) (m : ToClient) → would_hold x m ≡ true → HoldsBesides x m.voter m.body (take x m).state
 unfolding would_hold take
@@ -44,18 +42,16 @@ IsKeptOrGiven-GivesBack x o k v = elim (k.votes v) [
 ]
 
 IsKeptOrGiven-take_locked_by : (current fresh : Bool) (x : ClientState) (v t g : ℕ) → (current && fresh) ≡ false → (u : ℕ) → IsKeptOrGiven x (take_locked_by current fresh x v t g) u
-IsKeptOrGiven-take_locked_by false fresh x v t g e u = inl refl
-IsKeptOrGiven-take_locked_by true false x v t g e u = inl refl
 IsKeptOrGiven-take_locked_by true true x v t g e u = absurd-true_false true refl e
+IsKeptOrGiven-take_locked_by current fresh x v t g e u = inl refl
 
 IsKeptOrGiven-take_fail_by : (b : Bool) (x : ClientState) (v : ℕ) → IsSound x → (u : ℕ) → IsKeptOrGiven x (take_fail_by b x v) u
 IsKeptOrGiven-take_fail_by false x v s u = inl refl
 IsKeptOrGiven-take_fail_by true x v s u = IsKeptOrGiven-GivesBack x (take_fail_by true x v) (GivesBack-take_fail_by x v s.places) u
 
 IsKeptOrGiven-take_inquire_by : (b hindered : Bool) (x : ClientState) (v : ℕ) → IsSound x → (u : ℕ) → IsKeptOrGiven x (take_inquire_by b hindered x v) u
-IsKeptOrGiven-take_inquire_by false hindered x v s u = inl refl
-IsKeptOrGiven-take_inquire_by true false x v s u = inl refl
 IsKeptOrGiven-take_inquire_by true true x v s u = IsKeptOrGiven-GivesBack x (take_inquire_by true true x v) (GivesBack-relinquish x v s.places) u
+IsKeptOrGiven-take_inquire_by b hindered x v s u = inl refl
 
 IsKeptOrGiven-take_body : (x : ClientState) (v : ℕ) (b : ClientBody) → IsSound x → would_hold_body x v b ≡ false → (u : ℕ) → IsKeptOrGiven x (take_body x v b) u
 unfolding take_locked take_fail take_inquire
@@ -65,8 +61,7 @@ IsKeptOrGiven-take_body x v (to_client.Inquire g) s e u = IsKeptOrGiven-take_inq
 
 would_hold-see : (x : ClientState) (n v : ℕ) (b : ClientBody) → would_hold_body (see x n) v b ≡ would_hold_body x v b
 would_hold-see x n v (to_client.Locked t g) = refl
-would_hold-see x n v (to_client.Fail t) = refl
-would_hold-see x n v (to_client.Inquire g) = refl
+would_hold-see x n v b = refl
 
 pub IsKeptOrGiven-take : (x : ClientState) (m : ToClient) → IsSound x → would_hold x m ≡ false → (v : ℕ) → IsKeptOrGiven x (take x m) v
 unfolding would_hold take

@@ -1,4 +1,4 @@
-ghost use Rattle.std.specs.Prelude.{◌≡◌, ◌<◌, ◌≤◌, ◌^◌, ℕ, List, [], IfErr, IfOk, IfSome, Err, Ok, Some, length};
+ghost use Rattle.std.specs.Prelude.{◌≡◌, ◌<◌, ◌≤◌, ℕ, List, [], IfErr, IfOk, IfSome, Err, Ok, Some, length};
 ghost use Rattle.numbers.specs.Bounds.{max_clients, max_voters, max_stamp};
 ghost use Rattle.arrayvec.specs.ArrayVec.{array_vec_len};
 ghost use Rattle.requester.specs.declared.state.ClientState.{ClientState};

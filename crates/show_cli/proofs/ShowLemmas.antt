@@ -1,16 +1,15 @@
 -- Lemmas on what is shown for what was read, and on faults.
-use Rattle.std.proofs.Common.{◌≡◌, ℕ, ◌≤◌, Bool, true, false, cond, length, List, [], Option, None, Some, Ok, subst, refl}
+use Rattle.std.proofs.Common.{◌≡◌, ℕ, ◌≤◌, Bool, true, false, cond, length, List, [], Option, None, Some, subst, refl}
 use Rattle.std.specs.Prelude.{IfSome}
 use Rattle.std.specs.Io.KnownBytes.{Appends}
 use Rattle.whole_io.specs.Devices.{AppendsBeginning}
-use Rattle.whole_io.specs.declared.fault.DeviceFault.TheVariants as device
 use Rattle.whole_io.specs.declared.fault.DeviceFault.TheVariants.{ReadFault, TooLong, WriteFault}
 use Rattle.plan_inputs.specs.declared.fault.InputFault.TheVariants as inputs
 use Rattle.commands.specs.Commands.{Refuses, coterie_part}
 use Rattle.commands.specs.Devices.{IsOfReading, IsOwn}
 use Rattle.commands.specs.Faults.{IsOfFile}
 use Rattle.commands.specs.declared.fault.Fault.{Fault}
-use Rattle.commands.specs.declared.fault.Fault.TheVariants.{MissingPart, UnknownVoter, NotBridged, Device, Construct, Input, Replay, Cluster, OutOfMemory}
+use Rattle.commands.specs.declared.fault.Fault.TheVariants.{Device, Input, OutOfMemory}
 use Rattle.show_cli.specs.Failures.{RefusesWithout}
 use Rattle.show_cli.specs.Pages.{BeginsShowing, ComesOfShowing, IsPage, OfRead, RefusesPage, Shows, reads_page_input}
 use Rattle.show_cli.specs.declared.command.ShowCommand.{ShowCommand}
@@ -47,13 +46,7 @@ write_fault_comes command bytes input page all nothing is_page =
 own_of_seen : (command : ShowCommand) (seen : List ℕ) (fault : Fault) → IsOwn fault → RefusesPage command seen fault → ComesOfShowing command fault seen
 own_of_seen command seen (Device fault) own h = absurd own
 own_of_seen command seen OutOfMemory own h = tt
-own_of_seen command seen (MissingPart k) own h = h
-own_of_seen command seen (UnknownVoter k) own h = h
-own_of_seen command seen (NotBridged j k) own h = h
-own_of_seen command seen (Construct fault) own h = h
-own_of_seen command seen (Input fault) own h = h
-own_of_seen command seen (Replay fault) own h = h
-own_of_seen command seen (Cluster fault) own h = h
+own_of_seen command seen fault own h = h
 
 pub own_fault_comes : (command : ShowCommand) (bytes : Option (List ℕ)) (input : List ℕ) (fault : Fault) → (reads_page_input command ≡ true → IfSome bytes (λ known. input ≡ known))
     → (reads_page_input command ≡ false → input ≡ [])
@@ -68,15 +61,7 @@ reading_of_seen command known false fault reads e h = absurd cc
 reading_of_seen command known true (Device TooLong) reads e h = h
 reading_of_seen command known true (Device ReadFault) reads e h = reads
 reading_of_seen command known true OutOfMemory reads e h = tt
-reading_of_seen command known true (Device WriteFault) reads e h = absurd h
-reading_of_seen command known true (Device device.OutOfMemory) reads e h = absurd h
-reading_of_seen command known true (MissingPart k) reads e h = absurd h
-reading_of_seen command known true (UnknownVoter k) reads e h = absurd h
-reading_of_seen command known true (NotBridged j k) reads e h = absurd h
-reading_of_seen command known true (Construct fault) reads e h = absurd h
-reading_of_seen command known true (Input fault) reads e h = absurd h
-reading_of_seen command known true (Replay fault) reads e h = absurd h
-reading_of_seen command known true (Cluster fault) reads e h = absurd h
+reading_of_seen command known true fault reads e h = absurd h
 
 pub reading_fault_comes : (command : ShowCommand) (bytes : Option (List ℕ)) (fault : Fault) → reads_page_input command ≡ true → IsOfReading bytes fault
     → OfRead command bytes (ComesOfShowing command fault)

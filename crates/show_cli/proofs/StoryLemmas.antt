@@ -1,11 +1,11 @@
 -- Lemmas on the parts of an input of a story: names of two coteries, and faults of a script.
-use Rattle.std.proofs.Common.{◌≡◌, ◌≢◌, ℕ, ◌+◌, ◌<◌, ◌≤◌, Option, None, Some, List, [], length, take, sym, ◌∙◌}
+use Rattle.std.proofs.Common.{◌≡◌, ◌≢◌, ℕ, ◌+◌, ◌<◌, ◌≤◌, None, Some, List, [], length, take, sym, ◌∙◌}
 use Rattle.std.specs.Prelude.{slice_get}
 use Rattle.std.proofs.lemmas.List.{take_more_same}
 use Rattle.std.proofs.lemmas.Option.{get_or_from_slice_get, slice_get-get_or, slice_get_past, slice_get_within}
 use Rattle.std.proofs.Common.{get_or}
 use Rattle.replay.specs.declared.fault.ReplayFault.{ReplayFault}
-use Rattle.replay.specs.declared.fault.ReplayFault.TheVariants.{TicketTwice, TicketMissing, WrongQuorum, PassTwice, PassMissing, WrongRegister, BadLine, OutOfMemory}
+use Rattle.replay.specs.declared.fault.ReplayFault.TheVariants.{BadLine, OutOfMemory}
 use Rattle.commands.specs.Faults.{replay_refusal}
 use Rattle.stories.specs.Scripts.{IsBadText}
 use Rattle.show_cli.specs.Stories.{RefusesScript}
@@ -24,9 +24,4 @@ one_ended xs ys i within past = λ e.
 pub script_refused : (text : List ℕ) (fault : ReplayFault) → IsBadText text fault → RefusesScript text (replay_refusal fault)
 script_refused text (BadLine line) h = h
 script_refused text OutOfMemory h = tt
-script_refused text (TicketTwice x) h = absurd h
-script_refused text (TicketMissing x) h = absurd h
-script_refused text (WrongQuorum x) h = absurd h
-script_refused text (PassTwice x) h = absurd h
-script_refused text (PassMissing x) h = absurd h
-script_refused text (WrongRegister x) h = absurd h
+script_refused text fault h = absurd h

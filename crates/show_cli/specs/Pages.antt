@@ -83,10 +83,6 @@ IsPage (show.Picture pictures.World) input page = IsStoryPicture input page
 -- the fault is out of memory, or the command fails with it for the input: a part is missing or has a
 -- fault, a word is no voter's name, or the last part is no script
 abbrev pub RefusesPage : ShowCommand → List ℕ → Fault → Type 0
-RefusesPage show.Plan input fault = Refuses fault (planned_in input)
-RefusesPage show.Report input fault = Refuses fault (planned_in input)
-RefusesPage (show.Deal n) input fault = Refuses fault (planned_in input)
-RefusesPage (show.DealEven n) input fault = Refuses fault (planned_in input)
 RefusesPage (show.Without words) input fault = RefusesWithout (map string_bytes words.items) input fault
 RefusesPage show.Resilience input fault = Refuses fault (coterie_part input)
 RefusesPage show.Bridge input fault = Refuses fault (pair_in input)
@@ -95,9 +91,8 @@ RefusesPage (show.Explain explanation) input fault = fault ≡ OutOfMemory
 RefusesPage show.ExplainAll input fault = fault ≡ OutOfMemory
 RefusesPage show.ListFaults input fault = fault ≡ OutOfMemory
 RefusesPage (show.Fault command) input fault = fault ≡ OutOfMemory
-RefusesPage (show.Picture pictures.Load) input fault = Refuses fault (planned_in input)
-RefusesPage (show.Picture pictures.Cycle) input fault = Refuses fault (planned_in input)
 RefusesPage (show.Picture pictures.World) input fault = RefusesStory input fault
+RefusesPage command input fault = Refuses fault (planned_in input)
 
 -- the result is a page of the command for the input, or its fault for the input, or out of memory
 abbrev pub IsShownBy : {X : Type 0} → (X → List ℕ) → ShowCommand → List ℕ → Result X Fault → Type 0
@@ -112,15 +107,7 @@ reads_page_input (show.Explain explanation) = false
 reads_page_input show.ExplainAll = false
 reads_page_input show.ListFaults = false
 reads_page_input (show.Fault command) = reads_input command
-reads_page_input show.Plan = true
-reads_page_input show.Report = true
-reads_page_input (show.Deal n) = true
-reads_page_input (show.DealEven n) = true
-reads_page_input (show.Without words) = true
-reads_page_input show.Resilience = true
-reads_page_input show.Bridge = true
-reads_page_input show.World = true
-reads_page_input (show.Picture picture) = true
+reads_page_input command = true
 
 -- what the command reads of an input: all of it, or nothing
 abbrev pub read_by : ShowCommand → List ℕ → List ℕ

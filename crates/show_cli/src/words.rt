@@ -1,9 +1,7 @@
 //! The command line: which command its words name.
 ghost use Rattle.std.specs.Prelude.{◌≡◌, ◌++◌, ◌∷◌, false, true, IfErr, IfOk, IfSome, None, OnOk, codes, map, string_bytes};
 ghost use Rattle.clap.specs.Words.{app_of, found_of, rows_of, rule_of, subcommand_rows_of};
-ghost use Rattle.command_line.specs.Words as qlock;
 ghost use Rattle.command_line.specs.Words.{IsLocal, used_as};
-ghost use Rattle.commands.specs.Commands.{IsInRange};
 ghost use Rattle.show_cli.specs.Commands.{IsShown};
 ghost use Rattle.show_cli.specs.declared.command.Picture.{Picture};
 ghost use Rattle.show_cli.specs.Words.{IsEven, IsNamedBy, Names, Refuses, RefusesUse, coteries_app, even_rule, explain_app, fault_app, pages_app, picture_app, picture_word, qlock_words, reports_app, show_app, tickets_app, without_app, words_rule};
@@ -14,7 +12,7 @@ use command_line::{
     bare_command, read_matches, text_at, text_of, texts_of, tickets_argument, tickets_of, used_in,
     word_argument,
 };
-use commands::{Command, Usage, named_commands_are_in_range, read_words};
+use commands::{Command, Usage, read_words};
 use show_faults::explanation_of;
 use std::alloc::{AllocError, Global};
 
@@ -300,16 +298,6 @@ fn words_behind(alloc: Global, used: &ArgMatches) -> Result<Vec<String>, AllocEr
     }
 }
 
-/// Returns the command of `qlock` that these words name.
-fn qlock_command_of(alloc: Global, words: &[String]) -> Result<Command, Usage>
-    ensures named { IfOk result (qlock.Names (map string_bytes words.now)) }
-    ensures refused { IfErr result (qlock.Refuses (map string_bytes words.now)) }
-    ensures in_range { IfOk result IsInRange }
-{
-    named_commands_are_in_range();
-    read_words(alloc, words)
-}
-
 /// Returns `fault` with the command of `qlock` that its words name.
 fn fault_of(alloc: Global, used: &ArgMatches) -> Result<ShowCommand, Usage>
     ensures named { IfOk result (IsNamedBy (used_as (codes "fault") used.now)) }
@@ -317,7 +305,7 @@ fn fault_of(alloc: Global, used: &ArgMatches) -> Result<ShowCommand, Usage>
     ensures shown { IfOk result IsShown }
 {
     let words = words_behind(alloc, used)?;
-    match qlock_command_of(alloc, words.as_slice()) {
+    match read_words(alloc, words.as_slice()) {
         Ok(command) => Ok(ShowCommand::Fault(command)),
         Err(usage) => Err(usage),
     }

@@ -15,7 +15,7 @@ use Rattle.construct.specs.declared.fault.ConstructFault.TheVariants as construc
 use Rattle.plan_inputs.specs.declared.fault.InputFault.{InputFault}
 use Rattle.plan_inputs.specs.declared.fault.InputFault.TheVariants as inputs
 use Rattle.commands.specs.declared.fault.Fault.{Fault}
-use Rattle.commands.specs.declared.fault.Fault.TheVariants.{Cluster, Construct, Device, Input, MissingPart, NotBridged, OutOfMemory, Replay, UnknownVoter}
+use Rattle.commands.specs.declared.fault.Fault.TheVariants.{Construct, Input, MissingPart, NotBridged, Replay, UnknownVoter}
 
 -- of a fault of the quorums of a coterie
 abbrev pub coterie_code : CoterieFault → List ℕ
@@ -93,6 +93,4 @@ code_of (NotBridged j k) = codes "J1"
 code_of (Construct fault) = construct_code fault
 code_of (Input fault) = input_code fault
 code_of (Replay fault) = replay_code fault
-code_of (Device fault) = codes "O1"
-code_of (Cluster fault) = codes "O1"
-code_of OutOfMemory = codes "O1"
+code_of fault = codes "O1"

@@ -2,7 +2,6 @@
 ghost use Rattle.std.specs.Prelude.{◌≡◌, ◌<◌, ◌++◌, length, All, IfOk, OnOk, string_bytes};
 ghost use Rattle.certificate.specs.Certificates.{cycle_len};
 ghost use Rattle.even.specs.EvenCycles.{window};
-ghost use Rattle.even.specs.Strides.{IsFirstBest, strides_of};
 ghost use Rattle.plan_inputs.specs.Inputs.{parts_of};
 ghost use Rattle.show_tickets.specs.EvenOrder.{IsEvenPage, account_of_list, even_lines, even_ticket_lines, order_lines, slack_line, slack_words, stride_line};
 

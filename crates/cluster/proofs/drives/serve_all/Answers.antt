@@ -1,5 +1,4 @@
 use Rattle.std.proofs.Common.{rules}
-use Rattle.std.specs.List.{AllZip}
 use Rattle.cluster.specs.Drives.{IsBack, TookTurns, WasLet}
 use Rattle.cluster.proofs.DriveLemmas.{AreIdle-IsBack, AllZip-from}
 use Rattle.cluster.proofs.drives.serve_all.Goals as goal
@@ -15,7 +14,4 @@ pub returns-clause-in_turns : goal.returns-clause-in_turns
 returns-clause-in_turns g c = AllZip-from (TookTurns c.args.turns) c.args.members.now c.for_each_mut.new.s (search rules) (λ i d below. let k = (c.for_each_mut.ensures i d below).1 in search rules)
 
 pub returns-clause-idle : goal.returns-clause-idle
-returns-clause-idle g c =
-    let back : AllZip (IsBack c.args.passes) c.args.members.now c.for_each_mut.new.s = AllZip-from (IsBack c.args.passes) c.args.members.now c.for_each_mut.new.s (search rules)
-    (λ i d below. let k = (c.for_each_mut.ensures i d below).1 in search rules) in
-    AreIdle-IsBack c.args.passes c.args.members.now c.for_each_mut.new.s back
+returns-clause-idle g c = AreIdle-IsBack c.args.passes c.args.members.now c.for_each_mut.new.s (returns-clause-back g c)

@@ -1,4 +1,5 @@
-use Rattle.show_words.proofs.LineLemmas.{four_parts}
+use Rattle.std.proofs.Common.{[]}
+use Rattle.numbers.proofs.Lists.{four_parts}
 use Rattle.show_words.proofs.plans.plan_words.Goals as goal
 
 pub returns : goal.returns
@@ -8,6 +9,6 @@ returns c =
       same = c.in_ok-figures.ensures.same;
       most_used_first = c.in_ok-figures.ensures.sorted;
       ties = c.in_ok-figures.ensures.ties;
-      is = four_parts _ _ _ _ _ _ _ _ _ c.new-text.ensures.bytes c.in_ok-push_load.ensures
+      is = four_parts [] _ _ _ _ _ _ _ _ (rw c.new-text.ensures.bytes at c.in_ok-push_load.ensures)
           (rw c.as_slice.ensures.value at c.in_ok-push_quorums.ensures) c.in_ok-push_voters.ensures c.in_ok-push_reasons.ensures;
     }

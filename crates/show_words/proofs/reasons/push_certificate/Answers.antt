@@ -1,5 +1,5 @@
 use Rattle.std.proofs.lemmas.Result.{on_ok_weaker}
-use Rattle.show_words.proofs.LineLemmas.{three_parts}
+use Rattle.numbers.proofs.Lists.{three_parts}
 use Rattle.show_words.proofs.reasons.push_certificate.Goals as goal
 
 pub returns : goal.returns

@@ -1,6 +1,4 @@
-use Rattle.std.proofs.Common.{◌+◌, ap, inl, refl, sym, ◌∙◌}
-use Rattle.text_lines.specs.Forms.{BeginsWithNone}
-use Rattle.replay.specs.Scripts.{world_form}
+use Rattle.std.proofs.Common.{◌+◌, inl, refl, ◌∙◌}
 use Rattle.stories.specs.Scripts.{IsBadFirst, IsTextOf, Script}
 use Rattle.stories.proofs.Readings.{bad_text, never_both, never_refused, same_script, whole_text}
 use Rattle.stories.proofs.reading.read_story.Goals as goal

@@ -1,7 +1,7 @@
 use Rattle.std.proofs.Common.{◌≡◌, ℕ, Option, Some, IfSome, refl, sym, ap, ◌∙◌, subst}
 use Rattle.board.specs.Quorums.{place_of}
 use Rattle.board.specs.Seats.{BoardState, ClientSeatState as SeatState}
-use Rattle.members.proofs.MemberLemmas.{Board-injective, full_or_not, not_refused}
+use Rattle.members.proofs.MemberLemmas.{Board-injective, Ok-not_Err, full_or_not}
 use Rattle.members.proofs.member.Member.pass.Goals.{in-Ok, in-Err}
 use Rattle.members.proofs.member.Member.pass.Goals as goal
 
@@ -10,7 +10,7 @@ returns-clause-full g c = λ e.
     let read = ap (λ (s : SeatState). s.reading) c.read_register.ensures.read in
     let limit = c.cluster.inside.board.limit in
     elim c.match-write_register.branch [
-      | in-Ok w ↦ absurd (not_refused _ _ _ w.result-is e)
+      | in-Ok w ↦ absurd (Ok-not_Err _ _ _ w.result-is e)
       | in-Err w ↦
           let full = subst (λ (r : Option (ℕ × ℕ)). IfSome r (λ p. p.1 ≡ limit)) read (w.in-Err.ensures.full (Board-injective _ _ _ w.result-is e)) in
           let number = full ∙ ap (λ (b : BoardState). b.limit) c.cluster.invariant.board_is in
@@ -23,7 +23,7 @@ returns-clause-room g c = λ e.
     let read = ap (λ (s : SeatState). s.reading) c.read_register.ensures.read in
     let limit = c.cluster.inside.board.limit in
     elim c.match-write_register.branch [
-      | in-Ok w ↦ absurd (not_refused _ _ _ w.result-is e)
+      | in-Ok w ↦ absurd (Ok-not_Err _ _ _ w.result-is e)
       | in-Err w ↦ (
         place_of c.cluster.inside.board.firsts c.self.inside.side c.self.inside.quorum,
         c.read_register.result,
