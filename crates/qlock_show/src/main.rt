@@ -9,7 +9,7 @@
 ghost use Rattle.std.specs.Prelude.{◌≡◌, ◌⊎◌};
 ghost use Rattle.commands.specs.Statuses.{usage_status};
 ghost use Rattle.show_cli.specs.Commands.{IsShown};
-ghost use Rattle.qlock_show.specs.Requests.{AsksForText};
+ghost use Rattle.qlock_show.specs.HelpRequests.{AsksForText};
 
 use commands::{DeviceFault, Fault, Usage, Watched};
 use host::{command_line_of, files_help, read_files, refuse_words, report, report_unread};
