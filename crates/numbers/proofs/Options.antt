@@ -1,5 +1,5 @@
 -- Options, tests and first places: what their values show of their parts.
-use Rattle.std.proofs.Common.{◌≡◌, ℕ, ◌<◌, Bool, true, false, ◌&&◌, ltb, List, length, refl, sym, ◌∙◌, inl, inr, arith, Option, None, Some}
+use Rattle.std.proofs.Common.{◌≡◌, Bool, true, false, ◌&&◌, ltb, List, length, refl, sym, ◌∙◌, inl, inr, arith, Option, None, Some}
 use Rattle.std.specs.List.{All, position, position_or_len}
 use Rattle.std.specs.Option.{option_and_then, option_map, option_or}
 use Rattle.std.proofs.lemmas.Bool.{cases_lt, cond-true, false≢true, lt-ltb}

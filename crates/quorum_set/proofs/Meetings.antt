@@ -1,6 +1,6 @@
 -- Members of sets, and that any two quorums of a coterie meet.
-use Rattle.std.proofs.Common.{◌≡◌, ℕ, ◌<◌, ◌≤◌, eqb, Bool, true, false, true≢false, List, [], ◌∷◌, length, refl, sym, ap, ◌∙◌, subst, arith}
-use Rattle.std.specs.Prelude.{◌||◌, slice_index_or}
+use Rattle.std.proofs.Common.{◌≡◌, ℕ, ◌<◌, ◌≤◌, true, List, [], ◌∷◌, length, subst, arith}
+use Rattle.std.specs.Prelude.{slice_index_or}
 use native.Mathlib.Decide.{ℕ_discrete, dec_le}
 use Rattle.numbers.specs.Sets.{has, meet}
 use Rattle.quorum_set.specs.Coteries.{QuorumSystem, IsCoterie}

@@ -1,4 +1,4 @@
--- How often a number stands among ascending ones.
+-- How often a number is among ascending ones.
 use Rattle.std.proofs.Common.{◌≡◌, ℕ, ◌+◌, ◌-◌, ◌<◌, ◌≤◌, cond, eqb, leb, sum_by, List, [], ◌∷◌, length, get_or, drop, suc, refl, ap, ◌∙◌, subst, sym, inl, inr, arith}
 use Rattle.std.specs.List.Sorted.{IsNonDecreasing}
 use Rattle.std.proofs.lemmas.Bool.{cases_eq, cases_lt, eq-eqb, le-leb, ne_eqb}
@@ -29,9 +29,9 @@ cond_eqb-same x n e = ap (λ b. cond {A = ℕ} b 1 0) (eq-eqb x n e)
 cond_eqb-other : (x n : ℕ) → (x ≡ n → ⊥) → cond {A = ℕ} (eqb x n) 1 0 ≡ 0
 cond_eqb-other x n ne = ap (λ b. cond {A = ℕ} b 1 0) (ne_eqb x n ne)
 
--- What stands twice
+-- What is there twice
 
--- what stands twice stands twice from this place on
+-- what is there twice is there twice from this place on
 pub record IsLeftTwice (xs : List ℕ) (p : ℕ) : Type 0 where
   pub left : (n : ℕ) → 2 ≤ times n xs → 2 ≤ times n (drop p xs)
   pub within : (n : ℕ) → times n (drop p xs) ≤ times n xs
@@ -147,7 +147,7 @@ EachOnce-same xs ys same long counts = record { in_all = refl; each_once = λ n 
 
 -- Numbers that count up
 
--- whatever stands among them stands once
+-- whatever is among them is there once
 pub NoneTwice-EachOnce : (ns : List ℕ) → EachOnce ns → NoneTwice ns
 NoneTwice-EachOnce ns counts = λ n twice. elim (cases_lt n (length ns)) [
   | inl less ↦ omega (arith, counts.each_once n less)

@@ -1,5 +1,5 @@
 //! Votes and the register, on one thread and on two.
-ghost use Rattle.std.specs.Prelude.{◌≡◌, ◌<◌, ◌≤◌, ◌∷◌, [], Some, None, IsSome, IfOk, IfSome, MatchBool, MatchResult, slice_index};
+ghost use Rattle.std.specs.Prelude.{◌≡◌, ◌<◌, ◌≤◌, ◌∷◌, [], Some, None, IsSome, IfSome, MatchBool, MatchResult, slice_index};
 ghost use Rattle.board.specs.Words.{nobody};
 
 use board::{Board, BoardFault, BoardRoot, ClientSeat, Total, VoterSeat};

@@ -3,7 +3,9 @@ ghost use Rattle.std.specs.Prelude.{◌≡◌};
 
 use crate::scripts::{Act, Asked, ENTERED, LEAVE, NOTHING, Script, blank_of, plays};
 use board::BoardFault;
-use members::{Blank, CloseFault, Cluster, ClusterFault, ClusterName, Member, RunRecord};
+use members::{
+    Blank, CloseFault, Cluster, ClusterFault, ClusterName, Draw, Member, Pass, RunRecord,
+};
 use requester::Seen;
 use std::alloc::{AllocError, Global};
 use std::marker::Brand;
@@ -12,8 +14,8 @@ use std::test::Fail;
 
 /// What a test looks at in a record: its draws, its passes and its register. No message was lost.
 struct Wanted<'a> {
-    draws: &'a [(u8, u64, usize)],
-    passes: &'a [(u8, u64)],
+    draws: &'a [Draw],
+    passes: &'a [Pass],
     register: u64,
 }
 

@@ -4,7 +4,7 @@ ghost use Rattle.std.specs.Prelude.{◌≡◌};
 
 use crate::scripts::{Asked, blank_of};
 use crate::threads::enters;
-use members::{Blank, Cluster, ClusterName, Member, RunRecord};
+use members::{Blank, Cluster, ClusterName, Member, Pass, RunRecord};
 use message::{ClientBody, ToClient, ToVoter, VoterBody};
 use std::alloc::Global;
 use std::marker::Brand;
@@ -150,7 +150,7 @@ fn record_of<N: ClusterName + Send + Sync, R: Threads + Wait + Sync>(
 }
 
 /// Returns whether the passes have the numbers 0, 1, 2 and so on.
-fn count_up(passes: &[(u8, u64)]) -> bool {
+fn count_up(passes: &[Pass]) -> bool {
     let mut next: u64 = 0;
     for (_, number) in passes {
         if *number != next {

@@ -71,7 +71,7 @@ fn ask_into(client: &mut Requester, out: &mut Messages) -> Result<Seen, ClientFa
     client.ask_into(&quorum, out)
 }
 
-/// Returns the reply to a step. Fails with C1 if it is neither a call nor a message.
+/// Returns the reply to a step. Fails with `Busy` if it is neither a call nor a message.
 fn reply_to(client: &mut Requester, step: &str) -> Result<Reply, ClientFault>
     requires id { client.old.id ≡ 0 }
     ensures id { client.new.id ≡ 0 }

@@ -1,6 +1,6 @@
 //! Records that are checked.
 use certificate::Plan;
-use cluster::RunRecord;
+use cluster::{Draw, Pass, RunRecord};
 use quorum_set::Side;
 use replay::{ReplayFault, check_record};
 use std::alloc::{AllocError, Global};
@@ -11,8 +11,8 @@ use test_plans::{majority_plan, plan_with};
 /// pass has number 0.
 fn record_of(
     alloc: Global,
-    third: (u8, u64, usize),
-    second: (u8, u64),
+    third: Draw,
+    second: Pass,
     register: u64,
 ) -> Result<RunRecord, AllocError> {
     let draws = [(0u8, 0u64, 0usize), (1, 2, 2), third]
@@ -32,8 +32,8 @@ fn record_of(
 fn fault_of(
     alloc: Global,
     plan: &Plan,
-    third: (u8, u64, usize),
-    second: (u8, u64),
+    third: Draw,
+    second: Pass,
     register: u64,
 ) -> Result<Option<ReplayFault>, AllocError> {
     let record = record_of(alloc, third, second, register)?;
@@ -41,7 +41,7 @@ fn fault_of(
 }
 
 /// Third draws, second passes and registers, and the faults of their records.
-const FAULTS: [((u8, u64, usize), (u8, u64), u64, ReplayFault); 7] = [
+const FAULTS: [(Draw, Pass, u64, ReplayFault); 7] = [
     ((0, 0, 0), (1, 1), 2, ReplayFault::TicketTwice(0)),
     ((0, 3, 0), (1, 1), 2, ReplayFault::TicketMissing(1)),
     ((0, 1, 2), (1, 1), 2, ReplayFault::WrongQuorum(1)),

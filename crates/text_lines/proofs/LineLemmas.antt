@@ -156,7 +156,7 @@ some_text (b ∷ front) rest = λ e. cc
 pub no_line : {A : Type 0} (f : Form A) → BeginsWithNone f []
 no_line f = λ x more h e. some_text (line_of f x) more (sym e)
 
--- a text begins with one list of lines behind which no other one stands
+-- a text begins with one list of lines after which no other one comes
 pub same_lines : {A : Type 0} (f : Form A) → IsForm f → (text : List ℕ) (xs ys : List A) (u v : List ℕ) → AreFirst f text xs u → AreFirst f text ys v → (xs ≡ ys) × (u ≡ v)
 same_lines {A} f is text xs ys u v a b = by xs ys a.have_lines b.have_lines (sym a.text_is ∙ b.text_is)
   where
