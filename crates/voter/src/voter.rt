@@ -1,7 +1,7 @@
 ghost use Rattle.std.specs.Prelude.{◌≡◌, ◌<◌, ◌≤◌, [], IfErr, IfOk, IfSome, OnErr, OnOk, None, Some};
 ghost use Rattle.arrayvec.specs.ArrayVec.{array_vec_len};
 ghost use Rattle.numbers.specs.Bounds.{max_voters, max_clients, max_stamp};
-ghost use Rattle.voter.specs.Steps.{IsSound, effect_of, remind, start, step};
+ghost use Rattle.voter.specs.Steps.{effect_of, remind, start, step};
 ghost use Rattle.voter.specs.declared.state.VoterState.{VoterState};
 ghost use Rattle.voter.specs.Saved.{IsKept, least_voter, words_of};
 
@@ -24,7 +24,7 @@ pub struct Voter {
 
 impl Model for Voter {
     ghost use Rattle.voter.specs.declared.state.VoterState.{VoterState};
-    ghost use Rattle.voter.specs.Steps.{IsSound};
+    ghost use Rattle.voter.specs.Saved.{IsKept};
     ghost use Rattle.voter.specs.contracts.state.VoterState as known;
 
     ghost Value = { VoterState };
@@ -33,7 +33,7 @@ impl Model for Voter {
 
     ghost view = { λ a. a.state };
 
-    ghost invariant = { λ a. IsSound a.state };
+    ghost invariant = { λ a. IsKept a.state };
 }
 
 impl Voter {
@@ -70,6 +70,8 @@ impl Voter {
     pub fn save(&self, words: &mut SavedWords)
         ensures words { words.new.items ≡ words_of self.now }
         ensures len { array_vec_len words.new ≡ 138 }
+        // So it can be restored, whatever calls led to it.
+        ensures kept { IsKept self.now }
     {
         self.state.save(words);
     }
