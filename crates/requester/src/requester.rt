@@ -4,11 +4,12 @@ ghost use Rattle.arrayvec.specs.ArrayVec.{array_vec_len};
 ghost use Rattle.requester.specs.declared.state.ClientState.{ClientState};
 ghost use Rattle.requester.specs.Saved.{IsKept, least_client, words_of};
 ghost use Rattle.requester.specs.Soundness.{IsSound};
-ghost use Rattle.requester.specs.Words.{grant_of, is_spent};
+ghost use Rattle.quorum_set.specs.Words.{word_of};
+ghost use Rattle.requester.specs.Words.{grant_of, is_spent, members};
 ghost use Rattle.requester.specs.Steps.{Predicts, ask, give_up, leave, remind, start, take, would_hold};
 
 use crate::fault::ClientFault;
-use crate::saved::SavedWords;
+use crate::saved::{SavedWords, set_of};
 use crate::state::{ClientState, Messages, Phase, Reminders, Reply, Seen};
 use arrayvec::ArrayVec;
 use message::ToClient;
@@ -131,6 +132,13 @@ impl Requester {
         ensures sound { IsSound self.now }
     {
         self.state.quorum.as_slice()
+    }
+
+    /// Returns the quorum of the current or last request as bits: bit i is 1 if voter i is a member.
+    pub fn quorum_bits(&self) -> u64
+        ensures { result ≡ word_of (members self.now) }
+    {
+        set_of(self.state.quorum.as_slice()).bits()
     }
 
     /// Returns whether no stamp is left for another request: whether the clock is at least the
