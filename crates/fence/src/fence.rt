@@ -1,8 +1,9 @@
 //! The guard.
 ghost use Rattle.std.specs.Prelude.{◌≡◌, ◌<◌, IsTrue, false, replicate};
 ghost use Rattle.numbers.specs.Bounds.{max_voters};
-ghost use Rattle.fence.specs.Passes.{Admits, Refuses, SeesAlso, is_not_older};
+ghost use Rattle.fence.specs.Passes.{Admits, HasGrant, Refuses, SeesAlso, is_not_older};
 
+use crate::pass::Pass;
 use numbers::MAX_VOTERS;
 
 /// For each voter the highest grant number that it saw.
@@ -22,18 +23,20 @@ impl Fence {
         }
     }
 
-    /// Admits a pass with these grants, one for each voter and 0 for none. Returns whether it is
-    /// admitted.
+    /// Admits a pass. Returns whether it is admitted.
     ///
     /// It is refused if and only if it shows an older grant of some voter than was shown before.
     /// The guard is then unchanged.
-    pub fn admit(&mut self, grants: &[u64; MAX_VOTERS]) -> bool
-        ensures new { IsTrue result → Admits self.old.seen grants.now }
-        ensures admitted { Admits self.old.seen grants.now → IsTrue result }
-        ensures refused { Refuses self.old.seen grants.now → result ≡ false }
-        ensures seen { IsTrue result → SeesAlso self.old.seen grants.now self.new.seen }
+    pub fn admit(&mut self, pass: &Pass) -> bool
+        ensures new { IsTrue result → Admits self.old.seen pass.now }
+        ensures admitted { Admits self.old.seen pass.now → IsTrue result }
+        ensures refused { Refuses self.old.seen pass.now → result ≡ false }
+        ensures seen { IsTrue result → SeesAlso self.old.seen pass.now self.new.seen }
         ensures unchanged { result ≡ false → self.new ≡ self.old }
+        // A pass has a grant, so whoever was never inside has nothing to show.
+        ensures some { HasGrant pass.now }
     {
+        let grants = pass.grants();
         if !self.are_new(grants) {
             return false;
         }
