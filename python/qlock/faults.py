@@ -68,10 +68,16 @@ class OlderGrant(Fault):
     number = 10
 
 
+class NoPass(Fault):
+    """The grants are all 0, so they are no pass. Only a client that is inside has one."""
+
+    number = 11
+
+
 class Refused(Fault, ValueError):
     """A text has a fault, or no plan was found. Each fault has a class of its own in `qlock.refusals`, named as in its line."""
 
-    number = 11
+    number = 11  # of libqlock_plan
     code = ""
     """the code of the fault, as `E7`"""
 
@@ -89,8 +95,8 @@ class NoMemory(Fault, MemoryError):
 
 
 _ALL: Tuple[Type[Fault], ...] = (
-    BadArgument, BadState, BadMessage, NoRoom, Busy, NotInside, NotAsking, StampsSpent, GrantsSpent, OlderGrant, Refused,
-    NoMemory,
+    BadArgument, BadState, BadMessage, NoRoom, Busy, NotInside, NotAsking, StampsSpent, GrantsSpent, OlderGrant, NoPass, NoMemory
 )
 
 KINDS: Dict[int, Type[Fault]] = {kind.number: kind for kind in _ALL}
+"""What calls return. Of 11 this has the meaning in libqlock; a call of libqlock_plan that returns it raises a `Refused`."""
