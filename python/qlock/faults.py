@@ -68,16 +68,10 @@ class OlderGrant(Fault):
     number = 10
 
 
-class NoPass(Fault):
-    """The grants are all 0, so they are no pass. Only a client that is inside has one."""
-
-    number = 11
-
-
 class Refused(Fault, ValueError):
     """A text has a fault, or no plan was found. Each fault has a class of its own in `qlock.refusals`, named as in its line."""
 
-    number = 11  # of libqlock_plan
+    number = 11
     code = ""
     """the code of the fault, as `E7`"""
 
@@ -94,9 +88,15 @@ class NoMemory(Fault, MemoryError):
     number = 12
 
 
+class NoPass(Fault):
+    """What is shown to the guard has no grant, so it is no pass."""
+
+    number = 13
+
+
 _ALL: Tuple[Type[Fault], ...] = (
-    BadArgument, BadState, BadMessage, NoRoom, Busy, NotInside, NotAsking, StampsSpent, GrantsSpent, OlderGrant, NoPass, NoMemory
+    BadArgument, BadState, BadMessage, NoRoom, Busy, NotInside, NotAsking, StampsSpent, GrantsSpent, OlderGrant, Refused,
+    NoMemory, NoPass,
 )
 
 KINDS: Dict[int, Type[Fault]] = {kind.number: kind for kind in _ALL}
-"""What calls return. Of 11 this has the meaning in libqlock; a call of libqlock_plan that returns it raises a `Refused`."""
