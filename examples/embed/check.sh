@@ -5,6 +5,7 @@
 # - plan.c plans a wheel, checks the plan and deals a cycle of it in both orders: expected-plan.txt;
 # - fuzz.c and fuzz_plan.c try the boundaries with random bytes, once more with the sanitizers of the C compiler, and
 #   fuzz_plan.c refuses memory;
+# - loops.py runs the loops of docs/embedding.md with losses, repeats and crashes;
 # - the tests of python/, also of the package as pip installs it, without a network.
 #
 # What needs a compiler or an interpreter that isn't there is left out, and named.
@@ -95,6 +96,7 @@ if has python3; then
     try race.py expected.txt python3 "$here/race.py" "$build/libqlock.so"
     export QLOCK_LIBRARY="$build/libqlock.so" QLOCK_PLAN_LIBRARY="$build/libqlock_plan.so" PYTHONDONTWRITEBYTECODE=1
     holds "tests of python/" env PYTHONPATH="$root/python" python3 -m unittest discover -q -s "$root/python/tests"
+    holds loops.py env PYTHONPATH="$root/python" python3 "$here/loops.py" "$root/docs/embedding.md"
     # a copy is installed, since pip leaves files beside what it builds
     if python3 -m venv "$work/venv" 2> "$work/err" && cp -r "$root/python" "$work/python"; then
         holds "pip install" "$work/venv/bin/pip" install -q --no-index --disable-pip-version-check "$work/python"

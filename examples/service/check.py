@@ -1,12 +1,12 @@
 """A trial of the service: processes are killed, messages lost and repeated, and at the end everything is counted.
 
-    python3 check.py ENGINE [PASSES] [SECONDS]      (100 passes of each client, 120 seconds)
+    python3 check.py ENGINE [SECONDS]      (60 seconds)
 
-Five voters and six clients on the wheel of four rims. Voters, clients and (with NATS) servers are killed by kill -9 at random
-and started again, 2 % of the messages are lost and 2 % sent twice. At the end: the counter beside the passes, exclusion by
-the notes of who entered and left, how often each voter was asked beside the plan's bound, what was killed, lost and repeated,
-passes a second and the longest wait. Fails if the counter is wrong, if two were inside, if a voter was asked
-too often, or if not all passes were made.
+Five voters and six clients of two threads each, on the wheel of four rims. Voters, clients and servers are killed by kill -9 at
+random and started again, 2 % of the messages are lost and 2 % sent twice. `witness.py` watches who is inside, and the counter.
+At the end: passes, what was killed, lost and repeated, the longest wait, and how often each voter was asked beside the plan's
+bound. Fails if the witness saw a violation or another number of passes than the clients, if a voter was asked too often, if a
+process ended by itself, if a client made no pass, or if one does not come to an end.
 """
 
 from __future__ import annotations
@@ -15,6 +15,7 @@ import json
 import os
 import random
 import shutil
+import subprocess
 import sys
 import tempfile
 import time
@@ -24,12 +25,19 @@ from typing import Dict, List, Tuple
 from counter import Counter
 from locks import PLACE
 from qlock import Plan
-from service import Service
+from service import HERE, Folder, Service
 from settings import Settings
+from worker import LOCK
 
 CLIENTS = 6
 LOST = REPEATED = 0.02
-KILLS = 30
+BETWEEN_KILLS = 1.0
+LAST_PASS = 30.0
+"""how many seconds all clients have at the end to make their last pass"""
+
+
+class Wrong(Exception):
+    """The trial has failed."""
 
 
 def passes_of(folder: str) -> List[int]:
@@ -39,27 +47,8 @@ def passes_of(folder: str) -> List[int]:
         try:
             with open(os.path.join(folder, f"passes-{client}"), encoding="utf-8") as file:
                 found.append(int(file.read().split()[0]))
-        except (FileNotFoundError, IndexError):
+        except FileNotFoundError:
             found.append(0)
-    return found
-
-
-def overlaps(folder: str) -> int:
-    """Returns how many entries were noted while another client was inside. A client that came back inside notes its entry
-    once more, and one that was killed just after it noted its leave notes that once more."""
-    inside, last, found = None, None, 0
-    with open(os.path.join(folder, "log"), encoding="utf-8") as file:
-        for line in file:
-            word, client, stamp = line.split()
-            who = (client, stamp)
-            if word == "enter":
-                if inside not in (None, who):
-                    found += 1
-                inside = who
-            elif inside == who or last == who:
-                inside, last = (None, who) if inside == who else (inside, last)
-            else:
-                found += 1
     return found
 
 
@@ -92,7 +81,7 @@ def used(settings: Settings, plan: Plan) -> Tuple[List[int], int]:
     """Returns how often each voter was asked and how many requests there were, from the tickets of the clients."""
     counts, requests = [0] * len(plan.names), 0
     for client in range(CLIENTS):
-        with open(settings.state_of("orders", f"c{client}"), "rb") as file:
+        with open(settings.state_of(LOCK, f"c{client}"), "rb") as file:
             (ticket,) = PLACE.unpack(file.read()[-PLACE.size :])
         first = settings.first_ticket(client, plan)
         requests += ticket - first
@@ -102,64 +91,107 @@ def used(settings: Settings, plan: Plan) -> Tuple[List[int], int]:
     return counts, requests
 
 
-def main() -> int:
-    engine = sys.argv[1]
-    passes = int(sys.argv[2]) if len(sys.argv) > 2 else 100
-    seconds = float(sys.argv[3]) if len(sys.argv) > 3 else 120
-    folder = tempfile.mkdtemp(prefix="qlock-check-")
-    service = Service(engine, folder, CLIENTS, lost=LOST, repeated=REPEATED)
-    killed = {"voters": 0, "clients": 0, "servers": 0}
-    choice = random.Random(int(os.environ.get("SEED", "1")))
-    try:
-        names = [f"v{number}" for number in range(len(service.plan.names))]
+class Trial:
+    """A service with its clients, the witness, and what was killed."""
+
+    def __init__(self, engine: str, folder: str) -> None:
+        Folder(folder).init(engine, [LOCK], clients=CLIENTS, lost=LOST, repeated=REPEATED)
+        self.service, self._folder = Service(folder), folder
+        path = os.path.join(folder, "witness")
+        words = [sys.executable, os.path.join(HERE, "witness.py"), path, os.path.join(folder, "counter")]
+        self._witness = subprocess.Popen(words, stdin=subprocess.PIPE, stdout=subprocess.PIPE, text=True)
+        self._witness.stdout.readline()
         for client in range(CLIENTS):
-            service.start(f"c{client}", ["worker.py", service.path, str(client), str(passes)])
-            names.append(f"c{client}")
-        listener = Listener(service.settings)
-        began = time.monotonic()
-        next_kill = began + 2
-        left = KILLS
-        while sum(passes_of(folder)) < passes * CLIENTS and time.monotonic() - began < seconds:
+            self.service.start(f"c{client}", ["worker.py", self.service.path, str(client), str(10**9), path])
+        self._choice = random.Random(int(os.environ.get("SEED", "1")))
+        self.killed = {"voters": 0, "clients": 0, "servers": 0}
+
+    def kill(self) -> None:
+        """Kills somebody, and starts it again. Every tenth time it is a server."""
+        if sum(self.killed.values()) % 10 == 5:
+            self.service.engine.kill(self._choice.randrange(self.service.engine.servers()))
+            self.killed["servers"] += 1
+            return
+        name = self._choice.choice([name for name in self.service.processes if name[0] in "vc"])
+        self.service.kill(name)
+        self.killed["voters" if name[0] == "v" else "clients"] += 1
+
+    def run(self, seconds: float, listener: Listener) -> None:
+        """Runs for this long. Raises `Wrong` if a process ends by itself."""
+        end, next_kill = time.monotonic() + seconds, time.monotonic() + 2
+        while time.monotonic() < end:
             listener.listen(0.05)
-            for name, process in service.processes.items():
+            for name, process in self.service.processes.items():
                 if process.poll() is not None:
-                    print(f"check.py: {name} ended by itself: see {folder}/{name}.err", file=sys.stderr)
-                    return 1
-            if left and time.monotonic() > next_kill:
-                left -= 1
-                next_kill += 1.5
-                if engine == "nats" and left % 10 == 5:
-                    service.engine.kill(choice.randrange(service.engine.servers()))
-                    killed["servers"] += 1
-                else:
-                    name = choice.choice(names)
-                    service.kill(name)
-                    killed["voters" if name[0] == "v" else "clients"] += 1
-        took = time.monotonic() - began
-        listener.listen(2.5)  # those who are inside leave
-    finally:
-        service.end()
-    plan = service.plan
-    counts, requests = used(service.settings, plan)
+                    raise Wrong(f"{name} ended by itself: {self.service.last_words(name)}")
+            if time.monotonic() > next_kill:
+                next_kill += BETWEEN_KILLS
+                self.kill()
+
+    def finish(self, listener: Listener) -> None:
+        """Has each client make its last pass and close. Raises `Wrong` if one does not."""
+        open(os.path.join(self._folder, "enough"), "w").close()
+        end = time.monotonic() + LAST_PASS
+        left = {name: process for name, process in self.service.processes.items() if name[0] == "c"}
+        while left and time.monotonic() < end:
+            listener.listen(0.1)
+            left = {name: process for name, process in left.items() if process.poll() is None}
+        if left:
+            raise Wrong(f"{', '.join(left)} does not come to an end")
+        for name, process in self.service.processes.items():
+            if name[0] == "c" and process.poll() != 0:
+                raise Wrong(f"{name} failed: {self.service.last_words(name)}")
+
+    def end(self) -> List[str]:
+        """Ends all processes. Returns what the witness says."""
+        said = self._witness.communicate()[0]
+        self.service.end()
+        return said.splitlines()
+
+
+def look(trial: Trial, folder: str, said: List[str]) -> None:
+    """Compares what was counted. Raises `Wrong` if something is not as it has to be."""
+    plan, made = trial.service.plan, passes_of(folder)
+    counts, requests = used(trial.service.settings, plan)
     most = plan.most_uses(requests, CLIENTS)
-    made, counted = sum(passes_of(folder)), Counter(os.path.join(folder, "counter")).read()["count"]
-    entered = overlaps(folder)
-    print(f"{engine}: {made} passes of {passes * CLIENTS}, counter {counted}, {took:.1f} s, {made / took:.1f} passes a second")
-    print(f"killed: {killed['voters']} voters, {killed['clients']} clients, {killed['servers']} servers")
-    print(
-        f"messages lost on purpose {listener.total('qlock_lost_total'):g}, sent twice {listener.total('qlock_repeated_total'):g}, "
-        f"reminders {listener.total('qlock_reminders_total'):g}, states restored {listener.total('qlock_restores_total'):g}"
-    )
-    print(f"longest wait {listener.highest('qlock_longest_wait_seconds'):.2f} s")
-    print(f"entered while another one was inside: {entered}")
     for name, count, bound, share in zip(plan.names, counts, most, plan.shares()):
         print(f"voter {name}: asked {count} times, at most {bound}; {100 * count / max(1, requests):.1f} % of {requests} requests, "
               f"plan {100 * float(share):.1f} %")
-    if made < passes * CLIENTS:
-        print(f"check.py: not all passes were made in {seconds:g} seconds; see {folder}", file=sys.stderr)
+    if any(count > bound for count, bound in zip(counts, most)):
+        raise Wrong("a voter was asked more often than the plan allows")
+    if said[-1:] != [f"passes {sum(made)}, violations 0"] or Counter(os.path.join(folder, "counter")).read()["count"] != sum(made):
+        raise Wrong("the clients, the counter and the witness do not agree")
+    if 0 in made:
+        raise Wrong(f"client {made.index(0)} made no pass")
+
+
+def main() -> int:
+    engine = sys.argv[1]
+    seconds = float(sys.argv[2]) if len(sys.argv) > 2 else 60
+    folder = tempfile.mkdtemp(prefix="qlock-check-")
+    trial, said = Trial(engine, folder), ["the witness said nothing"]
+    try:
+        listener = Listener(trial.service.settings)
+        trial.run(seconds, listener)
+        trial.finish(listener)
+    except Wrong as fault:
+        print(f"check.py: {fault}; see {folder}", file=sys.stderr)
         return 1
-    if counted != made or entered or any(count > bound for count, bound in zip(counts, most)):
-        print(f"check.py: wrong; see {folder}", file=sys.stderr)
+    finally:
+        said = trial.end()
+        print(*said, sep="\n")
+    total = listener.total
+    print(f"{engine}: {sum(passes_of(folder))} passes in {seconds:g} s, {sum(passes_of(folder)) / seconds:.1f} a second")
+    print(f"killed: {trial.killed['voters']} voters, {trial.killed['clients']} clients, {trial.killed['servers']} servers")
+    print(
+        f"messages lost on purpose {total('qlock_lost_total'):g}, sent twice {total('qlock_repeated_total'):g}, "
+        f"reminders {total('qlock_reminders_total'):g}, states restored {total('qlock_restores_total'):g}"
+    )
+    print(f"longest wait {listener.highest('qlock_longest_wait_seconds'):.2f} s")
+    try:
+        look(trial, folder, said)
+    except Wrong as fault:
+        print(f"check.py: {fault}; see {folder}", file=sys.stderr)
         return 1
     shutil.rmtree(folder)
     return 0

@@ -11,6 +11,9 @@ from settings import Settings
 Letter = Tuple[str, bytes]
 """A message and the name of the mailbox that it goes to."""
 
+SLOWEST_REMINDER = 2.0
+"""how many seconds pass between two reminders of a voter at most"""
+
 
 def packed(lock: str, line: bytes) -> bytes:
     """Returns the message of a line of this lock: the lock's name, a space, and the line."""
@@ -71,3 +74,7 @@ class Post:
         if message is not None:
             self._metrics.add("qlock_received_total")
         return message
+
+    def close(self) -> None:
+        """Ends the mailbox."""
+        self._transport.close()

@@ -1,32 +1,102 @@
-"""Starts a service on this machine: an engine, the voters and the page. And stops it.
+"""Sets up a service on this machine, and starts it: an engine, the voters and the page.
 
-    python3 service.py ENGINE [FOLDER [COTERIE]]      (nats or mqtt; a new folder where none is given)
+    python3 service.py init FOLDER ENGINE LOCK.. [--coterie FILE] [--clients N]     (nats or mqtt)
+    python3 service.py create FOLDER LOCK..
+    python3 service.py start FOLDER
 
-COTERIE is the file of a coterie, wheel-4.toml where none is given. A new folder gets a plan of it. A folder from before goes on
-with its own coterie, its plan and its states.
-
-Prints where the settings are and the page's address. Ctrl-C ends it. With the settings, start clients:
+`init` makes the plan of a coterie, wheel-4.toml where none is given, and the first states of all voters and clients for these
+locks. `create` does so for further locks, while the service is stopped. Both are done once for each lock: they refuse to make a
+state where there is one, and nothing else ever makes one. `start` goes on with what is there, prints where the settings are
+and the page's address, and ends with Ctrl-C. With the settings, start clients:
 
     python3 worker.py SETTINGS CLIENT PASSES
 """
 
 from __future__ import annotations
 
+import argparse
+import fcntl
 import os
+import re
+import secrets
 import shutil
 import signal
 import socket
 import subprocess
 import sys
-import tempfile
 import time
-from typing import Dict, List, Optional, Tuple
+from typing import Dict, List, Optional, Sequence
 
-from qlock import Plan, Refused
+from locks import new_state
+from qlock import Plan, Refused, StoreFault, Voter
+from qlock.store import sync_folder
 from settings import Settings
 
 HERE = os.path.dirname(os.path.abspath(__file__))
 WHEEL = os.path.join(HERE, "wheel-4.toml")
+
+
+class SetUpFault(Exception):
+    """A step can't be done in this folder."""
+
+
+class Folder:
+    """The folder of a service, which one process has at a time."""
+
+    def __init__(self, path: str) -> None:
+        """Takes the folder. Raises `SetUpFault` if another process has it."""
+        self.path = os.path.abspath(path)
+        self.settings = os.path.join(self.path, "service.json")
+        os.makedirs(self.path, exist_ok=True)
+        self._lock = open(os.path.join(self.path, "service.lock"), "ab")
+        try:
+            fcntl.flock(self._lock, fcntl.LOCK_EX | fcntl.LOCK_NB)
+        except OSError:
+            raise SetUpFault(f"a service runs in {self.path}") from None
+
+    def read(self) -> Settings:
+        """Returns the settings. Raises `SetUpFault` if there are none."""
+        try:
+            return Settings.read(self.settings)
+        except FileNotFoundError:
+            raise SetUpFault(f"{self.path} has no service: service.py init makes one, once") from None
+
+    def init(self, engine: str, locks: Sequence[str], coterie: str = WHEEL, clients: int = 6, **faults: float) -> Settings:
+        """Makes the settings and all states. Raises `SetUpFault` if there are any."""
+        states = os.path.join(self.path, "states")
+        if os.path.exists(self.settings) or os.path.exists(states):
+            raise SetUpFault(f"{self.path} has a service, or states of one: take a new folder")
+        with open(coterie, encoding="utf-8") as file:
+            plan = Plan.find(file.read())
+        os.mkdir(states)
+        settings = Settings(
+            id=f"qlock-{secrets.token_hex(8)}", engine=engine, folder=states, coterie=plan.coterie, plan=plan.text,
+            clients=clients, ended=os.path.join(self.path, "ended"), **faults
+        )
+        sync_folder(os.path.dirname(self.path))
+        self._create(settings, locks)
+        return settings
+
+    def create(self, locks: Sequence[str]) -> None:
+        """Makes the states of further locks."""
+        self._create(self.read(), locks)
+
+    def _create(self, settings: Settings, locks: Sequence[str]) -> None:
+        """Makes the states of these locks, and only then lists them. Raises `SetUpFault` if a lock had states before."""
+        plan = settings.planned()
+        for lock in locks:
+            if not re.fullmatch("[a-z0-9_-]{1,64}", lock):
+                raise SetUpFault(f"{lock!r} is no name of a lock: it has 1 to 64 letters of a to z, 0 to 9, _ and -")
+            states = os.path.join(settings.folder, lock)
+            if lock in settings.locks or os.path.lexists(states):
+                raise SetUpFault(f"the lock {lock} was made before: take another name")
+            os.mkdir(states)
+            for voter in range(len(plan.names)):
+                settings.create_state(lock, f"v{voter}", Voter(voter, settings.limit).state)
+            for client in range(settings.clients):
+                settings.create_state(lock, f"c{client}", new_state(settings, plan, client))
+            settings.locks.append(lock)
+            settings.write(self.settings)
 
 
 def free_ports(count: int) -> List[int]:
@@ -51,22 +121,6 @@ def wait_for(port: int) -> None:
         except OSError:
             time.sleep(0.05)
     raise TimeoutError(f"nobody listens on port {port}")
-
-
-def texts_of(folder: str, coterie: Optional[str]) -> Tuple[str, str]:
-    """Returns the texts of the coterie and of the plan for a service in this folder. Ends the program if the folder has
-    another coterie: its voters' and clients' states rest on that one (docs/embedding.md, "Exchanging a plan")."""
-    settings = os.path.join(folder, "service.json")
-    if not os.path.exists(settings):
-        with open(coterie or WHEEL, encoding="utf-8") as file:
-            plan = Plan.find(file.read())
-        return plan.coterie, plan.text
-    kept = Settings.read(settings)
-    if coterie is not None:
-        with open(coterie, encoding="utf-8") as file:
-            if file.read() != kept.coterie:
-                sys.exit(f"service.py: {folder} is the folder of another coterie; take a new one")
-    return kept.coterie, kept.plan
 
 
 class Engine:
@@ -123,28 +177,16 @@ class Engine:
 class Service:
     """An engine and the processes over it, each with a name."""
 
-    def __init__(
-        self, engine: str, folder: str, clients: int, coterie: Optional[str] = None, lost: float = 0.0, repeated: float = 0.0
-    ) -> None:
-        os.makedirs(os.path.join(folder, "states"), exist_ok=True)
-        self.folder = folder
-        coterie_text, plan_text = texts_of(folder, coterie)
-        self.plan = Plan(coterie_text, plan_text)
-        self.engine = Engine(engine, folder)
-        self.settings = Settings(
-            engine=engine,
-            ports=self.engine.ports,
-            folder=os.path.join(folder, "states"),
-            coterie=coterie_text,
-            plan=plan_text,
-            clients=clients,
-            lost=lost,
-            repeated=repeated,
-            ended=os.path.join(folder, "ended"),
-        )
+    def __init__(self, path: str) -> None:
+        """Starts the service of this folder. Raises `SetUpFault` if there is none, or if it runs."""
+        self._folder = Folder(path)
+        self.folder, self.path = self._folder.path, self._folder.settings
+        self.settings = self._folder.read()
+        self.plan = self.settings.planned()
+        self.engine = Engine(self.settings.engine, self.folder)
+        self.settings.ports = self.engine.ports
         if self.settings.is_ended():
             os.remove(self.settings.ended)
-        self.path = os.path.join(folder, "service.json")
         self.settings.write(self.path)
         self.processes: Dict[str, subprocess.Popen] = {}
         self._commands: Dict[str, List[str]] = {}
@@ -166,6 +208,11 @@ class Service:
         self.processes[name].wait()
         self.start(name)
 
+    def last_words(self, name: str) -> str:
+        """Returns the last line that a process wrote to its standard error."""
+        with open(os.path.join(self.folder, f"{name}.err"), encoding="utf-8", errors="replace") as file:
+            return (file.read().splitlines() or [""])[-1]
+
     def page(self) -> str:
         """Starts the page, and returns its address."""
         told = self.start("page", ["page.py", self.path], subprocess.PIPE).stdout
@@ -183,25 +230,47 @@ class Service:
         self.engine.end()
 
 
-def main() -> None:
-    if len(sys.argv) < 2 or sys.argv[1] not in ("nats", "mqtt"):
-        sys.exit(__doc__)
-    folder = sys.argv[2] if len(sys.argv) > 2 else tempfile.mkdtemp(prefix="qlock-")
-    coterie = sys.argv[3] if len(sys.argv) > 3 else None
-    try:
-        service = Service(sys.argv[1], os.path.abspath(folder), clients=6, coterie=coterie)
-    except Refused as fault:
-        sys.exit(f"service.py: {coterie}: {fault}")
+def run(service: Service) -> None:
+    """Runs until Ctrl-C."""
     try:
         print(f"settings: {service.path}")
         print(f"page:     {service.page()}")
         print("Ctrl-C ends it", flush=True)
+        ended: List[str] = []
         while True:
             time.sleep(1)
+            for name, process in service.processes.items():
+                if process.poll() is not None and name not in ended:
+                    ended.append(name)
+                    print(f"{name} has ended: {service.last_words(name)}", file=sys.stderr)
     except KeyboardInterrupt:
         pass
     finally:
         service.end()
+
+
+def main() -> None:
+    parser = argparse.ArgumentParser(description=__doc__, formatter_class=argparse.RawDescriptionHelpFormatter)
+    steps = parser.add_subparsers(dest="step", required=True)
+    for step in ("init", "create", "start"):
+        words = steps.add_parser(step)
+        words.add_argument("folder")
+        if step == "init":
+            words.add_argument("engine", choices=("nats", "mqtt"))
+            words.add_argument("--coterie", default=WHEEL)
+            words.add_argument("--clients", type=int, choices=range(1, 65), default=6, metavar="N")
+        if step != "start":
+            words.add_argument("locks", nargs="+", metavar="LOCK")
+    given = parser.parse_args()
+    try:
+        if given.step == "init":
+            Folder(given.folder).init(given.engine, given.locks, given.coterie, given.clients)
+        elif given.step == "create":
+            Folder(given.folder).create(given.locks)
+        else:
+            run(Service(given.folder))
+    except (SetUpFault, StoreFault, Refused, OSError) as fault:
+        sys.exit(f"service.py: {fault}")
 
 
 if __name__ == "__main__":

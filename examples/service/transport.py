@@ -1,17 +1,23 @@
-"""How voters and clients reach one another: `publish` and `receive`, and nothing else.
+"""How voters and clients reach one another: `publish`, `receive` and `close`, and nothing else.
 
 The protocol bears messages that are lost, repeated, late or out of order. So "at most once" is enough, and a message
-that can't be sent now is dropped: a reminder repeats it. For another transport write a class with the same two methods.
+that can't be sent now is dropped: a reminder repeats it. For another transport write a class with the same methods. One
+thread receives, and others may publish meanwhile.
 """
 
 from __future__ import annotations
 
 import collections
+import queue
 import random
 import select
 import socket
+import threading
 import time
 from typing import Callable, Deque, Dict, Optional, Protocol, Sequence
+
+SILENCE = 2.0
+"""how many seconds a server may say nothing until it is asked whether it is there"""
 
 
 class Transport(Protocol):
@@ -23,75 +29,94 @@ class Transport(Protocol):
     def receive(self, seconds: float) -> Optional[bytes]:
         """Returns the next message, or None if none came within this time."""
 
+    def close(self) -> None:
+        """Ends the mailbox. Messages on the way to it are lost."""
+
 
 class Nats:
     """NATS: its protocol is lines of text, so no client library is needed. Takes the ports of a cluster's servers; if one
-    is gone, the next one is used."""
+    is gone or silent, the next one is used. The place is what the names of all mailboxes of one service begin with."""
 
-    def __init__(self, ports: Sequence[int], name: str) -> None:
+    def __init__(self, ports: Sequence[int], place: str, name: str) -> None:
         self._ports = list(ports)
-        self._name = name
+        self._place, self._name = place.encode(), name.encode()
         self._messages: Deque[bytes] = collections.deque()
         self._rest = b""
         self._socket: Optional[socket.socket] = None
+        self._heard = 0.0
+        self._was_asked = False
+        self._lock = threading.Lock()
+        """held to write to the socket, to read from it, and to replace it"""
         random.shuffle(self._ports)
         self._connect()
 
     def _connect(self) -> None:
-        """Connects to the first server that answers, if one does."""
-        self.close()
-        for port in self._ports:
+        """Connects to the first server that answers, if one does, which is then the first of the list."""
+        for port in list(self._ports):
             try:
                 connection = socket.create_connection(("127.0.0.1", port), timeout=1)
                 connection.setsockopt(socket.IPPROTO_TCP, socket.TCP_NODELAY, 1)
-                greeting = b'CONNECT {"verbose":false,"pedantic":false}\r\nSUB lock.%s 1\r\n'
-                connection.sendall(greeting % self._name.encode())
+                greeting = b'CONNECT {"verbose":false,"pedantic":false}\r\nSUB %s.%s 1\r\n'
+                connection.sendall(greeting % (self._place, self._name))
             except OSError:
+                self._ports.append(self._ports.pop(0))
                 continue
-            self._socket, self._rest = connection, b""
+            with self._lock:
+                self._socket, self._rest, self._heard, self._was_asked = connection, b"", time.monotonic(), False
             return
 
-    def close(self) -> None:
-        """Ends the connection. Messages on the way are lost."""
+    def _drop(self) -> None:
+        """Ends the connection: the next receive takes another server. Messages on the way are lost."""
         if self._socket is not None:
             self._socket.close()
             self._socket = None
+            self._ports.append(self._ports.pop(0))
+
+    def _send(self, data: bytes) -> None:
+        try:
+            if self._socket is not None:
+                self._socket.sendall(data)
+        except OSError:
+            self._drop()
 
     def publish(self, name: str, message: bytes) -> None:
-        if self._socket is None:
-            self._connect()
-        if self._socket is None:
-            return
-        try:
-            self._socket.sendall(b"PUB lock.%s %d\r\n%s\r\n" % (name.encode(), len(message), message))
-        except OSError:
-            self._lost_server()
+        with self._lock:
+            self._send(b"PUB %s.%s %d\r\n%s\r\n" % (self._place, name.encode(), len(message), message))
 
-    def _lost_server(self) -> None:
-        """Goes on with another server."""
-        self._ports.append(self._ports.pop(0))
-        self._connect()
-
-    def _read(self, connection: socket.socket) -> None:
+    def _read(self) -> None:
         """Reads what has come, and answers the server's questions whether we are there."""
         try:
-            data = connection.recv(65536)
-            if not data:
-                raise ConnectionError("the server is gone")
-            self._rest += data
-            while b"\r\n" in self._rest:
-                line, rest = self._rest.split(b"\r\n", 1)
-                if line.startswith(b"MSG"):
-                    length = int(line.split()[-1])
-                    if len(rest) < length + 2:
-                        return
-                    self._messages.append(rest[:length])
-                    rest = rest[length + 2 :]
-                elif line.startswith(b"PING"):
-                    connection.sendall(b"PONG\r\n")
-                self._rest = rest
+            data = self._socket.recv(65536) if self._socket else b""
         except OSError:
-            self._lost_server()
+            data = b""
+        if not data:
+            self._drop()
+        self._rest += data
+        self._heard, self._was_asked = time.monotonic(), False
+        while b"\r\n" in self._rest:
+            line, rest = self._rest.split(b"\r\n", 1)
+            if line.startswith(b"MSG"):
+                length = int(line.split()[-1])
+                if len(rest) < length + 2:
+                    return
+                self._messages.append(rest[:length])
+                rest = rest[length + 2 :]
+            elif line.startswith(b"PING"):
+                self._send(b"PONG\r\n")
+            self._rest = rest
+
+    def close(self) -> None:
+        with self._lock:
+            self._drop()
+
+    def _look_after(self) -> None:
+        """Asks a silent server whether it is there, and drops it if it does not answer."""
+        silence = time.monotonic() - self._heard
+        if silence > 2 * SILENCE:
+            self._drop()
+        elif silence > SILENCE and not self._was_asked:
+            self._was_asked = True
+            self._send(b"PING\r\n")
 
     def receive(self, seconds: float) -> Optional[bytes]:
         end = time.monotonic() + seconds
@@ -99,50 +124,56 @@ class Nats:
             left = end - time.monotonic()
             if left <= 0:
                 return None
-            if self._socket is None:
+            connection = self._socket
+            if connection is None:
                 self._connect()
-            if self._socket is None:
-                time.sleep(min(left, 0.1))
-            elif select.select([self._socket], [], [], left)[0]:
-                self._read(self._socket)
+                if self._socket is None:
+                    time.sleep(min(left, 0.1))
+                continue
+            try:
+                is_there = bool(select.select([connection], [], [], min(left, SILENCE))[0])
+            except (OSError, ValueError):  # another thread has dropped it
+                continue
+            with self._lock:
+                if is_there and connection is self._socket:
+                    self._read()
+                elif connection is self._socket:
+                    self._look_after()
         return self._messages.popleft()
 
 
 class Mqtt:
-    """MQTT, for instance by mosquitto: Debian's `python3-paho-mqtt`. A clean session: a queue that outlives its reader brings
-    only late messages."""
+    """MQTT, for instance by mosquitto: Debian's `python3-paho-mqtt`, which has a thread of its own that connects, also again.
+    A clean session: a queue that outlives its reader brings only late messages."""
 
-    def __init__(self, ports: Sequence[int], name: str) -> None:
+    def __init__(self, ports: Sequence[int], place: str, name: str) -> None:
         import paho.mqtt.client as mqtt
 
-        self._messages: Deque[bytes] = collections.deque()
-        self._name = name
-        self._client = mqtt.Client(client_id=name, clean_session=True)
-        self._client.on_message = lambda client, data, message: self._messages.append(message.payload)
-        self._client.on_connect = lambda client, data, flags, code: client.subscribe("lock/" + name, qos=0)
-        self._client.connect("127.0.0.1", ports[0], keepalive=30)
-        self._client.socket().setsockopt(socket.IPPROTO_TCP, socket.TCP_NODELAY, 1)
+        self._messages: "queue.SimpleQueue[bytes]" = queue.SimpleQueue()
+        self._place, self._name = place, name
+        self._client = mqtt.Client(client_id=f"{place}-{name}", clean_session=True)
+        self._client.on_message = lambda client, data, message: self._messages.put(message.payload)
+        self._client.on_connect = self._subscribe
+        self._client.reconnect_delay_set(1, 1)
+        self._client.connect_async("127.0.0.1", ports[0], keepalive=5)
+        self._client.loop_start()
 
-    def close(self) -> None:
-        """Ends the connection."""
-        self._client.disconnect()
+    def _subscribe(self, client, data, flags, code) -> None:
+        client.socket().setsockopt(socket.IPPROTO_TCP, socket.TCP_NODELAY, 1)
+        client.subscribe(f"{self._place}/{self._name}", qos=0)
 
     def publish(self, name: str, message: bytes) -> None:
-        self._client.publish("lock/" + name, message, qos=0)
+        self._client.publish(f"{self._place}/{name}", message, qos=0)
 
     def receive(self, seconds: float) -> Optional[bytes]:
-        end = time.monotonic() + seconds
-        while not self._messages:
-            left = end - time.monotonic()
-            if left <= 0:
-                return None
-            if self._client.loop(left) != 0:
-                time.sleep(min(left, 0.1))
-                try:
-                    self._client.reconnect()
-                except OSError:
-                    pass
-        return self._messages.popleft()
+        try:
+            return self._messages.get(timeout=seconds)
+        except queue.Empty:
+            return None
+
+    def close(self) -> None:
+        self._client.disconnect()
+        self._client.loop_stop()
 
 
 class Faulty:
@@ -166,5 +197,8 @@ class Faulty:
     def receive(self, seconds: float) -> Optional[bytes]:
         return self._inner.receive(seconds)
 
+    def close(self) -> None:
+        self._inner.close()
 
-ENGINES: Dict[str, Callable[[Sequence[int], str], Transport]] = {"nats": Nats, "mqtt": Mqtt}
+
+ENGINES: Dict[str, Callable[[Sequence[int], str, str], Transport]] = {"nats": Nats, "mqtt": Mqtt}

@@ -3,21 +3,21 @@
     python3 voter.py SETTINGS NUMBER
 
 It saves a vote's state before the messages that come of it leave, reminds those who have a vote in case messages were
-lost, and says on the page what it does. What frees a vote after a lost RELEASE is the voter's own reminder.
+lost, and says on the page what it does. What frees a vote after a lost RELEASE is the voter's own reminder. It makes no
+state: where one of a listed lock is missing it ends, and what comes for another lock it drops.
 """
 
 from __future__ import annotations
 
 import json
-import os
 import struct
 import sys
 import time
-from typing import Dict, List
+from typing import List
 
 from metrics import Metrics
-from node import Letter, Post, Reminder, packed, unpacked
-from qlock import BadMessage, GrantsSpent, Store, Voter
+from node import SLOWEST_REMINDER, Letter, Post, Reminder, packed, unpacked
+from qlock import BadMessage, GrantsSpent, StoreFault, Voter
 from settings import Settings
 
 
@@ -26,15 +26,10 @@ class Vote:
 
     def __init__(self, settings: Settings, lock: str, number: int, metrics: Metrics) -> None:
         self.lock = lock
-        self._store = Store(settings.state_of(lock, f"v{number}"))
-        saved = self._store.read()
-        if saved is None:
-            self.voter = Voter(number, settings.limit)
-            self._store.save(self.voter.state)
-        else:
-            self.voter = Voter.restore(saved)
-            metrics.add("qlock_restores_total")
-        self.reminder = Reminder(0.25, 2)
+        self._store = settings.store(lock, f"v{number}")
+        self.voter = Voter.restore(self._store.read())
+        metrics.add("qlock_restores_total")
+        self.reminder = Reminder(0.25, SLOWEST_REMINDER)
         self._note()
 
     def _note(self) -> None:
@@ -65,33 +60,25 @@ class VoterProcess:
     """The voter: takes messages, reminds, and tells the page."""
 
     def __init__(self, settings: Settings, number: int) -> None:
+        """Takes the states of this voter. Raises a `qlock.StoreFault` if one is missing, in use, damaged or another one's."""
         self._settings, self._number = settings, number
         self._metrics = Metrics()
+        self._votes = {lock: Vote(settings, lock, number, self._metrics) for lock in settings.locks}
         self._post = Post(settings, f"v{number}", self._metrics)
         self._port = self._metrics.serve()
-        self._votes: Dict[str, Vote] = {}
         self._told = 0.0
-        for lock in sorted(os.listdir(settings.folder)):
-            if os.path.exists(os.path.join(settings.folder, lock, f"v{number}")):
-                self._vote(lock)
-
-    def _vote(self, lock: str) -> Vote:
-        if lock not in self._votes:
-            self._votes[lock] = Vote(self._settings, lock, self._number, self._metrics)
-        return self._votes[lock]
 
     def _take(self, message: bytes) -> None:
         lock, line = unpacked(message)
-        if not lock.isidentifier():
-            self._metrics.add("qlock_unread_total")
-            return
-        vote = self._vote(lock)
+        vote = self._votes.get(lock)
         try:
-            letters = vote.take(line)
+            letters = None if vote is None else vote.take(line)
         except (BadMessage, GrantsSpent):
+            letters = None
+        if letters is None:
             self._metrics.add("qlock_unread_total")
-            return
-        self._post.send(letters)
+        else:
+            self._post.send(letters)
 
     def _remind(self) -> None:
         for vote in self._votes.values():
@@ -135,7 +122,11 @@ def main() -> None:
     names = settings.planned().names
     if number not in range(len(names)):
         sys.exit(f"voter.py: the coterie has the voters 0 to {len(names) - 1}")
-    VoterProcess(settings, number).run()
+    try:
+        voter = VoterProcess(settings, number)
+    except StoreFault as fault:
+        sys.exit(f"voter.py: {fault}")
+    voter.run()
 
 
 if __name__ == "__main__":

@@ -1,8 +1,8 @@
 """The voter and the client of a voting lock, and plans of the quorums to ask, over the libraries libqlock and libqlock_plan.
 
 A `Voter` or a `Client` is a state and its calls. A call returns the lines to send, and changes `state`, the bytes to save.
-Save, then send: a `Store` keeps the bytes in a file as a crash allows it. A `Fence` guards what the lock protects. A `Plan` says
-which quorum to ask, ticket by ticket. Why a coterie or a plan was refused is in the module `refusals`.
+Save, then send: a `Store` keeps the bytes in a file over crashes, and makes no state anew. A `Fence` guards what the lock
+protects. A `Plan` says which quorum to ask, ticket by ticket. Why a coterie or a plan was refused is in the module `refusals`.
 
 The libraries are found by the environment variable QLOCK_LIBRARY, the path of libqlock.so, with libqlock_plan.so beside it or
 at QLOCK_PLAN_LIBRARY; or by their names. Each is loaded at its first call.
@@ -17,6 +17,7 @@ from .faults import (
     Fault,
     GrantsSpent,
     NoMemory,
+    NoPass,
     NoRoom,
     NotAsking,
     NotInside,
@@ -25,11 +26,11 @@ from .faults import (
     StampsSpent,
 )
 from .plans import MAX_TICKETS, Order, Plan, Quorum, Slack, names_of
-from .store import Damaged, InUse, Store
+from .store import Damaged, Exists, InUse, Missing, Store, StoreFault, WrongOwner
 
 __all__ = [
-    "BadArgument", "BadMessage", "BadState", "Busy", "CLIENT_BYTES", "Client", "Damaged", "Fault", "Fence", "GRANTS_BYTES",
-    "Grant", "GrantsSpent", "InUse", "MAX_STAMP", "MAX_TICKETS", "NoMemory", "NoRoom", "NotAsking", "NotInside", "OlderGrant",
-    "Order", "Phase", "Plan", "Quorum", "Refused", "Slack", "StampsSpent", "Store", "Taken", "VOTER_BYTES", "Voter", "names_of",
-    "refusals",
+    "BadArgument", "BadMessage", "BadState", "Busy", "CLIENT_BYTES", "Client", "Damaged", "Exists", "Fault", "Fence",
+    "GRANTS_BYTES", "Grant", "GrantsSpent", "InUse", "MAX_STAMP", "MAX_TICKETS", "Missing", "NoMemory", "NoPass",
+    "NoRoom", "NotAsking", "NotInside", "OlderGrant", "Order", "Phase", "Plan", "Quorum", "Refused", "Slack",
+    "StampsSpent", "Store", "StoreFault", "Taken", "VOTER_BYTES", "Voter", "WrongOwner", "names_of", "refusals",
 ]

@@ -88,9 +88,15 @@ class NoMemory(Fault, MemoryError):
     number = 12
 
 
+class NoPass(Fault):
+    """What is shown to the guard has no grant, so it is no pass."""
+
+    number = 13
+
+
 _ALL: Tuple[Type[Fault], ...] = (
     BadArgument, BadState, BadMessage, NoRoom, Busy, NotInside, NotAsking, StampsSpent, GrantsSpent, OlderGrant, Refused,
-    NoMemory,
+    NoMemory, NoPass,
 )
 
 KINDS: Dict[int, Type[Fault]] = {kind.number: kind for kind in _ALL}

@@ -1,4 +1,5 @@
 """The voter, the client and the guard through the library."""
+import random
 import unittest
 
 import qlock
@@ -75,6 +76,90 @@ class Races(unittest.TestCase):
         for guard in (fence, again):
             with self.assertRaises(qlock.OlderGrant):
                 guard.admit(first)
+
+
+class Crashes(unittest.TestCase):
+    """Random runs of three clients: messages are lost, repeated, late and out of order, and voters and clients crash, which
+    undoes steps that sent nothing since the last save. Clients also forget. At most one is inside, and then votes come back."""
+
+    QUORUMS = ([0, 1], [0, 2], [1, 2])
+
+    def setUp(self):
+        self.nodes = [qlock.Voter(v) for v in range(3)] + [qlock.Client(c) for c in range(3)]
+        self.saved = [node.state for node in self.nodes]
+        self.lines = []
+
+    def send(self, place, lines):
+        """Sends lines, each with the place of its receiver. What sends is saved before."""
+        if lines or place > 2 and self.nodes[place].shows().phase == qlock.Phase.INSIDE:
+            self.saved[place] = self.nodes[place].state
+        self.lines += [(int(line.split()[2]) + (3 if place < 3 else 0), line) for line in lines]
+
+    def take(self, place, line):
+        taken = self.nodes[place].take(line)
+        self.send(place, taken if place < 3 else taken.lines)
+
+    def restart(self, place, forgets):
+        kind = qlock.Voter if place < 3 else qlock.Client
+        self.nodes[place] = kind.restore(self.saved[place])
+        if forgets and place > 2:
+            self.nodes[place].forget()
+            self.saved[place] = self.nodes[place].state
+
+    def step(self, choice):
+        """Does something at random."""
+        place = choice.randrange(3, 6)
+        client, kind = self.nodes[place], choice.random()
+        if kind < 0.55 and self.lines:
+            line = choice.choice(self.lines)
+            self.take(*line)
+        elif kind < 0.6:
+            self.restart(choice.randrange(6), choice.random() < 0.3)
+        elif kind < 0.7:
+            place = choice.randrange(6)
+            self.send(place, self.nodes[place].remind())
+        elif client.shows().phase == qlock.Phase.IDLE:
+            self.send(place, client.ask(choice.choice(self.QUORUMS)))
+        elif kind < 0.8:
+            inside = client.shows().phase == qlock.Phase.INSIDE
+            self.send(place, client.leave() if inside else client.give_up())
+            self.saved[place] = client.state
+
+    def inside(self):
+        return [place for place in range(3, 6) if self.nodes[place].shows().phase == qlock.Phase.INSIDE]
+
+    def hop(self, choice):
+        """Everybody is reminded, and what was sent then arrives, in any order."""
+        self.lines = []
+        for place, node in enumerate(self.nodes):
+            self.send(place, node.remind())
+        lines, self.lines = self.lines, []
+        choice.shuffle(lines)
+        for line in lines:
+            self.take(*line)
+        lines, self.lines = self.lines, []
+        for line in lines:
+            self.take(*line)
+
+    def test_one_is_inside_and_votes_come_back(self):
+        restored = 0
+        for seed in range(150):
+            choice = random.Random(seed)
+            self.setUp()
+            for _ in range(150):
+                self.step(choice)
+                self.assertLessEqual(len(self.inside()), 1, seed)
+            for place in range(3, 6):
+                if self.nodes[place].shows().phase == qlock.Phase.IDLE:
+                    self.send(place, self.nodes[place].ask(choice.choice(self.QUORUMS)))
+            hops = 0
+            while not self.inside():
+                self.hop(choice)
+                hops += 1
+                self.assertLess(hops, 40, seed)
+            self.assertEqual(len(self.inside()), 1, seed)
+            restored += hops > 0
+        self.assertGreater(restored, 50)
 
 
 class Refusals(unittest.TestCase):

@@ -1,11 +1,12 @@
-"""A store keeps what was saved, for one process."""
+"""A store keeps what was saved, for one process, and makes no state anew."""
 import os
 import subprocess
 import sys
 import tempfile
 import unittest
+from unittest import mock
 
-from qlock import Damaged, InUse, Store
+from qlock import Damaged, Exists, InUse, Missing, Store, WrongOwner
 
 OTHER = "import sys; from qlock import Store, InUse\ntry: Store(sys.argv[1])\nexcept InUse: sys.exit(7)"
 
@@ -17,35 +18,90 @@ class Stores(unittest.TestCase):
         self.path = os.path.join(self.folder.name, "voter-0")
 
     def test_what_was_saved_is_read(self):
+        Store.create(self.path, b"new")
         with Store(self.path) as store:
-            self.assertIsNone(store.read())
+            self.assertEqual(store.read(), b"new")
             store.save(b"one")
-            store.save(b"two")
+            store.save(b"two\n\n")
         with Store(self.path) as store:
-            self.assertEqual(store.read(), b"two")
+            self.assertEqual(store.read(), b"two\n\n")
+
+    def test_state_is_made_once(self):
+        Store.create(self.path, b"new")
+        with self.assertRaises(Exists):
+            Store.create(self.path, b"newer")
+        with Store(self.path) as store:
+            self.assertEqual(store.read(), b"new")
+            with self.assertRaises(InUse):
+                Store.create(self.path, b"newer")
+
+    def test_missing_state_is_not_made_anew(self):
+        for path in (self.path, os.path.join(self.folder.name, "folder", "voter-0")):
+            with self.assertRaises(Missing), Store(path) as store:
+                store.read()
+        with Store(self.path) as store, self.assertRaises(Missing):
+            store.save(b"one")
+        self.assertFalse(os.path.exists(self.path))
+
+    def test_state_that_was_not_read_is_not_replaced(self):
+        Store.create(self.path, b"new")
+        with Store(self.path) as store, self.assertRaises(Missing):
+            store.save(b"newer")
+        with Store(self.path) as store:
+            self.assertEqual(store.read(), b"new")
+        with self.assertRaises(InUse):
+            store.save(b"newer")
+
+    def test_state_of_another_owner_is_refused(self):
+        other = os.path.join(self.folder.name, "voter-1")
+        Store.create(self.path, b"new", owner="voter 0")
+        os.rename(self.path, other)
+        for owner in ("voter 1", ""):
+            with Store(other, owner) as store, self.assertRaises(WrongOwner):
+                store.read()
+        with Store(other, "voter 0") as store:
+            self.assertEqual(store.read(), b"new")
+        with self.assertRaises(ValueError):
+            Store(other, "voter\n0")
 
     def test_same_bytes_are_not_written_again(self):
+        Store.create(self.path, b"one")
         with Store(self.path) as store:
-            store.save(b"one")
+            store.read()
             before = os.stat(self.path).st_ino
             store.save(b"one")
             self.assertEqual(os.stat(self.path).st_ino, before)
             store.save(b"two")
             self.assertNotEqual(os.stat(self.path).st_ino, before)
 
-    def test_half_of_a_save_does_no_harm(self):
+    def test_what_is_read_was_synced_before(self):
+        Store.create(self.path, b"one")
+        synced = []
+        with Store(self.path) as store, mock.patch("os.fsync", lambda file: synced.append(os.fstat(file).st_ino)):
+            store.read()
+        self.assertEqual(synced, [os.stat(self.path).st_ino, os.stat(self.folder.name).st_ino])
+
+    def test_failed_save_saved_nothing(self):
+        Store.create(self.path, b"one")
         with Store(self.path) as store:
-            store.save(b"one")
+            store.read()
+            with mock.patch("qlock.store.sync_folder", side_effect=OSError), self.assertRaises(OSError):
+                store.save(b"two")
+            store.save(b"one")  # the file has the two by now
+            self.assertEqual(store.read(), b"one")
+
+    def test_half_of_a_save_does_no_harm(self):
+        Store.create(self.path, b"one")
         with open(self.path + ".new", "wb") as file:
-            file.write(b"qlock 1\nhalf")
+            file.write(b"qlock 2\nhalf")
         with Store(self.path) as store:
             self.assertEqual(store.read(), b"one")
             store.save(b"two")
             self.assertEqual(store.read(), b"two")
 
     def test_each_changed_byte_is_found(self):
-        with Store(self.path) as store:
-            store.save(b"state")
+        Store.create(self.path, b"state", owner="voter 0")
+        with Store(self.path, owner="voter 0") as store:
             with open(self.path, "rb") as file:
                 good = file.read()
             for place in range(len(good)):
