@@ -11,6 +11,7 @@ use Rattle.message.specs.declared.message.VoterBody.{VoterBody}
 use Rattle.message.specs.declared.message.VoterBody.TheVariants as asks
 use Rattle.voter.specs.declared.state.Grant.{Grant}
 use Rattle.voter.specs.declared.state.VoterState.{VoterState}
+use Rattle.voter.specs.Leases.{reborn}
 use Rattle.voter.specs.Saved.{IsHolder, IsKept, least_voter}
 use Rattle.voter.specs.Steps.{Outcome, IsSound, effect_of, no_reply, outcome_of, see, start, step, take_request, take_request_by}
 use Rattle.voter.specs.VoteMoves.{GrantIsNew, VoteMoves}
@@ -117,6 +118,30 @@ IsKept-start id limit few most = record {
   places = length-replicate {A = ℕ} 64 0;
   few = λ c past. get-empty nat_cmp c;
 }
+
+pub IsKept-reborn : (id above limit : ℕ) → id < 64 → above ≤ limit → limit ≤ 2 ^ 40 → IsKept (reborn id above limit)
+IsKept-reborn id above limit few less most =
+    let new = IsKept-start id limit few most in
+    record {
+      sound = record { limit = most; granted = less; numbered = λ g held. absurd (none-some g held); apart = new.sound.apart; free = new.sound.free };
+      id = few;
+      holder = tt;
+      stamped = new.stamped;
+      places = new.places;
+      few = new.few;
+    }
+
+pub IsKept-extend : (v : VoterState) (limit : ℕ) → IsKept v → v.limit ≤ limit → limit ≤ 2 ^ 40 → IsKept (record v { limit = limit })
+IsKept-extend v limit kept more most =
+    let granted = kept.sound.granted in
+    record {
+      sound = record { limit = most; granted = omega arith; numbered = kept.sound.numbered; apart = kept.sound.apart; free = kept.sound.free };
+      id = kept.id;
+      holder = kept.holder;
+      stamped = kept.stamped;
+      places = kept.places;
+      few = kept.few;
+    }
 
 -- what the least of a voter keeps
 
