@@ -11,16 +11,19 @@
 //!
 //! A guard never refuses a pass that comes in order, and refuses one that comes late. The crate
 //! `fencing` proves this, over every list of steps, crashes and restarts. It depends on each voter's
-//! number of grants, which has to survive a crash.
+//! number of grants, which has to survive a crash. `leases` has what holds if a voter lets a grant go
+//! while its client has it. A guard also counts *turns*: one number, which users know as a fencing token.
 //!
 //! Depends on `numbers` and `requester`.
 #![tactic(auto)]
 
+mod fault;
 mod fence;
 mod laws;
 mod pass;
 mod shown;
 
+pub use fault::FenceFault;
 pub use fence::Fence;
 pub use laws::admitted_passes_stay_seen;
 pub use pass::Pass;

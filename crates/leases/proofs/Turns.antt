@@ -13,7 +13,8 @@ use Rattle.world.specs.Rules.{ClientLaws, VoterLaws}
 use Rattle.leases.specs.Incidents.{AreApart, Incident}
 use Rattle.fence.specs.Passes.{Admits, SeesAlso}
 use Rattle.leases.specs.Shows.{AreOfOne, Show, Story, WasIn, pass_in}
-use Rattle.leases.specs.Turns.{AreEntered, Entry, IsTurn, Raises, RaisesNone, TurnsNameRequests, TurnsWith}
+use Rattle.fence.specs.Turns.{IsTurn, Raises, RaisesNone}
+use Rattle.leases.specs.Turns.{AreEntered, Entry, TurnsNameRequests, TurnsWith}
 use Rattle.leases.proofs.Guards.{at_least, all_pairs, same_pass}
 
 -- what a story's shows are to each other

@@ -1,21 +1,9 @@
--- The turns that a guard gives: it counts the passes that show it something newer.
-use Rattle.std.specs.Prelude.{ℕ, ◌≡◌, ◌<◌, ◌≤◌, ◌+◌, List, [], ◌∷◌, ◌⊎◌, slice_index}
+-- The turns that a guard gives to the passes of a story.
+use Rattle.std.specs.Prelude.{ℕ, ◌≡◌, ◌≤◌, List, [], ◌∷◌}
 use Rattle.std.specs.List.{AllByRecursion}
-use Rattle.numbers.specs.Bounds.{max_voters}
 use Rattle.fence.specs.Passes.{Admits, SeesAlso}
+use Rattle.fence.specs.Turns.{IsTurn}
 use Rattle.leases.specs.Shows.{AreOfOne, Show, Story, pass_in}
-
--- the pass shows a newer grant of some voter than the guard saw
-abbrev pub Raises : List ℕ → List ℕ → Type 0
-Raises seen pass = (v : ℕ) × (v < max_voters) × (slice_index seen v < slice_index pass v)
-
--- it shows none
-abbrev pub RaisesNone : List ℕ → List ℕ → Type 0
-RaisesNone seen pass = (v : ℕ) → v < max_voters → slice_index pass v ≤ slice_index seen v
-
--- the turn of a pass, by the turn before it: one more if the pass raises some number
-abbrev pub IsTurn : List ℕ → List ℕ → ℕ → ℕ → Type 0
-IsTurn seen pass before turn = (Raises seen pass × (turn ≡ before + 1)) ⊎ (RaisesNone seen pass × (turn ≡ before))
 
 -- a show that was admitted, and the turn that the guard gave it
 pub record Entry : Type 0 where
