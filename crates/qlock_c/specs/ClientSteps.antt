@@ -1,6 +1,6 @@
 -- What the calls of a client return and write. Each is said for the one client that the bytes are, and
 -- for the one message that the line is. A call that is refused writes nothing.
-use Rattle.std.specs.Prelude.{ℕ, ℤ, pos, ◌≡◌, ◌≢◌, true, false, List, length, Result, Ok, Err}
+use Rattle.std.specs.Prelude.{ℕ, ℤ, pos, ◌≡◌, true, false, List, Result, Ok, Err}
 use Rattle.message.specs.declared.message.ToClient.{ToClient}
 use Rattle.quorum_set.specs.Words.{word_of}
 use Rattle.requester.specs.declared.fault.ClientFault.{ClientFault}
@@ -13,7 +13,7 @@ use Rattle.requester.specs.Words.{held_of, is_inside, members}
 use Rattle.qlock_c.specs.Bytes.{AreGrants, IsClient, IsNoClient}
 use Rattle.qlock_c.specs.Lines.{IsToClient, Sends, lines_to_voters}
 use Rattle.qlock_c.specs.Numbers.{client_refusal, done, refused}
-use Rattle.qlock_c.specs.declared.refusal.Refusal.TheVariants.{BadArgument, BadMessage, BadState, NotInside}
+use Rattle.qlock_c.specs.declared.refusal.Refusal.TheVariants.{BadMessage, BadState, NotInside}
 
 -- 1 if the client got the lock in the step
 abbrev pub entered_number : Seen → ℤ
