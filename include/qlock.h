@@ -8,9 +8,16 @@
 
    - No pointer may be null, even for 0 bytes.
    - The blocks of one call may not overlap: `state`, `line`, `out`, `written` and so on are different places.
-   - One state belongs to one process. Two processes with one voter's state break the lock, and so does an older copy.
+   - Each length is that of its block, and no block is longer than an address space holds.
+   - One state belongs to one process, and to one call at a time. Two processes with one voter's state break the lock, and so
+     does an older copy.
    - Save, then send: write the new state where it survives a crash before any line of `out` leaves, and before the work of a
-     client that entered begins.
+     client that entered begins. A reminder counts too: if the state changed since it was saved, save it before the reminder's
+     lines leave.
+   - A state is made once. Where it is lost, stop: a voter or a client that is made anew breaks the lock.
+
+   The calls take no memory and keep nothing, so they may be used in a signal handler and after fork, as far as the rules above
+   hold there.
 
    What each call returns: QLOCK_DONE, or why it was refused. A call that was refused has written nothing.
 
@@ -29,8 +36,8 @@ extern "C" {
 #define QLOCK_CLIENT_BYTES 1104
 #define QLOCK_FENCE_BYTES 512
 
-/* How many bytes the grants that a client shows to a guard have. */
-#define QLOCK_GRANTS_BYTES 512
+/* How many bytes the pass has that a client shows to a guard. */
+#define QLOCK_PASS_BYTES 512
 
 /* The room that is always enough for the lines of a call: at most 3 lines of a voter, and 128 of a client. */
 #define QLOCK_VOTER_OUT 240
@@ -55,7 +62,8 @@ enum {
     QLOCK_NOT_ASKING = 7,   /* C3: the client is not asking */
     QLOCK_STAMPS_SPENT = 8, /* C4: the client's clock is at the limit, so no stamp is left for a request */
     QLOCK_GRANTS_SPENT = 9, /* V1: the message needs a new grant, and the voter has given as many as its limit */
-    QLOCK_OLDER_GRANT = 10  /* the guard saw a newer grant of some voter before */
+    QLOCK_OLDER_GRANT = 10, /* the guard saw a newer grant of some voter before */
+    QLOCK_NO_PASS = 13      /* what is shown to the guard has no grant, so it is no pass (11 and 12: qlock_plan.h) */
 };
 
 /* What a client is doing. */
@@ -151,7 +159,7 @@ int32_t qlock_client_remind(const uint8_t *state, size_t n, uint8_t *out, size_t
 
 /* Forgets all but the least that has to survive a crash: the clock, the last stamp, and the last grants that were given back.
    The client is then idle. If it was inside, this opens the lock, so its work has to be done or undone before. Sends
-   nothing: the votes come back by the voters' reminders.
+   nothing: the voters' reminders fetch the votes back.
 
    QLOCK_BAD_STATE  the bytes are no client */
 int32_t qlock_client_forget(uint8_t *state, size_t n);
@@ -168,12 +176,13 @@ int32_t qlock_client_shows(const uint8_t *state, size_t n, int32_t *phase, uint6
    QLOCK_BAD_STATE     the bytes are no client */
 int32_t qlock_client_grant(const uint8_t *state, size_t n, uint8_t voter, uint64_t *grant);
 
-/* Writes the grants under which votes are held: for each voter a number of 64 bits, its lowest byte first, 0 if its vote is
-   not held. `len` is QLOCK_GRANTS_BYTES. This is what a client that is inside shows to the guard.
+/* Writes the pass of a client that is inside: for each voter the grant by which the client has its vote, a number of 64 bits,
+   its lowest byte first, 0 if its vote is not held. `len` is QLOCK_PASS_BYTES. The client shows it to the guard.
 
-   QLOCK_BAD_ARGUMENT  `len` is not QLOCK_GRANTS_BYTES
-   QLOCK_BAD_STATE     the bytes are no client */
-int32_t qlock_client_grants(const uint8_t *state, size_t n, uint8_t *grants, size_t len);
+   QLOCK_BAD_ARGUMENT  `len` is not QLOCK_PASS_BYTES
+   QLOCK_BAD_STATE     the bytes are no client
+   QLOCK_NOT_INSIDE    the client is not inside, so it has no pass */
+int32_t qlock_client_pass(const uint8_t *state, size_t n, uint8_t *pass, size_t len);
 
 /* ---- The guard (fence) of what the lock protects: it refuses a client that lost the lock without noticing it, and comes
    late. `n` is always QLOCK_FENCE_BYTES. */
@@ -183,13 +192,14 @@ int32_t qlock_client_grants(const uint8_t *state, size_t n, uint8_t *grants, siz
    QLOCK_BAD_STATE  `n` is not QLOCK_FENCE_BYTES */
 int32_t qlock_fence_new(uint8_t *state, size_t n);
 
-/* Admits a pass with these grants, as qlock_client_grants writes them. Do this in the place that the lock protects, in one
-   step with the write that it guards.
+/* Admits a pass, as qlock_client_pass writes it. Do this in the place that the lock protects, in one step with the write that
+   it guards. The guard can't see whether the client is still inside, only whether somebody newer showed a pass before.
 
    QLOCK_BAD_STATE     `n` is not QLOCK_FENCE_BYTES
-   QLOCK_BAD_ARGUMENT  `len` is not QLOCK_GRANTS_BYTES
+   QLOCK_BAD_ARGUMENT  `len` is not QLOCK_PASS_BYTES
+   QLOCK_NO_PASS       all its numbers are 0
    QLOCK_OLDER_GRANT   a newer grant of some voter was shown before: somebody entered since, so don't write */
-int32_t qlock_fence_admit(uint8_t *state, size_t n, const uint8_t *grants, size_t len);
+int32_t qlock_fence_admit(uint8_t *state, size_t n, const uint8_t *pass, size_t len);
 
 #ifdef __cplusplus
 }

@@ -14,7 +14,13 @@
    line means. If another number than QLOCK_DONE and QLOCK_REFUSED is returned, nothing was written.
 
    Memory comes from malloc, and all of it is given back before a call returns. There is no global, so calls may run at once in
-   several threads. The library is libqlock_plan; docs/embedding.md says how to link it. */
+   several threads. So these calls need what malloc needs:
+
+   - one allocator in the whole program, whose blocks are aligned as malloc's are;
+   - no call from a signal handler, nor from the forked child of a process with several threads: another thread may have held
+     malloc's lock when the process was forked.
+
+   The library is libqlock_plan; docs/embedding.md says how to link it. */
 #ifndef QLOCK_PLAN_H
 #define QLOCK_PLAN_H
 #include "qlock.h"
@@ -53,7 +59,8 @@ enum {
 int32_t qlock_names(const uint8_t *coterie, size_t len, uint8_t *out, size_t room, size_t *written);
 
 /* Finds an optimal plan of a coterie, and writes its text: how often to use each quorum, so that the busiest voter is asked as
-   seldom as possible, with the certificate that shows it. The same coterie has the same plan each time.
+   seldom as possible, with the certificate that shows it. Nothing is left to chance, so the same coterie has the same plan each
+   time; this is tested, and no contract says it.
 
    QLOCK_REFUSED    the text describes no coterie, or no plan of it was found (N1 NoPlan)
    QLOCK_NO_ROOM    `room` is too small; QLOCK_PLAN_OUT is always enough

@@ -86,7 +86,7 @@ static void one_call(void) {
     uint64_t a = 7777, b = 7777, c = 7777;
     size_t which = below(16);
     struct block state = which < 5 ? state_of(voter, sizeof voter) : which < 14 ? state_of(client, sizeof client) : state_of(guard, sizeof guard);
-    struct block line = line_of(which < 3), out = block_of(room()), grants = block_of(below(4) ? QLOCK_GRANTS_BYTES : below(600));
+    struct block line = line_of(which < 3), out = block_of(room()), grants = block_of(below(4) ? QLOCK_PASS_BYTES : below(600));
     if (below(2) == 0) memset(grants.bytes, (int)below(3), grants.n);
     int32_t result = -1;
     note(&state), note(&line), note(&out), note(&grants);
@@ -190,16 +190,16 @@ static void one_call(void) {
             is_named(result, "012");
             if (result != QLOCK_DONE && a != 7777) fail("wrote though refused", result);
         } else {
-            call = "qlock_client_grants";
-            result = qlock_client_grants(state.bytes, state.n, grants.bytes, grants.n);
-            is_named(result, "012");
+            call = "qlock_client_pass";
+            result = qlock_client_pass(state.bytes, state.n, grants.bytes, grants.n);
+            is_named(result, "0126");
             writes_grants = result == QLOCK_DONE;
         }
         break;
     default:
         call = "qlock_fence_admit";
         result = qlock_fence_admit(state.bytes, state.n, grants.bytes, grants.n);
-        is_named(result, "012a");
+        is_named(result, "012ad");
         writes_state = result == QLOCK_DONE;
         keep(guard, sizeof guard, &state, result);
         break;

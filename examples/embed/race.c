@@ -12,7 +12,7 @@ enum { VOTERS = 3, CLIENTS = 2, LINE = 80, LINES = 64 };
 
 static uint8_t voters[VOTERS][QLOCK_VOTER_BYTES], saved_voters[VOTERS][QLOCK_VOTER_BYTES];
 static uint8_t clients[CLIENTS][QLOCK_CLIENT_BYTES], saved_clients[CLIENTS][QLOCK_CLIENT_BYTES];
-static uint8_t guard[QLOCK_FENCE_BYTES], first_pass[QLOCK_GRANTS_BYTES];
+static uint8_t guard[QLOCK_FENCE_BYTES], first_pass[QLOCK_PASS_BYTES];
 static uint8_t out[QLOCK_CLIENT_OUT];
 
 /* the messages that are on the way, in the order in which they were sent */
@@ -49,8 +49,8 @@ static void end_client(unsigned c, size_t written) {
 }
 
 static void enter(unsigned c) {
-    uint8_t pass[QLOCK_GRANTS_BYTES];
-    must(qlock_client_grants(clients[c], QLOCK_CLIENT_BYTES, pass, sizeof pass), "grants");
+    uint8_t pass[QLOCK_PASS_BYTES];
+    must(qlock_client_pass(clients[c], QLOCK_CLIENT_BYTES, pass, sizeof pass), "pass");
     int32_t result = qlock_fence_admit(guard, sizeof guard, pass, sizeof pass);
     printf("client %u is inside, and the guard returns %d\n", c, (int)result);
     if (c == 0) memcpy(first_pass, pass, sizeof pass);
@@ -130,7 +130,7 @@ int main(void) {
     deliver();
     show(0);
     show(1);
-    printf("client 0 shows its old grants, and the guard returns %d\n",
+    printf("client 0 shows its old pass, and the guard returns %d\n",
            (int)qlock_fence_admit(guard, sizeof guard, first_pass, sizeof first_pass));
     leave(1);
     deliver();

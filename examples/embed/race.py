@@ -60,7 +60,7 @@ def admit(grants):
 
 def enter(client):
     passes[client.number] = ctypes.create_string_buffer(GRANTS)
-    call("client_grants", client.state, passes[client.number])
+    call("client_pass", client.state, passes[client.number])
     print(f"client {client.number} is inside, and the guard returns {admit(passes[client.number])}")
 
 
@@ -113,7 +113,7 @@ leave(clients[0])
 deliver()
 clients[0].show()
 clients[1].show()
-print(f"client 0 shows its old grants, and the guard returns {admit(passes[0])}")
+print(f"client 0 shows its old pass, and the guard returns {admit(passes[0])}")
 leave(clients[1])
 deliver()
 clients[1].show()

@@ -61,7 +61,7 @@ extern "C" {
         stamp: *mut u64,
         quorum: *mut u64,
     ) -> i32;
-    fn qlock_client_grants(state: *const u8, n: usize, grants: *mut u8, len: usize) -> i32;
+    fn qlock_client_pass(state: *const u8, n: usize, grants: *mut u8, len: usize) -> i32;
     fn qlock_fence_new(state: *mut u8, n: usize) -> i32;
     fn qlock_fence_admit(state: *mut u8, n: usize, grants: *const u8, len: usize) -> i32;
 }
@@ -130,8 +130,8 @@ impl Race {
         let mut grants = [0; GRANTS];
         let state = &self.clients[c].state;
         must(
-            unsafe { qlock_client_grants(state.as_ptr(), STATE, grants.as_mut_ptr(), GRANTS) },
-            "qlock_client_grants",
+            unsafe { qlock_client_pass(state.as_ptr(), STATE, grants.as_mut_ptr(), GRANTS) },
+            "qlock_client_pass",
         );
         let result = self.admit(&grants);
         println!("client {c} is inside, and the guard returns {result}");
@@ -281,7 +281,7 @@ fn main() {
     race.show(0);
     race.show(1);
     let old = race.first_pass;
-    println!("client 0 shows its old grants, and the guard returns {}", race.admit(&old));
+    println!("client 0 shows its old pass, and the guard returns {}", race.admit(&old));
     race.leave(1);
     race.deliver();
     race.show(1);

@@ -113,7 +113,7 @@ class Lock:
 
     def passed(self, client: int, resumed: bool) -> Passed:
         """Returns the pass of a client that is inside."""
-        return Passed(client, self._client.shows().stamp, self._client.grants(), resumed)
+        return Passed(client, self._client.shows().stamp, self._client.show_pass(), resumed)
 
 
 class Locks:

@@ -9,7 +9,7 @@ from .library import call
 VOTER_BYTES = 1104
 CLIENT_BYTES = 1104
 FENCE_BYTES = 512
-GRANTS_BYTES = 512
+PASS_BYTES = 512
 MAX_STAMP = 1 << 40
 _VOTER_OUT = 240
 _CLIENT_OUT = 4864
@@ -192,11 +192,11 @@ class Client(_State):
         call("client_grant", *self._given(), _number(voter, 0, 63, "the voter"), ctypes.byref(grant))
         return grant.value or None
 
-    def grants(self) -> bytes:
-        """Returns the grants under which votes are held, to be shown to a guard."""
-        grants = ctypes.create_string_buffer(GRANTS_BYTES)
-        call("client_grants", *self._given(), grants, GRANTS_BYTES)
-        return grants.raw
+    def show_pass(self) -> bytes:
+        """Returns the pass of a client that is inside, for `Fence.admit`. Raises `NotInside` if it is not inside."""
+        shown = ctypes.create_string_buffer(PASS_BYTES)
+        call("client_pass", *self._given(), shown, PASS_BYTES)
+        return shown.raw
 
 
 class Fence(_State):
@@ -214,6 +214,6 @@ class Fence(_State):
         fence._restore(state)
         return fence
 
-    def admit(self, grants: bytes) -> None:
-        """Admits a pass with these grants, those of `Client.grants`. Raises `OlderGrant` if somebody entered since."""
-        call("fence_admit", *self._given(), grants, len(grants))
+    def admit(self, shown: bytes) -> None:
+        """Admits a pass, as `Client.show_pass` returns it. Raises `OlderGrant` if somebody showed a newer one, and `NoPass` for zeros."""
+        call("fence_admit", *self._given(), shown, len(shown))

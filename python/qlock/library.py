@@ -33,7 +33,7 @@ _CALLS: Dict[str, List[Any]] = {
     "client_forget": _STATE,
     "client_shows": [*_STATE, _I32_OUT, _U64_OUT, _U64_OUT],
     "client_grant": [*_STATE, _U8, _U64_OUT],
-    "client_grants": [*_STATE, _BUFFER, _SIZE],
+    "client_pass": [*_STATE, _BUFFER, _SIZE],
     "fence_new": _STATE,
     "fence_admit": [*_STATE, _BYTES, _SIZE],
 }

@@ -66,12 +66,16 @@ class Races(unittest.TestCase):
 
     def test_guard_refuses_older_grants(self):
         play(self.voters, self.clients, self.clients[0].ask([0, 1]))
-        first = self.clients[0].grants()
+        first = self.clients[0].show_pass()
         play(self.voters, self.clients, self.clients[0].leave())
         play(self.voters, self.clients, self.clients[1].ask([1, 2]))
         fence = qlock.Fence()
+        with self.assertRaises(qlock.NotInside):
+            self.clients[0].show_pass()
+        with self.assertRaises(qlock.NoPass):
+            fence.admit(bytes(qlock.PASS_BYTES))
         fence.admit(first)
-        fence.admit(self.clients[1].grants())
+        fence.admit(self.clients[1].show_pass())
         again = qlock.Fence.restore(fence.state)
         for guard in (fence, again):
             with self.assertRaises(qlock.OlderGrant):

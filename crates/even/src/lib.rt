@@ -8,9 +8,9 @@
 //! use each place once.
 //!
 //! The [`Slack`] says how even that is: any n tickets in a row, from any first ticket, use no voter
-//! more often than n times the load plus the slack, times the voter's capacity. No smaller slack has
-//! this property. An even cycle is made by trying some strides, and keeps the first one of smallest
-//! slack.
+//! more often than n times the load plus the slack, times the voter's capacity. If all capacities are
+//! 1, no smaller slack has this property; otherwise no smaller one over the same denominator has it.
+//! An even cycle is made by trying some strides, and keeps the first one of smallest slack.
 //!
 //! ```text
 //! let Ok(cycle) = EvenCycle::of(alloc, plan) else { .. };

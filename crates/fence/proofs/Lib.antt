@@ -1,1 +1,2 @@
 pub mod FenceLemmas
+pub mod GrantLemmas

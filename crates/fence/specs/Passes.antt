@@ -1,5 +1,6 @@
 -- What a guard accepts: a pass that shows no older grant than it saw before.
-use Rattle.std.specs.Prelude.{ℕ, ◌≡◌, ◌<◌, ◌≤◌, ◌==◌, nat_le, Bool, true, false, ◌||◌, List, max, slice_index}
+use Rattle.std.specs.Prelude.{ℕ, ◌≡◌, ◌<◌, ◌≤◌, ◌==◌, nat_le, nat_lt, Bool, true, false, ◌||◌, List, max, slice_index}
+use Rattle.std.specs.List.{list_any}
 use Rattle.numbers.specs.Bounds.{max_voters}
 
 -- the pass shows no grant of this voter, or one that is at least the highest that was seen
@@ -9,6 +10,10 @@ is_not_older seen shown voter = (slice_index shown voter == 0) || nat_le (slice_
 -- the highest grant of this voter that was seen, with this pass
 abbrev pub highest_with : List ℕ → List ℕ → ℕ → ℕ
 highest_with seen shown voter = max (slice_index seen voter) (slice_index shown voter)
+
+-- some voter's grant is among these: its number is not 0
+abbrev pub HasGrant : List ℕ → Type 0
+HasGrant grants = list_any (nat_lt 0) grants ≡ true
 
 -- a guard that has seen these grants admits this pass
 abbrev pub Admits : List ℕ → List ℕ → Type 0

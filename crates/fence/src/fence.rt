@@ -1,44 +1,64 @@
 //! The guard.
-ghost use Rattle.std.specs.Prelude.{◌≡◌, ◌<◌, IsTrue, false, replicate};
+ghost use Rattle.std.specs.Prelude.{◌≡◌, ◌+◌, ◌^◌, ◌<◌, ◌≤◌, Err, IfOk, IsTrue, None, Ok, OnErr, Some, false, replicate};
 ghost use Rattle.numbers.specs.Bounds.{max_voters};
-ghost use Rattle.fence.specs.Passes.{Admits, Refuses, SeesAlso, is_not_older};
+ghost use Rattle.fence.specs.Passes.{Admits, HasGrant, Refuses, SeesAlso, is_not_older};
+ghost use Rattle.fence.specs.Turns.{Raises, RaisesNone};
 
+use crate::fault::FenceFault;
+use crate::pass::Pass;
 use numbers::MAX_VOTERS;
 
-/// For each voter the highest grant number that it saw.
+/// For each voter the highest grant number that the guard saw, and how often it saw something newer.
 #[derive(Drop)]
 pub struct Fence {
     /// The highest grant of each voter that was shown, 0 for none.
     pub seen: [u64; MAX_VOTERS],
+    /// How many of the admitted passes showed a newer grant of some voter: the turn of the last one.
+    pub turn: u64,
 }
 
 impl Fence {
     /// Returns a guard that saw no grant.
     pub fn new() -> Self
-        ensures { result.seen ≡ replicate max_voters 0 }
+        ensures seen { result.seen ≡ replicate max_voters 0 }
+        ensures turn { result.turn ≡ 0 }
     {
         Fence {
             seen: [0; MAX_VOTERS],
+            turn: 0,
         }
     }
 
-    /// Admits a pass with these grants, one for each voter and 0 for none. Returns whether it is
-    /// admitted.
+    /// Admits a pass, and returns its turn: a fencing token. The turn is one more than the last one if
+    /// the pass shows a newer grant of some voter, and the last one again if it shows none. So all
+    /// passes of one request have one turn, and a later request has a greater one (`leases`).
     ///
-    /// It is refused if and only if it shows an older grant of some voter than was shown before.
-    /// The guard is then unchanged.
-    pub fn admit(&mut self, grants: &[u64; MAX_VOTERS]) -> bool
-        ensures new { IsTrue result → Admits self.old.seen grants.now }
-        ensures admitted { Admits self.old.seen grants.now → IsTrue result }
-        ensures refused { Refuses self.old.seen grants.now → result ≡ false }
-        ensures seen { IsTrue result → SeesAlso self.old.seen grants.now self.new.seen }
-        ensures unchanged { result ≡ false → self.new ≡ self.old }
+    /// Fails with `OlderGrant` if and only if the pass shows an older grant of some voter than was shown
+    /// before, and otherwise with `TurnsSpent` if it shows a newer one and no turn is left. The guard is
+    /// then unchanged.
+    pub fn admit(&mut self, pass: &Pass) -> Result<u64, FenceFault>
+        ensures older { Refuses self.old.seen pass.now → result ≡ Err FenceFault.OlderGrant }
+        ensures again { Admits self.old.seen pass.now → RaisesNone self.old.seen pass.now → result ≡ Ok self.old.turn }
+        ensures next { Admits self.old.seen pass.now → Raises self.old.seen pass.now
+            → self.old.turn + 1 < 2 ^ 64 → result ≡ Ok (self.old.turn + 1) }
+        ensures spent { Admits self.old.seen pass.now → Raises self.old.seen pass.now
+            → 2 ^ 64 ≤ self.old.turn + 1 → result ≡ Err FenceFault.TurnsSpent }
+        ensures new { IfOk result (λ _. Admits self.old.seen pass.now) }
+        ensures seen { IfOk result (λ turn. SeesAlso self.old.seen pass.now self.new.seen × (self.new.turn ≡ turn)) }
+        ensures unchanged { OnErr result (self.new ≡ self.old) }
+        // A pass has a grant, so whoever was never inside has nothing to show.
+        ensures some { HasGrant pass.now }
     {
+        let grants = pass.grants();
         if !self.are_new(grants) {
-            return false;
+            return Err(FenceFault::OlderGrant);
         }
-        self.raise(grants);
-        true
+        let Some(turn) = self.next_turn(grants) else {
+            return Err(FenceFault::TurnsSpent);
+        };
+        raise(&mut self.seen, grants);
+        self.turn = turn;
+        Ok(turn)
     }
 
     fn is_new(&self, grants: &[u64; MAX_VOTERS], voter: usize) -> bool
@@ -60,11 +80,39 @@ impl Fence {
         true
     }
 
-    fn raise(&mut self, grants: &[u64; MAX_VOTERS])
-        ensures { SeesAlso self.old.seen grants.now self.new.seen }
+    /// Returns whether some grant is newer than what was seen of its voter.
+    fn shows_newer(&self, grants: &[u64; MAX_VOTERS]) -> bool
+        ensures some { IsTrue result → Raises self.now.seen grants.now }
+        ensures none { result ≡ false → RaisesNone self.now.seen grants.now }
     {
         for v in 0..MAX_VOTERS {
-            self.seen[v] = self.seen[v].max(grants[v]);
+            if self.seen[v] < grants[v] {
+                return true;
+            }
         }
+        false
+    }
+
+    /// Returns the turn of a pass, or `None` if no turn is left for it.
+    #[tactic(auto, using(crate::proofs::FenceLemmas::raises_some))]
+    fn next_turn(&self, grants: &[u64; MAX_VOTERS]) -> Option<u64>
+        ensures again { RaisesNone self.now.seen grants.now → result ≡ Some self.now.turn }
+        ensures next { Raises self.now.seen grants.now → self.now.turn + 1 < 2 ^ 64 → result ≡ Some (self.now.turn + 1) }
+        ensures spent { Raises self.now.seen grants.now → 2 ^ 64 ≤ self.now.turn + 1 → result ≡ None }
+    {
+        if self.shows_newer(grants) {
+            self.turn.checked_add(1)
+        } else {
+            Some(self.turn)
+        }
+    }
+}
+
+/// Raises what was seen of each voter to these grants.
+fn raise(seen: &mut [u64; MAX_VOTERS], grants: &[u64; MAX_VOTERS])
+    ensures { SeesAlso seen.old grants.now seen.new }
+{
+    for v in 0..MAX_VOTERS {
+        seen[v] = seen[v].max(grants[v]);
     }
 }

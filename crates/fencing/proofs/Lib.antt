@@ -1,2 +1,1 @@
-pub mod GrantLemmas
 pub mod PassLemmas

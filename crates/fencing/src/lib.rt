@@ -1,8 +1,8 @@
 //! Passes of the voting lock, and the guard that clients show them to: why grant numbers are fencing
 //! tokens.
 //!
-//! A client that is inside holds a grant of each voter of its quorum. [`pass_of`] collects their
-//! numbers, and [`Fence::admit`](fence::Fence::admit) takes them.
+//! A client that is inside holds a grant of each voter of its quorum. [`pass_of`](fence::pass_of) makes
+//! its pass of their numbers, and [`Fence::admit`](fence::Fence::admit) takes it.
 //!
 //! # What is proved
 //!
@@ -12,11 +12,9 @@
 //!   ([`passes_in_order_are_admitted`]);
 //! - a pass that comes after a later one was admitted is refused ([`late_passes_are_refused`]).
 //!
-//! Depends on `fence`, `world` and `requester`, and on `numbers`.
+//! Depends on `fence`, `world` and `numbers`; definitions also name `requester`.
 #![tactic(auto)]
 
 mod laws;
-mod pass;
 
 pub use laws::{late_passes_are_refused, passes_in_order_are_admitted};
-pub use pass::pass_of;

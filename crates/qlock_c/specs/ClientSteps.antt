@@ -1,16 +1,19 @@
--- What a call of a client did, if it returned 0.
-use Rattle.std.specs.Prelude.{ℕ, ℤ, pos, ◌≡◌, List, Result, Ok}
-use Rattle.message.specs.declared.message.Message.TheVariants as kinds
+-- What the calls of a client return and write. Each is said for the one client that the bytes are, and
+-- for the one message that the line is. A call that is refused writes nothing.
+use Rattle.std.specs.Prelude.{ℕ, ℤ, pos, ◌≡◌, ◌≢◌, true, false, List, length, Result, Ok, Err}
 use Rattle.message.specs.declared.message.ToClient.{ToClient}
-use Rattle.message.specs.Lines.{message_line}
+use Rattle.quorum_set.specs.Words.{word_of}
 use Rattle.requester.specs.declared.fault.ClientFault.{ClientFault}
 use Rattle.requester.specs.declared.state.ClientState.{ClientState}
 use Rattle.requester.specs.declared.state.Seen.{Seen}
 use Rattle.requester.specs.declared.state.Seen.TheVariants.{Nothing, Entered, Left}
-use Rattle.requester.specs.Saved.{IsKept, least_client}
+use Rattle.requester.specs.Saved.{least_client, phase_word}
 use Rattle.requester.specs.Steps.{Outcome, take, remind}
-use Rattle.qlock_c.specs.Bytes.{client_bytes}
-use Rattle.qlock_c.specs.Lines.{Writes, lines_to_voters}
+use Rattle.requester.specs.Words.{held_of, is_inside, members}
+use Rattle.qlock_c.specs.Bytes.{AreGrants, IsClient, IsNoClient}
+use Rattle.qlock_c.specs.Lines.{IsToClient, Sends, lines_to_voters}
+use Rattle.qlock_c.specs.Numbers.{client_refusal, done, refused}
+use Rattle.qlock_c.specs.declared.refusal.Refusal.TheVariants.{BadArgument, BadMessage, BadState, NotInside}
 
 -- 1 if the client got the lock in the step
 abbrev pub entered_number : Seen → ℤ
@@ -18,42 +21,51 @@ entered_number Nothing = pos 0
 entered_number Entered = pos 1
 entered_number Left = pos 0
 
--- A client asked, left or gave up: the state was the bytes of a client, and its own step gives the
--- outcome. The new state is the bytes of the new client, which can be read again, and the lines of its
--- messages are written.
-pub record ClientDoes (step : ClientState → Result Outcome ClientFault) (before after out out_after : List ℕ) (written : ℕ) : Type 0 where
-  pub client : ClientState
-  pub outcome : Outcome
-  pub was : before ≡ client_bytes client
-  pub steps : step client ≡ Ok outcome
-  pub is : after ≡ client_bytes outcome.state
-  pub kept : IsKept outcome.state
-  pub sends : Writes (lines_to_voters outcome.out) out out_after written
+-- by what the client's own step gives: a fault, or messages and the client afterwards
+abbrev pub GoesOn : Result Outcome ClientFault → (after out out_after : List ℕ) → ℕ → ℤ → Type 0
+GoesOn (Err fault) after out out_after written result = result ≡ refused (client_refusal fault)
+GoesOn (Ok o) after out out_after written result =
+    Sends (lines_to_voters o.out) out out_after written result (IsClient after o.state)
 
--- A client took a line: the line is that of a message to it, its own step gives the outcome, and
--- `entered` is 1 if it got the lock.
-pub record ClientTakes (before line after out out_after : List ℕ) (written : ℕ) (entered : ℤ) : Type 0 where
-  pub client : ClientState
-  pub message : ToClient
-  pub outcome : Outcome
-  pub was : before ≡ client_bytes client
-  pub reads : line ≡ message_line (kinds.ToClient message)
-  pub its_own : message.client ≡ client.id
-  pub steps : take client message ≡ outcome
-  pub is : after ≡ client_bytes outcome.state
-  pub kept : IsKept outcome.state
-  pub sends : Writes (lines_to_voters outcome.out) out out_after written
-  pub enters : entered ≡ entered_number outcome.seen
+-- a client asks, leaves or gives up
+pub record ClientDoes (step : ClientState → Result Outcome ClientFault) (before after out out_after : List ℕ) (written : ℕ) (result : ℤ) : Type 0 where
+  pub no_client : IsNoClient before → result ≡ refused BadState
+  pub does : (client : ClientState) → IsClient before client → GoesOn (step client) after out out_after written result
 
--- A client reminded: the lines of its reminders are written.
-pub record ClientReminds (state out out_after : List ℕ) (written : ℕ) : Type 0 where
-  pub client : ClientState
-  pub was : state ≡ client_bytes client
-  pub sends : Writes (lines_to_voters (remind client)) out out_after written
+-- a client takes a line; `entered` is 1 if it got the lock in this call, and 0 if not
+pub record ClientTakes (before line after out out_after : List ℕ) (written : ℕ) (entered result : ℤ) : Type 0 where
+  pub no_client : IsNoClient before → result ≡ refused BadState
+  pub no_message : (client : ClientState) → IsClient before client → ((m : ToClient) → IsToClient line client.id m → ⊥)
+      → result ≡ refused BadMessage
+  pub takes : (client : ClientState) (m : ToClient) → IsClient before client → IsToClient line client.id m
+      → Sends (lines_to_voters (take client m).out) out out_after written result
+      (IsClient after (take client m).state × (entered ≡ entered_number (take client m).seen))
 
--- A client forgot: the new state is the bytes of the least of it.
-pub record ClientForgets (before after : List ℕ) : Type 0 where
-  pub client : ClientState
-  pub was : before ≡ client_bytes client
-  pub is : after ≡ client_bytes (least_client client)
-  pub kept : IsKept (least_client client)
+-- a client reminds
+pub record ClientReminds (state out out_after : List ℕ) (written : ℕ) (result : ℤ) : Type 0 where
+  pub no_client : IsNoClient state → result ≡ refused BadState
+  pub reminds : (client : ClientState) → IsClient state client
+      → Sends (lines_to_voters (remind client)) out out_after written result (Unit {0})
+
+-- a client forgets all but the least
+pub record ClientForgets (before after : List ℕ) (result : ℤ) : Type 0 where
+  pub no_client : IsNoClient before → result ≡ refused BadState
+  pub forgets : (client : ClientState) → IsClient before client → (result ≡ done) × IsClient after (least_client client)
+
+-- a client shows its phase, its stamp, and its quorum as bits
+pub record ClientShows (state : List ℕ) (phase : ℤ) (stamp quorum : ℕ) (result : ℤ) : Type 0 where
+  pub no_client : IsNoClient state → result ≡ refused BadState
+  pub shows : (client : ClientState) → IsClient state client
+      → (result ≡ done) × (phase ≡ pos (phase_word client.phase)) × (stamp ≡ client.stamp) × (quorum ≡ word_of (members client))
+
+-- a client shows the grant by which it has the vote of a voter, 0 for none
+pub record ClientShowsGrant (state : List ℕ) (voter grant : ℕ) (result : ℤ) : Type 0 where
+  pub no_client : IsNoClient state → result ≡ refused BadState
+  pub shows : (client : ClientState) → IsClient state client → (result ≡ done) × (grant ≡ held_of client voter)
+
+-- a client that is inside shows its pass: the grants by which it has its votes
+pub record ClientShowsPass (state pass : List ℕ) (result : ℤ) : Type 0 where
+  pub no_client : IsNoClient state → result ≡ refused BadState
+  pub outside : (client : ClientState) → IsClient state client → is_inside client.phase ≡ false → result ≡ refused NotInside
+  pub inside : (client : ClientState) → IsClient state client → is_inside client.phase ≡ true
+      → (result ≡ done) × AreGrants pass client.held

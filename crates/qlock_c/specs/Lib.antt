@@ -2,5 +2,6 @@ pub mod Bytes
 pub mod ClientSteps
 pub mod FenceSteps
 pub mod Lines
+pub mod Made
 pub mod Numbers
 pub mod VoterSteps

@@ -1,11 +1,13 @@
 -- Messages as lines, each with its newline, and what a call writes.
-use Rattle.std.specs.Prelude.{ℕ, ◌≡◌, ◌≤◌, List, [], ◌∷◌, ◌++◌, drop, length}
+use Rattle.std.specs.Prelude.{ℕ, ℤ, ◌≡◌, ◌<◌, ◌≤◌, List, [], ◌∷◌, ◌++◌, drop, length}
 use Rattle.std.specs.List.{flat_map}
 use Rattle.message.specs.declared.message.Message.{Message}
 use Rattle.message.specs.declared.message.Message.TheVariants as kinds
 use Rattle.message.specs.declared.message.ToClient.{ToClient}
 use Rattle.message.specs.declared.message.ToVoter.{ToVoter}
-use Rattle.message.specs.Lines.{message_line}
+use Rattle.message.specs.Lines.{HasLine, message_line}
+use Rattle.qlock_c.specs.Numbers.{done, refused}
+use Rattle.qlock_c.specs.declared.refusal.Refusal.TheVariants.{NoRoom}
 
 -- the line of a message, and a newline
 abbrev pub line_of : Message → List ℕ
@@ -19,9 +21,26 @@ lines_to_clients messages = flat_map (λ m. line_of (kinds.ToClient m)) messages
 abbrev pub lines_to_voters : List ToVoter → List ℕ
 lines_to_voters messages = flat_map (λ m. line_of (kinds.ToVoter m)) messages
 
+-- the bytes are the line of this message, without a newline, and it is for the voter with this number
+pub record IsToVoter (line : List ℕ) (id : ℕ) (message : ToVoter) : Type 0 where
+  pub has_line : HasLine (kinds.ToVoter message)
+  pub line_is : line ≡ message_line (kinds.ToVoter message)
+  pub its_own : message.voter ≡ id
+
+-- the bytes are the line of this message, without a newline, and it is for the client with this number
+pub record IsToClient (line : List ℕ) (id : ℕ) (message : ToClient) : Type 0 where
+  pub has_line : HasLine (kinds.ToClient message)
+  pub line_is : line ≡ message_line (kinds.ToClient message)
+  pub its_own : message.client ≡ id
+
 -- The text is at the front of `out`, whose other bytes stay as they were, and `written` is the number
 -- of its bytes.
 pub record Writes (text before after : List ℕ) (written : ℕ) : Type 0 where
   pub bytes : after ≡ text ++ drop (length text) before
   pub count : written ≡ length text
-  pub fits : length text ≤ length before
+
+-- What a call does that has this text to write: if it fits, the call writes it, is done, and all that
+-- `Changes` says is so. If it doesn't fit, the call is refused.
+pub record Sends (text before after : List ℕ) (written : ℕ) (result : ℤ) (Changes : Type 0) : Type 0 where
+  pub sent : length text ≤ length before → (result ≡ done) × Writes text before after written × Changes
+  pub no_room : length before < length text → result ≡ refused NoRoom

@@ -1,9 +1,11 @@
--- The numbers that calls return to C. A call that is done returns 0.
-use Rattle.std.specs.Prelude.{ℕ}
+-- The numbers that calls return to C, as in include/qlock.h.
+use Rattle.std.specs.Prelude.{ℕ, ℤ, pos, Result, Ok, Err}
+use Rattle.requester.specs.declared.fault.ClientFault.{ClientFault}
+use Rattle.requester.specs.declared.fault.ClientFault.TheVariants as client
 use Rattle.qlock_c.specs.declared.refusal.Refusal.{Refusal}
-use Rattle.qlock_c.specs.declared.refusal.Refusal.TheVariants.{BadArgument, BadState, BadMessage, NoRoom, Busy, NotInside, NotAsking, StampsSpent, GrantsSpent, OlderGrant}
+use Rattle.qlock_c.specs.declared.refusal.Refusal.TheVariants.{BadArgument, BadState, BadMessage, NoRoom, Busy, NotInside, NotAsking, StampsSpent, GrantsSpent, OlderGrant, NoPass}
 
--- the number of a refusal, as in include/qlock.h
+-- the number of a refusal
 abbrev pub number_of : Refusal → ℕ
 number_of BadArgument = 1
 number_of BadState = 2
@@ -15,3 +17,24 @@ number_of NotAsking = 7
 number_of StampsSpent = 8
 number_of GrantsSpent = 9
 number_of OlderGrant = 10
+number_of NoPass = 13
+
+-- what a call returns that is done
+abbrev pub done : ℤ
+done = pos 0
+
+-- what a call returns that is refused
+abbrev pub refused : Refusal → ℤ
+refused refusal = pos (number_of refusal)
+
+-- what a call with this result returns
+abbrev pub returned : {A : Type 0} → Result A Refusal → ℤ
+returned (Ok x) = done
+returned (Err refusal) = refused refusal
+
+-- the refusal of a client's fault
+abbrev pub client_refusal : ClientFault → Refusal
+client_refusal client.Busy = Busy
+client_refusal client.NotInside = NotInside
+client_refusal client.NotAsking = NotAsking
+client_refusal client.StampsSpent = StampsSpent

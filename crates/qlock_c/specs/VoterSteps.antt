@@ -1,29 +1,41 @@
--- What a call of a voter did, if it returned 0.
-use Rattle.std.specs.Prelude.{ℕ, ◌≡◌, List, Some}
-use Rattle.message.specs.declared.message.Message.TheVariants as kinds
+-- What the calls of a voter return and write. Each is said for the one voter that the bytes are, and
+-- for the one message that the line is. A call that is refused writes nothing.
+use Rattle.std.specs.Prelude.{ℕ, ℤ, ◌≡◌, List, Option, None, Some}
 use Rattle.message.specs.declared.message.ToVoter.{ToVoter}
-use Rattle.message.specs.Lines.{message_line}
+use Rattle.voter.specs.declared.state.Grant.{Grant}
 use Rattle.voter.specs.declared.state.VoterState.{VoterState}
 use Rattle.voter.specs.Steps.{Outcome, step, remind}
-use Rattle.qlock_c.specs.Bytes.{voter_bytes}
-use Rattle.qlock_c.specs.Lines.{Writes, lines_to_clients}
+use Rattle.qlock_c.specs.Bytes.{IsNoVoter, IsVoter}
+use Rattle.qlock_c.specs.Lines.{IsToVoter, Sends, lines_to_clients}
+use Rattle.qlock_c.specs.Numbers.{done, refused}
+use Rattle.qlock_c.specs.declared.refusal.Refusal.TheVariants.{BadMessage, BadState, GrantsSpent}
 
--- A voter took a line: the state was the bytes of a voter, and the line is that of a message to it. The
--- voter's own step gives the outcome. The new state is the bytes of the new voter, and the lines of the
--- replies are written.
-pub record VoterTakes (before line after out out_after : List ℕ) (written : ℕ) : Type 0 where
-  pub voter : VoterState
-  pub message : ToVoter
-  pub outcome : Outcome
-  pub was : before ≡ voter_bytes voter
-  pub reads : line ≡ message_line (kinds.ToVoter message)
-  pub its_own : message.voter ≡ voter.id
-  pub steps : step voter message ≡ Some outcome
-  pub is : after ≡ voter_bytes outcome.state
-  pub sends : Writes (lines_to_clients outcome.replies) out out_after written
+-- by what the voter's own step gives: a refusal, or replies and the voter afterwards
+abbrev pub GoesOn : Option Outcome → (after out out_after : List ℕ) → ℕ → ℤ → Type 0
+GoesOn None after out out_after written result = result ≡ refused GrantsSpent
+GoesOn (Some o) after out out_after written result =
+    Sends (lines_to_clients o.replies) out out_after written result (IsVoter after o.state)
 
--- A voter reminded: the state is the bytes of a voter, and the lines of its reminders are written.
-pub record VoterReminds (state out out_after : List ℕ) (written : ℕ) : Type 0 where
-  pub voter : VoterState
-  pub was : state ≡ voter_bytes voter
-  pub sends : Writes (lines_to_clients (remind voter)) out out_after written
+-- a voter takes a line
+pub record VoterTakes (before line after out out_after : List ℕ) (written : ℕ) (result : ℤ) : Type 0 where
+  pub no_voter : IsNoVoter before → result ≡ refused BadState
+  pub no_message : (voter : VoterState) → IsVoter before voter → ((m : ToVoter) → IsToVoter line voter.id m → ⊥)
+      → result ≡ refused BadMessage
+  pub takes : (voter : VoterState) (m : ToVoter) → IsVoter before voter → IsToVoter line voter.id m
+      → GoesOn (step voter m) after out out_after written result
+
+-- a voter reminds
+pub record VoterReminds (state out out_after : List ℕ) (written : ℕ) (result : ℤ) : Type 0 where
+  pub no_voter : IsNoVoter state → result ≡ refused BadState
+  pub reminds : (voter : VoterState) → IsVoter state voter
+      → Sends (lines_to_clients (remind voter)) out out_after written result (Unit {0})
+
+-- who holds the vote, in three numbers; three times 0 if the vote is free
+abbrev pub IsHeldBy : Option Grant → (client stamp grant : ℕ) → Type 0
+IsHeldBy None client stamp grant = (client ≡ 0) × (stamp ≡ 0) × (grant ≡ 0)
+IsHeldBy (Some g) client stamp grant = (client ≡ g.client) × (stamp ≡ g.stamp) × (grant ≡ g.grant)
+
+-- a voter shows who holds its vote
+pub record VoterShowsHolder (state : List ℕ) (client stamp grant : ℕ) (result : ℤ) : Type 0 where
+  pub no_voter : IsNoVoter state → result ≡ refused BadState
+  pub shows : (voter : VoterState) → IsVoter state voter → (result ≡ done) × IsHeldBy voter.held client stamp grant

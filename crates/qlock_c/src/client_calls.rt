@@ -1,26 +1,33 @@
 //! The calls of a client.
-ghost use Rattle.std.specs.Prelude.{◌≡◌, ◌≢◌, IfOk, OnErr, OnOk, pos};
-ghost use Rattle.message.specs.declared.message.Message.TheVariants as kinds;
-ghost use Rattle.message.specs.Lines.{HasLine, message_line};
+ghost use Rattle.std.specs.Prelude.{◌≡◌, ◌≢◌, ◌<◌, ◌≤◌, ℕ, [], IfErr, IfOk, OnErr, length, pos};
+ghost use Rattle.message.specs.declared.message.ToClient.{ToClient};
+ghost use Rattle.numbers.specs.Bounds.{max_voters};
 ghost use Rattle.numbers.specs.Sets.{members_of};
+ghost use Rattle.requester.specs.Saved.{phase_word};
 ghost use Rattle.requester.specs.Steps as steps;
-ghost use Rattle.qlock_c.specs.Bytes.{client_bytes};
-ghost use Rattle.qlock_c.specs.ClientSteps.{ClientDoes, ClientForgets, ClientReminds, ClientTakes, entered_number};
+ghost use Rattle.qlock_c.specs.Bytes.{IsClient};
+ghost use Rattle.qlock_c.specs.ClientSteps.{ClientDoes, ClientForgets, ClientReminds, ClientShows, ClientShowsGrant, ClientShowsPass, ClientTakes, entered_number};
+ghost use Rattle.qlock_c.specs.FenceSteps.{grant_bytes};
+ghost use Rattle.qlock_c.specs.Lines.{IsToClient};
+ghost use Rattle.qlock_c.specs.Made.{IsMade};
+ghost use Rattle.qlock_c.specs.Numbers.{done, refused, returned};
 
 use crate::lines::put_to_voters;
-use crate::refusal::{DONE, Refusal};
-use crate::saved_bytes::{GRANTS_BYTES, STATE_BYTES, load_client, store_client};
+use crate::refusal::{Refusal, number_of};
+use crate::saved_bytes::{GRANTS_BYTES, STATE_BYTES, load_client, store_client, store_grants};
 use arrayvec::ArrayVec;
+use fence::pass_of;
 use message::{Message, ToClient, read_message};
-use numbers::{MAX_STAMP, MAX_VOTERS};
+use numbers::MAX_STAMP;
 use quorum_set::QSet;
 use requester::{Phase, Requester, Seen};
-use words::write_words;
 
 /// Reads the line of a message to the client with this number.
 fn read_to_client(line: &[u8], id: u8) -> Result<ToClient, Refusal>
-    ensures line { IfOk result (λ m. HasLine (kinds.ToClient m) × (line.now ≡ message_line (kinds.ToClient m))) }
-    ensures client { IfOk result (λ m. m.client ≡ id) }
+    ensures read { IfOk result (IsToClient line.now id) }
+    // It is the only one.
+    ensures only { IfOk result (λ m. (n : ToClient) → IsToClient line.now id n → n ≡ m) }
+    ensures refused { IfErr result (λ r. (r ≡ Refusal.BadMessage) × ((n : ToClient) → IsToClient line.now id n → ⊥)) }
 {
     match read_message(line) {
         Ok(Message::ToClient(message)) if message.client == id => Ok(message),
@@ -39,7 +46,7 @@ fn show_entry(seen: Seen, entered: &mut i32)
 }
 
 fn new(id: u8, limit: u64, state: &mut [u8]) -> Result<(), Refusal>
-    ensures done { OnOk result (state.new ≡ client_bytes (steps.start id limit)) }
+    ensures made { IsMade id limit state.old (IsClient state.new (steps.start id limit)) (returned result) }
     ensures refused { OnErr result (state.new ≡ state.old) }
 {
     if id >= 64 || limit < 1 || limit > MAX_STAMP {
@@ -52,20 +59,35 @@ fn new(id: u8, limit: u64, state: &mut [u8]) -> Result<(), Refusal>
     Ok(())
 }
 
+fn ask_quorum(
+    state: &mut [u8],
+    quorum: &QSet,
+    out: &mut [u8],
+    written: &mut usize,
+) -> Result<(), Refusal>
+    requires { 1 ≤ length quorum.now }
+    ensures asks { ClientDoes (λ x. steps.ask x quorum.now) state.old state.new out.old out.new written.new (returned result) }
+    ensures refused { OnErr result ((state.new ≡ state.old) × (out.new ≡ out.old) × (written.new ≡ written.old)) }
+{
+    let mut client = load_client(state)?;
+    let mut messages = ArrayVec::new();
+    client.ask_into(quorum, &mut messages)?;
+    put_to_voters(messages.as_slice(), out, written)?;
+    store_client(&client, state);
+    Ok(())
+}
+
 fn ask(state: &mut [u8], quorum: u64, out: &mut [u8], written: &mut usize) -> Result<(), Refusal>
-    ensures done { OnOk result (ClientDoes (λ x. steps.ask x (members_of quorum)) state.old state.new out.old out.new written.new) }
+    ensures empty { members_of quorum ≡ [] → returned result ≡ refused Refusal.BadArgument }
+    ensures asks { 1 ≤ length (members_of quorum) → ClientDoes (λ x. steps.ask x (members_of quorum))
+        state.old state.new out.old out.new written.new (returned result) }
     ensures refused { OnErr result ((state.new ≡ state.old) × (out.new ≡ out.old) × (written.new ≡ written.old)) }
 {
     let quorum = QSet::of_bits(quorum);
     if quorum.len() == 0 {
         return Err(Refusal::BadArgument);
     }
-    let mut client = load_client(state)?;
-    let mut messages = ArrayVec::new();
-    client.ask_into(&quorum, &mut messages)?;
-    put_to_voters(messages.as_slice(), out, written)?;
-    store_client(&client, state);
-    Ok(())
+    ask_quorum(state, &quorum, out, written)
 }
 
 fn take(
@@ -75,7 +97,7 @@ fn take(
     written: &mut usize,
     entered: &mut i32,
 ) -> Result<(), Refusal>
-    ensures done { OnOk result (ClientTakes state.old line.now state.new out.old out.new written.new entered.new) }
+    ensures takes { ClientTakes state.old line.now state.new out.old out.new written.new entered.new (returned result) }
     ensures refused { OnErr result ((state.new ≡ state.old) × (out.new ≡ out.old) × (written.new ≡ written.old)
         × (entered.new ≡ entered.old)) }
 {
@@ -90,7 +112,7 @@ fn take(
 }
 
 fn leave(state: &mut [u8], out: &mut [u8], written: &mut usize) -> Result<(), Refusal>
-    ensures done { OnOk result (ClientDoes steps.leave state.old state.new out.old out.new written.new) }
+    ensures leaves { ClientDoes steps.leave state.old state.new out.old out.new written.new (returned result) }
     ensures refused { OnErr result ((state.new ≡ state.old) × (out.new ≡ out.old) × (written.new ≡ written.old)) }
 {
     let mut client = load_client(state)?;
@@ -102,7 +124,7 @@ fn leave(state: &mut [u8], out: &mut [u8], written: &mut usize) -> Result<(), Re
 }
 
 fn give_up(state: &mut [u8], out: &mut [u8], written: &mut usize) -> Result<(), Refusal>
-    ensures done { OnOk result (ClientDoes steps.give_up state.old state.new out.old out.new written.new) }
+    ensures gives_up { ClientDoes steps.give_up state.old state.new out.old out.new written.new (returned result) }
     ensures refused { OnErr result ((state.new ≡ state.old) × (out.new ≡ out.old) × (written.new ≡ written.old)) }
 {
     let mut client = load_client(state)?;
@@ -114,16 +136,15 @@ fn give_up(state: &mut [u8], out: &mut [u8], written: &mut usize) -> Result<(), 
 }
 
 fn remind(state: &[u8], out: &mut [u8], written: &mut usize) -> Result<(), Refusal>
-    ensures done { OnOk result (ClientReminds state.now out.old out.new written.new) }
+    ensures reminds { ClientReminds state.now out.old out.new written.new (returned result) }
     ensures refused { OnErr result ((out.new ≡ out.old) × (written.new ≡ written.old)) }
 {
     let client = load_client(state)?;
-    put_to_voters(client.remind().as_slice(), out, written)?;
-    Ok(())
+    put_to_voters(client.remind().as_slice(), out, written)
 }
 
 fn forget(state: &mut [u8]) -> Result<(), Refusal>
-    ensures done { OnOk result (ClientForgets state.old state.new) }
+    ensures forgets { ClientForgets state.old state.new (returned result) }
     ensures refused { OnErr result (state.new ≡ state.old) }
 {
     let mut client = load_client(state)?;
@@ -132,32 +153,30 @@ fn forget(state: &mut [u8]) -> Result<(), Refusal>
     Ok(())
 }
 
-/// Returns these voters as a mask: bit i is 1 if voter i is among them.
-fn mask_of(voters: &[u8]) -> u64 {
-    let mut set = QSet::empty();
-    for voter in 0..64u8 {
-        if voters.contains(&voter) {
-            set.insert(voter);
-        }
-    }
-    set.bits()
-}
-
 fn shows(state: &[u8], phase: &mut i32, stamp: &mut u64, quorum: &mut u64) -> Result<(), Refusal>
+    ensures shows { ClientShows state.now phase.new stamp.new quorum.new (returned result) }
     ensures refused { OnErr result ((phase.new ≡ phase.old) × (stamp.new ≡ stamp.old) × (quorum.new ≡ quorum.old)) }
 {
     let client = load_client(state)?;
-    *phase = match client.phase() {
-        Phase::Idle => 0,
-        Phase::Asking => 1,
-        Phase::Inside => 2,
-    };
+    *phase = number_of_phase(client.phase());
     *stamp = client.stamp();
-    *quorum = mask_of(client.quorum());
+    *quorum = client.quorum_bits();
     Ok(())
 }
 
+fn number_of_phase(phase: Phase) -> i32
+    ensures { result ≡ pos (phase_word phase) }
+{
+    match phase {
+        Phase::Idle => 0,
+        Phase::Asking => 1,
+        Phase::Inside => 2,
+    }
+}
+
 fn grant(state: &[u8], voter: u8, grant: &mut u64) -> Result<(), Refusal>
+    ensures bad_argument { max_voters ≤ voter → returned result ≡ refused Refusal.BadArgument }
+    ensures shows { voter < max_voters → ClientShowsGrant state.now voter grant.new (returned result) }
     ensures refused { OnErr result (grant.new ≡ grant.old) }
 {
     if voter >= 64 {
@@ -168,33 +187,33 @@ fn grant(state: &[u8], voter: u8, grant: &mut u64) -> Result<(), Refusal>
     Ok(())
 }
 
-fn grants(state: &[u8], grants: &mut [u8]) -> Result<(), Refusal>
-    ensures refused { OnErr result (grants.new ≡ grants.old) }
+fn pass(state: &[u8], pass: &mut [u8]) -> Result<(), Refusal>
+    ensures bad_argument { length pass.old ≢ grant_bytes → returned result ≡ refused Refusal.BadArgument }
+    ensures shows { length pass.old ≡ grant_bytes → ClientShowsPass state.now pass.new (returned result) }
+    ensures refused { OnErr result (pass.new ≡ pass.old) }
 {
-    if grants.len() != GRANTS_BYTES {
+    if pass.len() != GRANTS_BYTES {
         return Err(Refusal::BadArgument);
     }
     let client = load_client(state)?;
-    let mut held = [0; MAX_VOTERS];
-    for voter in 0..64u8 {
-        held[voter as usize] = client.held(voter).unwrap_or(0);
+    match pass_of(&client) {
+        Some(shown) => {
+            store_grants(shown.grants(), pass);
+            Ok(())
+        }
+        None => Err(Refusal::NotInside),
     }
-    write_words(&held, grants);
-    Ok(())
 }
 
 /// Makes a new client with this number, 0 to 63. Its stamps go from 1 to the limit, which is 1 to
 /// 2^40.
 #[unsafe(no_mangle)]
 pub extern "C" fn qlock_client_new(id: u8, limit: u64, state: &mut [u8]) -> i32
-    // Where the call is refused, nothing is written. So it is with each call.
-    ensures refused { result ≢ pos 0 → state.new ≡ state.old }
-    ensures done { result ≡ pos 0 → state.new ≡ client_bytes (steps.start id limit) }
+    // A call that is refused writes nothing. So it is with each call.
+    ensures refused { result ≢ done → state.new ≡ state.old }
+    ensures made { IsMade id limit state.old (IsClient state.new (steps.start id limit)) result }
 {
-    match new(id, limit, state) {
-        Ok(()) => DONE,
-        Err(refusal) => refusal.number(),
-    }
+    number_of(new(id, limit, state))
 }
 
 /// Starts a request for the votes of a quorum, voter i if bit i is 1, and writes the lines of what to
@@ -206,14 +225,13 @@ pub extern "C" fn qlock_client_ask(
     out: &mut [u8],
     written: &mut usize,
 ) -> i32
-    ensures refused { result ≢ pos 0
+    ensures refused { result ≢ done
         → (state.new ≡ state.old) × (out.new ≡ out.old) × (written.new ≡ written.old) }
-    ensures done { result ≡ pos 0 → ClientDoes (λ x. steps.ask x (members_of quorum)) state.old state.new out.old out.new written.new }
+    ensures empty { members_of quorum ≡ [] → result ≡ refused Refusal.BadArgument }
+    ensures asks { 1 ≤ length (members_of quorum) → ClientDoes (λ x. steps.ask x (members_of quorum))
+        state.old state.new out.old out.new written.new result }
 {
-    match ask(state, quorum, out, written) {
-        Ok(()) => DONE,
-        Err(refusal) => refusal.number(),
-    }
+    number_of(ask(state, quorum, out, written))
 }
 
 /// Takes the line of a message to this client, without its newline. Writes the lines of what to send,
@@ -226,65 +244,49 @@ pub extern "C" fn qlock_client_take(
     written: &mut usize,
     entered: &mut i32,
 ) -> i32
-    ensures refused { result ≢ pos 0 → (state.new ≡ state.old) × (out.new ≡ out.old)
+    ensures refused { result ≢ done → (state.new ≡ state.old) × (out.new ≡ out.old)
         × (written.new ≡ written.old) × (entered.new ≡ entered.old) }
-    ensures done { result ≡ pos 0 → ClientTakes state.old line.now state.new out.old out.new written.new
-        entered.new }
+    ensures takes { ClientTakes state.old line.now state.new out.old out.new written.new entered.new result }
 {
-    match take(state, line, out, written, entered) {
-        Ok(()) => DONE,
-        Err(refusal) => refusal.number(),
-    }
+    number_of(take(state, line, out, written, entered))
 }
 
 /// Leaves, and writes the lines of what to send.
 #[unsafe(no_mangle)]
 pub extern "C" fn qlock_client_leave(state: &mut [u8], out: &mut [u8], written: &mut usize) -> i32
-    ensures refused { result ≢ pos 0
+    ensures refused { result ≢ done
         → (state.new ≡ state.old) × (out.new ≡ out.old) × (written.new ≡ written.old) }
-    ensures done { result ≡ pos 0 → ClientDoes steps.leave state.old state.new out.old out.new written.new }
+    ensures leaves { ClientDoes steps.leave state.old state.new out.old out.new written.new result }
 {
-    match leave(state, out, written) {
-        Ok(()) => DONE,
-        Err(refusal) => refusal.number(),
-    }
+    number_of(leave(state, out, written))
 }
 
 /// Gives up the request, and writes the lines of what to send.
 #[unsafe(no_mangle)]
 pub extern "C" fn qlock_client_give_up(state: &mut [u8], out: &mut [u8], written: &mut usize) -> i32
-    ensures refused { result ≢ pos 0
+    ensures refused { result ≢ done
         → (state.new ≡ state.old) × (out.new ≡ out.old) × (written.new ≡ written.old) }
-    ensures done { result ≡ pos 0 → ClientDoes steps.give_up state.old state.new out.old out.new written.new }
+    ensures gives_up { ClientDoes steps.give_up state.old state.new out.old out.new written.new result }
 {
-    match give_up(state, out, written) {
-        Ok(()) => DONE,
-        Err(refusal) => refusal.number(),
-    }
+    number_of(give_up(state, out, written))
 }
 
 /// Writes the lines of what to send again while asking, in case messages were lost.
 #[unsafe(no_mangle)]
 pub extern "C" fn qlock_client_remind(state: &[u8], out: &mut [u8], written: &mut usize) -> i32
-    ensures refused { result ≢ pos 0 → (out.new ≡ out.old) × (written.new ≡ written.old) }
-    ensures done { result ≡ pos 0 → ClientReminds state.now out.old out.new written.new }
+    ensures refused { result ≢ done → (out.new ≡ out.old) × (written.new ≡ written.old) }
+    ensures reminds { ClientReminds state.now out.old out.new written.new result }
 {
-    match remind(state, out, written) {
-        Ok(()) => DONE,
-        Err(refusal) => refusal.number(),
-    }
+    number_of(remind(state, out, written))
 }
 
 /// Forgets all but the least that has to survive a crash. The client is then idle.
 #[unsafe(no_mangle)]
 pub extern "C" fn qlock_client_forget(state: &mut [u8]) -> i32
-    ensures refused { result ≢ pos 0 → state.new ≡ state.old }
-    ensures done { result ≡ pos 0 → ClientForgets state.old state.new }
+    ensures refused { result ≢ done → state.new ≡ state.old }
+    ensures forgets { ClientForgets state.old state.new result }
 {
-    match forget(state) {
-        Ok(()) => DONE,
-        Err(refusal) => refusal.number(),
-    }
+    number_of(forget(state))
 }
 
 /// Writes the phase (0 idle, 1 asking, 2 inside), and the stamp and the quorum of the current or last
@@ -296,34 +298,30 @@ pub extern "C" fn qlock_client_shows(
     stamp: &mut u64,
     quorum: &mut u64,
 ) -> i32
-    ensures refused { result ≢ pos 0
+    ensures refused { result ≢ done
         → (phase.new ≡ phase.old) × (stamp.new ≡ stamp.old) × (quorum.new ≡ quorum.old) }
+    ensures shows { ClientShows state.now phase.new stamp.new quorum.new result }
 {
-    match shows(state, phase, stamp, quorum) {
-        Ok(()) => DONE,
-        Err(refusal) => refusal.number(),
-    }
+    number_of(shows(state, phase, stamp, quorum))
 }
 
 /// Writes the grant under which the vote of this voter is held, 0 if it is not held.
 #[unsafe(no_mangle)]
 pub extern "C" fn qlock_client_grant(state: &[u8], voter: u8, held: &mut u64) -> i32
-    ensures refused { result ≢ pos 0 → held.new ≡ held.old }
+    ensures refused { result ≢ done → held.new ≡ held.old }
+    ensures bad_argument { max_voters ≤ voter → result ≡ refused Refusal.BadArgument }
+    ensures shows { voter < max_voters → ClientShowsGrant state.now voter held.new result }
 {
-    match grant(state, voter, held) {
-        Ok(()) => DONE,
-        Err(refusal) => refusal.number(),
-    }
+    number_of(grant(state, voter, held))
 }
 
-/// Writes the grants under which the votes are held, 512 bytes: of each voter a number of 64 bits, 0
-/// if its vote is not held. A client that is inside shows them to the guard.
+/// Writes the pass of a client that is inside, 512 bytes: the grants by which it has its votes, of
+/// each voter a number of 64 bits, 0 if its vote is not held. The client shows it to the guard.
 #[unsafe(no_mangle)]
-pub extern "C" fn qlock_client_grants(state: &[u8], held: &mut [u8]) -> i32
-    ensures refused { result ≢ pos 0 → held.new ≡ held.old }
+pub extern "C" fn qlock_client_pass(state: &[u8], shown: &mut [u8]) -> i32
+    ensures refused { result ≢ done → shown.new ≡ shown.old }
+    ensures bad_argument { length shown.old ≢ grant_bytes → result ≡ refused Refusal.BadArgument }
+    ensures shows { length shown.old ≡ grant_bytes → ClientShowsPass state.now shown.new result }
 {
-    match grants(state, held) {
-        Ok(()) => DONE,
-        Err(refusal) => refusal.number(),
-    }
+    number_of(pass(state, shown))
 }

@@ -121,7 +121,7 @@ fn lines_to_voters(messages: &[ToVoter]) -> ArrayString<5120>
 /// Writes a text to the front of `out`, and how many bytes it has. Fails with `NoRoom` if `out` is
 /// too short.
 fn put(text: &str, out: &mut [u8], written: &mut usize) -> Result<(), Refusal>
-    ensures done { OnOk result (Writes text.now out.old out.new written.new) }
+    ensures done { OnOk result (Writes text.now out.old out.new written.new × (length text.now ≤ length out.old)) }
     ensures refused { IfErr result (λ refusal. (refusal ≡ Refusal.NoRoom) × (length out.old < length text.now)
         × (out.new ≡ out.old) × (written.new ≡ written.old)) }
 {
@@ -141,7 +141,8 @@ pub fn put_to_clients(
     written: &mut usize,
 ) -> Result<(), Refusal>
     requires { length messages.now ≤ 3 }
-    ensures done { OnOk result (Writes (lines_to_clients messages.now) out.old out.new written.new) }
+    ensures done { OnOk result (Writes (lines_to_clients messages.now) out.old out.new written.new
+        × (length (lines_to_clients messages.now) ≤ length out.old)) }
     ensures refused { IfErr result (λ refusal. (refusal ≡ Refusal.NoRoom)
         × (length out.old < length (lines_to_clients messages.now))
         × (out.new ≡ out.old) × (written.new ≡ written.old)) }
@@ -156,7 +157,8 @@ pub fn put_to_voters(
     written: &mut usize,
 ) -> Result<(), Refusal>
     requires { length messages.now ≤ 128 }
-    ensures done { OnOk result (Writes (lines_to_voters messages.now) out.old out.new written.new) }
+    ensures done { OnOk result (Writes (lines_to_voters messages.now) out.old out.new written.new
+        × (length (lines_to_voters messages.now) ≤ length out.old)) }
     ensures refused { IfErr result (λ refusal. (refusal ≡ Refusal.NoRoom)
         × (length out.old < length (lines_to_voters messages.now))
         × (out.new ≡ out.old) × (written.new ≡ written.old)) }

@@ -1,6 +1,6 @@
 //! Why a call did nothing, and the numbers that C sees.
-ghost use Rattle.std.specs.Prelude.{◌≡◌, ◌≢◌, pos};
-ghost use Rattle.qlock_c.specs.Numbers.{number_of};
+ghost use Rattle.std.specs.Prelude.{◌≡◌, ◌≢◌, OnErr, OnOk};
+ghost use Rattle.qlock_c.specs.Numbers.{client_refusal, done, refused, returned};
 
 use requester::ClientFault;
 use voter::VoterFault;
@@ -28,6 +28,8 @@ pub enum Refusal {
     GrantsSpent,
     /// The pass shows an older grant than the guard saw before.
     OlderGrant,
+    /// What is shown to the guard has no grant, so it is no pass.
+    NoPass,
 }
 
 /// What a call returns to C if it was done.
@@ -35,9 +37,8 @@ pub const DONE: i32 = 0;
 
 impl Refusal {
     /// Returns the number of this refusal.
-    pub fn number(self) -> i32
-        ensures number { result ≡ pos (number_of self) }
-        ensures some { result ≢ pos 0 }
+    fn number(self) -> i32
+        ensures { result ≡ refused self }
     {
         match self {
             Refusal::BadArgument => 1,
@@ -50,11 +51,25 @@ impl Refusal {
             Refusal::StampsSpent => 8,
             Refusal::GrantsSpent => 9,
             Refusal::OlderGrant => 10,
+            Refusal::NoPass => 13,
         }
     }
 }
 
+/// Returns what a call with this result returns to C.
+pub fn number_of(call: Result<(), Refusal>) -> i32
+    ensures number { result ≡ returned call }
+    ensures some { OnErr call (result ≢ done) }
+{
+    match call {
+        Ok(()) => DONE,
+        Err(refusal) => refusal.number(),
+    }
+}
+
 impl From<ClientFault> for Refusal {
+    ghost from_gives = { λ fault r. r ≡ client_refusal fault };
+
     fn from(fault: ClientFault) -> Self {
         match fault {
             ClientFault::Busy => Refusal::Busy,
@@ -66,6 +81,10 @@ impl From<ClientFault> for Refusal {
 }
 
 impl From<VoterFault> for Refusal {
+    ghost use Rattle.qlock_c.specs.declared.refusal.Refusal.TheVariants.{GrantsSpent};
+
+    ghost from_gives = { λ _ r. r ≡ GrantsSpent };
+
     fn from(fault: VoterFault) -> Self {
         match fault {
             VoterFault::GrantsSpent => Refusal::GrantsSpent,

@@ -1,12 +1,12 @@
 //! Voters, clients and guards as bytes.
-ghost use Rattle.std.specs.Prelude.{◌≡◌, IfOk, length};
-ghost use Rattle.requester.specs.Saved as client_saved;
-ghost use Rattle.voter.specs.Saved.{IsKept};
-ghost use Rattle.words.specs.WordBytes.{bytes_of};
-ghost use Rattle.qlock_c.specs.Bytes.{client_bytes, voter_bytes};
+ghost use Rattle.std.specs.Prelude.{◌≡◌, ◌≢◌, ℕ, List, IfErr, IfOk, length};
+ghost use Rattle.requester.specs.declared.state.ClientState.{ClientState};
+ghost use Rattle.voter.specs.declared.state.VoterState.{VoterState};
+ghost use Rattle.qlock_c.specs.Bytes.{AreGrants, IsClient, IsNoClient, IsNoVoter, IsVoter};
 
 use crate::refusal::Refusal;
 use arrayvec::ArrayVec;
+use numbers::MAX_VOTERS;
 use requester::Requester;
 use voter::Voter;
 use words::{read_words, write_words};
@@ -19,9 +19,11 @@ pub const GRANTS_BYTES: usize = 512;
 
 /// Returns the voter that was saved as these bytes. Fails with `BadState` if there is none.
 pub fn load_voter(state: &[u8]) -> Result<Voter, Refusal>
-    ensures kept { IfOk result IsKept }
-    ensures text { IfOk result (λ v. state.now ≡ voter_bytes v) }
+    ensures loaded { IfOk result (IsVoter state.now) }
+    // It is the only one.
+    ensures only { IfOk result (λ v. (w : VoterState) → IsVoter state.now w → w ≡ v) }
     ensures len { IfOk result (λ _. length state.now ≡ 1104) }
+    ensures refused { IfErr result (λ r. (r ≡ Refusal.BadState) × IsNoVoter state.now) }
 {
     if state.len() != STATE_BYTES {
         return Err(Refusal::BadState);
@@ -37,7 +39,7 @@ pub fn load_voter(state: &[u8]) -> Result<Voter, Refusal>
 /// Writes the bytes of a voter.
 pub fn store_voter(voter: &Voter, state: &mut [u8])
     requires { length state.old ≡ 1104 }
-    ensures { state.new ≡ voter_bytes voter.now }
+    ensures { IsVoter state.new voter.now }
 {
     let mut words = ArrayVec::new();
     voter.save(&mut words);
@@ -46,9 +48,11 @@ pub fn store_voter(voter: &Voter, state: &mut [u8])
 
 /// Returns the client that was saved as these bytes. Fails with `BadState` if there is none.
 pub fn load_client(state: &[u8]) -> Result<Requester, Refusal>
-    ensures kept { IfOk result client_saved.IsKept }
-    ensures text { IfOk result (λ x. state.now ≡ client_bytes x) }
+    ensures loaded { IfOk result (IsClient state.now) }
+    // It is the only one.
+    ensures only { IfOk result (λ x. (y : ClientState) → IsClient state.now y → y ≡ x) }
     ensures len { IfOk result (λ _. length state.now ≡ 1104) }
+    ensures refused { IfErr result (λ r. (r ≡ Refusal.BadState) × IsNoClient state.now) }
 {
     if state.len() != STATE_BYTES {
         return Err(Refusal::BadState);
@@ -64,19 +68,20 @@ pub fn load_client(state: &[u8]) -> Result<Requester, Refusal>
 /// Writes the bytes of a client.
 pub fn store_client(client: &Requester, state: &mut [u8])
     requires { length state.old ≡ 1104 }
-    ensures bytes { state.new ≡ client_bytes client.now }
-    ensures kept { client_saved.IsKept client.now }
+    ensures { IsClient state.new client.now }
 {
     let mut words = ArrayVec::new();
     client.save(&mut words);
     write_words(words.as_slice(), state);
 }
 
-/// Returns the number of each voter in these bytes. Fails with the given refusal unless there are
-/// 512 bytes.
-pub fn grants_of(bytes: &[u8], refusal: Refusal) -> Result<[u64; 64], Refusal>
-    ensures text { IfOk result (λ grants. bytes.now ≡ bytes_of grants) }
+/// Returns the grants in these bytes. Fails with the given refusal unless there are 512 bytes.
+pub fn load_grants(bytes: &[u8], refusal: Refusal) -> Result<[u64; MAX_VOTERS], Refusal>
+    ensures loaded { IfOk result (AreGrants bytes.now) }
+    // They are the only ones.
+    ensures only { IfOk result (λ grants. (others : List ℕ) → AreGrants bytes.now others → others ≡ grants) }
     ensures len { IfOk result (λ _. length bytes.now ≡ 512) }
+    ensures refused { IfErr result (λ r. (r ≡ refusal) × (length bytes.now ≢ 512)) }
 {
     if bytes.len() != GRANTS_BYTES {
         return Err(refusal);
@@ -86,4 +91,12 @@ pub fn grants_of(bytes: &[u8], refusal: Refusal) -> Result<[u64; 64], Refusal>
     let mut grants = [0; 64];
     grants.copy_from_slice(words.as_slice());
     Ok(grants)
+}
+
+/// Writes the bytes of these grants.
+pub fn store_grants(grants: &[u64; MAX_VOTERS], bytes: &mut [u8])
+    requires { length bytes.old ≡ 512 }
+    ensures { AreGrants bytes.new grants.now }
+{
+    write_words(grants, bytes);
 }

@@ -1,23 +1,28 @@
 //! The calls of a voter.
-ghost use Rattle.std.specs.Prelude.{◌≡◌, ◌≢◌, IfOk, OnErr, OnOk, pos};
-ghost use Rattle.message.specs.declared.message.Message.TheVariants as kinds;
-ghost use Rattle.message.specs.Lines.{HasLine, message_line};
+ghost use Rattle.std.specs.Prelude.{◌≡◌, ◌≢◌, ◌<◌, ◌≤◌, ℕ, IfErr, IfOk, OnErr, length};
+ghost use Rattle.message.specs.declared.message.ToVoter.{ToVoter};
+ghost use Rattle.numbers.specs.Bounds.{max_stamp, max_voters};
 ghost use Rattle.voter.specs.Steps.{start};
-ghost use Rattle.qlock_c.specs.Bytes.{voter_bytes};
-ghost use Rattle.qlock_c.specs.VoterSteps.{VoterReminds, VoterTakes};
+ghost use Rattle.qlock_c.specs.Bytes.{IsVoter};
+ghost use Rattle.qlock_c.specs.Lines.{IsToVoter};
+ghost use Rattle.qlock_c.specs.Made.{IsMade};
+ghost use Rattle.qlock_c.specs.Numbers.{done, returned};
+ghost use Rattle.qlock_c.specs.VoterSteps.{IsHeldBy, VoterReminds, VoterShowsHolder, VoterTakes};
 
 use crate::lines::put_to_clients;
-use crate::refusal::{DONE, Refusal};
+use crate::refusal::{Refusal, number_of};
 use crate::saved_bytes::{STATE_BYTES, load_voter, store_voter};
 use arrayvec::ArrayVec;
 use message::{Message, ToVoter, read_message};
 use numbers::MAX_STAMP;
-use voter::Voter;
+use voter::{Grant, Voter};
 
 /// Reads the line of a message to the voter with this number.
 fn read_to_voter(line: &[u8], id: u8) -> Result<ToVoter, Refusal>
-    ensures line { IfOk result (λ m. HasLine (kinds.ToVoter m) × (line.now ≡ message_line (kinds.ToVoter m))) }
-    ensures voter { IfOk result (λ m. m.voter ≡ id) }
+    ensures read { IfOk result (IsToVoter line.now id) }
+    // It is the only one.
+    ensures only { IfOk result (λ m. (n : ToVoter) → IsToVoter line.now id n → n ≡ m) }
+    ensures refused { IfErr result (λ r. (r ≡ Refusal.BadMessage) × ((n : ToVoter) → IsToVoter line.now id n → ⊥)) }
 {
     match read_message(line) {
         Ok(Message::ToVoter(message)) if message.voter == id => Ok(message),
@@ -26,7 +31,7 @@ fn read_to_voter(line: &[u8], id: u8) -> Result<ToVoter, Refusal>
 }
 
 fn new(id: u8, limit: u64, state: &mut [u8]) -> Result<(), Refusal>
-    ensures done { OnOk result (state.new ≡ voter_bytes (start id limit)) }
+    ensures made { IsMade id limit state.old (IsVoter state.new (start id limit)) (returned result) }
     ensures refused { OnErr result (state.new ≡ state.old) }
 {
     if id >= 64 || limit < 1 || limit > MAX_STAMP {
@@ -40,7 +45,7 @@ fn new(id: u8, limit: u64, state: &mut [u8]) -> Result<(), Refusal>
 }
 
 fn take(state: &mut [u8], line: &[u8], out: &mut [u8], written: &mut usize) -> Result<(), Refusal>
-    ensures done { OnOk result (VoterTakes state.old line.now state.new out.old out.new written.new) }
+    ensures takes { VoterTakes state.old line.now state.new out.old out.new written.new (returned result) }
     ensures refused { OnErr result ((state.new ≡ state.old) × (out.new ≡ out.old) × (written.new ≡ written.old)) }
 {
     let mut voter = load_voter(state)?;
@@ -53,39 +58,49 @@ fn take(state: &mut [u8], line: &[u8], out: &mut [u8], written: &mut usize) -> R
 }
 
 fn remind(state: &[u8], out: &mut [u8], written: &mut usize) -> Result<(), Refusal>
-    ensures done { OnOk result (VoterReminds state.now out.old out.new written.new) }
+    ensures reminds { VoterReminds state.now out.old out.new written.new (returned result) }
     ensures refused { OnErr result ((out.new ≡ out.old) × (written.new ≡ written.old)) }
 {
     let voter = load_voter(state)?;
-    put_to_clients(voter.remind().as_slice(), out, written)?;
-    Ok(())
+    put_to_clients(voter.remind().as_slice(), out, written)
+}
+
+/// Writes the client, the stamp and the number of a grant, three times 0 if there is none.
+fn show_grant(held: Option<Grant>, client: &mut u64, stamp: &mut u64, grant: &mut u64)
+    ensures { IsHeldBy held client.new stamp.new grant.new }
+{
+    match held {
+        Some(it) => {
+            *client = u64::from(it.client);
+            *stamp = it.stamp;
+            *grant = it.grant;
+        }
+        None => {
+            *client = 0;
+            *stamp = 0;
+            *grant = 0;
+        }
+    }
 }
 
 fn held(state: &[u8], client: &mut u64, stamp: &mut u64, grant: &mut u64) -> Result<(), Refusal>
-    ensures refused { OnErr result ((client.new ≡ client.old) × (stamp.new ≡ stamp.old) × (grant.new ≡ grant.old)) }
+    ensures shows { VoterShowsHolder state.now client.new stamp.new grant.new (returned result) }
+    ensures refused { OnErr result
+        ((client.new ≡ client.old) × (stamp.new ≡ stamp.old) × (grant.new ≡ grant.old)) }
 {
     let voter = load_voter(state)?;
-    let (holder, number, granted) = match voter.held() {
-        Some(held) => (u64::from(held.client), held.stamp, held.grant),
-        None => (0, 0, 0),
-    };
-    *client = holder;
-    *stamp = number;
-    *grant = granted;
+    show_grant(voter.held(), client, stamp, grant);
     Ok(())
 }
 
 /// Makes a new voter with this number, 0 to 63, that may give `limit` grants, 1 to 2^40.
 #[unsafe(no_mangle)]
 pub extern "C" fn qlock_voter_new(id: u8, limit: u64, state: &mut [u8]) -> i32
-    // Where the call is refused, nothing is written. So it is with each call.
-    ensures refused { result ≢ pos 0 → state.new ≡ state.old }
-    ensures done { result ≡ pos 0 → state.new ≡ voter_bytes (start id limit) }
+    // A call that is refused writes nothing. So it is with each call.
+    ensures refused { result ≢ done → state.new ≡ state.old }
+    ensures made { IsMade id limit state.old (IsVoter state.new (start id limit)) result }
 {
-    match new(id, limit, state) {
-        Ok(()) => DONE,
-        Err(refusal) => refusal.number(),
-    }
+    number_of(new(id, limit, state))
 }
 
 /// Takes the line of a message to this voter, without its newline, and writes the lines of the
@@ -97,26 +112,20 @@ pub extern "C" fn qlock_voter_take(
     out: &mut [u8],
     written: &mut usize,
 ) -> i32
-    ensures refused { result ≢ pos 0
+    ensures refused { result ≢ done
         → (state.new ≡ state.old) × (out.new ≡ out.old) × (written.new ≡ written.old) }
-    ensures done { result ≡ pos 0 → VoterTakes state.old line.now state.new out.old out.new written.new }
+    ensures takes { VoterTakes state.old line.now state.new out.old out.new written.new result }
 {
-    match take(state, line, out, written) {
-        Ok(()) => DONE,
-        Err(refusal) => refusal.number(),
-    }
+    number_of(take(state, line, out, written))
 }
 
 /// Writes the lines of what to send to the holder again, in case messages were lost.
 #[unsafe(no_mangle)]
 pub extern "C" fn qlock_voter_remind(state: &[u8], out: &mut [u8], written: &mut usize) -> i32
-    ensures refused { result ≢ pos 0 → (out.new ≡ out.old) × (written.new ≡ written.old) }
-    ensures done { result ≡ pos 0 → VoterReminds state.now out.old out.new written.new }
+    ensures refused { result ≢ done → (out.new ≡ out.old) × (written.new ≡ written.old) }
+    ensures reminds { VoterReminds state.now out.old out.new written.new result }
 {
-    match remind(state, out, written) {
-        Ok(()) => DONE,
-        Err(refusal) => refusal.number(),
-    }
+    number_of(remind(state, out, written))
 }
 
 /// Writes the client, the stamp and the number of the grant that holds the vote, three times 0 if
@@ -128,11 +137,9 @@ pub extern "C" fn qlock_voter_held(
     stamp: &mut u64,
     grant: &mut u64,
 ) -> i32
-    ensures refused { result ≢ pos 0
+    ensures refused { result ≢ done
         → (client.new ≡ client.old) × (stamp.new ≡ stamp.old) × (grant.new ≡ grant.old) }
+    ensures shows { VoterShowsHolder state.now client.new stamp.new grant.new result }
 {
-    match held(state, client, stamp, grant) {
-        Ok(()) => DONE,
-        Err(refusal) => refusal.number(),
-    }
+    number_of(held(state, client, stamp, grant))
 }

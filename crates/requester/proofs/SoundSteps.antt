@@ -17,6 +17,7 @@ use Rattle.requester.specs.declared.state.Phase.TheVariants.{Idle, Asking, Insid
 use Rattle.requester.specs.declared.state.Seen.{Seen}
 use Rattle.requester.specs.declared.state.Seen.TheVariants.{Nothing, Left}
 use Rattle.requester.specs.declared.state.ClientState.{ClientState}
+use Rattle.requester.specs.Leases.{anew}
 use Rattle.requester.specs.Words.{is_idle, is_asking, is_inside, members, is_member, is_current, held_of, holds, holds_under, is_covered, last_of, is_relinquished, is_inquired, is_spent}
 use Rattle.requester.specs.Soundness.{IsHeldWell, HasPlaces, IsSound}
 use Rattle.requester.specs.RequesterContract.{Accepts}
@@ -356,3 +357,7 @@ IsSound-step x GivesUp o s accepts e = IsSound-give_up x o s e
 
 pub IsSound-start : (id limit : ℕ) → id < 64 → 1 ≤ limit → limit ≤ 2 ^ 40 → IsSound (start id limit)
 IsSound-start id limit small some most = IsSound-clear_votes (start id limit) Idle refl small some most refl (omega arith) (omega arith) tt (λ busy. absurd-true_false true refl busy)
+
+pub IsSound-anew : (id limit clock : ℕ) → id < 64 → 1 ≤ limit → limit ≤ 2 ^ 40 → clock ≤ limit → IsSound (anew id limit clock)
+IsSound-anew id limit clock small some most within =
+    IsSound-clear_votes (anew id limit clock) Idle refl small some most refl within (omega arith) tt (λ busy. absurd-true_false true refl busy)

@@ -1,5 +1,6 @@
 pub mod Clocks
 pub mod Held
+pub mod Leases
 pub mod RequesterContract
 pub mod Saved
 pub mod Soundness

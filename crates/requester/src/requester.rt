@@ -4,15 +4,16 @@ ghost use Rattle.arrayvec.specs.ArrayVec.{array_vec_len};
 ghost use Rattle.requester.specs.declared.state.ClientState.{ClientState};
 ghost use Rattle.requester.specs.Saved.{IsKept, least_client, words_of};
 ghost use Rattle.requester.specs.Soundness.{IsSound};
-ghost use Rattle.requester.specs.Words.{grant_of, is_spent};
-ghost use Rattle.requester.specs.Steps.{Predicts, ask, give_up, leave, remind, start, take, would_hold};
+ghost use Rattle.quorum_set.specs.Words.{word_of};
+ghost use Rattle.requester.specs.Words.{grant_of, is_spent, members};
+ghost use Rattle.requester.specs.Leases.{anew, disclaim, renew};
+ghost use Rattle.requester.specs.Steps.{Predicts, ask, give_up, leave, remind, see, start, take, would_hold};
 
 use crate::fault::ClientFault;
-use crate::saved::SavedWords;
+use crate::saved::{SavedWords, set_of};
 use crate::state::{ClientState, Messages, Phase, Reminders, Reply, Seen};
 use arrayvec::ArrayVec;
 use message::ToClient;
-use numbers::MAX_VOTERS;
 use quorum_set::QSet;
 use std::marker::Model;
 
@@ -48,20 +49,36 @@ impl Requester {
         ensures { result ≡ start id limit }
     {
         Requester {
+            state: ClientState::new(id, limit),
+        }
+    }
+
+    /// Returns a client that lost its state, with a clock that is at least the stamp of its last
+    /// request. It is idle, and its next stamp is above the clock.
+    ///
+    /// If it used a greater stamp before, two of its requests may have one pass. The clock may come
+    /// from a file with one number, written ahead, or from what a quorum of voters has seen.
+    pub fn anew(id: u8, limit: u64, clock: u64) -> Self
+        requires id { id < max_clients }
+        requires least { 1 ≤ limit }
+        requires most { limit ≤ max_stamp }
+        requires clock { clock ≤ limit }
+        ensures { result ≡ anew id limit clock }
+    {
+        Requester {
             state: ClientState {
-                id,
-                limit,
-                clock: 0,
-                phase: Phase::Idle,
-                stamp: 0,
-                quorum: ArrayVec::new(),
-                held: [0; MAX_VOTERS],
-                last: [0; MAX_VOTERS],
-                failed: QSet::empty(),
-                relinquished: QSet::empty(),
-                inquired: QSet::empty(),
+                clock,
+                stamp: clock,
+                ..ClientState::new(id, limit)
             },
         }
+    }
+
+    /// Raises the clock to this stamp, if it is behind. The next request's stamp is above it.
+    pub fn raise(&mut self, clock: u64)
+        ensures { self.new ≡ see self.old clock }
+    {
+        self.state.clock = self.state.clock.max(clock);
     }
 
     /// Writes the client's state as numbers, in place of what was there. Restored from them, it is
@@ -131,6 +148,13 @@ impl Requester {
         ensures sound { IsSound self.now }
     {
         self.state.quorum.as_slice()
+    }
+
+    /// Returns the quorum of the current or last request as bits: bit i is 1 if voter i is a member.
+    pub fn quorum_bits(&self) -> u64
+        ensures { result ≡ word_of (members self.now) }
+    {
+        set_of(self.state.quorum.as_slice()).bits()
     }
 
     /// Returns whether no stamp is left for another request: whether the clock is at least the
@@ -230,6 +254,26 @@ impl Requester {
     {
         out.clear();
         self.state.take(message, out)
+    }
+
+    /// Returns what an idle client sends to end all its requests at these voters: RELEASE of its last
+    /// stamp to each, in ascending order, and nothing if it made no request. It may be sent at any time
+    /// while the client is idle, and again.
+    ///
+    /// Fails with `Busy` unless the client is idle.
+    pub fn disclaim(&self, voters: &QSet) -> Result<Messages, ClientFault>
+        ensures disclaimed { IfOk result (λ out. disclaim self.now voters.now ≡ Ok out.items) }
+        ensures refused { IfErr result (λ fault. disclaim self.now voters.now ≡ Err fault) }
+    {
+        self.state.disclaim(voters)
+    }
+
+    /// Returns what a client that is inside sends as a sign of life: REQUEST again to each member of
+    /// its quorum. A voter whose grant stands replies with LOCKED, and one that let it go with nothing.
+    pub fn renew(&self) -> Messages
+        ensures { result.items ≡ renew self.now }
+    {
+        self.state.renew()
     }
 
     /// Returns whether `take` would hold a vote for this message: whether it is a LOCKED that

@@ -165,7 +165,7 @@ impl ClientState {
 }
 
 /// Returns the set with these members.
-fn set_of(members: &[u8]) -> QSet
+pub fn set_of(members: &[u8]) -> QSet
     requires { IsSet members.now }
     ensures { result ≡ members.now }
 {

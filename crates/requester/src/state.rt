@@ -1,11 +1,12 @@
 //! What a client knows, and its steps.
-ghost use Rattle.std.specs.Prelude.{◌≡◌, ◌<◌, ◌≤◌, ◌+◌, ◌^◌, ◌++◌, [], true, ℕ, List, Err, IfErr, IfNone, IfOk, Ok, length, replicate};
+ghost use Rattle.std.specs.Prelude.{◌≡◌, ◌==◌, ◌<◌, ◌≤◌, ◌+◌, ◌^◌, ◌++◌, [], true, ℕ, List, Err, IfErr, IfNone, IfOk, Ok, length, replicate};
 ghost use Rattle.numbers.specs.Bounds.{max_voters};
 ghost use Rattle.arrayvec.specs.ArrayVec.{array_vec_len};
 ghost use Rattle.numbers.specs.Sets.{IsSet};
 ghost use Rattle.requester.specs.Words.{held_of, holds, holds_under, is_covered, is_current, is_hindered, is_idle, is_member, last_of};
 ghost use Rattle.requester.specs.Soundness.{AreMembers, HoldsOfMembers};
-ghost use Rattle.requester.specs.Steps.{Predicts, ask, clear_votes, take_fail, give_up, hold, take_inquire, is_fresh, leave, take_locked, relinquish, relinquish_inquired, relinquish_marked, remind, remind_member, take, take_body, tell, send_to_members, would_hold};
+ghost use Rattle.requester.specs.Steps.{Predicts, ask, clear_votes, take_fail, give_up, hold, take_inquire, is_fresh, leave, take_locked, relinquish, relinquish_inquired, relinquish_marked, remind, remind_member, take, take_body, tell, send_to_members, start, would_hold};
+ghost use Rattle.requester.specs.Leases.{disclaim, disclaim_unless, renew, send_to};
 
 use crate::fault::ClientFault;
 use arrayvec::ArrayVec;
@@ -81,6 +82,25 @@ pub struct ClientState {
 }
 
 impl ClientState {
+    /// Returns what a new client knows.
+    pub fn new(id: u8, limit: u64) -> Self
+        ensures { result ≡ start id limit }
+    {
+        ClientState {
+            id,
+            limit,
+            clock: 0,
+            phase: Phase::Idle,
+            stamp: 0,
+            quorum: ArrayVec::new(),
+            held: [0; MAX_VOTERS],
+            last: [0; MAX_VOTERS],
+            failed: QSet::empty(),
+            relinquished: QSet::empty(),
+            inquired: QSet::empty(),
+        }
+    }
+
     fn tell(&self, voter: u8, body: VoterBody) -> ToVoter
         ensures { result ≡ tell self.now voter body }
     {
@@ -91,14 +111,63 @@ impl ClientState {
         }
     }
 
+    fn send_to(&self, voters: &[u8], body: VoterBody, out: &mut Messages)
+        requires few { length voters.now ≤ max_voters }
+        requires room { out.old.items ≡ [] }
+        ensures { out.new.items ≡ send_to self.now voters.now body }
+    {
+        for v in voters {
+            out.push(self.tell(*v, body));
+        }
+    }
+
     fn send_to_members(&self, body: VoterBody, out: &mut Messages)
         requires few { array_vec_len self.now.quorum ≤ max_voters }
         requires room { out.old.items ≡ [] }
         ensures { out.new.items ≡ send_to_members self.now body }
     {
-        for v in self.quorum.as_slice() {
-            out.push(self.tell(*v, body));
+        self.send_to(self.quorum.as_slice(), body, out);
+    }
+
+    /// Appends the RELEASE of the last stamp to each of these voters, if there was a request.
+    fn disclaim_to(&self, voters: &QSet, out: &mut Messages)
+        requires room { out.old.items ≡ [] }
+        ensures { out.new.items ≡ disclaim_unless (self.now.stamp == 0) self.now voters.now }
+    {
+        if self.stamp > 0 {
+            let release = VoterBody::Release { stamp: self.stamp };
+            self.send_to(voters.members().as_slice(), release, out);
         }
+    }
+
+    /// Returns the RELEASE of the last stamp to each of these voters. Fails with `Busy` unless the
+    /// client is idle.
+    pub fn disclaim(&self, voters: &QSet) -> Result<Messages, ClientFault>
+        ensures disclaimed { IfOk result (λ out. disclaim self.now voters.now ≡ Ok out.items) }
+        ensures refused { IfErr result (λ fault. disclaim self.now voters.now ≡ Err fault) }
+    {
+        match self.phase {
+            Phase::Idle => {}
+            Phase::Asking | Phase::Inside => return Err(ClientFault::Busy),
+        }
+        let mut out = ArrayVec::new();
+        self.disclaim_to(voters, &mut out);
+        Ok(out)
+    }
+
+    /// Returns REQUEST for each member if the client is inside, else nothing.
+    pub fn renew(&self) -> Messages
+        requires few { array_vec_len self.now.quorum ≤ max_voters }
+        ensures { result.items ≡ renew self.now }
+    {
+        let mut out = ArrayVec::new();
+        match self.phase {
+            Phase::Idle | Phase::Asking => {}
+            Phase::Inside => {
+                self.send_to_members(VoterBody::Request { stamp: self.stamp }, &mut out);
+            }
+        }
+        out
     }
 
     pub fn is_member(&self, voter: u8) -> bool

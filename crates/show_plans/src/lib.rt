@@ -13,10 +13,10 @@
 //! Each call returns, fails only if memory runs out, and its text ends with `</svg>`. Nothing else is
 //! proved of what a picture shows. The private helper of the dots is a square root, rounded down.
 //! The drawn radius is clamped, and nothing is proved of it. The numbers in titles are computed from
-//! figures of `shown`, and from what calls of `certificate` and `dealer` return; that they are in
+//! figures of `show_words`, and from what calls of `certificate` and `dealer` return; that they are in
 //! their places is only tested.
 //!
-//! Depends on `svg` for the texts, on `shown` for figures, on `dealer` for cycles, and on
+//! Depends on `show_svg` for the texts, on `show_words` for figures, on `dealer` for cycles, and on
 //! `coterie_file` for names.
 //!
 //! ```

@@ -8,14 +8,14 @@
 //! # What is proved
 //!
 //! The document begins with `<!DOCTYPE html>` and ends with `</html>`. All of it is determined, letter
-//! by letter, as `specs/Reports.antt` defines it from the plan and the names, except its styles and
-//! the picture. In particular:
+//! by letter, as `specs/Reports.antt` defines it from the plan and the names, except its head, which
+//! has the styles, and the picture. In particular:
 //!
 //! - the figures of quorums and voters are those of `show_words`, and the numbers of the certificate
 //!   are those of `certificate`;
 //! - the voters without which no quorum is left have a common member with each quorum. If the page
 //!   says so many failures are borne without `at most`, no such set is smaller;
-//! - the slack is that of the even order of the plan, so no smaller one has its property;
+//! - the slack is that of the even order of the plan;
 //! - names have no sign that means something in HTML (law [`names_are_plain_in_html`]).
 //!
 //! Depends on `show_words` for figures, on `show_plans` for the picture, on `failures` and `even`, and

@@ -9,8 +9,8 @@
 //! # What is proved
 //!
 //! Each page is determined letter by letter: `specs/Rounds.antt` and `specs/EvenOrder.antt` define it
-//! from the plan and the names. The slack on the page is that of the plan's even cycle, so no smaller
-//! one has its property. A plan has one even cycle (law `even_orders_are_one` of `even`).
+//! from the plan and the names. The slack on the page is that of the plan's even cycle. A plan has one
+//! even cycle (law `even_orders_are_one` of `even`).
 //!
 //! Depends on `dealer` and `even` for the two orders, on `commands`, which draws the tickets by rounds
 //! and has the lines of an account, and on `show_words` for names.

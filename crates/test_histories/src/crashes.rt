@@ -4,7 +4,7 @@
 //! A deliver step names a message by its line. If that message was not sent, the step does nothing:
 //! so the same steps serve whatever survives.
 use arrayvec::ArrayVec;
-use fencing::pass_of;
+use fence::{Pass, pass_of};
 use message::{Message, ToClient, ToVoter, read_message};
 use requester::{Phase, Reply, Requester};
 use std::alloc::{AllocError, Global};
@@ -334,12 +334,11 @@ impl World {
         }
     }
 
-    /// Returns the stamp of a client and its pass, or nothing if there is none with this number.
-    pub(crate) fn pass(&self, client: u8) -> (u64, [u64; 64]) {
-        match self.clients.get(usize::from(client)) {
-            Some(client) => (client.stamp(), pass_of(client)),
-            None => (0, [0; 64]),
-        }
+    /// Returns the stamp of a client and its pass, or `None` if it is not inside or not there.
+    pub(crate) fn pass(&self, client: u8) -> Option<(u64, Pass)> {
+        let client = self.clients.get(usize::from(client))?;
+        let pass = pass_of(client)?;
+        Some((client.stamp(), pass))
     }
 
     /// Makes a step.

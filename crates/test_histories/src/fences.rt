@@ -1,6 +1,6 @@
 //! A guard and the passes that clients show it.
 use crate::crashes::{ALL, Step, World};
-use fence::Fence;
+use fence::{Fence, Pass};
 use std::alloc::{AllocError, Global};
 
 /// Client 1 enters under stamp 2. Client 0 has asked under stamp 1, and its request is slow.
@@ -29,7 +29,7 @@ fn shows(number: u64) -> [u64; 64] {
 }
 
 /// Returns whether each of two passes is admitted, the first one twice, and then the first one again.
-fn admitted(first: &[u64; 64], second: &[u64; 64]) -> [bool; 4] {
+fn admitted(first: &Pass, second: &Pass) -> [bool; 4] {
     let mut fence = Fence::new();
     [
         fence.admit(first),
@@ -39,30 +39,42 @@ fn admitted(first: &[u64; 64], second: &[u64; 64]) -> [bool; 4] {
     ]
 }
 
-/// The stamp of a client, and its pass.
-type Pass = (u64, [u64; 64]);
+#[test]
+fn zeros_are_no_pass(rt: HostRuntime) {
+    assert!(rt; Pass::of([0; 64]).is_none());
+}
 
-/// Returns the passes of client 1 and of client 0, each when it has just entered.
-fn passes(alloc: Global) -> Result<(Pass, Pass), AllocError> {
+/// The stamp of a client, and its pass; `None` if it is not inside.
+type Shown = Option<(u64, Pass)>;
+
+/// Returns what client 1 and client 0 show, each when it has just entered, and what client 1 shows
+/// after it left.
+fn shown(alloc: Global) -> Result<(Shown, Shown, Shown), AllocError> {
     let mut world = World::new(alloc, ALL)?;
     world.play(FIRST)?;
     let first = world.pass(1);
     world.play(SECOND)?;
-    Ok((first, world.pass(0)))
+    Ok((first, world.pass(0), world.pass(1)))
 }
 
 /// Returns whether the passes show grants 1 and 2 of voter 0, and the first one is refused after the
-/// second.
-fn fence_refuses_the_late_client(first: &[u64; 64], second: &[u64; 64]) -> bool {
-    (*first == shows(1))
-        & (*second == shows(2))
-        & (admitted(first, second) == [true, true, true, false])
+/// second. A client that left has no pass.
+fn fence_refuses_the_late_client(first: Shown, second: Shown, left: Shown) -> bool {
+    match (first, second) {
+        (Some((_, first)), Some((_, second))) => {
+            (*first.grants() == shows(1))
+                & (*second.grants() == shows(2))
+                & (admitted(&first, &second) == [true, true, true, false])
+                & left.is_none()
+        }
+        _ => false,
+    }
 }
 
 /// Returns whether the late client is refused.
 fn refuses_the_late_client(alloc: Global) -> Result<bool, AllocError> {
-    let ((_, first), (_, second)) = passes(alloc)?;
-    Ok(fence_refuses_the_late_client(&first, &second))
+    let (first, second, left) = shown(alloc)?;
+    Ok(fence_refuses_the_late_client(first, second, left))
 }
 
 #[test]
@@ -70,13 +82,22 @@ fn late_client_is_refused(rt: HostRuntime) {
     assert!(rt; refuses_the_late_client(rt.alloc()) == Ok(true));
 }
 
+/// Returns whether a guard that goes by these stamps in place of grants refuses the second client.
+fn refuses_by_stamps(first: u64, second: u64) -> bool {
+    match (Pass::of(shows(first)), Pass::of(shows(second))) {
+        (Some(first), Some(second)) => { admitted(&first, &second) == [true, true, false, true] }
+        _ => false,
+    }
+}
+
 /// Returns whether the stamps are 2 and 1, so that a guard that goes by them refuses the second client.
 fn stamps_refuse_the_second_client(alloc: Global) -> Result<bool, AllocError> {
-    let ((first, _), (second, _)) = passes(alloc)?;
-    Ok(
-        ((first, second) == (2, 1))
-            & (admitted(&shows(first), &shows(second)) == [true, true, false, true]),
-    )
+    match shown(alloc)? {
+        (Some((first, _)), Some((second, _)), _) => {
+            Ok(((first, second) == (2, 1)) & refuses_by_stamps(first, second))
+        }
+        _ => Ok(false),
+    }
 }
 
 #[test]

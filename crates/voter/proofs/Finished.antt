@@ -2,7 +2,7 @@
 use Rattle.std.proofs.Common.{◌≡◌, ℕ, ◌<◌, Bool, true, false, List, Option, Some, None, refl, sym, ap, subst, ◌∙◌, ◌⊎◌, inl, inr, arith, length}
 use Rattle.std.specs.Prelude.{slice_index, slice_set, max}
 use Rattle.std.proofs.lemmas.Bool.Decides.{nat_tests}
-use Rattle.std.proofs.lemmas.List.{get_or-set_same, get_or-set_other, set_past}
+use Rattle.std.proofs.lemmas.List.{get_or-set_same, get_or-set_other, length-set, set_past}
 use Rattle.std.proofs.lemmas.Bool.{cases_lt, cases_eq}
 use Rattle.message.specs.declared.request.Request.{Request}
 use Rattle.message.specs.declared.message.ToVoter.{ToVoter}
@@ -40,6 +40,9 @@ same-admit v c s = by_admit (λ o. Same v o.state) v c s (λ _. same-grant_front
 finished-take_release : (v : VoterState) (c s : ℕ) → (take_release v c s).state.finished ≡ (finish v c s).finished
 finished-take_release v c s = by_release (λ o. o.state.finished ≡ (finish v c s).finished) v c s (λ _. same-grant_front (free_vote (finish v c s))) (λ _ _. refl) (λ _ _. refl)
 
+places-take_release : (v : VoterState) (c s : ℕ) → length (take_release v c s).state.finished ≡ length v.finished
+places-take_release v c s = ap (λ (l : List ℕ). length l) (finished-take_release v c s) ∙ length-set v.finished c (max (slice_index v.finished c) s)
+
 max_cases : (a b : ℕ) → (max a b ≡ a) ⊎ (max a b ≡ b)
 max_cases a b = elim (cases_lt a b) [ inl less ↦ inr (grind (arith, nat_tests)) | inr least ↦ inl (grind (arith, nat_tests)) ]
 
@@ -75,6 +78,18 @@ finished-take_request v c s = by_request (λ o. FinishesBy v c (asks.Request s) 
         | inr new ↦ inr (new.0, let is = new.1 in omega arith)
       ]);
 })
+
+-- the number of finished stamps stays
+pub places-outcome_of : (v : VoterState) (c : ℕ) (b : VoterBody) → length (outcome_of v c b).state.finished ≡ length v.finished
+places-outcome_of v c (asks.Request s) = by_request (λ o. length o.state.finished ≡ length v.finished) (see v s) c s (record {
+  stale = λ _. refl;
+  repeated = λ _. refl;
+  only = λ _ _. ap (λ (l : List ℕ). length l) (same-admit (see v s) c s);
+  newer = λ _ t _ _. ap (λ (l : List ℕ). length l) (same-admit (take_release (see v s) c t).state c s) ∙ places-take_release (see v s) c t;
+})
+places-outcome_of v c (asks.Relinquish n) =
+    ap (λ (l : List ℕ). length l) (by_relinquish (λ o. Same v o.state) v c n refl (λ g _. same-grant_front (queue (free_vote v) g.client g.stamp)))
+places-outcome_of v c (asks.Release s) = places-take_release (see v s) c s
 
 pub FinishesBy-outcome_of : (v : VoterState) (c : ℕ) (b : VoterBody) → FinishesBy v c b (outcome_of v c b).state
 FinishesBy-outcome_of v c (asks.Request s) d = finished-take_request (see v s) c s d

@@ -2,6 +2,7 @@ pub mod AskedBack
 pub mod Cases
 pub mod Contract
 pub mod Effects
+pub mod EvictLemmas
 pub mod Finished
 pub mod Freeing
 pub mod Front

@@ -1,4 +1,5 @@
 pub mod Entries
+pub mod Leases
 pub mod Replies
 pub mod Saved
 pub mod Steps

@@ -1,11 +1,10 @@
 //! Laws: what is proved about the definitions.
 ghost use Rattle.std.specs.FinMap.{get};
-ghost use Rattle.std.specs.Prelude.{◌≡◌, ◌<◌, ◌≤◌, ◌⊎◌, ◌∷◌, ℕ, Some, false, length, slice_index};
+ghost use Rattle.std.specs.Prelude.{◌≡◌, ◌<◌, ◌≤◌, ◌⊎◌, ◌∷◌, ℕ, Some, false, slice_index};
 ghost use Rattle.numbers.specs.Bounds.{max_clients, max_stamp, max_voters};
 ghost use Rattle.message.specs.declared.message.ClientBody.TheVariants as to_client;
 ghost use Rattle.message.specs.declared.message.ToVoter.{ToVoter};
 ghost use Rattle.message.specs.declared.message.VoterBody.TheVariants as asks;
-ghost use Rattle.message.specs.Lines.{voter_number};
 ghost use Rattle.voter.specs.declared.state.Grant.{Grant};
 ghost use Rattle.voter.specs.declared.state.VoterState.{VoterState};
 ghost use Rattle.voter.specs.Entries.{AsksBack, Finishes, FinishesBy, KnowsUpTo, request_of};
@@ -44,12 +43,12 @@ pub fn voters_stay_sound()
     ensures steps { (v : VoterState) (m : ToVoter) (o : Outcome) → IsSound v → step v m ≡ Some o → IsSound o.state }
 {}
 
-/// A new voter can be saved and restored. It still can after any message of a client below 64 whose
-/// stamp or grant is not 0, and after all but the least of it is lost.
+/// A new voter can be saved and restored. It still can after any message of a client below 64, and
+/// after all but the least of it is lost.
 pub fn voters_stay_kept()
     ensures first { (id limit : ℕ) → id < max_voters → limit ≤ max_stamp → IsKept (start id limit) }
     ensures steps { (v : VoterState) (m : ToVoter) (o : Outcome) → IsKept v → m.client < max_clients
-        → 1 ≤ voter_number m.body → step v m ≡ Some o → length o.state.finished ≡ max_clients → IsKept o.state }
+        → step v m ≡ Some o → IsKept o.state }
     ensures least { (v : VoterState) → IsKept v → IsKept (least_voter v) }
 {}
 

@@ -2,7 +2,7 @@
 ghost use Rattle.std.specs.Prelude.{◌≡◌, ◌<◌, ◌≤◌, ◌+◌, ◌^◌, ◌∷◌, ◌++◌, [], true, slice_index};
 ghost use Rattle.arrayvec.specs.ArrayVec.{array_vec_len};
 ghost use Rattle.numbers.specs.Bounds.{max_clients};
-ghost use Rattle.voter.specs.Steps.{admit, again, ends_grant, grant_front, held_stamp, inquiry, is_before, is_grant, is_later, is_older, is_refused, is_up_to, needs_grant, outcome_of, join_queue, take_release, take_relinquish, remind, reply, take_request, take_request_beside, current_stamp};
+ghost use Rattle.voter.specs.Steps.{admit, again, ends_grant, grant_front, held_stamp, inquiry, is_before, is_grant, is_later, is_older, is_refused, is_up_to, needs_grant, outcome_of, join_queue, take_release, take_relinquish, remind, reply, start, take_request, take_request_beside, current_stamp};
 
 use crate::queue::{Queue, precedes};
 use arrayvec::ArrayVec;
@@ -54,6 +54,22 @@ pub struct VoterState {
 }
 
 impl VoterState {
+    /// Returns what a new voter knows.
+    pub fn new(id: u8, limit: u64) -> Self
+        ensures { result ≡ start id limit }
+    {
+        VoterState {
+            id,
+            limit,
+            held: None,
+            inquiring: false,
+            waiting: Queue::new(),
+            finished: [0; MAX_CLIENTS],
+            granted: 0,
+            seen: 0,
+        }
+    }
+
     fn reply(&self, client: u8, body: ClientBody) -> ToClient
         ensures { result ≡ reply self.now client body }
     {
@@ -89,7 +105,7 @@ impl VoterState {
     }
 
     /// Returns the highest finished stamp of this client, 0 if there is none.
-    fn finished_of(&self, client: u8) -> u64
+    pub fn finished_of(&self, client: u8) -> u64
         ensures { result ≡ slice_index self.now.finished client }
     {
         match self.finished.get(usize::from(client)) {
@@ -200,7 +216,7 @@ impl VoterState {
     }
 
     /// Returns the stamp of the client's current request: the one that holds the vote or waits.
-    fn current_stamp(&self, client: u8) -> Option<u64>
+    pub fn current_stamp(&self, client: u8) -> Option<u64>
         ensures { result ≡ current_stamp self.now client }
     {
         match self.held_stamp(client) {

@@ -1,17 +1,16 @@
-ghost use Rattle.std.specs.Prelude.{◌≡◌, ◌<◌, ◌≤◌, [], IfErr, IfOk, IfSome, OnErr, OnOk, None, Some};
+ghost use Rattle.std.specs.Prelude.{◌≡◌, ◌<◌, ◌≤◌, [], slice_index, IfErr, IfOk, IfSome, OnErr, OnOk, None, Some};
 ghost use Rattle.arrayvec.specs.ArrayVec.{array_vec_len};
 ghost use Rattle.numbers.specs.Bounds.{max_voters, max_clients, max_stamp};
-ghost use Rattle.voter.specs.Steps.{IsSound, effect_of, remind, start, step};
+ghost use Rattle.voter.specs.Leases.{evict, reborn, release_of};
+ghost use Rattle.voter.specs.Steps.{current_stamp, effect_of, remind, start, step};
 ghost use Rattle.voter.specs.declared.state.VoterState.{VoterState};
 ghost use Rattle.voter.specs.Saved.{IsKept, least_voter, words_of};
 
 use crate::fault::VoterFault;
-use crate::queue::Queue;
 use crate::saved::SavedWords;
 use crate::state::{Effect, Grant, Replies, VoterState};
 use arrayvec::ArrayVec;
-use message::ToVoter;
-use numbers::MAX_CLIENTS;
+use message::{ToVoter, VoterBody};
 use std::marker::Model;
 
 /// A voter: it has one vote, which it grants to one request at a time.
@@ -24,7 +23,7 @@ pub struct Voter {
 
 impl Model for Voter {
     ghost use Rattle.voter.specs.declared.state.VoterState.{VoterState};
-    ghost use Rattle.voter.specs.Steps.{IsSound};
+    ghost use Rattle.voter.specs.Saved.{IsKept};
     ghost use Rattle.voter.specs.contracts.state.VoterState as known;
 
     ghost Value = { VoterState };
@@ -33,7 +32,7 @@ impl Model for Voter {
 
     ghost view = { λ a. a.state };
 
-    ghost invariant = { λ a. IsSound a.state };
+    ghost invariant = { λ a. IsKept a.state };
 }
 
 impl Voter {
@@ -45,17 +44,36 @@ impl Voter {
         ensures { result ≡ start id limit }
     {
         Voter {
+            state: VoterState::new(id, limit),
+        }
+    }
+
+    /// Returns a voter that lost its state. It gave at most `above` grants before, and may give `limit`
+    /// grants in all, also 1 to 2^40.
+    ///
+    /// If it gave more, two clients may have one grant number. So make a voter with a limit below 2^40,
+    /// a *block* of grants; if it is lost, `above` is the end of its block.
+    pub fn reborn(id: u8, above: u64, limit: u64) -> Self
+        requires id { id < max_voters }
+        requires above { above ≤ limit }
+        requires most { limit ≤ max_stamp }
+        ensures { result ≡ reborn id above limit }
+    {
+        Voter {
             state: VoterState {
-                id,
-                limit,
-                held: None,
-                inquiring: false,
-                waiting: Queue::new(),
-                finished: [0; MAX_CLIENTS],
-                granted: 0,
-                seen: 0,
+                granted: above,
+                ..VoterState::new(id, limit)
             },
         }
+    }
+
+    /// Raises the number of grants that the voter may give, up to 2^40.
+    pub fn extend(&mut self, limit: u64)
+        requires least { self.old.limit ≤ limit }
+        requires most { limit ≤ max_stamp }
+        ensures { self.new ≡ record self.old { limit = limit } }
+    {
+        self.state.limit = limit;
     }
 
     /// Returns the voter's number.
@@ -70,6 +88,8 @@ impl Voter {
     pub fn save(&self, words: &mut SavedWords)
         ensures words { words.new.items ≡ words_of self.now }
         ensures len { array_vec_len words.new ≡ 138 }
+        // So it can be restored, whatever calls led to it.
+        ensures kept { IsKept self.now }
     {
         self.state.save(words);
     }
@@ -103,6 +123,61 @@ impl Voter {
         ensures { result ≡ self.now.held }
     {
         self.state.held
+    }
+
+    /// Returns the stamp of the client's request that holds the vote or waits, or `None`.
+    pub fn known(&self, client: u8) -> Option<u64>
+        ensures { result ≡ current_stamp self.now client }
+    {
+        self.state.current_stamp(client)
+    }
+
+    /// Returns the highest stamp of the client's requests that are finished here, 0 if there is none.
+    pub fn finished(&self, client: u8) -> u64
+        ensures { result ≡ slice_index self.now.finished client }
+    {
+        self.state.finished_of(client)
+    }
+
+    /// Returns the highest stamp that the voter saw.
+    pub fn seen(&self) -> u64
+        ensures { result ≡ self.now.seen }
+    {
+        self.state.seen
+    }
+
+    /// Lets the current grant go if it has this number, as a RELEASE of its client would. Otherwise
+    /// does nothing. Returns the replies, in order.
+    ///
+    /// This is for a client that died or stands still. It may still believe that it is inside, so what
+    /// the lock protects has to keep a guard: see the crate `leases`. Go by the number of a grant that
+    /// has lasted too long, and not by a stamp: the vote may be another client's by now.
+    ///
+    /// Fails with `GrantsSpent` if a request waits and no grant is left. The voter is then unchanged.
+    pub fn evict(&mut self, grant: u64) -> Result<Replies, VoterFault>
+        ensures evicted { IfOk result (λ replies.
+            evict self.old grant ≡ Some (record { replies = replies.items; state = self.new })) }
+        ensures refused { IfErr result (λ _. (evict self.old grant ≡ None) × (self.new ≡ self.old)) }
+        ensures id { self.new.id ≡ self.old.id }
+    {
+        match self.state.held {
+            Some(held) if held.grant == grant => {
+                let message = self.release_of(held);
+                self.take(&message)
+            }
+            _ => Ok(ArrayVec::new()),
+        }
+    }
+
+    /// Returns the RELEASE of a grant, as its client would send it.
+    fn release_of(&self, held: Grant) -> ToVoter
+        ensures { result ≡ release_of self.now held }
+    {
+        ToVoter {
+            client: held.client,
+            voter: self.id(),
+            body: VoterBody::Release { stamp: held.stamp },
+        }
     }
 
     /// Takes one message, and returns the replies, in order.

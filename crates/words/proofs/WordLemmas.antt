@@ -38,6 +38,14 @@ FitIn64Bits-more words after word fit small e =
 word_bytes : (word : ℕ) → length (to_le_bytes w64 word) ≡ 8
 word_bytes word = search rules
 
+pub length-bytes_of : (words : List ℕ) → length (bytes_of words) ≡ 8 * length words
+length-bytes_of [] = refl
+length-bytes_of (word ∷ words) =
+    let eight = word_bytes word in
+    let rest = length-bytes_of words in
+    let both = length-append (to_le_bytes w64 word) (bytes_of words) in
+    omega arith
+
 same_word : (a b : ℕ) → a < 2 ^ 64 → b < 2 ^ 64 → to_le_bytes w64 a ≡ to_le_bytes w64 b → a ≡ b
 same_word a b small other e = sym (from_le_bytes-to_le_bytes_8 a small) ∙ ap (from_le_bytes w64) e ∙ from_le_bytes-to_le_bytes_8 b other
 

@@ -15,7 +15,8 @@ pub use laws::bytes_have_one_reading;
 
 fn write_word(word: u64, place: &mut [u8])
     requires { length place.old ≡ 8 }
-    ensures { place.new ≡ to_le_bytes w64 word }
+    ensures text { place.new ≡ to_le_bytes w64 word }
+    ensures fits { word < 2 ^ 64 }
 {
     place.copy_from_slice(&word.to_le_bytes());
 }
@@ -23,7 +24,9 @@ fn write_word(word: u64, place: &mut [u8])
 /// Writes each number as eight bytes.
 pub fn write_words(words: &[u64], bytes: &mut [u8])
     requires { length bytes.old ≡ 8 * length words.now }
-    ensures { bytes.new ≡ bytes_of words.now }
+    ensures text { bytes.new ≡ bytes_of words.now }
+    // So these bytes have one reading.
+    ensures fit { FitIn64Bits words.now }
 {
     for i in 0..words.len() {
         write_word(words[i], &mut bytes[8 * i..8 * i + 8]);
@@ -45,6 +48,7 @@ pub fn read_words<const N: usize>(bytes: &[u8], words: &mut ArrayVec<u64, N>)
     requires { length bytes.now ≡ 8 * N }
     ensures text { bytes.now ≡ bytes_of words.new.items }
     ensures count { length words.new.items ≡ N }
+    ensures fit { FitIn64Bits words.new.items }
     // The bytes of these numbers are read as these numbers.
     ensures read { (numbers : List ℕ) → FitIn64Bits numbers → bytes.now ≡ bytes_of numbers → words.new.items ≡ numbers }
 {

@@ -414,10 +414,10 @@ save_ok b (OneVoter v) s ok = elim (within_or s.voters v) [
 sees_crash : (p q : Phase) → (is_inside q ≡ true → is_inside p ≡ true) → Sees p (crash_seen (is_inside p) (is_inside q)) q
 sees_crash Idle Idle h = refl
 sees_crash Idle Asking h = refl
-sees_crash Idle Inside h = h refl
+sees_crash Idle Inside h = (refl, refl)
 sees_crash Asking Idle h = refl
 sees_crash Asking Asking h = refl
-sees_crash Asking Inside h = h refl
+sees_crash Asking Inside h = (refl, refl)
 sees_crash Inside Idle h = (refl, refl)
 sees_crash Inside Asking h = (refl, refl)
 sees_crash Inside Inside h = refl

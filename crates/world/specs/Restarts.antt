@@ -71,11 +71,12 @@ forget (OneClient c) s = record s { clients = slice_set s.clients c (least_clien
 forget (OneVoter v) s = record s { voters = slice_set s.voters v (least_voter (voter_at s.voters v)) }
 forget Nobody s = s
 
--- a client that was inside, and is not inside after its restart, left by its crash
+-- what is seen of a crash, by whether the client was inside before it, and whether it is afterwards
 abbrev pub crash_seen : Bool → Bool → Seen
 crash_seen true true = Nothing
 crash_seen true false = Left
-crash_seen false inside = Nothing
+crash_seen false true = Entered
+crash_seen false false = Nothing
 
 -- the live client has this state
 abbrev pub come_back : Saved → ℕ → ClientState → Saved

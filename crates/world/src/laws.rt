@@ -18,8 +18,8 @@ use voter::{
     voters_meet_the_contract, voters_stay_sound,
 };
 
-/// What the steps of clients and of voters keep.
-fn parts_keep_their_rules()
+/// What the steps of clients and of voters keep: all that proofs about worlds use of both.
+pub fn parts_keep_their_rules()
     ensures clients { ClientLaws }
     ensures voters { VoterLaws }
 {

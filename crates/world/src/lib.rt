@@ -59,7 +59,8 @@ mod world;
 pub use fault::WorldFault;
 pub use laws::{
     at_most_one_is_inside, at_most_one_is_inside_with_restarts, later_passes_are_newer,
-    later_votes_have_greater_numbers, messages_are_in_range, steps_add, worlds_stay_coherent,
+    later_votes_have_greater_numbers, messages_are_in_range, parts_keep_their_rules, steps_add,
+    worlds_stay_coherent,
 };
 pub use step::{Event, Step, Stepped};
 pub use trace::{Trace, run};

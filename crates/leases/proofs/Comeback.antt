@@ -1,0 +1,703 @@
+-- exclusion comes back once all clients were idle
+use Rattle.std.proofs.Common.{◌≡◌, ℕ, ◌+◌, ◌<◌, ◌≤◌, Bool, true, false, List, [], ◌∷◌, ◌++◌, map, length, Option, Some, None, Result, Ok, Err, refl, sym, ap, subst, ◌∙◌, ◌⊎◌, inl, inr, arith}
+use Rattle.std.specs.Prelude.{is_some, nat_lt, slice_get, slice_set}
+use Rattle.std.specs.FinMap as fin
+use Rattle.std.specs.Ordering.{nat_cmp}
+use Rattle.std.specs.List.{AllByRecursion}
+use Rattle.std.proofs.lemmas.Bool.{false≢true, ltb-true}
+use Rattle.std.proofs.lemmas.Bool.Decides.{nat_tests}
+use Rattle.std.proofs.lemmas.Option.{none-some, same_Some}
+use Rattle.numbers.proofs.Lists.{AllByRecursion-append, AllByRecursion-get, AllByRecursion-weaker}
+use Rattle.message.specs.Lines.{voter_number}
+use Rattle.message.specs.declared.message.ToVoter.{ToVoter}
+use Rattle.message.specs.declared.message.ToClient.{ToClient}
+use Rattle.message.specs.declared.message.Message.{Message}
+use Rattle.message.specs.declared.message.Message.TheVariants as kinds
+use Rattle.message.specs.declared.message.VoterBody.{VoterBody}
+use Rattle.message.specs.declared.message.VoterBody.TheVariants as asks
+use Rattle.message.specs.declared.message.ClientBody.{ClientBody}
+use Rattle.message.specs.declared.message.ClientBody.TheVariants as to_client
+use Rattle.voter.specs.declared.state.Grant.{Grant}
+use Rattle.voter.specs.declared.state.VoterState.{VoterState}
+use Rattle.voter.specs.Replies.{AllCarry, AllReportPlace, ReportsPlace, seen_after}
+use Rattle.voter.specs.Saved.{least_voter}
+use Rattle.voter.specs.Steps as voter
+use Rattle.voter.specs.VoteMoves.{VoteMoves}
+use Rattle.voter.specs.VoterContract.{AllReport, Brings, IsEntry, ReportsVote}
+use Rattle.requester.specs.declared.fault.ClientFault.{ClientFault}
+use Rattle.requester.specs.declared.state.ClientState.{ClientState}
+use Rattle.requester.specs.declared.state.Seen.{Seen}
+use Rattle.requester.specs.declared.state.Seen.TheVariants.{Nothing, Entered, Left}
+use Rattle.requester.specs.RequesterContract.{Accepts, AllInRange, AllRepeat, AllSay, ComesInRange, IsLocked, RemindersInRange, Repeats, Says, SaysInRange, Locks}
+use Rattle.requester.specs.Saved.{least_client}
+use Rattle.requester.specs.Steps as client
+use Rattle.requester.specs.Words.{holds, holds_under, is_idle, last_of, members}
+use Rattle.world.specs.Ranges.{IsInRange, IsWithin, ReportsWithin}
+use Rattle.world.specs.Restarts.{Node, OneClient, OneVoter, Nobody, Saved, Happening, Goes, Saves, Forgets, Restarts, begin, happens, is_silent, save_unless}
+use Rattle.world.specs.Runs.{start}
+use Rattle.world.specs.Steps.{Dealing, client_at, client_did, voter_at}
+use Rattle.world.specs.Rules.{ClientLaws, VoterLaws}
+use Rattle.requester.specs.Soundness as sound
+use Rattle.requester.specs.declared.state.Phase.{Phase}
+use Rattle.requester.specs.declared.state.Phase.TheVariants.{Idle, Asking, Inside}
+use Rattle.requester.specs.Words.{is_inside}
+use Rattle.world.specs.declared.fault.WorldFault.{WorldFault}
+use Rattle.world.specs.declared.step.Step.TheVariants.{Ask, Deliver, Leave, GiveUp, RemindClient, RemindVoter, Exchange}
+use Rattle.world.specs.Restarts.{all_happen, come_back, if_there, receiver}
+use Rattle.world.specs.Runs.{AreLimits}
+use Rattle.world.specs.Steps.{Outcome, come, exchange, if_client, if_voter, next_ticket, quorum_dealt, step}
+use Rattle.world.specs.Visible.{DealsFrom, DoMeet, IsAmong, IsExclusive}
+use Rattle.leases.specs.Incidents.{Incident, Happens, Hears, IsReborn, StartsAnew, all_befall, be_reborn, befalls, hear, is_message, is_request_within, reborn}
+use Rattle.leases.specs.Comeback.{AllIdle, AreLawful, IsEviction, IsLawful, unseen}
+use Rattle.leases.proofs.Numbers.{AsksInRange, befalls_on, begin_on, both, length_map, nobody}
+use Rattle.world.proofs.Restarts.{SavedOk, all_ok}
+use Rattle.world.proofs.Reached.{accepts_among}
+use Rattle.world.proofs.Claims.{AskOk, IsClient, MessageOk, ReportOk, WorldOk, Bounds, put-same}
+use Rattle.world.proofs.Places.{client_at-set}
+use Rattle.world.proofs.Reached.{Given, start_ok}
+use Rattle.quorum_set.specs.declared.bridge.Side.{Side}
+use Rattle.quorum_set.specs.declared.bridge.Side.TheVariants.{First, Second}
+use Rattle.world.specs.Restarts.{save_and_send}
+use Rattle.world.specs.Steps.{after_client, after_voter, draw_of, say}
+use Rattle.leases.proofs.Numbers.{Told, Votes, brought, none_told, with_draw, Naming, Numbered, count, set_client, set_voter}
+
+-- ---- what is reached
+
+abbrev AskedBody : ClientState → ℕ → VoterBody → Type 0
+AskedBody x v (asks.Request s) = s ≤ x.stamp
+AskedBody x v (asks.Relinquish g) = g ≤ last_of x v
+AskedBody x v (asks.Release s) = s ≤ x.stamp
+
+abbrev SaidBody : ℕ → ClientState → ClientBody → Type 0
+SaidBody limit x (to_client.Locked s g) = (s ≤ x.stamp) × IsWithin limit s × IsWithin limit g
+SaidBody limit x (to_client.Fail s) = IsWithin limit s
+SaidBody limit x (to_client.Inquire g) = IsWithin limit g
+
+abbrev Fits : Bounds → List ClientState → Message → Type 0
+Fits b clients (kinds.ToVoter m) = AskedBody (client_at clients m.client) m.voter m.body × IsWithin b.limit (voter_number m.body)
+Fits b clients (kinds.ToClient m) = (m.seen ≤ b.limit) × SaidBody b.limit (client_at clients m.client) m.body
+
+record VoterFits (b : Bounds) (clients : List ClientState) (y : VoterState) : Type 0 where
+  entries : (c s : ℕ) → IsEntry y c s → s ≤ (client_at clients c).stamp
+  numbered : (g : Grant) → y.held ≡ Some g → 1 ≤ g.grant
+  seen : y.seen ≤ b.limit
+
+record NotBehind (x y : ClientState) : Type 0 where
+  stamp : x.stamp ≤ y.stamp
+  last : (v : ℕ) → last_of x v ≤ last_of y v
+
+record Settled (b : Bounds) (s : Saved) : Type 0 where
+  sent : AllByRecursion (Fits b s.clients) s.live.sent
+  live_voters : (v : ℕ) → VoterFits b s.clients (voter_at s.live.voters v)
+  voters : (v : ℕ) → VoterFits b s.clients (voter_at s.voters v)
+  behind : (c : ℕ) → NotBehind (client_at s.clients c) (client_at s.live.clients c)
+  last : (c v : ℕ) → last_of (client_at s.live.clients c) v ≤ b.limit
+
+self : (x : ClientState) → NotBehind x x
+self x = record { stamp = omega arith; last = λ v. omega arith }
+
+join : (x y z : ClientState) → NotBehind x y → NotBehind y z → NotBehind x z
+join x y z one two = record {
+  stamp = (let a = one.stamp in let c = two.stamp in omega arith);
+  last = λ v. let a = one.last v in let c = two.last v in omega arith;
+}
+
+asked_on : (x y : ClientState) (v : ℕ) (body : VoterBody) → NotBehind x y → AskedBody x v body → AskedBody y v body
+asked_on x y v (asks.Request s) on is = let a = on.stamp in omega arith
+asked_on x y v (asks.Relinquish g) on is = let a = on.last v in omega arith
+asked_on x y v (asks.Release s) on is = let a = on.stamp in omega arith
+
+said_on : (limit : ℕ) (x y : ClientState) (body : ClientBody) → NotBehind x y → SaidBody limit x body → SaidBody limit y body
+said_on limit x y (to_client.Locked s g) on is = let a = on.stamp in let c = is.0 in (omega arith, is.1, is.2)
+said_on limit x y (to_client.Fail s) on is = is
+said_on limit x y (to_client.Inquire g) on is = is
+
+fits_on : (b : Bounds) (l k : List ClientState) → ((c : ℕ) → NotBehind (client_at l c) (client_at k c)) → (m : Message) → Fits b l m → Fits b k m
+fits_on b l k on (kinds.ToVoter m) is = (asked_on (client_at l m.client) (client_at k m.client) m.voter m.body (on m.client) is.0, is.1)
+fits_on b l k on (kinds.ToClient m) is = (is.0, said_on b.limit (client_at l m.client) (client_at k m.client) m.body (on m.client) is.1)
+
+voter_fits_on : (b : Bounds) (l k : List ClientState) → ((c : ℕ) → NotBehind (client_at l c) (client_at k c)) → (y : VoterState) → VoterFits b l y → VoterFits b k y
+voter_fits_on b l k on y is = record {
+  entries = λ c s e. let a = is.entries c s e in let r = (on c).stamp in omega arith;
+  numbered = is.numbered;
+  seen = is.seen;
+}
+
+-- a saved client goes on, not past the live one
+saved_goes : (b : Bounds) (s : Saved) → Settled b s → (c : ℕ) (x : ClientState) → NotBehind (client_at s.clients c) x → NotBehind x (client_at s.live.clients c)
+    → Settled b (record s { clients = slice_set s.clients c x })
+saved_goes b s ok c x from to =
+    let k = slice_set s.clients c x in
+    let on : (q : ℕ) → NotBehind (client_at s.clients q) (client_at k q) = set_client (λ q y. NotBehind (client_at s.clients q) y) s.clients c x from (λ q. self (client_at s.clients q)) in
+    record {
+      sent = AllByRecursion-weaker (Fits b s.clients) (Fits b k) (fits_on b s.clients k on) s.live.sent ok.sent;
+      live_voters = λ v. voter_fits_on b s.clients k on (voter_at s.live.voters v) (ok.live_voters v);
+      voters = λ v. voter_fits_on b s.clients k on (voter_at s.voters v) (ok.voters v);
+      behind = set_client (λ q y. NotBehind y (client_at s.live.clients q)) s.clients c x to ok.behind;
+      last = ok.last;
+    }
+
+-- a live client goes on
+live_goes : (b : Bounds) (s : Saved) → Settled b s → (c : ℕ) (x : ClientState) → NotBehind (client_at s.clients c) x → ((v : ℕ) → last_of x v ≤ b.limit)
+    → Settled b (record s { live = record s.live { clients = slice_set s.live.clients c x } })
+live_goes b s ok c x from few = record {
+  sent = ok.sent;
+  live_voters = ok.live_voters;
+  voters = ok.voters;
+  behind = set_client (λ q y. NotBehind (client_at s.clients q) y) s.live.clients c x from ok.behind;
+  last = set_client (λ q y. (v : ℕ) → last_of y v ≤ b.limit) s.live.clients c x few ok.last;
+}
+
+-- ---- a client's messages
+
+asked_says : (x y : ClientState) (cause : client.Cause) → x.stamp ≤ y.stamp → ((v s g : ℕ) → IsLocked cause v s g → s ≤ x.stamp) → (v : ℕ) (body : VoterBody) → Says x cause y v body → AskedBody y v body
+asked_says x y cause rises came v (asks.Request s) says = let same = says in omega arith
+asked_says x y cause rises came v (asks.Relinquish g) says = let same = says.0 in omega arith
+asked_says x y cause rises came v (asks.Release s) says = elim says [
+  | inl own ↦ (let same = own.0 in omega arith)
+  | inr other ↦ (let known = came v s other.0.0 other.0.1 in omega arith)
+]
+
+number_says : (b : Bounds) (x y : ClientState) (cause : client.Cause) → y.limit ≡ b.limit → ((v g : ℕ) → holds_under x v g ≡ true → g ≤ b.limit) → (v : ℕ) (body : VoterBody) → Says x cause y v body
+    → SaysInRange y.limit body → IsWithin b.limit (voter_number body)
+number_says b x y cause limit held v (asks.Request s) says within = let most = within.1 in (within.0, omega arith)
+number_says b x y cause limit held v (asks.Relinquish g) says within = (within, held v g says.1)
+number_says b x y cause limit held v (asks.Release s) says within = let most = within.1 in (within.0, omega arith)
+
+out_fits : (b : Bounds) (l : List ClientState) (c : ℕ) (x y : ClientState) (cause : client.Cause) → client_at l c ≡ y → x.id ≡ c → x.stamp ≤ y.stamp → ((v s g : ℕ) → IsLocked cause v s g → s ≤ x.stamp)
+    → y.limit ≡ b.limit → ((v g : ℕ) → holds_under x v g ≡ true → g ≤ b.limit) → (out : List ToVoter) → AllSay x cause y out → AllInRange cause y out → AllByRecursion (Fits b l) (map kinds.ToVoter out)
+out_fits b l c x y cause at id rises came limit held [] say range = tt
+out_fits b l c x y cause at id rises came limit held (m ∷ ms) say range = (
+  (
+    subst (λ (z : ClientState). AskedBody z m.voter m.body) (sym (ap (λ k. client_at l k) (say.0.0 ∙ id) ∙ at)) (asked_says x y cause rises came m.voter m.body say.0.1),
+    number_says b x y cause limit held m.voter m.body say.0.1 range.0.2,
+  ),
+  out_fits b l c x y cause at id rises came limit held ms say.1 range.1,
+)
+
+repeated : (x : ClientState) (v : ℕ) (body : VoterBody) → Repeats x v body → AskedBody x v body
+repeated x v (asks.Request s) says = let same = says in omega arith
+repeated x v (asks.Relinquish g) says = let same = says in omega arith
+repeated x v (asks.Release s) says = absurd says
+
+number_repeats : (b : Bounds) (x : ClientState) → x.limit ≡ b.limit → ((v : ℕ) → last_of x v ≤ b.limit) → (v : ℕ) (body : VoterBody) → Repeats x v body → SaysInRange x.limit body → IsWithin b.limit (voter_number body)
+number_repeats b x limit last v (asks.Request s) says within = let most = within.1 in (within.0, omega arith)
+number_repeats b x limit last v (asks.Relinquish g) says within = let most = last v in let same = says in (within, omega arith)
+number_repeats b x limit last v (asks.Release s) says within = absurd says
+
+repeats_fit : (b : Bounds) (l : List ClientState) (c : ℕ) (x : ClientState) → client_at l c ≡ x → x.id ≡ c → x.limit ≡ b.limit → ((v : ℕ) → last_of x v ≤ b.limit) → (out : List ToVoter) → AllRepeat x out
+    → RemindersInRange x out → AllByRecursion (Fits b l) (map kinds.ToVoter out)
+repeats_fit b l c x at id limit last [] say range = tt
+repeats_fit b l c x at id limit last (m ∷ ms) say range = (
+  (
+    subst (λ (z : ClientState). AskedBody z m.voter m.body) (sym (ap (λ k. client_at l k) (say.0.0 ∙ id) ∙ at)) (repeated x m.voter m.body say.0.1),
+    number_repeats b x limit last m.voter m.body say.0.1 range.0.2,
+  ),
+  repeats_fit b l c x at id limit last ms say.1 range.1,
+)
+
+-- ---- a voter's step
+
+seen_within : (limit seen : ℕ) (body : VoterBody) → seen ≤ limit → IsWithin limit (voter_number body) → seen_after seen body ≤ limit
+seen_within limit seen (asks.Request s) h within = let most = within.1 in omega arith
+seen_within limit seen (asks.Relinquish g) h within = h
+seen_within limit seen (asks.Release s) h within = let most = within.1 in omega arith
+
+new_numbered : (w : VoterState) (n : ℕ) (h : Grant) → w.held ≡ Some h → h.grant ≡ n + 1 → (g : Grant) → w.held ≡ Some g → 1 ≤ g.grant
+new_numbered w n h is number g held =
+    let same : h ≡ g = same_Some h g (sym is ∙ held) in
+    let here = ap (λ (k : Grant). k.grant) same in
+    omega arith
+
+numbered_after : (frees : Bool) (y w : VoterState) → VoteMoves frees y w → ((g : Grant) → y.held ≡ Some g → 1 ≤ g.grant) → (g : Grant) → w.held ≡ Some g → 1 ≤ g.grant
+numbered_after true y w moves was = elim moves [
+  | inl ends ↦ λ g held. absurd (none-some g (sym ends.held ∙ held))
+  | inr new ↦ new_numbered w y.granted new.grant new.held new.number
+]
+numbered_after false y w moves was = elim moves [
+  | inl stays ↦ λ g held. was g (sym stays.held ∙ held)
+  | inr new ↦ new_numbered w y.granted new.1.grant new.1.held new.1.number
+]
+
+brought_reached : (l : List ClientState) (v c : ℕ) (body : VoterBody) → AskedBody (client_at l c) v body → (d s : ℕ) → Brings c body d s → s ≤ (client_at l d).stamp
+brought_reached l v c (asks.Request t) asked d s brings = subst (λ (k : ℕ). s ≤ (client_at l k).stamp) (sym brings.0) (let same = brings.1 in let low = asked in omega arith)
+brought_reached l v c (asks.Relinquish g) asked d s brings = absurd brings
+brought_reached l v c (asks.Release t) asked d s brings = absurd brings
+
+voter_after : VoterLaws → (b : Bounds) (l : List ClientState) (y : VoterState) → voter.IsSound y → VoterFits b l y → (m : ToVoter) → Fits b l (kinds.ToVoter m) → (o : voter.Outcome) → voter.step y m ≡ Some o → VoterFits b l o.state
+voter_after laws b l y sound ok m fits o is =
+    let meets = laws.meets y m o is in
+    let carry = laws.carries y m o is in
+    record {
+      entries = λ c s e. elim (meets.entries c s e) [ inl was ↦ ok.entries c s was | inr brings ↦ brought_reached l m.voter m.client m.body fits.0 c s brings ];
+      numbered = numbered_after (voter.effect_of y m).frees y o.state (laws.numbers y m o sound is) ok.numbered;
+      seen = (let same = carry.seen in let most = seen_within b.limit y.seen m.body ok.seen fits.1 in omega arith);
+    }
+
+-- what a voter knows beside: its entries have stamps in range, and its grants are within the limit
+record VoterKnown (b : Bounds) (y : VoterState) : Type 0 where
+  sound : voter.IsSound y
+  limit : y.limit ≤ b.limit
+  stamps : (c s : ℕ) → IsEntry y c s → IsWithin b.limit s
+
+grant_within : (b : Bounds) (l : List ClientState) (y : VoterState) → VoterKnown b y → VoterFits b l y → (g : Grant) → y.held ≡ Some g → IsWithin b.limit g.grant
+grant_within b l y known fits g is =
+    let least = fits.numbered g is in
+    let given = known.sound.numbered g is in
+    let most = known.sound.granted in
+    let far = known.limit in
+    (least, omega arith)
+
+said_by : (b : Bounds) (l : List ClientState) (y : VoterState) → VoterKnown b y → VoterFits b l y → (c : ℕ) (body : ClientBody) → ReportsVote y.held c body → ReportsPlace y c body → SaidBody b.limit (client_at l c) body
+said_by b l y known fits c (to_client.Locked s g) vote place =
+    let e : IsEntry y c s = inl (record { client = c; stamp = s; grant = g }, vote, refl, refl) in
+    (fits.entries c s e, known.stamps c s e, grant_within b l y known fits (record { client = c; stamp = s; grant = g }) vote)
+said_by b l y known fits c (to_client.Fail s) vote place = known.stamps c s (inr place)
+said_by b l y known fits c (to_client.Inquire g) vote place = subst (λ n. IsWithin b.limit n) place.3 (grant_within b l y known fits place.0 place.1)
+
+replies_fit : (b : Bounds) (l : List ClientState) (y : VoterState) → VoterKnown b y → VoterFits b l y → (id seen : ℕ) → seen ≤ b.limit → (rs : List ToClient) → AllReport y.held rs → AllReportPlace y rs → AllCarry id seen rs
+    → AllByRecursion (Fits b l) (map kinds.ToClient rs)
+replies_fit b l y known fits id seen few [] report place carry = tt
+replies_fit b l y known fits id seen few (r ∷ rs) report place carry = (
+  ((let same = carry.0.1 in omega arith), said_by b l y known fits r.client r.body report.0 place.0),
+  replies_fit b l y known fits id seen few rs report.1 place.1 carry.1,
+)
+
+-- ---- what the naming knows beside
+
+known_of : (b : Bounds) (G : Naming) (v : ℕ) (y : VoterState) → Votes b G v y → VoterKnown b y
+known_of b G v y is = record { sound = is.sound; limit = is.limit; stamps = λ c s e. (is.entries c s e).1 }
+
+held_within : (b : Bounds) (G : Naming) (s : Saved) → Numbered b G s → (c v g : ℕ) → holds_under (client_at s.live.clients c) v g ≡ true → g ≤ b.limit
+held_within b G s num c v g has =
+    let few = ((num.live_clients c).votes v g has).1 in
+    let y = num.voters v in
+    let most = y.sound.granted in
+    let far = y.limit in
+    omega arith
+
+client_set_same : (cs : List ClientState) (c : ℕ) (x : ClientState) → c < length cs → client_at (slice_set cs c x) c ≡ x
+client_set_same cs c x within = ap (λ (f : ℕ → ClientState). f c) (client_at-set cs c x within) ∙ put-same (client_at cs) c x
+
+-- ---- what clients do
+
+record Steps (b : Bounds) (s : Saved) (c : ℕ) (cause : client.Cause) : Type 0 where
+  within : c < b.clients
+  accepts : Accepts (client_at s.live.clients c) cause
+  came : (v t g : ℕ) → IsLocked cause v t g → (t ≤ (client_at s.live.clients c).stamp) × IsWithin b.limit t
+
+silent_none : (n : ℕ) (seen : Seen) → is_silent n seen ≡ true → n ≡ 0
+silent_none n Nothing e = grind (arith, nat_tests)
+silent_none n Entered e = absurd (false≢true e)
+silent_none n Left e = absurd (false≢true e)
+
+settle_by : (b : Bounds) (s : Saved) (c : ℕ) (o : client.Outcome) (silent : Bool) → is_silent (length o.out) o.seen ≡ silent
+    → Settled b (record s { live = record s.live { clients = slice_set s.live.clients c o.state } }) → NotBehind (client_at s.clients c) o.state
+    → AllByRecursion (Fits b (slice_set s.clients c (client_at (slice_set s.live.clients c o.state) c))) (map kinds.ToVoter o.out) → client_at (slice_set s.live.clients c o.state) c ≡ o.state
+    → Settled b (save_unless silent (OneClient c) (record s { live = (client_did s.live c o).state }))
+settle_by b s c o true e gone from out at = record {
+  sent = AllByRecursion-append (Fits b s.clients) s.live.sent (map kinds.ToVoter o.out) gone.sent (none_told (Fits b s.clients) kinds.ToVoter o.out (silent_none (length o.out) o.seen e));
+  live_voters = gone.live_voters;
+  voters = gone.voters;
+  behind = gone.behind;
+  last = gone.last;
+}
+settle_by b s c o false e gone from out at =
+    let z = client_at (slice_set s.live.clients c o.state) c in
+    let u = saved_goes b (record s { live = record s.live { clients = slice_set s.live.clients c o.state } }) gone c z (subst (λ (y : ClientState). NotBehind (client_at s.clients c) y) (sym at) from) (self z) in
+    record {
+      sent = AllByRecursion-append (Fits b (slice_set s.clients c z)) s.live.sent (map kinds.ToVoter o.out) u.sent out;
+      live_voters = u.live_voters;
+      voters = u.voters;
+      behind = u.behind;
+      last = u.last;
+    }
+
+client_settles : (b : Bounds) → Given b → (G : Naming) (s : Saved) → Numbered b G s → Settled b s → (c : ℕ) (cause : client.Cause) → Steps b s c cause → (o : client.Outcome)
+    → client.step (client_at s.live.clients c) cause ≡ Ok o → (silent : Bool) → is_silent (length o.out) o.seen ≡ silent → Settled b (save_unless silent (OneClient c) (record s { live = (client_did s.live c o).state }))
+client_settles b given G s num st c cause go o is silent e =
+    let x = client_at s.live.clients c in
+    let y = o.state in
+    let was = num.live_clients c in
+    let kept = given.client.meets x cause o was.sound go.accepts is in
+    let on : NotBehind x y = record { stamp = kept.later.stamp; last = kept.later.last } in
+    let few : (v : ℕ) → last_of y v ≤ b.limit = λ v. elim (kept.last v) [ inl same ↦ (let most = st.last c v in omega arith) | inr held ↦ held_within b G s num c v (last_of y v) held ] in
+    let from = join (client_at s.clients c) x y (st.behind c) on in
+    let gone = live_goes b s st c y from few in
+    let lim = was.limit go.within in
+    let comes : ComesInRange x.limit cause = λ v t g locks. subst (λ n. IsWithin n t) (sym lim) (go.came v t g locks).1 in
+    let range = given.client.ranges x cause o was.sound go.accepts comes is in
+    settle_by b s c o silent e gone from
+    (out_fits b (slice_set s.clients c (client_at (slice_set s.live.clients c y) c)) c x y cause
+    (client_set_same s.clients c (client_at (slice_set s.live.clients c y) c) (subst (λ n. c < n) (sym num.sizes.2) go.within) ∙ client_set_same s.live.clients c y (subst (λ n. c < n) (sym num.sizes.0) go.within))
+    (was.id go.within) on.stamp (λ v t g locks. (go.came v t g locks).0) (kept.limit ∙ lim) (λ v g has. held_within b G s num c v g has) o.out kept.out range)
+    (client_set_same s.live.clients c y (subst (λ n. c < n) (sym num.sizes.0) go.within))
+
+with_draw_settled : (b : Bounds) (s : Saved) → Settled b s → (side : Side) (c : ℕ) → Settled b (record s { live = draw_of side s.live c })
+with_draw_settled b s st First c = record { sent = st.sent; live_voters = st.live_voters; voters = st.voters; behind = st.behind; last = st.last }
+with_draw_settled b s st Second c = record { sent = st.sent; live_voters = st.live_voters; voters = st.voters; behind = st.behind; last = st.last }
+
+client_tries : (b : Bounds) → Given b → (G : Naming) (s : Saved) → Numbered b G s → Settled b s → (c : ℕ) (cause : client.Cause) → Steps b s c cause
+    → (r : Result client.Outcome ClientFault) → client.step (client_at s.live.clients c) cause ≡ r → Settled b (save_and_send s (OneClient c) (after_client s.live c r))
+client_tries b given G s num st c cause go (Ok o) is = client_settles b given G s num st c cause go o is (is_silent (length o.out) o.seen) refl
+client_tries b given G s num st c cause go (Err fault) is = st
+
+client_draws : (b : Bounds) → Given b → (G : Naming) (s : Saved) → Numbered b G s → Settled b s → (c : ℕ) (cause : client.Cause) → Steps b s c cause
+    → (side : Side) (r : Result client.Outcome ClientFault) → client.step (client_at s.live.clients c) cause ≡ r → Settled b (save_and_send s (OneClient c) (after_client (draw_of side s.live c) c r))
+client_draws b given G s num st c cause go First (Ok o) is =
+    client_settles b given G (record s { live = draw_of First s.live c }) (with_draw b G s num First c) (with_draw_settled b s st First c) c cause
+    (record { within = go.within; accepts = go.accepts; came = go.came }) o is (is_silent (length o.out) o.seen) refl
+client_draws b given G s num st c cause go Second (Ok o) is =
+    client_settles b given G (record s { live = draw_of Second s.live c }) (with_draw b G s num Second c) (with_draw_settled b s st Second c) c cause
+    (record { within = go.within; accepts = go.accepts; came = go.came }) o is (is_silent (length o.out) o.seen) refl
+client_draws b given G s num st c cause go side (Err fault) is = st
+
+client_says : (b : Bounds) → Given b → (G : Naming) (s : Saved) → Numbered b G s → Settled b s → (c : ℕ) → c < b.clients → (n : ℕ) → n ≡ length (client.remind (client_at s.live.clients c))
+    → (silent : Bool) → is_silent n Nothing ≡ silent
+    → Settled b (save_unless silent (OneClient c) (record s { live = (say s.live (map kinds.ToVoter (client.remind (client_at s.live.clients c)))).state }))
+client_says b given G s num st c within n many true e = record {
+  sent = AllByRecursion-append (Fits b s.clients) s.live.sent (map kinds.ToVoter (client.remind (client_at s.live.clients c))) st.sent
+      (none_told (Fits b s.clients) kinds.ToVoter (client.remind (client_at s.live.clients c)) (let none : n ≡ 0 = grind (arith, nat_tests) in omega arith));
+  live_voters = st.live_voters;
+  voters = st.voters;
+  behind = st.behind;
+  last = st.last;
+}
+client_says b given G s num st c within n many false e =
+    let x = client_at s.live.clients c in
+    let was = num.live_clients c in
+    let u = saved_goes b s st c x (st.behind c) (self x) in
+    let k = slice_set s.clients c x in
+    record {
+      sent = AllByRecursion-append (Fits b k) s.live.sent (map kinds.ToVoter (client.remind x)) u.sent
+          (repeats_fit b k c x (client_set_same s.clients c x (subst (λ q. c < q) (sym num.sizes.2) within)) (was.id within) (was.limit within) (st.last c) (client.remind x)
+          (given.client.repeats x) (given.client.reminders x was.sound));
+      live_voters = u.live_voters;
+      voters = u.voters;
+      behind = u.behind;
+      last = u.last;
+    }
+
+-- ---- what voters do
+
+live_voter_settled : (b : Bounds) (s : Saved) → Settled b s → (v : ℕ) (z : VoterState) → VoterFits b s.clients z → Settled b (record s { live = record s.live { voters = slice_set s.live.voters v z } })
+live_voter_settled b s st v z fits = record {
+  sent = st.sent;
+  live_voters = set_voter (λ q y. VoterFits b s.clients y) s.live.voters v z fits st.live_voters;
+  voters = st.voters;
+  behind = st.behind;
+  last = st.last;
+}
+
+saved_voter_settled : (b : Bounds) (s : Saved) → Settled b s → (v : ℕ) (z : VoterState) → VoterFits b s.clients z → Settled b (record s { voters = slice_set s.voters v z })
+saved_voter_settled b s st v z fits = record {
+  sent = st.sent;
+  live_voters = st.live_voters;
+  voters = set_voter (λ q y. VoterFits b s.clients y) s.voters v z fits st.voters;
+  behind = st.behind;
+  last = st.last;
+}
+
+voter_speaks : (b : Bounds) (s : Saved) → Settled b s → (v : ℕ) (rs : List ToClient) → AllByRecursion (Fits b s.clients) (map kinds.ToClient rs) → (silent : Bool)
+    → Settled b (save_unless silent (OneVoter v) (record s { live = record s.live { sent = s.live.sent ++ map kinds.ToClient rs } }))
+voter_speaks b s st v rs fits true = record {
+  sent = AllByRecursion-append (Fits b s.clients) s.live.sent (map kinds.ToClient rs) st.sent fits;
+  live_voters = st.live_voters;
+  voters = st.voters;
+  behind = st.behind;
+  last = st.last;
+}
+voter_speaks b s st v rs fits false = record {
+  sent = AllByRecursion-append (Fits b s.clients) s.live.sent (map kinds.ToClient rs) st.sent fits;
+  live_voters = st.live_voters;
+  voters = set_voter (λ q y. VoterFits b s.clients y) s.voters v (voter_at s.live.voters v) (st.live_voters v) st.voters;
+  behind = st.behind;
+  last = st.last;
+}
+
+voter_tries : (b : Bounds) → Given b → (G : Naming) (s : Saved) → Numbered b G s → Settled b s → (m : ToVoter) → Told b G (count s.voters) (kinds.ToVoter m) → Fits b s.clients (kinds.ToVoter m)
+    → (r : Option voter.Outcome) → voter.step (voter_at s.live.voters m.voter) m ≡ r → Settled b (save_and_send s (OneVoter m.voter) (after_voter s.live m.voter r))
+voter_tries b given G s num st m told fits None is = st
+voter_tries b given G s num st m told fits (Some o) is =
+    let v = m.voter in
+    let y = voter_at s.live.voters v in
+    let was = num.live_voters v in
+    let laws = given.voter in
+    let carries = laws.carries y m o is in
+    let meets = laws.meets y m o is in
+    let after = voter_after laws b s.clients y was.sound (st.live_voters v) m fits o is in
+    let known : VoterKnown b o.state = record {
+      sound = laws.stays y m o was.sound is;
+      limit = (let same = carries.limit in let most = was.limit in omega arith);
+      stamps = λ c t e. elim (meets.entries c t e) [ inl old ↦ (was.entries c t old).1 | inr brings ↦ (brought b m.client m.body told.0 told.2 c t brings).1 ];
+    } in
+    let u = live_voter_settled b s st v o.state after in
+    voter_speaks b (record s { live = record s.live { voters = slice_set s.live.voters v o.state } }) u v o.replies
+    (replies_fit b s.clients o.state known after y.id (seen_after y.seen m.body) (seen_within b.limit y.seen m.body (st.live_voters v).seen fits.1) o.replies meets.heard
+    (laws.answers y m o was.sound is).place carries.carried) (is_silent (length o.replies) Nothing)
+
+voter_reminds : (b : Bounds) → Given b → (G : Naming) (s : Saved) → Numbered b G s → Settled b s → (v n : ℕ)
+    → Settled b (save_unless (is_silent n Nothing) (OneVoter v) (record s { live = (say s.live (map kinds.ToClient (voter.remind (voter_at s.live.voters v)))).state }))
+voter_reminds b given G s num st v n =
+    let y = voter_at s.live.voters v in
+    voter_speaks b s st v (voter.remind y)
+    (replies_fit b s.clients y (known_of b G v y (num.live_voters v)) (st.live_voters v) y.id y.seen (st.live_voters v).seen (voter.remind y) (given.voter.reminds y) (given.voter.places y) (given.voter.remembers y))
+    (is_silent n Nothing)
+
+-- ---- steps of the world
+
+settled_if : (b : Bounds) (s : Saved) → Settled b s → (who : Node) (t : Bool) (c : ℕ) (next : Result Outcome WorldFault) → (t ≡ true → Settled b (save_and_send s who next)) → Settled b (save_and_send s who (if_client t c next))
+settled_if b s st who true c next then = then refl
+settled_if b s st who false c next then = st
+
+settled_if_voter : (b : Bounds) (s : Saved) → Settled b s → (who : Node) (t : Bool) (v : ℕ) (next : Result Outcome WorldFault) → (t ≡ true → Settled b (save_and_send s who next)) → Settled b (save_and_send s who (if_voter t v next))
+settled_if_voter b s st who true v next then = then refl
+settled_if_voter b s st who false v next then = st
+
+settled_there : (b : Bounds) (s t : Saved) → Settled b s → (there : Bool) → Settled b t → Settled b (if_there there t s)
+settled_there b s t st true then = then
+settled_there b s t st false then = st
+
+settled_exchange : (b : Bounds) (s : Saved) → Settled b s → (two : Bool) (side : Side) → Settled b (save_and_send s Nobody (exchange two side s.live))
+settled_exchange b s st true First = record { sent = st.sent; live_voters = st.live_voters; voters = st.voters; behind = st.behind; last = st.last }
+settled_exchange b s st true Second = st
+settled_exchange b s st false side = st
+
+locks_reached : (b : Bounds) (x : ClientState) (sender : ℕ) (body : ClientBody) → SaidBody b.limit x body → (v t g : ℕ) → Locks sender body v t g → (t ≤ x.stamp) × IsWithin b.limit t
+locks_reached b x sender (to_client.Locked stamp grant) is v t g locks = (let same = locks.1 in let low = is.0 in omega arith, subst (λ n. IsWithin b.limit n) (sym locks.1) is.1)
+locks_reached b x sender (to_client.Fail stamp) is v t g locks = absurd locks
+locks_reached b x sender (to_client.Inquire grant) is v t g locks = absurd locks
+
+settled_came : (b : Bounds) → Given b → (G : Naming) (s : Saved) → Numbered b G s → Settled b s → (k : ℕ) (o : Option Message) → ((m : Message) → o ≡ Some m → Told b G (count s.voters) m)
+    → ((m : Message) → o ≡ Some m → Fits b s.clients m) → Settled b (save_and_send s (receiver o) (come s.live k o))
+settled_came b given G s num st k None told fits = st
+settled_came b given G s num st k (Some (kinds.ToVoter m)) told fits =
+    voter_tries b given G s num st m (told (kinds.ToVoter m) refl) (fits (kinds.ToVoter m) refl) (voter.step (voter_at s.live.voters m.voter) m) refl
+settled_came b given G s num st k (Some (kinds.ToClient m)) told fits =
+    let is = told (kinds.ToClient m) refl in
+    let fit = fits (kinds.ToClient m) refl in
+    let few = given.limits.few_voters in
+    let least = is.1 in
+    let said = said_on b.limit (client_at s.clients m.client) (client_at s.live.clients m.client) m.body (st.behind m.client) fit.1 in
+    client_tries b given G s num st m.client (client.Takes m)
+    (record {
+      within = is.0;
+      accepts = (sym ((num.live_clients m.client).id is.0), omega arith);
+      came = λ v t g locks. locks_reached b (client_at s.live.clients m.client) m.voter m.body said v t g locks;
+    })
+    (client.step (client_at s.live.clients m.client) (client.Takes m)) refl
+
+settled_happens : (b : Bounds) → Given b → (deal : Dealing) → DealsFrom b.quorums deal → (G : Naming) (s : Saved) → Numbered b G s → Settled b s → (h : Happening) → Settled b (happens deal s h)
+unfolding step
+settled_happens b given deal deals G s num st (Goes (Ask c)) = settled_if b s st (OneClient c) (nat_lt c (length s.live.clients)) c _ (λ t.
+    let q = quorum_dealt deal s.live.side (next_ticket s.live) in
+    client_draws b given G s num st c (client.Asks q)
+    (record { within = subst (λ n. c < n) num.sizes.0 (ltb-true _ _ t); accepts = accepts_among b given.meet q (deals s.live.side (next_ticket s.live)); came = λ v u g never. absurd never }) s.live.side _ refl)
+settled_happens b given deal deals G s num st (Goes (Deliver k)) =
+    settled_came b given G s num st k (slice_get s.live.sent k) (λ m is. AllByRecursion-get (Told b G (count s.voters)) s.live.sent k m num.told is) (λ m is. AllByRecursion-get (Fits b s.clients) s.live.sent k m st.sent is)
+settled_happens b given deal deals G s num st (Goes (Leave c)) = settled_if b s st (OneClient c) (nat_lt c (length s.live.clients)) c _ (λ t.
+    client_tries b given G s num st c client.Leaves (record { within = subst (λ n. c < n) num.sizes.0 (ltb-true _ _ t); accepts = tt; came = λ v u g never. absurd never }) _ refl)
+settled_happens b given deal deals G s num st (Goes (GiveUp c)) = settled_if b s st (OneClient c) (nat_lt c (length s.live.clients)) c _ (λ t.
+    client_tries b given G s num st c client.GivesUp (record { within = subst (λ n. c < n) num.sizes.0 (ltb-true _ _ t); accepts = tt; came = λ v u g never. absurd never }) _ refl)
+settled_happens b given deal deals G s num st (Goes (RemindClient c)) = settled_if b s st (OneClient c) (nat_lt c (length s.live.clients)) c _ (λ t.
+    client_says b given G s num st c (subst (λ n. c < n) num.sizes.0 (ltb-true _ _ t)) (length (map kinds.ToVoter (client.remind (client_at s.live.clients c))))
+    (length_map kinds.ToVoter (client.remind (client_at s.live.clients c))) (is_silent (length (map kinds.ToVoter (client.remind (client_at s.live.clients c)))) Nothing) refl)
+settled_happens b given deal deals G s num st (Goes (RemindVoter v)) = settled_if_voter b s st (OneVoter v) (nat_lt v (length s.live.voters)) v _
+    (λ t. voter_reminds b given G s num st v (length (map kinds.ToClient (voter.remind (voter_at s.live.voters v)))))
+settled_happens b given deal deals G s num st (Goes Exchange) = settled_exchange b s st (is_some deal.second) s.live.side
+settled_happens b given deal deals G s num st (Saves Nobody) = st
+settled_happens b given deal deals G s num st (Saves (OneClient c)) = saved_goes b s st c (client_at s.live.clients c) (st.behind c) (self (client_at s.live.clients c))
+settled_happens b given deal deals G s num st (Saves (OneVoter v)) = saved_voter_settled b s st v (voter_at s.live.voters v) (st.live_voters v)
+settled_happens b given deal deals G s num st (Forgets Nobody) = st
+settled_happens b given deal deals G s num st (Forgets (OneClient c)) =
+    let behind = st.behind c in
+    saved_goes b s st c (least_client (client_at s.clients c)) (record { stamp = omega arith; last = λ v. omega arith }) (record { stamp = behind.stamp; last = behind.last })
+settled_happens b given deal deals G s num st (Forgets (OneVoter v)) =
+    let was = st.voters v in
+    saved_voter_settled b s st v (least_voter (voter_at s.voters v)) (record {
+      entries = λ c t e. elim e [ inl held ↦ was.entries c t (inl held) | inr waits ↦ absurd (none-some t (sym (fin.get-empty nat_cmp c) ∙ waits)) ];
+      numbered = was.numbered;
+      seen = omega arith;
+    })
+settled_happens b given deal deals G s num st (Restarts Nobody) = st
+settled_happens b given deal deals G s num st (Restarts (OneClient c)) =
+    let u = live_goes b s st c (client_at s.clients c) (self (client_at s.clients c)) (λ v. let less = (st.behind c).last v in let most = st.last c v in omega arith) in
+    settled_there b s (come_back s c (client_at s.clients c)) st (nat_lt c (length s.live.clients))
+    (record { sent = u.sent; live_voters = u.live_voters; voters = u.voters; behind = u.behind; last = u.last })
+settled_happens b given deal deals G s num st (Restarts (OneVoter v)) = live_voter_settled b s st v (voter_at s.voters v) (st.voters v)
+
+-- ---- evictions and rebirths
+
+reborn_fits : (b : Bounds) (l : List ClientState) (y : VoterState) (above : ℕ) → VoterFits b l (reborn y above)
+reborn_fits b l y above = record {
+  entries = λ c t e. elim e [ inl held ↦ absurd (none-some held.0 held.1) | inr waits ↦ absurd (none-some t (sym (fin.get-empty nat_cmp c) ∙ waits)) ];
+  numbered = λ g held. absurd (none-some g held);
+  seen = omega arith;
+}
+
+settled_reborn : (b : Bounds) (s : Saved) → Settled b s → (v above : ℕ) (t : Bool) → Settled b (be_reborn t s v above)
+settled_reborn b s st v above false = st
+settled_reborn b s st v above true =
+    let z = reborn (voter_at s.live.voters v) above in
+    let u = live_voter_settled b s st v z (reborn_fits b s.clients (voter_at s.live.voters v) above) in
+    saved_voter_settled b (record s { live = record s.live { voters = slice_set s.live.voters v z } }) u v z (reborn_fits b s.clients (voter_at s.live.voters v) above)
+
+evicted_fits : (b : Bounds) (G : Naming) (s : Saved) → Numbered b G s → Settled b s → (m : ToVoter) → IsEviction s m → (Fits b s.clients (kinds.ToVoter m)) × AsksInRange b.limit m.body
+evicted_fits b G s num st m is =
+    let g = is.grant in
+    let entry : IsEntry (voter_at s.live.voters m.voter) g.client g.stamp = inl (g, is.held, refl, refl) in
+    let reached = (st.live_voters m.voter).entries g.client g.stamp entry in
+    let stamp = ((num.live_voters m.voter).entries g.client g.stamp entry).1 in (
+      (
+        subst (λ (k : ℕ). AskedBody (client_at s.clients k) m.voter m.body) (sym is.client) (subst (λ (body : VoterBody). AskedBody (client_at s.clients g.client) m.voter body) (sym is.body) reached),
+        subst (λ (body : VoterBody). IsWithin b.limit (voter_number body)) (sym is.body) stamp,
+      ),
+      subst (λ (body : VoterBody). AsksInRange b.limit body) (sym is.body) tt,
+    )
+
+settled_hears : (b : Bounds) → Given b → (G : Naming) (s : Saved) → Numbered b G s → Settled b s → (m : ToVoter) → IsEviction s m → Settled b (hear s m)
+settled_hears b given G s num st m is = settled_if_voter b s st (OneVoter m.voter) (nat_lt m.voter (length s.live.voters)) m.voter _ (λ t.
+    settled_if b s st (OneVoter m.voter) (is_message s m) m.client _ (λ u.
+    let parts = both (nat_lt m.client (length s.live.clients)) (is_request_within (voter_at s.live.voters m.voter).limit m.body) u in
+    let within : m.client < b.clients = subst (λ n. m.client < n) num.sizes.0 (ltb-true _ _ parts.0) in
+    let here : m.voter < b.voters = subst (λ n. m.voter < n) num.sizes.1 (ltb-true _ _ t) in
+    let fits = evicted_fits b G s num st m is in
+    voter_tries b given G s num st m (within, here, fits.1) fits.0 (voter.step (voter_at s.live.voters m.voter) m) refl))
+
+settled_befalls : (b : Bounds) → Given b → (deal : Dealing) → DealsFrom b.quorums deal → (G : Naming) (s : Saved) → Numbered b G s → Settled b s → (i : Incident) → IsLawful s i → Settled b (befalls deal s i)
+settled_befalls b given deal deals G s num st (Happens h) lawful = settled_happens b given deal deals G s num st h
+settled_befalls b given deal deals G s num st (Hears m) lawful = settled_hears b given G s num st m lawful
+settled_befalls b given deal deals G s num st (IsReborn v above) lawful = settled_reborn b s st v above _
+settled_befalls b given deal deals G s num st (StartsAnew c clock) lawful = absurd lawful
+
+record Reaches (b : Bounds) (s : Saved) : Type 0 where
+  named : Naming
+  num : Numbered b named s
+  settled : Settled b s
+
+settled_all : (b : Bounds) → Given b → (deal : Dealing) → DealsFrom b.quorums deal → (is : List Incident) (s : Saved) → Reaches b s → AreLawful deal s is → Reaches b (all_befall deal is s)
+settled_all b given deal deals [] s r lawful = r
+settled_all b given deal deals (i ∷ is) s r lawful =
+    let one = befalls_on b given deal deals r.named s r.num i in
+    settled_all b given deal deals is (befalls deal s i) (record { named = one.named; num = one.ok; settled = settled_befalls b given deal deals r.named s r.num r.settled i lawful.0 }) lawful.1
+
+begin_settled : (b : Bounds) → Given b → Settled b (begin b.voters b.clients b.limit)
+begin_settled b given =
+    let w = start b.voters b.clients b.limit in
+    let world = (start_ok b given).world in
+    let fits : (v : ℕ) → VoterFits b w.clients (voter_at w.voters v) = λ v. record {
+      entries = λ c t e. ((world.voters v).entries c t e).reached;
+      numbered = (world.voters v).numbered;
+      seen = (world.voters v).seen;
+    } in
+    record { sent = tt; live_voters = fits; voters = fits; behind = λ c. self (client_at w.clients c); last = λ c v. (world.clients c).last v }
+
+-- ---- all clients are idle
+
+asked_idle : (x : ClientState) (v : ℕ) (body : VoterBody) → is_idle x.phase ≡ true → AskedBody x v body → AskOk x v body
+asked_idle x v (asks.Request t) idle is = is
+asked_idle x v (asks.Relinquish g) idle is = is
+asked_idle x v (asks.Release t) idle is = (is, λ busy. absurd (false≢true (sym busy ∙ idle)))
+
+said_idle : (b : Bounds) (x : ClientState) (held : Option Grant) (v c : ℕ) (body : ClientBody) → is_idle x.phase ≡ true → SaidBody b.limit x body → ReportOk x held v c body
+said_idle b x held v c (to_client.Locked t g) idle is = (is.0, λ live. absurd (false≢true (sym live.busy ∙ idle)))
+said_idle b x held v c (to_client.Fail t) idle is = tt
+said_idle b x held v c (to_client.Inquire g) idle is = tt
+
+reports_within : (b : Bounds) (x : ClientState) (body : ClientBody) → SaidBody b.limit x body → ReportsWithin b.limit body
+reports_within b x (to_client.Locked t g) is = (is.1, is.2)
+reports_within b x (to_client.Fail t) is = is
+reports_within b x (to_client.Inquire g) is = is
+
+message_idle : (b : Bounds) (l : List ClientState) (X : ℕ → ClientState) (Y : ℕ → VoterState) → ((c : ℕ) → is_idle (X c).phase ≡ true) → ((c : ℕ) → NotBehind (client_at l c) (X c)) → (m : Message) → Fits b l m → MessageOk X Y m
+message_idle b l X Y idle on (kinds.ToVoter m) fits = asked_idle (X m.client) m.voter m.body (idle m.client) (asked_on (client_at l m.client) (X m.client) m.voter m.body (on m.client) fits.0)
+message_idle b l X Y idle on (kinds.ToClient m) fits =
+    said_idle b (X m.client) (Y m.voter).held m.voter m.client m.body (idle m.client) (said_on b.limit (client_at l m.client) (X m.client) m.body (on m.client) fits.1)
+
+range_of : (b : Bounds) (G : Naming) (N : ℕ → ℕ) (l : List ClientState) (m : Message) → Told b G N m → Fits b l m → IsInRange b.voters b.clients b.limit m
+range_of b G N l (kinds.ToVoter m) told fits = (told.0, told.1, fits.1)
+range_of b G N l (kinds.ToClient m) told fits = (told.0, told.1, fits.0, reports_within b (client_at l m.client) m.body fits.1)
+
+ranges_of : (b : Bounds) (G : Naming) (N : ℕ → ℕ) (l : List ClientState) (ms : List Message) → AllByRecursion (Told b G N) ms → AllByRecursion (Fits b l) ms → AllByRecursion (IsInRange b.voters b.clients b.limit) ms
+ranges_of b G N l [] told fits = tt
+ranges_of b G N l (m ∷ ms) told fits = (range_of b G N l m told.0 fits.0, ranges_of b G N l ms told.1 fits.1)
+
+held_holds : (x : ClientState) (v g : ℕ) → holds_under x v g ≡ true → holds x v ≡ true
+held_holds x v g is = grind (arith, nat_tests)
+
+-- what is known of a client, live or saved
+record ClientKnown (b : Bounds) (l : List ClientState) (c : ℕ) (x : ClientState) : Type 0 where
+  sound : sound.IsSound x
+  quorum : (members x ≡ []) ⊎ IsAmong b.quorums (members x)
+  id : c < b.clients → IsClient c b.limit x
+  idle : is_idle x.phase ≡ true
+  on : NotBehind (client_at l c) x
+  last : (v : ℕ) → last_of x v ≤ b.limit
+
+idle_world : (b : Bounds) (G : Naming) (s : Saved) → Numbered b G s → Settled b s → (X : ℕ → ClientState) (Y : ℕ → VoterState) → ((c : ℕ) → ClientKnown b s.clients c (X c))
+    → ((v : ℕ) → Votes b G v (Y v) × VoterFits b s.clients (Y v)) → WorldOk b X Y s.live.sent
+idle_world b G s num st X Y clients voters = record {
+  messages = AllByRecursion-weaker (Fits b s.clients) (MessageOk X Y) (message_idle b s.clients X Y (λ c. (clients c).idle) (λ c. (clients c).on)) s.live.sent st.sent;
+  ranges = ranges_of b G (count s.voters) s.clients s.live.sent num.told st.sent;
+  held = λ c v g is. absurd (false≢true (sym ((clients c).sound.held v (held_holds (X c) v g is)).busy ∙ (clients c).idle));
+  clients = λ c. record { sound = (clients c).sound; last = (clients c).last; quorum = (clients c).quorum };
+  voters = λ v.
+      let known = (voters v).0 in
+      let fits = (voters v).1 in
+      record {
+        sound = known.sound;
+        entries = λ c t e.
+            let low = fits.entries c t e in
+            let up = (clients c).on.stamp in
+            let in_range = known.entries c t e in
+            record { client = in_range.0; stamp = in_range.1; reached = omega arith };
+        numbered = fits.numbered;
+        limit = known.limit;
+        seen = fits.seen;
+      };
+  client_ids = λ c within. (clients c).id within;
+  voter_ids = λ v within. (voters v).0.id within;
+}
+
+idle_out : (p : Phase) → is_idle p ≡ true → is_inside p ≡ false
+idle_out Idle e = refl
+idle_out Asking e = absurd (false≢true e)
+idle_out Inside e = absurd (false≢true e)
+
+idle_ok : (b : Bounds) (G : Naming) (s : Saved) → Numbered b G s → Settled b s → AllIdle s → SavedOk b (unseen s)
+idle_ok b G s num st idle =
+    let live : (c : ℕ) → ClientKnown b s.clients c (client_at s.live.clients c) = λ c.
+    let k = num.live_clients c in
+    record { sound = k.sound; quorum = k.quorum; id = λ w. record { id = k.id w; limit = k.limit w }; idle = (idle c).0; on = st.behind c; last = st.last c } in
+    let saved : (c : ℕ) → ClientKnown b s.clients c (client_at s.clients c) = λ c.
+    let k = num.clients c in
+    record {
+      sound = k.sound;
+      quorum = k.quorum;
+      id = λ w. record { id = k.id w; limit = k.limit w };
+      idle = (idle c).1;
+      on = self (client_at s.clients c);
+      last = λ v. let less = (st.behind c).last v in let most = st.last c v in omega arith;
+    } in
+    record {
+      sizes = num.sizes;
+      mixes = λ X Y mix other. idle_world b G s num st X Y
+          (λ c. elim (mix c) [ inl e ↦ subst (λ (x : ClientState). ClientKnown b s.clients c x) (sym e) (live c) | inr e ↦ subst (λ (x : ClientState). ClientKnown b s.clients c x) (sym e) (saved c) ])
+          (λ v. elim (other v) [
+            | inl e ↦ subst (λ (y : VoterState). Votes b G v y × VoterFits b s.clients y) (sym e) (num.live_voters v, st.live_voters v)
+            | inr e ↦ subst (λ (y : VoterState). Votes b G v y × VoterFits b s.clients y) (sym e) (num.voters v, st.voters v)
+          ]);
+      walked = record { list = tt; inside = λ c. idle_out (client_at s.live.clients c).phase (idle c).0 };
+      insides = λ c in_saved. absurd (false≢true (sym (idle_out (client_at s.clients c).phase (idle c).1) ∙ in_saved));
+    }
+
+pub comes_back : ClientLaws → VoterLaws → (voters clients limit : ℕ) (quorums : List (List ℕ)) (deal : Dealing) (incidents : List Incident) (hs : List Happening)
+    → AreLimits voters clients limit → DoMeet voters quorums → DealsFrom quorums deal → AreLawful deal (begin voters clients limit) incidents
+    → AllIdle (all_befall deal incidents (begin voters clients limit))
+    → IsExclusive (all_happen deal hs (unseen (all_befall deal incidents (begin voters clients limit)))).live.visible
+comes_back cs vs voters clients limit quorums deal incidents hs limits meets deals lawful idle =
+    let b : Bounds = record { voters = voters; clients = clients; limit = limit; quorums = quorums } in
+    let given : Given b = record { client = cs; voter = vs; limits = limits; meet = meets } in
+    let first = begin voters clients limit in
+    let r = settled_all b given deal deals incidents first (record { named = nobody; num = begin_on b given; settled = begin_settled b given }) lawful in
+    (all_ok b given deal deals hs (unseen (all_befall deal incidents first)) (idle_ok b r.named (all_befall deal incidents first) r.num r.settled idle)).walked.list

@@ -1,0 +1,7 @@
+pub mod Comeback
+pub mod Drained
+pub mod Guards
+pub mod Numbers
+pub mod Passes
+pub mod Rebirths
+pub mod Turns

@@ -1,0 +1,6 @@
+pub mod Comeback
+pub mod Drained
+pub mod Incidents
+pub mod Orderly
+pub mod Shows
+pub mod Turns

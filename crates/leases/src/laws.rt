@@ -1,0 +1,151 @@
+//! Laws: what a guard may rely on.
+ghost use Rattle.std.specs.Prelude.{◌≡◌, ◌⊎◌, ℕ, List, Some, map};
+ghost use Rattle.std.specs.List.{AllByRecursion};
+ghost use Rattle.leases.specs.Comeback.{AllIdle, AreLawful, unseen};
+ghost use Rattle.leases.specs.Drained.{AsksNoMore, IsOut};
+ghost use Rattle.leases.specs.Incidents.{AreApart, Incident, all_befall};
+ghost use Rattle.leases.specs.Orderly.{AreOrderly};
+ghost use Rattle.fence.specs.Passes.{Admits};
+ghost use Rattle.leases.specs.Shows.{AreAdmitted, AreInOrder, DoNotInterleave, HasSeenOnly, IsCurrent, Show, WasIn, pass_in, story_of};
+ghost use Rattle.leases.specs.Turns.{AreEntered, Entry, TurnsNameRequests};
+ghost use Rattle.world.specs.Restarts.{Happening, IsIn, IsSameRequest, all_happen, begin, pass_of, stamp_of};
+ghost use Rattle.world.specs.Runs.{AreLimits};
+ghost use Rattle.world.specs.Steps.{Dealing};
+ghost use Rattle.message.specs.declared.message.ToVoter.{ToVoter};
+ghost use Rattle.voter.specs.declared.state.VoterState.{VoterState};
+ghost use Rattle.voter.specs.Steps.{Outcome, step};
+ghost use Rattle.world.specs.Visible.{DealsFrom, DoMeet, IsExclusive};
+
+use world::parts_keep_their_rules;
+
+/// Of two clients that are inside, at any two times, both have a grant of some voter, and none of
+/// the same number, unless it is the same client in the same request.
+pub fn passes_are_apart()
+    ensures { (voters clients limit : ℕ) (quorums : List (List ℕ)) (deal : Dealing) (before after : List Incident)
+        (first second : ℕ)
+        → AreLimits voters clients limit → DoMeet voters quorums → DealsFrom quorums deal
+        → IsIn (all_befall deal before (begin voters clients limit)) first
+        → IsIn (all_befall deal after (all_befall deal before (begin voters clients limit))) second
+        → IsSameRequest (all_befall deal before (begin voters clients limit)) first
+        (all_befall deal after (all_befall deal before (begin voters clients limit))) second
+        ⊎ AreApart (pass_of (all_befall deal before (begin voters clients limit)) first)
+        (pass_of (all_befall deal after (all_befall deal before (begin voters clients limit))) second) }
+{
+    parts_keep_their_rules();
+}
+
+/// Of the passes that a guard admits, each is of the same request as one before, or newer: some
+/// voter has a grant in both, and each voter that has one in both has a newer one in the later.
+/// Clients that were inside at any time show them, at any time, in any order and again.
+pub fn admitted_passes_are_in_order()
+    ensures { (voters clients limit : ℕ) (quorums : List (List ℕ)) (deal : Dealing) (incidents : List Incident)
+        (seen : List ℕ) (shows : List Show)
+        → AreLimits voters clients limit → DoMeet voters quorums → DealsFrom quorums deal
+        → AllByRecursion (WasIn (story_of deal voters clients limit incidents)) shows
+        → AreAdmitted seen (map (pass_in (story_of deal voters clients limit incidents)) shows)
+        → AreInOrder (story_of deal voters clients limit incidents) shows }
+{
+    parts_keep_their_rules();
+}
+
+/// The passes that a guard admits do not interleave: between two shows of one request stand only
+/// those of this request.
+pub fn admitted_passes_do_not_interleave()
+    ensures { (voters clients limit : ℕ) (quorums : List (List ℕ)) (deal : Dealing) (incidents : List Incident)
+        (seen : List ℕ) (shows : List Show)
+        → AreLimits voters clients limit → DoMeet voters quorums → DealsFrom quorums deal
+        → AllByRecursion (WasIn (story_of deal voters clients limit incidents)) shows
+        → AreAdmitted seen (map (pass_in (story_of deal voters clients limit incidents)) shows)
+        → DoNotInterleave (story_of deal voters clients limit incidents) shows }
+{
+    admitted_passes_are_in_order();
+    parts_keep_their_rules();
+}
+
+/// A guard admits a pass if each voter's current grant is the one that is shown, whatever the guard
+/// saw before. So it refuses a client only if a voter of its quorum let its grant go.
+pub fn current_passes_are_admitted()
+    ensures { (voters clients limit : ℕ) (quorums : List (List ℕ)) (deal : Dealing) (incidents : List Incident)
+        (seen pass : List ℕ)
+        → AreLimits voters clients limit → DoMeet voters quorums → DealsFrom quorums deal
+        → HasSeenOnly (story_of deal voters clients limit incidents) seen
+        → IsCurrent (all_befall deal incidents (begin voters clients limit)) pass
+        → Admits seen pass }
+{
+    parts_keep_their_rules();
+}
+
+/// At most one client is inside at a time, also if voters lose their states and are reborn, each
+/// once all clients are done with it: none has its vote, and no LOCKED of it may still count.
+pub fn at_most_one_is_inside_with_rebirths()
+    ensures { (voters clients limit : ℕ) (quorums : List (List ℕ)) (deal : Dealing) (incidents : List Incident)
+        → AreLimits voters clients limit → DoMeet voters quorums → DealsFrom quorums deal
+        → AreOrderly deal (begin voters clients limit) incidents
+        → IsExclusive (all_befall deal incidents (begin voters clients limit)).live.visible }
+{
+    parts_keep_their_rules();
+}
+
+/// A request has one pass: a client that is inside, at two times under one stamp, has the same pass.
+pub fn requests_have_one_pass()
+    ensures { (voters clients limit : ℕ) (quorums : List (List ℕ)) (deal : Dealing) (before after : List Incident) (client : ℕ)
+        → AreLimits voters clients limit → DoMeet voters quorums → DealsFrom quorums deal
+        → IsIn (all_befall deal before (begin voters clients limit)) client
+        → IsIn (all_befall deal after (all_befall deal before (begin voters clients limit))) client
+        → stamp_of (all_befall deal before (begin voters clients limit)) client
+        ≡ stamp_of (all_befall deal after (all_befall deal before (begin voters clients limit))) client
+        → pass_of (all_befall deal after (all_befall deal before (begin voters clients limit))) client
+        ≡ pass_of (all_befall deal before (begin voters clients limit)) client }
+{
+    parts_keep_their_rules();
+}
+
+/// Of the clients whose grants are all their voters' current ones, at most one is inside at a time.
+pub fn at_most_one_is_inside_by_current_grants()
+    ensures { (voters clients limit : ℕ) (quorums : List (List ℕ)) (deal : Dealing) (incidents : List Incident) (first second : ℕ)
+        → AreLimits voters clients limit → DoMeet voters quorums → DealsFrom quorums deal
+        → IsIn (all_befall deal incidents (begin voters clients limit)) first
+        → IsIn (all_befall deal incidents (begin voters clients limit)) second
+        → IsCurrent (all_befall deal incidents (begin voters clients limit))
+        (pass_of (all_befall deal incidents (begin voters clients limit)) first)
+        → IsCurrent (all_befall deal incidents (begin voters clients limit))
+        (pass_of (all_befall deal incidents (begin voters clients limit)) second)
+        → first ≡ second }
+{
+    parts_keep_their_rules();
+}
+
+/// The turns that a guard gives to the passes that it admits name their requests: of two of them the
+/// later is no smaller, and they are the same if and only if both passes are of one request.
+pub fn turns_name_requests()
+    ensures { (voters clients limit : ℕ) (quorums : List (List ℕ)) (deal : Dealing) (incidents : List Incident)
+        (seen : List ℕ) (turn : ℕ) (entries : List Entry)
+        → AreLimits voters clients limit → DoMeet voters quorums → DealsFrom quorums deal
+        → AllByRecursion (λ e. WasIn (story_of deal voters clients limit incidents) e.show) entries
+        → AreEntered (story_of deal voters clients limit incidents) seen turn entries
+        → TurnsNameRequests (story_of deal voters clients limit incidents) entries }
+{
+    parts_keep_their_rules();
+}
+
+/// Exclusion comes back: after evictions and rebirths, once all clients are idle, at most one is
+/// inside at a time from then on, as long as no more befall.
+pub fn exclusion_comes_back()
+    ensures { (voters clients limit : ℕ) (quorums : List (List ℕ)) (deal : Dealing) (incidents : List Incident)
+        (happenings : List Happening)
+        → AreLimits voters clients limit → DoMeet voters quorums → DealsFrom quorums deal
+        → AreLawful deal (begin voters clients limit) incidents
+        → AllIdle (all_befall deal incidents (begin voters clients limit))
+        → IsExclusive (all_happen deal happenings (unseen (all_befall deal incidents (begin voters clients limit)))).live.visible }
+{
+    parts_keep_their_rules();
+}
+
+/// Requests that are finished at a voter stay out, whatever arrives there but a REQUEST of the same
+/// client with a greater stamp. So a client that left is never known again.
+pub fn finished_requests_stay_out()
+    ensures { (v : VoterState) (m : ToVoter) (o : Outcome) (client stamp : ℕ) → step v m ≡ Some o
+        → IsOut v client stamp → AsksNoMore client stamp m.client m.body → IsOut o.state client stamp }
+{
+    parts_keep_their_rules();
+}

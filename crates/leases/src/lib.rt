@@ -1,0 +1,53 @@
+//! What holds if voters let grants go while their clients have them, and if voters and clients come
+//! back without their states. Laws alone.
+//!
+//! A client that dies or stands still inside shuts the lock. So a voter may let its grant go, after a
+//! time that nobody has to trust: a *lease*. Then two clients may believe that they are inside. What
+//! the lock protects keeps a guard ([`Fence`](fence::Fence)), and only what the guard admits counts.
+//!
+//! The laws are over every list of *incidents* (`specs/Incidents.antt`):
+//!
+//! - the steps, losses, repeats, saves, crashes and restarts of `world`;
+//! - a voter takes a message that nobody sent. An *eviction* is one: the RELEASE of its current grant,
+//!   in the client's name;
+//! - a voter that lost its state is *reborn*, with at least as many grants as it ever gave;
+//! - a client that lost its state *starts anew*, with a clock that is at least its last stamp.
+//!
+//! # What is proved
+//!
+//! Of two clients that were inside, at any two times, the passes are apart: both have a grant of some
+//! voter, and no grant is in both ([`passes_are_apart`]). A request has one pass
+//! ([`requests_have_one_pass`]). So, of the passes that a guard admits, whoever shows them, when and
+//! how often:
+//!
+//! - each is of the same request as one before, or newer ([`admitted_passes_are_in_order`]);
+//! - **no two interleave** ([`admitted_passes_do_not_interleave`]);
+//! - the turns that the guard counts name their requests ([`turns_name_requests`]);
+//! - a guard refuses a client that is inside only if a voter of its quorum let its grant go
+//!   ([`current_passes_are_admitted`]).
+//!
+//! Of the clients themselves:
+//!
+//! - of those whose grants are all current, at most one is inside
+//!   ([`at_most_one_is_inside_by_current_grants`]);
+//! - at most one is inside, if nobody is evicted and a voter is reborn only when all clients are done
+//!   with it ([`at_most_one_is_inside_with_rebirths`]);
+//! - after evictions and rebirths, once all clients are idle, at most one is inside from then on
+//!   ([`exclusion_comes_back`]);
+//! - a client that left a voter for good is never known there again ([`finished_requests_stay_out`]).
+//!
+//! Fencing tokens are from Gray and Cheriton's leases (SOSP 1989) and Burrows' sequencers (Chubby, OSDI
+//! 2006). Here a token is one number for each voter, as votes of one quorum have no common counter.
+//!
+//! Depends on `world` and `fence`, and on definitions of `voter`, `requester`, `message` and
+//! `numbers`.
+#![tactic(auto)]
+
+mod laws;
+
+pub use laws::{
+    admitted_passes_are_in_order, admitted_passes_do_not_interleave,
+    at_most_one_is_inside_by_current_grants, at_most_one_is_inside_with_rebirths,
+    current_passes_are_admitted, exclusion_comes_back, finished_requests_stay_out,
+    passes_are_apart, requests_have_one_pass, turns_name_requests,
+};

@@ -1,0 +1,2 @@
+pub mod GuardLemmas
+pub mod StateLemmas

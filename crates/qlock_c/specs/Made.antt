@@ -1,0 +1,22 @@
+-- What a call returns and writes that makes a voter or a client.
+use Rattle.std.specs.Prelude.{ℕ, ℤ, ◌≡◌, ◌≢◌, ◌<◌, ◌≤◌, List, length}
+use Rattle.numbers.specs.Bounds.{max_stamp, max_voters}
+use Rattle.qlock_c.specs.Numbers.{done, refused}
+use Rattle.qlock_c.specs.declared.refusal.Refusal.TheVariants.{BadArgument, BadState}
+
+-- how many bytes a voter has, and a client
+abbrev pub state_bytes : ℕ
+state_bytes = 1104
+
+-- the number is below 64, and the limit is from 1 to 2^40
+pub record AreInRange (id limit : ℕ) : Type 0 where
+  pub few : id < max_voters
+  pub some : 1 ≤ limit
+  pub most : limit ≤ max_stamp
+
+-- A voter or a client with this number and this limit is made in place of these bytes, and `Changes`
+-- says of which state the new bytes are.
+pub record IsMade (id limit : ℕ) (before : List ℕ) (Changes : Type 0) (result : ℤ) : Type 0 where
+  pub bad_argument : (AreInRange id limit → ⊥) → result ≡ refused BadArgument
+  pub bad_state : AreInRange id limit → length before ≢ state_bytes → result ≡ refused BadState
+  pub made : AreInRange id limit → length before ≡ state_bytes → (result ≡ done) × Changes
