@@ -69,7 +69,9 @@ class Folder:
         except FileNotFoundError:
             raise SetUpFault(f"{self.path} has no service: service.py init makes one, once") from None
 
-    def init(self, engine: str, locks: Sequence[str], coterie: str = WHEEL, clients: int = 6, **faults: float) -> Settings:
+    def init(
+        self, engine: str, locks: Sequence[str], coterie: str = WHEEL, clients: int = 6, lost: float = 0.0, repeated: float = 0.0
+    ) -> None:
         """Makes the settings and all states. Raises `SetUpFault` if there are any."""
         states = os.path.join(self.path, "states")
         if os.path.exists(self.settings) or os.path.exists(states):
@@ -80,11 +82,10 @@ class Folder:
         os.mkdir(states)
         settings = Settings(
             id=f"qlock-{secrets.token_hex(8)}", engine=engine, folder=states, coterie=plan.coterie, plan=plan.text,
-            clients=clients, ended=os.path.join(self.path, "ended"), **faults
+            clients=clients, lost=lost, repeated=repeated, ended=os.path.join(self.path, "ended")
         )
         sync_folder(os.path.dirname(self.path))
         self._create(settings, locks)
-        return settings
 
     def create(self, locks: Sequence[str]) -> None:
         """Makes the states of further locks."""
