@@ -47,10 +47,25 @@ static void are_lines(const struct block *out, size_t written, int32_t result) {
 
 static uint8_t voter[QLOCK_VOTER_BYTES], client[QLOCK_CLIENT_BYTES], guard[QLOCK_FENCE_BYTES];
 
+/* has the client ask voter 0, and get its vote: it is inside */
+static void enter(unsigned id) {
+    uint8_t out[QLOCK_CLIENT_OUT];
+    char line[80];
+    size_t written;
+    int32_t entered = 0;
+    int n = snprintf(line, sizeof line, "locked 0 %u 1 1 1", id);
+    if (qlock_client_ask(client, sizeof client, 1, out, sizeof out, &written) != QLOCK_DONE) exit(3);
+    if (qlock_client_take(client, sizeof client, (uint8_t *)line, (size_t)n, out, sizeof out, &written, &entered) != QLOCK_DONE) exit(3);
+    if (entered != 1) exit(3);
+}
+
+/* begins anew, half of the time with a client that is inside */
 static void fresh(void) {
+    unsigned id = (unsigned)below(2);
     if (qlock_voter_new((uint8_t)below(2), below(3) ? QLOCK_MAX_STAMP : 2, voter, sizeof voter) != QLOCK_DONE) exit(3);
-    if (qlock_client_new((uint8_t)below(2), below(3) ? QLOCK_MAX_STAMP : 4, client, sizeof client) != QLOCK_DONE) exit(3);
+    if (qlock_client_new((uint8_t)id, below(3) ? QLOCK_MAX_STAMP : 4, client, sizeof client) != QLOCK_DONE) exit(3);
     if (qlock_fence_new(guard, sizeof guard) != QLOCK_DONE) exit(3);
+    if (below(2)) enter(id);
 }
 
 /* a state: the current one, a spoiled one, one of another length, or random bytes */
@@ -66,6 +81,13 @@ static struct block state_of(const uint8_t *bytes, size_t n) {
 /* keeps the new state of a call that was done; a state that the library wrote, it reads */
 static void keep(uint8_t *bytes, size_t n, const struct block *b, int32_t result) {
     if (result == QLOCK_DONE && b->n == n && below(8) != 0) memcpy(bytes, b->bytes, n);
+}
+
+/* whether a pass is not all 0 */
+static int has_grant(const struct block *pass) {
+    for (size_t i = 0; i < pass->n; i++)
+        if (pass->bytes[i] != 0) return 1;
+    return 0;
 }
 
 static void check_voter(const struct block *b, int32_t result) {
@@ -193,6 +215,7 @@ static void one_call(void) {
             call = "qlock_client_pass";
             result = qlock_client_pass(state.bytes, state.n, grants.bytes, grants.n);
             is_named(result, "0126");
+            if (result == QLOCK_DONE && !has_grant(&grants)) fail("a pass without a grant", result);
             writes_grants = result == QLOCK_DONE;
         }
         break;
@@ -200,6 +223,8 @@ static void one_call(void) {
         call = "qlock_fence_admit";
         result = qlock_fence_admit(state.bytes, state.n, grants.bytes, grants.n);
         is_named(result, "012ad");
+        if (result == QLOCK_DONE && !has_grant(&grants)) fail("admitted without a grant", result);
+        if (result == QLOCK_NO_PASS && has_grant(&grants)) fail("has a grant", result);
         writes_state = result == QLOCK_DONE;
         keep(guard, sizeof guard, &state, result);
         break;

@@ -14,6 +14,7 @@ import tempfile
 import threading
 import time
 import unittest
+from typing import List
 from unittest import mock
 
 from counter import Counter
@@ -22,6 +23,7 @@ from node import packed
 from qlock import InUse, Missing, OlderGrant, WrongOwner
 from service import HERE, Folder, Service
 from settings import Settings
+from transport import Transport
 
 LOCKS = "lost late held threads stopped asking inside copied closed broken".split()
 HOLDER = """
@@ -38,6 +40,11 @@ engine = sys.argv[1] if len(sys.argv) > 1 else "nats"
 
 
 class Cases(unittest.TestCase):
+    folder: str
+    service: Service
+    settings: Settings
+    operator: Transport
+
     @classmethod
     def setUpClass(cls) -> None:
         cls.folder = tempfile.mkdtemp(prefix="qlock-cases-")
@@ -57,14 +64,19 @@ class Cases(unittest.TestCase):
         self.addCleanup(locks.close, 0)
         return locks
 
-    def holder(self, number: int, lock: str) -> "subprocess.Popen[str]":
-        """Returns a process of this client, which asks for a lock and stays inside."""
+    def holder(self, number: int, lock: str, enters: bool) -> "subprocess.Popen[str]":
+        """Returns a process of this client, which asks for a lock, and waits for it or is inside."""
         words = [sys.executable, "-c", HOLDER, self.service.path, str(number), lock]
         process = subprocess.Popen(words, stdout=subprocess.PIPE, text=True, cwd=HERE)
-        self.addCleanup(process.stdout.close)
         self.addCleanup(process.wait)
         self.addCleanup(process.kill)
+        assert process.stdout
+        self.addCleanup(process.stdout.close)
         self.assertEqual(process.stdout.readline(), "asks\n")
+        if enters:
+            self.assertEqual(process.stdout.readline(), "is inside\n")
+        else:
+            time.sleep(0.5)
         return process
 
     def enters(self, locks: Locks, lock: str) -> None:
@@ -134,7 +146,8 @@ class Cases(unittest.TestCase):
         self.assertEqual((counter.read()["count"], counter.read()["stamp"]), (2, passed.stamp))
 
     def test_another_thread_waits_and_the_same_one_is_refused(self) -> None:
-        locks, order = self.client(0), []
+        locks = self.client(0)
+        order: List[int] = []
 
         def other() -> None:
             with locks("threads", timeout=20) as passed:
@@ -163,8 +176,7 @@ class Cases(unittest.TestCase):
     def test_request_of_a_process_that_died_is_given_up(self) -> None:
         first, third = self.client(0), self.client(2)
         with first("asking", timeout=20):
-            holder = self.holder(1, "asking")
-            time.sleep(0.5)
+            holder = self.holder(1, "asking", False)
             holder.kill()
             holder.wait()
             second = self.client(1)
@@ -173,8 +185,7 @@ class Cases(unittest.TestCase):
         self.enters(second, "asking")
 
     def test_pass_of_a_process_that_died_inside_is_resumed_once(self) -> None:
-        holder = self.holder(0, "inside")
-        self.assertEqual(holder.stdout.readline(), "is inside\n")
+        holder = self.holder(0, "inside", True)
         with self.assertRaises(InUse):
             Locks(self.settings, 0)
         holder.kill()
@@ -215,16 +226,17 @@ class Cases(unittest.TestCase):
 
     def test_client_closes_only_after_its_votes_are_back(self) -> None:
         first, second = self.client(0), self.client(1)
-        send = first._post.send
+        lost = mock.patch.object(first._post, "send")
         with first("closed", timeout=20):
-            first._post.send = lambda letters: None  # RELEASE is lost
-        first._post.send = send
+            lost.start()  # RELEASE does not leave
+        lost.stop()
         self.assertTrue(first.close())
         for _ in range(self.service.plan.cycle):
             self.enters(second, "closed")
 
     def test_client_that_cannot_go_on_says_so(self) -> None:
-        locks, said = self.client(0), []
+        locks = self.client(0)
+        said: List[object] = []
         store = locks._lock("broken")._store
         with mock.patch("threading.excepthook", said.append), mock.patch.object(store, "save", side_effect=OSError):
             with self.assertRaises(OSError), locks("broken", timeout=20):

@@ -100,7 +100,8 @@ class Trial:
         path = os.path.join(folder, "witness")
         words = [sys.executable, os.path.join(HERE, "witness.py"), path, os.path.join(folder, "counter")]
         self._witness = subprocess.Popen(words, stdin=subprocess.PIPE, stdout=subprocess.PIPE, text=True)
-        self._witness.stdout.readline()
+        if self._witness.stdout:
+            self._witness.stdout.readline()  # it is ready
         for client in range(CLIENTS):
             self.service.start(f"c{client}", ["worker.py", self.service.path, str(client), str(10**9), path])
         self._choice = random.Random(int(os.environ.get("SEED", "1")))

@@ -89,7 +89,7 @@ class Board:
             return "nobody"
         told = self._clients.get((lock, number))
         inside = told is not None and told.get("phase") == "inside"
-        name = f"client {number}"
+        name = f"client {html.escape(str(number))}"
         return f'<span class="inside">{name}, inside</span>' if inside else name
 
     def _age(self, told: Dict[str, Any]) -> str:
@@ -104,7 +104,8 @@ class Board:
                 rows.append([html.escape(name), "<span class=note>not heard of</span>", "", ""])
                 continue
             waiting = ", ".join(f"client {client}" for client in told["waiting"] if client != told["holder"]) or "nobody"
-            rows.append([html.escape(name) + self._age(told), self._client(lock, told["holder"]), waiting, str(told["grants"])])
+            holder, grants = self._client(lock, told["holder"]), html.escape(str(told["grants"]))
+            rows.append([html.escape(name) + self._age(told), holder, html.escape(waiting), grants])
         return table(["voter", "who has its vote", "who waits for it", "grants"], rows, {3})
 
     def _load(self, lock: str) -> str:

@@ -40,6 +40,13 @@ class SetUpFault(Exception):
     """A step can't be done in this folder."""
 
 
+def check_names(locks: Sequence[str]) -> None:
+    """Raises `SetUpFault` if one is no name of a lock."""
+    for lock in locks:
+        if not re.fullmatch("[a-z0-9_-]{1,64}", lock):
+            raise SetUpFault(f"{lock!r} is no name of a lock: it has 1 to 64 letters of a to z, 0 to 9, _ and -")
+
+
 class Folder:
     """The folder of a service, which one process has at a time."""
 
@@ -47,7 +54,8 @@ class Folder:
         """Takes the folder. Raises `SetUpFault` if another process has it."""
         self.path = os.path.abspath(path)
         self.settings = os.path.join(self.path, "service.json")
-        os.makedirs(self.path, exist_ok=True)
+        if not os.path.isdir(self.path):
+            raise SetUpFault(f"there is no folder {self.path}")
         self._lock = open(os.path.join(self.path, "service.lock"), "ab")
         try:
             fcntl.flock(self._lock, fcntl.LOCK_EX | fcntl.LOCK_NB)
@@ -61,21 +69,23 @@ class Folder:
         except FileNotFoundError:
             raise SetUpFault(f"{self.path} has no service: service.py init makes one, once") from None
 
-    def init(self, engine: str, locks: Sequence[str], coterie: str = WHEEL, clients: int = 6, **faults: float) -> Settings:
+    def init(
+        self, engine: str, locks: Sequence[str], coterie: str = WHEEL, clients: int = 6, lost: float = 0.0, repeated: float = 0.0
+    ) -> None:
         """Makes the settings and all states. Raises `SetUpFault` if there are any."""
         states = os.path.join(self.path, "states")
         if os.path.exists(self.settings) or os.path.exists(states):
             raise SetUpFault(f"{self.path} has a service, or states of one: take a new folder")
+        check_names(locks)
         with open(coterie, encoding="utf-8") as file:
             plan = Plan.find(file.read())
         os.mkdir(states)
         settings = Settings(
             id=f"qlock-{secrets.token_hex(8)}", engine=engine, folder=states, coterie=plan.coterie, plan=plan.text,
-            clients=clients, ended=os.path.join(self.path, "ended"), **faults
+            clients=clients, lost=lost, repeated=repeated, ended=os.path.join(self.path, "ended")
         )
         sync_folder(os.path.dirname(self.path))
         self._create(settings, locks)
-        return settings
 
     def create(self, locks: Sequence[str]) -> None:
         """Makes the states of further locks."""
@@ -83,10 +93,9 @@ class Folder:
 
     def _create(self, settings: Settings, locks: Sequence[str]) -> None:
         """Makes the states of these locks, and only then lists them. Raises `SetUpFault` if a lock had states before."""
+        check_names(locks)
         plan = settings.planned()
         for lock in locks:
-            if not re.fullmatch("[a-z0-9_-]{1,64}", lock):
-                raise SetUpFault(f"{lock!r} is no name of a lock: it has 1 to 64 letters of a to z, 0 to 9, _ and -")
             states = os.path.join(settings.folder, lock)
             if lock in settings.locks or os.path.lexists(states):
                 raise SetUpFault(f"the lock {lock} was made before: take another name")
@@ -231,7 +240,8 @@ class Service:
 
 
 def run(service: Service) -> None:
-    """Runs until Ctrl-C."""
+    """Runs until Ctrl-C, or SIGTERM."""
+    signal.signal(signal.SIGTERM, signal.default_int_handler)
     try:
         print(f"settings: {service.path}")
         print(f"page:     {service.page()}")
@@ -264,6 +274,7 @@ def main() -> None:
     given = parser.parse_args()
     try:
         if given.step == "init":
+            os.makedirs(given.folder, exist_ok=True)
             Folder(given.folder).init(given.engine, given.locks, given.coterie, given.clients)
         elif given.step == "create":
             Folder(given.folder).create(given.locks)

@@ -19,6 +19,7 @@ from typing import Tuple
 
 from counter import Counter
 from locks import Locks, Passed
+from qlock import StoreFault
 from qlock.store import replace_file
 from settings import Settings
 
@@ -96,5 +97,14 @@ class Worker:
         self._locks.close()
 
 
+def main() -> None:
+    settings, client, passes, witness = Settings.read(sys.argv[1]), int(sys.argv[2]), int(sys.argv[3]), "".join(sys.argv[4:])
+    try:
+        worker = Worker(settings, client, passes, witness)
+    except StoreFault as fault:
+        sys.exit(f"worker.py: {fault}")
+    worker.run()
+
+
 if __name__ == "__main__":
-    Worker(Settings.read(sys.argv[1]), int(sys.argv[2]), int(sys.argv[3]), (sys.argv[4:] or [""])[0]).run()
+    main()

@@ -8,7 +8,7 @@ The libraries are found by the environment variable QLOCK_LIBRARY, the path of l
 at QLOCK_PLAN_LIBRARY; or by their names. Each is loaded at its first call.
 """
 from . import refusals
-from .automata import CLIENT_BYTES, PASS_BYTES, MAX_STAMP, VOTER_BYTES, Client, Fence, Grant, Phase, Taken, Voter
+from .automata import CLIENT_BYTES, MAX_STAMP, PASS_BYTES, VOTER_BYTES, Client, Fence, Grant, Phase, Taken, Voter
 from .faults import (
     BadArgument,
     BadMessage,
@@ -30,7 +30,7 @@ from .store import Damaged, Exists, InUse, Missing, Store, StoreFault, WrongOwne
 
 __all__ = [
     "BadArgument", "BadMessage", "BadState", "Busy", "CLIENT_BYTES", "Client", "Damaged", "Exists", "Fault", "Fence",
-    "PASS_BYTES", "Grant", "GrantsSpent", "InUse", "MAX_STAMP", "MAX_TICKETS", "Missing", "NoMemory", "NoPass",
-    "NoRoom", "NotAsking", "NotInside", "OlderGrant", "Order", "Phase", "Plan", "Quorum", "Refused", "Slack",
-    "StampsSpent", "Store", "StoreFault", "Taken", "VOTER_BYTES", "Voter", "WrongOwner", "names_of", "refusals",
+    "Grant", "GrantsSpent", "InUse", "MAX_STAMP", "MAX_TICKETS", "Missing", "NoMemory", "NoPass", "NoRoom", "NotAsking",
+    "NotInside", "OlderGrant", "Order", "PASS_BYTES", "Phase", "Plan", "Quorum", "Refused", "Slack", "StampsSpent",
+    "Store", "StoreFault", "Taken", "VOTER_BYTES", "Voter", "WrongOwner", "names_of", "refusals",
 ]

@@ -215,5 +215,6 @@ class Fence(_State):
         return fence
 
     def admit(self, shown: bytes) -> None:
-        """Admits a pass, as `Client.show_pass` returns it. Raises `OlderGrant` if somebody showed a newer one, and `NoPass` for zeros."""
+        """Admits a pass, as `Client.show_pass` returns it. Raises `OlderGrant` if somebody showed a newer one, and `NoPass` if it
+        has no grant."""
         call("fence_admit", *self._given(), shown, len(shown))
