@@ -1,5 +1,5 @@
 -- What the calls of a client return and write. Each is said for the one client that the bytes are, and
--- for the one message that the line is. A call that is refused writes nothing.
+-- for the one message that the line is. That a refused call writes nothing is a clause of each call.
 use Rattle.std.specs.Prelude.{ℕ, ℤ, pos, ◌≡◌, true, false, List, Result, Ok, Err}
 use Rattle.message.specs.declared.message.ToClient.{ToClient}
 use Rattle.message.specs.declared.message.ToVoter.{ToVoter}

@@ -1,4 +1,4 @@
--- What the calls of a guard return and write. A call that is refused writes nothing.
+-- What the calls of a guard return and write.
 use Rattle.std.specs.Prelude.{ℕ, ℤ, ◌≡◌, ◌≢◌, ◌+◌, ◌^◌, ◌<◌, ◌≤◌, List, length, map, replicate}
 use Rattle.std.specs.List.{range_with_len}
 use Rattle.numbers.specs.Bounds.{max_voters}

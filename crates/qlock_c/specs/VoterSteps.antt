@@ -1,5 +1,5 @@
 -- What the calls of a voter return and write. Each is said for the one voter that the bytes are, and
--- for the one message that the line is. A call that is refused writes nothing.
+-- for the one message that the line is. That a refused call writes nothing is a clause of each call.
 use Rattle.std.specs.Prelude.{ℕ, ℤ, ◌≡◌, ◌≤◌, List, Option, None, Some, slice_index, unwrap_or}
 use Rattle.numbers.specs.Bounds.{max_stamp}
 use Rattle.message.specs.declared.message.ToVoter.{ToVoter}

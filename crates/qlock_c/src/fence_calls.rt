@@ -47,7 +47,7 @@ pub extern "C" fn qlock_fence_new(state: &mut [u8]) -> i32
 }
 
 /// Admits a pass, 512 bytes as `qlock_client_pass` writes them, unless it shows an older grant of some
-/// voter than was shown before, and writes its turn. Bytes that show no grant at all are no pass.
+/// voter than one that was admitted before, and writes its turn. Bytes that show no grant at all are no pass.
 #[unsafe(no_mangle)]
 pub extern "C" fn qlock_fence_admit(state: &mut [u8], pass: &[u8], turn: &mut u64) -> i32
     ensures refused { result ≢ done → (state.new ≡ state.old) × (turn.new ≡ turn.old) }
