@@ -37,6 +37,13 @@
 //! - no request up to a stamp that a voter has finished is known there again, while the voter keeps its
 //!   state ([`finished_requests_stay_out`]).
 //!
+//! Without incidents the order of passes is that of entering (`src/in_order.rt`), over every list of steps,
+//! crashes and restarts:
+//!
+//! - a new guard admits what clients show in the order in which they have it
+//!   ([`passes_in_order_are_admitted`]);
+//! - a guard refuses a pass that comes after a later one was admitted ([`late_passes_are_refused`]).
+//!
 //! Fencing tokens are from Gray and Cheriton's leases (SOSP 1989) and Burrows' sequencers (Chubby, OSDI
 //! 2006). Here a token is one number for each voter, as votes of one quorum have no common counter.
 //!
@@ -44,8 +51,10 @@
 //! `numbers`.
 #![tactic(auto)]
 
+mod in_order;
 mod laws;
 
+pub use in_order::{late_passes_are_refused, passes_in_order_are_admitted};
 pub use laws::{
     admitted_passes_are_in_order, admitted_passes_do_not_interleave,
     at_most_one_is_inside_by_current_grants, at_most_one_is_inside_with_rebirths,
