@@ -29,7 +29,7 @@ fn shows(number: u64) -> [u64; 64] {
 }
 
 /// Returns the turn of each of two passes, of the first one twice and then once more; 0 if it is refused.
-fn turns(first: &Pass, second: &Pass) -> [u64; 4] {
+pub(crate) fn turns(first: &Pass, second: &Pass) -> [u64; 4] {
     let mut fence = Fence::new();
     [
         fence.admit(first).unwrap_or(0),
