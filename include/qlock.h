@@ -34,7 +34,7 @@ extern "C" {
 /* How many bytes the state of a voter, of a client and of a guard has. */
 #define QLOCK_VOTER_BYTES 1104
 #define QLOCK_CLIENT_BYTES 1104
-#define QLOCK_FENCE_BYTES 512
+#define QLOCK_FENCE_BYTES 520
 
 /* How many bytes the pass has that a client shows to a guard. */
 #define QLOCK_PASS_BYTES 512
@@ -53,17 +53,18 @@ extern "C" {
 /* What a call returns. */
 enum {
     QLOCK_DONE = 0,
-    QLOCK_BAD_ARGUMENT = 1, /* a number is out of range, or the mask of a quorum is 0 */
+    QLOCK_BAD_ARGUMENT = 1, /* a number or the length of a pass is out of range, or the mask of a quorum is 0 */
     QLOCK_BAD_STATE = 2,    /* the bytes are no saved voter, client or guard, or not as many as it has */
     QLOCK_BAD_MESSAGE = 3,  /* the line is no message to this voter or client */
     QLOCK_NO_ROOM = 4,      /* `out` is too short for the lines */
     QLOCK_BUSY = 5,         /* C1: the client is asking already, or is inside */
     QLOCK_NOT_INSIDE = 6,   /* C2: the client is not inside */
     QLOCK_NOT_ASKING = 7,   /* C3: the client is not asking */
-    QLOCK_STAMPS_SPENT = 8, /* C4: the client's clock is at the limit, so no stamp is left for a request */
+    QLOCK_STAMPS_SPENT = 8, /* C4: the client's clock has reached the limit, so no stamp is left for a request */
     QLOCK_GRANTS_SPENT = 9, /* V1: the message needs a new grant, and the voter has given as many as its limit */
     QLOCK_OLDER_GRANT = 10, /* the guard saw a newer grant of some voter before */
-    QLOCK_NO_PASS = 13      /* what is shown to the guard has no grant, so it is no pass (11 and 12: qlock_plan.h) */
+    QLOCK_NO_PASS = 13,     /* what is shown to the guard has no grant, so it is no pass (11 and 12: qlock_plan.h) */
+    QLOCK_TURNS_SPENT = 14  /* the guard has given the turn 2 to the power of 64 - 1 */
 };
 
 /* What a client is doing. */
@@ -105,6 +106,41 @@ int32_t qlock_voter_remind(const uint8_t *state, size_t n, uint8_t *out, size_t 
 
    QLOCK_BAD_STATE  the bytes are no voter */
 int32_t qlock_voter_held(const uint8_t *state, size_t n, uint64_t *client, uint64_t *stamp, uint64_t *grant);
+
+/* Makes a voter that lost its state, in place of qlock_voter_new. It gave at most `above` grants before, and may give `limit`
+   grants in all, 1 to QLOCK_MAX_STAMP. If it gave more than `above`, two clients may have one grant number, and a guard can't
+   tell them apart. So make each voter with a limit far below QLOCK_MAX_STAMP, a block of grants, and note the blocks in the
+   settings of the cluster: a lost voter is reborn with `above` at the end of its last block, and with the next block. Until all
+   clients were idle since, two of them may be inside: only the guard's word counts.
+
+   QLOCK_BAD_ARGUMENT  `id` or `limit` is out of range, or `above` is greater than `limit`
+   QLOCK_BAD_STATE     `n` is not QLOCK_VOTER_BYTES */
+int32_t qlock_voter_reborn(uint8_t id, uint64_t above, uint64_t limit, uint8_t *state, size_t n);
+
+/* Raises the number of grants that the voter may give in all. Note the new block in the settings before.
+
+   QLOCK_BAD_ARGUMENT  `limit` is below the voter's limit, or above QLOCK_MAX_STAMP
+   QLOCK_BAD_STATE     the bytes are no voter */
+int32_t qlock_voter_extend(uint8_t *state, size_t n, uint64_t limit);
+
+/* Lets the current grant go if it has the number `grant`, as a RELEASE of its client would; any other number does nothing.
+   Writes the replies, as qlock_voter_take does. This is a lease: for a client that died or stands still. The client may still
+   believe that it is inside, so only the guard's word counts. Go by the number of a grant that has lasted too long
+   (qlock_voter_held), while others wait.
+
+   QLOCK_BAD_STATE     the bytes are no voter
+   QLOCK_GRANTS_SPENT  a request waits, and no grant is left for it
+   QLOCK_NO_ROOM       `room` is too small; QLOCK_VOTER_OUT is always enough */
+int32_t qlock_voter_evict(uint8_t *state, size_t n, uint64_t grant, uint8_t *out, size_t room, size_t *written);
+
+/* Writes what the voter knows of a client, 0 to 63: the stamp of its request that has the vote or waits, 0 if there is none; the
+   highest stamp of its requests that are finished; and the highest stamp that the voter saw of anybody. A client whose last
+   stamp is finished at each voter that it asked may stop for good. One that is asking or inside, and whose stamp is finished,
+   was let go.
+
+   QLOCK_BAD_ARGUMENT  `client` is out of range
+   QLOCK_BAD_STATE     the bytes are no voter */
+int32_t qlock_voter_knows(const uint8_t *state, size_t n, uint8_t client, uint64_t *stamp, uint64_t *finished, uint64_t *seen);
 
 /* ---- A client: it has one request at a time. `n` is always QLOCK_CLIENT_BYTES. */
 
@@ -164,8 +200,38 @@ int32_t qlock_client_remind(const uint8_t *state, size_t n, uint8_t *out, size_t
    QLOCK_BAD_STATE  the bytes are no client */
 int32_t qlock_client_forget(uint8_t *state, size_t n);
 
+/* Makes a client that lost its state, in place of qlock_client_new. It is idle. `clock` is at least the stamp of its last
+   request, and at most `limit`; its next stamp is above it. If it used a greater stamp before, two of its requests may have one
+   pass. The clock may come from a file with one number that is written ahead (qlock_client_raise), or from what a quorum of voters
+   has seen (qlock_voter_knows). Send qlock_client_disclaim to all voters first, and again.
+
+   QLOCK_BAD_ARGUMENT  `id`, `limit` or `clock` is out of range
+   QLOCK_BAD_STATE     `n` is not QLOCK_CLIENT_BYTES */
+int32_t qlock_client_anew(uint8_t id, uint64_t limit, uint64_t clock, uint8_t *state, size_t n);
+
+/* Raises the client's clock to this stamp, if it is behind. The next request's stamp is above it.
+
+   QLOCK_BAD_STATE  the bytes are no client */
+int32_t qlock_client_raise(uint8_t *state, size_t n, uint64_t clock);
+
+/* Writes what an idle client sends to end all its requests at these voters, voter i if bit i of `voters` is 1: RELEASE of its
+   last stamp to each, and nothing if it made no request. Voters finish the stamp, and send no reply.
+
+   QLOCK_BAD_STATE  the bytes are no client
+   QLOCK_BUSY       the client is asking, or is inside
+   QLOCK_NO_ROOM    `room` is too small; QLOCK_CLIENT_OUT is always enough */
+int32_t qlock_client_disclaim(const uint8_t *state, size_t n, uint64_t voters, uint8_t *out, size_t room, size_t *written);
+
+/* Writes what a client that is inside sends as a sign of life: REQUEST again to each member, nothing if it is not inside. A voter
+   whose grant stands replies with LOCKED. One that let it go and remembers that sends nothing.
+
+   QLOCK_BAD_STATE  the bytes are no client
+   QLOCK_NO_ROOM    `room` is too small; QLOCK_CLIENT_OUT is always enough */
+int32_t qlock_client_renew(const uint8_t *state, size_t n, uint8_t *out, size_t room, size_t *written);
+
 /* Writes what the client is doing (QLOCK_IDLE, QLOCK_ASKING or QLOCK_INSIDE), and the stamp and the quorum of its current or
-   last request, both 0 if there was none. A client that comes back from a crash looks at this first.
+   last request, both 0 if there was none. After qlock_client_forget the quorum is 0, and the stamp stays. A client that comes
+   back from a crash looks at this first.
 
    QLOCK_BAD_STATE  the bytes are no client */
 int32_t qlock_client_shows(const uint8_t *state, size_t n, int32_t *phase, uint64_t *stamp, uint64_t *quorum);
@@ -192,14 +258,19 @@ int32_t qlock_client_pass(const uint8_t *state, size_t n, uint8_t *pass, size_t 
    QLOCK_BAD_STATE  `n` is not QLOCK_FENCE_BYTES */
 int32_t qlock_fence_new(uint8_t *state, size_t n);
 
-/* Admits a pass, as qlock_client_pass writes it. Do this in the place that the lock protects, in one step with the write that
-   it guards. The guard can't see whether the client is still inside, only whether somebody newer showed a pass before.
+/* Admits a pass, as qlock_client_pass writes it, and writes its turn. Do this in the place that the lock protects, in one step with
+   the write that it guards, and never put an older guard back. The guard can't see whether the client is still inside, only
+   whether it admitted a newer pass before.
+
+   The turn is a fencing token: one number, which is the same for all passes of one request, and greater for each later request
+   that the guard admits. The first turn is 1. Note it in the place beside what is written.
 
    QLOCK_BAD_STATE     `n` is not QLOCK_FENCE_BYTES
    QLOCK_BAD_ARGUMENT  `len` is not QLOCK_PASS_BYTES
    QLOCK_NO_PASS       all its numbers are 0
-   QLOCK_OLDER_GRANT   a newer grant of some voter was shown before: somebody entered since, so don't write */
-int32_t qlock_fence_admit(uint8_t *state, size_t n, const uint8_t *pass, size_t len);
+   QLOCK_OLDER_GRANT   a newer grant of some voter was admitted before: somebody entered since, so don't write
+   QLOCK_TURNS_SPENT   no turn is left */
+int32_t qlock_fence_admit(uint8_t *state, size_t n, const uint8_t *pass, size_t len, uint64_t *turn);
 
 #ifdef __cplusplus
 }

@@ -2,7 +2,7 @@
 
    A call reads texts and writes a text or numbers. Texts are those of the program `qlock` (docs/formats.md): a coterie, as
    `qlock make` writes it and people write it, and a plan, as `qlock plan` and qlock_plan write it. What a call returns is what
-   the program prints for the same texts. Each call reads its texts anew, so ask for many tickets at once.
+   the program prints for the same texts (this is tested). Each call reads its texts anew, so ask for many tickets at once.
 
    What each call needs of its caller:
 
@@ -36,7 +36,7 @@ enum {
 
 /* The orders of a plan's tickets. In both, the tickets of whole cycles use each quorum as often as the plan says. */
 enum {
-    QLOCK_BY_ROUNDS = 0, /* as `qlock deal`: each quorum once, then those of weight 2 or more once more, and so on */
+    QLOCK_BY_ROUNDS = 0, /* as `qlock deal`: each quorum of weight 1 or more once, then those of 2 or more once more, and so on */
     QLOCK_EVEN = 1       /* even from the first ticket, whichever it is: qlock_slack says how even */
 };
 

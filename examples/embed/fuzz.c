@@ -102,6 +102,76 @@ static void check_client(const struct block *b, int32_t result) {
         fail("its state is not read", result);
 }
 
+/* the calls for grants that are let go, and for a voter or a client that lost its state */
+static void one_lease(void) {
+    size_t written = 7777;
+    uint64_t a = 7777, b = 7777, c = 7777;
+    size_t which = below(8);
+    struct block state = which < 4 ? state_of(voter, sizeof voter) : state_of(client, sizeof client), out = block_of(room());
+    int32_t result = -1;
+    note(&state), note(&out);
+    int writes_state = 0, writes_out = 0;
+    switch (which) {
+    case 0:
+        call = "qlock_voter_evict";
+        result = qlock_voter_evict(state.bytes, state.n, below(8), out.bytes, out.n, &written);
+        is_named(result, "0249");
+        writes_state = writes_out = result == QLOCK_DONE;
+        check_voter(&state, result);
+        break;
+    case 1:
+        call = "qlock_voter_extend";
+        result = qlock_voter_extend(state.bytes, state.n, below(2) ? QLOCK_MAX_STAMP : number());
+        is_named(result, "012");
+        writes_state = result == QLOCK_DONE;
+        check_voter(&state, result);
+        break;
+    case 2:
+        call = "qlock_voter_knows";
+        result = qlock_voter_knows(state.bytes, state.n, (uint8_t)below(80), &a, &b, &c);
+        is_named(result, "012");
+        if (result != QLOCK_DONE && (a != 7777 || b != 7777 || c != 7777)) fail("wrote though refused", result);
+        break;
+    case 3:
+        call = "qlock_voter_reborn";
+        result = qlock_voter_reborn((uint8_t)below(80), below(8), below(2) ? QLOCK_MAX_STAMP : number(), state.bytes, state.n);
+        is_named(result, "012");
+        writes_state = result == QLOCK_DONE;
+        check_voter(&state, result);
+        break;
+    case 4:
+        call = "qlock_client_disclaim";
+        result = qlock_client_disclaim(state.bytes, state.n, rnd(), out.bytes, out.n, &written);
+        is_named(result, "0245");
+        writes_out = result == QLOCK_DONE;
+        break;
+    case 5:
+        call = "qlock_client_renew";
+        result = qlock_client_renew(state.bytes, state.n, out.bytes, out.n, &written);
+        is_named(result, "024");
+        writes_out = result == QLOCK_DONE;
+        break;
+    case 6:
+        call = "qlock_client_raise";
+        result = qlock_client_raise(state.bytes, state.n, number());
+        is_named(result, "02");
+        writes_state = result == QLOCK_DONE;
+        check_client(&state, result);
+        break;
+    default:
+        call = "qlock_client_anew";
+        result = qlock_client_anew((uint8_t)below(80), below(2) ? QLOCK_MAX_STAMP : number(), below(8), state.bytes, state.n);
+        is_named(result, "012");
+        writes_state = result == QLOCK_DONE;
+        check_client(&state, result);
+        break;
+    }
+    if (writes_out) are_lines(&out, written, result);
+    else if (written != 7777) fail("wrote a count", result);
+    end(&state, writes_state, result);
+    end(&out, writes_out, result);
+}
+
 static void one_call(void) {
     size_t written = 7777;
     int32_t entered = 7777, phase = 7777;
@@ -221,8 +291,9 @@ static void one_call(void) {
         break;
     default:
         call = "qlock_fence_admit";
-        result = qlock_fence_admit(state.bytes, state.n, grants.bytes, grants.n);
-        is_named(result, "012ad");
+        result = qlock_fence_admit(state.bytes, state.n, grants.bytes, grants.n, &a);
+        is_named(result, "012ade");
+        if (result == QLOCK_DONE ? a == 0 : a != 7777) fail("turn", result);
         if (result == QLOCK_DONE && !has_grant(&grants)) fail("admitted without a grant", result);
         if (result == QLOCK_NO_PASS && has_grant(&grants)) fail("has a grant", result);
         writes_state = result == QLOCK_DONE;
@@ -243,6 +314,7 @@ int main(int argc, char **argv) {
     for (long i = 0; i < rounds; i++) {
         if (i % 500 == 0) fresh();
         one_call();
+        if (i % 4 == 0) one_lease();
     }
     if (done < calls / 5) fail("hardly a call was done, so this tried little", 0);
     printf("the boundary holds\n");

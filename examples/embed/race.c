@@ -51,7 +51,8 @@ static void end_client(unsigned c, size_t written) {
 static void enter(unsigned c) {
     uint8_t pass[QLOCK_PASS_BYTES];
     must(qlock_client_pass(clients[c], QLOCK_CLIENT_BYTES, pass, sizeof pass), "pass");
-    int32_t result = qlock_fence_admit(guard, sizeof guard, pass, sizeof pass);
+    uint64_t turn = 0;
+    int32_t result = qlock_fence_admit(guard, sizeof guard, pass, sizeof pass, &turn);
     printf("client %u is inside, and the guard returns %d\n", c, (int)result);
     if (c == 0) memcpy(first_pass, pass, sizeof pass);
 }
@@ -131,7 +132,7 @@ int main(void) {
     show(0);
     show(1);
     printf("client 0 shows its old pass, and the guard returns %d\n",
-           (int)qlock_fence_admit(guard, sizeof guard, first_pass, sizeof first_pass));
+           (int)qlock_fence_admit(guard, sizeof guard, first_pass, sizeof first_pass, &(uint64_t){0}));
     leave(1);
     deliver();
     show(1);

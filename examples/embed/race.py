@@ -5,7 +5,7 @@
 import ctypes
 import sys
 
-STATE, GRANTS, OUT, MAX_STAMP = 1104, 512, 4864, 1 << 40
+STATE, GRANTS, GUARD, OUT, MAX_STAMP = 1104, 512, 520, 4864, 1 << 40
 DONE = 0
 
 library = ctypes.CDLL(sys.argv[1])
@@ -48,14 +48,14 @@ class Node:
 
 voters = [Node("voter", v) for v in range(3)]
 clients = [Node("client", c) for c in range(2)]
-guard = ctypes.create_string_buffer(GRANTS)
+guard = ctypes.create_string_buffer(GUARD)
 call("fence_new", guard)
 passes = {}
 network = []
 
 
 def admit(grants):
-    return library.qlock_fence_admit(guard, SIZE(GRANTS), grants, SIZE(GRANTS))
+    return library.qlock_fence_admit(guard, SIZE(GUARD), grants, SIZE(GRANTS), ctypes.byref(ctypes.c_uint64()))
 
 
 def enter(client):

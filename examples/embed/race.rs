@@ -6,6 +6,7 @@ use std::process::exit;
 
 const STATE: usize = 1104;
 const GRANTS: usize = 512;
+const GUARD: usize = 520;
 const OUT: usize = 4864;
 const MAX_STAMP: u64 = 1 << 40;
 const DONE: i32 = 0;
@@ -63,7 +64,7 @@ extern "C" {
     ) -> i32;
     fn qlock_client_pass(state: *const u8, n: usize, grants: *mut u8, len: usize) -> i32;
     fn qlock_fence_new(state: *mut u8, n: usize) -> i32;
-    fn qlock_fence_admit(state: *mut u8, n: usize, grants: *const u8, len: usize) -> i32;
+    fn qlock_fence_admit(state: *mut u8, n: usize, grants: *const u8, len: usize, turn: *mut u64) -> i32;
 }
 
 fn must(result: i32, call: &str) {
@@ -98,15 +99,15 @@ impl Node {
 struct Race {
     voters: [Node; 3],
     clients: [Node; 2],
-    guard: [u8; GRANTS],
+    guard: [u8; GUARD],
     first_pass: [u8; GRANTS],
     network: VecDeque<String>,
 }
 
 impl Race {
     fn new() -> Race {
-        let mut guard = [0; GRANTS];
-        must(unsafe { qlock_fence_new(guard.as_mut_ptr(), GRANTS) }, "qlock_fence_new");
+        let mut guard = [0; GUARD];
+        must(unsafe { qlock_fence_new(guard.as_mut_ptr(), GUARD) }, "qlock_fence_new");
         Race {
             voters: [Node::voter(0), Node::voter(1), Node::voter(2)],
             clients: [Node::client(0), Node::client(1)],
@@ -123,7 +124,8 @@ impl Race {
     }
 
     fn admit(&mut self, grants: &[u8; GRANTS]) -> i32 {
-        unsafe { qlock_fence_admit(self.guard.as_mut_ptr(), GRANTS, grants.as_ptr(), GRANTS) }
+        let mut turn = 0;
+        unsafe { qlock_fence_admit(self.guard.as_mut_ptr(), GUARD, grants.as_ptr(), GRANTS, &mut turn) }
     }
 
     fn enter(&mut self, c: usize) {

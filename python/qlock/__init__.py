@@ -8,7 +8,7 @@ The libraries are found by the environment variable QLOCK_LIBRARY, the path of l
 at QLOCK_PLAN_LIBRARY; or by their names. Each is loaded at its first call.
 """
 from . import refusals
-from .automata import CLIENT_BYTES, MAX_STAMP, PASS_BYTES, VOTER_BYTES, Client, Fence, Grant, Phase, Taken, Voter
+from .automata import CLIENT_BYTES, MAX_STAMP, PASS_BYTES, VOTER_BYTES, Client, Fence, Grant, Known, Phase, Taken, Voter
 from .faults import (
     BadArgument,
     BadMessage,
@@ -24,13 +24,14 @@ from .faults import (
     OlderGrant,
     Refused,
     StampsSpent,
+    TurnsSpent,
 )
 from .plans import MAX_TICKETS, Order, Plan, Quorum, Slack, names_of
 from .store import Damaged, Exists, InUse, Missing, Store, StoreFault, WrongOwner
 
 __all__ = [
     "BadArgument", "BadMessage", "BadState", "Busy", "CLIENT_BYTES", "Client", "Damaged", "Exists", "Fault", "Fence",
-    "Grant", "GrantsSpent", "InUse", "MAX_STAMP", "MAX_TICKETS", "Missing", "NoMemory", "NoPass", "NoRoom", "NotAsking",
+    "Grant", "GrantsSpent", "InUse", "Known", "MAX_STAMP", "MAX_TICKETS", "Missing", "NoMemory", "NoPass", "NoRoom", "NotAsking",
     "NotInside", "OlderGrant", "Order", "PASS_BYTES", "Phase", "Plan", "Quorum", "Refused", "Slack", "StampsSpent",
-    "Store", "StoreFault", "Taken", "VOTER_BYTES", "Voter", "WrongOwner", "names_of", "refusals",
+    "Store", "StoreFault", "Taken", "TurnsSpent", "VOTER_BYTES", "Voter", "WrongOwner", "names_of", "refusals",
 ]

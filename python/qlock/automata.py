@@ -8,7 +8,7 @@ from .library import call
 
 VOTER_BYTES = 1104
 CLIENT_BYTES = 1104
-FENCE_BYTES = 512
+FENCE_BYTES = 520
 PASS_BYTES = 512
 MAX_STAMP = 1 << 40
 _VOTER_OUT = 240
@@ -29,6 +29,15 @@ class Grant(NamedTuple):
     client: int
     stamp: int
     number: int
+
+
+class Known(NamedTuple):
+    """What a voter knows of a client: the stamp of its request that has the vote or waits, if there is one, the highest stamp
+    that is finished, and the highest stamp that the voter saw of anybody."""
+
+    stamp: Optional[int]
+    finished: int
+    seen: int
 
 
 class Taken(NamedTuple):
@@ -128,6 +137,32 @@ class Voter(_State):
         return Grant(client.value, stamp.value, number.value) if number.value else None
 
 
+    @classmethod
+    def reborn(cls, number: int, above: int, limit: int = MAX_STAMP) -> "Voter":
+        """Returns a voter that lost its state, and gave at most `above` grants before. It may give `limit` in all."""
+        voter = cls(0)
+        numbers = (_number(number, 0, 63, "the number"), _number(above, 0, MAX_STAMP, "the grants"), _number(limit, 1, MAX_STAMP, "the limit"))
+        call("voter_reborn", *numbers, *voter._given())
+        return voter
+
+    def extend(self, limit: int) -> None:
+        """Raises the number of grants that the voter may give in all."""
+        call("voter_extend", *self._given(), _number(limit, 1, MAX_STAMP, "the limit"))
+
+    def evict(self, grant: int) -> List[bytes]:
+        """Lets the current grant go if it has this number, and returns the replies. Its client may believe that it is still
+        inside, so only a guard's word counts. Raises `GrantsSpent`."""
+        call("voter_evict", *self._given(), _number(grant, 0, (1 << 64) - 1, "the grant"), *self._into())
+        return self._lines()
+
+    def knows(self, client: int) -> Known:
+        """Returns what the voter knows of this client, and the highest stamp that it saw."""
+        stamp, finished, seen = ctypes.c_uint64(), ctypes.c_uint64(), ctypes.c_uint64()
+        number = _number(client, 0, 63, "the client")
+        call("voter_knows", *self._given(), number, ctypes.byref(stamp), ctypes.byref(finished), ctypes.byref(seen))
+        return Known(stamp.value or None, finished.value, seen.value)
+
+
 class Client(_State):
     """A client: it has one request at a time.
 
@@ -199,6 +234,29 @@ class Client(_State):
         return shown.raw
 
 
+    @classmethod
+    def anew(cls, number: int, clock: int, limit: int = MAX_STAMP) -> "Client":
+        """Returns a client that lost its state, with a clock that is at least the stamp of its last request."""
+        client = cls(0)
+        numbers = (_number(number, 0, 63, "the number"), _number(limit, 1, MAX_STAMP, "the limit"), _number(clock, 0, MAX_STAMP, "the clock"))
+        call("client_anew", *numbers, *client._given())
+        return client
+
+    def raise_clock(self, clock: int) -> None:
+        """Raises the clock to this stamp, if it is behind. The next request's stamp is above it."""
+        call("client_raise", *self._given(), _number(clock, 0, (1 << 64) - 1, "the clock"))
+
+    def disclaim(self, voters: Iterable[int]) -> List[bytes]:
+        """Returns what an idle client sends to these voters to end all its requests. Raises `Busy`."""
+        call("client_disclaim", *self._given(), mask_of(voters), *self._into())
+        return self._lines()
+
+    def renew(self) -> List[bytes]:
+        """Returns what a client that is inside sends as a sign of life."""
+        call("client_renew", *self._given(), *self._into())
+        return self._lines()
+
+
 class Fence(_State):
     """A guard of what the lock protects: it refuses a client that lost the lock without noticing it, and comes late."""
 
@@ -214,7 +272,9 @@ class Fence(_State):
         fence._restore(state)
         return fence
 
-    def admit(self, shown: bytes) -> None:
-        """Admits a pass, as `Client.show_pass` returns it. Raises `OlderGrant` if somebody showed a newer one, and `NoPass` if it
-        has no grant."""
-        call("fence_admit", *self._given(), shown, len(shown))
+    def admit(self, shown: bytes) -> int:
+        """Admits a pass, as `Client.show_pass` returns it, and returns its turn: a fencing token, which is greater for each later
+        request. Raises `OlderGrant` if a newer pass was admitted before, and `NoPass` if this one has no grant."""
+        turn = ctypes.c_uint64()
+        call("fence_admit", *self._given(), shown, len(shown), ctypes.byref(turn))
+        return turn.value

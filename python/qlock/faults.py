@@ -94,9 +94,15 @@ class NoPass(Fault):
     number = 13
 
 
+class TurnsSpent(Fault):
+    """The guard has given its last turn."""
+
+    number = 14
+
+
 _ALL: Tuple[Type[Fault], ...] = (
     BadArgument, BadState, BadMessage, NoRoom, Busy, NotInside, NotAsking, StampsSpent, GrantsSpent, OlderGrant, Refused,
-    NoMemory, NoPass,
+    NoMemory, NoPass, TurnsSpent,
 )
 
 KINDS: Dict[int, Type[Fault]] = {kind.number: kind for kind in _ALL}

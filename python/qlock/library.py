@@ -24,6 +24,10 @@ _CALLS: Dict[str, List[Any]] = {
     "voter_take": [*_STATE, *_LINE, *_OUT],
     "voter_remind": [*_STATE, *_OUT],
     "voter_held": [*_STATE, _U64_OUT, _U64_OUT, _U64_OUT],
+    "voter_reborn": [_U8, _U64, _U64, *_STATE],
+    "voter_extend": [*_STATE, _U64],
+    "voter_evict": [*_STATE, _U64, *_OUT],
+    "voter_knows": [*_STATE, _U8, _U64_OUT, _U64_OUT, _U64_OUT],
     "client_new": [_U8, _U64, *_STATE],
     "client_ask": [*_STATE, _U64, *_OUT],
     "client_take": [*_STATE, *_LINE, *_OUT, _I32_OUT],
@@ -34,8 +38,12 @@ _CALLS: Dict[str, List[Any]] = {
     "client_shows": [*_STATE, _I32_OUT, _U64_OUT, _U64_OUT],
     "client_grant": [*_STATE, _U8, _U64_OUT],
     "client_pass": [*_STATE, _BUFFER, _SIZE],
+    "client_anew": [_U8, _U64, _U64, *_STATE],
+    "client_raise": [*_STATE, _U64],
+    "client_disclaim": [*_STATE, _U64, *_OUT],
+    "client_renew": [*_STATE, *_OUT],
     "fence_new": _STATE,
-    "fence_admit": [*_STATE, _BYTES, _SIZE],
+    "fence_admit": [*_STATE, _BYTES, _SIZE, _U64_OUT],
 }
 
 _TEXTS = [*_LINE, *_LINE]

@@ -82,6 +82,48 @@ class Races(unittest.TestCase):
                 guard.admit(first)
 
 
+class Leases(unittest.TestCase):
+    """Grants that are let go, and voters and clients without their states."""
+
+    def setUp(self):
+        self.voters = [qlock.Voter(0, limit=100)]
+        self.clients = [qlock.Client(c) for c in range(2)]
+
+    def test_guard_goes_by_turns_after_an_eviction(self):
+        play(self.voters, self.clients, self.clients[0].ask([0]))
+        first = self.clients[0].show_pass()
+        play(self.voters, self.clients, self.clients[1].ask([0]))
+        self.assertEqual(self.voters[0].evict(7), [])
+        self.assertEqual(self.voters[0].knows(1), qlock.Known(1, 0, 1))
+        play(self.voters, self.clients, self.voters[0].evict(1))
+        self.assertEqual(self.voters[0].knows(0), qlock.Known(None, 1, 1))
+        self.assertEqual([client.shows().phase for client in self.clients], [qlock.Phase.INSIDE] * 2)
+        fence = qlock.Fence()
+        self.assertEqual([fence.admit(first), fence.admit(first), fence.admit(self.clients[1].show_pass())], [1, 1, 2])
+        with self.assertRaises(qlock.OlderGrant):
+            fence.admit(first)
+        self.assertEqual(self.clients[1].renew(), [b"request 1 0 1"])
+        self.assertEqual(self.clients[0].renew(), [b"request 0 0 1"])
+
+    def test_reborn_voter_goes_on_above_its_grants(self):
+        voter = qlock.Voter.reborn(0, 100, 200)
+        self.assertEqual(voter.take(b"request 0 0 1"), [b"locked 0 0 1 101 1"])
+        voter.extend(300)
+        with self.assertRaises(qlock.BadArgument):
+            voter.extend(200)
+
+    def test_client_anew_ends_its_requests(self):
+        play(self.voters, self.clients, self.clients[0].ask([0]))
+        again = qlock.Client.anew(0, 5)
+        with self.assertRaises(qlock.Busy):
+            self.clients[0].disclaim([0])
+        play(self.voters, self.clients, again.disclaim([0]))
+        self.assertIsNone(self.voters[0].held())
+        self.assertEqual(self.voters[0].knows(0).finished, 5)
+        again.raise_clock(9)
+        self.assertEqual(again.ask([0]), [b"request 0 0 10"])
+
+
 class Crashes(unittest.TestCase):
     """Random runs of three clients: messages are lost, repeated, late and out of order, and voters and clients crash, which
     undoes steps that sent nothing since the last save. Clients also forget. At most one is inside, and then votes come back."""

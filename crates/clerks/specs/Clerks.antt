@@ -31,6 +31,14 @@ abbrev pub rest_in : Option ClerkState → ℕ
 rest_in None = 0
 rest_in (Some k) = k.rest
 
+abbrev pub share_in : Option ClerkState → ℕ
+share_in None = 0
+share_in (Some k) = share_of k
+
+abbrev pub quota_in : Option OfficeState → ℕ
+quota_in None = 0
+quota_in (Some o) = o.quota
+
 -- the receipts of a plan; without such a plan there are none
 abbrev pub receipts_of : ClerksState → Side → List Receipt
 receipts_of k side = receipts_in (clerk_of k side)
@@ -38,6 +46,19 @@ receipts_of k side = receipts_in (clerk_of k side)
 -- how many tickets of a plan may still be drawn; without such a plan there are none
 abbrev pub rest_of : ClerksState → Side → ℕ
 rest_of k side = rest_in (clerk_of k side)
+
+-- how many tickets of a plan this clerk drew and may still draw; without such a plan there are none
+abbrev pub share_of_plan : ClerksState → Side → ℕ
+share_of_plan k side = share_in (clerk_of k side)
+
+-- the office of a plan
+abbrev pub office_of : OfficesState → Side → Option OfficeState
+office_of o First = Some o.first
+office_of o Second = o.second
+
+-- how many tickets of a plan all clerks may draw; without such a plan there are none
+abbrev pub quota_of : OfficesState → Side → ℕ
+quota_of o side = quota_in (office_of o side)
 
 -- the clerk after it drew the ticket of this receipt
 abbrev pub with_receipt : ClerkState → Receipt → ClerkState
@@ -152,6 +173,10 @@ joined_each k other = record k {
   first = with_joined k.first other.first;
   second = joined_second k.second other.second;
 }
+
+-- the clerks, where only the first plan's clerk is joined by the other one of its office
+abbrev pub joined_first : ClerksState → ClerksState → ClerksState
+joined_first k other = record k { first = with_joined k.first other.first }
 
 abbrev pub IsWholeIn : Option OfficeState → Option ClerkState → Type 0
 IsWholeIn None clerk = Unit {0}

@@ -5,7 +5,8 @@
 //! [`Clerks::exchange`] goes over to the second plan. Without a second plan the same calls serve one.
 //!
 //! Each contract says what the calls of `dealer` say of one office: a ticket has the quorum of its
-//! plan's cycle, and offices that end have dealt the tickets 0, 1, 2 and so on, each once.
+//! plan's cycle and is above those that the clerk has of that plan. Offices that end have dealt the
+//! tickets 0, 1, 2 and so on, each once.
 //!
 //! Depends on `dealer`, `certificate`, `quorum_set` and `numbers`. `members` depends on it.
 #![tactic(auto)]

@@ -1,10 +1,11 @@
 //! The offices of one or two plans, and clerks of each.
-ghost use Rattle.std.specs.Prelude.{◌≡◌, ◌<◌, ◌≤◌, true, false, None, Some, Option, IfOk, IfErr, IfSome, MatchBool, length, option_map, slice_get};
+ghost use Rattle.std.specs.Prelude.{◌≡◌, ◌⊎◌, ◌<◌, ◌≤◌, true, false, None, Some, Option, IfOk, IfErr, IfSome, MatchBool, length, option_map, slice_get};
+ghost use Rattle.std.specs.List.{All};
 ghost use Rattle.numbers.specs.Bounds.{max_tickets};
 ghost use Rattle.numbers.specs.Sets.{IsSet};
 ghost use Rattle.numbers.specs.Sums.{AreAllBelow};
 ghost use Rattle.dealer.specs.Offices.{RefusesTicket, share_of, tickets_of};
-ghost use Rattle.clerks.specs.Clerks.{ClerksState, OfficesState, AreDealt, AreWhole, IsDealt, IsDealtBy, IsThere, IsWholeIn, drawn, use_second_plan, fresh_clerk, fresh_clerks, joined_each, joined_second, less_each, may_exchange, names_of, office_names, offices_with, quorums_in, quorums_of, receipts_in, receipts_of, rest_in, rest_of, with_less, with_receipt};
+ghost use Rattle.clerks.specs.Clerks.{ClerksState, OfficesState, AreDealt, AreWhole, IsDealt, IsDealtBy, IsThere, IsWholeIn, drawn, use_second_plan, fresh_clerk, fresh_clerks, joined_each, joined_first, joined_second, less_each, may_exchange, names_of, office_names, offices_with, quorums_in, quorums_of, quota_in, quota_of, receipts_in, receipts_of, rest_in, rest_of, share_in, share_of_plan, with_less, with_receipt};
 
 use certificate::Plan;
 use dealer::{Clerk, Cycle, DealFault, Office, Receipt};
@@ -152,6 +153,10 @@ fn draw_second(clerk: &mut Option<Clerk>, office: &Option<Office>) -> Result<Rec
     requires office { option_map (λ k. k.office) clerk.old ≡ option_map (λ o. o.name) office.now }
     ensures dealt { IfOk result (λ r. IsDealtBy (option_map (λ k. k.office) clerk.old) r.ticket r.quorum) }
     ensures in_range { IfOk result (λ r. r.quorum < length (quorums_in (option_map (λ k. k.office) clerk.old))) }
+    ensures above { IfOk result (λ r. All (λ t. t < r.ticket) (tickets_of (receipts_in clerk.old))) }
+    ensures below { IfOk result (λ r. r.ticket < quota_in office.now) }
+    ensures next { share_in clerk.old ≡ quota_in office.now →
+        IfOk result (λ r. r.ticket ≡ length (receipts_in clerk.old)) }
     ensures kept { IfOk result (λ r. clerk.new ≡ option_map (λ x. with_receipt x r) clerk.old) }
     ensures some { IfOk result (λ _. 0 < rest_in clerk.old) }
     ensures err { IfErr result (RefusesTicket (rest_in clerk.old)) }
@@ -185,6 +190,7 @@ fn join_second(
     requires office { option_map (λ k. k.office) clerk.old ≡ option_map (λ o. o.name) office.now }
     requires other { option_map (λ k. k.office) other ≡ option_map (λ o. o.name) office.now }
     ensures joined { IfOk result (λ _. clerk.new ≡ joined_second clerk.old other) }
+    ensures unchanged { IfErr result (λ _. clerk.new ≡ clerk.old) }
     ensures office { option_map (λ k. k.office) clerk.new ≡ option_map (λ k. k.office) clerk.old }
 {
     match (clerk, office, other) {
@@ -240,6 +246,15 @@ impl Clerks {
         ensures dealt { IfOk result (λ r. IsDealt (names_of self.old) self.old.side r.ticket r.quorum) }
         ensures in_range { IfOk result (λ r.
             r.quorum < length (quorums_of (names_of self.old) self.old.side)) }
+
+        // The ticket is above all that this clerk has of the plan in use. It is the next number if
+        // no other clerk has a share of that plan's tickets.
+        ensures above { IfOk result (λ r.
+            All (λ t. t < r.ticket) (tickets_of (receipts_of self.old self.old.side))) }
+        ensures below { IfOk result (λ r. r.ticket < quota_of offices.now self.old.side) }
+        ensures next { share_of_plan self.old self.old.side ≡ quota_of offices.now self.old.side →
+            IfOk result (λ r. r.ticket ≡ length (receipts_of self.old self.old.side)) }
+
         ensures kept { IfOk result (λ r. self.new ≡ drawn self.old r) }
         ensures some { IfOk result (λ _. 0 < rest_of self.old self.old.side) }
         ensures err { IfErr result (RefusesTicket (rest_of self.old self.old.side)) }
@@ -266,12 +281,16 @@ impl Clerks {
         }
     }
 
-    /// Joins another member's clerks to these. Fails only if it runs out of memory, and then the
-    /// others are lost.
+    /// Joins another member's clerks to these. Fails only if it runs out of memory, and then those
+    /// of the others that did not join are lost. These clerks keep all their own receipts.
     pub fn join(&mut self, offices: &Offices, other: Clerks) -> Result<(), AllocError>
         requires offices { names_of self.old ≡ office_names offices.now }
         requires other { names_of other ≡ office_names offices.now }
         ensures joined { IfOk result (λ _. self.new ≡ joined_each self.old other) }
+
+        // After a failure nothing changed, or the first plan's clerks alone are joined.
+        ensures err { IfErr result (λ _. (self.new ≡ self.old) ⊎ (self.new ≡ joined_first self.old other)) }
+
         ensures names { names_of self.new ≡ names_of self.old }
     {
         match self.first.join(&offices.first, other.first) {

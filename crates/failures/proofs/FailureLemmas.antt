@@ -1,7 +1,11 @@
 -- Sets that meet every quorum.
-use Rattle.std.proofs.Common.{◌≡◌, ◌≢◌, ℕ, zero, suc, ◌+◌, ◌<◌, ◌≤◌, Bool, true, false, true≢false, not, cond, ◌==◌, ◌||◌, List, [], ◌∷◌, ◌++◌, length, filter, get_or, sym}
-use Rattle.std.proofs.Common.{refl, ap, subst, ◌∙◌, arith, Err, inl, inr, ne_eqb}
-use Rattle.std.proofs.lemmas.Bool.{cases_eq}
+use Rattle.std.proofs.Common.{◌≡◌, ◌≢◌, ℕ, zero, suc, ◌+◌, ◌-◌, ◌^◌, ◌<◌, ◌≤◌, Bool, true, false, true≢false, not, cond, ◌==◌, ◌||◌, List, [], ◌∷◌, ◌++◌, length, filter, get_or, sym}
+use Rattle.std.proofs.Common.{refl, ap, ap₂, subst, ◌∙◌, arith, Err, inl, inr, ne_eqb}
+use Rattle.std.proofs.lemmas.Bool.{cases_eq, eq-eqb}
+use Rattle.std.proofs.lemmas.Nat.{pow_pos}
+use Rattle.std.proofs.Math.Nat.{two-pow-succ}
+use Rattle.std.proofs.Math.Numerals.{add-one}
+use Rattle.std.proofs.Math.Pow.{pow_mono}
 use Rattle.std.specs.Prelude.{All, nat_lt}
 use Rattle.std.proofs.lemmas.Bool.Decides.{nat_tests}
 use Rattle.std.proofs.lemmas.List.Elements.{All-filter, filter-append}
@@ -18,7 +22,9 @@ use Rattle.quorum_set.proofs.Meetings.{AllMeet-coterie}
 use Rattle.std.specs.Prelude.{Some, slice_get, take}
 use Rattle.std.proofs.lemmas.List.{take_more}
 use Rattle.std.proofs.lemmas.Option.{get_or_from_slice_get}
-use Rattle.failures.specs.Failures.{MeetsEach, IsTransversal, IsSmallestWith, system_without}
+use Rattle.failures.specs.Failures.{MeetsEach, IsTransversal, IsSmallestWith, system_without, undecided}
+use Rattle.numbers.specs.Sums.{sum_below}
+use Rattle.numbers.proofs.SumsBelow.{sum_below-le, sum_below-one}
 
 -- by cases on a test
 by_test : {P : Type 0} (b : Bool) → (b ≡ true → P) → (b ≡ false → P) → P
@@ -112,6 +118,78 @@ either_way quorums chosen barred with without first result v set_with set_withou
     ])
     (λ apart. apart)) meets)
 
+-- How many steps are enough
+
+-- of two tests, the one that also passes one more number fails fewer
+sum_below-fewer : (n v : ℕ) (p q : ℕ → Bool) → v < n → ((i : ℕ) → i < n → p i ≡ true → q i ≡ true) → p v ≡ false → q v ≡ true
+    → sum_below (λ i. cond (q i) 0 1) n + 1 ≤ sum_below (λ i. cond (p i) 0 1) n
+sum_below-fewer zero v p q lt more fails passes = absurd (omega arith)
+sum_below-fewer (suc n) v p q lt more fails passes = elim (cases_eq v n) as (λ _. sum_below (λ i. cond (q i) 0 1) (suc n) + 1 ≤ sum_below (λ i. cond (p i) 0 1) (suc n)) [
+  | inl same ↦
+      let rest = sum_below-le n (λ i. cond (q i) 0 1) (λ i. cond (p i) 0 1) (λ i below. fails_less (p i) (q i) (more i (omega arith))) in
+      let here : cond {A = ℕ} (q n) 0 1 ≡ 0 = ap (λ b. cond {A = ℕ} b 0 1) (ap q (sym same) ∙ passes) in
+      let there : cond {A = ℕ} (p n) 0 1 ≡ 1 = ap (λ b. cond {A = ℕ} b 0 1) (ap p (sym same) ∙ fails) in
+      omega arith
+  | inr far ↦
+      let rest = sum_below-fewer n v p q (omega arith) (λ i below. more i (omega arith)) fails passes in
+      let here = fails_less (p n) (q n) (more n (omega arith)) in
+      omega arith
+]
+  where
+    fails_less : (a b : Bool) → (a ≡ true → b ≡ true) → cond {A = ℕ} b 0 1 ≤ cond {A = ℕ} a 0 1
+    fails_less true b then = rw (then refl) (omega arith)
+    fails_less false true then = omega arith
+    fails_less false false then = omega arith
+
+or_swap : (a b : Bool) → (a || b) ≡ true → (b || a) ≡ true
+or_swap true true e = refl
+or_swap true false e = refl
+or_swap false b e = rw e refl
+
+-- what was decided stays so
+still_decided : (same was now other : Bool) → now ≡ (same || was) → (was || other) ≡ true → (now || other) ≡ true
+still_decided true was now other is before = rw is refl
+still_decided false was now other is before = rw is before
+
+-- a voter that becomes chosen is no longer undecided
+pub undecided-chosen : (n v : ℕ) (with chosen barred : List ℕ) → v < n → n ≤ 64 → IsWith with chosen v → has chosen v ≡ false → has barred v ≡ false
+    → undecided n with barred + 1 ≤ undecided n chosen barred
+undecided-chosen n v with chosen barred lt few is outside free = sum_below-fewer n v (λ i. has chosen i || has barred i) (λ i. has with i || has barred i) lt
+    (λ i below before. still_decided (i == v) (has chosen i) (has with i) (has barred i) (is i (omega arith)) before)
+    (ap (λ b. b || has barred v) outside ∙ free)
+    (ap (λ b. b || has barred v) (is v (omega arith) ∙ ap (λ b. b || has chosen v) (eq-eqb v v refl)))
+
+-- nor is one that becomes barred
+pub undecided-barred : (n v : ℕ) (without chosen barred : List ℕ) → v < n → n ≤ 64 → IsWith without barred v → has chosen v ≡ false → has barred v ≡ false
+    → undecided n chosen without + 1 ≤ undecided n chosen barred
+undecided-barred n v without chosen barred lt few is outside free = sum_below-fewer n v (λ i. has chosen i || has barred i) (λ i. has chosen i || has without i) lt
+    (λ i below before. or_swap (has without i) (has chosen i)
+    (still_decided (i == v) (has barred i) (has without i) (has chosen i) (is i (omega arith)) (or_swap (has chosen i) (has barred i) before)))
+    (ap (λ b. b || has barred v) outside ∙ free)
+    (or_swap (has without v) (has chosen v) (ap (λ b. b || has chosen v) (is v (omega arith) ∙ ap (λ b. b || has barred v) (eq-eqb v v refl))))
+
+-- a step and what follows it in two cases, each with fewer undecided voters
+pub spent-twice : (old first last u with without : ℕ) → 0 < old → with + 1 ≤ u → without + 1 ≤ u → old - 1 < first + 2 ^ (with + 1) → first < last + 2 ^ (without + 1)
+    → old < last + 2 ^ (u + 1)
+spent-twice old first last u with without some fewer less a b =
+    let p : 2 ^ (with + 1) ≤ 2 ^ u = pow_mono fewer in
+    let q : 2 ^ (without + 1) ≤ 2 ^ u = pow_mono less in
+    let double : 2 ^ (u + 1) ≡ 2 ^ u + 2 ^ u = rw add-one (two-pow-succ u) in
+    omega arith
+
+-- at most one step
+pub spent-once : (old last u : ℕ) → old ≤ last + 1 → old < last + 2 ^ (u + 1)
+spent-once old last u one =
+    let double : 2 ^ (u + 1) ≡ 2 ^ u + 2 ^ u = rw add-one (two-pow-succ u) in
+    omega (arith, pow_pos u)
+
+-- at first all voters are undecided
+pub spent-all : (n old left : ℕ) (chosen barred : List ℕ) → chosen ≡ [] → barred ≡ [] → old < left + 2 ^ (undecided n chosen barred + 1) → old < left + 2 ^ (n + 1)
+spent-all n old left chosen barred none_chosen none_barred spent =
+    let all : undecided n chosen barred ≡ n = ap₂ (undecided n) none_chosen none_barred ∙ sum_below-one n in
+    let same : 2 ^ (undecided n chosen barred + 1) ≡ 2 ^ (n + 1) = ap (λ k. 2 ^ (k + 1)) all in
+    omega arith
+
 -- What is left of a coterie
 
 -- a filter that leaves nothing refuses the first element and leaves nothing of the rest
@@ -176,6 +254,13 @@ below_all q n v e all few = let here = All-has (λ i. i < n) q v e all in omega 
 pub meets_at : (quorums : List (List ℕ)) (k : ℕ) (q other : List ℕ) → slice_get quorums k ≡ Some q → k < length quorums
     → MeetsEach quorums other → meet other q ≡ true
 meets_at quorums k q other at lt meets = subst (λ t. meet other t ≡ true) (get_or_from_slice_get quorums k q [] at) (meets k lt)
+
+-- a member of a quorum that is read by its number is in no set that is apart from the quorum
+pub outside_at : (quorums : List (List ℕ)) (k v : ℕ) (q chosen : List ℕ) → slice_get quorums k ≡ Some q → meet chosen (get_or quorums k []) ≡ false
+    → has q v ≡ true → has chosen v ≡ false
+outside_at quorums k v q chosen at apart member = by_test (has chosen v)
+    (λ in_it. absurd (true≢false (sym (meet-from chosen q v in_it member) ∙ ap (meet chosen) (sym (get_or_from_slice_get quorums k q [] at)) ∙ apart)))
+    (λ outside. outside)
 
 -- one quorum more
 pub filter_next : (p : List ℕ → Bool) (quorums left new : List (List ℕ)) (k : ℕ) (q : List ℕ) → slice_get quorums k ≡ Some q

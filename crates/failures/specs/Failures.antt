@@ -1,8 +1,9 @@
 -- What a coterie bears: sets of voters that may fail, and what is left (Naor and Wool, SIAM J. Comput. 27(2), 1998, on
 -- resilience).
-use Rattle.std.specs.Prelude.{◌≡◌, ℕ, ◌<◌, ◌≤◌, List, [], true, false, filter, length, slice_index_or}
+use Rattle.std.specs.Prelude.{◌≡◌, ℕ, ◌<◌, ◌≤◌, ◌||◌, List, [], true, false, filter, if◌then◌else◌, length, slice_index_or}
 use Rattle.std.specs.List.{All}
-use Rattle.numbers.specs.Sets.{meet, within, IsSet}
+use Rattle.numbers.specs.Sets.{has, meet, within, IsSet}
+use Rattle.numbers.specs.Sums.{sum_below}
 use Rattle.quorum_set.specs.Coteries.{QuorumSystem, are_disjoint}
 
 -- The set has a common member with each quorum. If all its members fail, no quorum is left.
@@ -32,3 +33,7 @@ abbrev pub IsSmallestWith : List (List ℕ) → List ℕ → List ℕ → List �
 IsSmallestWith quorums chosen barred set =
     (other : List ℕ) → IsSet other → within chosen other ≡ true → meet barred other ≡ false
     → MeetsEach quorums other → length set ≤ length other
+
+-- how many of n voters are neither chosen nor barred
+abbrev pub undecided : ℕ → List ℕ → List ℕ → ℕ
+undecided n chosen barred = sum_below (λ i. if has chosen i || has barred i then 0 else 1) n

@@ -1,7 +1,7 @@
 //! Sets that meet every quorum, and a smallest one.
-ghost use Rattle.std.specs.Prelude.{◌≡◌, ◌==◌, ◌||◌, ◌<◌, ◌≤◌, ℕ, true, length, IfNone, IfSome, All};
+ghost use Rattle.std.specs.Prelude.{◌≡◌, ◌==◌, ◌||◌, ◌+◌, ◌^◌, ◌<◌, ◌≤◌, ℕ, true, false, length, IfNone, IfSome, All};
 ghost use Rattle.numbers.specs.Sets.{has, IsSet};
-ghost use Rattle.failures.specs.Failures.{IsSmallest, IsSmallestWith, IsTransversal};
+ghost use Rattle.failures.specs.Failures.{IsSmallest, IsSmallestWith, IsTransversal, undecided};
 
 use crate::without::first_apart_from;
 use quorum_set::{Coterie, QSet};
@@ -32,6 +32,7 @@ fn with_voter(set: &QSet, voter: u8) -> QSet
 fn first_outside(quorum: &QSet, barred: &QSet) -> Option<u8>
     ensures none { IfNone result (All (λ i. has barred.now i ≡ true) quorum.now) }
     ensures some { IfSome result (λ i. has quorum.now i ≡ true) }
+    ensures outside { IfSome result (λ i. has barred.now i ≡ false) }
 {
     let members = quorum.members();
     for i in members.as_slice() {
@@ -50,6 +51,8 @@ fn improve(coterie: &Coterie, chosen: &QSet, barred: &QSet, best: QSet, steps: &
     ensures meets { IsTransversal coterie.now result }
     ensures shorter { length result ≤ length best }
     ensures steps { steps.new ≤ steps.old }
+    // A step decides on one more voter, in two ways.
+    ensures spent { steps.old < steps.new + 2 ^ (undecided coterie.now.voters chosen.now barred.now + 1) }
     ensures smallest { 0 < steps.new → IsSmallestWith coterie.now.quorums chosen.now barred.now result }
 {
     if *steps == 0 || chosen.len() >= best.len() {
@@ -92,11 +95,13 @@ fn first_transversal(coterie: &Coterie) -> QSet
 /// Returns a set of voters that has a common member with each quorum: if all of them fail, the lock
 /// can't be taken. No such set is smaller, if the search ends within `steps` steps.
 ///
-/// Each step looks at up to all quorums. Searches of the usual shapes end within some thousands of
-/// steps. For a coterie of many irregular quorums over 64 voters, a million may be too few.
+/// Each step looks at up to all quorums. A search over n voters ends within 2^(n+1) steps, and
+/// searches of the usual shapes end within some thousands. For a coterie of many irregular quorums
+/// over 64 voters, a million may be too few.
 pub fn transversal_of(coterie: &Coterie, steps: u64) -> Transversal
     ensures meets { IsTransversal coterie.now result.voters }
     ensures smallest { result.is_smallest ≡ true → IsSmallest coterie.now.quorums result.voters }
+    ensures ends { 2 ^ (coterie.now.voters + 1) ≤ steps → result.is_smallest ≡ true }
 {
     let mut left = steps;
     let first = first_transversal(coterie);

@@ -11,7 +11,7 @@ use numbers::MAX_VOTERS;
 /// For each voter the highest grant number that the guard saw, and how often it saw something newer.
 #[derive(Drop)]
 pub struct Fence {
-    /// The highest grant of each voter that was shown, 0 for none.
+    /// The highest grant of each voter in passes that were admitted, 0 for none.
     pub seen: [u64; MAX_VOTERS],
     /// How many of the admitted passes showed a newer grant of some voter: the turn of the last one.
     pub turn: u64,
@@ -33,8 +33,8 @@ impl Fence {
     /// the pass shows a newer grant of some voter, and the last one again if it shows none. So all
     /// passes of one request have one turn, and a later request has a greater one (`leases`).
     ///
-    /// Fails with `OlderGrant` if and only if the pass shows an older grant of some voter than was shown
-    /// before, and otherwise with `TurnsSpent` if it shows a newer one and no turn is left. The guard is
+    /// Fails with `OlderGrant` if and only if the pass shows an older grant of some voter than the guard
+    /// saw in passes that it admitted, and otherwise with `TurnsSpent` if it shows a newer one and no turn is left. The guard is
     /// then unchanged.
     pub fn admit(&mut self, pass: &Pass) -> Result<u64, FenceFault>
         ensures older { Refuses self.old.seen pass.now → result ≡ Err FenceFault.OlderGrant }
@@ -46,7 +46,7 @@ impl Fence {
         ensures new { IfOk result (λ _. Admits self.old.seen pass.now) }
         ensures seen { IfOk result (λ turn. SeesAlso self.old.seen pass.now self.new.seen × (self.new.turn ≡ turn)) }
         ensures unchanged { OnErr result (self.new ≡ self.old) }
-        // A pass has a grant, so whoever was never inside has nothing to show.
+        // A pass has a grant.
         ensures some { HasGrant pass.now }
     {
         let grants = pass.grants();

@@ -10,9 +10,9 @@
 //! one grant. No call takes memory.
 //!
 //! A guard never refuses a pass that comes in order, and refuses one that comes late. The crate
-//! `fencing` proves this, over every list of steps, crashes and restarts. It depends on each voter's
-//! number of grants, which has to survive a crash. `leases` has what holds if a voter lets a grant go
-//! while its client has it. A guard also counts *turns*: one number, which users know as a fencing token.
+//! `leases` proves this, over every list of steps, crashes and restarts. It depends on each voter's
+//! number of grants, which has to survive a crash. `leases` also has what holds if a voter lets a grant
+//! go while its client has it. A guard also counts *turns*: one number, which users know as a fencing token.
 //!
 //! Depends on `numbers` and `requester`.
 #![tactic(auto)]

@@ -4,3 +4,4 @@ pub mod Incidents
 pub mod Orderly
 pub mod Shows
 pub mod Turns
+pub mod Visits

@@ -62,8 +62,8 @@ pub fn admitted_passes_do_not_interleave()
     parts_keep_their_rules();
 }
 
-/// A guard admits a pass if each voter's current grant is the one that is shown, whatever the guard
-/// saw before. So it refuses a client only if a voter of its quorum let its grant go.
+/// A guard that saw only what clients held admits a pass if each voter's current grant is the one that
+/// is shown. So it refuses a client only if a voter of its quorum let its grant go.
 pub fn current_passes_are_admitted()
     ensures { (voters clients limit : ℕ) (quorums : List (List ℕ)) (deal : Dealing) (incidents : List Incident)
         (seen pass : List ℕ)
@@ -76,7 +76,8 @@ pub fn current_passes_are_admitted()
 }
 
 /// At most one client is inside at a time, also if voters lose their states and are reborn, each
-/// once all clients are done with it: none has its vote, and no LOCKED of it may still count.
+/// once all clients are done with it: none has its vote, and no LOCKED of it may still count. Voters
+/// take only messages that were sent, and no client starts anew.
 pub fn at_most_one_is_inside_with_rebirths()
     ensures { (voters clients limit : ℕ) (quorums : List (List ℕ)) (deal : Dealing) (incidents : List Incident)
         → AreLimits voters clients limit → DoMeet voters quorums → DealsFrom quorums deal
@@ -128,8 +129,8 @@ pub fn turns_name_requests()
     parts_keep_their_rules();
 }
 
-/// Exclusion comes back: after evictions and rebirths, once all clients are idle, at most one is
-/// inside at a time from then on, as long as no more befall.
+/// Exclusion comes back: after evictions and rebirths alone, once all clients are idle, as they are and
+/// as saved, at most one is inside at a time for as long as no more befall.
 pub fn exclusion_comes_back()
     ensures { (voters clients limit : ℕ) (quorums : List (List ℕ)) (deal : Dealing) (incidents : List Incident)
         (happenings : List Happening)
@@ -142,7 +143,8 @@ pub fn exclusion_comes_back()
 }
 
 /// Requests that are finished at a voter stay out, whatever arrives there but a REQUEST of the same
-/// client with a greater stamp. So a client that left is never known again.
+/// client with a greater stamp. So a client that left is not known again, while the voter keeps its
+/// state.
 pub fn finished_requests_stay_out()
     ensures { (v : VoterState) (m : ToVoter) (o : Outcome) (client stamp : ℕ) → step v m ≡ Some o
         → IsOut v client stamp → AsksNoMore client stamp m.client m.body → IsOut o.state client stamp }

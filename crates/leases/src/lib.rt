@@ -9,7 +9,7 @@
 //!
 //! - the steps, losses, repeats, saves, crashes and restarts of `world`;
 //! - a voter takes a message that nobody sent. An *eviction* is one: the RELEASE of its current grant,
-//!   in the client's name;
+//!   in the client's name. `Voter::evict` does this;
 //! - a voter that lost its state is *reborn*, with at least as many grants as it ever gave;
 //! - a client that lost its state *starts anew*, with a clock that is at least its last stamp.
 //!
@@ -20,21 +20,29 @@
 //! ([`requests_have_one_pass`]). So, of the passes that a guard admits, whoever shows them, when and
 //! how often:
 //!
-//! - each is of the same request as one before, or newer ([`admitted_passes_are_in_order`]);
+//! - of any two, the later one is of the same request, or newer ([`admitted_passes_are_in_order`]);
 //! - **no two interleave** ([`admitted_passes_do_not_interleave`]);
 //! - the turns that the guard counts name their requests ([`turns_name_requests`]);
-//! - a guard refuses a client that is inside only if a voter of its quorum let its grant go
-//!   ([`current_passes_are_admitted`]).
+//! - a guard that saw only what clients held refuses a client that is inside only if a voter of its
+//!   quorum let its grant go ([`current_passes_are_admitted`]).
 //!
 //! Of the clients themselves:
 //!
 //! - of those whose grants are all current, at most one is inside
 //!   ([`at_most_one_is_inside_by_current_grants`]);
-//! - at most one is inside, if nobody is evicted and a voter is reborn only when all clients are done
-//!   with it ([`at_most_one_is_inside_with_rebirths`]);
-//! - after evictions and rebirths, once all clients are idle, at most one is inside from then on
-//!   ([`exclusion_comes_back`]);
-//! - a client that left a voter for good is never known there again ([`finished_requests_stay_out`]).
+//! - at most one is inside, if voters take only messages that were sent, no client starts anew, and a
+//!   voter is reborn only when all clients are done with it ([`at_most_one_is_inside_with_rebirths`]);
+//! - after evictions and rebirths alone, once all clients are idle, as they are and as saved, at most
+//!   one is inside for as long as no more befall ([`exclusion_comes_back`]);
+//! - no request up to a stamp that a voter has finished is known there again, while the voter keeps its
+//!   state ([`finished_requests_stay_out`]).
+//!
+//! Without incidents the order of passes is that of entering (`src/in_order.rt`), over every list of steps,
+//! crashes and restarts:
+//!
+//! - a new guard admits what clients show in the order in which they have it
+//!   ([`passes_in_order_are_admitted`]);
+//! - a guard refuses a pass that comes after a later one was admitted ([`late_passes_are_refused`]).
 //!
 //! Fencing tokens are from Gray and Cheriton's leases (SOSP 1989) and Burrows' sequencers (Chubby, OSDI
 //! 2006). Here a token is one number for each voter, as votes of one quorum have no common counter.
@@ -43,8 +51,10 @@
 //! `numbers`.
 #![tactic(auto)]
 
+mod in_order;
 mod laws;
 
+pub use in_order::{late_passes_are_refused, passes_in_order_are_admitted};
 pub use laws::{
     admitted_passes_are_in_order, admitted_passes_do_not_interleave,
     at_most_one_is_inside_by_current_grants, at_most_one_is_inside_with_rebirths,

@@ -11,8 +11,9 @@ use Rattle.coterie_file.specs.declared.fault.FileFault.TheVariants as file
 use Rattle.certificate.specs.PlanTexts as plan_texts
 use Rattle.certificate.specs.declared.fault.PlanFault.{PlanFault}
 use Rattle.certificate.specs.declared.fault.PlanFault.TheVariants as plan
+use Rattle.certificate.specs.Certificates.{IsCertificate}
 use Rattle.planner.specs.Causes.{CanCome}
-use Rattle.planner.specs.Uniform.{IsWarranted}
+use Rattle.planner.specs.Uniform.{IsWarranted, all_ones}
 use Rattle.planner.specs.declared.fault.PlannerFault.{PlannerFault}
 use Rattle.planner.specs.declared.fault.PlannerFault.TheVariants as planner
 use Rattle.plan_inputs.specs.Faults.{IsOfFile, Refuses, file_refusal, is_out_of_memory, plan_refusal, planner_refusal, refused_as}
@@ -46,11 +47,18 @@ Refuses-plan plan.OutOfMemory wanted e = tt
 Refuses-plan fault wanted e = ap (refused_as Plan) e
 
 -- so is one of the planner
-pub unplanned_refused : (coterie : List ℕ) (named : NamedSystem) (fault : PlannerFault) → coterie_in coterie ≡ Ok named → IsWarranted named.system named.capacities fault
-    → CanCome named.capacities fault
+pub unplanned_refused : (coterie : List ℕ) (named : NamedSystem) (fault : PlannerFault) → coterie_in coterie ≡ Ok named
+    → (IsCertificate (all_ones named.system named.capacities) → fault ≡ planner.OutOfMemory)
+    → IsWarranted named.system named.capacities fault → CanCome named.capacities fault
     → OnFalse (is_out_of_memory (planner_refusal fault)) (RefusesToPlan coterie (planner_refusal fault))
-unplanned_refused coterie named planner.OutOfMemory e warranted can_come = tt
-unplanned_refused coterie named (planner.NoPlan cause) e warranted can_come = record { named = named; coterie_is = e; warranted = warranted; can_come = can_come }
+unplanned_refused coterie named planner.OutOfMemory e certified warranted can_come = tt
+unplanned_refused coterie named (planner.NoPlan cause) e certified warranted can_come = record {
+  named = named;
+  coterie_is = e;
+  uncertified = λ is. let e = certified is in cc;
+  warranted = warranted;
+  can_come = can_come;
+}
 
 -- a text that describes no coterie has no plan
 pub unread_refused : (coterie : List ℕ) (fault : InputFault) → IsOfFile fault → OnFalse (is_out_of_memory fault) (coterie_in coterie ≡ Err fault)

@@ -9,7 +9,8 @@ use Rattle.coterie_file.specs.declared.fault.FileFault.TheVariants.{NotToml}
 use Rattle.certificate.specs.Certificates.{Weighted, IsCertificate, IsOptimal}
 use Rattle.certificate.specs.PlanTexts.{plan_at, plan_text}
 use Rattle.planner.specs.Causes.{CanCome}
-use Rattle.planner.specs.Uniform.{IsWarranted}
+use Rattle.planner.specs.Uniform.{IsWarranted, all_ones}
+use Rattle.planner.specs.Weights.{HaveNoCommonDivisor}
 use Rattle.planner.specs.declared.fault.Cause.{Cause}
 use Rattle.planner.specs.declared.fault.PlannerFault.TheVariants as planner
 use Rattle.planner.specs.declared.fault.PlannerFault.TheVariants.{NoPlan}
@@ -44,7 +45,8 @@ planned_by coterie plan = do
   Ok (record { named = named; plan = plan })
 
 -- The text is the one of an optimal plan, whose coterie and capacities are those that the first
--- text describes.
+-- text describes. All weights are 1 if these are a certificate. No number above 1 divides all
+-- weights of the quorums, or all weights of the voters.
 pub record IsPlanText (coterie text : List ℕ) : Type 0 where
   pub named : NamedSystem
   pub coterie_is : coterie_in coterie ≡ Ok named
@@ -53,13 +55,16 @@ pub record IsPlanText (coterie text : List ℕ) : Type 0 where
   pub capacities : plan.capacities ≡ named.capacities
   pub certificate : IsCertificate plan
   pub optimal : IsOptimal plan
+  pub ones : IsCertificate (all_ones named.system named.capacities) → plan ≡ all_ones named.system named.capacities
+  pub lowest : HaveNoCommonDivisor plan.quorum_weights × HaveNoCommonDivisor plan.voter_weights
   pub text_is : text ≡ plan_text plan
 
--- The text describes a coterie that is not uniform or has unequal capacities, and the planner found
--- no plan of it, for this cause.
+-- The text describes a coterie of which all weights 1 are no certificate, and the planner found no
+-- plan of it, for this cause. The coterie is not uniform, or has unequal capacities.
 pub record IsUnplanned (coterie : List ℕ) (cause : Cause) : Type 0 where
   pub named : NamedSystem
   pub coterie_is : coterie_in coterie ≡ Ok named
+  pub uncertified : ¬ IsCertificate (all_ones named.system named.capacities)
   pub warranted : IsWarranted named.system named.capacities (NoPlan cause)
   pub can_come : CanCome named.capacities (NoPlan cause)
 

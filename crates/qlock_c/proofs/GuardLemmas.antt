@@ -1,58 +1,70 @@
--- What a guard returns and writes, by the grants that it saw and those that it is shown.
-use Rattle.std.proofs.Common.{◌≡◌, ℕ, List, length, refl, sym, subst}
+-- What a guard returns and writes, by what it saw and the pass that it is shown.
+use Rattle.std.proofs.Common.{◌≡◌, ℕ, ◌∷◌, List, Result, Ok, Err, refl, sym, ap, subst}
+use Rattle.std.specs.Prelude.{◌+◌, ◌^◌, ◌<◌, ◌≤◌, ℤ}
 use Rattle.std.proofs.lemmas.List.FromFn.{fill_by_all}
 use Rattle.fence.specs.Passes.{Admits, HasGrant, Refuses, SeesAlso, highest_with}
-use Rattle.qlock_c.specs.Bytes.{AreGrants}
-use Rattle.qlock_c.specs.FenceSteps.{FenceAdmits, seen_with}
-use Rattle.qlock_c.specs.Numbers.{done, refused}
-use Rattle.qlock_c.specs.declared.refusal.Refusal.TheVariants.{NoPass, OlderGrant}
-use Rattle.qlock_c.proofs.StateLemmas.{length_grants}
+use Rattle.fence.specs.Turns.{Raises, RaisesNone}
+use Rattle.fence.specs.declared.fault.FenceFault.{FenceFault}
+use Rattle.fence.specs.declared.fault.FenceFault.TheVariants as faults
+use Rattle.qlock_c.specs.Bytes.{AreGrants, IsGuard}
+use Rattle.qlock_c.specs.FenceSteps.{AdmitsPass, FenceAdmits, seen_with}
+use Rattle.qlock_c.specs.Numbers.{done, fence_refusal, refused}
+use Rattle.qlock_c.proofs.StateLemmas.{length_grants, length_guard}
 
--- the bytes are those of these grants, and of no others
-pub record AreOneGrants (bytes grants : List ℕ) : Type 0 where
-  pub are : AreGrants bytes grants
-  pub only : (others : List ℕ) → AreGrants bytes others → others ≡ grants
+-- what `Fence::admit` ensures of its result
+pub record Admitted (seen pass : List ℕ) (last : ℕ) (result : Result ℕ FenceFault) : Type 0 where
+  pub older : Refuses seen pass → result ≡ Err faults.OlderGrant
+  pub again : Admits seen pass → RaisesNone seen pass → result ≡ Ok last
+  pub next : Admits seen pass → Raises seen pass → last + 1 < 2 ^ 64 → result ≡ Ok (last + 1)
+  pub spent : Admits seen pass → Raises seen pass → 2 ^ 64 ≤ last + 1 → result ≡ Err faults.TurnsSpent
 
-module _ (before shown after : List ℕ) where
-  module _ (seen pass : List ℕ) (one : AreOneGrants before seen) (shows : AreOneGrants shown pass) where
-    here : length before ≡ 512
-    here = length_grants before seen one.are
+-- the same of the grants that the pass is made of, and of a result that is known
+pub admitted-as : (seen shown pass : List ℕ) (last : ℕ) (result known : Result ℕ FenceFault) → pass ≡ shown → result ≡ known → Admitted seen pass last result → Admitted seen shown last known
+admitted-as seen shown pass last result known same is does =
+    subst (λ (r : Result ℕ FenceFault). Admitted seen shown last r) is (subst (λ (p : List ℕ). Admitted seen p last result) same does)
 
-    given : length shown ≡ 512
-    given = length_grants shown pass shows.are
+err_of : (e f : FenceFault) → ◌≡◌ {A = Result ℕ FenceFault} (Err e) (Err f) → e ≡ f
+err_of e f is = cc
 
-    pub admits-no_pass : (HasGrant pass → ⊥) → FenceAdmits before shown after (refused NoPass)
-    admits-no_pass none = record {
-      no_guard = λ no. absurd (no here);
-      no_grants = λ _ no. absurd (no given);
-      no_pass = λ _ _ _ _ _. refl;
-      older = λ s p _ is some _. absurd (none (subst HasGrant (shows.only p is) some));
-      admits = λ s p _ is some _. absurd (none (subst HasGrant (shows.only p is) some));
+ok_of : (m n : ℕ) → ◌≡◌ {A = Result ℕ FenceFault} (Ok m) (Ok n) → m ≡ n
+ok_of m n is = cc
+
+not_ok : (e : FenceFault) (n : ℕ) → ◌≡◌ {A = Result ℕ FenceFault} (Err e) (Ok n) → ⊥
+not_ok e n is = cc
+
+-- a refused pass
+pub refuses : (seen pass after : List ℕ) (last turn : ℕ) (fault : FenceFault) → Admitted seen pass last (Err fault) → AdmitsPass seen pass after last turn (refused (fence_refusal fault))
+refuses seen pass after last turn fault is = record {
+  older = λ h. ap (λ f. refused (fence_refusal f)) (err_of fault faults.OlderGrant (is.older h));
+  again = λ a n. absurd (not_ok fault last (is.again a n));
+  next = λ a r room. absurd (not_ok fault (last + 1) (is.next a r room));
+  spent = λ a r full. ap (λ f. refused (fence_refusal f)) (err_of fault faults.TurnsSpent (is.spent a r full));
+}
+
+-- an admitted pass
+pub admits : (seen pass after later : List ℕ) (last turn : ℕ) → Admitted seen pass last (Ok turn) → SeesAlso seen pass later → IsGuard after later turn → AdmitsPass seen pass after last turn done
+admits seen pass after later last turn is sees guard =
+    let all : later ≡ seen_with seen pass = fill_by_all (highest_with seen pass) later 64 0 guard.places (λ v few. sees v few) in
+    let now : (n : ℕ) → turn ≡ n → IsGuard after (seen_with seen pass) n = λ n same. subst (λ (k : ℕ). IsGuard after (seen_with seen pass) k) same (subst (λ (l : List ℕ). IsGuard after l turn) all guard) in
+    record {
+      older = λ h. absurd (not_ok faults.OlderGrant turn (sym (is.older h)));
+      again = λ a n. (let same = ok_of turn last (is.again a n) in (refl, same, now last same));
+      next = λ a r room. (let same = ok_of turn (last + 1) (is.next a r room) in (refl, same, now (last + 1) same));
+      spent = λ a r full. absurd (not_ok faults.TurnsSpent turn (sym (is.spent a r full)));
     }
 
-    same_admits : (s p : List ℕ) → AreGrants before s → AreGrants shown p → Admits s p → Admits seen pass
-    same_admits s p was is admits = subst (λ (l : List ℕ). Admits seen l) (shows.only p is) (subst (λ (l : List ℕ). Admits l p) (one.only s was) admits)
-
-    same_refuses : (s p : List ℕ) → AreGrants before s → AreGrants shown p → Refuses s p → Refuses seen pass
-    same_refuses s p was is refuses = subst (λ (l : List ℕ). Refuses seen l) (shows.only p is) (subst (λ (l : List ℕ). Refuses l p) (one.only s was) refuses)
-
-    pub admits-older : HasGrant pass → (Admits seen pass → ⊥) → FenceAdmits before shown after (refused OlderGrant)
-    admits-older some not = record {
-      no_guard = λ no. absurd (no here);
-      no_grants = λ _ no. absurd (no given);
-      no_pass = λ s p _ is none. absurd (none (subst HasGrant (sym (shows.only p is)) some));
-      older = λ _ _ _ _ _ _. refl;
-      admits = λ s p was is _ admits. absurd (not (same_admits s p was is admits));
-    }
-
-    pub admits-newer : (later : List ℕ) → HasGrant pass → (Refuses seen pass → ⊥) → SeesAlso seen pass later → AreGrants after later → FenceAdmits before shown after done
-    admits-newer later some not sees is_after = record {
-      no_guard = λ no. absurd (no here);
-      no_grants = λ _ no. absurd (no given);
-      no_pass = λ s p _ is none. absurd (none (subst HasGrant (sym (shows.only p is)) some));
-      older = λ s p was is _ refuses. absurd (not (same_refuses s p was is refuses));
-      admits = λ s p was is _ _.
-          let all : later ≡ seen_with seen pass = fill_by_all (highest_with seen pass) later 64 0 is_after.places (λ v few. sees v few) in
-          let after_is : AreGrants after (seen_with seen pass) = subst (λ (l : List ℕ). AreGrants after l) all is_after in
-          (refl, subst (λ (l : List ℕ). AreGrants after (seen_with l p)) (sym (one.only s was)) (subst (λ (l : List ℕ). AreGrants after (seen_with seen l)) (sym (shows.only p is)) after_is));
-    }
+module _ (before shown after : List ℕ) (turn : ℕ) where
+  pub admits-pass : (seen pass : List ℕ) (last : ℕ) (result : ℤ) → IsGuard before seen last → ((s : List ℕ) (l : ℕ) → IsGuard before s l → l ∷ s ≡ last ∷ seen)
+      → AreGrants shown pass → ((others : List ℕ) → AreGrants shown others → others ≡ pass) → HasGrant pass → AdmitsPass seen pass after last turn result → FenceAdmits before shown after turn result
+  admits-pass seen pass last result is one are only some does = record {
+    no_guard = λ no. absurd (no (length_guard before seen last is));
+    no_grants = λ _ no. absurd (no (length_grants shown pass are));
+    no_pass = λ s p l _ given none. absurd (none (subst HasGrant (sym (only p given)) some));
+    admits = λ s p l was given _.
+        let both = one s l was in
+        let same_last : l ≡ last = cc in
+        let same_seen : s ≡ seen = cc in
+        subst (λ (k : List ℕ). AdmitsPass k p after l turn result) (sym same_seen)
+        (subst (λ (k : ℕ). AdmitsPass seen p after k turn result) (sym same_last)
+        (subst (λ (k : List ℕ). AdmitsPass seen k after last turn result) (sym (only p given)) does));
+  }

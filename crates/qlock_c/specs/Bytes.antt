@@ -1,5 +1,5 @@
 -- The states that C sees: the numbers of a voter, of a client or of a guard, as bytes.
-use Rattle.std.specs.Prelude.{ℕ, ◌≡◌, List, length}
+use Rattle.std.specs.Prelude.{ℕ, ◌≡◌, List, ◌∷◌, length}
 use Rattle.numbers.specs.Bounds.{max_voters}
 use Rattle.words.specs.WordBytes.{FitIn64Bits, bytes_of}
 use Rattle.voter.specs.declared.state.VoterState.{VoterState}
@@ -24,6 +24,13 @@ pub record AreGrants (bytes grants : List ℕ) : Type 0 where
   pub places : length grants ≡ max_voters
   pub fit : FitIn64Bits grants
   pub bytes_are : bytes ≡ bytes_of grants
+
+-- The bytes are those of a guard: its last turn, and the highest grant of each voter that it saw, each a
+-- number of 64 bits.
+pub record IsGuard (bytes seen : List ℕ) (turn : ℕ) : Type 0 where
+  pub places : length seen ≡ max_voters
+  pub fit : FitIn64Bits (turn ∷ seen)
+  pub bytes_are : bytes ≡ bytes_of (turn ∷ seen)
 
 -- the bytes are those of no voter
 abbrev pub IsNoVoter : List ℕ → Type 0

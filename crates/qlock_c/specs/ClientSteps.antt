@@ -1,19 +1,21 @@
 -- What the calls of a client return and write. Each is said for the one client that the bytes are, and
--- for the one message that the line is. A call that is refused writes nothing.
-use Rattle.std.specs.Prelude.{ℕ, ℤ, pos, ◌≡◌, ◌≢◌, true, false, List, length, Result, Ok, Err}
+-- for the one message that the line is. That a refused call writes nothing is a clause of each call.
+use Rattle.std.specs.Prelude.{ℕ, ℤ, pos, ◌≡◌, true, false, List, Result, Ok, Err}
 use Rattle.message.specs.declared.message.ToClient.{ToClient}
+use Rattle.message.specs.declared.message.ToVoter.{ToVoter}
 use Rattle.quorum_set.specs.Words.{word_of}
 use Rattle.requester.specs.declared.fault.ClientFault.{ClientFault}
 use Rattle.requester.specs.declared.state.ClientState.{ClientState}
 use Rattle.requester.specs.declared.state.Seen.{Seen}
 use Rattle.requester.specs.declared.state.Seen.TheVariants.{Nothing, Entered, Left}
 use Rattle.requester.specs.Saved.{least_client, phase_word}
-use Rattle.requester.specs.Steps.{Outcome, take, remind}
+use Rattle.requester.specs.Leases.{disclaim, renew}
+use Rattle.requester.specs.Steps.{Outcome, remind, see, take}
 use Rattle.requester.specs.Words.{held_of, is_inside, members}
 use Rattle.qlock_c.specs.Bytes.{AreGrants, IsClient, IsNoClient}
 use Rattle.qlock_c.specs.Lines.{IsToClient, Sends, lines_to_voters}
 use Rattle.qlock_c.specs.Numbers.{client_refusal, done, refused}
-use Rattle.qlock_c.specs.declared.refusal.Refusal.TheVariants.{BadArgument, BadMessage, BadState, NotInside}
+use Rattle.qlock_c.specs.declared.refusal.Refusal.TheVariants.{BadMessage, BadState, NotInside}
 
 -- 1 if the client got the lock in the step
 abbrev pub entered_number : Seen → ℤ
@@ -69,3 +71,24 @@ pub record ClientShowsPass (state pass : List ℕ) (result : ℤ) : Type 0 where
   pub outside : (client : ClientState) → IsClient state client → is_inside client.phase ≡ false → result ≡ refused NotInside
   pub inside : (client : ClientState) → IsClient state client → is_inside client.phase ≡ true
       → (result ≡ done) × AreGrants pass client.held
+
+-- a client raises its clock
+pub record ClientRaises (before : List ℕ) (clock : ℕ) (after : List ℕ) (result : ℤ) : Type 0 where
+  pub no_client : IsNoClient before → result ≡ refused BadState
+  pub raises : (client : ClientState) → IsClient before client → (result ≡ done) × IsClient after (see client clock)
+
+-- by what a client that disclaims its requests sends, or why it can't
+abbrev pub SaysSo : Result (List ToVoter) ClientFault → (out out_after : List ℕ) → ℕ → ℤ → Type 0
+SaysSo (Err fault) out out_after written result = result ≡ refused (client_refusal fault)
+SaysSo (Ok messages) out out_after written result = Sends (lines_to_voters messages) out out_after written result (Unit {0})
+
+-- a client disclaims its requests at these voters
+pub record ClientDisclaims (state : List ℕ) (voters out out_after : List ℕ) (written : ℕ) (result : ℤ) : Type 0 where
+  pub no_client : IsNoClient state → result ≡ refused BadState
+  pub disclaims : (client : ClientState) → IsClient state client → SaysSo (disclaim client voters) out out_after written result
+
+-- a client that is inside gives a sign of life
+pub record ClientRenews (state out out_after : List ℕ) (written : ℕ) (result : ℤ) : Type 0 where
+  pub no_client : IsNoClient state → result ≡ refused BadState
+  pub renews : (client : ClientState) → IsClient state client
+      → Sends (lines_to_voters (renew client)) out out_after written result (Unit {0})

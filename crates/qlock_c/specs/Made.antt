@@ -14,9 +14,16 @@ pub record AreInRange (id limit : ℕ) : Type 0 where
   pub some : 1 ≤ limit
   pub most : limit ≤ max_stamp
 
--- A voter or a client with this number and this limit is made in place of these bytes, and `Changes`
--- says of which state the new bytes are.
-pub record IsMade (id limit : ℕ) (before : List ℕ) (Changes : Type 0) (result : ℤ) : Type 0 where
-  pub bad_argument : (AreInRange id limit → ⊥) → result ≡ refused BadArgument
-  pub bad_state : AreInRange id limit → length before ≢ state_bytes → result ≡ refused BadState
-  pub made : AreInRange id limit → length before ≡ state_bytes → (result ≡ done) × Changes
+-- the same, and the number of grants, or the clock, is at most the limit
+pub record AreWithin (id limit number : ℕ) : Type 0 where
+  pub few : id < max_voters
+  pub some : 1 ≤ limit
+  pub most : limit ≤ max_stamp
+  pub within : number ≤ limit
+
+-- A voter or a client is made in place of these bytes, if its numbers are in range. `Changes` says of
+-- which state the new bytes are.
+pub record IsMade (InRange : Type 0) (before : List ℕ) (Changes : Type 0) (result : ℤ) : Type 0 where
+  pub bad_argument : (InRange → ⊥) → result ≡ refused BadArgument
+  pub bad_state : InRange → length before ≢ state_bytes → result ≡ refused BadState
+  pub made : InRange → length before ≡ state_bytes → (result ≡ done) × Changes

@@ -1,9 +1,11 @@
 -- The numbers that calls return to C, as in include/qlock.h.
 use Rattle.std.specs.Prelude.{ℕ, ℤ, pos, Result, Ok, Err}
+use Rattle.fence.specs.declared.fault.FenceFault.{FenceFault}
+use Rattle.fence.specs.declared.fault.FenceFault.TheVariants as fence
 use Rattle.requester.specs.declared.fault.ClientFault.{ClientFault}
 use Rattle.requester.specs.declared.fault.ClientFault.TheVariants as client
 use Rattle.qlock_c.specs.declared.refusal.Refusal.{Refusal}
-use Rattle.qlock_c.specs.declared.refusal.Refusal.TheVariants.{BadArgument, BadState, BadMessage, NoRoom, Busy, NotInside, NotAsking, StampsSpent, GrantsSpent, OlderGrant, NoPass}
+use Rattle.qlock_c.specs.declared.refusal.Refusal.TheVariants.{BadArgument, BadState, BadMessage, NoRoom, Busy, NotInside, NotAsking, StampsSpent, GrantsSpent, OlderGrant, NoPass, TurnsSpent}
 
 -- the number of a refusal
 abbrev pub number_of : Refusal → ℕ
@@ -18,6 +20,7 @@ number_of StampsSpent = 8
 number_of GrantsSpent = 9
 number_of OlderGrant = 10
 number_of NoPass = 13
+number_of TurnsSpent = 14
 
 -- what a call returns that is done
 abbrev pub done : ℤ
@@ -38,3 +41,8 @@ client_refusal client.Busy = Busy
 client_refusal client.NotInside = NotInside
 client_refusal client.NotAsking = NotAsking
 client_refusal client.StampsSpent = StampsSpent
+
+-- the refusal of a guard's fault
+abbrev pub fence_refusal : FenceFault → Refusal
+fence_refusal fence.OlderGrant = OlderGrant
+fence_refusal fence.TurnsSpent = TurnsSpent

@@ -1,14 +1,16 @@
 -- What the calls of a voter return and write. Each is said for the one voter that the bytes are, and
--- for the one message that the line is. A call that is refused writes nothing.
-use Rattle.std.specs.Prelude.{ℕ, ℤ, ◌≡◌, List, Option, None, Some}
+-- for the one message that the line is. That a refused call writes nothing is a clause of each call.
+use Rattle.std.specs.Prelude.{ℕ, ℤ, ◌≡◌, ◌≤◌, List, Option, None, Some, slice_index, unwrap_or}
+use Rattle.numbers.specs.Bounds.{max_stamp}
 use Rattle.message.specs.declared.message.ToVoter.{ToVoter}
 use Rattle.voter.specs.declared.state.Grant.{Grant}
 use Rattle.voter.specs.declared.state.VoterState.{VoterState}
-use Rattle.voter.specs.Steps.{Outcome, step, remind}
+use Rattle.voter.specs.Leases.{evict}
+use Rattle.voter.specs.Steps.{Outcome, current_stamp, remind, step}
 use Rattle.qlock_c.specs.Bytes.{IsNoVoter, IsVoter}
 use Rattle.qlock_c.specs.Lines.{IsToVoter, Sends, lines_to_clients}
 use Rattle.qlock_c.specs.Numbers.{done, refused}
-use Rattle.qlock_c.specs.declared.refusal.Refusal.TheVariants.{BadMessage, BadState, GrantsSpent}
+use Rattle.qlock_c.specs.declared.refusal.Refusal.TheVariants.{BadArgument, BadMessage, BadState, GrantsSpent}
 
 -- by what the voter's own step gives: a refusal, or replies and the voter afterwards
 abbrev pub GoesOn : Option Outcome → (after out out_after : List ℕ) → ℕ → ℤ → Type 0
@@ -39,3 +41,23 @@ IsHeldBy (Some g) client stamp grant = (client ≡ g.client) × (stamp ≡ g.sta
 pub record VoterShowsHolder (state : List ℕ) (client stamp grant : ℕ) (result : ℤ) : Type 0 where
   pub no_voter : IsNoVoter state → result ≡ refused BadState
   pub shows : (voter : VoterState) → IsVoter state voter → (result ≡ done) × IsHeldBy voter.held client stamp grant
+
+-- a voter lets the grant with this number go
+pub record VoterEvicts (before : List ℕ) (grant : ℕ) (after out out_after : List ℕ) (written : ℕ) (result : ℤ) : Type 0 where
+  pub no_voter : IsNoVoter before → result ≡ refused BadState
+  pub evicts : (voter : VoterState) → IsVoter before voter → GoesOn (evict voter grant) after out out_after written result
+
+-- a voter may give more grants
+pub record VoterExtends (before : List ℕ) (limit : ℕ) (after : List ℕ) (result : ℤ) : Type 0 where
+  pub no_voter : IsNoVoter before → result ≡ refused BadState
+  pub bad_argument : (voter : VoterState) → IsVoter before voter → (voter.limit ≤ limit → limit ≤ max_stamp → ⊥)
+      → result ≡ refused BadArgument
+  pub extends : (voter : VoterState) → IsVoter before voter → voter.limit ≤ limit → limit ≤ max_stamp
+      → (result ≡ done) × IsVoter after (record voter { limit = limit })
+
+-- a voter shows what it knows of a client: the stamp that has the vote or waits, 0 for none, the highest
+-- stamp that is finished, and the highest stamp that it saw of anybody
+pub record VoterShowsClient (state : List ℕ) (client stamp finished seen : ℕ) (result : ℤ) : Type 0 where
+  pub no_voter : IsNoVoter state → result ≡ refused BadState
+  pub shows : (voter : VoterState) → IsVoter state voter → (result ≡ done)
+      × (stamp ≡ unwrap_or (current_stamp voter client) 0) × (finished ≡ slice_index voter.finished client) × (seen ≡ voter.seen)

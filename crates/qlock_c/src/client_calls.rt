@@ -3,13 +3,14 @@ ghost use Rattle.std.specs.Prelude.{◌≡◌, ◌≢◌, ◌<◌, ◌≤◌, �
 ghost use Rattle.message.specs.declared.message.ToClient.{ToClient};
 ghost use Rattle.numbers.specs.Bounds.{max_voters};
 ghost use Rattle.numbers.specs.Sets.{members_of};
+ghost use Rattle.requester.specs.Leases.{anew};
 ghost use Rattle.requester.specs.Saved.{phase_word};
 ghost use Rattle.requester.specs.Steps as steps;
 ghost use Rattle.qlock_c.specs.Bytes.{IsClient};
-ghost use Rattle.qlock_c.specs.ClientSteps.{ClientDoes, ClientForgets, ClientReminds, ClientShows, ClientShowsGrant, ClientShowsPass, ClientTakes, entered_number};
+ghost use Rattle.qlock_c.specs.ClientSteps.{ClientDisclaims, ClientDoes, ClientForgets, ClientRaises, ClientReminds, ClientRenews, ClientShows, ClientShowsGrant, ClientShowsPass, ClientTakes, entered_number};
 ghost use Rattle.qlock_c.specs.FenceSteps.{grant_bytes};
 ghost use Rattle.qlock_c.specs.Lines.{IsToClient};
-ghost use Rattle.qlock_c.specs.Made.{IsMade};
+ghost use Rattle.qlock_c.specs.Made.{AreInRange, AreWithin, IsMade};
 ghost use Rattle.qlock_c.specs.Numbers.{done, refused, returned};
 
 use crate::lines::put_to_voters;
@@ -46,7 +47,7 @@ fn show_entry(seen: Seen, entered: &mut i32)
 }
 
 fn new(id: u8, limit: u64, state: &mut [u8]) -> Result<(), Refusal>
-    ensures made { IsMade id limit state.old (IsClient state.new (steps.start id limit)) (returned result) }
+    ensures made { IsMade (AreInRange id limit) state.old (IsClient state.new (steps.start id limit)) (returned result) }
     ensures refused { OnErr result (state.new ≡ state.old) }
 {
     if id >= 64 || limit < 1 || limit > MAX_STAMP {
@@ -205,13 +206,54 @@ fn pass(state: &[u8], pass: &mut [u8]) -> Result<(), Refusal>
     }
 }
 
+fn anew(id: u8, limit: u64, clock: u64, state: &mut [u8]) -> Result<(), Refusal>
+    ensures made { IsMade (AreWithin id limit clock) state.old (IsClient state.new (anew id limit clock)) (returned result) }
+    ensures refused { OnErr result (state.new ≡ state.old) }
+{
+    if id >= 64 || limit < 1 || limit > MAX_STAMP || clock > limit {
+        return Err(Refusal::BadArgument);
+    }
+    if state.len() != STATE_BYTES {
+        return Err(Refusal::BadState);
+    }
+    store_client(&Requester::anew(id, limit, clock), state);
+    Ok(())
+}
+
+fn raise(state: &mut [u8], clock: u64) -> Result<(), Refusal>
+    ensures raises { ClientRaises state.old clock state.new (returned result) }
+    ensures refused { OnErr result (state.new ≡ state.old) }
+{
+    let mut client = load_client(state)?;
+    client.raise(clock);
+    store_client(&client, state);
+    Ok(())
+}
+
+fn disclaim(state: &[u8], voters: u64, out: &mut [u8], written: &mut usize) -> Result<(), Refusal>
+    ensures disclaims { ClientDisclaims state.now (members_of voters) out.old out.new written.new (returned result) }
+    ensures refused { OnErr result ((out.new ≡ out.old) × (written.new ≡ written.old)) }
+{
+    let client = load_client(state)?;
+    let messages = client.disclaim(&QSet::of_bits(voters))?;
+    put_to_voters(messages.as_slice(), out, written)
+}
+
+fn renew(state: &[u8], out: &mut [u8], written: &mut usize) -> Result<(), Refusal>
+    ensures renews { ClientRenews state.now out.old out.new written.new (returned result) }
+    ensures refused { OnErr result ((out.new ≡ out.old) × (written.new ≡ written.old)) }
+{
+    let client = load_client(state)?;
+    put_to_voters(client.renew().as_slice(), out, written)
+}
+
 /// Makes a new client with this number, 0 to 63. Its stamps go from 1 to the limit, which is 1 to
 /// 2^40.
 #[unsafe(no_mangle)]
 pub extern "C" fn qlock_client_new(id: u8, limit: u64, state: &mut [u8]) -> i32
     // A call that is refused writes nothing. So it is with each call.
     ensures refused { result ≢ done → state.new ≡ state.old }
-    ensures made { IsMade id limit state.old (IsClient state.new (steps.start id limit)) result }
+    ensures made { IsMade (AreInRange id limit) state.old (IsClient state.new (steps.start id limit)) result }
 {
     number_of(new(id, limit, state))
 }
@@ -324,4 +366,47 @@ pub extern "C" fn qlock_client_pass(state: &[u8], shown: &mut [u8]) -> i32
     ensures shows { length shown.old ≡ grant_bytes → ClientShowsPass state.now shown.new result }
 {
     number_of(pass(state, shown))
+}
+
+/// Makes a client that lost its state, with a clock that is at least the stamp of its last request and
+/// at most the limit.
+#[unsafe(no_mangle)]
+pub extern "C" fn qlock_client_anew(id: u8, limit: u64, clock: u64, state: &mut [u8]) -> i32
+    ensures refused { result ≢ done → state.new ≡ state.old }
+    ensures made { IsMade (AreWithin id limit clock) state.old (IsClient state.new (anew id limit clock)) result }
+{
+    number_of(anew(id, limit, clock, state))
+}
+
+/// Raises the clock to this stamp, if it is behind.
+#[unsafe(no_mangle)]
+pub extern "C" fn qlock_client_raise(state: &mut [u8], clock: u64) -> i32
+    ensures refused { result ≢ done → state.new ≡ state.old }
+    ensures raises { ClientRaises state.old clock state.new result }
+{
+    number_of(raise(state, clock))
+}
+
+/// Writes the lines of what an idle client sends to end all its requests at these voters, voter i if
+/// bit i is 1.
+#[unsafe(no_mangle)]
+pub extern "C" fn qlock_client_disclaim(
+    state: &[u8],
+    voters: u64,
+    out: &mut [u8],
+    written: &mut usize,
+) -> i32
+    ensures refused { result ≢ done → (out.new ≡ out.old) × (written.new ≡ written.old) }
+    ensures disclaims { ClientDisclaims state.now (members_of voters) out.old out.new written.new result }
+{
+    number_of(disclaim(state, voters, out, written))
+}
+
+/// Writes the lines of what a client that is inside sends as a sign of life.
+#[unsafe(no_mangle)]
+pub extern "C" fn qlock_client_renew(state: &[u8], out: &mut [u8], written: &mut usize) -> i32
+    ensures refused { result ≢ done → (out.new ≡ out.old) × (written.new ≡ written.old) }
+    ensures renews { ClientRenews state.now out.old out.new written.new result }
+{
+    number_of(renew(state, out, written))
 }

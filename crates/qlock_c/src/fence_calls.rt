@@ -1,62 +1,57 @@
 //! The calls of the guard of what the lock protects.
-ghost use Rattle.std.specs.Prelude.{◌≡◌, ◌≢◌, OnErr, length, replicate};
-ghost use Rattle.numbers.specs.Bounds.{max_voters};
-ghost use Rattle.qlock_c.specs.Bytes.{AreGrants};
-ghost use Rattle.qlock_c.specs.FenceSteps.{FenceAdmits, grant_bytes};
-ghost use Rattle.qlock_c.specs.Numbers.{done, refused, returned};
+ghost use Rattle.std.specs.Prelude.{◌≡◌, ◌≢◌, OnErr};
+ghost use Rattle.qlock_c.specs.FenceSteps.{FenceAdmits, FenceIsMade};
+ghost use Rattle.qlock_c.specs.Numbers.{done, returned};
 
 use crate::refusal::{Refusal, number_of};
-use crate::saved_bytes::{GRANTS_BYTES, load_grants, store_grants};
+use crate::saved_bytes::{FENCE_BYTES, load_fence, load_grants, store_fence};
 use fence::{Fence, Pass};
 
 fn new(state: &mut [u8]) -> Result<(), Refusal>
-    ensures bad_state { length state.old ≢ grant_bytes → returned result ≡ refused Refusal.BadState }
-    ensures made { length state.old ≡ grant_bytes
-        → (returned result ≡ done) × AreGrants state.new (replicate max_voters 0) }
+    ensures made { FenceIsMade state.old state.new (returned result) }
     ensures refused { OnErr result (state.new ≡ state.old) }
 {
-    if state.len() != GRANTS_BYTES {
+    if state.len() != FENCE_BYTES {
         return Err(Refusal::BadState);
     }
-    store_grants(&Fence::new().seen, state);
+    store_fence(&Fence::new(), state);
     Ok(())
 }
 
-#[tactic(auto, using(crate::proofs::StateLemmas::length_grants))]
-fn admit(state: &mut [u8], pass: &[u8]) -> Result<(), Refusal>
-    ensures admits { FenceAdmits state.old pass.now state.new (returned result) }
-    ensures refused { OnErr result (state.new ≡ state.old) }
+#[tactic(auto, using(crate::proofs::StateLemmas::length_grants, crate::proofs::StateLemmas::length_guard))]
+fn admit(state: &mut [u8], pass: &[u8], turn: &mut u64) -> Result<(), Refusal>
+    ensures admits { FenceAdmits state.old pass.now state.new turn.new (returned result) }
+    ensures refused { OnErr result ((state.new ≡ state.old) × (turn.new ≡ turn.old)) }
 {
-    let seen = load_grants(state, Refusal::BadState)?;
+    let mut fence = load_fence(state)?;
     let shown = load_grants(pass, Refusal::BadArgument)?;
     let Some(pass) = Pass::of(shown) else {
         return Err(Refusal::NoPass);
     };
-    let mut fence = Fence { seen };
-    if !fence.admit(&pass) {
-        return Err(Refusal::OlderGrant);
+    match fence.admit(&pass) {
+        Ok(given) => *turn = given,
+        Err(fault) => return Err(Refusal::of_fence(fault)),
     }
-    store_grants(&fence.seen, state);
+    store_fence(&fence, state);
     Ok(())
 }
 
-/// Makes a guard that saw no grant, in 512 bytes.
+/// Makes a guard that saw no grant, in 520 bytes.
 #[unsafe(no_mangle)]
 pub extern "C" fn qlock_fence_new(state: &mut [u8]) -> i32
     // A call that is refused writes nothing.
     ensures refused { result ≢ done → state.new ≡ state.old }
-    ensures bad_state { length state.old ≢ grant_bytes → result ≡ refused Refusal.BadState }
-    ensures made { length state.old ≡ grant_bytes → (result ≡ done) × AreGrants state.new (replicate max_voters 0) }
+    ensures made { FenceIsMade state.old state.new result }
 {
     number_of(new(state))
 }
 
 /// Admits a pass, 512 bytes as `qlock_client_pass` writes them, unless it shows an older grant of some
-/// voter than was shown before. Bytes that show no grant at all are no pass.
+/// voter than one that was admitted before, and writes its turn. Bytes that show no grant at all are no pass.
 #[unsafe(no_mangle)]
-pub extern "C" fn qlock_fence_admit(state: &mut [u8], pass: &[u8]) -> i32
-    ensures refused { result ≢ done → state.new ≡ state.old }
-    ensures admits { FenceAdmits state.old pass.now state.new result }
+pub extern "C" fn qlock_fence_admit(state: &mut [u8], pass: &[u8], turn: &mut u64) -> i32
+    ensures refused { result ≢ done → (state.new ≡ state.old) × (turn.new ≡ turn.old) }
+    ensures admits { FenceAdmits state.old pass.now state.new turn.new result }
 {
-    number_of(admit(state, pass))
+    number_of(admit(state, pass, turn))
 }

@@ -1,7 +1,8 @@
 //! Why a call did nothing, and the numbers that C sees.
 ghost use Rattle.std.specs.Prelude.{◌≡◌, ◌≢◌, OnErr, OnOk};
-ghost use Rattle.qlock_c.specs.Numbers.{client_refusal, done, refused, returned};
+ghost use Rattle.qlock_c.specs.Numbers.{client_refusal, done, fence_refusal, refused, returned};
 
+use fence::FenceFault;
 use requester::ClientFault;
 use voter::VoterFault;
 
@@ -30,12 +31,24 @@ pub enum Refusal {
     OlderGrant,
     /// What is shown to the guard has no grant, so it is no pass.
     NoPass,
+    /// The pass shows a newer grant, and the guard has no turn left.
+    TurnsSpent,
 }
 
 /// What a call returns to C if it was done.
 pub const DONE: i32 = 0;
 
 impl Refusal {
+    /// Returns the refusal of a guard's fault.
+    pub fn of_fence(fault: FenceFault) -> Refusal
+        ensures { result ≡ fence_refusal fault }
+    {
+        match fault {
+            FenceFault::OlderGrant => Refusal::OlderGrant,
+            FenceFault::TurnsSpent => Refusal::TurnsSpent,
+        }
+    }
+
     /// Returns the number of this refusal.
     fn number(self) -> i32
         ensures { result ≡ refused self }
@@ -52,6 +65,7 @@ impl Refusal {
             Refusal::GrantsSpent => 9,
             Refusal::OlderGrant => 10,
             Refusal::NoPass => 13,
+            Refusal::TurnsSpent => 14,
         }
     }
 }

@@ -1,13 +1,14 @@
 //! The calls of a voter.
 ghost use Rattle.std.specs.Prelude.{◌≡◌, ◌≢◌, ◌<◌, ◌≤◌, ℕ, IfErr, IfOk, OnErr, length};
 ghost use Rattle.message.specs.declared.message.ToVoter.{ToVoter};
-ghost use Rattle.numbers.specs.Bounds.{max_stamp, max_voters};
+ghost use Rattle.numbers.specs.Bounds.{max_clients};
+ghost use Rattle.voter.specs.Leases.{reborn};
 ghost use Rattle.voter.specs.Steps.{start};
 ghost use Rattle.qlock_c.specs.Bytes.{IsVoter};
 ghost use Rattle.qlock_c.specs.Lines.{IsToVoter};
-ghost use Rattle.qlock_c.specs.Made.{IsMade};
-ghost use Rattle.qlock_c.specs.Numbers.{done, returned};
-ghost use Rattle.qlock_c.specs.VoterSteps.{IsHeldBy, VoterReminds, VoterShowsHolder, VoterTakes};
+ghost use Rattle.qlock_c.specs.Made.{AreInRange, AreWithin, IsMade};
+ghost use Rattle.qlock_c.specs.Numbers.{done, refused, returned};
+ghost use Rattle.qlock_c.specs.VoterSteps.{IsHeldBy, VoterEvicts, VoterExtends, VoterReminds, VoterShowsClient, VoterShowsHolder, VoterTakes};
 
 use crate::lines::put_to_clients;
 use crate::refusal::{Refusal, number_of};
@@ -31,7 +32,7 @@ fn read_to_voter(line: &[u8], id: u8) -> Result<ToVoter, Refusal>
 }
 
 fn new(id: u8, limit: u64, state: &mut [u8]) -> Result<(), Refusal>
-    ensures made { IsMade id limit state.old (IsVoter state.new (start id limit)) (returned result) }
+    ensures made { IsMade (AreInRange id limit) state.old (IsVoter state.new (start id limit)) (returned result) }
     ensures refused { OnErr result (state.new ≡ state.old) }
 {
     if id >= 64 || limit < 1 || limit > MAX_STAMP {
@@ -93,12 +94,73 @@ fn held(state: &[u8], client: &mut u64, stamp: &mut u64, grant: &mut u64) -> Res
     Ok(())
 }
 
+fn reborn(id: u8, above: u64, limit: u64, state: &mut [u8]) -> Result<(), Refusal>
+    ensures made { IsMade (AreWithin id limit above) state.old (IsVoter state.new (reborn id above limit)) (returned result) }
+    ensures refused { OnErr result (state.new ≡ state.old) }
+{
+    if id >= 64 || limit < 1 || limit > MAX_STAMP || above > limit {
+        return Err(Refusal::BadArgument);
+    }
+    if state.len() != STATE_BYTES {
+        return Err(Refusal::BadState);
+    }
+    store_voter(&Voter::reborn(id, above, limit), state);
+    Ok(())
+}
+
+fn extend(state: &mut [u8], limit: u64) -> Result<(), Refusal>
+    ensures extends { VoterExtends state.old limit state.new (returned result) }
+    ensures refused { OnErr result (state.new ≡ state.old) }
+{
+    let mut voter = load_voter(state)?;
+    if limit < voter.limit() || limit > MAX_STAMP {
+        return Err(Refusal::BadArgument);
+    }
+    voter.extend(limit);
+    store_voter(&voter, state);
+    Ok(())
+}
+
+fn evict(state: &mut [u8], grant: u64, out: &mut [u8], written: &mut usize) -> Result<(), Refusal>
+    ensures evicts { VoterEvicts state.old grant state.new out.old out.new written.new (returned result) }
+    ensures refused { OnErr result ((state.new ≡ state.old) × (out.new ≡ out.old) × (written.new ≡ written.old)) }
+{
+    let mut voter = load_voter(state)?;
+    let replies = voter.evict(grant)?;
+    put_to_clients(replies.as_slice(), out, written)?;
+    store_voter(&voter, state);
+    Ok(())
+}
+
+fn knows(
+    state: &[u8],
+    client: u8,
+    stamp: &mut u64,
+    finished: &mut u64,
+    seen: &mut u64,
+) -> Result<(), Refusal>
+    ensures bad_argument { max_clients ≤ client → returned result ≡ refused Refusal.BadArgument }
+    ensures shows { client < max_clients
+        → VoterShowsClient state.now client stamp.new finished.new seen.new (returned result) }
+    ensures refused { OnErr result
+        ((stamp.new ≡ stamp.old) × (finished.new ≡ finished.old) × (seen.new ≡ seen.old)) }
+{
+    if client >= 64 {
+        return Err(Refusal::BadArgument);
+    }
+    let voter = load_voter(state)?;
+    *stamp = voter.known(client).unwrap_or(0);
+    *finished = voter.finished(client);
+    *seen = voter.seen();
+    Ok(())
+}
+
 /// Makes a new voter with this number, 0 to 63, that may give `limit` grants, 1 to 2^40.
 #[unsafe(no_mangle)]
 pub extern "C" fn qlock_voter_new(id: u8, limit: u64, state: &mut [u8]) -> i32
     // A call that is refused writes nothing. So it is with each call.
     ensures refused { result ≢ done → state.new ≡ state.old }
-    ensures made { IsMade id limit state.old (IsVoter state.new (start id limit)) result }
+    ensures made { IsMade (AreInRange id limit) state.old (IsVoter state.new (start id limit)) result }
 {
     number_of(new(id, limit, state))
 }
@@ -142,4 +204,56 @@ pub extern "C" fn qlock_voter_held(
     ensures shows { VoterShowsHolder state.now client.new stamp.new grant.new result }
 {
     number_of(held(state, client, stamp, grant))
+}
+
+/// Makes a voter that lost its state. It gave at most `above` grants before, and may give `limit`
+/// grants in all, 1 to 2^40.
+#[unsafe(no_mangle)]
+pub extern "C" fn qlock_voter_reborn(id: u8, above: u64, limit: u64, state: &mut [u8]) -> i32
+    ensures refused { result ≢ done → state.new ≡ state.old }
+    ensures made { IsMade (AreWithin id limit above) state.old (IsVoter state.new (reborn id above limit)) result }
+{
+    number_of(reborn(id, above, limit, state))
+}
+
+/// Raises the number of grants that the voter may give, up to 2^40.
+#[unsafe(no_mangle)]
+pub extern "C" fn qlock_voter_extend(state: &mut [u8], limit: u64) -> i32
+    ensures refused { result ≢ done → state.new ≡ state.old }
+    ensures extends { VoterExtends state.old limit state.new result }
+{
+    number_of(extend(state, limit))
+}
+
+/// Lets the current grant go if it has this number, and writes the lines of the replies.
+#[unsafe(no_mangle)]
+pub extern "C" fn qlock_voter_evict(
+    state: &mut [u8],
+    grant: u64,
+    out: &mut [u8],
+    written: &mut usize,
+) -> i32
+    ensures refused { result ≢ done
+        → (state.new ≡ state.old) × (out.new ≡ out.old) × (written.new ≡ written.old) }
+    ensures evicts { VoterEvicts state.old grant state.new out.old out.new written.new result }
+{
+    number_of(evict(state, grant, out, written))
+}
+
+/// Writes what the voter knows of a client: the stamp that has the vote or waits, 0 for none, the
+/// highest stamp that is finished, and the highest stamp that the voter saw of anybody.
+#[unsafe(no_mangle)]
+pub extern "C" fn qlock_voter_knows(
+    state: &[u8],
+    client: u8,
+    stamp: &mut u64,
+    finished: &mut u64,
+    seen: &mut u64,
+) -> i32
+    ensures refused { result ≢ done
+        → (stamp.new ≡ stamp.old) × (finished.new ≡ finished.old) × (seen.new ≡ seen.old) }
+    ensures bad_argument { max_clients ≤ client → result ≡ refused Refusal.BadArgument }
+    ensures shows { client < max_clients → VoterShowsClient state.now client stamp.new finished.new seen.new result }
+{
+    number_of(knows(state, client, stamp, finished, seen))
 }

@@ -269,7 +269,8 @@ impl Requester {
     }
 
     /// Returns what a client that is inside sends as a sign of life: REQUEST again to each member of
-    /// its quorum. A voter whose grant stands replies with LOCKED, and one that let it go with nothing.
+    /// its quorum. A voter whose grant stands replies with LOCKED. One that let it go, and remembers
+    /// that, is silent.
     pub fn renew(&self) -> Messages
         ensures { result.items ≡ renew self.now }
     {

@@ -88,6 +88,14 @@ pub(crate) enum Step {
     CrashVoter(u8),
     /// The client crashes.
     CrashClient(u8),
+    /// The voter lets the grant with this number go.
+    Evict(u8, u64),
+    /// The voter lost its state, and is made again as one that gave this number of grants.
+    Reborn(u8, u64),
+    /// The client lost its state, and is made again with this clock.
+    Anew(u8, u64),
+    /// The client sends to all voters that its requests are over.
+    Disclaim(u8),
 }
 
 /// Voters, clients, and all messages that were sent.
@@ -365,7 +373,63 @@ impl World {
                 self.restart_client(client, words.as_slice());
                 Ok(())
             }
+            Step::Evict(voter, grant) => self.evict(voter, grant),
+            Step::Reborn(voter, above) => {
+                self.reborn(voter, above);
+                Ok(())
+            }
+            Step::Anew(client, clock) => {
+                self.anew(client, clock);
+                Ok(())
+            }
+            Step::Disclaim(client) => self.disclaim(client),
         }
+    }
+
+    /// Has a voter let a grant go.
+    fn evict(&mut self, voter: u8, grant: u64) -> Result<(), AllocError> {
+        let Some(voter) = self.voters.get_mut(usize::from(voter)) else {
+            return Ok(());
+        };
+        if let Ok(replies) = voter.evict(grant) {
+            for reply in replies.as_slice() {
+                self.sent.push(Message::ToClient(*reply))?;
+            }
+        }
+        Ok(())
+    }
+
+    /// Makes a voter again that lost its state.
+    fn reborn(&mut self, id: u8, above: u64) {
+        if id >= 64 || above > LIMIT {
+            return;
+        }
+        if let Some(place) = self.voters.get_mut(usize::from(id)) {
+            *place = Voter::reborn(id, above, LIMIT);
+        }
+    }
+
+    /// Makes a client again that lost its state.
+    fn anew(&mut self, id: u8, clock: u64) {
+        if id >= 64 || clock > LIMIT {
+            return;
+        }
+        if let Some(place) = self.clients.get_mut(usize::from(id)) {
+            *place = Requester::anew(id, LIMIT, clock);
+        }
+    }
+
+    /// Has a client send to all voters that its requests are over.
+    fn disclaim(&mut self, client: u8) -> Result<(), AllocError> {
+        let Some(client) = self.clients.get(usize::from(client)) else {
+            return Ok(());
+        };
+        if let Ok(messages) = client.disclaim(&set_of(&[0, 1, 2])) {
+            for message in messages.as_slice() {
+                self.sent.push(Message::ToVoter(*message))?;
+            }
+        }
+        Ok(())
     }
 
     /// Makes these steps in order.

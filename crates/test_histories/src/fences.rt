@@ -28,14 +28,14 @@ fn shows(number: u64) -> [u64; 64] {
     pass
 }
 
-/// Returns whether each of two passes is admitted, the first one twice, and then the first one again.
-fn admitted(first: &Pass, second: &Pass) -> [bool; 4] {
+/// Returns the turn of each of two passes, of the first one twice and then once more; 0 if it is refused.
+pub(crate) fn turns(first: &Pass, second: &Pass) -> [u64; 4] {
     let mut fence = Fence::new();
     [
-        fence.admit(first),
-        fence.admit(first),
-        fence.admit(second),
-        fence.admit(first),
+        fence.admit(first).unwrap_or(0),
+        fence.admit(first).unwrap_or(0),
+        fence.admit(second).unwrap_or(0),
+        fence.admit(first).unwrap_or(0),
     ]
 }
 
@@ -64,7 +64,7 @@ fn fence_refuses_the_late_client(first: Shown, second: Shown, left: Shown) -> bo
         (Some((_, first)), Some((_, second))) => {
             (*first.grants() == shows(1))
                 & (*second.grants() == shows(2))
-                & (admitted(&first, &second) == [true, true, true, false])
+                & (turns(&first, &second) == [1, 1, 2, 0])
                 & left.is_none()
         }
         _ => false,
@@ -85,7 +85,7 @@ fn late_client_is_refused(rt: HostRuntime) {
 /// Returns whether a guard that goes by these stamps in place of grants refuses the second client.
 fn refuses_by_stamps(first: u64, second: u64) -> bool {
     match (Pass::of(shows(first)), Pass::of(shows(second))) {
-        (Some(first), Some(second)) => { admitted(&first, &second) == [true, true, false, true] }
+        (Some(first), Some(second)) => { turns(&first, &second) == [1, 1, 0, 1] }
         _ => false,
     }
 }

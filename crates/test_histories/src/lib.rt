@@ -2,6 +2,8 @@
 //! This crate has nothing but tests.
 //!
 //! - `crashes` has runs with crashes: where less survives than has to, two clients are inside.
+//! - `evictions` has runs with grants that are let go, and with voters and clients without their states: two
+//!   clients may be inside, and what a guard does with their passes.
 //! - `fences` shows the passes of such a run to a guard.
 //! - `saved` restores voters and clients from changed and shortened numbers.
 //! - `wrong_rules` has a history for each of five wrong rules, which `play` plays.
@@ -10,6 +12,8 @@
 
 #[cfg(test)]
 mod crashes;
+#[cfg(test)]
+mod evictions;
 #[cfg(test)]
 mod fences;
 #[cfg(test)]

@@ -4,6 +4,7 @@
 //!   `running`.
 //! - `capacities` has the commands for voters with capacities.
 //! - `gates` holds up clients.
+//! - `limits` has the commands at the greatest sizes that they take.
 //! - `faults` has the line of every fault.
 //!
 //! Depends on `test_runs`, which runs the commands, and on every crate that has faults.
@@ -19,6 +20,8 @@ mod dealing;
 mod faults;
 #[cfg(test)]
 mod gates;
+#[cfg(test)]
+mod limits;
 #[cfg(test)]
 mod plans;
 #[cfg(test)]

@@ -67,6 +67,13 @@ impl Voter {
         }
     }
 
+    /// Returns how many grants the voter may give in all.
+    pub fn limit(&self) -> u64
+        ensures { result ≡ self.now.limit }
+    {
+        self.state.limit
+    }
+
     /// Raises the number of grants that the voter may give, up to 2^40.
     pub fn extend(&mut self, limit: u64)
         requires least { self.old.limit ≤ limit }

@@ -1,1 +1,3 @@
-mod Leading
+pub mod Clients
+pub mod Leading
+pub mod Staying

@@ -10,9 +10,12 @@
 //!
 //! If [`let_in`] returns a way, its steps led from the old world to the new one. They are reminders
 //! and arrivals of messages that were sent after the call began, and they let that client in and
-//! nobody else. That a way is found is only tested.
+//! nobody else.
 //!
-//! Depends on `world`, `progress` and `requester`.
+//! If it returns none, or memory runs out, such steps led to the new world too, and nobody entered or
+//! left. If somebody is inside, or nobody asks, it makes no step. That a way is found is only tested.
+//!
+//! Depends on `world`, `progress`, `voter`, `requester` and `message`.
 #![tactic(auto)]
 
 mod make;

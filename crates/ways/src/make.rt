@@ -1,11 +1,11 @@
 //! Steps that help, one after the other.
-ghost use Rattle.std.specs.Prelude.{◌≡◌, ◌≤◌, ◌++◌, ℕ, IfOk, Some, List};
+ghost use Rattle.std.specs.Prelude.{◌≡◌, ◌≢◌, ◌<◌, ◌≤◌, ◌++◌, ℕ, List, length};
 ghost use Rattle.requester.specs.declared.state.Seen.TheVariants.{Nothing, Entered, Left};
 ghost use Rattle.progress.specs.WayIn.{Helps};
 ghost use Rattle.world.specs.declared.step.Event.{Event};
 ghost use Rattle.world.specs.Steps.{events};
-ghost use Rattle.ways.specs.declared.make.Went.TheVariants.{On, In, Lost};
-ghost use Rattle.ways.specs.Leads.{LeadFurther};
+ghost use Rattle.ways.specs.declared.make.Went.TheVariants.{On, In};
+ghost use Rattle.ways.specs.Leads.{LeadFurther, went_of};
 
 use requester::Seen;
 use std::alloc::AllocError;
@@ -20,36 +20,37 @@ pub enum Went {
     On,
     /// This client entered.
     In(u8),
-    /// A client left, which no such step does.
-    Lost,
 }
 
-/// Returns the client of the last event.
-fn who_entered(world: &World) -> Option<u8>
-    ensures { (before : List Event) (c : ℕ) → world.now.state.visible ≡ before ++ events c Entered → result ≡ Some c }
+/// Returns the client of the last event. There has to be one.
+fn last_client(world: &World) -> u8
+    requires { 0 < length world.now.state.visible }
+    ensures { (before : List Event) (c : ℕ) → world.now.state.visible ≡ before ++ events c Entered → result ≡ c }
 {
-    let event = world.visible().last()?;
-    Some(event.client)
-}
-
-/// Returns how a world goes on after a step in which this was seen.
-fn went_by(world: &World, seen: Seen) -> Went
-    ensures nothing { seen ≡ Nothing → result ≡ On }
-    ensures entered { seen ≡ Entered → (before : List Event) (c : ℕ) → world.now.state.visible ≡ before ++ events c Entered
-        → result ≡ In c }
-    ensures left { seen ≡ Left → result ≡ Lost }
-{
-    match seen {
-        Seen::Nothing => Went::On,
-        Seen::Entered => match who_entered(world) {
-            Some(client) => Went::In(client),
-            None => Went::Lost,
-        },
-        Seen::Left => Went::Lost,
+    match world.visible().last() {
+        Some(event) => event.client,
+        None => unreachable!(),
     }
 }
 
-/// Makes a step, and keeps it unless it is refused. A step that is refused changes nothing.
+/// Returns how a world goes on after a step in which this was seen. No step that helps lets a client
+/// leave.
+fn went_by(world: &World, seen: Seen) -> Went
+    requires stays { seen ≢ Left }
+    requires event { seen ≡ Entered → 0 < length world.now.state.visible }
+    ensures nothing { seen ≡ Nothing → result ≡ On }
+    ensures entered { seen ≡ Entered → (before : List Event) (c : ℕ) → world.now.state.visible ≡ before ++ events c Entered
+        → result ≡ In c }
+{
+    match seen {
+        Seen::Nothing => Went::On,
+        Seen::Entered => Went::In(last_client(world)),
+        Seen::Left => unreachable!(),
+    }
+}
+
+/// Makes a step, and keeps it unless it is refused. A step that is refused changes nothing. Memory
+/// for the step is reserved before it is made, so a call that fails makes none.
 pub fn make(
     world: &mut World,
     steps: &mut Vec<Step>,
@@ -57,11 +58,14 @@ pub fn make(
     step: Step,
 ) -> Result<Went, AllocError>
     requires { Helps first step }
-    ensures { IfOk result (λ went. LeadFurther first world.old steps.old.items went world.new steps.new.items) }
+    ensures { LeadFurther first world.old steps.old.items (went_of result) world.new steps.new.items }
 {
+    if steps.reserve(1).is_err() {
+        return Err(AllocError);
+    }
     match world.step(step) {
         Ok(stepped) => {
-            steps.push(step)?;
+            steps.push_reserved(step);
             Ok(went_by(world, stepped.seen))
         }
         Err(WorldFault::OutOfMemory) => Err(AllocError),
@@ -77,7 +81,7 @@ fn deliver_from(
     from: usize,
 ) -> Result<Went, AllocError>
     requires { first ≤ from }
-    ensures { IfOk result (λ went. LeadFurther first world.old steps.old.items went world.new steps.new.items) }
+    ensures { LeadFurther first world.old steps.old.items (went_of result) world.new steps.new.items }
 {
     for number in from..from.saturating_add(MOST_ARRIVALS) {
         if number >= world.sent() {
@@ -99,7 +103,7 @@ pub fn remind(
     reminder: Step,
 ) -> Result<Went, AllocError>
     requires { Helps first reminder }
-    ensures { IfOk result (λ went. LeadFurther first world.old steps.old.items went world.new steps.new.items) }
+    ensures { LeadFurther first world.old steps.old.items (went_of result) world.new steps.new.items }
 {
     let from = world.sent().max(first);
     match make(world, steps, first, reminder) {

@@ -1,6 +1,10 @@
 //! Rounds of reminders.
-ghost use Rattle.std.specs.Prelude.{IfOk, IfSome};
-ghost use Rattle.ways.specs.Leads.{LeadFurther, LeadsIn};
+ghost use Rattle.std.specs.Prelude.{◌≡◌, ◌+◌, Ok, None, IfErr, IfNone, IfOk, IfSome, MatchBool, MatchOption};
+ghost use Rattle.requester.specs.Words.{is_asking, is_inside};
+ghost use Rattle.progress.specs.WayIn.{IsFree};
+ghost use Rattle.world.specs.Steps.{client_at};
+ghost use Rattle.ways.specs.Leaders.{IsBusy, IsLeader, LeadsBelow, NobodyAsks, is_earlier};
+ghost use Rattle.ways.specs.Leads.{AreLedOn, LeadFurther, LeadsIn, went_of};
 
 use crate::make::{Went, remind};
 use requester::{Phase, Requester};
@@ -19,34 +23,90 @@ pub struct WayIn {
     pub client: u8,
 }
 
+/// Returns the phase of the client with this number. It is idle if there is none.
+fn phase_of(world: &World, client: u8) -> Phase
+    ensures { result ≡ (client_at world.now.state.clients client).phase }
+{
+    match world.client(client) {
+        Some(it) => it.phase(),
+        None => Phase::Idle,
+    }
+}
+
 /// Returns whether the client with this number asks.
-fn asks(world: &World, client: u8) -> bool {
-    world
-        .client(client)
-        .is_some_and(|it| it.phase() == Phase::Asking)
+fn asks(world: &World, client: u8) -> bool
+    ensures { result ≡ is_asking (client_at world.now.state.clients client).phase }
+{
+    match phase_of(world, client) {
+        Phase::Asking => true,
+        Phase::Idle | Phase::Inside => false,
+    }
+}
+
+/// Returns whether the client with this number is inside.
+fn is_in(world: &World, client: u8) -> bool
+    ensures { result ≡ is_inside (client_at world.now.state.clients client).phase }
+{
+    match phase_of(world, client) {
+        Phase::Inside => true,
+        Phase::Idle | Phase::Asking => false,
+    }
+}
+
+/// Returns the stamp of the client's current or last request, 0 if there was none.
+fn stamp_of(world: &World, client: u8) -> u64
+    ensures { result ≡ (client_at world.now.state.clients client).stamp }
+{
+    match world.client(client) {
+        Some(it) => it.stamp(),
+        None => 0,
+    }
 }
 
 /// Returns whether some client is inside.
-fn is_busy(world: &World) -> bool {
-    (0..64u8).any(|client| {
-        world
-            .client(client)
-            .is_some_and(|it| it.phase() == Phase::Inside)
-    })
-}
-
-/// Returns the asking client whose request precedes the others.
-fn leader(world: &World) -> Option<u8> {
-    let mut first: Option<(u64, u8)> = None;
-    for number in 0..64u8 {
-        if let Some(client) = world.client(number) {
-            let before = first.is_none_or(|(stamp, _)| client.stamp() < stamp);
-            if client.phase() == Phase::Asking && before {
-                first = Some((client.stamp(), number));
-            }
+fn is_busy(world: &World) -> bool
+    ensures { MatchBool result (IsBusy world.now.state) (IsFree world.now.state) }
+{
+    for client in 0..world.clients() {
+        if is_in(world, client) {
+            return true;
         }
     }
-    first.map(|(_, client)| client)
+    false
+}
+
+/// Returns whether the client's stamp is smaller than that of the other one, if there is another one.
+fn has_earlier(world: &World, client: u8, other: Option<u8>) -> bool
+    ensures { result ≡ is_earlier world.now.state client other }
+{
+    match other {
+        Some(other) => stamp_of(world, client) < stamp_of(world, other),
+        None => true,
+    }
+}
+
+/// Returns who leads of this client and those before it. Of those before it this is `first`.
+fn leader_with(world: &World, client: u8, first: Option<u8>) -> Option<u8>
+    requires { LeadsBelow world.now.state client first }
+    ensures { LeadsBelow world.now.state (client + 1) result }
+{
+    if asks(world, client) && has_earlier(world, client, first) {
+        Some(client)
+    } else {
+        first
+    }
+}
+
+/// Returns the asking client whose request precedes that of each other one that asks. `None` if nobody
+/// asks.
+fn leader(world: &World) -> Option<u8>
+    ensures { MatchOption result (NobodyAsks world.now.state) (IsLeader world.now.state) }
+{
+    let mut first = None;
+    for client in 0..world.clients() {
+        first = leader_with(world, client, first);
+    }
+    first
 }
 
 /// Returns whether the client waits for the vote of this voter.
@@ -61,7 +121,7 @@ fn remind_voters(
     first: usize,
     client: u8,
 ) -> Result<Went, AllocError>
-    ensures { IfOk result (λ went. LeadFurther first world.old steps.old.items went world.new steps.new.items) }
+    ensures { LeadFurther first world.old steps.old.items (went_of result) world.new steps.new.items }
 {
     for voter in 0..64u8 {
         if lacks(world, client, voter) {
@@ -81,7 +141,7 @@ fn remind_others(
     first: usize,
     leader: u8,
 ) -> Result<Went, AllocError>
-    ensures { IfOk result (λ went. LeadFurther first world.old steps.old.items went world.new steps.new.items) }
+    ensures { LeadFurther first world.old steps.old.items (went_of result) world.new steps.new.items }
 {
     for client in 0..64u8 {
         if client != leader && asks(world, client) {
@@ -96,7 +156,7 @@ fn remind_others(
 
 /// Reminds the leader, the voters that it waits for, and the other clients, until somebody enters.
 fn round(world: &mut World, steps: &mut Vec<Step>, first: usize) -> Result<Went, AllocError>
-    ensures { IfOk result (λ went. LeadFurther first world.old steps.old.items went world.new steps.new.items) }
+    ensures { LeadFurther first world.old steps.old.items (went_of result) world.new steps.new.items }
 {
     let Some(leader) = leader(world) else {
         return Ok(Went::On);
@@ -112,25 +172,45 @@ fn round(world: &mut World, steps: &mut Vec<Step>, first: usize) -> Result<Went,
     remind_others(world, steps, first, leader)
 }
 
-/// Lets a client in, by reminders and by messages that are sent after them, and returns how. The
-/// steps are made on the world.
-///
-/// Returns `None` if nobody asks or somebody is inside, or if nobody got in, as when the voters have
-/// no grants left. Fails only if it runs out of memory.
-pub fn let_in(alloc: Global, world: &mut World) -> Result<Option<WayIn>, AllocError>
-    ensures { IfOk result (λ found. IfSome found (λ way. LeadsIn world.old world.new way.client way.steps.items)) }
+/// Makes rounds of reminders until somebody enters, or all rounds were made.
+fn try_rounds(alloc: Global, world: &mut World) -> Result<Option<WayIn>, AllocError>
+    ensures found { IfOk result (λ found. IfSome found (λ way. LeadsIn world.old world.new way.client way.steps.items)) }
+    ensures missed { IfOk result (λ found. IfNone found (AreLedOn world.old world.new)) }
+    ensures err { IfErr result (λ _. AreLedOn world.old world.new) }
 {
     let mut steps = Vec::new(alloc);
-    if is_busy(world) {
-        return Ok(None);
-    }
     let first = world.sent();
     for _ in 0..ROUNDS {
-        match round(world, &mut steps, first)? {
-            Went::On => {}
-            Went::In(client) => return Ok(Some(WayIn { steps, client })),
-            Went::Lost => return Ok(None),
+        match round(world, &mut steps, first) {
+            Ok(Went::On) => {}
+            Ok(Went::In(client)) => return Ok(Some(WayIn { steps, client })),
+            Err(error) => return Err(error),
         }
     }
     Ok(None)
+}
+
+/// Lets a client in, by reminders and by messages that are sent after them, and returns how. The
+/// steps are made on the world.
+///
+/// Returns `None` if nobody asks or somebody is inside, and then makes no step. It also returns `None`
+/// if nobody got in, as when the voters have no grants left. Fails only if it runs out of memory.
+pub fn let_in(alloc: Global, world: &mut World) -> Result<Option<WayIn>, AllocError>
+    ensures found { IfOk result (λ found. IfSome found (λ way. LeadsIn world.old world.new way.client way.steps.items)) }
+
+    // If nobody got in, or memory ran out, the steps that were made helped, and nobody entered or left.
+    ensures missed { IfOk result (λ found. IfNone found (AreLedOn world.old world.new)) }
+    ensures err { IfErr result (λ _. AreLedOn world.old world.new) }
+
+    // If somebody is inside, or nobody asks, no step is made.
+    ensures busy { IsBusy world.old.state → (result ≡ Ok None) × (world.new ≡ world.old) }
+    ensures unasked { NobodyAsks world.old.state → (result ≡ Ok None) × (world.new ≡ world.old) }
+{
+    if is_busy(world) {
+        return Ok(None);
+    }
+    match leader(world) {
+        Some(_) => try_rounds(alloc, world),
+        None => Ok(None),
+    }
 }

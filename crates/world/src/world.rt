@@ -118,11 +118,27 @@ impl World {
         self.state.sent[number]
     }
 
+    /// Returns how many clients there are: at most 64. They are numbered from 0.
+    pub fn clients(&self) -> u8
+        ensures value { result ≡ length self.now.state.clients }
+        ensures few { result ≤ max_clients }
+    {
+        self.state.clients.len() as u8
+    }
+
     /// Returns the client with this number, if there is one.
     pub fn client(&self, number: u8) -> Option<&Requester>
         ensures { option_map (λ c. c.now) result ≡ slice_get self.now.state.clients number }
     {
         self.state.clients.get(usize::from(number))
+    }
+
+    /// Returns how many voters there are: at most 64. They are numbered from 0.
+    pub fn voters(&self) -> u8
+        ensures value { result ≡ length self.now.state.voters }
+        ensures few { result ≤ max_voters }
+    {
+        self.state.voters.len() as u8
     }
 
     /// Returns the voter with this number, if there is one.

@@ -1,6 +1,6 @@
 use Rattle.std.proofs.Common.{◌<◌, arith}
 use Rattle.std.proofs.lemmas.Bool.Decides.{nat_tests}
-use Rattle.failures.proofs.FailureLemmas.{all_barred, below_all, either_way, length-within, meets_at}
+use Rattle.failures.proofs.FailureLemmas.{all_barred, below_all, either_way, length-within, meets_at, outside_at, spent-once, spent-twice, undecided-barred, undecided-chosen}
 use Rattle.numbers.proofs.Members.{All-has}
 use Rattle.failures.proofs.transversal.+improve.Goals as goal
 use Rattle.failures.proofs.transversal.+improve.Goals.{then-steps-eq0-via-then-steps-eq0, then-steps-eq0-via-else-steps-eq0+then-len}
@@ -51,3 +51,20 @@ returns-clause-smallest t c left =
     c.with_voter-with.ensures.members c.with_voter-without.ensures.members
     (c.improve-best.ensures.smallest (let fewer = c.improve.ensures.steps in omega arith)) c.improve.ensures.shorter
     (c.improve.ensures.smallest left)
+
+pub returns-in_default-clause-spent : goal.returns-in_default-clause-spent
+returns-in_default-clause-spent t c = spent-once _ _ _ (omega arith)
+
+pub returns-in_default-first_outside-clause-spent : goal.returns-in_default-first_outside-clause-spent
+returns-in_default-first_outside-clause-spent t c = spent-once _ _ _ (omega arith)
+
+pub returns-clause-spent : goal.returns-clause-spent
+returns-clause-spent t c =
+    let n = c.args.coterie.now.voters in
+    let v = c.in-Some-first_outside.voter in
+    let outside = outside_at c.args.coterie.now.quorums c.in-Some.number v c.quorum.result.now c.args.chosen.now c.quorum.ensures.value c.in-Some.ensures.some.1 c.in-Some-first_outside.ensures.some in
+    let lt : v < n = All-has (λ i. i < n) _ _ c.in-Some-first_outside.ensures.some c.quorum.ensures.members in
+    spent-twice _ c.improve-best.new.steps _ _ _ _ (grind (arith, nat_tests, c.if-steps-eq0.false))
+    (undecided-chosen n v c.with_voter-with.result c.args.chosen.now c.args.barred.now lt c.quorum.ensures.coterie.few_voters c.with_voter-with.ensures.members outside c.in-Some-first_outside.ensures.outside)
+    (undecided-barred n v c.with_voter-without.result c.args.chosen.now c.args.barred.now lt c.quorum.ensures.coterie.few_voters c.with_voter-without.ensures.members outside c.in-Some-first_outside.ensures.outside)
+    c.improve-best.ensures.spent c.improve.ensures.spent

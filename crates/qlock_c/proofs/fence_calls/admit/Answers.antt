@@ -1,23 +1,28 @@
-use Rattle.std.proofs.Common.{ℕ, List, sym, subst, ◌∙◌}
-use Rattle.std.proofs.lemmas.Bool.{false≢true}
-use Rattle.fence.specs.Passes.{Admits, Refuses, SeesAlso}
-use Rattle.qlock_c.proofs.GuardLemmas.{admits-no_pass, admits-older, admits-newer}
+use Rattle.std.proofs.Common.{ℕ, List, Ok, Err, sym, subst}
+use Rattle.fence.specs.Passes.{SeesAlso}
+use Rattle.qlock_c.specs.Bytes.{IsGuard}
+use Rattle.qlock_c.specs.FenceSteps.{FenceAdmits}
+use Rattle.qlock_c.specs.Numbers.{refused}
+use Rattle.qlock_c.specs.declared.refusal.Refusal.{Refusal}
+use Rattle.qlock_c.proofs.GuardLemmas.{admitted-as, admits, admits-pass, refuses}
 use Rattle.qlock_c.proofs.fence_calls.admit.Goals as goal
 
-pub returns-in_default-clause-admits : goal.returns-in_default-clause-admits
-returns-in_default-clause-admits c = admits-no_pass c.args.state.now c.args.pass.now c.args.state.now c.in_ok-seen.seen c.in_ok-shown.shown
-    (record { are = c.in_ok-seen.ensures.loaded; only = c.in_ok-seen.ensures.only }) (record { are = c.in_ok-shown.ensures.loaded; only = c.in_ok-shown.ensures.only })
-    c.in_default.ensures
-
-pub returns-then-not-admit-clause-admits : goal.returns-then-not-admit-clause-admits
-returns-then-not-admit-clause-admits c = admits-older c.args.state.now c.args.pass.now c.args.state.now c.in_ok-seen.seen c.in_ok-shown.shown
-    (record { are = c.in_ok-seen.ensures.loaded; only = c.in_ok-seen.ensures.only }) (record { are = c.in_ok-shown.ensures.loaded; only = c.in_ok-shown.ensures.only })
-    c.in-Some.ensures.0 (λ admits. false≢true (sym c.if-not-admit.true ∙ c.admit.ensures.admitted (subst (λ (p : List ℕ). Admits c.in_ok-seen.seen p) (sym c.in-Some.ensures.1) admits)))
+pub returns-in-Err-clause-admits : goal.returns-in-Err-clause-admits
+returns-in-Err-clause-admits c =
+    let was = c.in_ok-fence in
+    let shown = c.in_ok-shown in
+    subst (λ (r : Refusal). FenceAdmits c.args.state.now c.args.pass.now c.args.state.now c.args.turn.now (refused r)) (sym c.of_fence.ensures)
+    (admits-pass c.args.state.now c.args.pass.now c.args.state.now c.args.turn.now was.fence.seen shown.shown was.fence.turn _ was.ensures.loaded was.ensures.only shown.ensures.loaded shown.ensures.only
+    c.in-Some.ensures.0 (refuses was.fence.seen shown.shown c.args.state.now was.fence.turn c.args.turn.now c.in-Err.fault (admitted-as was.fence.seen shown.shown c.in-Some.pass was.fence.turn c.admit.result (Err c.in-Err.fault) c.in-Some.ensures.1 c.in-Err.is
+    (record { older = c.admit.ensures.older; again = c.admit.ensures.again; next = c.admit.ensures.next; spent = c.admit.ensures.spent }))))
 
 pub returns-clause-admits : goal.returns-clause-admits
-returns-clause-admits c = admits-newer c.args.state.now c.args.pass.now c.store_grants.new.bytes c.in_ok-seen.seen c.in_ok-shown.shown
-    (record { are = c.in_ok-seen.ensures.loaded; only = c.in_ok-seen.ensures.only }) (record { are = c.in_ok-shown.ensures.loaded; only = c.in_ok-shown.ensures.only })
-    c.admit.new.self.seen c.in-Some.ensures.0
-    (λ refuses. false≢true (sym (c.admit.ensures.refused (subst (λ (p : List ℕ). Refuses c.in_ok-seen.seen p) (sym c.in-Some.ensures.1) refuses)) ∙ c.if-not-admit.false))
-    (subst (λ (p : List ℕ). SeesAlso c.in_ok-seen.seen p c.admit.new.self.seen) c.in-Some.ensures.1 (c.admit.ensures.seen c.if-not-admit.false))
-    c.store_grants.ensures
+returns-clause-admits c =
+    let was = c.in_ok-fence in
+    let shown = c.in_ok-shown in
+    let seen = c.in-Ok.ensures.seen in
+    let sees : SeesAlso was.fence.seen shown.shown c.admit.new.self.seen = subst (λ (p : List ℕ). SeesAlso was.fence.seen p c.admit.new.self.seen) c.in-Some.ensures.1 seen.0 in
+    let guard : IsGuard c.store_fence.new.state c.admit.new.self.seen c.in-Ok.given = subst (λ (n : ℕ). IsGuard c.store_fence.new.state c.admit.new.self.seen n) seen.1 c.store_fence.ensures in
+    admits-pass c.args.state.now c.args.pass.now c.store_fence.new.state c.in-Ok.given was.fence.seen shown.shown was.fence.turn _ was.ensures.loaded was.ensures.only shown.ensures.loaded
+    shown.ensures.only c.in-Some.ensures.0 (admits was.fence.seen shown.shown c.store_fence.new.state c.admit.new.self.seen was.fence.turn c.in-Ok.given (admitted-as was.fence.seen shown.shown c.in-Some.pass was.fence.turn c.admit.result (Ok c.in-Ok.given)
+    c.in-Some.ensures.1 c.in-Ok.is (record { older = c.admit.ensures.older; again = c.admit.ensures.again; next = c.admit.ensures.next; spent = c.admit.ensures.spent })) sees guard)

@@ -1,6 +1,6 @@
 use Rattle.std.proofs.Common.{inl, inr}
-use Rattle.fencing.proofs.PassLemmas.{refused}
-use Rattle.fencing.proofs.laws.late_passes_are_refused.Goals as goal
+use Rattle.leases.proofs.PassLemmas.{refused}
+use Rattle.leases.proofs.in_order.late_passes_are_refused.Goals as goal
 
 pub returns : goal.returns
 returns c voters clients limit quorums deal before after first second seen limits meets deals in_first in_second has =

@@ -5,7 +5,7 @@ use Rattle.std.proofs.Math.Nat.{max-eq_left, max-eq_right}
 use Rattle.std.proofs.lemmas.Bool.Decides.{nat_tests}
 use Rattle.std.proofs.lemmas.List.{get_or-replicate}
 use Rattle.fence.specs.Passes.{Admits, HasSeen, Refuses, SeesAlso, is_not_older}
-use Rattle.fencing.specs.Visits.{AdmitsAll, Visit, passes}
+use Rattle.leases.specs.Visits.{AdmitsAll, Visit, passes}
 use Rattle.requester.specs.declared.state.ClientState.{ClientState}
 use Rattle.requester.specs.Words.{held_of, holds_under}
 use Rattle.world.specs.Restarts.{Happening, HasVote, IsNewer, Saved, all_happen, happens, pass_of}

@@ -1,7 +1,7 @@
 use Rattle.std.proofs.Common.{inl, inr, arith}
 use Rattle.world.specs.Restarts.{begin}
-use Rattle.fencing.proofs.PassLemmas.{Rises, admitted_in_order}
-use Rattle.fencing.proofs.laws.passes_in_order_are_admitted.Goals as goal
+use Rattle.leases.proofs.PassLemmas.{Rises, admitted_in_order}
+use Rattle.leases.proofs.in_order.passes_in_order_are_admitted.Goals as goal
 
 pub returns : goal.returns
 returns c voters clients limit quorums deal visits limits meets deals =

@@ -1,8 +1,8 @@
-//! Laws: what a guard does with the passes of a world.
+//! Laws: what a guard does with the passes of a world in which no grant is let go.
 ghost use Rattle.std.specs.Prelude.{◌⊎◌, ℕ, List, replicate};
 ghost use Rattle.numbers.specs.Bounds.{max_voters};
 ghost use Rattle.fence.specs.Passes.{HasSeen, Refuses};
-ghost use Rattle.fencing.specs.Visits.{AdmitsAll, Visit, passes};
+ghost use Rattle.leases.specs.Visits.{AdmitsAll, Visit, passes};
 ghost use Rattle.world.specs.Restarts.{Happening, IsIn, IsSameRequest, all_happen, begin, pass_of};
 ghost use Rattle.world.specs.Runs.{AreLimits};
 ghost use Rattle.world.specs.Steps.{Dealing};
