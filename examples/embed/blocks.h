@@ -94,11 +94,11 @@ static inline struct block copy_of(const uint8_t *bytes, size_t n) {
     return b;
 }
 
-/* checks that the result is one of those that the header names for this call, each a digit of `named`: a is 10, b 11, to d, 13 */
+/* checks that the result is one of those that the header names for this call, each a digit of `named`: a is 10, b 11, to e, 14 */
 static inline void is_named(int32_t result, const char *named) {
     calls++;
     if (result == QLOCK_DONE) done++;
-    if (result < 0 || result > 13 || strchr(named, "0123456789abcd"[result]) == NULL) fail("unnamed result", result);
+    if (result < 0 || result > 14 || strchr(named, "0123456789abcde"[result]) == NULL) fail("unnamed result", result);
 }
 
 #endif

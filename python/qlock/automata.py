@@ -136,13 +136,11 @@ class Voter(_State):
         call("voter_held", *self._given(), ctypes.byref(client), ctypes.byref(stamp), ctypes.byref(number))
         return Grant(client.value, stamp.value, number.value) if number.value else None
 
-
     @classmethod
     def reborn(cls, number: int, above: int, limit: int = MAX_STAMP) -> "Voter":
         """Returns a voter that lost its state, and gave at most `above` grants before. It may give `limit` in all."""
-        voter = cls(0)
-        numbers = (_number(number, 0, 63, "the number"), _number(above, 0, MAX_STAMP, "the grants"), _number(limit, 1, MAX_STAMP, "the limit"))
-        call("voter_reborn", *numbers, *voter._given())
+        voter = cls(number, limit)
+        call("voter_reborn", number, _number(above, 0, MAX_STAMP, "the grants"), limit, *voter._given())
         return voter
 
     def extend(self, limit: int) -> None:
@@ -233,13 +231,11 @@ class Client(_State):
         call("client_pass", *self._given(), shown, PASS_BYTES)
         return shown.raw
 
-
     @classmethod
     def anew(cls, number: int, clock: int, limit: int = MAX_STAMP) -> "Client":
         """Returns a client that lost its state, with a clock that is at least the stamp of its last request."""
-        client = cls(0)
-        numbers = (_number(number, 0, 63, "the number"), _number(limit, 1, MAX_STAMP, "the limit"), _number(clock, 0, MAX_STAMP, "the clock"))
-        call("client_anew", *numbers, *client._given())
+        client = cls(number, limit)
+        call("client_anew", number, limit, _number(clock, 0, MAX_STAMP, "the clock"), *client._given())
         return client
 
     def raise_clock(self, clock: int) -> None:
