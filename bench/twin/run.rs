@@ -11,10 +11,14 @@ use std::time::{Duration, Instant};
 
 /// Empty looks in a row after which a member yields its thread before each further one.
 const EMPTY_BEFORE_YIELD: u64 = 16;
-/// Empty looks in a row after which a member sleeps before each further one.
+/// Empty looks in a row after which a member sleeps before some of the further ones.
 const EMPTY_BEFORE_SLEEP: u64 = 500;
 /// Empty looks in a row after which a member reminds, and counts anew.
 const EMPTY_BEFORE_REMINDER: u64 = 1_000;
+/// A member that may sleep sleeps before one of this many looks, until it has reminded.
+const LOOKS_FOR_SLEEP: u64 = 32;
+/// After this many reminders a member that may sleep sleeps before each look.
+const REMINDERS_TO_SLEEP: u64 = 5;
 /// The longest sleep before a look, in milliseconds.
 const LONGEST_SLEEP: u64 = 1;
 /// Microseconds after which a yield was long: other programs want the processors.
@@ -59,10 +63,12 @@ impl Postbox {
     }
 }
 
-/// What a member knows when it waits: how many looks in a row found nothing, and before how many more it sleeps in place of yielding.
+/// What a member knows when it waits: how many looks in a row found nothing, how many more times it sleeps in place of yielding,
+/// and how many times it reminded since its request began.
 struct Patience {
     empty: u64,
     sleeps: u64,
+    reminders: u64,
 }
 
 struct Lock {
@@ -119,8 +125,10 @@ impl Member {
     /// Yields, or sleeps until a message comes or a millisecond is over.
     fn rest(&self, lock: &Lock, patience: &mut Patience) {
         if patience.sleeps > 0 || patience.empty > EMPTY_BEFORE_SLEEP {
-            patience.sleeps = patience.sleeps.saturating_sub(1);
-            lock.mailboxes[self.client as usize].sleep(Duration::from_millis(LONGEST_SLEEP));
+            if patience.empty % (LOOKS_FOR_SLEEP >> patience.reminders.min(REMINDERS_TO_SLEEP)) == 0 {
+                patience.sleeps = patience.sleeps.saturating_sub(1);
+                lock.mailboxes[self.client as usize].sleep(Duration::from_millis(LONGEST_SLEEP));
+            }
             return;
         }
         let before = Instant::now();
@@ -134,6 +142,7 @@ impl Member {
     fn wait(&mut self, lock: &Lock, quorum: &[u8], patience: &mut Patience) {
         if patience.empty >= EMPTY_BEFORE_REMINDER {
             patience.empty = 0;
+            patience.reminders += 1;
             self.requester.remind(&mut self.out);
             lock.send(&self.out, &mut self.replies);
             for voter in quorum {
@@ -145,6 +154,8 @@ impl Member {
     }
 
     fn enter(&mut self, lock: &Lock, quorum: &[u8], turns: &mut u64, patience: &mut Patience) -> bool {
+        patience.empty = 0;
+        patience.reminders = 0;
         while *turns > 0 {
             *turns -= 1;
             self.wait(lock, quorum, patience);
@@ -161,7 +172,7 @@ impl Member {
     }
 
     fn serve(&mut self, lock: &Lock, passes: u64, mut turns: u64) {
-        let mut patience = Patience { empty: 0, sleeps: 0 };
+        let mut patience = Patience { empty: 0, sleeps: 0, reminders: 0 };
         for _ in 0..passes {
             let ticket = lock.tickets.fetch_add(1, Ordering::Relaxed);
             let number = lock.places[ticket % lock.places.len()];

@@ -20,13 +20,26 @@ use Rattle.clerks.specs.Clerks.{ClerksState, drawn, drawn_by, may_exchange, may_
 use Rattle.run_outcome.specs.declared.fault.ClusterFault.{ClusterFault}
 use Rattle.run_outcome.specs.declared.fault.ClusterFault.TheVariants as ends
 use Rattle.members.specs.Members.{AreIdle, MemberState, RefusesPass}
-use Rattle.cluster.specs.Drives.{EndsWork, HasMore, HasServed, HasServedOn, IsBack, IsBackBy, HasEndedOn, KeepsWork, Stops, TookTurns, WasLet, Worked, draws_by}
+use Rattle.members.specs.Losses.{LosesAtLeast}
+use Rattle.cluster.specs.Drives.{EndsWait, EndsWork, LeavesTurns, HasMore, HasServed, HasServedOn, IsBack, IsBackBy, HasEndedOn, KeepsWork, LosesBy, Stops, TookTurns, WasLet, Worked, draws_by}
 use Rattle.cluster.specs.Drives.{draws_if, next_plan, on, side_after, side_if, tickets_without_pass}
 
 -- More of a list
 
 pub HasMore-then : {A : Type 0} (m n : ℕ) (xs ys zs : List A) → HasMore m xs ys → HasMore n ys zs → HasMore (m + n) xs zs
 HasMore-then m n xs ys zs a b = (a.0 ++ b.0, b.1 ∙ ap (λ l. l ++ b.0) a.1 ∙ append_assoc xs a.0 b.0, length-append a.0 b.0 ∙ (λ i. a.2 i + b.2 i))
+
+-- A wait
+
+-- some messages more were lost
+pub KeepsWork-lost : (a b c : MemberState) → KeepsWork a b → c ≡ record b { lost = c.lost } → b.lost ≤ c.lost → KeepsWork a c
+KeepsWork-lost a b c k same lost = record {
+  client = ap (λ (m : MemberState). m.requester.id) same ∙ k.client;
+  clerks = ap (λ (m : MemberState). m.clerks) same ∙ k.clerks;
+  passes = ap (λ (m : MemberState). m.seat.passes) same ∙ k.passes;
+  fault = ap (λ (m : MemberState). m.fault) same ∙ k.fault;
+  lost = omega (arith, k.lost, lost);
+}
 
 -- One pass
 
@@ -56,9 +69,10 @@ second-drawn_by Second k r = still k.second
     still (Some x) = refl
 
 -- a ticket was drawn, and then nothing
-pub Worked-draw : (a b c : MemberState) (r : Receipt) → 0 < rest_of a.clerks a.clerks.side → b.requester.id ≡ a.requester.id → b.clerks ≡ drawn a.clerks r → b.seat ≡ a.seat → KeepsWork b c
+pub Worked-draw : (a b c : MemberState) (r : Receipt) → 0 < rest_of a.clerks a.clerks.side → b.requester.id ≡ a.requester.id → b.clerks ≡ drawn a.clerks r → b.seat ≡ a.seat
+    → a.lost ≤ b.lost → KeepsWork b c
     → Worked (λ plan. on a.clerks.side plan 1) 0 a c × (c.clerks.side ≡ a.clerks.side)
-Worked-draw a b c r some client clerks seat k =
+Worked-draw a b c r some client clerks seat lost k =
     let side = a.clerks.side in
     let is : c.clerks ≡ drawn a.clerks r = k.clerks ∙ clerks in (
       record {
@@ -67,6 +81,7 @@ Worked-draw a b c r some client clerks seat k =
         rest = λ plan. subst (λ (x : ClerksState). rest_of x plan + on side plan 1 ≡ rest_of a.clerks plan) (sym is) (one_drawn side plan a.clerks r some).1;
         passes = ([], k.passes ∙ ap (λ (s : SeatState). s.passes) seat ∙ sym (append-nil a.seat.passes), refl);
         second = ap (λ (x : ClerksState). is_some x.second) is ∙ second-drawn_by side a.clerks r;
+        lost = omega (arith, lost, k.lost);
       },
       ap (λ (x : ClerksState). x.side) is ∙ side-drawn_by side a.clerks r,
     )
@@ -74,16 +89,31 @@ Worked-draw a b c r some client clerks seat k =
 -- who drew and is inside is refused a pass only by what ends its work
 pub Stops-refused_pass : (a b c : MemberState) (fault : ClusterFault) → 0 < rest_of a.clerks a.clerks.side → Worked (λ plan. on a.clerks.side plan 1) 0 a c × (c.clerks.side ≡ a.clerks.side)
     → is_inside b.requester.phase ≡ true → RefusesPass b fault → Stops a c fault
-Stops-refused_pass a b c (ends.Board RegisterFull) some w inside r = (w.0, w.1, some)
-Stops-refused_pass a b c (ends.Board OutOfMemory) some w inside r = (w.0, w.1, some)
+Stops-refused_pass a b c (ends.Board RegisterFull) some w inside r = (w.0, w.1, some, w.0.lost)
+Stops-refused_pass a b c (ends.Board OutOfMemory) some w inside r = (w.0, w.1, some, w.0.lost)
 Stops-refused_pass a b c ends.NotInside some w inside r = absurd (true≢false (sym inside ∙ r))
 Stops-refused_pass a b c fault some w inside r = absurd r
 
+-- why a wait ends
+
+pub Stops-wait : (a b c : MemberState) (left starved : ℕ) (fault : ClusterFault) → 0 < rest_of a.clerks a.clerks.side
+    → Worked (λ plan. on a.clerks.side plan 1) 0 a c × (c.clerks.side ≡ a.clerks.side) → b.requester.id ≡ a.requester.id → a.lost ≤ b.lost
+    → EndsWait b.requester.id left starved fault → LosesAtLeast starved b.lost c.lost → Stops a c fault
+Stops-wait a b c left starved (ends.TurnsSpent k) some w client lost h loses = (w.0, w.1, (h.0 ∙ client, some), w.0.lost)
+Stops-wait a b c left starved ends.OutOfMemory some w client lost h loses =
+    (w.0, w.1, some, (w.0.lost, omega (arith, lost, h, loses.0, loses.1)))
+Stops-wait a b c left starved fault some w client lost h loses = absurd h
+
+pub LeavesTurns-wait : (client left starved : ℕ) (fault : ClusterFault) → EndsWait client left starved fault → LeavesTurns left fault
+LeavesTurns-wait client left starved (ends.TurnsSpent k) h = h.1
+LeavesTurns-wait client left starved ends.OutOfMemory h = tt
+LeavesTurns-wait client left starved fault h = absurd h
+
 -- who drew, then passed by x and left
 pub Worked-pass : (a b c : MemberState) (x : ℕ) → Worked (λ plan. on a.clerks.side plan 1) 0 a b × (b.clerks.side ≡ a.clerks.side)
-    → c.requester.id ≡ b.requester.id → c.clerks ≡ b.clerks → c.seat.passes ≡ b.seat.passes ++ x ∷ []
+    → c.requester.id ≡ b.requester.id → c.clerks ≡ b.clerks → c.seat.passes ≡ b.seat.passes ++ x ∷ [] → b.lost ≤ c.lost
     → Worked (λ plan. on a.clerks.side plan 1) 1 a c × (c.clerks.side ≡ a.clerks.side)
-Worked-pass a b c x w client clerks passes =
+Worked-pass a b c x w client clerks passes lost =
     let side = a.clerks.side in (
       record {
         client = client ∙ w.0.client;
@@ -91,6 +121,7 @@ Worked-pass a b c x w client clerks passes =
         rest = λ plan. subst (λ (k : ClerksState). rest_of k plan + on side plan 1 ≡ rest_of a.clerks plan) (sym clerks) (w.0.rest plan);
         passes = subst (λ l. HasMore 1 a.seat.passes l) (sym passes) (HasMore-then 0 1 a.seat.passes b.seat.passes (b.seat.passes ++ x ∷ []) w.0.passes (x ∷ [], refl, refl));
         second = ap (λ (k : ClerksState). is_some k.second) clerks ∙ w.0.second;
+        lost = omega (arith, w.0.lost, lost);
       },
       ap (λ (k : ClerksState). k.side) clerks ∙ w.1,
     )
@@ -104,6 +135,7 @@ Worked-as f g e n a b w = record {
   rest = λ plan. omega (arith, w.rest plan, e plan);
   passes = w.passes;
   second = w.second;
+  lost = w.lost;
 }
 
 Worked-then : (f g : Side → ℕ) (n l : ℕ) (a b c : MemberState) → Worked f n a b → Worked g l b c → Worked (λ plan. f plan + g plan) (n + l) a c
@@ -113,6 +145,7 @@ Worked-then f g n l a b c first second = record {
   rest = λ plan. omega (arith, first.rest plan, second.rest plan);
   passes = HasMore-then n l a.seat.passes b.seat.passes c.seat.passes first.passes second.passes;
   second = second.second ∙ first.second;
+  lost = omega (arith, first.lost, second.lost);
 }
 
 on-add : (side plan : Side) (m n : ℕ) → on side plan m + on side plan n ≡ on side plan (m + n)
@@ -150,7 +183,14 @@ later_ends client tickets rest m passed (ends.Deal NoRoom) more h = omega (arith
 later_ends client tickets rest m passed (ends.Board RegisterFull) more h = omega (arith, more, h)
 later_ends client tickets rest m passed (ends.Board OutOfMemory) more h = omega (arith, more, h)
 later_ends client tickets rest m passed (ends.TurnsSpent k) more h = (h.0, omega (arith, more, h.1))
+later_ends client tickets rest m passed ends.OutOfMemory more h = omega (arith, more, h)
 later_ends client tickets rest m passed fault more h = h
+
+-- who lost messages may have lost more before and after
+LosesBy-within : (fault : ClusterFault) (first before after last : ℕ) → first ≤ before → LosesBy fault before after → after ≤ last → LosesBy fault first last
+LosesBy-within ends.OutOfMemory first before after last early h late = (omega (arith, early, h.0, late), omega (arith, early, h.0, h.1, late))
+LosesBy-within (ends.Client Busy) first before after last early h late = omega (arith, early, h, late)
+LosesBy-within fault first before after last early h late = omega (arith, early, h, late)
 
 -- after n passes the next was not made
 pub Worked-stopped : (n : ℕ) (a b c d : MemberState) (fault : ClusterFault) → HasServedOn n a b → Stops b c fault → KeepsWork c d
@@ -166,6 +206,7 @@ Worked-stopped n a b c d fault r stops kept =
       rest = λ plan. subst (λ (x : ClerksState). rest_of x plan + on b.clerks.side plan (tickets_without_pass fault) ≡ rest_of b.clerks plan) (sym kept.clerks) (stops.0.rest plan);
       passes = subst (λ l. HasMore 0 b.seat.passes l) (sym kept.passes) stops.0.passes;
       second = ap (λ (x : ClerksState). is_some x.second) kept.clerks ∙ stops.0.second;
+      lost = omega (arith, stops.0.lost, kept.lost);
     }
 
 pub HasEndedOn-stopped : (passes n : ℕ) (a b c d e : MemberState) (fault : ClusterFault) → HasServedOn n a b → n < passes → Stops b c fault → KeepsWork c d
@@ -184,6 +225,7 @@ HasEndedOn-stopped passes n a b c d e fault r less stops kept idle heard =
           (later_ends d.requester.id (rest_of a.clerks a.clerks.side) (rest_of b.clerks a.clerks.side) n 0 fault left
           (subst (λ k. EndsWork k (rest_of b.clerks a.clerks.side) 0 fault) (sym (kept.client ∙ stops.0.client))
           (subst (λ (s : Side). EndsWork b.requester.id (rest_of b.clerks s) 0 fault) r.side stops.2)));
+      lost = LosesBy-within fault a.lost b.lost c.lost d.lost r.worked.lost stops.3 kept.lost;
     }
     )
   where
@@ -256,6 +298,7 @@ IsBack-early passes a b fault r =
       idle = r.idle;
       ends = subst (λ (s : Side). EndsWork b.requester.id (rest_of k s) (draws_by k half r.passed s) fault) (sym r.side)
           (subst (λ n. EndsWork b.requester.id (rest_of k k.side) n fault) (sym (on-same k.side r.passed) ∙ early_draws k half r.passed k.side (omega (arith, r.fewer))) r.ends);
+      lost = r.lost;
     })
 
 receipts_of-next_plan : (k : ClerksState) (plan : Side) → receipts_of (next_plan k) plan ≡ receipts_of k plan
@@ -277,6 +320,7 @@ Worked-exchanged f n a b w = record {
   rest = λ plan. omega (arith, rest_of-next_plan b.clerks plan, w.rest plan);
   passes = w.passes;
   second = w.second;
+  lost = w.lost;
 }
 
 module _ (half : ℕ) (a b : MemberState) (r : HasServedOn half a b) where
@@ -337,6 +381,7 @@ IsBack-late passes a b d fault r s =
       idle = s.idle;
       ends = subst (λ (x : Side). EndsWork d.requester.id (rest_of a.clerks x) (draws_by a.clerks half (half + s.passed) x) fault) (sym s.side)
           (ends-both half a b r d.requester.id s.passed fault s.ends);
+      lost = LosesBy-within fault a.lost b.lost d.lost d.lost r.worked.lost s.lost (omega arith);
     })
 
 -- the work came to its end after the exchange

@@ -1,2 +1,3 @@
 mod DriveLemmas
 mod LeastLemmas
+mod PatienceLemmas

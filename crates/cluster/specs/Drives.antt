@@ -9,7 +9,9 @@ use Rattle.run_outcome.specs.declared.fault.ClusterFault.TheVariants as ends
 use Rattle.quorum_set.specs.declared.bridge.Side.{Side}
 use Rattle.quorum_set.specs.declared.bridge.Side.TheVariants.{First, Second}
 use Rattle.clerks.specs.Clerks.{ClerksState, may_exchange, receipts_of, rest_of}
+use Rattle.members.specs.Losses.{LosesAtLeast}
 use Rattle.members.specs.Members.{MemberState}
+use Rattle.cluster.specs.Patience.{most_starved}
 
 -- the list afterwards is the list before and n more entries
 abbrev pub HasMore : {A : Type 0} → ℕ → List A → List A → Type 0
@@ -44,20 +46,23 @@ side_if false side half n = side
 abbrev pub side_after : ClerksState → ℕ → ℕ → Side
 side_after k half n = side_if (may_exchange k) k.side half n
 
--- the same client, which drew this many more tickets of each plan and passed `passed` more times
+-- the same client, which drew this many more tickets of each plan and passed `passed` more times; no
+-- lost message is forgotten
 pub record Worked (drawn : Side → ℕ) (passed : ℕ) (before after : MemberState) : Type 0 where
   pub client : after.requester.id ≡ before.requester.id
   pub receipts : (plan : Side) → HasMore (drawn plan) (receipts_of before.clerks plan) (receipts_of after.clerks plan)
   pub rest : (plan : Side) → rest_of after.clerks plan + drawn plan ≡ rest_of before.clerks plan
   pub passes : HasMore passed before.seat.passes after.seat.passes
   pub second : is_some after.clerks.second ≡ is_some before.clerks.second
+  pub lost : before.lost ≤ after.lost
 
--- the same client with the same tickets and pass numbers
+-- the same client with the same tickets and pass numbers; no lost message is forgotten
 pub record KeepsWork (before after : MemberState) : Type 0 where
   pub client : after.requester.id ≡ before.requester.id
   pub clerks : after.clerks ≡ before.clerks
   pub passes : after.seat.passes ≡ before.seat.passes
   pub fault : after.fault ≡ before.fault
+  pub lost : before.lost ≤ after.lost
 
 -- The member is idle again. It drew one ticket for each of `passes` passes, and made each of them.
 -- If there is another plan, it exchanged the plan after half of them, rounded down, and uses the
@@ -73,7 +78,7 @@ pub record HasServed (passes : ℕ) (before after : MemberState) : Type 0 where
 -- - No stamp is left.
 -- - It passed once for each ticket.
 -- - The register is at its limit.
--- - Memory ran out.
+-- - Memory ran out, for a receipt, a pass number or messages.
 -- - Its turns are spent.
 abbrev pub EndsWork : ℕ → ℕ → ℕ → ClusterFault → Type 0
 EndsWork client tickets passed (ends.Client StampsSpent) = Unit {0}
@@ -82,6 +87,7 @@ EndsWork client tickets passed (ends.Deal NoRoom) = passed < tickets
 EndsWork client tickets passed (ends.Board RegisterFull) = passed < tickets
 EndsWork client tickets passed (ends.Board OutOfMemory) = passed < tickets
 EndsWork client tickets passed (ends.TurnsSpent c) = (c ≡ client) × (passed < tickets)
+EndsWork client tickets passed ends.OutOfMemory = passed < tickets
 EndsWork client tickets passed fault = ⊥
 
 -- The work that ended by this fault left this many turns. It ends by `TurnsSpent` only with no turn
@@ -89,6 +95,19 @@ EndsWork client tickets passed fault = ⊥
 abbrev pub LeavesTurns : ℕ → ClusterFault → Type 0
 LeavesTurns left (ends.TurnsSpent c) = left ≡ 0
 LeavesTurns left fault = Unit {0}
+
+-- The work that ended by this fault lost messages, from `before` of them to `after`. It ends by
+-- `OutOfMemory` only after `most_starved` reminders in a row each lost one.
+abbrev pub LosesBy : ClusterFault → ℕ → ℕ → Type 0
+LosesBy ends.OutOfMemory before after = LosesAtLeast most_starved before after
+LosesBy fault before after = before ≤ after
+
+-- What ends a wait for votes. This many turns are left, and this many reminders in a row found no
+-- memory for a message.
+abbrev pub EndsWait : ℕ → ℕ → ℕ → ClusterFault → Type 0
+EndsWait client left starved (ends.TurnsSpent c) = (c ≡ client) × (left ≡ 0) × (starved < most_starved)
+EndsWait client left starved ends.OutOfMemory = starved ≡ most_starved
+EndsWait client left starved fault = ⊥
 
 -- how many tickets this fault leaves without a pass: 1 if it came after the draw
 abbrev pub tickets_without_pass : ClusterFault → ℕ
@@ -108,6 +127,7 @@ pub record HasEnded (passes : ℕ) (fault : ClusterFault) (before after : Member
   pub idle : is_idle after.requester.phase ≡ true
   pub ends : EndsWork after.requester.id (rest_of before.clerks after.clerks.side)
       (draws_by before.clerks (passes / 2) passed after.clerks.side) fault
+  pub lost : LosesBy fault before.lost after.lost
 
 -- The member is idle again, and made n passes by the plan in use, with a ticket for each. Nothing
 -- ended its work early.
@@ -126,6 +146,7 @@ pub record HasEndedOn (n : ℕ) (fault : ClusterFault) (before after : MemberSta
   pub idle : is_idle after.requester.phase ≡ true
   pub keeps : after.fault ≡ Some fault
   pub ends : EndsWork after.requester.id (rest_of before.clerks before.clerks.side) passed fault
+  pub lost : LosesBy fault before.lost after.lost
 
 -- the clerks after the member exchanged the plan, if there is another one
 abbrev pub next_plan : ClerksState → ClerksState
@@ -136,6 +157,7 @@ abbrev pub Stops : MemberState → MemberState → ClusterFault → Type 0
 Stops before after fault = Worked (λ plan. on before.clerks.side plan (tickets_without_pass fault)) 0 before after
     × (after.clerks.side ≡ before.clerks.side)
     × EndsWork before.requester.id (rest_of before.clerks before.clerks.side) 0 fault
+    × LosesBy fault before.lost after.lost
 
 -- if the client passed, it was let pass
 abbrev pub WasLet : (ℕ → Bool) → MemberState → MemberState → Type 0

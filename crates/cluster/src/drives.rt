@@ -3,7 +3,9 @@ ghost use Rattle.std.specs.Prelude.{◌≡◌, ◌+◌, ◌*◌, ◌<◌, ◌≤
 ghost use Rattle.std.specs.List.{AllZip};
 ghost use Rattle.requester.specs.Words.{is_idle, is_inside};
 ghost use Rattle.members.specs.Members.{AreIdle, MemberState};
-ghost use Rattle.cluster.specs.Drives.{HasEndedOn, HasServed, HasServedOn, IsBack, IsLeastFault, IsLeastOf, KeepsWork, LeavesTurns, next_plan, on, Stops, TookTurns, WasLet, Worked};
+ghost use Rattle.members.specs.Losses.{LosesAtLeast};
+ghost use Rattle.cluster.specs.Drives.{EndsWait, HasEndedOn, HasServed, HasServedOn, IsBack, IsLeastFault, IsLeastOf, KeepsWork, LeavesTurns, next_plan, on, Stops, TookTurns, WasLet, Worked};
+ghost use Rattle.cluster.specs.Patience.{most_starved};
 
 use crate::gate::Gate;
 use crate::patience::Patience;
@@ -13,7 +15,13 @@ use requester::{Phase, Seen};
 use std::sync::Wait;
 use std::thread;
 use std::thread::Threads;
-use std::time::Clock;
+use std::time::{Clock, Duration};
+
+/// How many times a member that ended its request repeats what it sent, if a message was lost.
+const MOST_REPEATS: u64 = 5;
+
+/// How many milliseconds pass before each repeat.
+const PAUSE: u64 = 1;
 
 /// All members of a drive, and the fault of one whose work ended early.
 #[derive(Drop)]
@@ -25,7 +33,7 @@ pub struct Driven<N: ClusterName> {
 }
 
 /// Has a member pump until it is inside, at one turn for each pump. Fails if and only if its turns are
-/// spent before.
+/// spent before, or several reminders in a row found no memory for a message.
 fn enter<N: ClusterName, R: Wait + Clock>(
     rt: &R,
     cluster: &Cluster<N>,
@@ -35,12 +43,18 @@ fn enter<N: ClusterName, R: Wait + Clock>(
 ) -> Result<(), ClusterFault>
     ensures entered { IfOk result (λ _. is_inside member.new.requester.phase ≡ true) }
     ensures fewer { IfOk result (λ _. turns.new < turns.old) }
-    ensures spent { IfErr result (λ fault.
-        (fault ≡ ClusterFault.TurnsSpent member.old.requester.id) × (turns.new ≡ 0)) }
+    ensures no_more { turns.new ≤ turns.old }
+    ensures ended { IfErr result (EndsWait member.old.requester.id turns.new patience.new.starved) }
+    ensures spared { IfOk result (λ _. patience.new.starved < most_starved) }
+    ensures lost { LosesAtLeast patience.new.starved member.old.lost member.new.lost }
     ensures kept { KeepsWork member.old member.new }
 {
+    patience.begin();
     'looks: while turns.take() {
         patience.wait(rt, cluster, member);
+        if patience.is_starved() {
+            return Err(ClusterFault::OutOfMemory);
+        }
         match member.pump(rt, cluster) {
             Some(Seen::Entered) => {
                 patience.found();
@@ -69,8 +83,45 @@ fn wait_at<G: Gate>(gate: &G, client: u8, turns: &mut Turns) -> Result<(), Clust
     Err(ClusterFault::TurnsSpent(client))
 }
 
+/// Repeats what a member sent last, after a pause: five times at most, and no more once each message
+/// found memory.
+///
+/// A member that ended its request repeats its RELEASEs if a message was lost. Nobody else sends them
+/// again, and others may wait for the votes.
+fn repeat<N: ClusterName, R: Wait + Clock>(rt: &R, cluster: &Cluster<N>, member: &mut Member<N>)
+    ensures same { member.new ≡ record member.old { lost = member.new.lost } }
+    ensures lost { member.old.lost ≤ member.new.lost }
+{
+    for _ in 0..MOST_REPEATS {
+        thread::sleep(rt, Duration::from_millis(PAUSE));
+        if member.repeat(rt, cluster) == 0 {
+            return;
+        }
+    }
+}
+
+/// Ends a member's request, if it has one: it leaves, or gives up.
+fn end<N: ClusterName, R: Wait + Clock>(rt: &R, cluster: &Cluster<N>, member: &mut Member<N>)
+    ensures idle { is_idle member.new.requester.phase ≡ true }
+    ensures kept { KeepsWork member.old member.new }
+{
+    let lost = member.lost();
+    match member.phase() {
+        Phase::Idle => return,
+        Phase::Asking => {
+            let _ = member.give_up(rt, cluster);
+        }
+        Phase::Inside => {
+            let _ = member.leave(rt, cluster);
+        }
+    }
+    if member.lost() > lost {
+        repeat(rt, cluster, member);
+    }
+}
+
 /// Has a member ask, pass and leave once, or get as far as it can. Fails by a fault of one of its
-/// calls, or if its turns are spent.
+/// calls, if its turns are spent, or if several reminders in a row found no memory for a message.
 fn pass_once<N: ClusterName, R: Wait + Clock, G: Gate>(
     rt: &R,
     cluster: &Cluster<N>,
@@ -93,32 +144,17 @@ fn pass_once<N: ClusterName, R: Wait + Clock, G: Gate>(
     gate.before(client);
     member.ask(rt, cluster)?;
     gate.drawn(client);
-    enter(rt, cluster, member, turns, patience)?;
+    match enter(rt, cluster, member, turns, patience) {
+        Ok(()) => {}
+        Err(fault) => return Err(fault),
+    }
     wait_at(gate, client, turns)?;
     match member.pass(cluster) {
         Ok(_) => {}
         Err(fault) => return Err(fault),
     }
-    match member.leave(rt, cluster) {
-        Ok(()) => Ok(()),
-        Err(fault) => Err(fault),
-    }
-}
-
-/// Ends a member's request, if it has one: it leaves, or gives up.
-fn end<N: ClusterName>(rt: &impl Wait, cluster: &Cluster<N>, member: &mut Member<N>)
-    ensures idle { is_idle member.new.requester.phase ≡ true }
-    ensures kept { KeepsWork member.old member.new }
-{
-    match member.phase() {
-        Phase::Idle => {}
-        Phase::Asking => {
-            let _ = member.give_up(rt, cluster);
-        }
-        Phase::Inside => {
-            let _ = member.leave(rt, cluster);
-        }
-    }
+    end(rt, cluster, member);
+    Ok(())
 }
 
 /// Has a member make `passes` passes by the plan in use. If its work ends early, the member keeps the
@@ -273,13 +309,15 @@ fn serve_all<N: ClusterName + Send + Sync, R: Threads + Wait + Clock + Sync, G: 
 ///
 /// Each pump and each question to the gate whether the member may pass is a turn. Each member has
 /// `turns` turns for all its passes, and a pass takes at least two. After 16 empty pumps in a row a
-/// member yields its thread before each further one, and after 500 it sleeps. It sleeps sooner if
-/// other programs kept it waiting when it yielded; the clock is read for this. A sleep ends when a
-/// message comes, or after a millisecond. After 1,000 empty pumps in a row a member reminds, and
-/// counts anew.
+/// member yields its thread before each further one, and after 500 it sleeps before every 32nd. It
+/// sleeps sooner if other programs kept it waiting when it yielded; the clock is read for this. A
+/// sleep ends when a message comes, or after a millisecond. After 1,000 empty pumps in a row a member
+/// reminds, and counts anew. That takes some 20 milliseconds at first. While the same request goes on,
+/// a member sleeps twice as often after each reminder, until it sleeps before each pump.
 ///
 /// If its turns are spent or one of its calls fails, a member ends its work: it leaves or gives up,
-/// and keeps the fault ([`Member::fault`]).
+/// and keeps the fault ([`Member::fault`]). It also does so, by `OutOfMemory`, once five reminders in
+/// a row each lost a message because memory ran out.
 ///
 /// Returns all members, in order and idle. If the work of some ended early, returns them in
 /// [`Driven`], with the fault of the smallest such client. A client that the gate never lets pass

@@ -1,5 +1,5 @@
 -- Clusters, as contracts see them.
-use Rattle.std.specs.Prelude.{◌≡◌, ℕ, ◌*◌, ◌≤◌, ◌++◌, Option, IfSome, length}
+use Rattle.std.specs.Prelude.{◌≡◌, ℕ, ◌*◌, ◌≤◌, ◌++◌, List, Option, Some, IfSome, length, slice_get}
 use Rattle.numbers.specs.Bounds.{max_voters, max_clients, max_tickets}
 use Rattle.board.specs.Roots.{HasAllSeats}
 use Rattle.board.specs.Seats.{BoardState, RootState}
@@ -24,15 +24,21 @@ pub record IsCluster (c : ClusterState) : Type 0 where
   pub clients : c.board.clients ≤ max_clients
   pub limit : c.board.limit ≡ max_tickets
 
--- a running cluster: its board and its offices, a node and a line for each voter, and a mailbox for
--- each client
-pub record Runs (c : ClusterState) (board : BoardState) (offices : OfficesState) (nodes lines mailboxes : ℕ) : Type 0 where
+-- each of these numbers is its place in the list
+abbrev pub AreNumbered : List ℕ → Type 0
+AreNumbered numbers = (k n : ℕ) → slice_get numbers k ≡ Some n → n ≡ k
+
+-- A running cluster: its board and its offices, and a node for each voter. There is a line for each
+-- voter and a mailbox for each client, in the order of their numbers.
+pub record Runs (c : ClusterState) (board : BoardState) (offices : OfficesState) (nodes : ℕ) (lines mailboxes : List ℕ) : Type 0 where
   pub cluster : IsCluster c
   pub board_is : board ≡ c.board
   pub offices_are : offices ≡ offices_with (names_in c) (c.board.clients * c.quota)
   pub nodes_are : nodes ≡ c.board.voters
-  pub lines_are : lines ≡ c.board.voters
-  pub mailboxes_are : mailboxes ≡ c.board.clients
+  pub lines_many : length lines ≡ c.board.voters
+  pub lines_are : AreNumbered lines
+  pub mailboxes_many : length mailboxes ≡ c.board.clients
+  pub mailboxes_are : AreNumbered mailboxes
 
 -- a cluster that is not open yet: all rights to seats and tickets are with the root and the clerks
 pub record IsBlank (c : ClusterState) (offices : OfficesState) (root : RootState) (clerks : ClerksState)

@@ -1,8 +1,10 @@
 -- How many messages of a step are lost.
-use Rattle.std.specs.Prelude.{ℕ, ◌+◌, ◌-◌, ◌*◌, ◌^◌, ◌≤◌, Bool, ◌||◌, min, nat_le}
+use Rattle.std.specs.Prelude.{◌≡◌, ◌⊎◌, ℕ, ◌+◌, ◌-◌, ◌*◌, ◌^◌, ◌≤◌, Bool, ◌||◌, length, min, nat_le}
 use Rattle.message.specs.declared.message.ToClient.{ToClient}
 use Rattle.message.specs.declared.message.ToVoter.{ToVoter}
 use Rattle.board.specs.Seats.{BoardState}
+use Rattle.node.specs.Outboxes.{OutboxState}
+use Rattle.members.specs.declared.cluster.Losses.{Losses}
 
 -- the message is to a voter, or from a client, that the board doesn't have
 abbrev pub is_stray : BoardState → ToVoter → Bool
@@ -17,9 +19,24 @@ is_stray_reply board m = nat_le board.voters m.voter || nat_le board.clients m.c
 abbrev pub most_lost : ℕ → ℕ
 most_lost sent = 3 * sent
 
+-- What became of a message to this voter, with the outbox before and after. Either it is lost, and the
+-- outbox stays as it was. Or the outbox has the voter's replies, and each of them is posted or lost.
+abbrev pub IsDelivered : ℕ → OutboxState → OutboxState → ℕ → ℕ → Type 0
+IsDelivered voter before after posted lost =
+    ((posted ≡ 0) × (lost ≡ 1) × (after ≡ before))
+    ⊎ ((posted + lost ≡ length after.messages) × (after.voter ≡ voter))
+
 -- no fewer are lost than before, and at most n more
 abbrev pub LosesAtMost : ℕ → ℕ → ℕ → Type 0
 LosesAtMost n before after = (before ≤ after) × (after ≤ before + n)
+
+-- the losses of two steps; each count stays at its greatest value, 2^64 - 1
+abbrev pub and_losses : Losses → Losses → Losses
+and_losses a b = record { lost = min (a.lost + b.lost) (2 ^ 64 - 1); starved = min (a.starved + b.starved) (2 ^ 64 - 1) }
+
+-- at least n more are lost than before; the count stays at its greatest value, 2^64 - 1
+abbrev pub LosesAtLeast : ℕ → ℕ → ℕ → Type 0
+LosesAtLeast n before after = (before ≤ after) × (min (before + n) (2 ^ 64 - 1) ≤ after)
 
 -- the count after one more loss; it stays at its greatest value, 2^64 - 1
 abbrev pub one_more : ℕ → ℕ

@@ -5,10 +5,11 @@ ghost use Rattle.numbers.specs.Bounds.{max_clients, max_tickets};
 ghost use Rattle.board.specs.Roots.{IsNewBoard};
 ghost use Rattle.dealer.specs.Plans.{coteries_of};
 ghost use Rattle.clerks.specs.Clerks.{fresh_clerks, office_names, plan_quorums};
-ghost use Rattle.members.specs.Clusters.{ClusterState, IsBlank, IsCluster, names_in};
+ghost use Rattle.members.specs.Clusters.{AreNumbered, ClusterState, IsBlank, IsCluster, names_in};
 ghost use Rattle.members.specs.Members.{AreIdle, fresh_member};
 
 use crate::cluster::{Cluster, Left};
+use crate::line::Line;
 use crate::member::Member;
 use board::{Board, BoardRoot};
 use certificate::Plan;
@@ -82,20 +83,22 @@ fn nodes_of<N: ClusterName>(
     Ok(nodes)
 }
 
-/// Creates a lock for each voter, under which its replies are posted.
-fn lines_of(alloc: Global, voters: u8) -> Result<Vec<Mutex<()>>, AllocError>
-    ensures { IfOk result (λ lines. length lines.items ≡ voters) }
+/// Creates a line for each voter, in order.
+fn lines_of(alloc: Global, voters: u8) -> Result<Vec<Line>, AllocError>
+    ensures len { IfOk result (λ lines. length lines.items ≡ voters) }
+    ensures each { IfOk result (λ lines. AreNumbered lines.items) }
 {
     let mut lines = Vec::with_capacity(alloc, usize::from(voters))?;
-    for _ in 0..voters {
-        lines.push(Mutex::new(()))?;
+    for voter in 0..voters {
+        lines.push(Line::new(voter))?;
     }
     Ok(lines)
 }
 
-/// Creates a mailbox for each client.
+/// Creates a mailbox for each client, in order.
 fn mailboxes_of<N: ClusterName>(alloc: Global, clients: u8) -> Result<Vec<Postbox<N>>, AllocError>
-    ensures { IfOk result (λ mailboxes. length mailboxes.items ≡ clients) }
+    ensures len { IfOk result (λ mailboxes. length mailboxes.items ≡ clients) }
+    ensures each { IfOk result (λ mailboxes. AreNumbered mailboxes.items) }
 {
     let mut mailboxes = Vec::with_capacity(alloc, usize::from(clients))?;
     for client in 0..clients {
@@ -109,8 +112,8 @@ fn mailboxes_of<N: ClusterName>(alloc: Global, clients: u8) -> Result<Vec<Postbo
 struct Rooms<N: ClusterName> {
     /// A node for each voter.
     nodes: Vec<Mutex<Node<N>>>,
-    /// A lock for each voter, under which its replies are posted.
-    lines: Vec<Mutex<()>>,
+    /// A line for each voter.
+    lines: Vec<Line>,
     /// A mailbox for each client.
     mailboxes: Vec<Postbox<N>>,
 }
@@ -130,8 +133,8 @@ fn rooms_of<N: ClusterName>(
     requires there { (v : ℕ) → slice_index_or root.old.voters v false ≡ nat_lt v voters }
     requires seats { voters ≤ root.old.seats }
     ensures nodes { IfOk result (λ rooms. length rooms.nodes.items ≡ voters) }
-    ensures lines { IfOk result (λ rooms. length rooms.lines.items ≡ voters) }
-    ensures mailboxes { IfOk result (λ rooms. length rooms.mailboxes.items ≡ clients) }
+    ensures lines { IfOk result (λ rooms. (length rooms.lines.items ≡ voters) × AreNumbered rooms.lines.items) }
+    ensures mailboxes { IfOk result (λ rooms. (length rooms.mailboxes.items ≡ clients) × AreNumbered rooms.mailboxes.items) }
     ensures seats { IfOk result (λ _. root.new.seats + voters ≡ root.old.seats) }
     ensures same { IfOk result (λ _. (root.new.clients ≡ root.old.clients) × (root.new.passes ≡ root.old.passes)) }
     ensures table { root.new.table ≡ root.old.table }
@@ -195,8 +198,8 @@ fn parts_of<N: ClusterName>(
     requires quota { quota ≡ N.cluster.quota }
     requires blank { IsBlank N.cluster offices.now root.old clerks.old voters clients }
     ensures nodes { IfOk result (λ parts. length parts.0.nodes.items ≡ voters) }
-    ensures lines { IfOk result (λ parts. length parts.0.lines.items ≡ voters) }
-    ensures mailboxes { IfOk result (λ parts. length parts.0.mailboxes.items ≡ clients) }
+    ensures lines { IfOk result (λ parts. (length parts.0.lines.items ≡ voters) × AreNumbered parts.0.lines.items) }
+    ensures mailboxes { IfOk result (λ parts. (length parts.0.mailboxes.items ≡ clients) × AreNumbered parts.0.mailboxes.items) }
     ensures members { IfOk result (λ parts. parts.1.items ≡ map (fresh_member N.cluster) (range_with_len 0 clients)) }
     ensures seats { IfOk result (λ _. (root.new.seats ≡ 0) × (root.new.passes ≡ [])) }
     ensures clerks { IfOk result (λ _. clerks.new ≡ fresh_clerks (names_in N.cluster) 0) }

@@ -1,24 +1,25 @@
 //! A running cluster: its nodes and mailboxes, which all members share.
-ghost use Rattle.std.specs.Prelude.{◌≡◌, ◌⊎◌, ◌+◌, ◌<◌, ◌≤◌, [], true, false, None, IfNone, IfSome, length, nat_le};
+ghost use Rattle.std.specs.Prelude.{◌≡◌, ◌+◌, ◌<◌, ◌≤◌, [], true, false, None, Ok, IfErr, IfNone, IfOk, IfSome, length, nat_le};
 ghost use Rattle.std.specs.Coded.{Coded-set};
 ghost use Rattle.std.specs.List.{count_by};
 ghost use Rattle.numbers.specs.Sets.{IsSet};
 ghost use Rattle.board.specs.Quorums.{HasQuorum, place_of, quorum_at};
 ghost use Rattle.clerks.specs.Clerks.{fresh_clerks, quorums_of};
 ghost use Rattle.members.specs.Clusters.{ClusterState, names_in};
-ghost use Rattle.members.specs.Losses.{is_stray, is_stray_reply, most_lost};
+ghost use Rattle.members.specs.Losses.{IsDelivered, and_losses, is_stray, is_stray_reply, most_lost};
 ghost use Rattle.node.specs.Mail.{IsMail};
 
+use crate::line::{Held, Line};
 use board::{Board, BoardRoot, ClientSeat};
 use clerks::{Clerks, Offices};
 use message::{ToClient, ToVoter};
-use node::{ClusterName, Node, Postbox};
+use node::{ClusterName, Node, Outbox, Postbox};
 use quorum_set::{QSet, Side};
 use requester::Requester;
+use std::alloc::AllocError;
 use std::marker::{Model, PhantomData};
-use std::sync::{Mutex, MutexGuard, Wait};
+use std::sync::{Mutex, Wait};
 use std::time::{Clock, Duration};
-use voter::Replies;
 
 /// A running cluster: its board, its offices, a node for each voter and a mailbox for each client.
 /// Threads share it through a `&`. Contracts see which cluster it is.
@@ -27,10 +28,9 @@ pub struct Cluster<N: ClusterName> {
     pub(crate) board: Board,
     pub(crate) offices: Offices,
     pub(crate) nodes: Vec<Mutex<Node<N>>>,
-    /// For each voter a lock that is held from a message to it until the replies are posted. So its
-    /// replies get into a mailbox in the order in which it made them. Posting needs the guard of such
-    /// a lock; that it is the voter's own is not proved.
-    pub(crate) lines: Vec<Mutex<()>>,
+    /// For each voter a line, which is held from a message to it until the replies are posted. So its
+    /// replies get into a mailbox in the order in which it made them. Posting needs the voter's line.
+    pub(crate) lines: Vec<Line>,
     pub(crate) mailboxes: Vec<Postbox<N>>,
     /// Unused until `close`. The lock lets threads share the cluster.
     pub(crate) left: Mutex<Left<N>>,
@@ -57,53 +57,109 @@ impl<N: ClusterName> Model for Cluster<N> {
 
     ghost view = { λ c. N.cluster };
 
-    ghost invariant = { λ c. Runs N.cluster c.board c.offices (length c.nodes.items) (length c.lines.items)
-        (length c.mailboxes.items) };
+    ghost invariant = { λ c. Runs N.cluster c.board c.offices (length c.nodes.items) c.lines.items c.mailboxes.items };
 }
 
-/// What became of a voter's replies.
+/// What became of the messages in an outbox.
 #[derive(Clone, Copy)]
 struct Posted {
     /// How many got into a mailbox.
     posted: u64,
     /// How many messages are lost.
     lost: u64,
+    /// How many of these found no memory.
+    starved: u64,
+}
+
+/// How many messages of a step are lost.
+#[derive(Clone, Copy)]
+pub(crate) struct Losses {
+    /// How many are lost. This stays at its greatest value, 2^64 - 1.
+    pub(crate) lost: u64,
+    /// How many of these found no memory.
+    pub(crate) starved: u64,
+}
+
+impl Losses {
+    /// Returns the losses of both steps.
+    pub(crate) fn and(self, later: Losses) -> Losses
+        ensures { result ≡ and_losses self later }
+    {
+        Losses {
+            lost: self.lost.saturating_add(later.lost),
+            starved: self.starved.saturating_add(later.starved),
+        }
+    }
 }
 
 impl<N: ClusterName> Cluster<N> {
-    /// Gives a message to its voter's node, with the replies in `replies` in place of what was there.
-    /// Returns `false` if the message is lost: the node dropped it, or had no memory, or the cluster
-    /// doesn't have the voter or the client. Then `replies` says nothing.
-    fn tell(&self, rt: &impl Wait, message: &ToVoter, replies: &mut Replies) -> bool
-        ensures stray { is_stray N.cluster.board message.now ≡ true → result ≡ false }
+    /// Gives a message to its voter's node, with the replies in `outbox` in place of what was there.
+    /// Returns `false` if the node dropped the message, or the cluster doesn't have the voter or the
+    /// client. Fails if the node ran out of memory. Then the message is lost and `outbox` is unchanged.
+    fn tell(
+        &self,
+        rt: &impl Wait,
+        message: &ToVoter,
+        outbox: &mut Outbox,
+    ) -> Result<bool, AllocError>
+        ensures stray { is_stray N.cluster.board message.now ≡ true → result ≡ Ok false }
+        ensures taken { IfOk result (λ taken. taken ≡ true → outbox.new.voter ≡ message.now.voter) }
+        ensures else_same { IfOk result (λ taken. taken ≡ false → outbox.new ≡ outbox.old) }
+        ensures memory { IfErr result (λ _. outbox.new ≡ outbox.old) }
     {
         if usize::from(message.client) >= self.mailboxes.len() {
-            return false;
+            return Ok(false);
         }
         let Some(node) = self.nodes.get(usize::from(message.voter)) else {
-            return false;
+            return Ok(false);
         };
         let mut node = node.lock(rt);
         if node.number() != message.voter {
-            return false;
+            return Ok(false);
         }
-        node.take_into(&self.board, message, replies) == Ok(true)
+        node.take_into(&self.board, message, outbox)
     }
 
     /// Waits until the replies of a voter to earlier messages are posted, and keeps other messages to
-    /// it waiting until the guard is dropped. Returns `None` if the cluster doesn't have the voter.
-    fn line(&self, rt: &impl Wait, voter: u8) -> Option<MutexGuard<'_, ()>>
+    /// it waiting until its line is dropped. Returns `None` if the cluster doesn't have the voter.
+    fn line(&self, rt: &impl Wait, voter: u8) -> Option<Held<'_>>
+        ensures own { IfSome result (λ line. line.voter ≡ voter) }
         ensures missing { IfNone result (N.cluster.board.voters ≤ voter) }
     {
-        Some(self.lines.get(usize::from(voter))?.lock(rt))
+        Some(self.lines.get(usize::from(voter))?.hold(rt))
     }
 
     /// Returns the reminders of a voter's node, or `None` if the cluster doesn't have the voter.
-    fn reminders(&self, rt: &impl Wait, voter: u8) -> Option<Replies>
+    fn reminders(&self, rt: &impl Wait, voter: u8) -> Option<Outbox>
+        ensures own { IfSome result (λ outbox. outbox.voter ≡ voter) }
         ensures stray { N.cluster.board.voters ≤ voter → result ≡ None }
     {
         let node = self.nodes.get(usize::from(voter))?.lock(rt);
+        if node.number() != voter {
+            return None;
+        }
         Some(node.remind())
+    }
+
+    /// Returns a client's mailbox, or `None` if the cluster doesn't have the client.
+    fn mailbox(&self, client: u8) -> Option<&Postbox<N>>
+        ensures own { IfSome result (λ mailbox. mailbox.now ≡ client) }
+        ensures there { IfSome result (λ _. client < N.cluster.board.clients) }
+        ensures missing { IfNone result (N.cluster.board.clients ≤ client) }
+    {
+        self.mailboxes.get(usize::from(client))
+    }
+
+    /// Puts a message into its client's mailbox. Returns `false` if it does not belong there, and fails
+    /// if it runs out of memory; then the message is lost.
+    fn put(&self, rt: &impl Wait, message: ToClient) -> Result<bool, AllocError>
+        ensures mail { IfOk result (λ put. put ≡ true → IsMail N.cluster.board message.client message) }
+        ensures stray { is_stray_reply N.cluster.board message ≡ true → result ≡ Ok false }
+    {
+        let Some(mailbox) = self.mailbox(message.client) else {
+            return Ok(false);
+        };
+        mailbox.put(rt, message, self.nodes.len())
     }
 
     /// Puts a message into its client's mailbox, as if its voter sent it. Returns `false` if the
@@ -117,47 +173,66 @@ impl<N: ClusterName> Cluster<N> {
         ensures mail { result ≡ true → IsMail N.cluster.board message.client message }
         ensures stray { is_stray_reply N.cluster.board message ≡ true → result ≡ false }
     {
-        let Some(mailbox) = self.mailboxes.get(usize::from(message.client)) else {
-            return false;
-        };
-        mailbox.put(rt, message, self.nodes.len())
+        self.put(rt, message) == Ok(true)
     }
 
-    /// Puts each of these messages into its client's mailbox, in order, while the voter's line is
-    /// held. Each of them is posted or lost.
-    fn post_each(&self, rt: &impl Wait, _line: &MutexGuard<'_, ()>, replies: &[ToClient]) -> Posted
-        ensures each { result.posted + result.lost ≡ length replies.now }
-        ensures strays { count_by (is_stray_reply N.cluster.board) replies.now ≤ result.lost }
+    /// Puts each message of a voter's outbox into its client's mailbox, in order, while the voter's
+    /// line is held. Each of them is posted or lost.
+    fn post_each(&self, rt: &impl Wait, _line: &Held<'_>, outbox: &Outbox) -> Posted
+        requires line { _line.now.voter ≡ outbox.now.voter }
+        ensures each { result.posted + result.lost ≡ length outbox.now.messages }
+        ensures few { length outbox.now.messages ≤ most_lost 1 }
+        ensures strays { count_by (is_stray_reply N.cluster.board) outbox.now.messages + result.starved ≤ result.lost }
     {
         let mut posted: u64 = 0;
         let mut lost: u64 = 0;
-        for reply in replies {
-            if self.post(rt, *reply) {
-                posted += 1;
-            } else {
-                lost += 1;
+        let mut starved: u64 = 0;
+        for message in outbox.messages() {
+            match self.put(rt, *message) {
+                Ok(true) => posted += 1,
+                Ok(false) => lost += 1,
+                Err(_) => {
+                    lost += 1;
+                    starved += 1;
+                }
             }
         }
-        Posted { posted, lost }
+        Posted {
+            posted,
+            lost,
+            starved,
+        }
     }
 
     /// Gives a message to its voter, and the voter's replies to their clients. Each reply is posted
-    /// or lost. If the message itself is lost, nothing is posted and that counts as one. `replies`
-    /// gets the replies.
-    fn deliver_into(&self, rt: &impl Wait, message: &ToVoter, replies: &mut Replies) -> Posted
+    /// or lost. If the message itself is lost, nothing is posted, that counts as one, and `outbox` is
+    /// unchanged. Otherwise `outbox` gets the replies.
+    fn deliver_into(&self, rt: &impl Wait, message: &ToVoter, outbox: &mut Outbox) -> Posted
         ensures few { result.lost ≤ most_lost 1 }
-        ensures stray { is_stray N.cluster.board message.now ≡ true → result.lost ≡ 1 }
-        ensures each { (result ≡ record { posted = 0; lost = 1 })
-            ⊎ (result.posted + result.lost ≡ length replies.new.items) }
+        ensures starved { result.starved ≤ result.lost }
+        ensures stray { is_stray N.cluster.board message.now ≡ true → (result.lost ≡ 1) × (result.starved ≡ 0) }
+        ensures each { IsDelivered message.now.voter outbox.old outbox.new result.posted result.lost }
     {
-        let none = Posted { posted: 0, lost: 1 };
         let Some(line) = self.line(rt, message.voter) else {
-            return none;
+            return Posted {
+                posted: 0,
+                lost: 1,
+                starved: 0,
+            };
         };
-        if !self.tell(rt, message, replies) {
-            return none;
+        match self.tell(rt, message, outbox) {
+            Ok(true) => self.post_each(rt, &line, outbox),
+            Ok(false) => Posted {
+                posted: 0,
+                lost: 1,
+                starved: 0,
+            },
+            Err(_) => Posted {
+                posted: 0,
+                lost: 1,
+                starved: 1,
+            },
         }
-        self.post_each(rt, &line, replies.as_slice())
     }
 
     /// Gives a message to its voter, as if its client sent it, and the voter's replies to their
@@ -174,21 +249,32 @@ impl<N: ClusterName> Cluster<N> {
         ensures few { result ≤ most_lost 1 }
         ensures stray { is_stray N.cluster.board message.now ≡ true → result ≡ 1 }
     {
-        self.deliver_into(rt, message, &mut Replies::new()).lost
+        self.deliver_into(rt, message, &mut Outbox::new()).lost
     }
 
     /// Posts the reminders of a voter, and returns how many are lost. If the cluster doesn't have the
     /// voter, that counts as one.
-    fn remind_holder(&self, rt: &impl Wait, voter: u8) -> u64
-        ensures few { result ≤ most_lost 1 }
-        ensures stray { N.cluster.board.voters ≤ voter → result ≡ 1 }
+    fn remind_holder(&self, rt: &impl Wait, voter: u8) -> Losses
+        ensures few { result.lost ≤ most_lost 1 }
+        ensures starved { result.starved ≤ result.lost }
+        ensures stray { N.cluster.board.voters ≤ voter → (result.lost ≡ 1) × (result.starved ≡ 0) }
     {
+        let none = Losses {
+            lost: 1,
+            starved: 0,
+        };
         let Some(line) = self.line(rt, voter) else {
-            return 1;
+            return none;
         };
         match self.reminders(rt, voter) {
-            Some(replies) => self.post_each(rt, &line, replies.as_slice()).lost,
-            None => 1,
+            Some(outbox) => {
+                let posted = self.post_each(rt, &line, &outbox);
+                Losses {
+                    lost: posted.lost,
+                    starved: posted.starved,
+                }
+            }
+            None => none,
         }
     }
 
@@ -208,30 +294,42 @@ impl<N: ClusterName> Cluster<N> {
         _requester: &Requester,
         _seat: &ClientSeat,
         messages: &[ToVoter],
-    ) -> u64
+    ) -> Losses
         requires held { _seat.now.held ≡ _requester.now.held }
-        ensures few { result ≤ most_lost (length messages.now) }
-        ensures strays { count_by (is_stray N.cluster.board) messages.now ≤ result }
+        ensures few { result.lost ≤ most_lost (length messages.now) }
+        ensures starved { result.starved ≤ result.lost }
+        ensures strays { count_by (is_stray N.cluster.board) messages.now ≤ result.lost }
     {
-        let mut replies = Replies::new();
-        let mut lost: u64 = 0;
+        let mut outbox = Outbox::new();
+        let mut losses = Losses {
+            lost: 0,
+            starved: 0,
+        };
         for message in messages {
-            lost = lost.saturating_add(self.deliver_into(rt, message, &mut replies).lost);
+            let posted = self.deliver_into(rt, message, &mut outbox);
+            losses = losses.and(Losses {
+                lost: posted.lost,
+                starved: posted.starved,
+            });
         }
-        lost
+        losses
     }
 
     /// Has each of these voters remind the client that holds its vote. Returns how many messages
     /// are lost.
-    pub(crate) fn remind(&self, rt: &impl Wait, voters: &[u8]) -> u64
-        ensures few { result ≤ most_lost (length voters.now) }
-        ensures strays { count_by (nat_le N.cluster.board.voters) voters.now ≤ result }
+    pub(crate) fn remind(&self, rt: &impl Wait, voters: &[u8]) -> Losses
+        ensures few { result.lost ≤ most_lost (length voters.now) }
+        ensures starved { result.starved ≤ result.lost }
+        ensures strays { count_by (nat_le N.cluster.board.voters) voters.now ≤ result.lost }
     {
-        let mut lost: u64 = 0;
+        let mut losses = Losses {
+            lost: 0,
+            starved: 0,
+        };
         for voter in voters {
-            lost = lost.saturating_add(self.remind_holder(rt, *voter));
+            losses = losses.and(self.remind_holder(rt, *voter));
         }
-        lost
+        losses
     }
 
     /// Returns the quorum with this number of a plan's coterie.
@@ -250,15 +348,14 @@ impl<N: ClusterName> Cluster<N> {
     pub(crate) fn next(&self, rt: &impl Wait, client: u8) -> Option<ToClient>
         ensures { IfSome result (IsMail N.cluster.board client) }
     {
-        let mailbox = self.mailboxes.get(usize::from(client))?;
-        mailbox.take(rt, client)
+        self.mailbox(client)?.take(rt)
     }
 
     /// Has a client's thread sleep until a message comes for the client or the time is over. Returns
     /// at once if a message waits.
     pub(crate) fn sleep<R: Wait + Clock>(&self, rt: &R, client: u8, time: Duration) {
-        if let Some(mailbox) = self.mailboxes.get(usize::from(client)) {
-            mailbox.sleep(rt, time);
+        if let Some(mailbox) = self.mailbox(client) {
+            mailbox.sleep(rt, client, time);
         }
     }
 }

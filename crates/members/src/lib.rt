@@ -83,6 +83,7 @@ mod blank;
 mod close;
 mod cluster;
 mod laws;
+mod line;
 mod member;
 
 pub use blank::Blank;

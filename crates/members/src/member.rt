@@ -8,7 +8,7 @@ ghost use Rattle.requester.specs.Steps.{remind};
 ghost use Rattle.requester.specs.Words.{is_asking, is_idle, is_inside, members};
 ghost use Rattle.clerks.specs.Clerks.{AreDealt, IsDealt, drawn, use_second_plan, may_exchange, receipts_of};
 ghost use Rattle.members.specs.Clusters.{ClusterState, names_in};
-ghost use Rattle.members.specs.Losses.{LosesAtMost, most_lost};
+ghost use Rattle.members.specs.Losses.{LosesAtLeast, LosesAtMost, most_lost};
 ghost use Rattle.members.specs.Members.{MemberState, MayAsk, Asked, HasLeft, GaveUp, Met, Pumped, RefusesAsk, RefusesPass, fresh_member, place_in, with_pass};
 ghost use Rattle.node.specs.Mail.{IsMail};
 ghost use Rattle.node.specs.Votes.{HoldsFewer, HoldsOnly, HoldsWithin};
@@ -90,7 +90,7 @@ fn finish<N: ClusterName>(
         × (seat.new.passes ≡ seat.old.passes) }
 {
     give_back(seat, &cluster.board, requester);
-    cluster.send(rt, requester, seat, out.as_slice())
+    cluster.send(rt, requester, seat, out.as_slice()).lost
 }
 
 impl<N: ClusterName> Member<N> {
@@ -229,8 +229,8 @@ impl<N: ClusterName> Member<N> {
         };
         self.side = side;
         self.quorum = receipt.quorum;
-        let lost = cluster.send(rt, &self.requester, &self.seat, self.out.as_slice());
-        self.lost = self.lost.saturating_add(lost);
+        let losses = cluster.send(rt, &self.requester, &self.seat, self.out.as_slice());
+        self.lost = self.lost.saturating_add(losses.lost);
         Ok(receipt)
     }
 
@@ -341,20 +341,41 @@ impl<N: ClusterName> Member<N> {
 
     /// Sends its reminders, and has each voter of its quorum remind the client that holds the vote.
     /// Does nothing unless it is asking.
-    pub fn remind(&mut self, rt: &impl Wait, cluster: &Cluster<N>)
+    ///
+    /// Returns how many of these messages and of the replies to them are lost because memory ran out:
+    /// the log of a node or a mailbox could not grow. [`Member::lost`] counts them too.
+    pub fn remind(&mut self, rt: &impl Wait, cluster: &Cluster<N>) -> u64
         ensures same { self.new ≡ record self.old { lost = self.new.lost } }
-        ensures else_nothing { is_asking self.old.requester.phase ≡ false → self.new ≡ self.old }
+        ensures else_nothing { is_asking self.old.requester.phase ≡ false → (self.new ≡ self.old) × (result ≡ 0) }
         ensures lost { LosesAtMost
             (most_lost (length (remind self.old.requester) + length (members self.old.requester)))
             self.old.lost self.new.lost }
+        ensures starved { LosesAtLeast result self.old.lost self.new.lost }
     {
         if self.requester.phase() != Phase::Asking {
-            return;
+            return 0;
         }
         let reminders = self.requester.remind();
         let sent = cluster.send(rt, &self.requester, &self.seat, reminders.as_slice());
-        let reminded = cluster.remind(rt, self.requester.quorum());
-        self.lost = self.lost.saturating_add(sent).saturating_add(reminded);
+        let losses = sent.and(cluster.remind(rt, self.requester.quorum()));
+        self.lost = self.lost.saturating_add(losses.lost);
+        losses.starved
+    }
+
+    /// Sends the messages of its last step once more, in case they were lost: those of the last call of
+    /// [`Member::ask`], [`Member::pump`], [`Member::leave`] or [`Member::give_up`]. No reminder of its own
+    /// repeats the RELEASE of a member that is idle, and others may wait for its votes.
+    ///
+    /// A message that its voter knows has no effect, or the voter makes its reply again. Returns how many
+    /// of the messages and of the replies are lost because memory ran out, as [`Member::remind`] does.
+    pub fn repeat(&mut self, rt: &impl Wait, cluster: &Cluster<N>) -> u64
+        ensures same { self.new ≡ record self.old { lost = self.new.lost } }
+        ensures lost { LosesAtMost (most_lost max_voters) self.old.lost self.new.lost }
+        ensures starved { LosesAtLeast result self.old.lost self.new.lost }
+    {
+        let losses = cluster.send(rt, &self.requester, &self.seat, self.out.as_slice());
+        self.lost = self.lost.saturating_add(losses.lost);
+        losses.starved
     }
 
     /// Passes: reads the register, writes the number read plus one, and returns the number read.

@@ -1,24 +1,32 @@
 -- What a node keeps over a message.
-use Rattle.std.proofs.Common.{◌≡◌, inl, inr, ⊎_elim, ℕ, ◌+◌, ◌<◌, ◌≤◌, ◌^◌, Bool, true, false, true≢false, List, [], ◌∷◌, ◌++◌, Option, Some, None, IfSome, refl, sym, ap, ◌∙◌, subst, arith, is_some}
+use Rattle.std.proofs.Common.{◌≡◌, inl, inr, ⊎_elim, ℕ, ◌+◌, ◌<◌, ◌≤◌, ◌^◌, Bool, true, false, true≢false, List, [], ◌∷◌, ◌++◌, Option, Some, None, IfSome, refl, sym, ap, ◌∙◌, subst, arith, is_some, get_or}
 use Rattle.std.specs.Prelude.{option_map}
 use Rattle.std.specs.List.{All}
 use Rattle.std.proofs.lemmas.List.Elements.{All-push}
-use Rattle.std.proofs.lemmas.Option.{none-some, same_Some}
+use Rattle.std.proofs.lemmas.Option.{none-some, same_Some, slice_get-get_or}
+use Rattle.numbers.proofs.Lists.{AllByRecursion-get}
+use Rattle.message.specs.declared.message.ToClient.{ToClient}
 use Rattle.message.specs.declared.message.ToVoter.{ToVoter}
 use Rattle.message.specs.declared.message.VoterBody.{VoterBody}
 use Rattle.message.specs.declared.message.VoterBody.TheVariants as asks
 use Rattle.voter.specs.declared.state.Grant.{Grant}
 use Rattle.voter.specs.declared.state.VoterState.{VoterState}
 use Rattle.voter.specs.Steps.{Outcome, start, step, effect_of, effect_by, is_ended}
+use Rattle.voter.specs.Replies.{AllCarry}
 use Rattle.voter.specs.VoteMoves.{VoteMoves}
 use Rattle.voter.specs.VoterContract.{IsEntry, Brings}
 use Rattle.board.specs.Seats.{BoardState, VoterSeatState as SeatState}
 use Rattle.node.specs.PartLaws.{StepsSoundly}
+use Rattle.node.specs.Outboxes.{AreOf}
 use Rattle.node.specs.Nodes.{IsNode, IsFor, run, next, seat_grant, settle_grant, offer_grant, offer_grant_by}
 
 run-push : (v : Option VoterState) (log : List ToVoter) (m : ToVoter) → run v (log ++ m ∷ []) ≡ next (run v log) m
 run-push v [] m = refl
 run-push v (x ∷ xs) m = run-push (next v x) xs m
+
+-- messages that carry a voter's number are of that voter
+pub AreOf-AllCarry : (voter id seen : ℕ) (ms : List ToClient) → id ≡ voter → AllCarry id seen ms → AreOf voter ms
+AreOf-AllCarry voter id seen ms is carry k d lt = (AllByRecursion-get (λ m. (m.voter ≡ id) × (m.seen ≡ seen)) ms k (get_or ms k d) carry (slice_get-get_or ms k d lt)).0 ∙ is
 
 -- a message that frees the vote, or is refused
 

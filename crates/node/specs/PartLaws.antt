@@ -4,8 +4,8 @@ use Rattle.numbers.specs.Bounds.{max_stamp}
 use Rattle.message.specs.declared.message.ToClient.{ToClient}
 use Rattle.message.specs.declared.message.ToVoter.{ToVoter}
 use Rattle.voter.specs.declared.state.VoterState.{VoterState}
-use Rattle.voter.specs.Replies.{CarrySeen}
-use Rattle.voter.specs.Steps.{IsSound, Outcome, effect_of, start, step}
+use Rattle.voter.specs.Replies.{AllCarry, CarrySeen}
+use Rattle.voter.specs.Steps.{IsSound, Outcome, effect_of, remind, start, step}
 use Rattle.voter.specs.VoteMoves.{VoteMoves}
 use Rattle.voter.specs.VoterContract.{MeetsContract}
 use Rattle.requester.specs.declared.state.ClientState.{ClientState}
@@ -21,10 +21,11 @@ pub record StepsSoundly (v : VoterState) (m : ToVoter) (o : Outcome) : Type 0 wh
   pub carry : CarrySeen v m o
   pub sound : IsSound o.state
 
--- a new voter is sound, and each step of a sound voter is as above
+-- a new voter is sound, each step of a sound voter is as above, and each reminder names its voter
 pub record AreVoterLaws : Type 0 where
   pub first : (id limit : ℕ) → limit ≤ max_stamp → IsSound (start id limit)
   pub steps : (v : VoterState) (m : ToVoter) (o : Outcome) → IsSound v → step v m ≡ Some o → StepsSoundly v m o
+  pub reminders : (v : VoterState) → AllCarry v.id v.seen (remind v)
 
 -- a client holds only votes of members of its quorum, and a message moves its votes as `would_hold` says
 pub record AreClientLaws : Type 0 where

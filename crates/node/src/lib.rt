@@ -38,11 +38,13 @@ mod laws;
 mod mailbox;
 mod name;
 mod node;
+mod outbox;
 mod postbox;
 mod votes;
 
 pub use mailbox::Mailbox;
 pub use name::ClusterName;
 pub use node::Node;
+pub use outbox::Outbox;
 pub use postbox::Postbox;
 pub use votes::{accept, give_back};

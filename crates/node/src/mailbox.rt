@@ -73,6 +73,7 @@ impl<N: ClusterName> Mailbox<N> {
         ensures put { IfOk result (λ put.
             MatchBool put (self.new ≡ with_message self.old message) (self.new ≡ self.old)) }
         ensures memory { IfErr result (λ _. self.new ≡ self.old) }
+        ensures only_mail { IfErr result (λ _. IsMail N.cluster.board self.old.client message) }
     {
         if !is_mail(self.client, message, voters) {
             return Ok(false);

@@ -7,12 +7,13 @@ ghost use Rattle.node.specs.Nodes.{NodeState, IsFor, offer_grant, seat_grant, se
 
 use crate::laws::voters_keep_their_laws;
 use crate::name::ClusterName;
+use crate::outbox::Outbox;
 use board::{Board, VoterSeat};
 use message::ToVoter;
 use numbers::MAX_STAMP;
 use std::alloc::{AllocError, Global};
 use std::marker::{Model, PhantomData};
-use voter::{Grant, Replies, Voter};
+use voter::{Grant, Voter};
 
 /// A voter of a cluster, the messages that it took, and its seat on the board. Whenever no call
 /// runs, the voter is what its definition makes of the log, and the seat has the voter's current
@@ -98,11 +99,12 @@ impl<N: ClusterName> Node<N> {
     /// Returns `None` and changes nothing if it drops the message. It does so if the voter would
     /// refuse the message, since all grants were given, or if the message would free a vote that
     /// was taken. Fails only if there is no memory for the log, and then changes nothing.
-    pub fn take(&mut self, board: &Board, message: &ToVoter) -> Result<Option<Replies>, AllocError>
+    pub fn take(&mut self, board: &Board, message: &ToVoter) -> Result<Option<Outbox>, AllocError>
         requires board { board.now ≡ N.cluster.board }
         requires message { IsFor N.cluster.board self.old.number message.now }
         ensures taken { IfOk result (λ r. IfSome r (λ replies.
-            step self.old.voter message.now ≡ Some (record { replies = replies.items; state = self.new.voter }))) }
+            step self.old.voter message.now ≡ Some (record { replies = replies.messages; state = self.new.voter }))) }
+        ensures of_voter { IfOk result (λ r. IfSome r (λ replies. replies.voter ≡ self.new.number)) }
         ensures logged { IfOk result (λ r. IfSome r (λ _. self.new.log ≡ self.old.log ++ message.now ∷ [])) }
         ensures dropped { IfOk result (λ r. r ≡ None → (self.new ≡ self.old)
             × (((effect_of self.old.voter message.now).refused ≡ true)
@@ -110,7 +112,7 @@ impl<N: ClusterName> Node<N> {
         ensures refused { IfErr result (λ _. self.new ≡ self.old) }
         ensures number { self.new.number ≡ self.old.number }
     {
-        let mut replies = Replies::new();
+        let mut replies = Outbox::new();
         if self.take_into(board, message, &mut replies)? {
             Ok(Some(replies))
         } else {
@@ -118,35 +120,36 @@ impl<N: ClusterName> Node<N> {
         }
     }
 
-    /// Does what [`Node::take`] does, with the replies in `replies` in place of what was there.
-    /// Returns whether it took the message. If not, or if it fails, `replies` is empty.
+    /// Does what [`Node::take`] does, with the replies in `outbox` in place of what was there.
+    /// Returns whether it took the message. If not, or if it fails, `outbox` is unchanged.
     pub fn take_into(
         &mut self,
         board: &Board,
         message: &ToVoter,
-        replies: &mut Replies,
+        outbox: &mut Outbox,
     ) -> Result<bool, AllocError>
         requires board { board.now ≡ N.cluster.board }
         requires message { IsFor N.cluster.board self.old.number message.now }
         ensures taken { IfOk result (λ taken. taken ≡ true →
-            step self.old.voter message.now ≡ Some (record { replies = replies.new.items; state = self.new.voter })) }
+            step self.old.voter message.now ≡ Some (record { replies = outbox.new.messages; state = self.new.voter })) }
+        ensures of_voter { IfOk result (λ taken. taken ≡ true → outbox.new.voter ≡ self.new.number) }
         ensures logged { IfOk result (λ taken. taken ≡ true → self.new.log ≡ self.old.log ++ message.now ∷ []) }
-        ensures dropped { IfOk result (λ taken. taken ≡ false → (self.new ≡ self.old) × (replies.new.items ≡ [])
+        ensures dropped { IfOk result (λ taken. taken ≡ false → (self.new ≡ self.old) × (outbox.new ≡ outbox.old)
             × (((effect_of self.old.voter message.now).refused ≡ true)
             ⊎ ((effect_of self.old.voter message.now).frees ≡ true))) }
-        ensures refused { IfErr result (λ _. (self.new ≡ self.old) × (replies.new.items ≡ [])) }
+        ensures refused { IfErr result (λ _. (self.new ≡ self.old) × (outbox.new ≡ outbox.old)) }
         ensures number { self.new.number ≡ self.old.number }
     {
         voters_keep_their_laws();
-        replies.clear();
         self.log.reserve(1)?;
         let effect = self.voter.effect(message);
         if effect.refused || !settle(&mut self.seat, board, effect.frees) {
             return Ok(false);
         }
-        let Ok(()) = self.voter.take_into(message, replies) else {
+        let Ok(()) = self.voter.take_into(message, &mut outbox.messages) else {
             unreachable!()
         };
+        outbox.voter = message.voter;
         self.log.push_reserved(*message);
         offer(&mut self.seat, board, self.voter.held());
         Ok(true)
@@ -175,9 +178,13 @@ impl<N: ClusterName> Node<N> {
     }
 
     /// Returns what to send to the holder of the vote again, in case messages were lost.
-    pub fn remind(&self) -> Replies
-        ensures { result.items ≡ remind self.now.voter }
+    pub fn remind(&self) -> Outbox
+        ensures { result ≡ record { voter = self.now.number; messages = remind self.now.voter } }
     {
-        self.voter.remind()
+        voters_keep_their_laws();
+        Outbox {
+            voter: self.seat.voter(),
+            messages: self.voter.remind(),
+        }
     }
 }

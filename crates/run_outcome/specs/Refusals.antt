@@ -12,6 +12,7 @@ use Rattle.run_outcome.specs.declared.fault.RunFault.TheVariants.{Cluster, OutOf
 abbrev pub run_refusal : ClusterFault → RunFault
 run_refusal (ends.Deal deal.OutOfMemory) = OutOfMemory
 run_refusal (ends.Board board.OutOfMemory) = OutOfMemory
+run_refusal ends.OutOfMemory = OutOfMemory
 run_refusal fault = Cluster fault
 
 -- What ends a run of `clients` clients: one of them has no stamp or no turn left, the register is
@@ -31,6 +32,7 @@ EndsRunBy clients (ends.Board board.OutOfMemory) = ⊥
 EndsRunBy clients ends.NotInside = ⊥
 EndsRunBy clients (ends.TurnsSpent c) = c < clients
 EndsRunBy clients ends.NoSecondPlan = ⊥
+EndsRunBy clients ends.OutOfMemory = ⊥
 
 -- what ends a run of `clients` clients, or out of memory
 abbrev pub EndsRun : ℕ → RunFault → Type 0

@@ -29,6 +29,9 @@ pub enum ClusterFault {
     /// There is no second plan, or it is in use already.
     #[error("K4 NoSecondPlan")]
     NoSecondPlan,
+    /// Memory ran out for messages: several reminders in a row each lost one for it.
+    #[error("O1 OutOfMemory")]
+    OutOfMemory,
 }
 
 /// The reason why there is no record of a run.
@@ -48,7 +51,8 @@ impl From<ClusterFault> for RunFault {
     fn from(fault: ClusterFault) -> RunFault {
         match fault {
             ClusterFault::Deal(DealFault::OutOfMemory)
-            | ClusterFault::Board(BoardFault::OutOfMemory) => RunFault::OutOfMemory,
+            | ClusterFault::Board(BoardFault::OutOfMemory)
+            | ClusterFault::OutOfMemory => RunFault::OutOfMemory,
             _ => RunFault::Cluster(fault),
         }
     }

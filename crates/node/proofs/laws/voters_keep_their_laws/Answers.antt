@@ -9,4 +9,5 @@ returns c = record {
     carry = c.replies_carry_what_was_seen.ensures.steps v m o is;
     sound = c.voters_stay_sound.ensures.steps v m o sound is;
   };
+  reminders = c.replies_carry_what_was_seen.ensures.reminders;
 }

@@ -3,5 +3,5 @@ use Rattle.std.specs.List.{count_by}
 use Rattle.members.specs.Losses.{is_stray_reply}
 use Rattle.members.proofs.cluster.Cluster.post_each.Given as goal
 
-abbrev pub invariant-loop-reply : goal.invariant-loop-reply
-invariant-loop-reply g l = (l.posted + l.lost ≡ l.reply-index) × (count_by (is_stray_reply g.N.ClusterName.cluster.board) (take l.reply-index l.replies) ≤ l.lost)
+abbrev pub invariant-loop-message : goal.invariant-loop-message
+invariant-loop-message g l = (l.posted + l.lost ≡ l.message-index) × (count_by (is_stray_reply g.N.ClusterName.cluster.board) (take l.message-index l.outbox.messages) + l.starved ≤ l.lost)

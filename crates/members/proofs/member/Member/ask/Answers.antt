@@ -25,8 +25,8 @@ unreachable-requires g c =
     let asked = c.in_default.ensures c.quorum-quorum.result.now in
     Ok-not_Err (ask c.self.inside.requester c.quorum-quorum.result.now) asked.0 _ asked.1 c.in_default-ask_into.ensures.refused.0
 
-pub send-lost-requires : goal.send-lost-requires
-send-lost-requires g c =
+pub send-losses-requires : goal.send-losses-requires
+send-losses-requires g c =
     let quorum = c.quorum-quorum.ensures in
     let drawn = c.in-Ok.ensures in
     record {

@@ -4,7 +4,7 @@ use Rattle.voter.specs.declared.state.Effect.{Effect}
 use Rattle.voter.specs.Steps.{Outcome, effect_of}
 use Rattle.board.specs.Seats.{BoardState, VoterSeatState as SeatState}
 use Rattle.node.specs.Nodes.{NodeState, IsFor, IsNode, offer_grant, settle_grant}
-use Rattle.node.proofs.NodeLemmas.{Took, held-from_frees, not_refused, may_offer, IsNode-offer_grant}
+use Rattle.node.proofs.NodeLemmas.{AreOf-AllCarry, Took, held-from_frees, not_refused, may_offer, IsNode-offer_grant}
 use Rattle.node.proofs.node.Node.take_into.Given.{Over}
 use Rattle.node.proofs.node.Node.take_into.Goals.{After-held}
 use Rattle.node.proofs.node.Node.take_into.Goals as goal
@@ -57,3 +57,8 @@ invariant_of-self-2 g c =
     let pushed : c.push_reserved.new.self.items ≡ log ++ m ∷ [] = c.push_reserved.ensures.items ∙ ap (λ (l : List ToVoter). l ++ m ∷ []) c.in_ok-reserve.ensures.items in
     subst (λ (p : List ToVoter × SeatState). IsNode board c.take_into.new.self p.0 p.1) (λ i. (sym pushed i, sym after i))
     (IsNode-offer_grant board c.self.inside.voter log c.self.inside.seat m _ (took g at))
+
+pub invariant_of-outbox : goal.invariant_of-outbox
+invariant_of-outbox g c =
+    let t = took g (goal.at.invariant_of-outbox g c).After-held in
+    AreOf-AllCarry _ _ _ c.take_into.new.replies.items (t.node.id ∙ sym t.meant.voter_is) t.laws.carry.carried
