@@ -6,10 +6,10 @@
 
        leases RECORDS SEED [PERCENT [MANNER]]
 
-   The processes talk by datagrams on 127.0.0.1, one line in each. Each sender loses, repeats and delays so many PERCENT
-   of its lines, 5 if it isn't said. The trial ends once RECORDS were written and each kind of incident occurred. It fails
-   if its time is over before. MANNER is `usual`, or `disks`: voters lose their files all the time. Three more play a part
-   wrong, and the witness has to see it:
+   The processes talk by datagrams on 127.0.0.1, one line in each. A sender loses PERCENT of its lines, repeats as many
+   and delays as many: 5 if there is no such word. The trial ends once RECORDS were written and each kind of incident
+   occurred. It fails if its time is over before. MANNER is `usual`, or `disks`: voters lose their files all the time.
+   Three more play a part wrong, and the witness has to see it:
 
    - `count`: as `disks`, but a voter is reborn with one grant less than it gave;
    - `clock`: the clock of a client falls back to below its last stamp;
@@ -277,8 +277,8 @@ static const char *fault_of(const struct record *records, uint64_t index) {
 
 static void print_fault(const struct record *record, uint64_t number, const char *fault) {
     unsigned long long client = record->client, life = record->life, stamp = record->stamp, turn = record->turn;
-    printf("record %llu of client %llu, life %llu, stamp %llu, turn %llu %s\n", (unsigned long long)number, client, life,
-           stamp, turn, fault);
+    printf("record %llu of client %llu, life %llu, ", (unsigned long long)number, client, life);
+    printf("stamp %llu, turn %llu %s\n", stamp, turn, fault);
 }
 
 /* Returns how many records have a fault, and names the first ones. One at the end that is not whole was not written. */
@@ -299,9 +299,9 @@ static uint64_t witness(void) {
 /* ---- The trial */
 
 static void print_report(int64_t begin) {
-    unsigned long long records = count_records(), visits = SUM(visits), meetings = SUM(meetings), refused = SUM(refused),
-                       evictions = SUM(evictions), given_up = SUM(given_up), lines = SUM(lines), lost = SUM(lost),
-                       late = SUM(late), repeated = SUM(repeated);
+    unsigned long long records = count_records(), visits = SUM(visits), meetings = SUM(meetings),
+                       refused = SUM(refused), evictions = SUM(evictions), given_up = SUM(given_up), lines = SUM(lines),
+                       lost = SUM(lost), late = SUM(late), repeated = SUM(repeated);
     printf("%llu records in %llu visits, %.1f s\n", records, visits, (double)(now() - begin) / 1000);
     printf("voters: %u kills, %u of them reborn, %llu evictions\n", voter_kills, rebirths, evictions);
     printf("clients: %u kills, %u pauses, %llu requests given up\n", client_kills, pauses, given_up);

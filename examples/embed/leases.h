@@ -19,9 +19,11 @@ enum manner { USUAL, DISKS_LOST, WRONG_COUNT, WRONG_CLOCK, WRONG_GUARD };
 
 /* What a node reports. Nothing depends on it but the choice of whom to stop, and when to end. */
 struct report {
-    uint64_t lines, lost, late, repeated;                 /* of the lines that it sent */
-    uint64_t evictions, grant;                            /* of a voter, and its last grant */
-    uint64_t visits, meetings, refused, given_up, inside; /* of a client; a meeting: another one believed to be inside */
+    uint64_t lines, lost, late, repeated; /* what it sent */
+    uint64_t evictions, grant;            /* of a voter, and its last grant */
+    uint64_t visits, refused, given_up;   /* of a client */
+    uint64_t inside;                      /* whether the client believes to be inside */
+    uint64_t meetings;                    /* how often another one did so as it entered */
 };
 
 /* A record of the guarded file. It has the guard after it, so the last whole record has the guard of now. */
@@ -30,7 +32,7 @@ struct record {
     uint8_t guard[QLOCK_FENCE_BYTES];
 };
 
-/* set by the parent, and by each process for itself */
+/* which node this process is */
 extern int me;
 
 /* set by the parent, before it starts any process */

@@ -1,8 +1,8 @@
 /* leases_node.c: the voters and the clients of the trial in leases.c.
 
-   - A voter saves its state before its lines leave: it writes the older one of two slots, with a checksum, and syncs it.
-     It lets a grant go that is older than the lease, if the client of the grant was silent for as long. If it lost its
-     file, it is reborn with the next block of grants.
+   - A voter saves its state before its lines leave: it writes the older one of two slots, with a checksum, and syncs
+     it. It lets a grant go that is older than the lease, if the client of the grant was silent for as long. If it lost
+     its file, it is reborn with the next block of grants.
    - A client has no disk, but for one number: a clock that is written ahead. At each start it is made anew with that
      clock, and disclaims what it asked before. It gives up a request that takes too long, and asks again.
    - Each record of the guarded file has the guard after it. So admitting a pass and writing are one write, under a lock
@@ -38,7 +38,7 @@ enum { STAMPS = 1000 };
 /* ---- Helpers of all processes */
 
 void fail(const char *what) {
-    fprintf(stderr, "leases: node %d: %s: %s\n", me, what, strerror(errno));
+    fprintf(stderr, "leases: node %d: %s%s%s\n", me, what, errno ? ": " : "", errno ? strerror(errno) : "");
     if (me != PARENT) _exit(2);
     exit(1);
 }
@@ -109,7 +109,8 @@ static void store_save(struct store *store, const void *content, size_t n) {
     slot->saves++;
     slot->sum = sum_of(slot, sizeof *slot);
     off_t place = (off_t)(slot->saves % 2 * sizeof *slot);
-    must(pwrite(store->file, slot, sizeof *slot, place) == (ssize_t)sizeof *slot && fdatasync(store->file) == 0, "save");
+    must(pwrite(store->file, slot, sizeof *slot, place) == (ssize_t)sizeof *slot, "save");
+    must(fdatasync(store->file) == 0, "save");
 }
 
 void store_make(const char *name, const void *content, size_t n) {
@@ -384,7 +385,8 @@ static int32_t phase(uint64_t *stamp) {
     return phase;
 }
 
-/* The stamp is known once the call has asked. If the clock in the file is behind, it is written before a line leaves. */
+/* The stamp is known once the call has asked. If it is above the number in the file, a greater one is written before
+   any line leaves. */
 static void ask(void) {
     uint64_t stamp;
     keep(qlock_client_ask(STATE, next_quorum(), OUT), "qlock_client_ask");
