@@ -59,7 +59,7 @@ static void set_signals(void (*handler)(int)) {
     sigaction(SIGHUP, &action, NULL);
 }
 
-/* ends all processes, and removes all files: however the parent ends, but for a kill */
+/* Ends all processes, and removes all files. Only a kill of the parent leaves its files. */
 static void clean_up(void) {
     for (int node = 0; node < NODES; node++)
         if (children[node].pid > 0) {

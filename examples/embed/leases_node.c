@@ -1,10 +1,11 @@
 /* leases_node.c: the voters and the clients of the trial in leases.c.
 
    - A voter saves its state before its lines leave: it writes the older one of two slots, with a checksum, and syncs
-     it. It lets a grant go that is older than the lease, if the client of the grant was silent for as long. If it lost
-     its file, it is reborn with the next block of grants.
-   - A client has no disk, but for one number: a clock that is written ahead. At each start it is made anew with that
-     clock, and disclaims what it asked before. It gives up a request that takes too long, and asks again.
+     it. (A slot that a disk damages later looks like one that a kill left half written. A service that fears this
+     writes a new file and renames it, as the package in python/ does.) It lets a grant go that is older than the lease,
+     if the client of the grant was silent for as long. If it lost its file, it is reborn with the next block of grants.
+   - A client keeps one number on disk: a clock that is written ahead. At each start it is made anew with that clock,
+     and disclaims what it asked before. It gives up a request that takes too long, and asks again.
    - Each record of the guarded file has the guard after it. So admitting a pass and writing are one write, under a lock
      of the file. The file is not synced, since only processes are killed here, and no machine. A service syncs it. */
 #define _POSIX_C_SOURCE 200809L
@@ -252,7 +253,7 @@ static void drop_old_lines(void) {
 
 /* ---- A voter */
 
-static struct store store; /* of this voter, or of this client */
+static struct store store;               /* of this voter, or of this client */
 static int64_t heard[QLOCK_MAX_CLIENTS]; /* when the last line of each client came */
 static uint64_t lease_grant;             /* the grant that the lease is of */
 static int64_t lease_begin;
@@ -354,12 +355,12 @@ static uint64_t read_last(struct record *record) {
 
 /* ---- A client */
 
-static uint64_t ahead;      /* the number in its file: no stamp above it was ever used */
-static struct record mine;  /* the last record of this visit */
-static unsigned parts;      /* how many records this visit has */
-static int64_t next;        /* when to ask, to write or to leave */
-static int64_t give_up_at;  /* when to give a request up */
-static int64_t remind_at;   /* when to remind or to renew */
+static uint64_t ahead;     /* the number in its file: no stamp above it was ever used */
+static struct record mine; /* the last record of this visit */
+static unsigned parts;     /* how many records this visit has */
+static int64_t next;       /* when to ask, to write or to leave */
+static int64_t give_up_at; /* when to give a request up */
+static int64_t remind_at;  /* when to remind or to renew */
 
 /* ends what an earlier life asked or had */
 static void disclaim(void) {
