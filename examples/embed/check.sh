@@ -5,6 +5,8 @@
 # - plan.c plans a wheel, checks the plan and deals a cycle of it in both orders: expected-plan.txt;
 # - fuzz.c and fuzz_plan.c try the boundaries with random bytes, once more with the sanitizers of the C compiler, and
 #   fuzz_plan.c refuses memory;
+# - leases.c plays voters and clients as processes, with leases that end, lost disks and clients without a disk, and a
+#   witness reads what they wrote; played with a guard that admits everything, it has to find a fault;
 # - loops.py runs the loops of docs/embedding.md with losses, repeats and crashes;
 # - the tests of python/, also of the package as pip installs it, without a network.
 #
@@ -50,6 +52,23 @@ holds() {
     fi
 }
 
+# ends NAME STATUS LINE COMMAND..: runs a command, which has to end with that status, its output with a line like that
+ends() {
+    name=$1
+    status=$2
+    line=$3
+    shift 3
+    ended=0
+    "$@" > "$work/out" || ended=$?
+    if [ "$ended" -eq "$status" ] && tail -n 1 "$work/out" | grep -qx "$line"; then
+        passed=$((passed + 1))
+    else
+        cat "$work/out" >&2
+        echo "$name failed" >&2
+        failed=$((failed + 1))
+    fi
+}
+
 [ -n "${QLOCK_BUILD:-}" ] || "$root/library"
 
 cc=${CC:-cc}
@@ -71,15 +90,20 @@ if has "$cc"; then
     strict "$here/plan.c" "$build/libqlock_plan.a" "$build/libqlock.a" -o "$work/plan"
     strict "$here/fuzz.c" "$build/libqlock.a" -o "$work/fuzz"
     strict "$here/fuzz_plan.c" "$build/libqlock_plan.a" $counted -o "$work/fuzz-plan"
+    strict "$here/leases.c" "$here/leases_node.c" "$build/libqlock.a" -o "$work/leases"
     try race.c expected.txt "$work/race"
     try plan.c expected-plan.txt "$work/plan"
     holds fuzz.c "$work/fuzz"
     holds fuzz_plan.c "$work/fuzz-plan"
+    ends leases.c 0 "no two interleave" "$work/leases" 1000 1
+    ends "leases.c with a wrong guard" 1 "[0-9]* records have a fault" "$work/leases" 400 1 5 guard
     # the allocator of a sanitizer finds memory that is used after it was given back
     if sanitized "$here/fuzz.c" "$build/libqlock.a" -o "$work/fuzz-checked" &&
-        sanitized "$here/fuzz_plan.c" "$build/libqlock_plan.a" $counted -o "$work/fuzz-plan-checked"; then
+        sanitized "$here/fuzz_plan.c" "$build/libqlock_plan.a" $counted -o "$work/fuzz-plan-checked" &&
+        sanitized "$here/leases.c" "$here/leases_node.c" "$build/libqlock.a" -o "$work/leases-checked"; then
         holds "fuzz.c with sanitizers" "$work/fuzz-checked" 50000 7
         holds "fuzz_plan.c with sanitizers" "$work/fuzz-plan-checked" 5000 7
+        ends "leases.c with sanitizers" 0 "no two interleave" "$work/leases-checked" 200 2
     else
         left_out="$left_out sanitizers"
     fi
