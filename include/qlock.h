@@ -13,8 +13,10 @@
      does an older copy.
    - Save, then send: write the new state where it survives a crash before any line of `out` leaves, and before the work of a
      client that entered begins. A reminder counts too: if the state changed since it was saved, save it before the reminder's
-     lines leave.
-   - A state is made once. Where it is lost, stop: a voter or a client that is made anew breaks the lock.
+     lines leave. (A client that starts anew after each crash, behind a guard, saves a clock only: qlock_client_anew.)
+   - A state is made once by qlock_voter_new or qlock_client_new. Where it is lost, these break the lock. There are
+     qlock_voter_reborn and qlock_client_anew, after which two clients may be inside and only the guard's word counts.
+   - `*written` and the like have their values after the call: `send(out, written)` is a statement of its own.
 
    The calls take no memory and keep nothing, so they may be used in a signal handler and after fork, as far as the rules above
    hold there.
@@ -77,7 +79,7 @@ enum {
 /* ---- A voter: it has one vote, and grants it to one client at a time. `n` is always QLOCK_VOTER_BYTES. */
 
 /* Makes a new voter with the number `id`, 0 to 63, that may give `limit` grants, 1 to QLOCK_MAX_STAMP. QLOCK_MAX_STAMP is a
-   good limit. A voter is made once: a voter that was lost and is made again breaks the lock.
+   good limit. A voter is made once: this call in place of one that was lost breaks the lock (see qlock_voter_reborn).
 
    QLOCK_BAD_ARGUMENT  `id` or `limit` is out of range
    QLOCK_BAD_STATE     `n` is not QLOCK_VOTER_BYTES */
@@ -145,7 +147,7 @@ int32_t qlock_voter_knows(const uint8_t *state, size_t n, uint8_t client, uint64
 /* ---- A client: it has one request at a time. `n` is always QLOCK_CLIENT_BYTES. */
 
 /* Makes a new client with the number `id`, 0 to 63. Its stamps go from 1 to `limit`, 1 to QLOCK_MAX_STAMP. A client is made
-   once: a client that was lost and is made again breaks the lock.
+   once: this call in place of one that was lost breaks the lock (see qlock_client_anew).
 
    QLOCK_BAD_ARGUMENT  `id` or `limit` is out of range
    QLOCK_BAD_STATE     `n` is not QLOCK_CLIENT_BYTES */
@@ -202,8 +204,9 @@ int32_t qlock_client_forget(uint8_t *state, size_t n);
 
 /* Makes a client that lost its state, in place of qlock_client_new. It is idle. `clock` is at least the stamp of its last
    request, and at most `limit`; its next stamp is above it. If it used a greater stamp before, two of its requests may have one
-   pass. The clock may come from a file with one number that is written ahead (qlock_client_raise), or from what a quorum of voters
-   has seen (qlock_voter_knows). Send qlock_client_disclaim to all voters first, and again.
+   pass. The clock may come from what a quorum of voters has seen (qlock_voter_knows), or from a file with one number that is
+   written ahead. For that, ask, look at the stamp (qlock_client_shows), write a greater number if it passes the last one, and only
+   then send the lines. Send qlock_client_disclaim to all voters first, and again.
 
    QLOCK_BAD_ARGUMENT  `id`, `limit` or `clock` is out of range
    QLOCK_BAD_STATE     `n` is not QLOCK_CLIENT_BYTES */
