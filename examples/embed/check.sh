@@ -96,7 +96,7 @@ if has "$cc"; then
     holds fuzz.c "$work/fuzz"
     holds fuzz_plan.c "$work/fuzz-plan"
     ends leases.c 0 "no two interleave" "$work/leases" 1000 1
-    ends "leases.c with a wrong guard" 1 "[0-9]* records have a fault" "$work/leases" 400 5 5 guard
+    ends "leases.c with a wrong guard" 1 "[0-9]* records have a fault" "$work/leases" 1000 5 5 guard
     # the allocator of a sanitizer finds memory that is used after it was given back
     if sanitized "$here/fuzz.c" "$build/libqlock.a" -o "$work/fuzz-checked" &&
         sanitized "$here/fuzz_plan.c" "$build/libqlock_plan.a" $counted -o "$work/fuzz-plan-checked" &&
