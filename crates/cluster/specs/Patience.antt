@@ -23,9 +23,9 @@ no_patience = record { empty = 0; sleeps = 0; reminders = 0; starved = 0 }
 abbrev pub begun : PatienceState → PatienceState
 begun p = record p { empty = 0; reminders = 0; starved = 0 }
 
--- a look found a message
-abbrev pub with_message : PatienceState → PatienceState
-with_message p = record p { empty = 0 }
+-- a look found a message, or a member reminded: it counts empty looks anew
+abbrev pub counting_anew : PatienceState → PatienceState
+counting_anew p = record p { empty = 0 }
 
 -- a look found no message; the count stays at its greatest value
 abbrev pub with_empty_look : PatienceState → PatienceState

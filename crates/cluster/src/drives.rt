@@ -57,10 +57,10 @@ fn enter<N: ClusterName, R: Wait + Clock>(
         }
         match member.pump(rt, cluster) {
             Some(Seen::Entered) => {
-                patience.found();
+                patience.count_anew();
                 return Ok(());
             }
-            Some(_) => patience.found(),
+            Some(_) => patience.count_anew(),
             None => patience.found_nothing(),
         }
     }
@@ -146,7 +146,7 @@ fn pass_once<N: ClusterName, R: Wait + Clock, G: Gate>(
     gate.drawn(client);
     match enter(rt, cluster, member, turns, patience) {
         Ok(()) => {}
-        Err(fault) => return Err(fault),
+        Err(ended) => return Err(ended),
     }
     wait_at(gate, client, turns)?;
     match member.pass(cluster) {

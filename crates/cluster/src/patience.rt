@@ -1,7 +1,7 @@
 //! How a member waits for a message.
 ghost use Rattle.std.specs.Prelude.{◌≡◌, ◌<◌, ◌↔◌, ◌/◌, ℕ, IsTrue, nat_le, nat_lt};
 ghost use Rattle.std.specs.Duration.{as_nanos};
-ghost use Rattle.cluster.specs.Patience.{PatienceState, Waited, begun, is_long, is_short, looks_for_sleep, may_sleep, may_yield, most_starved, next_step, no_patience, with_empty_look, with_message, with_reminder, with_sleep, with_yield};
+ghost use Rattle.cluster.specs.Patience.{PatienceState, Waited, begun, counting_anew, is_long, is_short, looks_for_sleep, may_sleep, may_yield, most_starved, next_step, no_patience, with_empty_look, with_reminder, with_sleep, with_yield};
 
 use members::{Cluster, ClusterName, Member};
 use std::marker::Model;
@@ -126,20 +126,20 @@ impl Patience {
         }
     }
 
+    /// Counts empty looks anew: a look found a message, or the member reminded.
+    pub(crate) fn count_anew(&mut self)
+        ensures { self.new ≡ counting_anew self.old }
+    {
+        self.empty = 0;
+    }
+
     /// Notes that a request begins.
     pub(crate) fn begin(&mut self)
         ensures { self.new ≡ begun self.old }
     {
-        self.empty = 0;
+        self.count_anew();
         self.reminders = 0;
         self.starved = 0;
-    }
-
-    /// Notes that a look found a message.
-    pub(crate) fn found(&mut self)
-        ensures { self.new ≡ with_message self.old }
-    {
-        self.empty = 0;
     }
 
     /// Notes that a look found no message.
@@ -169,7 +169,7 @@ impl Patience {
     fn reminded(&mut self, starved: bool)
         ensures { self.new ≡ with_reminder starved self.old }
     {
-        self.empty = 0;
+        self.count_anew();
         self.reminders = self.reminders.saturating_add(1);
         self.starved = if starved {
             self.starved.saturating_add(1)

@@ -4,7 +4,7 @@ use Rattle.message.specs.declared.message.ToClient.{ToClient}
 use Rattle.message.specs.declared.message.ToVoter.{ToVoter}
 use Rattle.board.specs.Seats.{BoardState}
 use Rattle.node.specs.Outboxes.{OutboxState}
-use Rattle.members.specs.declared.cluster.Losses.{Losses}
+use Rattle.members.specs.declared.losses.Losses.{Losses}
 
 -- the message is to a voter, or from a client, that the board doesn't have
 abbrev pub is_stray : BoardState → ToVoter → Bool

@@ -6,10 +6,11 @@ ghost use Rattle.numbers.specs.Sets.{IsSet};
 ghost use Rattle.board.specs.Quorums.{HasQuorum, place_of, quorum_at};
 ghost use Rattle.clerks.specs.Clerks.{fresh_clerks, quorums_of};
 ghost use Rattle.members.specs.Clusters.{ClusterState, names_in};
-ghost use Rattle.members.specs.Losses.{IsDelivered, and_losses, is_stray, is_stray_reply, most_lost};
+ghost use Rattle.members.specs.Losses.{IsDelivered, is_stray, is_stray_reply, most_lost};
 ghost use Rattle.node.specs.Mail.{IsMail};
 
 use crate::line::{Held, Line};
+use crate::losses::{Losses, Posted};
 use board::{Board, BoardRoot, ClientSeat};
 use clerks::{Clerks, Offices};
 use message::{ToClient, ToVoter};
@@ -58,38 +59,6 @@ impl<N: ClusterName> Model for Cluster<N> {
     ghost view = { λ c. N.cluster };
 
     ghost invariant = { λ c. Runs N.cluster c.board c.offices (length c.nodes.items) c.lines.items c.mailboxes.items };
-}
-
-/// What became of the messages in an outbox.
-#[derive(Clone, Copy)]
-struct Posted {
-    /// How many got into a mailbox.
-    posted: u64,
-    /// How many messages are lost.
-    lost: u64,
-    /// How many of these found no memory.
-    starved: u64,
-}
-
-/// How many messages of a step are lost.
-#[derive(Clone, Copy)]
-pub(crate) struct Losses {
-    /// How many are lost. This stays at its greatest value, 2^64 - 1.
-    pub(crate) lost: u64,
-    /// How many of these found no memory.
-    pub(crate) starved: u64,
-}
-
-impl Losses {
-    /// Returns the losses of both steps.
-    pub(crate) fn and(self, later: Losses) -> Losses
-        ensures { result ≡ and_losses self later }
-    {
-        Losses {
-            lost: self.lost.saturating_add(later.lost),
-            starved: self.starved.saturating_add(later.starved),
-        }
-    }
 }
 
 impl<N: ClusterName> Cluster<N> {
@@ -180,58 +149,39 @@ impl<N: ClusterName> Cluster<N> {
     /// line is held. Each of them is posted or lost.
     fn post_each(&self, rt: &impl Wait, _line: &Held<'_>, outbox: &Outbox) -> Posted
         requires line { _line.now.voter ≡ outbox.now.voter }
-        ensures each { result.posted + result.lost ≡ length outbox.now.messages }
+        ensures each { result.posted + result.losses.lost ≡ length outbox.now.messages }
         ensures few { length outbox.now.messages ≤ most_lost 1 }
-        ensures strays { count_by (is_stray_reply N.cluster.board) outbox.now.messages + result.starved ≤ result.lost }
+        ensures strays { count_by (is_stray_reply N.cluster.board) outbox.now.messages + result.losses.starved
+            ≤ result.losses.lost }
     {
         let mut posted: u64 = 0;
-        let mut lost: u64 = 0;
-        let mut starved: u64 = 0;
+        let mut losses = Losses::none();
         for message in outbox.messages() {
             match self.put(rt, *message) {
                 Ok(true) => posted += 1,
-                Ok(false) => lost += 1,
-                Err(_) => {
-                    lost += 1;
-                    starved += 1;
-                }
+                Ok(false) => losses = losses.and(Losses::one()),
+                Err(_) => losses = losses.and(Losses::one_starved()),
             }
         }
-        Posted {
-            posted,
-            lost,
-            starved,
-        }
+        Posted { posted, losses }
     }
 
     /// Gives a message to its voter, and the voter's replies to their clients. Each reply is posted
     /// or lost. If the message itself is lost, nothing is posted, that counts as one, and `outbox` is
     /// unchanged. Otherwise `outbox` gets the replies.
     fn deliver_into(&self, rt: &impl Wait, message: &ToVoter, outbox: &mut Outbox) -> Posted
-        ensures few { result.lost ≤ most_lost 1 }
-        ensures starved { result.starved ≤ result.lost }
-        ensures stray { is_stray N.cluster.board message.now ≡ true → (result.lost ≡ 1) × (result.starved ≡ 0) }
-        ensures each { IsDelivered message.now.voter outbox.old outbox.new result.posted result.lost }
+        ensures few { result.losses.lost ≤ most_lost 1 }
+        ensures starved { result.losses.starved ≤ result.losses.lost }
+        ensures stray { is_stray N.cluster.board message.now ≡ true → result.losses ≡ record { lost = 1; starved = 0 } }
+        ensures each { IsDelivered message.now.voter outbox.old outbox.new result.posted result.losses.lost }
     {
         let Some(line) = self.line(rt, message.voter) else {
-            return Posted {
-                posted: 0,
-                lost: 1,
-                starved: 0,
-            };
+            return Posted::nothing(Losses::one());
         };
         match self.tell(rt, message, outbox) {
             Ok(true) => self.post_each(rt, &line, outbox),
-            Ok(false) => Posted {
-                posted: 0,
-                lost: 1,
-                starved: 0,
-            },
-            Err(_) => Posted {
-                posted: 0,
-                lost: 1,
-                starved: 1,
-            },
+            Ok(false) => Posted::nothing(Losses::one()),
+            Err(_) => Posted::nothing(Losses::one_starved()),
         }
     }
 
@@ -249,7 +199,8 @@ impl<N: ClusterName> Cluster<N> {
         ensures few { result ≤ most_lost 1 }
         ensures stray { is_stray N.cluster.board message.now ≡ true → result ≡ 1 }
     {
-        self.deliver_into(rt, message, &mut Outbox::new()).lost
+        let delivered = self.deliver_into(rt, message, &mut Outbox::new());
+        delivered.losses.lost
     }
 
     /// Posts the reminders of a voter, and returns how many are lost. If the cluster doesn't have the
@@ -257,24 +208,14 @@ impl<N: ClusterName> Cluster<N> {
     fn remind_holder(&self, rt: &impl Wait, voter: u8) -> Losses
         ensures few { result.lost ≤ most_lost 1 }
         ensures starved { result.starved ≤ result.lost }
-        ensures stray { N.cluster.board.voters ≤ voter → (result.lost ≡ 1) × (result.starved ≡ 0) }
+        ensures stray { N.cluster.board.voters ≤ voter → result ≡ record { lost = 1; starved = 0 } }
     {
-        let none = Losses {
-            lost: 1,
-            starved: 0,
-        };
         let Some(line) = self.line(rt, voter) else {
-            return none;
+            return Losses::one();
         };
         match self.reminders(rt, voter) {
-            Some(outbox) => {
-                let posted = self.post_each(rt, &line, &outbox);
-                Losses {
-                    lost: posted.lost,
-                    starved: posted.starved,
-                }
-            }
-            None => none,
+            Some(outbox) => self.post_each(rt, &line, &outbox).losses,
+            None => Losses::one(),
         }
     }
 
@@ -301,16 +242,9 @@ impl<N: ClusterName> Cluster<N> {
         ensures strays { count_by (is_stray N.cluster.board) messages.now ≤ result.lost }
     {
         let mut outbox = Outbox::new();
-        let mut losses = Losses {
-            lost: 0,
-            starved: 0,
-        };
+        let mut losses = Losses::none();
         for message in messages {
-            let posted = self.deliver_into(rt, message, &mut outbox);
-            losses = losses.and(Losses {
-                lost: posted.lost,
-                starved: posted.starved,
-            });
+            losses = losses.and(self.deliver_into(rt, message, &mut outbox).losses);
         }
         losses
     }
@@ -322,10 +256,7 @@ impl<N: ClusterName> Cluster<N> {
         ensures starved { result.starved ≤ result.lost }
         ensures strays { count_by (nat_le N.cluster.board.voters) voters.now ≤ result.lost }
     {
-        let mut losses = Losses {
-            lost: 0,
-            starved: 0,
-        };
+        let mut losses = Losses::none();
         for voter in voters {
             losses = losses.and(self.remind_holder(rt, *voter));
         }

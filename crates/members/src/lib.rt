@@ -84,6 +84,7 @@ mod close;
 mod cluster;
 mod laws;
 mod line;
+mod losses;
 mod member;
 
 pub use blank::Blank;

@@ -357,9 +357,9 @@ impl<N: ClusterName> Member<N> {
         }
         let reminders = self.requester.remind();
         let sent = cluster.send(rt, &self.requester, &self.seat, reminders.as_slice());
-        let losses = sent.and(cluster.remind(rt, self.requester.quorum()));
-        self.lost = self.lost.saturating_add(losses.lost);
-        losses.starved
+        let both = sent.and(cluster.remind(rt, self.requester.quorum()));
+        self.lost = self.lost.saturating_add(both.lost);
+        both.starved
     }
 
     /// Sends the messages of its last step once more, in case they were lost: those of the last call of
@@ -373,9 +373,9 @@ impl<N: ClusterName> Member<N> {
         ensures lost { LosesAtMost (most_lost max_voters) self.old.lost self.new.lost }
         ensures starved { LosesAtLeast result self.old.lost self.new.lost }
     {
-        let losses = cluster.send(rt, &self.requester, &self.seat, self.out.as_slice());
-        self.lost = self.lost.saturating_add(losses.lost);
-        losses.starved
+        let again = cluster.send(rt, &self.requester, &self.seat, self.out.as_slice());
+        self.lost = self.lost.saturating_add(again.lost);
+        again.starved
     }
 
     /// Passes: reads the register, writes the number read plus one, and returns the number read.

@@ -155,6 +155,7 @@ ends_by id clients tickets passed passes (ends.Deal deal.OutOfMemory) less fewer
 ends_by id clients tickets passed passes (ends.Board board.RegisterFull) less fewer quota h = tt
 ends_by id clients tickets passed passes (ends.Board board.OutOfMemory) less fewer quota h = tt
 ends_by id clients tickets passed passes (ends.TurnsSpent c) less fewer quota h = omega (arith, less, h.0)
+ends_by id clients tickets passed passes ends.OutOfMemory less fewer quota h = tt
 ends_by id clients tickets passed passes fault less fewer quota h = absurd h
 
 abbrev EndsWell : ℕ → MemberState → Type 0

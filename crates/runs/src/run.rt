@@ -3,10 +3,10 @@ ghost use Rattle.std.specs.Prelude.{◌≡◌, ◌*◌, ◌<◌, ◌≤◌, None
 ghost use Rattle.numbers.specs.Bounds.{max_clients, max_tickets};
 ghost use Rattle.certificate.specs.Certificates.{IsCertificate};
 ghost use Rattle.members.specs.Clusters.{IsCluster};
-ghost use Rattle.runs.specs.Runs.{AreLet, IsRun, EndsRun};
+ghost use Rattle.runs.specs.Runs.{AreLet, IsRun, EndsRun, run_refusal};
 
 use certificate::Plan;
-use cluster::{Blank, CloseFault, ClusterName, Gate, RunRecord, drive};
+use cluster::{Blank, CloseFault, ClusterFault, ClusterName, Gate, RunRecord, drive};
 use dealer::Plans;
 use run_outcome::RunFault;
 use std::alloc::Global;
@@ -14,6 +14,14 @@ use std::marker::Brand;
 use std::sync::Wait;
 use std::thread::Threads;
 use std::time::Clock;
+
+/// Returns the fault of a run that a fault of its cluster ended: a vote that is out stays a vote that is
+/// out, and each fault that is out of memory is the same one.
+fn ended_by(fault: ClusterFault) -> RunFault
+    ensures { result ≡ run_refusal fault }
+{
+    RunFault::from(fault)
+}
 
 /// Opens a cluster of one plan, has each of its members make `passes` passes, closes it, and returns
 /// the record.
@@ -40,12 +48,12 @@ fn run_blank<N: ClusterName + Send + Sync, R: Threads + Wait + Clock + Sync, G: 
     };
     let members = match drive(rt, &cluster, members, passes, turns, gate) {
         Ok(members) => members,
-        Err(driven) => return Err(RunFault::from(driven.fault)),
+        Err(driven) => return Err(ended_by(driven.fault)),
     };
     match cluster.close(alloc, members) {
         Ok(run) => Ok(run),
         Err(CloseFault::Unready { .. }) => unreachable!(),
-        Err(CloseFault::Lost(fault)) => Err(RunFault::from(fault)),
+        Err(CloseFault::Lost(fault)) => Err(ended_by(fault)),
     }
 }
 

@@ -88,6 +88,42 @@ fn mailbox_is_a_queue(rt: HostRuntime) {
     assert!(rt; queues::<Brand>(rt.alloc(), 3) == Ok(true));
 }
 
+/// How many messages a mailbox has to hold at once: more than a cluster has voters and clients.
+const MANY: u64 = 1_000;
+
+/// Returns a FAIL of voter 2 to client 1 with this stamp.
+fn fail(stamp: u64) -> ToClient {
+    ToClient {
+        voter: 2,
+        client: 1,
+        seen: 1,
+        body: ClientBody::Fail { stamp },
+    }
+}
+
+/// Returns whether a mailbox holds this many messages, and gives them back in order.
+fn holds<N: ClusterName>(alloc: Global, voters: usize, count: u64) -> Result<bool, AllocError>
+    requires { voters ≡ N.cluster.board.voters }
+{
+    let mut mailbox: Mailbox<N> = Mailbox::new(alloc, 1);
+    for stamp in 0..count {
+        if !mailbox.put(fail(stamp), voters)? {
+            return Ok(false);
+        }
+    }
+    for stamp in 0..count {
+        if mailbox.take(1) != Some(fail(stamp)) {
+            return Ok(false);
+        }
+    }
+    Ok(mailbox.is_empty())
+}
+
+#[test]
+fn mailbox_holds_many_messages(rt: HostRuntime) {
+    assert!(rt; holds::<Brand>(rt.alloc(), 3, MANY) == Ok(true));
+}
+
 /// Returns whether a node takes this message of client 0 to voter 0.
 fn hears<N: ClusterName>(
     board: &Board,
@@ -140,13 +176,13 @@ fn frees<N: ClusterName>(
     ensures voter { node.new.number ≡ 0 }
 {
     let early = hears(board, node, VoterBody::Release { stamp: 1 })?;
-    let reminded = node.remind().len() == 1;
+    let reminded = node.remind().messages().len() == 1;
     if client.held(0).is_none() {
         return Ok(false);
     }
     client.give_back(board, 0);
     let freed = hears(board, node, VoterBody::Release { stamp: 1 })?;
-    let silent = node.remind().is_empty();
+    let silent = node.remind().messages().is_empty();
     let again = hears(board, node, VoterBody::Request { stamp: 2 })?;
     Ok(!early & reminded & freed & silent & again)
 }

@@ -94,8 +94,8 @@ fn replies<N: ClusterName>(
         return Ok(false);
     }
     match (node.take(board, message)?, wanted) {
-        (Some(heard), Some(wanted)) => Ok(heard.as_slice() == [wanted].as_slice()),
-        (Some(heard), None) => Ok(heard.is_empty() & !drops),
+        (Some(heard), Some(wanted)) => Ok(heard.messages() == [wanted].as_slice()),
+        (Some(heard), None) => Ok(heard.messages().is_empty() & !drops),
         (None, _) => Ok(drops),
     }
 }

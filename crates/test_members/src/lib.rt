@@ -5,6 +5,7 @@
 //! - `closes` closes clusters, also with a member missing or inside.
 //! - `exchanges` has members exchange their plan.
 //! - `losses` delivers and posts messages that are lost, and looks at what is counted.
+//! - `sleeps` has members sleep, and messages come.
 //! - `forged` has members pass while other threads deliver and post messages that nobody would send.
 #![tactic(auto)]
 
@@ -18,5 +19,7 @@ mod forged;
 mod losses;
 #[cfg(test)]
 mod scripts;
+#[cfg(test)]
+mod sleeps;
 #[cfg(test)]
 mod threads;

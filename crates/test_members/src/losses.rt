@@ -57,6 +57,69 @@ fn each_lost_message_counts_once(rt: HostRuntime) {
     }
 }
 
+/// A request of client 0 to voter 0, whose vote is free.
+const FIRST: ToVoter = ToVoter {
+    client: 0,
+    voter: 0,
+    body: VoterBody::Request { stamp: 2 },
+};
+
+/// A request of client 2, behind the first one.
+const BEHIND: ToVoter = ToVoter {
+    client: 2,
+    voter: 0,
+    body: VoterBody::Request { stamp: 5 },
+};
+
+/// A request of client 1, which precedes both.
+const BEFORE: ToVoter = ToVoter {
+    client: 1,
+    voter: 0,
+    body: VoterBody::Request { stamp: 1 },
+};
+
+/// A newer request of client 0, which ends its first one.
+const NEWER: ToVoter = ToVoter {
+    client: 0,
+    voter: 0,
+    body: VoterBody::Request { stamp: 3 },
+};
+
+/// Voter 0 makes one, one, two and three replies:
+///
+/// - LOCKED to client 0;
+/// - FAIL to client 2;
+/// - INQUIRE to client 0, and FAIL to client 2;
+/// - LOCKED to client 1, FAIL to client 0, and FAIL to client 2.
+///
+/// All clients are idle. A LOCKED that comes to one makes it send RELEASE, and then the vote goes on.
+const REPLIES: [(usize, Act); 19] = [
+    (0, Act::Deliver(FIRST, 0)),
+    (0, Act::Deliver(BEHIND, 0)),
+    (0, Act::Deliver(BEFORE, 0)),
+    (0, Act::Deliver(NEWER, 0)),
+    (2, NOTHING),
+    (2, NOTHING),
+    (2, NOTHING),
+    (2, EMPTY),
+    (0, NOTHING),
+    (0, NOTHING),
+    (0, NOTHING),
+    (0, EMPTY),
+    (1, NOTHING),
+    (1, EMPTY),
+    (0, NOTHING),
+    (0, EMPTY),
+    (2, NOTHING),
+    (2, EMPTY),
+    (0, Act::Lost(0)),
+];
+
+#[test]
+fn each_reply_gets_to_its_client(rt: HostRuntime) {
+    assert_eq!(rt; stuck_at(&rt, rt.alloc(), Asked::AnyTwo, 3, &REPLIES), None);
+}
+
 /// When a message is posted to a client that asks voters 0 and 1.
 #[derive(Clone, Copy)]
 enum Moment {

@@ -21,7 +21,10 @@ pub(crate) enum Act {
     Enter,
     /// Takes this many messages, or as many as there are. Whatever is seen of them is right.
     Pumps(u32),
+    /// Reminds. No message finds no memory.
     Remind,
+    /// Sends once more what it sent last. No message finds no memory.
+    Repeat,
     /// Passes by this number.
     Pass(Result<u64, ClusterFault>),
     Leave(Result<(), ClusterFault>),
@@ -102,10 +105,8 @@ fn does<N: ClusterName>(
             }
             true
         }
-        Act::Remind => {
-            member.remind(rt, cluster);
-            true
-        }
+        Act::Remind => member.remind(rt, cluster) == 0,
+        Act::Repeat => member.repeat(rt, cluster) == 0,
         Act::Pass(passed) => member.pass(cluster) == passed,
         Act::Leave(left) => member.leave(rt, cluster) == left,
         Act::GiveUp(gave_up) => member.give_up(rt, cluster) == gave_up,
@@ -226,6 +227,28 @@ const ONE: [(usize, Act); 16] = [
     (0, Act::Lost(0)),
 ];
 
+/// What a member sends twice has the same effect as what it sends once. Each voter replies to the
+/// repeated REQUEST again, and takes no notice of the repeated RELEASE.
+const REPEATED: [(usize, Act); 17] = [
+    (0, Act::Repeat),
+    (0, EMPTY),
+    (0, Act::Ask(0, 0)),
+    (0, Act::Repeat),
+    (0, NOTHING),
+    (0, ENTERED),
+    (0, NOTHING),
+    (0, NOTHING),
+    (0, EMPTY),
+    (1, Act::Ask(1, 1)),
+    (0, LEAVE),
+    (0, Act::Repeat),
+    (1, NOTHING),
+    (1, NOTHING),
+    (1, ENTERED),
+    (1, EMPTY),
+    (0, Act::Lost(0)),
+];
+
 /// Three members ask all three voters, the one with the greatest number first. Each request precedes the
 /// one before, as the stamps are equal. Member 1 waits in front, and receives no FAIL. Then member 0's
 /// request comes, and each voter sends FAIL to member 1.
@@ -259,7 +282,7 @@ const FORMER_FRONT: [(usize, Act); 25] = [
 
 #[test]
 fn members_do_what_the_scripts_say(rt: HostRuntime) {
-    for script in [THREE.as_slice(), ONE.as_slice()] {
+    for script in [THREE.as_slice(), ONE.as_slice(), REPEATED.as_slice()] {
         assert_eq!(rt; stuck_at(&rt, rt.alloc(), Asked::AnyTwo, 3, script), None);
     }
 }

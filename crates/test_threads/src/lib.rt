@@ -3,6 +3,7 @@
 //!
 //! - `clusters` makes clusters for `drives`, `gates` and `exchanges`, in which the members' plan is
 //!   exchanged for another. `gate_order` looks when a gate is called.
+//! - `waits` looks when a member of a drive yields, sleeps and reminds.
 //! - `record_texts` reads records, `record_checks` checks them, and `records_of_runs` and
 //!   `runs_of_plans` make them.
 //!
@@ -28,3 +29,5 @@ mod record_texts;
 mod records_of_runs;
 #[cfg(test)]
 mod runs_of_plans;
+#[cfg(test)]
+mod waits;

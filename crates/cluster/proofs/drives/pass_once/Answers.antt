@@ -10,7 +10,7 @@ pub returns-in-Err-clause-stopped : goal.returns-in-Err-clause-stopped
 returns-in-Err-clause-stopped g c =
     let asked = c.in_ok-ask.ensures in
     let one = Worked-draw c.args.member.now c.ask.new.self c.enter.new.member c.in_ok-ask.field-0 asked.may.2 asked.client asked.receipt asked.seat asked.lost c.enter.ensures.kept in
-    Stops-wait c.args.member.now c.ask.new.self c.enter.new.member c.enter.new.turns c.enter.new.patience.starved c.in-Err.fault asked.may.2 one asked.client asked.lost
+    Stops-wait c.args.member.now c.ask.new.self c.enter.new.member c.enter.new.turns c.enter.new.patience.starved c.in-Err.ended asked.may.2 one asked.client asked.lost
     c.in-Err.ensures.ended c.enter.ensures.lost
 
 pub returns-in_err-wait_at-clause-stopped : goal.returns-in_err-wait_at-clause-stopped

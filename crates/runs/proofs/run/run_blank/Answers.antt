@@ -13,7 +13,7 @@ returns-in-Err-clause-ended g c =
     let quota = subst (λ (x : ClusterState). c.args.passes ≤ x.quota) c.requires.name c.requires.quota in
     let ended = EndsRun-driven cluster c.args.passes c.in-Ok.members.items c.in-Err.driven.members.items c.in-Err.driven.fault alone c.in-Ok.ensures.members quota
     c.in-Err.ensures.back c.in-Err.ensures.least in
-    subst (λ (x : ClusterState). EndsRun x.board.clients c.from.result) (sym c.requires.name) (subst (EndsRun cluster.board.clients) (sym c.from.ensures) ended)
+    subst (λ (x : ClusterState). EndsRun x.board.clients c.ended_by.result) (sym c.requires.name) (subst (EndsRun cluster.board.clients) (sym c.ended_by.ensures) ended)
 
 pub returns-in-Ok-close-clause-run : goal.returns-in-Ok-close-clause-run
 returns-in-Ok-close-clause-run g c =
