@@ -120,11 +120,22 @@ for world in race late-message withdrawal lost-release; do
     example "world-$world" "world-$world.txt" 0 world
 done
 
-# runs: of one client as it is, of four by what the record comes to
+# the longest input: a script of more than a million steps
+{
+    printf 'voters = ["a"]\nquorums = [["a"]]\n%%%%\nquorum-plan 1\nload 1/1\ncycle 1\nquorum 1\nvoter 1\n%%%%\nworld 1 1\n'
+    yes 'remind-voter 0' | head -n 1118000
+    echo 'ask 0'
+} > "$work/input"
+example world-of-a-million-steps "$work/input" 0 world
+
+# runs: of one client as it is, of four and of the largest one by what the record comes to
 example run-one-client wheel-3-planned.txt 0 run 1 3 1000000
 "$qlock" run 4 100 1000000000000 < wheel-3-planned.txt > "$work/record" || true
 parts wheel-3-planned.txt "$work/record" > "$work/input"
 example replay-four-clients "$work/input" 0 replay
+"$qlock" run 64 1000 1000000000000 < wheel-3-planned.txt > "$work/record" || true
+parts wheel-3-planned.txt "$work/record" > "$work/input"
+example replay-most-passes "$work/input" 0 replay
 example replay-record replay-record.txt 0 replay
 example replay-wheel-3 replay-wheel-3.txt 0 replay
 
@@ -175,7 +186,7 @@ shown deal-fast-majority fast-majority-planned.txt deal 1
 shown deal-wheel-3-fast-hub wheel-3-fast-hub-planned.txt deal 7
 shown deal-even-wheel-3 wheel-3-planned.txt deal --even 5
 shown deal-even-wheel-3-fast-hub wheel-3-fast-hub-planned.txt deal --even 7
-for world in race late-message withdrawal refusals lost-release crash exchange; do
+for world in race late-message withdrawal refusals lost-release crash exchange most; do
     shown "world-$world" "world-$world.txt" world
 done
 shown explain-disjoint /dev/null explain E7
@@ -209,6 +220,9 @@ shown without-centre three-centres.toml without a1 a2 a3 a4 a5
 shown without-most-of-two-centres three-centres.toml without a1 a2 a3 c1 c2
 program=$show
 example show-unknown-voter three-racks.toml 1 without a1 a9
+example show-unknown-code /dev/null 2 explain E9
+example show-unknown-picture /dev/null 2 picture plan
+example show-fault-of-no-command /dev/null 2 fault make circle 3
 # an exchange for a coterie of c alone, which a quorum of the first does not have, and for one of other voters
 awk 'parts == 2 { sub(/^  \["a", "b"\]/, "  [\"c\"]") } parts == 3 { sub(/^voter 1 0 0/, "voter 0 0 1") } /^%%$/ { parts++ } 1' \
     world-exchange.txt > "$work/input"
@@ -229,6 +243,23 @@ parts seven-of-nine.toml "$work/nine" > "$work/input"
 shown bridge-seven-of-nine-to-nine "$work/input" bridge
 "$show" without a1 a2 a3 a4 a5 < three-centres.toml > "$work/left"
 shown bridge-three-centres-to-two /dev/null bridge -f three-centres.toml -f "$work/left"
+
+# helps NAME PROGRAM: the help of a program and of each command that it lists, where it is printed, and the status
+helps() {
+    commands=$("$2" --help 2>&1 | sed -n '/^Commands:$/,/^$/s/^  \([a-z]*\) .*/\1/p' | grep -vx help)
+    for command in '' $commands; do
+        status=0
+        # without a command it is the help of the program
+        "$2" $command --help > "$work/out" 2> "$work/err" || status=$?
+        echo "== ${command:-the program}: status $status"
+        cat "$work/out"
+        echo '-- on standard error'
+        cat "$work/err"
+    done > "$work/help"
+    compare "$work/help" "$1.out"
+}
+helps help "$qlock"
+helps show-help "$show"
 
 # the version is the newest of CHANGELOG.md
 echo "qlock-show $(sed -n 's/^## \([0-9.]*\).*/\1/p' "$here/../CHANGELOG.md" | head -n 1)" > "$work/wanted"
@@ -272,21 +303,58 @@ for completion in _qlock-show qlock-show.bash; do
     if diff -u "$work/wanted" "$work/out"; then passed=$((passed + 1)); else failed=$((failed + 1)); fi
 done
 
+# irregular VOTERS COUNT: a coterie of as many sets, each of one voter more than half of them, as numbers that follow one another
+# in a simple generator choose them
+irregular() {
+    awk -v voters="$1" -v count="$2" 'BEGIN {
+        for (i = 0; i < voters; i++) list = list (i ? ", " : "") "\"v" i "\""
+        print "voters = [" list "]\nquorums = ["
+        number = 1
+        for (j = 0; j < count; j++) {
+            left = int(voters / 2) + 1
+            list = ""
+            for (i = 0; i < voters; i++) {
+                number = number * 16807 % 2147483647
+                if (number % (voters - i) < left) { list = list (list ? ", " : "") "\"v" i "\""; left-- }
+            }
+            print "  [" list "],"
+        }
+        print "]"
+    }'
+}
+
 # an input for each fault that a text can have: faults/CODE.COMMAND is refused by this command with this code; further ones are
-# CODE-WORD.COMMAND
-for input in faults/*; do
+# CODE-WORD.COMMAND. Those that are long are made here: too many quorums, two coteries without a plan, a coterie that ends in its
+# millionth line, and a record with 50,000 tickets of which one is drawn twice
+mkdir "$work/made"
+awk 'BEGIN { print "voters = [\"a\", \"b\", \"c\"]\nquorums = ["; for (j = 0; j < 4097; j++) print "  [\"a\"],"; print "]" }' \
+    > "$work/made/E4.plan"
+irregular 28 64 > "$work/made/N1-sums.plan"
+irregular 56 100 > "$work/made/N1-bits.plan"
+{ yes '# a note' | head -n 999999; echo 'voters = ["a"'; } > "$work/made/F1-long.plan"
+{
+    cat wheel-3-planned.txt
+    echo %%
+    awk 'BEGIN {
+        print "quorum-record 1"
+        for (ticket = 0; ticket < 50000; ticket++) print "draw 0 " (ticket == 40000 ? 30000 : ticket) " 0"
+        print "register 0"
+    }'
+} > "$work/made/A1-long.replay"
+for input in faults/* "$work"/made/*; do
     name=$(basename "$input")
     echo "== $name"
-    "$show" fault "${name#*.}" < "$input"
+    "$show" fault "${name#*.}" < "$input" || echo "status $?"
 done > "$work/faults"
 compare "$work/faults" show-faults.out
 
 # and sizes of shapes for which there is no coterie
-for words in 'grid 1 3' 'grid 9 9' 'majority 0' 'majority 15' 'tree 4' 'wheel 1' 'wheel 64' \
-    'cyclic 7 0 7' 'cyclic 7 0 0' 'cyclic 7 0 1' 'cyclic 4 0 2' 'cyclic 2 0 1' 'cyclic 65 0' 'cyclic 0 0'; do
+for words in 'grid 1 3' 'grid 9 9' 'grid 8 9' 'majority 0' 'majority 15' 'tree 4' 'wheel 1' 'wheel 64' \
+    'cyclic 7 0 7' 'cyclic 7 0 9 8' 'cyclic 7 0 0' 'cyclic 7 0 3 5 3' 'cyclic 7' 'cyclic 7 0 1' 'cyclic 4 0 2' 'cyclic 2 0 1' \
+    'cyclic 65 0' 'cyclic 0 0'; do
     echo "== $words"
     # the words of a shape are apart
-    "$show" fault make $words
+    "$show" fault make $words || echo "status $?"
 done > "$work/shapes"
 compare "$work/shapes" show-fault-shapes.out
 

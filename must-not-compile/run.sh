@@ -1,13 +1,14 @@
 #!/bin/sh
-# Tries what must not compile: a clerk that draws after it was dropped, a client's seat that joins twice, and an office that
-# draws after it was closed.
+# Tries what must not compile: a clerk that draws after it was dropped, a client's seat that joins twice or is copied, an office
+# that draws after it was closed, and a call of the board that waits for a lock.
 #
 #     must-not-compile/run.sh
 #
 # `owners.txt` is the source of a crate over `dealer` and `board` that uses them as it should (under this name, since no crate of
 # the tree has it). A copy of it is compiled as it stands, and has to
 # be accepted. Then each NAME.edit puts one line in the place of another, and that copy has to be refused in the words of
-# the edit. These are the compiler's own on a value that has moved, so that no case is refused for another reason.
+# the edit. These are the compiler's own on a value that has moved, or that lacks a trait, so that no case is refused for another
+# reason. An edit with a line `file:` changes that file of the copied crates.
 #
 # Prints the result of each case, and ends with `N cases, M wrong`, with status 1 where M is not 0. Nothing is proved here.
 set -eu
@@ -58,15 +59,19 @@ fi
 for edit in "$here"/*.edit; do
     cases=$((cases + 1))
     name=$(basename "$edit" .edit)
+    file=$work/crates/$(sed -n 's/^file: //p' "$edit")
+    [ -f "$file" ] || file=$source
     old=$(sed -n 's/^old: //p' "$edit")
     new=$(sed -n 's/^new: //p' "$edit")
     words=$(sed -n 's/^words: //p' "$edit")
-    if [ "$(grep -cxF -- "$old" "$here/owners.txt")" -ne 1 ] || [ -z "$words" ]; then
+    cp "$file" "$work/whole"
+    if [ "$(grep -cxF -- "$old" "$file")" -ne 1 ] || [ -z "$words" ]; then
         complain "$name: the line to be replaced does not stand once, or there are no words"
         continue
     fi
-    awk -v old="$old" -v new="$new" '{ print $0 == old ? new : $0 }' "$here/owners.txt" > "$source"
+    awk -v old="$old" -v new="$new" '{ print $0 == old ? new : $0 }' "$work/whole" > "$file"
     compile
+    cp "$work/whole" "$file"
     if [ "$status" -eq 0 ]; then
         complain "$name: accepted"
     elif ! grep -qF -- "$words" "$work/said"; then
@@ -77,4 +82,4 @@ for edit in "$here"/*.edit; do
 done
 
 echo "$cases cases, $wrong wrong"
-[ "$cases" -eq 3 ] && [ "$wrong" -eq 0 ]
+[ "$cases" -eq 5 ] && [ "$wrong" -eq 0 ]

@@ -2,6 +2,7 @@
 ghost use Rattle.std.specs.Prelude.{◌≡◌, ◌++◌, ◌∷◌, false, true, IfErr, IfOk, IfSome, None, OnOk, codes, map, string_bytes};
 ghost use Rattle.clap.specs.Words.{app_of, found_of, rows_of, rule_of, subcommand_rows_of};
 ghost use Rattle.command_line.specs.Words.{IsLocal, used_as};
+ghost use Rattle.command_line.specs.declared.usage.Usage.TheVariants.{Arguments};
 ghost use Rattle.show_cli.specs.Commands.{IsShown};
 ghost use Rattle.show_cli.specs.declared.command.Picture.{Picture};
 ghost use Rattle.show_cli.specs.Words.{IsEven, IsNamedBy, Names, Refuses, RefusesUse, coteries_app, even_rule, explain_app, fault_app, pages_app, picture_app, picture_word, qlock_words, reports_app, show_app, tickets_app, without_app, words_rule};
@@ -195,6 +196,7 @@ fn is_even(used: &ArgMatches) -> bool
 fn deal_of(used: &ArgMatches) -> Result<ShowCommand, Usage>
     ensures named { IfOk result (IsNamedBy (used_as (codes "deal") used.now)) }
     ensures refused { IfErr result (RefusesUse (used_as (codes "deal") used.now)) }
+    ensures memory { IfErr result (λ usage. usage ≡ Arguments) }
     ensures shown { IfOk result IsShown }
 {
     let Some(tickets) = tickets_of(used) else {
@@ -211,6 +213,7 @@ fn deal_of(used: &ArgMatches) -> Result<ShowCommand, Usage>
 fn explain_of(used: &ArgMatches) -> Result<ShowCommand, Usage>
     ensures named { IfOk result (IsNamedBy (used_as (codes "explain") used.now)) }
     ensures refused { IfErr result (RefusesUse (used_as (codes "explain") used.now)) }
+    ensures memory { IfErr result (λ usage. usage ≡ Arguments) }
     ensures shown { IfOk result IsShown }
 {
     let Some(code) = text_of(used, "CODE") else {
@@ -242,6 +245,7 @@ fn picture_named(kind: &str) -> Option<Picture>
 fn picture_of(used: &ArgMatches) -> Result<ShowCommand, Usage>
     ensures named { IfOk result (IsNamedBy (used_as (codes "picture") used.now)) }
     ensures refused { IfErr result (RefusesUse (used_as (codes "picture") used.now)) }
+    ensures memory { IfErr result (λ usage. usage ≡ Arguments) }
     ensures shown { IfOk result IsShown }
 {
     let Some(kind) = text_of(used, "KIND") else {

@@ -42,7 +42,7 @@ const ONE_VOTE: &str = "world 2 100\nask 0\ndeliver 0\ndeliver 1\ndeliver 2\n";
 
 /// What happens then, with how many messages are sent in all, how many are forgotten in crashes, and
 /// how often a client enters or leaves. Any two of three voters are a quorum.
-const STORIES: [(&str, [usize; 3]); 9] = [
+const STORIES: [(&str, [usize; 3]); 11] = [
     ("deliver 3\n", [4, 0, 1]),
     ("crash-client 0\ndeliver 3\n", [4, 1, 0]),
     ("crash-client 0\ndeliver 3\ndeliver 2\n", [4, 1, 1]),
@@ -67,6 +67,16 @@ const STORIES: [(&str, [usize; 3]); 9] = [
         [13, 1, 3],
     ),
     ("crash-client 2\ncrash-voter 3\nexchange\n", [4, 0, 0]),
+    // The last client has the vote of the last voter, which arrives three times.
+    (
+        "ask 1\ndeliver 5\ndeliver 6\ndeliver 6\ndeliver 6\ncrash-client 1\n",
+        [7, 3, 0],
+    ),
+    // The last voter forgets a RELEASE.
+    (
+        "ask 1\ndeliver 5\ngive-up 1\ndeliver 8\ncrash-voter 2\n",
+        [9, 1, 0],
+    ),
 ];
 
 /// Returns how many messages are forgotten in a turn.
@@ -107,4 +117,19 @@ fn crashes_undo_what_was_not_saved(rt: HostRuntime) -> Result<(), Fail> {
         assert!(rt; goes);
     }
     Ok(())
+}
+
+/// Returns the counts of a story of 100,000 turns that send nothing, and one more.
+fn long_counts(alloc: Global) -> Result<Option<[usize; 3]>, AllocError> {
+    let Some(plan) = majority_plan(alloc) else {
+        return Ok(None);
+    };
+    let turns = "remind-voter 2\n".repeat(alloc, 100_000)?;
+    let text = format!(in alloc; "world 64 9\n{turns}ask 63\n")?;
+    counts(alloc, plan, text.as_str())
+}
+
+#[test]
+fn a_long_story_is_played(rt: HostRuntime) {
+    assert!(rt; long_counts(rt.alloc()) == Ok(Some([2, 0, 0])));
 }
