@@ -4,7 +4,7 @@ ghost use Rattle.std.specs.Io.KnownBytes.{Appends};
 ghost use Rattle.whole_io.specs.Devices.{AppendsBeginning};
 ghost use Rattle.whole_io.specs.declared.fault.DeviceFault.TheVariants.{WriteFault};
 ghost use Rattle.commands.specs.Commands.{reads_input};
-ghost use Rattle.commands.specs.Devices.{FailsAs, IsOfReading};
+ghost use Rattle.commands.specs.Devices.{FailsAs, IsOfReading, LeavesUnread};
 ghost use Rattle.commands.specs.declared.fault.Fault.TheVariants.{Device};
 ghost use Rattle.show_cli.specs.Commands.{IsShown};
 ghost use Rattle.show_cli.specs.Pages.{ComesOfShowing, EndsAfterPage, LeavesShown, OfRead, Shows, reads_page_input};
@@ -64,6 +64,7 @@ fn input_for<R: Read>(
     ensures short { IfOk result (λ v. length v.items ≤ 16777216) }
     ensures refused { IfErr result (IsOfReading (R.remaining reader.old.inner)) }
     ensures reads { OnErr result (reads_page_input command.now ≡ true) }
+    ensures too_long { IfErr result (LeavesUnread (R.remaining reader.old.inner) (R.remaining reader.new.inner)) }
     ensures failed { FailsAs reader.new.failed false result }
     ensures unread { reads_page_input command.now ≡ false → reader.new ≡ reader.old }
 {
@@ -93,8 +94,9 @@ fn write_page<W: Write>(writer: &mut Watched<W>, page: &[u8]) -> Result<(), Faul
 
 /// Serves a command: reads the input to its end, and writes the command's page and nothing else.
 ///
-/// Faults come in the same order as those of `commands::execute`. A fault other than a failed write
-/// writes nothing. After a failed write a beginning of the page was written.
+/// Faults come in the same order as those of `commands::execute`. No byte after the 16,777,217th is
+/// read. A fault other than a failed write writes nothing. After a failed write a beginning of the
+/// page was written.
 #[tactic(auto, using(crate::proofs::ShowLemmas::page_shown, crate::proofs::ShowLemmas::page_begun, crate::proofs::ShowLemmas::write_fault_comes))]
 pub fn show<R: Read, W: Write>(
     alloc: Global,
@@ -122,6 +124,9 @@ pub fn show<R: Read, W: Write>(
     ensures left { IfErr result (λ fault.
         LeavesShown command.now (R.remaining reader.old.inner) fault
         (W.contents writer.old.inner) (W.contents writer.new.inner)) }
+
+    // An input that is too long is read no further than one byte after the longest input.
+    ensures too_long { IfErr result (LeavesUnread (R.remaining reader.old.inner) (R.remaining reader.new.inner)) }
 
     // What a command does not read is left in the reader.
     ensures unread { reads_page_input command.now ≡ false → reader.new ≡ reader.old }
