@@ -189,6 +189,14 @@ shown deal-even-wheel-3-fast-hub wheel-3-fast-hub-planned.txt deal --even 7
 for world in race late-message withdrawal refusals lost-release crash exchange most; do
     shown "world-$world" "world-$world.txt" world
 done
+# how long pages end: of the most tickets in each order, and of a script of 100,000 steps and one more
+{
+    "$show" deal 100000 < wheel-3-planned.txt | tail -n 7
+    "$show" deal --even 100000 < wheel-3-planned.txt | tail -n 7
+    { cat wheel-3-planned.txt; printf '%%%%\nworld 2 1\n'; yes 'remind-voter 3' | head -n 100000; echo 'ask 1'; } > "$work/input"
+    "$show" world < "$work/input" | tail -n 8
+} > "$work/ends"
+compare "$work/ends" show-ends-of-long-pages.out
 shown explain-disjoint /dev/null explain E7
 shown explain-list /dev/null explain
 shown fault-disjoint refused-disjoint.toml fault plan
