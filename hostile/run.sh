@@ -7,7 +7,7 @@
 #
 # - the Nth growth of memory is refused, once, and then each one from the Nth on. The command has to write what it always
 #   writes, or nothing with `O1 OutOfMemory` and status 4. `run` may also write another record, which `replay` has to accept, as
-#   a message that finds no memory is lost, or nothing with `K2 TurnsSpent` and status 1;
+#   a message that finds no memory is lost. It has more turns than it could use up, so it has to end by itself;
 # - the Nth read fails, and the Nth write, each of one byte: nothing is written with `I3 ReadFault` and status 3, or a beginning
 #   of the answer with `I4 WriteFault` and status 3;
 # - each read and each write moves one byte, once: the command has to write what it always writes.
@@ -37,11 +37,11 @@ command -v "$compiler" > /dev/null || { echo "hostile/run.sh: there is no C comp
 "$root/qlock" make majority 3 > "$work/majority.toml"
 program=$root/build/qlock
 
-# runs the case with these settings, and keeps what it prints, its status, and whether it met anything; a run that does not end in two
-# minutes has status 124
+# runs the case with these settings, and keeps what it prints, its status, and whether it met anything; a run that does not end in half
+# a minute has status 124
 hostile() {
     status=0
-    timeout 120 env "$@" HOSTILE_MET="$work/met" LD_PRELOAD="$work/refuse.so" "$program" "${words[@]}" < "$input" > "$work/out" 2> "$work/err" || status=$?
+    timeout 30 env "$@" HOSTILE_MET="$work/met" LD_PRELOAD="$work/refuse.so" "$program" "${words[@]}" < "$input" > "$work/out" 2> "$work/err" || status=$?
     runs=$((runs + 1))
     met=
     [ ! -s "$work/met" ] || met=1
@@ -79,7 +79,7 @@ begun() {
 
 # whether a run that was refused memory ended as it may
 spared() {
-    answered || ended_by 'O1 OutOfMemory' 4 || { [ -n "$passes" ] && { ended_by 'K2 TurnsSpent 0' 1 || ended_by 'K2 TurnsSpent 1' 1; }; }
+    answered || ended_by 'O1 OutOfMemory' 4
 }
 
 # the line of a read that failed; behind -f it has the name of the file
@@ -157,7 +157,7 @@ unread='I3 ReadFault "-"'
 try 'check grid, from files' '' "$work/plan" check -f "$work/grid.toml" -f -
 unread='I3 ReadFault'
 try 'world majority' '' "$work/script" world
-try 'run 2 2 10000 grid' 4 "$work/grid" run 2 2 10000
+try 'run 2 2 grid' 4 "$work/grid" run 2 2 1000000000000
 try 'replay grid' '' "$work/run" replay
 try 'replay majority' '' "$work/record" replay
 
