@@ -301,12 +301,13 @@ fn faults_of_the_program(rt: HostRuntime) {
     assert!(rt; the_program_has_lines(rt.alloc()) == Ok(true));
 }
 
-/// Returns the fault of a cluster that is closed without its only member.
-fn closed_alone<N: ClusterName>(alloc: Global, blank: Blank) -> Result<String, AllocError>
+/// Returns the fault of a cluster that is closed without its last member.
+fn closed_without_one<N: ClusterName>(alloc: Global, blank: Blank) -> Result<String, AllocError>
     requires { blank ≡ N.cluster }
 {
-    let (cluster, _members) = blank.open::<N>(alloc)?;
-    match cluster.close(alloc, Vec::new(alloc)) {
+    let (cluster, mut members) = blank.open::<N>(alloc)?;
+    drop(members.pop());
+    match cluster.close(alloc, members) {
         Ok(_) => String::from_str(alloc, "closed"),
         Err(fault) => fault.to_string(alloc),
     }
@@ -318,8 +319,8 @@ fn faults_of_closed_clusters(rt: HostRuntime) -> Result<(), Fail> {
     let Some(plan) = majority_plan(alloc) else {
         panic!(rt; "no plan")
     };
-    let blank = Blank::new(alloc, Plans::single(plan), 1, 1)?;
-    let text = closed_alone::<Brand>(alloc, blank)?;
+    let blank = Blank::new(alloc, Plans::single(plan), 2, 1)?;
+    let text = closed_without_one::<Brand>(alloc, blank)?;
     assert!(rt; text.as_str() == "K3 MembersOut 1");
     Ok(())
 }
